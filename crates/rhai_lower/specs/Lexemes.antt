@@ -1,0 +1,67 @@
+-- Tokens as definitions see them: texts are their bytes.
+use Rattle.std.specs.Prelude.{◌≡◌, ℕ, ℤ, [], codes, refl}
+use Rattle.std.specs.Fmt.{signed_decimal}
+use Rattle.std.specs.Rc.{rc_str_bytes}
+use Rattle.std.specs.Char.{encode_utf8}
+use Rattle.rhai_lower.specs.Texts.{Text}
+use Rattle.rhai_lower.specs.Tokens.{literal_of}
+use Rattle.rhai_lower.specs.declared.token.LexError.{LexError}
+use Rattle.rhai_lower.specs.declared.token.LexError.TheVariants as error
+use Rattle.rhai_lower.specs.declared.token.Token.{Token}
+use Rattle.rhai_lower.specs.declared.token.Token.TheVariants as token
+
+-- what the tokenizer could not read
+pub data Fault : Type 0 where
+  UnterminatedString : Fault
+  StringTooLong : (limit : ℕ) → Fault
+  MalformedNumber : Text → Fault
+  ImproperSymbol : (symbol note : Text) → Fault
+  UnexpectedInput : Text → Fault
+  NoMemory : Fault
+
+abbrev pub fault : LexError → Fault
+fault error.UnterminatedString = UnterminatedString
+fault (error.StringTooLong n) = StringTooLong n
+fault (error.MalformedNumber t) = MalformedNumber (rc_str_bytes t)
+fault (error.ImproperSymbol t note) = ImproperSymbol (rc_str_bytes t) (rc_str_bytes note)
+fault (error.UnexpectedInput t) = UnexpectedInput (rc_str_bytes t)
+fault error.OutOfMemory = NoMemory
+
+-- a token: one with payload, or one that is always written in one way
+pub data Lexeme : Type 0 where
+  Integer : ℤ → Lexeme
+  Character : ℕ → Lexeme
+  String : Text → Lexeme
+  Interpolated : Text → Lexeme
+  Name : Text → Lexeme
+  Reserved : Text → Lexeme
+  Faulty : Fault → Lexeme
+  Comment : Text → Lexeme
+  Sign : Token → Lexeme
+
+abbrev pub lexeme : Token → Lexeme
+lexeme (token.IntegerConstant n) = Integer n
+lexeme (token.CharConstant c) = Character c
+lexeme (token.StringConstant t) = String (rc_str_bytes t)
+lexeme (token.InterpolatedString t) = Interpolated (rc_str_bytes t)
+lexeme (token.Identifier t) = Name (rc_str_bytes t)
+lexeme (token.Reserved t) = Reserved (rc_str_bytes t)
+lexeme (token.LexError e) = Faulty (fault e)
+lexeme (token.Comment t) = Comment (rc_str_bytes t)
+lexeme t = Sign t
+
+-- a token's text
+abbrev pub text_of : Lexeme → Text
+text_of (Integer n) = signed_decimal n
+text_of (Character c) = encode_utf8 c
+text_of (String t) = t
+text_of (Interpolated t) = t
+text_of (Name t) = t
+text_of (Reserved t) = t
+text_of (Faulty f) = []
+text_of (Comment t) = t
+text_of (Sign t) = literal_of t
+
+-- The token `+` is a sign that is written so.
+example : (lexeme token.Plus ≡ Sign token.Plus) × (text_of (Sign token.Plus) ≡ codes "+")
+example = (refl, refl)

@@ -1,0 +1,26 @@
+-- Positions: a line and a column from 1, or none.
+use Rattle.std.specs.Prelude.{◌≡◌, ℕ, zero, suc, Option, Some, None, refl}
+use Rattle.rhai_lower.specs.declared.position.Position.{Position}
+
+-- the position at a line and a column
+abbrev pub place : ℕ → ℕ → Position
+place line column = record { line = line; column = column }
+
+-- no position
+abbrev pub nowhere : Position
+nowhere = place 0 0
+
+-- a number from 1, where 0 is none
+abbrev pub from_one : ℕ → Option ℕ
+from_one zero = None
+from_one (suc n) = Some (suc n)
+
+abbrev pub line_of : Position → Option ℕ
+line_of p = from_one p.line
+
+abbrev pub column_of : Position → Option ℕ
+column_of p = from_one p.column
+
+-- The third column of the first line.
+example : (line_of (place 1 3) ≡ Some 1) × (column_of (place 1 3) ≡ Some 3) × (line_of nowhere ≡ None)
+example = (refl, refl, refl)

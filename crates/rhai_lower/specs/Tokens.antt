@@ -1,0 +1,141 @@
+-- Tokens of the code: how strongly they bind, and how those without payload are written.
+use Rattle.std.specs.Prelude.{◌≡◌, ℕ, Bool, true, false, [], Option, None, Some, codes, refl}
+use Rattle.rhai_lower.specs.Texts.{Text}
+use Rattle.rhai_lower.specs.declared.token.Token.{Token}
+use Rattle.rhai_lower.specs.declared.token.Token.TheVariants.{Unit, LeftBrace, RightBrace, LeftParen, RightParen, LeftBracket, RightBracket, QuestionBracket, MapStart, Period, Elvis, DoubleColon, Colon, Comma, SemiColon, DoubleArrow, Equals, Pipe, Or, Bang, Underscore, XOr, And, Ampersand, EqualsTo, NotEqualsTo, In, NotIn, LessThan, LessThanEqualsTo, GreaterThan, GreaterThanEqualsTo, DoubleQuestion, ExclusiveRange, InclusiveRange, Plus, Minus, Multiply, Divide, Modulo, PowerOf, LeftShift, RightShift, UnaryPlus, UnaryMinus, PlusAssign, MinusAssign, MultiplyAssign, DivideAssign, ModuloAssign, PowerOfAssign, LeftShiftAssign, RightShiftAssign, AndAssign, OrAssign, XOrAssign, True, False, Let, Const, If, Else, Switch, While, Loop, Do, Until, For, Break, Continue, Return, Throw, Try, Catch, Import, Export, As, Fn, Private, EOF}
+
+-- the strength of a binary operator
+abbrev pub strength_of : Token → Option ℕ
+strength_of Or = Some 30
+strength_of XOr = Some 30
+strength_of Pipe = Some 30
+strength_of And = Some 60
+strength_of Ampersand = Some 60
+strength_of EqualsTo = Some 90
+strength_of NotEqualsTo = Some 90
+strength_of In = Some 110
+strength_of NotIn = Some 110
+strength_of LessThan = Some 130
+strength_of LessThanEqualsTo = Some 130
+strength_of GreaterThan = Some 130
+strength_of GreaterThanEqualsTo = Some 130
+strength_of DoubleQuestion = Some 135
+strength_of ExclusiveRange = Some 140
+strength_of InclusiveRange = Some 140
+strength_of Plus = Some 150
+strength_of Minus = Some 150
+strength_of Multiply = Some 180
+strength_of Divide = Some 180
+strength_of Modulo = Some 180
+strength_of PowerOf = Some 190
+strength_of LeftShift = Some 210
+strength_of RightShift = Some 210
+strength_of _ = None
+
+-- equal operators group to the right
+abbrev pub binds_right : Token → Bool
+binds_right PowerOf = true
+binds_right _ = false
+
+-- an operator that assigns
+abbrev pub assigns : Token → Bool
+assigns PlusAssign = true
+assigns MinusAssign = true
+assigns MultiplyAssign = true
+assigns DivideAssign = true
+assigns ModuloAssign = true
+assigns PowerOfAssign = true
+assigns LeftShiftAssign = true
+assigns RightShiftAssign = true
+assigns AndAssign = true
+assigns OrAssign = true
+assigns XOrAssign = true
+assigns _ = false
+
+-- how a token without payload is written
+abbrev pub literal_of : Token → Text
+literal_of Unit = codes "()"
+literal_of LeftBrace = codes "{"
+literal_of RightBrace = codes "}"
+literal_of LeftParen = codes "("
+literal_of RightParen = codes ")"
+literal_of LeftBracket = codes "["
+literal_of RightBracket = codes "]"
+literal_of QuestionBracket = codes "?["
+literal_of MapStart = codes "#{"
+literal_of Period = codes "."
+literal_of Elvis = codes "?."
+literal_of DoubleColon = codes "::"
+literal_of Colon = codes ":"
+literal_of Comma = codes ","
+literal_of SemiColon = codes ";"
+literal_of DoubleArrow = codes "=>"
+literal_of Equals = codes "="
+literal_of Pipe = codes "|"
+literal_of Or = codes "||"
+literal_of Bang = codes "!"
+literal_of Underscore = codes "_"
+literal_of XOr = codes "^"
+literal_of And = codes "&&"
+literal_of Ampersand = codes "&"
+literal_of EqualsTo = codes "=="
+literal_of NotEqualsTo = codes "!="
+literal_of In = codes "in"
+literal_of NotIn = codes "!in"
+literal_of LessThan = codes "<"
+literal_of LessThanEqualsTo = codes "<="
+literal_of GreaterThan = codes ">"
+literal_of GreaterThanEqualsTo = codes ">="
+literal_of DoubleQuestion = codes "??"
+literal_of ExclusiveRange = codes ".."
+literal_of InclusiveRange = codes "..="
+literal_of Plus = codes "+"
+literal_of Minus = codes "-"
+literal_of Multiply = codes "*"
+literal_of Divide = codes "/"
+literal_of Modulo = codes "%"
+literal_of PowerOf = codes "**"
+literal_of LeftShift = codes "<<"
+literal_of RightShift = codes ">>"
+literal_of UnaryPlus = codes "+"
+literal_of UnaryMinus = codes "-"
+literal_of PlusAssign = codes "+="
+literal_of MinusAssign = codes "-="
+literal_of MultiplyAssign = codes "*="
+literal_of DivideAssign = codes "/="
+literal_of ModuloAssign = codes "%="
+literal_of PowerOfAssign = codes "**="
+literal_of LeftShiftAssign = codes "<<="
+literal_of RightShiftAssign = codes ">>="
+literal_of AndAssign = codes "&="
+literal_of OrAssign = codes "|="
+literal_of XOrAssign = codes "^="
+literal_of True = codes "true"
+literal_of False = codes "false"
+literal_of Let = codes "let"
+literal_of Const = codes "const"
+literal_of If = codes "if"
+literal_of Else = codes "else"
+literal_of Switch = codes "switch"
+literal_of While = codes "while"
+literal_of Loop = codes "loop"
+literal_of Do = codes "do"
+literal_of Until = codes "until"
+literal_of For = codes "for"
+literal_of Break = codes "break"
+literal_of Continue = codes "continue"
+literal_of Return = codes "return"
+literal_of Throw = codes "throw"
+literal_of Try = codes "try"
+literal_of Catch = codes "catch"
+literal_of Import = codes "import"
+literal_of Export = codes "export"
+literal_of As = codes "as"
+literal_of Fn = codes "fn"
+literal_of Private = codes "private"
+literal_of EOF = codes "{EOF}"
+literal_of _ = []
+
+-- `*` binds more strongly than `+`, and only `**` groups to the right.
+example : (strength_of Plus ≡ Some 150) × (strength_of Multiply ≡ Some 180) × (binds_right Multiply ≡ false) × (binds_right PowerOf ≡ true)
+example = (refl, refl, refl, refl)

@@ -1,0 +1,21 @@
+//! What the parser stands on: tokens and the stream that delivers them, positions, the scope, the tree, and a stand-in
+//! for the optimizer.
+#![tactic(auto)]
+
+pub mod ast;
+pub mod names;
+pub mod optimizer;
+pub mod position;
+pub mod scope;
+pub mod stream;
+pub mod token;
+
+pub use ast::{
+    AST, Expr, FnCallExpr, Namespace, ScriptFuncDef, Stmt, StmtBlock, StmtBlockContainer,
+};
+pub use names::{is_reserved_keyword_or_symbol, is_valid_function_name, is_valid_identifier};
+pub use optimizer::{OptimizationLevel, optimize_into_ast};
+pub use position::Position;
+pub use scope::Scope;
+pub use stream::{Entry, TokenStream};
+pub use token::{LexError, Token};

@@ -1,0 +1,72 @@
+//! Where a token or a node stands in a script.
+
+ghost use Rattle.std.specs.Prelude.{◌≡◌, ◌<◌, ◌↔◌, IsSome, IfSome, IsTrue};
+ghost use Rattle.rhai_lower.specs.Positions.{place, line_of, column_of, nowhere};
+
+use std::fmt;
+
+/// A line and a column, both counted from 1, or no position.
+#[derive(Clone, Copy, PartialEq, Eq, Hash, Debug)]
+pub struct Position {
+    // Both are 0 where there is no position.
+    line: u16,
+    column: u16,
+}
+
+impl Position {
+    /// No position.
+    pub const NONE: Position = Position { line: 0, column: 0 };
+
+    /// Where a script starts: line 1, column 1.
+    pub const START: Position = Position { line: 1, column: 1 };
+
+    /// The position at a line and a column, both from 1 to 65535. There is none where one of them is 0.
+    pub fn new(line: u16, column: u16) -> Option<Position>
+        ensures some { IsSome result ↔ ((0 < line) × (0 < column)) }
+        ensures value { IfSome result (λ p. p ≡ place line column) }
+    {
+        if line == 0 || column == 0 {
+            return None;
+        }
+        Some(Position { line, column })
+    }
+
+    /// The line, from 1, unless there is no position.
+    pub fn line(&self) -> Option<u16>
+        ensures { result ≡ line_of self.now }
+    {
+        if self.line == 0 {
+            None
+        } else {
+            Some(self.line)
+        }
+    }
+
+    /// The column, from 1, unless there is no position.
+    pub fn column(&self) -> Option<u16>
+        ensures { result ≡ column_of self.now }
+    {
+        if self.column == 0 {
+            None
+        } else {
+            Some(self.column)
+        }
+    }
+
+    /// Whether there is no position.
+    pub fn is_none(&self) -> bool
+        ensures { IsTrue result ↔ (self.now ≡ nowhere) }
+    {
+        *self == Position::NONE
+    }
+}
+
+/// `line:column`, or `none`.
+impl fmt::Display for Position {
+    fn fmt<W: fmt::Write>(&self, f: &mut fmt::Formatter<W>) -> fmt::Result {
+        match (self.line(), self.column()) {
+            (Some(line), Some(column)) => write!(f, "{line}:{column}"),
+            _ => write!(f, "none"),
+        }
+    }
+}

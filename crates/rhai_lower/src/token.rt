@@ -1,0 +1,367 @@
+//! Tokens: what the tokenizer delivers to the parser.
+
+ghost use Rattle.std.specs.Prelude.{◌≡◌, IfOk};
+ghost use Rattle.std.specs.Rc.{rc_str_bytes};
+ghost use Rattle.rhai_lower.specs.Tokens.{strength_of, binds_right, assigns, literal_of};
+ghost use Rattle.rhai_lower.specs.Lexemes.{text_of, lexeme};
+
+use std::alloc::{AllocError, Global};
+use std::rc::RcStr;
+
+/// What the tokenizer could not read.
+#[derive(Clone, PartialEq, Debug, Drop)]
+pub enum LexError {
+    /// A string without its end.
+    UnterminatedString,
+    /// A string that is longer than this limit.
+    StringTooLong(usize),
+    /// A number that is none.
+    MalformedNumber(RcStr),
+    /// A symbol that has no place in the language, and a note on what to write.
+    ImproperSymbol(RcStr, RcStr),
+    /// An input that is no token.
+    UnexpectedInput(RcStr),
+    /// The tokenizer found no memory.
+    OutOfMemory,
+}
+
+/// A token, or the end mark that stands behind all tokens.
+#[derive(Clone, PartialEq, Debug, Drop)]
+pub enum Token {
+    /// An integer.
+    IntegerConstant(i64),
+    /// A character.
+    CharConstant(char),
+    /// A string without interpolation, or the last text of an interpolated string.
+    StringConstant(RcStr),
+    /// A text of an interpolated string with a block behind it.
+    InterpolatedString(RcStr),
+    /// A name.
+    Identifier(RcStr),
+    /// A word or symbol that the language keeps for itself.
+    Reserved(RcStr),
+    /// What the tokenizer could not read.
+    LexError(LexError),
+    /// A doc comment.
+    Comment(RcStr),
+    /// `()`
+    Unit,
+    /// `{`
+    LeftBrace,
+    /// `}`
+    RightBrace,
+    /// `(`
+    LeftParen,
+    /// `)`
+    RightParen,
+    /// `[`
+    LeftBracket,
+    /// `]`
+    RightBracket,
+    /// `?[`
+    QuestionBracket,
+    /// `#{`
+    MapStart,
+    /// `.`
+    Period,
+    /// `?.`
+    Elvis,
+    /// `::`
+    DoubleColon,
+    /// `:`
+    Colon,
+    /// `,`
+    Comma,
+    /// `;`
+    SemiColon,
+    /// `=>`
+    DoubleArrow,
+    /// `=`
+    Equals,
+    /// `|`
+    Pipe,
+    /// `||`
+    Or,
+    /// `!`
+    Bang,
+    /// `_`
+    Underscore,
+    /// `^`
+    XOr,
+    /// `&&`
+    And,
+    /// `&`
+    Ampersand,
+    /// `==`
+    EqualsTo,
+    /// `!=`
+    NotEqualsTo,
+    /// `in`
+    In,
+    /// `!in`
+    NotIn,
+    /// `<`
+    LessThan,
+    /// `<=`
+    LessThanEqualsTo,
+    /// `>`
+    GreaterThan,
+    /// `>=`
+    GreaterThanEqualsTo,
+    /// `??`
+    DoubleQuestion,
+    /// `..`
+    ExclusiveRange,
+    /// `..=`
+    InclusiveRange,
+    /// `+`
+    Plus,
+    /// `-`
+    Minus,
+    /// `*`
+    Multiply,
+    /// `/`
+    Divide,
+    /// `%`
+    Modulo,
+    /// `**`
+    PowerOf,
+    /// `<<`
+    LeftShift,
+    /// `>>`
+    RightShift,
+    /// `+` where an operand begins
+    UnaryPlus,
+    /// `-` where an operand begins
+    UnaryMinus,
+    /// `+=`
+    PlusAssign,
+    /// `-=`
+    MinusAssign,
+    /// `*=`
+    MultiplyAssign,
+    /// `/=`
+    DivideAssign,
+    /// `%=`
+    ModuloAssign,
+    /// `**=`
+    PowerOfAssign,
+    /// `<<=`
+    LeftShiftAssign,
+    /// `>>=`
+    RightShiftAssign,
+    /// `&=`
+    AndAssign,
+    /// `|=`
+    OrAssign,
+    /// `^=`
+    XOrAssign,
+    /// `true`
+    True,
+    /// `false`
+    False,
+    /// `let`
+    Let,
+    /// `const`
+    Const,
+    /// `if`
+    If,
+    /// `else`
+    Else,
+    /// `switch`
+    Switch,
+    /// `while`
+    While,
+    /// `loop`
+    Loop,
+    /// `do`
+    Do,
+    /// `until`
+    Until,
+    /// `for`
+    For,
+    /// `break`
+    Break,
+    /// `continue`
+    Continue,
+    /// `return`
+    Return,
+    /// `throw`
+    Throw,
+    /// `try`
+    Try,
+    /// `catch`
+    Catch,
+    /// `import`
+    Import,
+    /// `export`
+    Export,
+    /// `as`
+    As,
+    /// `fn`
+    Fn,
+    /// `private`
+    Private,
+    /// The end mark.
+    EOF,
+}
+
+impl Token {
+    /// How strongly the token binds as a binary operator, from 30 (`||`) to 210 (`<<`); none where it is no
+    /// such operator. The table is in docs/GRAMMAR.md, "Strengths".
+    pub fn precedence(&self) -> Option<u8>
+        ensures { result ≡ strength_of self.now }
+    {
+        match self {
+            Token::Or | Token::XOr | Token::Pipe => Some(30),
+            Token::And | Token::Ampersand => Some(60),
+            Token::EqualsTo | Token::NotEqualsTo => Some(90),
+            Token::In | Token::NotIn => Some(110),
+            Token::LessThan
+            | Token::LessThanEqualsTo
+            | Token::GreaterThan
+            | Token::GreaterThanEqualsTo => Some(130),
+            Token::DoubleQuestion => Some(135),
+            Token::ExclusiveRange | Token::InclusiveRange => Some(140),
+            Token::Plus | Token::Minus => Some(150),
+            Token::Multiply | Token::Divide | Token::Modulo => Some(180),
+            Token::PowerOf => Some(190),
+            Token::LeftShift | Token::RightShift => Some(210),
+            _ => None,
+        }
+    }
+
+    /// Whether equal operators group to the right, as in `2 ** 3 ** 4`.
+    pub fn is_bind_right(&self) -> bool
+        ensures { result ≡ binds_right self.now }
+    {
+        matches!(self, Token::PowerOf)
+    }
+
+    /// Whether the token assigns the result of an operator, as `+=`.
+    pub fn is_op_assignment(&self) -> bool
+        ensures { result ≡ assigns self.now }
+    {
+        matches!(
+            self,
+            Token::PlusAssign
+                | Token::MinusAssign
+                | Token::MultiplyAssign
+                | Token::DivideAssign
+                | Token::ModuloAssign
+                | Token::PowerOfAssign
+                | Token::LeftShiftAssign
+                | Token::RightShiftAssign
+                | Token::AndAssign
+                | Token::OrAssign
+                | Token::XOrAssign
+        )
+    }
+
+    /// How a token without payload is written; empty for one with payload.
+    pub fn literal_syntax(&self) -> &'static str
+        ensures { result.now ≡ literal_of self.now }
+    {
+        match self {
+            Token::Unit => "()",
+            Token::LeftBrace => "{",
+            Token::RightBrace => "}",
+            Token::LeftParen => "(",
+            Token::RightParen => ")",
+            Token::LeftBracket => "[",
+            Token::RightBracket => "]",
+            Token::QuestionBracket => "?[",
+            Token::MapStart => "#{",
+            Token::Period => ".",
+            Token::Elvis => "?.",
+            Token::DoubleColon => "::",
+            Token::Colon => ":",
+            Token::Comma => ",",
+            Token::SemiColon => ";",
+            Token::DoubleArrow => "=>",
+            Token::Equals => "=",
+            Token::Pipe => "|",
+            Token::Or => "||",
+            Token::Bang => "!",
+            Token::Underscore => "_",
+            Token::XOr => "^",
+            Token::And => "&&",
+            Token::Ampersand => "&",
+            Token::EqualsTo => "==",
+            Token::NotEqualsTo => "!=",
+            Token::In => "in",
+            Token::NotIn => "!in",
+            Token::LessThan => "<",
+            Token::LessThanEqualsTo => "<=",
+            Token::GreaterThan => ">",
+            Token::GreaterThanEqualsTo => ">=",
+            Token::DoubleQuestion => "??",
+            Token::ExclusiveRange => "..",
+            Token::InclusiveRange => "..=",
+            Token::Plus => "+",
+            Token::Minus => "-",
+            Token::Multiply => "*",
+            Token::Divide => "/",
+            Token::Modulo => "%",
+            Token::PowerOf => "**",
+            Token::LeftShift => "<<",
+            Token::RightShift => ">>",
+            Token::UnaryPlus => "+",
+            Token::UnaryMinus => "-",
+            Token::PlusAssign => "+=",
+            Token::MinusAssign => "-=",
+            Token::MultiplyAssign => "*=",
+            Token::DivideAssign => "/=",
+            Token::ModuloAssign => "%=",
+            Token::PowerOfAssign => "**=",
+            Token::LeftShiftAssign => "<<=",
+            Token::RightShiftAssign => ">>=",
+            Token::AndAssign => "&=",
+            Token::OrAssign => "|=",
+            Token::XOrAssign => "^=",
+            Token::True => "true",
+            Token::False => "false",
+            Token::Let => "let",
+            Token::Const => "const",
+            Token::If => "if",
+            Token::Else => "else",
+            Token::Switch => "switch",
+            Token::While => "while",
+            Token::Loop => "loop",
+            Token::Do => "do",
+            Token::Until => "until",
+            Token::For => "for",
+            Token::Break => "break",
+            Token::Continue => "continue",
+            Token::Return => "return",
+            Token::Throw => "throw",
+            Token::Try => "try",
+            Token::Catch => "catch",
+            Token::Import => "import",
+            Token::Export => "export",
+            Token::As => "as",
+            Token::Fn => "fn",
+            Token::Private => "private",
+            Token::EOF => "{EOF}",
+            _ => "",
+        }
+    }
+
+    /// The token's text: its payload (an integer in decimal), or how it is written. A tokenizer's error has no text.
+    /// The error is that there is no memory for it.
+    pub fn text(&self, alloc: Global) -> Result<RcStr, AllocError>
+        ensures { IfOk result (λ t. rc_str_bytes t ≡ text_of (lexeme self.now)) }
+    {
+        match self {
+            Token::IntegerConstant(n) => RcStr::from_string(format!(in alloc; "{n}")?),
+            Token::CharConstant(c) => RcStr::from_string(format!(in alloc; "{c}")?),
+            Token::StringConstant(t)
+            | Token::InterpolatedString(t)
+            | Token::Identifier(t)
+            | Token::Reserved(t)
+            | Token::Comment(t) => t.clone(),
+            Token::LexError(_) => RcStr::from_str(alloc, ""),
+            _ => RcStr::from_str(alloc, self.literal_syntax()),
+        }
+    }
+}
