@@ -1,0 +1,116 @@
+-- Why a script is refused, as definitions see it: texts are their bytes, and notes for people are left out.
+use Rattle.std.specs.Prelude.{◌≡◌, ℕ, refl}
+use Rattle.std.specs.Rc.{rc_str_bytes}
+use Rattle.rhai_lower.specs.Texts.{Text}
+use Rattle.rhai_lower.specs.Positions.{nowhere}
+use Rattle.rhai_lower.specs.Lexemes.{Fault, fault}
+use Rattle.rhai_lower.specs.declared.position.Position.{Position}
+use Rattle.rhai_grammar.specs.declared.error.InputError.{InputError}
+use Rattle.rhai_grammar.specs.declared.error.InputError.TheVariants as input
+use Rattle.rhai_grammar.specs.declared.error.ParseErrorType.{ParseErrorType}
+use Rattle.rhai_grammar.specs.declared.error.ParseErrorType.TheVariants as error
+use Rattle.rhai_grammar.specs.declared.error.ParseError.{ParseError}
+
+-- an input that cannot be used
+pub data InputCause : Type 0 where
+  UnexpectedInput : Text → InputCause
+  Lexer : Fault → InputCause
+  MalformedNumber : Text → InputCause
+  ImproperSymbol : Text → InputCause
+
+pub data Cause : Type 0 where
+  UnexpectedEOF : Cause
+  BadInput : InputCause → Cause
+  UnknownOperator : Text → Cause
+  MissingToken : Text → Cause
+  ExprExpected : Text → Cause
+  MismatchedType : (due found : Text) → Cause
+  MalformedIndexExpr : Text → Cause
+  MalformedCapture : Cause
+  PropertyExpected : Cause
+  VariableExpected : Cause
+  Reserved : Text → Cause
+  DuplicatedProperty : Text → Cause
+  DuplicatedVariable : Text → Cause
+  VariableExists : Text → Cause
+  VariableUndefined : Text → Cause
+  ModuleUndefined : Text → Cause
+  WrongSwitchDefaultCase : Cause
+  WrongSwitchCaseCondition : Cause
+  WrongSwitchIntegerCase : Cause
+  WrongFnDefinition : Cause
+  FnMissingName : Cause
+  FnMissingParams : Text → Cause
+  FnMissingBody : Text → Cause
+  FnDuplicatedParam : (function parameter : Text) → Cause
+  FnDuplicatedDefinition : Text → ℕ → Cause
+  WrongExport : Cause
+  AssignmentToConstant : Text → Cause
+  AssignmentToInvalidLHS : Text → Cause
+  LoopBreak : Cause
+  LiteralTooLarge : Text → (limit : ℕ) → Cause
+  ExprTooDeep : Cause
+  TooManyFunctions : Cause
+  OutOfMemory : Cause
+
+abbrev pub input_cause : InputError → InputCause
+input_cause (input.UnexpectedInput t) = UnexpectedInput (rc_str_bytes t)
+input_cause (input.Lexer e) = Lexer (fault e)
+input_cause (input.MalformedNumber t) = MalformedNumber (rc_str_bytes t)
+input_cause (input.ImproperSymbol t note) = ImproperSymbol (rc_str_bytes t)
+
+abbrev pub cause_of : ParseErrorType → Cause
+cause_of error.UnexpectedEOF = UnexpectedEOF
+cause_of (error.BadInput e) = BadInput (input_cause e)
+cause_of (error.UnknownOperator t) = UnknownOperator (rc_str_bytes t)
+cause_of (error.MissingToken t note) = MissingToken (rc_str_bytes t)
+cause_of (error.ExprExpected t) = ExprExpected (rc_str_bytes t)
+cause_of (error.MismatchedType t u) = MismatchedType (rc_str_bytes t) (rc_str_bytes u)
+cause_of (error.MalformedIndexExpr t) = MalformedIndexExpr (rc_str_bytes t)
+cause_of (error.MalformedCapture note) = MalformedCapture
+cause_of error.PropertyExpected = PropertyExpected
+cause_of error.VariableExpected = VariableExpected
+cause_of (error.Reserved t) = Reserved (rc_str_bytes t)
+cause_of (error.DuplicatedProperty t) = DuplicatedProperty (rc_str_bytes t)
+cause_of (error.DuplicatedVariable t) = DuplicatedVariable (rc_str_bytes t)
+cause_of (error.VariableExists t) = VariableExists (rc_str_bytes t)
+cause_of (error.VariableUndefined t) = VariableUndefined (rc_str_bytes t)
+cause_of (error.ModuleUndefined t) = ModuleUndefined (rc_str_bytes t)
+cause_of error.WrongSwitchDefaultCase = WrongSwitchDefaultCase
+cause_of error.WrongSwitchCaseCondition = WrongSwitchCaseCondition
+cause_of error.WrongSwitchIntegerCase = WrongSwitchIntegerCase
+cause_of error.WrongFnDefinition = WrongFnDefinition
+cause_of error.FnMissingName = FnMissingName
+cause_of (error.FnMissingParams t) = FnMissingParams (rc_str_bytes t)
+cause_of (error.FnMissingBody t) = FnMissingBody (rc_str_bytes t)
+cause_of (error.FnDuplicatedParam t u) = FnDuplicatedParam (rc_str_bytes t) (rc_str_bytes u)
+cause_of (error.FnDuplicatedDefinition t n) = FnDuplicatedDefinition (rc_str_bytes t) n
+cause_of error.WrongExport = WrongExport
+cause_of (error.AssignmentToConstant t) = AssignmentToConstant (rc_str_bytes t)
+cause_of (error.AssignmentToInvalidLHS t) = AssignmentToInvalidLHS (rc_str_bytes t)
+cause_of error.LoopBreak = LoopBreak
+cause_of (error.LiteralTooLarge t n) = LiteralTooLarge (rc_str_bytes t) n
+cause_of error.ExprTooDeep = ExprTooDeep
+cause_of error.TooManyFunctions = TooManyFunctions
+cause_of error.OutOfMemory = OutOfMemory
+
+-- why, and where
+pub record Refusal : Type 0 where
+  pub cause : Cause
+  pub at : Position
+
+abbrev pub refusal : Cause → Position → Refusal
+refusal cause at = record { cause = cause; at = at }
+
+abbrev pub refusal_of : ParseError → Refusal
+refusal_of e = refusal (cause_of e.0) e.1
+
+-- memory ran out, which stands nowhere
+abbrev pub no_memory : ParseError
+no_memory = record { 0 = error.OutOfMemory; 1 = nowhere }
+
+abbrev pub out_of_memory : Refusal
+out_of_memory = refusal OutOfMemory nowhere
+
+example : refusal_of no_memory ≡ out_of_memory
+example = refl

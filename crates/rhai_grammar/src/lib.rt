@@ -1,0 +1,11 @@
+//! What the language is: the definitions that the parser's promises are stated in (specs/), and the plain types that
+//! they name.
+#![tactic(auto)]
+
+pub mod error;
+pub mod filter;
+pub mod key;
+
+pub use error::{InputError, ParseError, ParseErrorType, ParseResult};
+pub use filter::ExprFilter;
+pub use key::FnKey;
