@@ -1,0 +1,96 @@
+-- The delivered stream, and what is seen of it.
+use Rattle.std.specs.Prelude.{◌≡◌, ℕ, Bool, true, false, List, [], ◌∷◌, refl}
+use Rattle.rhai_lower.specs.Positions.{place}
+use Rattle.rhai_lower.specs.Lexemes.{Lexeme, Faulty, Sign, NoMemory, lexeme}
+use Rattle.rhai_lower.specs.Streams.{Ask, Stream}
+use Rattle.rhai_lower.specs.declared.position.Position.{Position}
+use Rattle.rhai_lower.specs.declared.token.Token.{Token}
+use Rattle.rhai_lower.specs.declared.token.Token.TheVariants.{EOF, Plus}
+
+-- The mode in which a token is asked for: text mode behind a block of an interpolated string, else code mode.
+pub data Mode : Type 0 where
+  code : Mode
+  text : Mode
+
+-- a token and where it stands
+pub record Item : Type 0 where
+  pub lexeme : Lexeme
+  pub at : Position
+
+abbrev pub item : Lexeme → Position → Item
+item l p = record { lexeme = l; at = p }
+
+-- At each place a token for each mode, and what is left once it was asked for in that mode; at last the end mark, for good.
+pub data Tokens : Type 0 where
+  Ends : (at : Position) → Tokens
+  Then : (in_code in_text : Item) (after_code after_text : Tokens) → Tokens
+
+abbrev pub by_mode : {A : Type 0} → Mode → A → A → A
+by_mode code in_code in_text = in_code
+by_mode text in_code in_text = in_text
+
+-- the token asked for in a mode
+abbrev pub ask : Mode → Tokens → Item
+ask m (Ends p) = item (Sign EOF) p
+ask m (Then a b s t) = by_mode m a b
+
+-- what is left once it was taken
+abbrev pub later : Mode → Tokens → Tokens
+later m (Ends p) = Ends p
+later m (Then a b s t) = by_mode m s t
+
+abbrev pub is_end : Lexeme → Bool
+is_end (Sign EOF) = true
+is_end _ = false
+
+-- the tokenizer found no memory
+abbrev pub is_memory : Lexeme → Bool
+is_memory (Faulty NoMemory) = true
+is_memory _ = false
+
+-- ---- the stream of the code
+
+abbrev pub item_of : Token × Position → Item
+item_of t = item (lexeme t.0) t.1
+
+abbrev pub delivered : List Ask → Position → Tokens
+delivered [] end = Ends end
+delivered (a ∷ more) end = let rest = delivered more end in Then (item_of a.code) (item_of a.text) rest rest
+
+-- what a stream still delivers
+abbrev pub tokens_of : Stream → Tokens
+tokens_of s = delivered s.asks s.end
+
+abbrev pub mode_by : Bool → Mode
+mode_by true = text
+mode_by false = code
+
+-- the mode of a stream's next ask
+abbrev pub mode_of : Stream → Mode
+mode_of s = mode_by s.in_text
+
+-- ---- a place of a stream
+
+-- a token that was taken, and in which mode
+pub record Taken : Type 0 where
+  pub mode : Mode
+  pub item : Item
+
+-- what is left of a stream, and what was taken of it, the latest first
+pub record Point : Type 0 where
+  pub tokens : Tokens
+  pub taken : List Taken
+
+abbrev pub next_at : Mode → Point → Item
+next_at m s = ask m s.tokens
+
+-- one token further
+abbrev pub past : Mode → Point → Point
+past m s = record { tokens = later m s.tokens; taken = record { mode = m; item = ask m s.tokens } ∷ s.taken }
+
+abbrev example_tokens : Tokens
+example_tokens = Then (item (Sign Plus) (place 1 1)) (item (Sign Plus) (place 1 1)) (Ends (place 1 2)) (Ends (place 1 2))
+
+-- Behind the only token stands the end mark, however often it is asked for.
+example : (ask code example_tokens ≡ item (Sign Plus) (place 1 1)) × (ask text (later code (later code example_tokens)) ≡ item (Sign EOF) (place 1 2))
+example = (refl, refl)

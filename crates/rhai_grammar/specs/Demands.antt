@@ -1,0 +1,56 @@
+-- What may be demanded of a stream, when demands are met along it, and when the next one is missed.
+use Rattle.std.specs.Prelude.{◌≡◌, ◌⊎◌, Bool, true, false, if◌then◌else◌}
+use Rattle.rhai_lower.specs.Lexemes.{Lexeme}
+use Rattle.rhai_lower.specs.declared.position.Position.{Position}
+use Rattle.rhai_grammar.specs.Causes.{Cause, Refusal, refusal}
+use Rattle.rhai_grammar.specs.Delivered.{Mode, code, Item, item, Point, next_at, past, is_memory}
+
+-- what a token says that stands where another is due
+pub data Verdict : Type 0 where
+  -- it may stand here
+  Fine : Verdict
+  -- it is refused, for this cause and at its position
+  Wrong : Cause → Verdict
+  -- another form goes on so
+  Otherwise : Verdict
+
+infixr 5 ◌▸◌
+
+pub data Demand : Type 0 where
+  -- this token stands here, asked for in this mode; of other tokens some are refused
+  Tok : Mode → Item → (others : Lexeme → Verdict) → Demand
+  -- a test of the token that comes next, which is not taken
+  Next : (Lexeme → Verdict) → Demand
+  -- a test of what was read, and what is refused where it fails
+  Test : Bool → Refusal → Demand
+  -- a bound on what may be written so, which refuses nothing
+  Shape : Bool → Demand
+
+-- demands in written order
+pub data Demands : Type 0 where
+  Nothing : Demands
+  ◌▸◌ : Demand → Demands → Demands
+
+-- Where the tokenizer found no memory no form goes on, and the parser refuses for want of memory, whatever is due.
+abbrev pub verdict : (Lexeme → Verdict) → Lexeme → Verdict
+verdict v l = if is_memory l then Otherwise else v l
+
+-- All demands are met along the stream, from one point to another.
+abbrev pub Met : Demands → Point → Point → Type 0
+Met Nothing s t = s ≡ t
+Met (Tok m i others ▸ ds) s t = (next_at m s ≡ i) × Met ds (past m s) t
+Met (Next v ▸ ds) s t = (verdict v (next_at code s).lexeme ≡ Fine) × Met ds s t
+Met (Test holds e ▸ ds) s t = (holds ≡ true) × Met ds s t
+Met (Shape holds ▸ ds) s t = (holds ≡ true) × Met ds s t
+
+-- A token is refused by a verdict on the tokens that may stand at a point.
+abbrev pub Refused : (Lexeme → Verdict) → Item → Refusal → Type 0
+Refused v i e = (cause : Cause) × (verdict v i.lexeme ≡ Wrong cause) × (e ≡ refusal cause i.at)
+
+-- Some demands are met from one point to another, and there the next one is missed, which names the refusal.
+abbrev pub Missed : Demands → Point → Refusal → Point → Type 0
+Missed Nothing s e u = ⊥
+Missed (Tok m i others ▸ ds) s e u = (Refused others (next_at m s) e × (u ≡ s)) ⊎ ((next_at m s ≡ i) × Missed ds (past m s) e u)
+Missed (Next v ▸ ds) s e u = (Refused v (next_at code s) e × (u ≡ s)) ⊎ ((verdict v (next_at code s).lexeme ≡ Fine) × Missed ds s e u)
+Missed (Test holds d ▸ ds) s e u = ((holds ≡ false) × (e ≡ d) × (u ≡ s)) ⊎ ((holds ≡ true) × Missed ds s e u)
+Missed (Shape holds ▸ ds) s e u = (holds ≡ true) × Missed ds s e u

@@ -1,0 +1,71 @@
+-- What may stand behind an operand, and how strongly operators bind.
+use Rattle.std.specs.Prelude.{◌≡◌, ℕ, Bool, true, false, Option, Some, None, ◌==◌, ◌||◌, ◌&&◌, nat_lt, not, if◌then◌else◌, codes, refl}
+use Rattle.rhai_lower.specs.Texts.{Text}
+use Rattle.rhai_lower.specs.Names.{is_identifier}
+use Rattle.rhai_lower.specs.Tokens.{strength_of, binds_right}
+use Rattle.rhai_lower.specs.Lexemes.{Lexeme, Integer, Reserved, Sign}
+use Rattle.rhai_lower.specs.declared.token.Token.{Token}
+use Rattle.rhai_lower.specs.declared.token.Token.TheVariants.{And, Or, DoubleQuestion, In, NotIn, ExclusiveRange, InclusiveRange, Plus, Multiply, PowerOf}
+
+-- The strength of an operator that the written forms have. Those that join lists, test membership or make ranges come later.
+abbrev pub plain_strength : Token → Option ℕ
+plain_strength And = None
+plain_strength Or = None
+plain_strength DoubleQuestion = None
+plain_strength In = None
+plain_strength NotIn = None
+plain_strength ExclusiveRange = None
+plain_strength InclusiveRange = None
+plain_strength t = strength_of t
+
+-- what stands behind an operand
+pub data Behind : Type 0 where
+  -- a binary operator of this strength; whether equal ones group to the right
+  Operator : (strength : ℕ) (right : Bool) → Behind
+  -- a reserved symbol, which is no operator
+  Unknown : Text → Behind
+  -- anything else, which ends the run
+  Other : Behind
+
+abbrev pub behind_sign : Option ℕ → Bool → Behind
+behind_sign (Some n) right = Operator n right
+behind_sign None right = Other
+
+abbrev pub behind_word : Bool → Text → Behind
+behind_word true t = Other
+behind_word false t = Unknown t
+
+abbrev pub behind_of : Lexeme → Behind
+behind_of (Sign t) = behind_sign (plain_strength t) (binds_right t)
+behind_of (Reserved t) = behind_word (is_identifier t) t
+behind_of _ = Other
+
+abbrev pub is_operator : Behind → Bool
+is_operator (Operator n right) = true
+is_operator _ = false
+
+abbrev pub strength : Behind → ℕ
+strength (Operator n right) = n
+strength _ = 0
+
+abbrev pub is_right : Behind → Bool
+is_right (Operator n right) = right
+is_right _ = false
+
+-- Left of an operator stands none that is looser, and left of one that groups to the right none that is equally strong.
+abbrev pub left_of : Behind → Behind → Bool
+left_of op inner = if is_right op then nat_lt (strength op) (strength inner) else not (nat_lt (strength inner) (strength op))
+
+-- Right of an operator stands none that is looser, and right of one that groups to the left none that is equally strong.
+abbrev pub right_of : Behind → Behind → Bool
+right_of op inner = if is_right op then not (nat_lt (strength inner) (strength op)) else nat_lt (strength op) (strength inner)
+
+-- `*` may stand on either side of `+`; `+` may stand left of `+`, and `**` right of `**`, and not the other way round.
+abbrev example_plus : Behind
+example_plus = behind_of (Sign Plus)
+
+abbrev example_power : Behind
+example_power = behind_of (Sign PowerOf)
+
+example : (left_of example_plus (behind_of (Sign Multiply)) ≡ true) × (right_of example_plus (behind_of (Sign Multiply)) ≡ true) × (left_of example_plus example_plus ≡ true) × (right_of example_plus example_plus ≡ false) × (left_of example_power example_power ≡ false) × (right_of example_power example_power ≡ true)
+example = (refl, refl, refl, refl, refl, refl)

@@ -1,0 +1,96 @@
+-- What the reader does, as a function: a fixed point of its rules, guarded by what is left to read.
+use Rattle.std.specs.Prelude.{◌≡◌, ℕ, zero, suc, ◌+◌, ◌*◌, Bool, true, false, max, Result, Ok, Err, nat_lt, if◌then◌else◌}
+use Rattle.rhai_lower.specs.Lexemes.{Lexeme}
+use Rattle.rhai_lower.specs.Streams.{Stream}
+use Rattle.rhai_lower.specs.declared.position.Position.{Position}
+use Rattle.rhai_grammar.specs.Causes.{Refusal, refusal_of, out_of_memory}
+use Rattle.rhai_grammar.specs.Delivered.{Mode, code, Item, Tokens, Ends, Then, ask, later, is_memory, tokens_of, mode_of}
+use Rattle.rhai_grammar.specs.declared.error.ParseError.{ParseError}
+use Rattle.rhai_grammar.specs.declared.error.ParseErrorType.{ParseErrorType}
+use Rattle.rhai_grammar.specs.declared.error.ParseErrorType.TheVariants as error
+use Rattle.rhai_reading.specs.Reading.{Goal, Whole, Expression, Primary, BinaryOp, Val, Prog, Ret, Fail, Peek, Take, Call, body}
+
+-- what is left of a stream, the mode of the next ask, and whether its token was looked at
+pub record Cursor : Type 0 where
+  pub tokens : Tokens
+  pub mode : Mode
+  pub peeked : Bool
+
+abbrev pub cursor_of : Stream → Cursor
+cursor_of s = record { tokens = tokens_of s; mode = mode_of s; peeked = s.peeked }
+
+abbrev pub asked : Cursor → Item
+asked s = ask s.mode s.tokens
+
+abbrev pub looking : Cursor → Cursor
+looking s = record s { peeked = true }
+
+abbrev pub taking : Cursor → Cursor
+taking s = record { tokens = later s.mode s.tokens; mode = code; peeked = false }
+
+-- how many tokens are left at most
+unfoldable pub left : Tokens → ℕ
+left (Ends p) = 0
+left (Then a b s t) = max (left s) (left t) + 1
+
+-- what came of a reader, with the cursor that it left
+pub data Out (A : Type 0) : Type 0 where
+  Done : A → Cursor → Out A
+  Refused : Refusal → Cursor → Out A
+  Unfinished : Out A
+
+abbrev pub and_then : {A B : Type 0} → Out A → (A → Cursor → Out B) → Out B
+and_then (Done x s) f = f x s
+and_then (Refused e s) f = Refused e s
+and_then Unfinished f = Unfinished
+
+abbrev pub Caller : Type 0
+Caller = (g : Goal) → Cursor → Out (Val g)
+
+-- What a reader does, where call says what each call does. Where the tokenizer found no memory a look refuses so.
+abbrev pub exec : {A : Type 0} → Caller → Prog A → Cursor → Out A
+exec call (Ret x) s = Done x s
+exec call (Fail e) s = Refused e s
+exec call (Peek k) s = if is_memory (asked s).lexeme then Refused out_of_memory (looking s) else exec call (k (asked s).lexeme (asked s).at) (looking s)
+exec call (Take p) s = exec call p (taking s)
+exec call (Call g k) s = and_then (call g s) (λ v t. exec call (k v) t)
+
+-- A call at the same token is one to a goal of lower rank.
+abbrev pub rank : Goal → ℕ
+rank (Whole c) = 3
+rank (Expression c) = 2
+rank (Primary c) = 0
+rank (BinaryOp c at parent lhs) = 1
+
+-- the work that is left, above every rank for each token
+abbrev pub work : ℕ → ℕ → ℕ
+work tokens rank = 64 * tokens + rank
+
+abbrev pub need : Goal → Cursor → ℕ
+need g s = work (left s.tokens) (rank g)
+
+-- a call is made only where less is left to do
+unfoldable pub only_less : Caller → Goal → Cursor → Caller
+only_less P g s h t = if nat_lt (need h t) (need g s) then P h t else Unfinished
+
+unfoldable pub level : ℕ → Caller
+level zero g s = Unfinished
+level (suc n) g s = exec (only_less (level n) g s) (body g) s
+
+unfoldable pub run : Caller
+run g s = level (suc (need g s)) g s
+
+unfoldable pub guarded : Goal → Cursor → Caller
+guarded = only_less run
+
+-- ---- what the code's readers promise
+
+-- the error is the refusal of a reader, unless memory ran out
+abbrev pub Fails : {A : Type 0} → Out A → ParseErrorType → Refusal → Cursor → Type 0
+Fails o error.OutOfMemory e t = Unit {0}
+Fails o kind e t = o ≡ Refused e t
+
+-- What a function returned, seen by view, is what a reader gives, and so is what it left; unless memory ran out.
+abbrev pub Gives : {X A : Type 0} → (X → A) → Out A → Result X ParseError → Cursor → Type 0
+Gives view o (Ok x) t = o ≡ Done (view x) t
+Gives view o (Err e) t = Fails o e.0 (refusal_of e) t

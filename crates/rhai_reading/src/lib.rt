@@ -1,0 +1,3 @@
+//! The reader as a program that asks a stream, and its laws: proofs only. The code's readers are proved to do what it
+//! does, and the laws say what that means in terms of the definitions.
+#![tactic(auto)]
