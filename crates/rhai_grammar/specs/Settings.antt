@@ -1,14 +1,14 @@
--- The settings under which a form is read.
-use Rattle.std.specs.Prelude.{◌≡◌, ℕ, ◌+◌, ◌-◌, ◌^◌, ◌==◌, ◌||◌, Bool, true, false, min, nat_lt, refl}
+-- The settings that a construct is read under, as plain numbers: the bits of the flags and of the options, the level, and
+-- the limit that it stays within (0: none). Where they stand is no part of them.
+use Rattle.std.specs.Prelude.{◌≡◌, ℕ, ◌+◌, ◌-◌, ◌^◌, ◌==◌, ◌||◌, Bool, true, false, nat_lt, min, refl}
 
--- the flags and the language options as their bits, the level of nesting, and its limit, of which 0 is none
 pub record Settings : Type 0 where
   pub flags : ℕ
   pub options : ℕ
   pub level : ℕ
   pub limit : ℕ
 
--- the level may be raised
+-- a raise finds room
 abbrev pub low : Settings → Bool
 low c = (c.limit == 0) || nat_lt c.level c.limit
 
@@ -16,12 +16,14 @@ low c = (c.limit == 0) || nat_lt c.level c.limit
 unfoldable pub one_more : ℕ → ℕ
 one_more n = min (n + 1) (2 ^ 64 - 1)
 
+-- the settings one level deeper
 abbrev pub up : Settings → Settings
 up c = record c { level = one_more c.level }
 
-abbrev example_settings : ℕ → Settings
-example_settings limit = record { flags = 0; options = 0; level = 2; limit = limit }
+abbrev at_level : ℕ → ℕ → Settings
+at_level limit level = record { flags = 0; options = 0; level = level; limit = limit }
 
--- Level 2 may be raised under no limit and under the limit 3, and not under the limit 2.
-example : (low (example_settings 0) ≡ true) × (low (example_settings 3) ≡ true) × (low (example_settings 2) ≡ false)
-example = (refl, refl, refl)
+-- Under a limit of 2 the level may be raised twice, without a limit it always may, and the greatest level stays.
+example : (up (at_level 2 0) ≡ at_level 2 1) × (low (at_level 2 1) ≡ true) × (low (at_level 2 2) ≡ false) × (low (at_level 0 2) ≡ true) × (up (at_level 0 (2 ^ 64 - 1)) ≡ at_level 0 (2 ^ 64 - 1))
+unfolding one_more
+example = (refl, refl, refl, refl, refl)

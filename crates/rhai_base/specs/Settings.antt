@@ -1,0 +1,29 @@
+-- The settings of the code as definitions see them, and what a raise of the level makes of them.
+use Rattle.std.specs.Prelude.{◌≡◌, ℕ, true, false, Result, Ok, Err, refl}
+use Rattle.rhai_lower.specs.Positions.{place}
+use Rattle.rhai_lower.specs.declared.position.Position.{Position}
+use Rattle.rhai_grammar.specs.declared.error.ParseErrorType.TheVariants as error
+use Rattle.rhai_grammar.specs.declared.error.ParseError.{ParseError}
+use Rattle.rhai_grammar.specs.Settings.{Settings, low, up, one_more}
+use Rattle.rhai_base.specs.declared.settings.ParseSettings.{ParseSettings}
+
+-- all but the position
+abbrev pub settings_of : ParseSettings → Settings
+settings_of c = record { flags = c.flags.0; options = c.options.0; level = c.level; limit = c.max_expr_depth }
+
+-- the refusal of a raise
+abbrev pub too_deep : Position → ParseError
+too_deep at = record { 0 = error.ExprTooDeep; 1 = at }
+
+-- A raise finds room and gives the settings one level deeper, at this position, or it finds none and is refused at the old one.
+abbrev pub Raises : ParseSettings → Position → Result ParseSettings ParseError → Type 0
+Raises c at (Ok d) = (low (settings_of c) ≡ true) × (settings_of d ≡ up (settings_of c)) × (d.pos ≡ at)
+Raises c at (Err e) = (low (settings_of c) ≡ false) × (e ≡ too_deep c.pos)
+
+abbrev example_settings : (level limit : ℕ) → Position → ParseSettings
+example_settings level limit at = record { flags = record { 0 = 0 }; options = record { 0 = 0 }; level = level; pos = at; max_expr_depth = limit }
+
+-- Under a limit of 2, level 1 is raised to 2 and level 2 is refused where it stands.
+example : Raises (example_settings 1 2 (place 1 1)) (place 1 5) (Ok (example_settings 2 2 (place 1 5))) × Raises (example_settings 2 2 (place 1 1)) (place 1 5) (Err (too_deep (place 1 1)))
+unfolding one_more
+example = ((refl, refl, refl), (refl, refl))

@@ -1,0 +1,6 @@
+//! What the readers of the parser share: the settings that they read under and the state that they work on.
+#![tactic(auto)]
+
+pub mod settings;
+
+pub use settings::{LangOptions, ParseSettingFlags, ParseSettings};

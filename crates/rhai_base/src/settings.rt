@@ -1,0 +1,404 @@
+//! The settings that a construct is read under.
+
+ghost use Rattle.std.specs.Prelude.{⊤, ◌≡◌, ◌==◌, [], ◌∷◌, codes};
+ghost use Rattle.std.specs.Int.RustNames.{bit_and, bit_or, bit_xor};
+ghost use Rattle.bitflags.specs.Sets.{without};
+ghost use Rattle.rhai_base.specs.Settings.{settings_of, Raises};
+
+use bitflags::{Flag, Flags};
+use rhai_grammar::{ParseError, ParseErrorType, ParseResult};
+use rhai_lower::Position;
+use std::ops::{
+    BitAnd, BitAndAssign, BitOr, BitOrAssign, BitXor, BitXorAssign, Not, Sub, SubAssign,
+};
+
+/// Where a construct stands, and what it may not hold.
+#[derive(Clone, Copy, PartialEq, Eq, PartialOrd, Ord, Hash, Debug)]
+pub struct ParseSettingFlags(u8);
+
+impl ParseSettingFlags {
+    /// At the global level of a script.
+    pub const GLOBAL_LEVEL: ParseSettingFlags = ParseSettingFlags(1);
+
+    /// In a function or closure.
+    pub const FN_SCOPE: ParseSettingFlags = ParseSettingFlags(2);
+
+    /// In a closure.
+    pub const CLOSURE_SCOPE: ParseSettingFlags = ParseSettingFlags(4);
+
+    /// In a loop, which `break` and `continue` can leave.
+    pub const BREAKABLE: ParseSettingFlags = ParseSettingFlags(8);
+
+    /// A block holds one expression or assignment and nothing else.
+    pub const DISALLOW_STATEMENTS_IN_BLOCKS: ParseSettingFlags = ParseSettingFlags(16);
+
+    /// The properties of an object map are strings.
+    pub const DISALLOW_UNQUOTED_MAP_PROPERTIES: ParseSettingFlags = ParseSettingFlags(32);
+
+    /// Each of them with its name.
+    pub const FLAGS: &'static [Flag<ParseSettingFlags>] = &[
+        Flag {
+            name: "GLOBAL_LEVEL",
+            value: ParseSettingFlags::GLOBAL_LEVEL,
+        },
+        Flag {
+            name: "FN_SCOPE",
+            value: ParseSettingFlags::FN_SCOPE,
+        },
+        Flag {
+            name: "CLOSURE_SCOPE",
+            value: ParseSettingFlags::CLOSURE_SCOPE,
+        },
+        Flag {
+            name: "BREAKABLE",
+            value: ParseSettingFlags::BREAKABLE,
+        },
+        Flag {
+            name: "DISALLOW_STATEMENTS_IN_BLOCKS",
+            value: ParseSettingFlags::DISALLOW_STATEMENTS_IN_BLOCKS,
+        },
+        Flag {
+            name: "DISALLOW_UNQUOTED_MAP_PROPERTIES",
+            value: ParseSettingFlags::DISALLOW_UNQUOTED_MAP_PROPERTIES,
+        },
+    ];
+}
+
+impl Flags for ParseSettingFlags {
+    type Bits = u8;
+
+    ghost exact = { ⊤ };
+
+    ghost table = { (codes "GLOBAL_LEVEL", 1) ∷ (codes "FN_SCOPE", 2) ∷ (codes "CLOSURE_SCOPE", 4) ∷ (codes "BREAKABLE", 8) ∷ (codes "DISALLOW_STATEMENTS_IN_BLOCKS", 16) ∷ (codes "DISALLOW_UNQUOTED_MAP_PROPERTIES", 32) ∷ [] };
+
+    ghost set_of = { λ f. f.0 };
+
+    fn flags<'a>() -> &'a [Flag<ParseSettingFlags>] {
+        ParseSettingFlags::FLAGS
+    }
+
+    fn bits(&self) -> u8 {
+        self.0
+    }
+
+    fn from_bits_retain(bits: u8) -> ParseSettingFlags {
+        ParseSettingFlags(bits)
+    }
+}
+
+impl BitOr for ParseSettingFlags {
+    type Output = ParseSettingFlags;
+
+    ghost bitor_gives = { λ a b r. r.0 ≡ bit_or a.0 b.0 };
+
+    fn bitor(self, other: ParseSettingFlags) -> ParseSettingFlags {
+        ParseSettingFlags(self.0 | other.0)
+    }
+}
+
+impl BitOrAssign for ParseSettingFlags {
+    ghost bitor_assign_gives = { λ a b r. r.0 ≡ bit_or a.0 b.0 };
+
+    fn bitor_assign(&mut self, other: ParseSettingFlags) {
+        *self = *self | other;
+    }
+}
+
+impl BitAnd for ParseSettingFlags {
+    type Output = ParseSettingFlags;
+
+    ghost bitand_gives = { λ a b r. r.0 ≡ bit_and a.0 b.0 };
+
+    fn bitand(self, other: ParseSettingFlags) -> ParseSettingFlags {
+        ParseSettingFlags(self.0 & other.0)
+    }
+}
+
+impl BitAndAssign for ParseSettingFlags {
+    ghost bitand_assign_gives = { λ a b r. r.0 ≡ bit_and a.0 b.0 };
+
+    fn bitand_assign(&mut self, other: ParseSettingFlags) {
+        *self = *self & other;
+    }
+}
+
+impl BitXor for ParseSettingFlags {
+    type Output = ParseSettingFlags;
+
+    ghost bitxor_gives = { λ a b r. r.0 ≡ bit_xor a.0 b.0 };
+
+    fn bitxor(self, other: ParseSettingFlags) -> ParseSettingFlags {
+        ParseSettingFlags(self.0 ^ other.0)
+    }
+}
+
+impl BitXorAssign for ParseSettingFlags {
+    ghost bitxor_assign_gives = { λ a b r. r.0 ≡ bit_xor a.0 b.0 };
+
+    fn bitxor_assign(&mut self, other: ParseSettingFlags) {
+        *self = *self ^ other;
+    }
+}
+
+impl Sub for ParseSettingFlags {
+    type Output = ParseSettingFlags;
+
+    ghost sub_gives = { λ a b r. r.0 ≡ without 8 a.0 b.0 };
+
+    fn sub(self, other: ParseSettingFlags) -> ParseSettingFlags {
+        ParseSettingFlags(self.0 & !other.0)
+    }
+}
+
+impl SubAssign for ParseSettingFlags {
+    ghost sub_assign_gives = { λ a b r. r.0 ≡ without 8 a.0 b.0 };
+
+    fn sub_assign(&mut self, other: ParseSettingFlags) {
+        *self = *self - other;
+    }
+}
+
+impl Not for ParseSettingFlags {
+    type Output = ParseSettingFlags;
+
+    // Those of the named ones that are not set.
+    ghost not_gives = { λ a r. r.0 ≡ without 8 63 a.0 };
+
+    fn not(self) -> ParseSettingFlags {
+        ParseSettingFlags(63) - self
+    }
+}
+
+/// The parts of the language that a script may use.
+#[derive(Clone, Copy, PartialEq, Eq, PartialOrd, Ord, Hash, Debug)]
+pub struct LangOptions(u8);
+
+impl LangOptions {
+    /// `if` is an expression.
+    pub const IF_EXPR: LangOptions = LangOptions(1);
+
+    /// `switch` is an expression.
+    pub const SWITCH_EXPR: LangOptions = LangOptions(2);
+
+    /// Loops are expressions.
+    pub const LOOP_EXPR: LangOptions = LangOptions(4);
+
+    /// A block is an expression.
+    pub const STMT_EXPR: LangOptions = LangOptions(8);
+
+    /// There are closures.
+    pub const ANON_FN: LangOptions = LangOptions(16);
+
+    /// There are loops.
+    pub const LOOPING: LangOptions = LangOptions(32);
+
+    /// Each variable and module that is used is defined.
+    pub const STRICT_VAR: LangOptions = LangOptions(64);
+
+    /// A variable may have the name of another.
+    pub const SHADOWING: LangOptions = LangOptions(128);
+
+    /// Each of them with its name.
+    pub const FLAGS: &'static [Flag<LangOptions>] = &[
+        Flag {
+            name: "IF_EXPR",
+            value: LangOptions::IF_EXPR,
+        },
+        Flag {
+            name: "SWITCH_EXPR",
+            value: LangOptions::SWITCH_EXPR,
+        },
+        Flag {
+            name: "LOOP_EXPR",
+            value: LangOptions::LOOP_EXPR,
+        },
+        Flag {
+            name: "STMT_EXPR",
+            value: LangOptions::STMT_EXPR,
+        },
+        Flag {
+            name: "ANON_FN",
+            value: LangOptions::ANON_FN,
+        },
+        Flag {
+            name: "LOOPING",
+            value: LangOptions::LOOPING,
+        },
+        Flag {
+            name: "STRICT_VAR",
+            value: LangOptions::STRICT_VAR,
+        },
+        Flag {
+            name: "SHADOWING",
+            value: LangOptions::SHADOWING,
+        },
+    ];
+}
+
+impl Flags for LangOptions {
+    type Bits = u8;
+
+    ghost exact = { ⊤ };
+
+    ghost table = { (codes "IF_EXPR", 1) ∷ (codes "SWITCH_EXPR", 2) ∷ (codes "LOOP_EXPR", 4) ∷ (codes "STMT_EXPR", 8) ∷ (codes "ANON_FN", 16) ∷ (codes "LOOPING", 32) ∷ (codes "STRICT_VAR", 64) ∷ (codes "SHADOWING", 128) ∷ [] };
+
+    ghost set_of = { λ f. f.0 };
+
+    fn flags<'a>() -> &'a [Flag<LangOptions>] {
+        LangOptions::FLAGS
+    }
+
+    fn bits(&self) -> u8 {
+        self.0
+    }
+
+    fn from_bits_retain(bits: u8) -> LangOptions {
+        LangOptions(bits)
+    }
+}
+
+impl BitOr for LangOptions {
+    type Output = LangOptions;
+
+    ghost bitor_gives = { λ a b r. r.0 ≡ bit_or a.0 b.0 };
+
+    fn bitor(self, other: LangOptions) -> LangOptions {
+        LangOptions(self.0 | other.0)
+    }
+}
+
+impl BitOrAssign for LangOptions {
+    ghost bitor_assign_gives = { λ a b r. r.0 ≡ bit_or a.0 b.0 };
+
+    fn bitor_assign(&mut self, other: LangOptions) {
+        *self = *self | other;
+    }
+}
+
+impl BitAnd for LangOptions {
+    type Output = LangOptions;
+
+    ghost bitand_gives = { λ a b r. r.0 ≡ bit_and a.0 b.0 };
+
+    fn bitand(self, other: LangOptions) -> LangOptions {
+        LangOptions(self.0 & other.0)
+    }
+}
+
+impl BitAndAssign for LangOptions {
+    ghost bitand_assign_gives = { λ a b r. r.0 ≡ bit_and a.0 b.0 };
+
+    fn bitand_assign(&mut self, other: LangOptions) {
+        *self = *self & other;
+    }
+}
+
+impl BitXor for LangOptions {
+    type Output = LangOptions;
+
+    ghost bitxor_gives = { λ a b r. r.0 ≡ bit_xor a.0 b.0 };
+
+    fn bitxor(self, other: LangOptions) -> LangOptions {
+        LangOptions(self.0 ^ other.0)
+    }
+}
+
+impl BitXorAssign for LangOptions {
+    ghost bitxor_assign_gives = { λ a b r. r.0 ≡ bit_xor a.0 b.0 };
+
+    fn bitxor_assign(&mut self, other: LangOptions) {
+        *self = *self ^ other;
+    }
+}
+
+impl Sub for LangOptions {
+    type Output = LangOptions;
+
+    ghost sub_gives = { λ a b r. r.0 ≡ without 8 a.0 b.0 };
+
+    fn sub(self, other: LangOptions) -> LangOptions {
+        LangOptions(self.0 & !other.0)
+    }
+}
+
+impl SubAssign for LangOptions {
+    ghost sub_assign_gives = { λ a b r. r.0 ≡ without 8 a.0 b.0 };
+
+    fn sub_assign(&mut self, other: LangOptions) {
+        *self = *self - other;
+    }
+}
+
+impl Not for LangOptions {
+    type Output = LangOptions;
+
+    // Those of the named ones that are not set.
+    ghost not_gives = { λ a r. r.0 ≡ without 8 255 a.0 };
+
+    fn not(self) -> LangOptions {
+        LangOptions(255) - self
+    }
+}
+
+/// The settings that a construct is read under.
+#[derive(Debug, Clone, Copy, PartialEq, Eq, Hash)]
+pub struct ParseSettings {
+    /// Where the construct stands, and what it may not hold.
+    pub flags: ParseSettingFlags,
+    /// The parts of the language that it may use.
+    pub options: LangOptions,
+    /// How deep it is nested, from 0.
+    pub level: usize,
+    /// Where it begins.
+    pub pos: Position,
+    /// The level that nothing is nested beyond; with 0 there is no limit.
+    pub max_expr_depth: usize,
+}
+
+impl ParseSettings {
+    /// Whether all of these flags are set. It takes no memory.
+    pub fn has_flag(&self, flags: ParseSettingFlags) -> bool
+        ensures { result ≡ (bit_and self.now.flags.0 flags.0 == flags.0) }
+    {
+        self.flags.contains(flags)
+    }
+
+    /// Whether all of these options are set. It takes no memory.
+    pub fn has_option(&self, options: LangOptions) -> bool
+        ensures { result ≡ (bit_and self.now.options.0 options.0 == options.0) }
+    {
+        self.options.contains(options)
+    }
+
+    /// The settings one level deeper, which at the greatest level is the same level. Where there is a limit and the level
+    /// has reached it, the error is `ExprTooDeep` at the settings' position. It takes no memory.
+    pub fn level_up(&self) -> ParseResult<Self>
+        ensures { Raises self.now self.now.pos result }
+    {
+        self.level_up_with_position(self.pos)
+    }
+
+    /// The settings one level deeper, as `level_up` makes them, at position `pos`. An error stands at the old position.
+    /// It takes no memory.
+    #[tactic(auto, unfolding(rhai_grammar::specs::Settings::one_more))]
+    pub fn level_up_with_position(&self, pos: Position) -> ParseResult<Self>
+        ensures { Raises self.now pos result }
+    {
+        if self.max_expr_depth > 0 && self.level >= self.max_expr_depth {
+            return Err(ParseError(ParseErrorType::ExprTooDeep, self.pos));
+        }
+        Ok(ParseSettings {
+            level: self.level.saturating_add(1),
+            pos,
+            ..*self
+        })
+    }
+
+    /// The same settings at position `pos`. It takes no memory.
+    pub fn at(&self, pos: Position) -> Self
+        ensures settings { settings_of result ≡ settings_of self.now }
+        ensures position { result.pos ≡ pos }
+    {
+        ParseSettings { pos, ..*self }
+    }
+}
