@@ -1,6 +1,7 @@
 //! What the readers of the parser share: the settings that they read under and the state that they work on.
 #![tactic(auto)]
 
+pub mod cursor;
 pub mod settings;
 
 pub use settings::{LangOptions, ParseSettingFlags, ParseSettings};

@@ -1,5 +1,5 @@
 -- Why a script is refused, as definitions see it: texts are their bytes, and notes for people are left out.
-use Rattle.std.specs.Prelude.{◌≡◌, ℕ, refl}
+use Rattle.std.specs.Prelude.{◌≡◌, ℕ, Bool, true, false, refl}
 use Rattle.std.specs.Rc.{rc_str_bytes}
 use Rattle.rhai_lower.specs.Texts.{Text}
 use Rattle.rhai_lower.specs.Positions.{nowhere}
@@ -109,8 +109,19 @@ refusal_of e = refusal (cause_of e.0) e.1
 abbrev pub no_memory : ParseError
 no_memory = record { 0 = error.OutOfMemory; 1 = nowhere }
 
+abbrev pub is_memory_kind : ParseErrorType → Bool
+is_memory_kind error.OutOfMemory = true
+is_memory_kind _ = false
+
+abbrev pub is_for_memory : ParseError → Bool
+is_for_memory e = is_memory_kind e.0
+
+-- The error says that a script is refused so, unless memory ran out for saying it.
+abbrev pub Says : Refusal → ParseError → Type 0
+Says r e = is_for_memory e ≡ false → refusal_of e ≡ r
+
 abbrev pub out_of_memory : Refusal
 out_of_memory = refusal OutOfMemory nowhere
 
-example : refusal_of no_memory ≡ out_of_memory
-example = refl
+example : (refusal_of no_memory ≡ out_of_memory) × (is_for_memory no_memory ≡ true)
+example = (refl, refl)

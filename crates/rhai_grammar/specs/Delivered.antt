@@ -1,10 +1,8 @@
 -- The delivered stream, and what is seen of it.
-use Rattle.std.specs.Prelude.{◌≡◌, ℕ, Bool, true, false, List, [], ◌∷◌, refl}
+use Rattle.std.specs.Prelude.{◌≡◌, Bool, true, false, List, ◌∷◌, refl}
 use Rattle.rhai_lower.specs.Positions.{place}
-use Rattle.rhai_lower.specs.Lexemes.{Lexeme, Faulty, Sign, NoMemory, lexeme}
-use Rattle.rhai_lower.specs.Streams.{Ask, Stream}
+use Rattle.rhai_lower.specs.Lexemes.{Lexeme, Faulty, Sign, NoMemory}
 use Rattle.rhai_lower.specs.declared.position.Position.{Position}
-use Rattle.rhai_lower.specs.declared.token.Token.{Token}
 use Rattle.rhai_lower.specs.declared.token.Token.TheVariants.{EOF, Plus}
 
 -- The mode in which a token is asked for: text mode behind a block of an interpolated string, else code mode.
@@ -47,29 +45,6 @@ is_end _ = false
 abbrev pub is_memory : Lexeme → Bool
 is_memory (Faulty NoMemory) = true
 is_memory _ = false
-
--- ---- the stream of the code
-
-abbrev pub item_of : Token × Position → Item
-item_of t = item (lexeme t.0) t.1
-
-abbrev pub delivered : List Ask → Position → Tokens
-delivered [] end = Ends end
-delivered (a ∷ more) end = let rest = delivered more end in Then (item_of a.code) (item_of a.text) rest rest
-
--- what a stream still delivers
-abbrev pub tokens_of : Stream → Tokens
-tokens_of s = delivered s.asks s.end
-
-abbrev pub mode_by : Bool → Mode
-mode_by true = text
-mode_by false = code
-
--- the mode of a stream's next ask
-abbrev pub mode_of : Stream → Mode
-mode_of s = mode_by s.in_text
-
--- ---- a place of a stream
 
 -- a token that was taken, and in which mode
 pub record Taken : Type 0 where

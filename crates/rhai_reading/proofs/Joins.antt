@@ -4,7 +4,9 @@ use Rattle.rhai_grammar.specs.Causes.{Refusal, out_of_memory}
 use Rattle.rhai_grammar.specs.Delivered.{Taken, Point, is_memory}
 use Rattle.rhai_reading.specs.Reading.{Goal, Val, Prog, Ret, Fail, Peek, Take, Call, body}
 use Rattle.rhai_reading.specs.Running as R
-use Rattle.rhai_reading.specs.Running.{Cursor, Caller, Out, need, only_less, level, run}
+use Rattle.rhai_grammar.specs.Cursors as U
+use Rattle.rhai_grammar.specs.Cursors.{Cursor}
+use Rattle.rhai_reading.specs.Running.{Caller, Out, need, only_less, level, run}
 use Rattle.rhai_reading.specs.Histories as H
 use Rattle.rhai_reading.specs.Histories.{State, Outcome, calls, Runs}
 
@@ -58,7 +60,7 @@ exec_more P Q b (Ret x) s d = refl
 exec_more P Q b (Fail r) s d = refl
 exec_more P Q b (Peek k) s d =
     let i = H.asked s in
-    peek_more (is_memory i.lexeme) (R.exec P (k i.lexeme i.at) (R.looking (cursor s))) (H.exec Q (k i.lexeme i.at) (H.looking s)) (H.looking s) (exec_more P Q b (k i.lexeme i.at) (H.looking s)) d
+    peek_more (is_memory i.lexeme) (R.exec P (k i.lexeme i.at) (U.looking (cursor s))) (H.exec Q (k i.lexeme i.at) (H.looking s)) (H.looking s) (exec_more P Q b (k i.lexeme i.at) (H.looking s)) d
 exec_more P Q b (Take p) s d = exec_more P Q b p (H.taking s) d
 exec_more P Q b (Call g k) s d = bind_more (P g (cursor s)) (Q g s) (λ v t. R.exec P (k v) t) (λ v t. H.exec Q (k v) t) (b g s) (λ x t w. exec_more P Q b (k x) t w) d
 

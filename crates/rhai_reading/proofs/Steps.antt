@@ -1,13 +1,12 @@
 -- One equation for each reader, and what the guard of calls comes to.
 use Rattle.std.proofs.Common.{◌≡◌, ℕ, zero, suc, ◌+◌, ◌*◌, ◌<◌, ◌≤◌, Bool, true, false, refl, sym, ap, arith, nat_lt, if◌then◌else◌}
-use Rattle.std.specs.Prelude.{max}
 use Rattle.std.proofs.lemmas.Bool.{ltb-true, lt-ltb}
 use Rattle.rhai_lower.specs.Nodes.{Node}
 use Rattle.rhai_lower.specs.declared.position.Position.{Position}
 use Rattle.rhai_grammar.specs.Settings.{Settings}
-use Rattle.rhai_grammar.specs.Delivered.{Mode, code, text, Tokens, Ends, Then, ask, later, is_end}
-use Rattle.rhai_reading.specs.Reading.{Goal, Whole, Expression, Primary, BinaryOp, Val, body}
-use Rattle.rhai_reading.specs.Running.{Cursor, Caller, Out, Done, Refused, Unfinished, and_then, exec, left, need, only_less, level, run, guarded}
+use Rattle.rhai_grammar.specs.Cursors.{Cursor}
+use Rattle.rhai_reading.specs.Reading.{Goal, Whole, Expression, Primary, NextOperator, BinaryOp, Val, body}
+use Rattle.rhai_reading.specs.Running.{Caller, Out, Done, Refused, Unfinished, and_then, exec, need, only_less, level, run, guarded}
 
 -- two ways to go on that agree wherever less is left give the same
 only_less_same : (P Q : Caller) (g : Goal) (s : Cursor) → ((h : Goal) (t : Cursor) → need h t < need g s → P h t ≡ Q h t) → (h : Goal) (t : Cursor) → only_less P g s h t ≡ only_less Q g s h t
@@ -46,21 +45,6 @@ and_then_done (Done v t) = refl
 and_then_done (Refused e t) = refl
 and_then_done Unfinished = refl
 
--- ---- what is left
-
-pub left_later : (m : Mode) (s : Tokens) → left (later m s) ≤ left s
-unfolding left
-left_later m (Ends p) = omega arith
-left_later code (Then a b s t) = omega arith
-left_later text (Then a b s t) = omega arith
-
--- a token that is not the end mark leaves less
-pub left_taken : (m : Mode) (s : Tokens) → is_end (ask m s).lexeme ≡ false → left (later m s) + 1 ≤ left s
-unfolding left
-left_taken m (Ends p) e = absurd cc
-left_taken code (Then a b s t) e = omega arith
-left_taken text (Then a b s t) e = omega arith
-
 -- ---- each reader's equation
 
 pub step_whole : (c : Settings) (s : Cursor) → run (Whole c) s ≡ exec (guarded (Whole c) s) (body (Whole c)) s
@@ -71,6 +55,9 @@ step_expression c s = run_step (Expression c) s
 
 pub step_primary : (c : Settings) (s : Cursor) → run (Primary c) s ≡ exec (guarded (Primary c) s) (body (Primary c)) s
 step_primary c s = run_step (Primary c) s
+
+pub step_next_operator : (s : Cursor) → run NextOperator s ≡ exec (guarded NextOperator s) (body NextOperator) s
+step_next_operator s = run_step NextOperator s
 
 pub step_binary_op : (c : Settings) (at : Position) (parent : ℕ) (lhs : Node) (s : Cursor) → run (BinaryOp c at parent lhs) s ≡ exec (guarded (BinaryOp c at parent lhs) s) (body (BinaryOp c at parent lhs)) s
 step_binary_op c at parent lhs s = run_step (BinaryOp c at parent lhs) s

@@ -1,5 +1,5 @@
 -- The reader as a program that asks a stream. It stands between the code and the definitions: no public promise speaks of it.
-use Rattle.std.specs.Prelude.{ℕ, Bool, true, false, ◌==◌, ◌||◌, ◌&&◌, nat_lt, if◌then◌else◌}
+use Rattle.std.specs.Prelude.{ℕ, Bool, true, false, Option, Some, None, ◌==◌, ◌||◌, ◌&&◌, nat_lt, if◌then◌else◌}
 use Rattle.rhai_lower.specs.Lexemes.{Lexeme, Integer, Sign}
 use Rattle.rhai_lower.specs.Nodes.{Node, integer, position_of}
 use Rattle.rhai_lower.specs.declared.position.Position.{Position}
@@ -18,6 +18,8 @@ pub data Goal : Type 0 where
   Whole : Settings → Goal
   Expression : Settings → Goal
   Primary : Settings → Goal
+  -- what stands behind an operand: an operator's strength, and whether equal ones group to the right
+  NextOperator : Goal
   -- the operators behind a left operand that go on with a run of this strength; at is where the next raise is refused
   BinaryOp : Settings → (at : Position) (parent : ℕ) (lhs : Node) → Goal
 
@@ -26,6 +28,7 @@ abbrev pub Val : Goal → Type 0
 Val (Whole c) = Node
 Val (Expression c) = Node
 Val (Primary c) = Node
+Val NextOperator = Option (ℕ × Bool)
 Val (BinaryOp c at parent lhs) = Node
 
 -- a reader that gives an A
@@ -57,28 +60,28 @@ abbrev pub goes_on : (parent strength : ℕ) → (right : Bool) → Bool
 goes_on parent strength right = nat_lt parent strength || (parent == strength && right)
 
 -- a reserved symbol behind an operand is refused
-abbrev pub known : {A : Type 0} → Position → Behind → Prog A → Prog A
-known at (Unknown t) p = Fail (refusal (cause.UnknownOperator t) at)
-known at (Operator n right) p = p
-known at Other p = p
+abbrev pub next_operator_at : Position → Behind → Prog (Option (ℕ × Bool))
+next_operator_at at (Operator n right) = Ret (Some (n, right))
+next_operator_at at (Unknown t) = Fail (refusal (cause.UnknownOperator t) at)
+next_operator_at at Other = Ret None
 
 -- behind an operator's right side
-abbrev pub binary_next : Settings → Position → ℕ → Node → Lexeme → Position → Node → Prog Node
-binary_next d at parent lhs op pos rhs = Call (BinaryOp d pos parent (operator_call op pos lhs rhs)) Ret
+abbrev pub binary_next : Settings → ℕ → Node → Lexeme → Position → Node → Prog Node
+binary_next d parent lhs op pos rhs = Call (BinaryOp d pos parent (operator_call op pos lhs rhs)) Ret
 
 -- behind an operator
-abbrev pub binary_on : Settings → Position → ℕ → Node → Lexeme → Position → ℕ → Prog Node
-binary_on c at parent lhs op pos strength =
-    Call (Primary c) (λ rhs. Peek (λ next next_at. known next_at (behind_of next) (
-    raised c at (λ d. Call (BinaryOp d (position_of rhs) strength rhs) (binary_next d at parent lhs op pos)))))
+abbrev pub binary_on : Settings → Position → ℕ → Node → ℕ → Lexeme → Position → Prog Node
+binary_on c at parent lhs strength op pos =
+    Take (Call (Primary c) (λ rhs. Call NextOperator (λ next.
+    raised c at (λ d. Call (BinaryOp d (position_of rhs) strength rhs) (binary_next d parent lhs op pos)))))
 
-abbrev pub binary_at : Settings → Position → ℕ → Node → Lexeme → Position → Behind → Prog Node
-binary_at c at parent lhs op pos (Operator n right) = if goes_on parent n right then Take (binary_on c at parent lhs op pos n) else Ret lhs
-binary_at c at parent lhs op pos (Unknown t) = Fail (refusal (cause.UnknownOperator t) pos)
-binary_at c at parent lhs op pos Other = Ret lhs
+abbrev pub binary_at : Settings → Position → ℕ → Node → Option (ℕ × Bool) → Prog Node
+binary_at c at parent lhs None = Ret lhs
+binary_at c at parent lhs (Some op) = if goes_on parent op.0 op.1 then Peek (binary_on c at parent lhs op.0) else Ret lhs
 
 abbrev pub body : (g : Goal) → Prog (Val g)
 body (Whole c) = Call (Expression c) (λ e. Peek (whole_at e))
 body (Expression c) = Peek (λ l at. raised c at (λ d. Call (Primary d) (λ lhs. Call (BinaryOp d (position_of lhs) 1 lhs) Ret)))
 body (Primary c) = Peek primary_at
-body (BinaryOp c at parent lhs) = Peek (λ l pos. binary_at c at parent lhs l pos (behind_of l))
+body NextOperator = Peek (λ l at. next_operator_at at (behind_of l))
+body (BinaryOp c at parent lhs) = Call NextOperator (binary_at c at parent lhs)

@@ -1,37 +1,10 @@
 -- What the reader does, as a function: a fixed point of its rules, guarded by what is left to read.
-use Rattle.std.specs.Prelude.{◌≡◌, ℕ, zero, suc, ◌+◌, ◌*◌, Bool, true, false, max, Result, Ok, Err, nat_lt, if◌then◌else◌}
-use Rattle.rhai_lower.specs.Lexemes.{Lexeme}
-use Rattle.rhai_lower.specs.Streams.{Stream}
-use Rattle.rhai_lower.specs.declared.position.Position.{Position}
-use Rattle.rhai_grammar.specs.Causes.{Refusal, refusal_of, out_of_memory}
-use Rattle.rhai_grammar.specs.Delivered.{Mode, code, Item, Tokens, Ends, Then, ask, later, is_memory, tokens_of, mode_of}
+use Rattle.std.specs.Prelude.{◌≡◌, ℕ, zero, suc, ◌+◌, ◌*◌, false, Result, Ok, Err, nat_lt, if◌then◌else◌}
+use Rattle.rhai_grammar.specs.Causes.{Refusal, refusal_of, is_for_memory, out_of_memory}
+use Rattle.rhai_grammar.specs.Delivered.{is_memory}
+use Rattle.rhai_grammar.specs.Cursors.{Cursor, asked, looking, taking, left}
 use Rattle.rhai_grammar.specs.declared.error.ParseError.{ParseError}
-use Rattle.rhai_grammar.specs.declared.error.ParseErrorType.{ParseErrorType}
-use Rattle.rhai_grammar.specs.declared.error.ParseErrorType.TheVariants as error
-use Rattle.rhai_reading.specs.Reading.{Goal, Whole, Expression, Primary, BinaryOp, Val, Prog, Ret, Fail, Peek, Take, Call, body}
-
--- what is left of a stream, the mode of the next ask, and whether its token was looked at
-pub record Cursor : Type 0 where
-  pub tokens : Tokens
-  pub mode : Mode
-  pub peeked : Bool
-
-abbrev pub cursor_of : Stream → Cursor
-cursor_of s = record { tokens = tokens_of s; mode = mode_of s; peeked = s.peeked }
-
-abbrev pub asked : Cursor → Item
-asked s = ask s.mode s.tokens
-
-abbrev pub looking : Cursor → Cursor
-looking s = record s { peeked = true }
-
-abbrev pub taking : Cursor → Cursor
-taking s = record { tokens = later s.mode s.tokens; mode = code; peeked = false }
-
--- how many tokens are left at most
-unfoldable pub left : Tokens → ℕ
-left (Ends p) = 0
-left (Then a b s t) = max (left s) (left t) + 1
+use Rattle.rhai_reading.specs.Reading.{Goal, Whole, Expression, Primary, NextOperator, BinaryOp, Val, Prog, Ret, Fail, Peek, Take, Call, body}
 
 -- what came of a reader, with the cursor that it left
 pub data Out (A : Type 0) : Type 0 where
@@ -60,6 +33,7 @@ abbrev pub rank : Goal → ℕ
 rank (Whole c) = 3
 rank (Expression c) = 2
 rank (Primary c) = 0
+rank NextOperator = 0
 rank (BinaryOp c at parent lhs) = 1
 
 -- the work that is left, above every rank for each token
@@ -85,12 +59,11 @@ guarded = only_less run
 
 -- ---- what the code's readers promise
 
--- the error is the refusal of a reader, unless memory ran out
-abbrev pub Fails : {A : Type 0} → Out A → ParseErrorType → Refusal → Cursor → Type 0
-Fails o error.OutOfMemory e t = Unit {0}
-Fails o kind e t = o ≡ Refused e t
+-- The error is the refusal of a reader, unless memory ran out.
+abbrev pub Fails : {A : Type 0} → Out A → ParseError → Cursor → Type 0
+Fails o e t = is_for_memory e ≡ false → o ≡ Refused (refusal_of e) t
 
 -- What a function returned, seen by view, is what a reader gives, and so is what it left; unless memory ran out.
 abbrev pub Gives : {X A : Type 0} → (X → A) → Out A → Result X ParseError → Cursor → Type 0
 Gives view o (Ok x) t = o ≡ Done (view x) t
-Gives view o (Err e) t = Fails o e.0 (refusal_of e) t
+Gives view o (Err e) t = Fails o e t

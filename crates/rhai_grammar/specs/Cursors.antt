@@ -1,0 +1,54 @@
+-- The stream of the code as a delivered stream.
+use Rattle.std.specs.Prelude.{◌≡◌, ℕ, ◌+◌, Bool, true, false, List, [], ◌∷◌, max, refl}
+use Rattle.rhai_lower.specs.Positions.{place}
+use Rattle.rhai_lower.specs.Lexemes.{Sign, lexeme}
+use Rattle.rhai_lower.specs.Streams.{Ask, Stream, stream_of}
+use Rattle.rhai_lower.specs.declared.position.Position.{Position}
+use Rattle.rhai_lower.specs.declared.token.Token.{Token}
+use Rattle.rhai_lower.specs.declared.token.Token.TheVariants.{Plus}
+use Rattle.rhai_grammar.specs.Delivered.{Mode, code, text, Item, item, Tokens, Ends, Then, ask, later}
+
+abbrev pub item_of : Token × Position → Item
+item_of t = item (lexeme t.0) t.1
+
+abbrev pub delivered : List Ask → Position → Tokens
+delivered [] end = Ends end
+delivered (a ∷ more) end = let rest = delivered more end in Then (item_of a.code) (item_of a.text) rest rest
+
+-- what a stream still delivers
+abbrev pub tokens_of : Stream → Tokens
+tokens_of s = delivered s.asks s.end
+
+abbrev pub mode_by : Bool → Mode
+mode_by true = text
+mode_by false = code
+
+-- what is left of a stream, the mode of the next ask, and whether its token is peeked
+pub record Cursor : Type 0 where
+  pub tokens : Tokens
+  pub mode : Mode
+  pub peeked : Bool
+
+abbrev pub cursor_of : Stream → Cursor
+cursor_of s = record { tokens = tokens_of s; mode = mode_by s.in_text; peeked = s.peeked }
+
+-- the token that the next ask gives
+abbrev pub asked : Cursor → Item
+asked s = ask s.mode s.tokens
+
+-- where that token was peeked
+abbrev pub looking : Cursor → Cursor
+looking s = record s { peeked = true }
+
+-- where it was taken
+abbrev pub taking : Cursor → Cursor
+taking s = record { tokens = later s.mode s.tokens; mode = code; peeked = false }
+
+-- how many tokens are left at most
+unfoldable pub left : Tokens → ℕ
+left (Ends p) = 0
+left (Then a b s t) = max (left s) (left t) + 1
+
+-- A stream of one token, which is `+` in both modes.
+example : asked (cursor_of (stream_of (record { code = (Plus, place 1 1); text = (Plus, place 1 1) } ∷ []) (place 1 2))) ≡ item (Sign Plus) (place 1 1)
+example = refl
