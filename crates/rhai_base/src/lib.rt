@@ -2,5 +2,7 @@
 #![tactic(auto)]
 
 pub mod settings;
+pub mod state;
 
 pub use settings::{LangOptions, ParseSettingFlags, ParseSettings};
+pub use state::{FnLib, ParseState, TokenizerControl};
