@@ -3,5 +3,7 @@
 
 pub mod cursor;
 pub mod settings;
+pub mod state;
 
 pub use settings::{LangOptions, ParseSettingFlags, ParseSettings};
+pub use state::{FnLib, ParseState, TokenizerControl};

@@ -1,0 +1,92 @@
+//! The state that the readers work on.
+
+ghost use Rattle.std.specs.Prelude.{◌≡◌, [], None, true};
+ghost use Rattle.rhai_grammar.specs.declared.filter.ExprFilter.TheVariants.{All};
+
+use indexmap::IndexMap;
+use rhai_grammar::{ExprFilter, FnKey};
+use rhai_lower::{Position, Scope, ScriptFuncDef, TokenStream};
+use std::alloc::Global;
+use std::rc::{Rc, RcStr};
+
+/// What steers the tokenizer. The parser hands it on and reads nothing from it.
+#[derive(Clone, Copy, PartialEq, Eq, Hash, Debug)]
+pub struct TokenizerControl;
+
+/// A script's functions and closures by their keys, in the order in which they end.
+pub type FnLib = IndexMap<FnKey, Rc<ScriptFuncDef>>;
+
+/// What a parser works on. It is written `ParseState<'a, 't, 'f>`: the types of the owned fields are parameters so that
+/// the contract of a call that takes a state by value can tell what the call leaves behind the two references.
+#[derive(Drop)]
+pub struct ParseState<
+    'a,
+    't,
+    'f,
+    Slots = Scope,
+    Captures = Vec<(RcStr, Position)>,
+    Names = Vec<RcStr>,
+> {
+    /// The tokens.
+    pub input: &'t mut TokenStream,
+    /// The functions and closures that have ended.
+    pub lib: &'f mut FnLib,
+    /// What steers the tokenizer.
+    pub tokenizer_control: TokenizerControl,
+    /// Which tokens an expression may hold.
+    pub expr_filter: ExprFilter,
+    /// Variables from outside the script.
+    pub external_constants: Option<&'a Scope>,
+    /// The slots of the live variables.
+    pub stack: Slots,
+    /// The number of slots below the current block.
+    pub frame_pointer: usize,
+    /// The names that a closure captures, each at its first use.
+    pub external_vars: Captures,
+    /// Whether a name without a slot is captured.
+    pub allow_capture: bool,
+    /// The names of the live imports, from the oldest to the latest.
+    pub imports: Names,
+    /// The names of the imports of the scripts and functions around.
+    pub global_imports: Names,
+}
+
+impl<'a, 't, 'f> ParseState<'a, 't, 'f> {
+    /// The state in which nothing was read yet: every token may stand in an expression, there is no slot, import or
+    /// captured name, and names may be captured. It takes no memory.
+    pub fn new(
+        alloc: Global,
+        external_constants: Option<&'a Scope>,
+        input: &'t mut TokenStream,
+        tokenizer_control: TokenizerControl,
+        lib: &'f mut FnLib,
+    ) -> Self
+        ensures input_name { result.input.ghost_name ≡ input.entry.ghost_name }
+        ensures input { result.input.now ≡ input.old }
+        ensures lib_name { result.lib.ghost_name ≡ lib.entry.ghost_name }
+        ensures lib { result.lib.now ≡ lib.old }
+        ensures control { result.tokenizer_control ≡ tokenizer_control }
+        ensures filter { result.expr_filter ≡ All }
+        ensures constants { result.external_constants ≡ external_constants.entry }
+        ensures stack { result.stack ≡ [] }
+        ensures frame { result.frame_pointer ≡ 0 }
+        ensures captured { result.external_vars.items ≡ [] }
+        ensures capture { result.allow_capture ≡ true }
+        ensures imports { result.imports.items ≡ [] }
+        ensures global_imports { result.global_imports.items ≡ [] }
+    {
+        ParseState {
+            input,
+            lib,
+            tokenizer_control,
+            expr_filter: ExprFilter::All,
+            external_constants,
+            stack: Scope::new(alloc),
+            frame_pointer: 0,
+            external_vars: Vec::new(alloc),
+            allow_capture: true,
+            imports: Vec::new(alloc),
+            global_imports: Vec::new(alloc),
+        }
+    }
+}
