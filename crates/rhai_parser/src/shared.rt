@@ -1,0 +1,9 @@
+//! What the readers of a script lend on to each other.
+
+use rhai_lower::TokenStream;
+
+/// What all readers of one script work on, whichever function of it they read.
+pub(crate) struct Shared<'s> {
+    /// The tokens.
+    pub(crate) input: &'s mut TokenStream,
+}
