@@ -1,5 +1,9 @@
 -- An engine as contracts see it.
-use Rattle.std.specs.Prelude.{ℕ, ◌-◌, ◌^◌}
+use Rattle.std.specs.Prelude.{ℕ, Bool, ◌-◌, ◌^◌, if◌then◌else◌}
+use Rattle.std.specs.Int.RustNames.{bit_or}
+use Rattle.bitflags.specs.Sets.{without}
+use Rattle.rhai_lower.specs.Positions.{place}
+use Rattle.rhai_base.specs.declared.settings.ParseSettings.{ParseSettings}
 
 -- the bits of its options, and its limits
 pub record EngineValue : Type 0 where
@@ -13,3 +17,18 @@ pub record EngineValue : Type 0 where
 -- a new engine: all options but STRICT_VAR
 abbrev pub fresh_engine : EngineValue
 fresh_engine = record { options = 191; max_expr_depth = 64; max_function_expr_depth = 32; max_functions = 2 ^ 64 - 1; max_array_size = 0; max_map_size = 0 }
+
+-- a set of bits with some set or not
+abbrev pub with_bits : ℕ → ℕ → Bool → ℕ
+with_bits options bits enable = if enable then bit_or options bits else without 8 options bits
+
+-- The settings that one expression is read under, before the caller changes them: the flags GLOBAL_LEVEL and
+-- DISALLOW_STATEMENTS_IN_BLOCKS, and the engine's options without STMT_EXPR and LOOP_EXPR.
+abbrev pub expr_settings : EngineValue → ParseSettings
+expr_settings e = record {
+  flags = record { 0 = 17 };
+  options = record { 0 = without 8 (without 8 e.options 8) 4 };
+  level = 0;
+  pos = place 1 1;
+  max_expr_depth = e.max_expr_depth;
+}

@@ -1,9 +1,20 @@
 //! The engine: language options and limits, and the entries of the parser.
 
-ghost use Rattle.std.specs.Prelude.{◌≡◌, ◌-◌, ◌^◌};
-ghost use Rattle.rhai_parser.specs.Engines.{fresh_engine};
+ghost use Rattle.std.specs.Prelude.{◌≡◌, ◌==◌};
+ghost use Rattle.std.specs.Int.RustNames.{bit_and};
+ghost use Rattle.std.specs.Fn.{FnOnceTakesAtMut};
+ghost use Rattle.rhai_lower.specs.View.{view};
+ghost use Rattle.rhai_grammar.specs.Cursors.{cursor_of};
+ghost use Rattle.rhai_base.specs.Settings.{settings_of};
+ghost use Rattle.rhai_reading.specs.Reading.{Whole};
+ghost use Rattle.rhai_reading.specs.Running.{Gives, run};
+ghost use Rattle.rhai_parser.specs.Engines.{fresh_engine, with_bits, expr_settings};
 
-use rhai_base::LangOptions;
+use crate::shared::Shared;
+use bitflags::Flags;
+use rhai_base::{LangOptions, ParseSettingFlags, ParseSettings, ParseState};
+use rhai_grammar::ParseResult;
+use rhai_lower::{AST, Expr, OptimizationLevel, Position, Stmt, TokenStream, optimize_into_ast};
 use std::alloc::Global;
 use std::marker::Model;
 
@@ -68,5 +79,166 @@ impl Engine {
         ensures { self.new ≡ record self.old { options = options.0 } }
     {
         self.options = options;
+    }
+
+    /// Whether scripts may have loops.
+    pub fn allow_looping(&self) -> bool
+        ensures { result ≡ (bit_and self.now.options 32 == 32) }
+    {
+        self.options.contains(LangOptions::LOOPING)
+    }
+
+    /// Sets whether scripts may have loops.
+    pub fn set_allow_looping(&mut self, enable: bool)
+        ensures { self.new ≡ record self.old { options = with_bits self.old.options 32 enable } }
+    {
+        if enable {
+            self.options |= LangOptions::LOOPING;
+        } else {
+            self.options -= LangOptions::LOOPING;
+        }
+    }
+
+    /// Whether a script may define a variable of a name that is there already.
+    pub fn allow_shadowing(&self) -> bool
+        ensures { result ≡ (bit_and self.now.options 128 == 128) }
+    {
+        self.options.contains(LangOptions::SHADOWING)
+    }
+
+    /// Sets whether a script may define a variable of a name that is there already.
+    pub fn set_allow_shadowing(&mut self, enable: bool)
+        ensures { self.new ≡ record self.old { options = with_bits self.old.options 128 enable } }
+    {
+        if enable {
+            self.options |= LangOptions::SHADOWING;
+        } else {
+            self.options -= LangOptions::SHADOWING;
+        }
+    }
+
+    /// The greatest level of nesting in a script outside its functions; 0 is no limit.
+    pub fn max_expr_depth(&self) -> usize
+        ensures { result ≡ self.now.max_expr_depth }
+    {
+        self.max_expr_depth
+    }
+
+    /// Sets the greatest level of nesting in a script outside its functions; 0 is no limit.
+    pub fn set_max_expr_depth(&mut self, depth: usize)
+        ensures { self.new ≡ record self.old { max_expr_depth = depth } }
+    {
+        self.max_expr_depth = depth;
+    }
+
+    /// The greatest level of nesting in a function; 0 is no limit.
+    pub fn max_function_expr_depth(&self) -> usize
+        ensures { result ≡ self.now.max_function_expr_depth }
+    {
+        self.max_function_expr_depth
+    }
+
+    /// Sets the greatest level of nesting in a function; 0 is no limit.
+    pub fn set_max_function_expr_depth(&mut self, depth: usize)
+        ensures { self.new ≡ record self.old { max_function_expr_depth = depth } }
+    {
+        self.max_function_expr_depth = depth;
+    }
+
+    /// The greatest number of functions and closures of a script; 0 allows none.
+    pub fn max_functions(&self) -> usize
+        ensures { result ≡ self.now.max_functions }
+    {
+        self.max_functions
+    }
+
+    /// Sets the greatest number of functions and closures of a script; 0 allows none.
+    pub fn set_max_functions(&mut self, count: usize)
+        ensures { self.new ≡ record self.old { max_functions = count } }
+    {
+        self.max_functions = count;
+    }
+
+    /// The greatest number of items of an array literal; 0 is no limit.
+    pub fn max_array_size(&self) -> usize
+        ensures { result ≡ self.now.max_array_size }
+    {
+        self.max_array_size
+    }
+
+    /// Sets the greatest number of items of an array literal; 0 is no limit.
+    pub fn set_max_array_size(&mut self, size: usize)
+        ensures { self.new ≡ record self.old { max_array_size = size } }
+    {
+        self.max_array_size = size;
+    }
+
+    /// The greatest number of properties of an object map literal; 0 is no limit.
+    pub fn max_map_size(&self) -> usize
+        ensures { result ≡ self.now.max_map_size }
+    {
+        self.max_map_size
+    }
+
+    /// Sets the greatest number of properties of an object map literal; 0 is no limit.
+    pub fn set_max_map_size(&mut self, size: usize)
+        ensures { self.new ≡ record self.old { max_map_size = size } }
+    {
+        self.max_map_size = size;
+    }
+
+    // Reads the expression that a whole stream is.
+    fn read_expr(&self, input: &mut TokenStream, settings: ParseSettings) -> ParseResult<Expr>
+        ensures gives { Gives view (run (Whole (settings_of settings)) (cursor_of input.old)) result (cursor_of input.new) }
+    {
+        let mut shared = Shared { input };
+        self.parse_whole_expr(&mut shared, settings)
+    }
+
+    /// Reads the script of one expression that the whole stream is, up to its end mark, and hands its tree to the optimizer
+    /// with the state's external constants.
+    ///
+    /// `settings` may change the settings that the expression is read under: level 0 at 1:1, the engine's depth for a
+    /// script, its options without `STMT_EXPR` and `LOOP_EXPR`, and the flags `GLOBAL_LEVEL` and
+    /// `DISALLOW_STATEMENTS_IN_BLOCKS`. `level` is how much the optimizer may do.
+    ///
+    /// An error tells why and where the stream is no such script; all are in docs/GRAMMAR.md, "Errors". `OutOfMemory` comes
+    /// where memory ran out, or where the stream said so.
+    pub fn parse_global_expr<F: FnOnce(&mut ParseSettings)>(
+        &self,
+        state: ParseState<'_, '_, '_>,
+        settings: F,
+        level: OptimizationLevel,
+    ) -> ParseResult<AST>
+        requires { FnOnceTakesAtMut F.FnOnce settings (expr_settings self.now) }
+        ensures library { state.exit.1.0.now ≡ state.entry.lib.now }
+    {
+        let mut chosen = ParseSettings {
+            flags: ParseSettingFlags::GLOBAL_LEVEL
+                | ParseSettingFlags::DISALLOW_STATEMENTS_IN_BLOCKS,
+            options: self.options - LangOptions::STMT_EXPR - LangOptions::LOOP_EXPR,
+            level: 0,
+            pos: Position::START,
+            max_expr_depth: self.max_expr_depth,
+        };
+        settings(&mut chosen);
+        let ParseState {
+            input,
+            lib: _,
+            tokenizer_control: _,
+            expr_filter: _,
+            external_constants,
+            stack: _,
+            frame_pointer: _,
+            external_vars: _,
+            allow_capture: _,
+            imports: _,
+            global_imports: _,
+        } = state;
+        let expr = self.read_expr(input, chosen)?;
+        let statement = Stmt::Expr(Box::new(self.alloc, expr)?);
+        let statements = vec![in self.alloc; statement]?;
+        let functions = Vec::new(self.alloc);
+        Ok(optimize_into_ast(self.alloc, external_constants, statements, functions, level)?)
     }
 }

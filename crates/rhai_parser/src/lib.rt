@@ -7,3 +7,9 @@ mod operators;
 mod shared;
 
 pub use engine::Engine;
+pub use rhai_base::{
+    FnLib, LangOptions, ParseSettingFlags, ParseSettings, ParseState, TokenizerControl,
+};
+pub use rhai_grammar::{
+    ExprFilter, FnKey, InputError, ParseError, ParseErrorType, ParseResult,
+};

@@ -3,6 +3,7 @@
 use rhai_lower::TokenStream;
 
 /// What all readers of one script work on, whichever function of it they read.
+#[derive(Drop)]
 pub(crate) struct Shared<'s> {
     /// The tokens.
     pub(crate) input: &'s mut TokenStream,
