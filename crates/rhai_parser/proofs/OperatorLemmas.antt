@@ -1,16 +1,15 @@
 -- What stands behind an operand, by the code's tests.
-use Rattle.std.proofs.Common.{◌≡◌, ℕ, Bool, true, false, Option, Some, None, refl, ap, sym, ◌∙◌}
+use Rattle.std.proofs.Common.{◌≡◌, ℕ, Bool, true, false, Option, Some, None, refl}
 use Rattle.std.specs.Prelude.{not, option_map}
 use Rattle.std.specs.Rc.{rc_str_bytes}
 use Rattle.rhai_lower.specs.Texts.{Text}
 use Rattle.rhai_lower.specs.Names.{is_identifier}
-use Rattle.rhai_lower.specs.Tokens.{binds_right}
-use Rattle.rhai_lower.specs.Lexemes.{Lexeme, Integer, Character, String, Interpolated, Name, Reserved, Faulty, Comment, Sign, lexeme, text_of}
+use Rattle.rhai_lower.specs.Lexemes.{Lexeme, Reserved, lexeme, text_of}
 use Rattle.rhai_lower.specs.declared.position.Position.{Position}
 use Rattle.rhai_lower.specs.declared.token.Token.{Token}
 use Rattle.rhai_lower.specs.declared.token.Token.TheVariants as token
-use Rattle.rhai_grammar.specs.Strengths.{Behind, Operator, Unknown, Other, behind_sign, behind_word, behind_of, plain_strength}
-use Rattle.rhai_reading.specs.Reading.{Prog, Ret, next_operator_at}
+use Rattle.rhai_grammar.specs.Strengths.{Unknown, behind_sign, behind_word, behind_of}
+use Rattle.rhai_reading.specs.Reading.{Ret, next_operator_at}
 use Rattle.rhai_parser.specs.Operators.{operator_of, operator_pair, plain_operator, is_reserved_symbol}
 
 word_behind : (b : Bool) (t : Text) → not b ≡ true → behind_word b t ≡ Unknown t

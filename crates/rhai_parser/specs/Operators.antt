@@ -1,5 +1,5 @@
 -- The operators of the code as definitions see them.
-use Rattle.std.specs.Prelude.{ℕ, Bool, true, false, Option, Some, None, not}
+use Rattle.std.specs.Prelude.{ℕ, Bool, false, Option, Some, None, not}
 use Rattle.rhai_lower.specs.Names.{is_identifier}
 use Rattle.rhai_lower.specs.Lexemes.{Lexeme, Reserved}
 use Rattle.rhai_lower.specs.Tokens.{binds_right}

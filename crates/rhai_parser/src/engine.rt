@@ -36,12 +36,12 @@ impl Model for Engine {
     ghost Value = { EngineValue };
 
     ghost view = { λ e. record {
-        options = e.options.0;
-        max_expr_depth = e.max_expr_depth;
-        max_function_expr_depth = e.max_function_expr_depth;
-        max_functions = e.max_functions;
-        max_array_size = e.max_array_size;
-        max_map_size = e.max_map_size;
+      options = e.options.0;
+      max_expr_depth = e.max_expr_depth;
+      max_function_expr_depth = e.max_function_expr_depth;
+      max_functions = e.max_functions;
+      max_array_size = e.max_array_size;
+      max_map_size = e.max_map_size;
     } };
 }
 

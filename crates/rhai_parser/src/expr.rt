@@ -95,7 +95,11 @@ impl Engine {
 
     /// Reads an expression that the end mark follows.
     #[tactic(auto, using(rhai_reading::proofs::Steps::step_whole, rhai_reading::proofs::Steps::guarded_is))]
-    pub(crate) fn parse_whole_expr(&self, shared: &mut Shared<'_>, settings: ParseSettings) -> ParseResult<Expr>
+    pub(crate) fn parse_whole_expr(
+        &self,
+        shared: &mut Shared<'_>,
+        settings: ParseSettings,
+    ) -> ParseResult<Expr>
         ensures same_input { shared.new.input.ghost_name ≡ shared.old.input.ghost_name }
         ensures gives { Gives view (run (Whole (settings_of settings)) (cursor_of shared.old.input.now)) result (cursor_of shared.new.input.now) }
     {

@@ -10,6 +10,8 @@ pub use engine::Engine;
 pub use rhai_base::{
     FnLib, LangOptions, ParseSettingFlags, ParseSettings, ParseState, TokenizerControl,
 };
-pub use rhai_grammar::{
-    ExprFilter, FnKey, InputError, ParseError, ParseErrorType, ParseResult,
+pub use rhai_grammar::{ExprFilter, FnKey, InputError, ParseError, ParseErrorType, ParseResult};
+pub use rhai_lower::{
+    AST, Entry, Expr, FnCallExpr, LexError, Namespace, OptimizationLevel, Position, Scope,
+    ScriptFuncDef, Stmt, StmtBlock, StmtBlockContainer, Token, TokenStream,
 };

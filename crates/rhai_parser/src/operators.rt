@@ -67,10 +67,7 @@ fn is_reserved_symbol(token: &Token) -> bool
 /// The operator that stands behind an operand, if there is one; its token stays. A reserved symbol there is
 /// `UnknownOperator`.
 #[tactic(auto, using(rhai_reading::proofs::Steps::step_next_operator, crate::proofs::OperatorLemmas::reserved_behind, crate::proofs::OperatorLemmas::plain_behind))]
-pub(crate) fn next_operator(
-    alloc: Global,
-    input: &mut TokenStream,
-) -> ParseResult<Option<Operator>>
+pub(crate) fn next_operator(alloc: Global, input: &mut TokenStream) -> ParseResult<Option<Operator>>
     ensures gives { Gives (option_map operator_pair) (run NextOperator (cursor_of input.old)) result (cursor_of input.new) }
     ensures after { cursor_of input.new ≡ looking (cursor_of input.old) }
     ensures some { IfOk result (λ o. IsSome o → is_end (asked (cursor_of input.old)).lexeme ≡ false) }
@@ -78,10 +75,7 @@ pub(crate) fn next_operator(
     let pos = look(input)?;
     let token = peek(input);
     if is_reserved_symbol(token) {
-        return Err(ParseError(
-            ParseErrorType::UnknownOperator(token.text(alloc)?),
-            pos,
-        ));
+        return Err(ParseError(ParseErrorType::UnknownOperator(token.text(alloc)?), pos));
     }
     Ok(plain_operator(token))
 }
