@@ -2,6 +2,7 @@ pub mod Causes
 pub mod Settings
 pub mod Delivered
 pub mod Cursors
+pub mod Seen
 pub mod Strengths
 pub mod Forms
 pub mod Trees

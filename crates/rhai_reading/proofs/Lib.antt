@@ -1,2 +1,6 @@
 pub mod Steps
 pub mod Joins
+pub mod Strengths
+pub mod Rules
+pub mod Complete
+pub mod Local
