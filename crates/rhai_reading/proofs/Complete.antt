@@ -172,7 +172,7 @@ step q op pos l r k p s t o is on stands R shut stop h b =
     let right : Runs (body (climb (begins (right_side op u) R.first) n R.first)) (at R.rest true) (Done (tree r) (at R.end true)) =
         R.climbs shut n agrees (Done (tree r) (at R.end true)) (λ c. climb_stops (height_after (right_side op u) r) n (tree r) R.end c R.known_end stop) true in
     goes u p (tree l) op pos s o stands is on
-    (runs_take
+    (runs_take (item op pos) stands (operator_readable op is)
     (runs_call (Primary u.settings) _ (R.operand false)
     (runs_call NextOperator _ (next_operator R.rest false R.known_rest)
     (runs_then (Fail (refusal cause.ExprTooDeep u.at)) R.entered
@@ -190,7 +190,7 @@ down o op u pos l (Binary inner at a b) e h = left_down (behind_of o) (behind_of
 -- ---- forms
 
 pub operand : (x : Operand) (c : Settings) (k : Demands) (s t : Point) → Met (W.operand x c k) s t → (e : Point) × (Met k e t) × ((b : Bool) → Runs (body (Primary c)) (at s b) (Done (operand_tree x) (at e false)))
-operand (Number n pos) c k s t m = (past code s, m.1, λ b. runs_peek (item (Integer n) pos) m.0 refl (runs_take (runs_ret _ _)))
+operand (Number n pos) c k s t m = (past code s, m.1, λ b. runs_peek (item (Integer n) pos) m.0 refl (runs_take (item (Integer n) pos) m.0 refl (runs_ret _ _)))
 
 pub run : (f : Run) (q : Spot) (k : Demands) (s t : Point) → Met (W.run f q k) s t → Reads f q k s t
 run (Just x) q k s t m =

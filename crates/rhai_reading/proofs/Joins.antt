@@ -61,7 +61,7 @@ exec_more P Q b (Fail r) s d = refl
 exec_more P Q b (Peek k) s d =
     let i = H.asked s in
     peek_more (is_memory i.lexeme) (R.exec P (k i.lexeme i.at) (U.looking (cursor s))) (H.exec Q (k i.lexeme i.at) (H.looking s)) (H.looking s) (exec_more P Q b (k i.lexeme i.at) (H.looking s)) d
-exec_more P Q b (Take p) s d = exec_more P Q b p (H.taking s) d
+exec_more P Q b (Take p) s d = peek_more (is_memory (H.asked s).lexeme) (R.exec P p (U.taking (cursor s))) (H.exec Q p (H.taking s)) (H.looking s) (exec_more P Q b p (H.taking s)) d
 exec_more P Q b (Call g k) s d = bind_more (P g (cursor s)) (Q g s) (λ v t. R.exec P (k v) t) (λ v t. H.exec Q (k v) t) (b g s) (λ x t w. exec_more P Q b (k x) t w) d
 
 guard_below : (n m : ℕ) (g : Goal) (s : Cursor) → Below (level n) (calls m) → Below (only_less (level n) g s) (calls m)
@@ -98,7 +98,7 @@ exec_same P Q b (Fail r) s d = refl
 exec_same P Q b (Peek k) s d =
     let i = H.asked s in
     peek_same (is_memory i.lexeme) (H.exec P (k i.lexeme i.at) (H.looking s)) (H.exec Q (k i.lexeme i.at) (H.looking s)) (H.looking s) (exec_same P Q b (k i.lexeme i.at) (H.looking s)) d
-exec_same P Q b (Take p) s d = exec_same P Q b p (H.taking s) d
+exec_same P Q b (Take p) s d = peek_same (is_memory (H.asked s).lexeme) (H.exec P p (H.taking s)) (H.exec Q p (H.taking s)) (H.looking s) (exec_same P Q b p (H.taking s)) d
 exec_same P Q b (Call g k) s d = bind_same (P g s) (Q g s) (λ v t. H.exec P (k v) t) (λ v t. H.exec Q (k v) t) (b g s) (λ x t w. exec_same P Q b (k x) t w) d
 
 pub calls_same : (n m : ℕ) → n ≤ m → Same (calls n) (calls m)

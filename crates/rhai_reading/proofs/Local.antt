@@ -160,13 +160,19 @@ take_keeps run s (Done x t) a = take run s t (λ w. Done x w) a
 take_keeps run s (Refused d t) a = take run s t (λ w. Refused d w) a
 take_keeps run s Unfinished a = tt
 
+-- what taking a token that can or cannot be read goes on with
+abbrev pub takes : {A : Type 0} → ((g : Goal) → State → Outcome (Val g)) → Prog A → Item → State → Outcome A
+takes call p i w = if is_memory i.lexeme then Refused out_of_memory w else exec call p (taking w)
+
 pub keeps : {A : Type 0} (call : (g : Goal) → State → Outcome (Val g)) → AllKeep call → (p : Prog A) (s : State) → Keeps (exec call p) s (exec call p s)
 keeps call all (Ret x) s = stand (λ w. Done x w) s (λ w. Done x w) (λ r. refl)
 keeps call all (Fail e) s = stand (λ w. Refused e w) s (λ w. Refused e w) (λ r. refl)
 keeps call all (Peek k) s =
     let i = asked s in
     look_keeps (looked call k) s (exec call (Peek k) s) (looked_keeps (is_memory i.lexeme) (exec call (k i.lexeme i.at)) (looking s) (keeps call all (k i.lexeme i.at) (looking s)))
-keeps call all (Take p) s = take_keeps (exec call p) s (exec call (Take p) s) (keeps call all p (taking s))
+keeps call all (Take p) s =
+    let w = looking s in
+    look_keeps (takes call p) s (exec call (Take p) s) (looked_keeps (is_memory (asked s).lexeme) (λ r. exec call p (taking r)) w (take_keeps (exec call p) w (exec call p (taking w)) (keeps call all p (taking w))))
 keeps call all (Call g k) s = bind_keeps (call g) (λ v w. exec call (k v) w) s (call g s) (all g s) (λ x u. keeps call all (k x) u)
 
 pub local : (n : ℕ) → AllKeep (calls n)

@@ -26,8 +26,13 @@ runs_peek {k = k} {s = s} {o = o} i e f r = record {
 pub runs_look : {A : Type 0} {k : Lexeme → Position → Prog A} {s : State} {o : Outcome A} → is_memory (asked s).lexeme ≡ false → Runs (k (asked s).lexeme (asked s).at) (looking s) o → Runs (Peek k) s o
 runs_look {k = k} {s = s} {o = o} f r = runs_peek (asked s) refl f r
 
-pub runs_take : {A : Type 0} {p : Prog A} {s : State} {o : Outcome A} → Runs p (taking s) o → Runs (Take p) s o
-runs_take r = record { depth = r.depth; same = r.same }
+pub runs_take : {A : Type 0} {p : Prog A} {s : State} {o : Outcome A} (i : Item) → asked s ≡ i → is_memory i.lexeme ≡ false → Runs p (taking s) o → Runs (Take p) s o
+runs_take {p = p} {s = s} {o = o} i e f r = record {
+  depth = r.depth;
+  same = λ n h.
+      ap (λ (j : Item). if is_memory j.lexeme then Refused out_of_memory (looking s) else exec (calls n) p (taking s)) e
+      ∙ ap (λ b. if b then Refused out_of_memory (looking s) else exec (calls n) p (taking s)) f ∙ r.same n h;
+}
 
 call_runs : (g : Goal) (s : State) (o : Outcome (Val g)) (n m : ℕ) → ((m : ℕ) → n ≤ m → exec (calls m) (body g) s ≡ o) → n + 1 ≤ m → calls m g s ≡ o
 call_runs g s o n zero r h = absurd (omega arith)

@@ -34,7 +34,7 @@ abbrev pub exec : {A : Type 0} → ((g : Goal) → State → Outcome (Val g)) �
 exec call (Ret x) s = Done x s
 exec call (Fail e) s = Refused e s
 exec call (Peek k) s = if is_memory (asked s).lexeme then Refused out_of_memory (looking s) else exec call (k (asked s).lexeme (asked s).at) (looking s)
-exec call (Take p) s = exec call p (taking s)
+exec call (Take p) s = if is_memory (asked s).lexeme then Refused out_of_memory (looking s) else exec call p (taking s)
 exec call (Call g k) s = and_then (call g s) (λ v t. exec call (k v) t)
 
 -- calls at most n deep

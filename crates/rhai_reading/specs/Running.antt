@@ -20,12 +20,12 @@ and_then Unfinished f = Unfinished
 abbrev pub Caller : Type 0
 Caller = (g : Goal) → Cursor → Out (Val g)
 
--- What a reader does, where call says what each call does. Where the tokenizer found no memory a look refuses so.
+-- What a reader does, where call says what each call does. Where the tokenizer found no memory for a token, it is refused so when it is looked at or taken.
 abbrev pub exec : {A : Type 0} → Caller → Prog A → Cursor → Out A
 exec call (Ret x) s = Done x s
 exec call (Fail e) s = Refused e s
 exec call (Peek k) s = if is_memory (asked s).lexeme then Refused out_of_memory (looking s) else exec call (k (asked s).lexeme (asked s).at) (looking s)
-exec call (Take p) s = exec call p (taking s)
+exec call (Take p) s = if is_memory (asked s).lexeme then Refused out_of_memory (looking s) else exec call p (taking s)
 exec call (Call g k) s = and_then (call g s) (λ v t. exec call (k v) t)
 
 -- A call at the same token is one to a goal of lower rank.
