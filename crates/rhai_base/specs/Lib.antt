@@ -1,1 +1,3 @@
+pub mod Cursor
+pub mod FlagNames
 pub mod Settings

@@ -1,8 +1,11 @@
-//! What the readers of the parser share: the settings that they read under and the state that they work on.
+//! What the readers of the parser share: the settings that they read under, the state that they
+//! work on, and the look at the next token.
 #![tactic(auto)]
 
+pub mod cursor;
 pub mod settings;
 pub mod state;
 
+pub use cursor::peek;
 pub use settings::{LangOptions, ParseSettingFlags, ParseSettings};
 pub use state::{FnLib, ParseState, TokenizerControl};
