@@ -7,16 +7,19 @@ use Rattle.rhai_lower.specs.declared.token.Token.{Token}
 use Rattle.rhai_lower.specs.declared.token.Token.TheVariants.{LexError, Plus}
 use Rattle.rhai_lower.specs.declared.token.LexError.TheVariants.{OutOfMemory, UnterminatedString}
 
--- the tokenizer ran out of memory at this token
-abbrev pub is_short : Token → Bool
-is_short (LexError OutOfMemory) = true
-is_short t = false
+-- the token says that the tokenizer ran out of memory
+abbrev pub is_out_of_memory : Token → Bool
+is_out_of_memory (LexError OutOfMemory) = true
+is_out_of_memory t = false
 
 -- A look shows the token with its position, or that the tokenizer ran out of memory there.
 abbrev pub Shows : Token × Position → Result (Bor (Token × Position)) AllocError → Type 0
-Shows next (Ok shown) = (shown.now ≡ next) × (is_short next.0 ≡ false)
-Shows next (Err e) = is_short next.0 ≡ true
+Shows next (Ok shown) = (shown.now ≡ next) × (is_out_of_memory next.0 ≡ false)
+Shows next (Err e) = is_out_of_memory next.0 ≡ true
 
 -- Only that one error counts.
-example : (is_short (LexError OutOfMemory) ≡ true) × (is_short (LexError UnterminatedString) ≡ false) × (is_short Plus ≡ false)
+example :
+    (is_out_of_memory (LexError OutOfMemory) ≡ true)
+    × (is_out_of_memory (LexError UnterminatedString) ≡ false)
+    × (is_out_of_memory Plus ≡ false)
 example = (refl, refl, refl)

@@ -25,6 +25,9 @@ option_names =
     ∷ []
 
 -- Six bits are flags and all eight are options, and `LOOPING` is the bit of 32.
-example : (known_bits flag_names ≡ 63) × (known_bits option_names ≡ 255) × (find_name option_names (codes "LOOPING") ≡ Some 32)
+example :
+    (known_bits flag_names ≡ 63)
+    × (known_bits option_names ≡ 255)
+    × (find_name option_names (codes "LOOPING") ≡ Some 32)
 unfolding known_from find_row
 example = (refl, refl, refl)

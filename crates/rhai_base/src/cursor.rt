@@ -1,17 +1,17 @@
 //! Looking at the tokens and taking them.
 
-ghost use Rattle.std.specs.Prelude.{⊤, ◌≡◌};
-ghost use Rattle.std.specs.Borrow.{sem, follows_so};
-ghost use mathlib.Core.Option.{none};
+ghost use Rattle.std.specs.Prelude.{◌≡◌};
+ghost use Rattle.std.specs.Borrow.{sem};
+ghost use Rattle.std.specs.Io.BufRead.{Rests};
 ghost use Rattle.rhai_lower.specs.contracts.stream.TokenStream.{the_row};
 ghost use Rattle.rhai_lower.specs.Streams.{asked, peeking};
-ghost use Rattle.rhai_base.specs.Cursor.{is_short, Shows};
+ghost use Rattle.rhai_base.specs.Cursor.{is_out_of_memory, Shows};
 
 use rhai_lower::{LexError, Position, Token, TokenStream};
 use std::alloc::AllocError;
 
-fn is_short(token: &Token) -> bool
-    ensures { result ≡ is_short token.now }
+fn is_out_of_memory(token: &Token) -> bool
+    ensures { result ≡ is_out_of_memory token.now }
 {
     match token {
         Token::LexError(error) => matches!(error, LexError::OutOfMemory),
@@ -23,10 +23,10 @@ fn is_short(token: &Token) -> bool
 /// the tokenizer ran out of memory at that token; it stays too. It takes no memory.
 pub fn peek(input: &mut TokenStream) -> Result<&(Token, Position), AllocError>
     ensures shown { Shows (asked input.old) result }
-    ensures* after { sem 𝓛 (follows_so the_row the_row input.entry.ghost_name none (λ _ _. ⊤) (λ s. s ≡ peeking input.old)) }
+    ensures* after { sem 𝓛 (Rests the_row input.entry (λ s. s ≡ peeking input.old)) }
 {
     let next = input.peek();
-    if is_short(&next.0) {
+    if is_out_of_memory(&next.0) {
         return Err(AllocError);
     }
     Ok(next)

@@ -371,16 +371,16 @@ impl ParseSettings {
         self.options.contains(options)
     }
 
-    /// The settings one level deeper, which at the greatest level is the same level. Where there is a limit and the level
-    /// has reached it, the error is `ExprTooDeep` at the settings' position. It takes no memory.
+    /// The settings one level deeper; the greatest level stays. Where there is a limit and the level has reached it, the
+    /// error is `ExprTooDeep` at the settings' position. It takes no memory.
     pub fn level_up(&self) -> ParseResult<Self>
         ensures { Raises self.now self.now.pos result }
     {
         self.level_up_with_position(self.pos)
     }
 
-    /// The settings one level deeper, as `level_up` makes them, at position `pos`. An error stands at the old position.
-    /// It takes no memory.
+    /// The settings one level deeper, as `level_up` makes them, at position `pos`. An error stands at the old
+    /// position. It takes no memory.
     #[tactic(auto, unfolding(rhai_grammar::specs::Settings::one_more))]
     pub fn level_up_with_position(&self, pos: Position) -> ParseResult<Self>
         ensures { Raises self.now pos result }
