@@ -15,15 +15,29 @@ settings_of c = record { flags = c.flags.0; options = c.options.0; level = c.lev
 abbrev pub too_deep : Position → ParseError
 too_deep at = record { 0 = error.ExprTooDeep; 1 = at }
 
--- A raise finds room and gives the settings one level deeper, at this position, or it finds none and is refused at the old one.
+-- A raise finds room and gives the settings one level deeper, at this position, or it finds none and is refused at the
+-- old one.
 abbrev pub Raises : ParseSettings → Position → Result ParseSettings ParseError → Type 0
 Raises c at (Ok d) = (low (settings_of c) ≡ true) × (settings_of d ≡ up (settings_of c)) × (d.pos ≡ at)
 Raises c at (Err e) = (low (settings_of c) ≡ false) × (e ≡ too_deep c.pos)
 
-abbrev example_settings : (level limit : ℕ) → Position → ParseSettings
-example_settings level limit at = record { flags = record { 0 = 0 }; options = record { 0 = 0 }; level = level; pos = at; max_expr_depth = limit }
+-- no flags and no options
+abbrev bare : (level limit : ℕ) → Position → ParseSettings
+bare level limit at = record {
+  flags = record { 0 = 0 };
+  options = record { 0 = 0 };
+  level = level;
+  pos = at;
+  max_expr_depth = limit;
+}
+
+abbrev raises_below_the_limit : Type 0
+raises_below_the_limit = Raises (bare 1 2 (place 1 1)) (place 1 5) (Ok (bare 2 2 (place 1 5)))
+
+abbrev is_refused_at_the_limit : Type 0
+is_refused_at_the_limit = Raises (bare 2 2 (place 1 1)) (place 1 5) (Err (too_deep (place 1 1)))
 
 -- Under a limit of 2, level 1 is raised to 2 and level 2 is refused where it stands.
-example : Raises (example_settings 1 2 (place 1 1)) (place 1 5) (Ok (example_settings 2 2 (place 1 5))) × Raises (example_settings 2 2 (place 1 1)) (place 1 5) (Err (too_deep (place 1 1)))
+example : raises_below_the_limit × is_refused_at_the_limit
 unfolding one_more
 example = ((refl, refl, refl), (refl, refl))

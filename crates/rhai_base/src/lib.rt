@@ -1,4 +1,5 @@
-//! What the readers of the parser share: the settings that they read under and the state that they work on.
+//! What the readers of the parser share: the settings that they read under, the state that they
+//! work on, and the look at the next token.
 #![tactic(auto)]
 
 pub mod cursor;

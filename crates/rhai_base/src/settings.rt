@@ -1,8 +1,9 @@
 //! The settings that a construct is read under.
 
-ghost use Rattle.std.specs.Prelude.{⊤, ◌≡◌, ◌==◌, [], ◌∷◌, codes};
+ghost use Rattle.std.specs.Prelude.{⊤, ◌≡◌, ◌==◌};
 ghost use Rattle.std.specs.Int.RustNames.{bit_and, bit_or, bit_xor};
 ghost use Rattle.bitflags.specs.Sets.{without};
+ghost use Rattle.rhai_base.specs.FlagNames.{flag_names, option_names};
 ghost use Rattle.rhai_base.specs.Settings.{settings_of, Raises};
 
 use bitflags::{Flag, Flags};
@@ -69,7 +70,7 @@ impl Flags for ParseSettingFlags {
 
     ghost exact = { ⊤ };
 
-    ghost table = { (codes "GLOBAL_LEVEL", 1) ∷ (codes "FN_SCOPE", 2) ∷ (codes "CLOSURE_SCOPE", 4) ∷ (codes "BREAKABLE", 8) ∷ (codes "DISALLOW_STATEMENTS_IN_BLOCKS", 16) ∷ (codes "DISALLOW_UNQUOTED_MAP_PROPERTIES", 32) ∷ [] };
+    ghost table = { flag_names };
 
     ghost set_of = { λ f. f.0 };
 
@@ -240,7 +241,7 @@ impl Flags for LangOptions {
 
     ghost exact = { ⊤ };
 
-    ghost table = { (codes "IF_EXPR", 1) ∷ (codes "SWITCH_EXPR", 2) ∷ (codes "LOOP_EXPR", 4) ∷ (codes "STMT_EXPR", 8) ∷ (codes "ANON_FN", 16) ∷ (codes "LOOPING", 32) ∷ (codes "STRICT_VAR", 64) ∷ (codes "SHADOWING", 128) ∷ [] };
+    ghost table = { option_names };
 
     ghost set_of = { λ f. f.0 };
 
@@ -370,16 +371,16 @@ impl ParseSettings {
         self.options.contains(options)
     }
 
-    /// The settings one level deeper, which at the greatest level is the same level. Where there is a limit and the level
-    /// has reached it, the error is `ExprTooDeep` at the settings' position. It takes no memory.
+    /// The settings one level deeper; the greatest level stays. Where there is a limit and the level has reached it, the
+    /// error is `ExprTooDeep` at the settings' position. It takes no memory.
     pub fn level_up(&self) -> ParseResult<Self>
         ensures { Raises self.now self.now.pos result }
     {
         self.level_up_with_position(self.pos)
     }
 
-    /// The settings one level deeper, as `level_up` makes them, at position `pos`. An error stands at the old position.
-    /// It takes no memory.
+    /// The settings one level deeper, as `level_up` makes them, at position `pos`. An error stands at the old
+    /// position. It takes no memory.
     #[tactic(auto, unfolding(rhai_grammar::specs::Settings::one_more))]
     pub fn level_up_with_position(&self, pos: Position) -> ParseResult<Self>
         ensures { Raises self.now pos result }

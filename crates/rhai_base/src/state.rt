@@ -1,6 +1,6 @@
 //! The state that the readers work on.
 
-ghost use Rattle.std.specs.Prelude.{◌≡◌, [], None, true};
+ghost use Rattle.std.specs.Prelude.{◌≡◌, [], true};
 ghost use Rattle.rhai_grammar.specs.declared.filter.ExprFilter.TheVariants.{All};
 
 use indexmap::IndexMap;

@@ -1,1 +1,2 @@
 pub mod OperatorLemmas
+pub mod OperandLemmas

@@ -14,7 +14,7 @@ use crate::engine::Engine;
 use crate::operators::{next_operator, operator_call, unexpected};
 use crate::shared::Shared;
 use rhai_base::ParseSettings;
-use rhai_base::cursor::{look, peek, skip, take};
+use rhai_base::cursor::{peek, skip, take};
 use rhai_grammar::{ParseError, ParseErrorType, ParseResult};
 use rhai_lower::{Expr, Token};
 
@@ -33,15 +33,16 @@ impl Engine {
         ensures gives { Gives view (run (Primary (settings_of settings)) (cursor_of shared.old.input.now)) result (cursor_of shared.new.input.now) }
         ensures shorter { left (cursor_of shared.new.input.now).tokens ≤ left (cursor_of shared.old.input.now).tokens }
     {
-        let pos = look(shared.input)?;
-        match peek(shared.input) {
+        let (token, pos) = peek(shared.input)?;
+        let pos = *pos;
+        match token {
             Token::IntegerConstant(n) => {
                 let n = *n;
                 skip(shared.input);
                 Ok(Expr::IntegerConstant(n, pos))
             }
             Token::EOF => Err(ParseError(ParseErrorType::UnexpectedEOF, pos)),
-            token => Err(unexpected(self.alloc(), token, pos)),
+            _ => Err(unexpected(self.alloc(), token, pos)),
         }
     }
 
@@ -68,8 +69,7 @@ impl Engine {
             if !operator.goes_on(parent) {
                 return Ok(lhs);
             }
-            let pos = look(shared.input)?;
-            let op_token = take(shared.input);
+            let (op_token, pos) = take(shared.input);
             let rhs = self.parse_primary(shared, settings)?;
             // A reserved symbol behind the operand is refused before the level is raised.
             next_operator(self.alloc(), shared.input)?;
@@ -87,8 +87,8 @@ impl Engine {
         ensures gives { Gives view (run (Expression (settings_of settings)) (cursor_of shared.old.input.now)) result (cursor_of shared.new.input.now) }
         ensures shorter { left (cursor_of shared.new.input.now).tokens ≤ left (cursor_of shared.old.input.now).tokens }
     {
-        let pos = look(shared.input)?;
-        let settings = settings.at(pos).level_up()?;
+        let (_, pos) = peek(shared.input)?;
+        let settings = settings.at(*pos).level_up()?;
         let lhs = self.parse_primary(shared, settings)?;
         self.parse_binary_op(shared, settings, 1, lhs)
     }
@@ -104,11 +104,10 @@ impl Engine {
         ensures gives { Gives view (run (Whole (settings_of settings)) (cursor_of shared.old.input.now)) result (cursor_of shared.new.input.now) }
     {
         let expr = self.parse_expr(shared, settings)?;
-        let pos = look(shared.input)?;
-        let token = peek(shared.input);
+        let (token, pos) = peek(shared.input)?;
         if is_end(token) {
             return Ok(expr);
         }
-        Err(unexpected(self.alloc(), token, pos))
+        Err(unexpected(self.alloc(), token, *pos))
     }
 }

@@ -1,18 +1,18 @@
 //! Binary operators, as they stand behind an operand and as calls of the tree.
 
-ghost use Rattle.std.specs.Prelude.{◌≡◌, false, IfOk, IsSome, option_map};
+ghost use Rattle.std.specs.Prelude.{◌≡◌, false, IfOk, IsSome, OnOk, option_map};
 ghost use Rattle.rhai_lower.specs.Lexemes.{lexeme};
 ghost use Rattle.rhai_lower.specs.View.{view};
 ghost use Rattle.rhai_grammar.specs.Causes.{BadInput, Says, input_cause, refusal};
 ghost use Rattle.rhai_grammar.specs.Cursors.{asked, cursor_of, looking};
-ghost use Rattle.rhai_grammar.specs.Delivered.{is_end};
+ghost use Rattle.rhai_grammar.specs.Delivered.{is_end, is_memory};
 ghost use Rattle.rhai_grammar.specs.Trees.{operator_call};
 ghost use Rattle.rhai_grammar.specs.Written.{unexpected};
 ghost use Rattle.rhai_reading.specs.Reading.{NextOperator, goes_on};
 ghost use Rattle.rhai_reading.specs.Running.{Gives, run};
 ghost use Rattle.rhai_parser.specs.Operators.{operator_pair, plain_operator, is_reserved_symbol};
 
-use rhai_base::cursor::{look, peek};
+use rhai_base::cursor::peek;
 use rhai_grammar::{InputError, ParseError, ParseErrorType, ParseResult};
 use rhai_lower::{Expr, FnCallExpr, Namespace, Position, Token, TokenStream, is_valid_identifier};
 use std::alloc::{AllocError, Global};
@@ -71,11 +71,11 @@ pub(crate) fn next_operator(alloc: Global, input: &mut TokenStream) -> ParseResu
     ensures gives { Gives (option_map operator_pair) (run NextOperator (cursor_of input.old)) result (cursor_of input.new) }
     ensures after { cursor_of input.new ≡ looking (cursor_of input.old) }
     ensures some { IfOk result (λ o. IsSome o → is_end (asked (cursor_of input.old)).lexeme ≡ false) }
+    ensures readable { OnOk result (is_memory (asked (cursor_of input.old)).lexeme ≡ false) }
 {
-    let pos = look(input)?;
-    let token = peek(input);
+    let (token, pos) = peek(input)?;
     if is_reserved_symbol(token) {
-        return Err(ParseError(ParseErrorType::UnknownOperator(token.text(alloc)?), pos));
+        return Err(ParseError(ParseErrorType::UnknownOperator(token.text(alloc)?), *pos));
     }
     Ok(plain_operator(token))
 }

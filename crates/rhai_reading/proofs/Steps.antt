@@ -1,11 +1,15 @@
 -- One equation for each reader, and what the guard of calls comes to.
-use Rattle.std.proofs.Common.{◌≡◌, ℕ, zero, suc, ◌+◌, ◌*◌, ◌<◌, ◌≤◌, Bool, true, false, refl, sym, ap, arith, nat_lt, if◌then◌else◌}
+use Rattle.std.proofs.Common.{◌≡◌, ℕ, zero, suc, ◌+◌, ◌*◌, ◌<◌, ◌≤◌, Bool, true, false, refl, sym, ap, ◌∙◌, arith, nat_lt, if◌then◌else◌}
 use Rattle.std.proofs.lemmas.Bool.{ltb-true, lt-ltb}
 use Rattle.rhai_lower.specs.Nodes.{Node}
 use Rattle.rhai_lower.specs.declared.position.Position.{Position}
 use Rattle.rhai_grammar.specs.Settings.{Settings}
-use Rattle.rhai_grammar.specs.Cursors.{Cursor}
-use Rattle.rhai_reading.specs.Reading.{Goal, Whole, Expression, Primary, NextOperator, BinaryOp, Val, body}
+use Rattle.rhai_lower.specs.Lexemes.{Lexeme}
+use Rattle.rhai_grammar.specs.Causes.{Refusal, out_of_memory}
+use Rattle.rhai_grammar.specs.Delivered.{Item, is_memory}
+use Rattle.rhai_grammar.specs.Cursors.{Cursor, asked, looking}
+use Rattle.rhai_reading.specs.Reading.{Goal, Whole, Expression, Primary, NextOperator, BinaryOp, Val, Prog, Fail, Peek, body}
+use Rattle.rhai_reading.specs.Running as R
 use Rattle.rhai_reading.specs.Running.{Caller, Out, Done, Refused, Unfinished, and_then, exec, need, only_less, level, run, guarded}
 
 -- two ways to go on that agree wherever less is left give the same
@@ -44,6 +48,15 @@ pub and_then_done : {A : Type 0} (o : Out A) → and_then o (λ v t. Done v t) �
 and_then_done (Done v t) = refl
 and_then_done (Refused e t) = refl
 and_then_done Unfinished = refl
+
+-- a reader that looks at the next token and refuses it
+pub run_fails : (g : Goal) (k : Lexeme → Position → Prog (Val g)) (s t : Cursor) (i : Item) (e r : Refusal) → body g ≡ Peek k → i ≡ asked s → is_memory (asked s).lexeme ≡ false → t ≡ looking s → k i.lexeme i.at ≡ Fail e → r ≡ e → run g s ≡ R.Refused r t
+run_fails g k s t i e r rule next readable left fails same =
+    run_step g s ∙ ap (λ p. exec (guarded g s) p s) rule
+    ∙ ap (λ m. if m then R.Refused out_of_memory (looking s) else exec (guarded g s) (k (asked s).lexeme (asked s).at) (looking s)) readable
+    ∙ ap (λ (j : Item). exec (guarded g s) (k j.lexeme j.at) (looking s)) (sym next)
+    ∙ ap (λ p. exec (guarded g s) p (looking s)) fails
+    ∙ ap (λ w. R.Refused e w) (sym left) ∙ ap (λ w. R.Refused w t) (sym same)
 
 -- ---- each reader's equation
 
