@@ -142,7 +142,7 @@ fn read_line(
 }
 
 /// The list of these lines, which a line feed stands between: a token on each, and on the last one the end mark.
-/// docs/PROGRAM.md has their form. `Unreadable` names the first line that has another, or stands behind the end mark, and
+/// docs/FORMAT.md has their form. `Unreadable` names the first line that has another, or stands behind the end mark, and
 /// the one behind the last where there is no end mark.
 pub fn read_list(alloc: Global, lines: &[u8]) -> Result<TokenList, ListError>
     ensures { IfOk result (λ list. All (λ e. IsTrue (may_be_delivered e)) list.entries.items) }
@@ -160,5 +160,88 @@ pub fn read_list(alloc: Global, lines: &[u8]) -> Result<TokenList, ListError>
     match end {
         Some(end) => Ok(TokenList { entries, end }),
         None => Err(ListError::Unreadable(number.saturating_add(1))),
+    }
+}
+
+#[cfg(test)]
+mod tests {
+    use super::*;
+    use std::test::Fail;
+
+    const LIST: &[u8] = b"1:1 int -007
+none int -9223372036854775808
+1:3 char 128512
+65535:65535 str \\e
+1:5 str a\\s\\n\\\\\t=
+1:6 istr b
+1:7 tstr c
+1:8 tistr \xc3\xa9
+1:9 id _let1
+1:10 id let
+1:11 res ===
+1:12 res \\e
+1:13 sym u-
+1:14 err unterminated
+1:15 err toolong 7
+1:16 err number 1.2
+1:17 err improper ~
+1:18 err unexpected \\s
+1:19 err memory
+2:1 eof";
+
+    // The tokens of the list, in their order.
+    fn tokens(alloc: Global) -> Result<Vec<(Token, bool)>, AllocError> {
+        let text = |text: &str| RcStr::from_str(alloc, text);
+        Ok(vec![in alloc;
+            (Token::IntegerConstant(-7), false),
+            (Token::IntegerConstant(i64::MIN), false),
+            (Token::CharConstant('\u{1f600}'), false),
+            (Token::StringConstant(text("")?), false),
+            (Token::StringConstant(text("a \n\\\t=")?), false),
+            (Token::InterpolatedString(text("b")?), false),
+            (Token::StringConstant(text("c")?), true),
+            (Token::InterpolatedString(text("\u{e9}")?), true),
+            (Token::Identifier(text("_let1")?), false),
+            (Token::Identifier(text("let")?), false),
+            (Token::Reserved(text("===")?), false),
+            (Token::Reserved(text("")?), false),
+            (Token::UnaryMinus, false),
+            (Token::LexError(LexError::UnterminatedString), false),
+            (Token::LexError(LexError::StringTooLong(7)), false),
+            (
+                Token::LexError(LexError::MalformedNumber(text("1.2")?)),
+                false
+            ),
+            (
+                Token::LexError(LexError::ImproperSymbol(text("~")?, text("")?)),
+                false
+            ),
+            (
+                Token::LexError(LexError::UnexpectedInput(text(" ")?)),
+                false
+            ),
+            (Token::LexError(LexError::OutOfMemory), false),
+        ]?)
+    }
+
+    #[test]
+    fn every_kind(rt: HostRuntime) -> Result<(), Fail> {
+        let list = read_list(rt.alloc(), LIST)?;
+        let wanted = tokens(rt.alloc())?;
+        assert_eq!(rt; list.entries.len(), wanted.len());
+        for (entry, (token, text)) in list.entries.iter().zip(wanted.iter()) {
+            assert_eq!(rt; &entry.token, token);
+            assert_eq!(rt; entry.text, *text, "{token:?}");
+        }
+        let places: Vec<Position> = list
+            .entries
+            .iter()
+            .map(|entry| entry.pos)
+            .collect(rt.alloc())?;
+        assert_eq!(rt; places.get(1).copied(), Some(Position::NONE));
+        assert_eq!(rt; places.get(3).copied(), Position::new(65535, 65535));
+        assert_eq!(rt; places.get(9).copied(), Position::new(1, 10));
+        assert_eq!(rt; Some(list.end), Position::new(2, 1));
+        Ok(())
     }
 }

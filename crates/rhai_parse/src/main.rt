@@ -1,4 +1,4 @@
-//! Reads a list of tokens, and prints the tree that the parser makes of it or why it is refused. docs/PROGRAM.md has the
+//! Reads a list of tokens, and prints the tree that the parser makes of it or why it is refused. docs/FORMAT.md has the
 //! command line and both formats.
 #![tactic(auto)]
 

@@ -1,4 +1,4 @@
-//! How an accepted script is printed: a node a line, two spaces deeper than the node that it belongs to. docs/PROGRAM.md
+//! How an accepted script is printed: a node a line, two spaces deeper than the node that it belongs to. docs/FORMAT.md
 //! has the line of each node.
 
 use crate::escape::Escaped;
@@ -29,7 +29,11 @@ impl fmt::Display for CallFields<'_> {
         let name = Escaped(&self.0.name);
         let script = Optional(self.0.script_args);
         let native = self.0.native_args;
-        let capture = if self.0.capture_parent_scope { "!" } else { "-" };
+        let capture = if self.0.capture_parent_scope {
+            "!"
+        } else {
+            "-"
+        };
         write!(f, "{name} {script} {native} {capture}")
     }
 }
@@ -117,4 +121,88 @@ pub fn accepted(alloc: Global, script: &AST) -> Result<String, AllocError> {
     print_statements(&mut text, 0, &script.statements)?;
     print_functions(&mut text, &script.functions)?;
     Ok(text)
+}
+
+#[cfg(test)]
+mod tests {
+    use super::*;
+    use rhai_parser::{Namespace, Position};
+    use std::rc::RcStr;
+    use std::test::Fail;
+
+    // A call of `name` with an integer.
+    fn call(alloc: Global, name: &str, script: Option<usize>) -> Result<FnCallExpr, AllocError> {
+        Ok(FnCallExpr {
+            name: RcStr::from_str(alloc, name)?,
+            namespace: Namespace {
+                path: Vec::new(alloc),
+                index: None,
+            },
+            script_args: script,
+            native_args: 1,
+            args: vec![in alloc; Expr::IntegerConstant(-7, Position::START)]?,
+            capture_parent_scope: script.is_some(),
+            op_token: None,
+        })
+    }
+
+    fn body(alloc: Global, call: FnCallExpr) -> Result<StmtBlock, AllocError> {
+        let call = Expr::FnCall(Box::new(alloc, call)?, Position::START);
+        Ok(StmtBlock {
+            statements: vec![in alloc; Stmt::Expr(Box::new(alloc, call)?)]?,
+            start: Position::START,
+            end: Position::NONE,
+        })
+    }
+
+    fn function(
+        alloc: Global,
+        name: &str,
+        this_type: Option<RcStr>,
+    ) -> Result<ScriptFuncDef, AllocError> {
+        let private = this_type.is_some();
+        let (first, second) = (RcStr::from_str(alloc, "a")?, RcStr::from_str(alloc, "b")?);
+        Ok(ScriptFuncDef {
+            this_type,
+            name: RcStr::from_str(alloc, name)?,
+            private,
+            params: if private {
+                vec![in alloc; first, second]?
+            } else {
+                Vec::new(alloc)
+            },
+            body: body(alloc, call(alloc, "-", None)?)?,
+        })
+    }
+
+    const PRINTED: &str = "accepted
+Expr
+  FnCall 1:1 f\\sg 1 1 !
+    Int 1:1 -7
+functions 2
+private fn my\\stype alpha a b
+  Block 1:1 none
+    Expr
+      FnCall 1:1 - - 1 -
+        Int 1:1 -7
+fn - zulu
+  Block 1:1 none
+    Expr
+      FnCall 1:1 - - 1 -
+        Int 1:1 -7
+";
+
+    #[test]
+    fn prints_calls_and_functions(rt: HostRuntime) -> Result<(), Fail> {
+        let alloc = rt.alloc();
+        let this_type = Some(RcStr::from_str(alloc, "my type")?);
+        let first = Rc::new(alloc, function(alloc, "alpha", this_type)?)?;
+        let second = Rc::new(alloc, function(alloc, "zulu", None)?)?;
+        let script = AST {
+            statements: body(alloc, call(alloc, "f g", Some(1))?)?.statements,
+            functions: vec![in alloc; first, second]?,
+        };
+        assert_eq!(rt; accepted(alloc, &script)?.as_str(), PRINTED);
+        Ok(())
+    }
 }

@@ -1,5 +1,5 @@
 //! How a refusal is printed: the number of its kind, where it stands, the name of its kind and what belongs to it. Notes on
-//! what to write instead are left out. docs/PROGRAM.md has the list.
+//! what to write instead are left out. docs/FORMAT.md has the list.
 
 use crate::escape::Escaped;
 use rhai_parser::{InputError, LexError, ParseError, ParseErrorType, Position};
@@ -170,6 +170,131 @@ pub struct Refused<'a>(pub &'a ParseError);
 impl fmt::Display for Refused<'_> {
     fn fmt<W: fmt::Write>(&self, f: &mut fmt::Formatter<W>) -> fmt::Result {
         let ParseError(kind, pos) = self.0;
-        write!(f, "E{} {pos} {}{}", number(kind), name(kind), payload_of(kind))
+        write!(
+            f,
+            "E{} {pos} {}{}",
+            number(kind),
+            name(kind),
+            payload_of(kind)
+        )
+    }
+}
+
+#[cfg(test)]
+mod tests {
+    use super::*;
+    use rhai_parser::ParseErrorType as Kind;
+    use std::alloc::{AllocError, Global};
+    use std::rc::RcStr;
+    use std::test::Fail;
+
+    fn line(alloc: Global, kind: Kind, pos: Position) -> Result<String, AllocError> {
+        format!(in alloc; "{}", Refused(&ParseError(kind, pos)))
+    }
+
+    #[test]
+    fn kinds_of_bad_input(rt: HostRuntime) -> Result<(), Fail> {
+        let text = |text: &str| RcStr::from_str(rt.alloc(), text);
+        let pos = Position::new(3, 14).ok_or("a position")?;
+        let cases = [
+            (
+                InputError::UnexpectedInput(text("a b\n\\")?),
+                "E2 3:14 BadInput unexpected a\\sb\\n\\\\",
+            ),
+            (
+                InputError::UnexpectedInput(text("")?),
+                "E2 3:14 BadInput unexpected \\e",
+            ),
+            (
+                InputError::Lexer(LexError::UnterminatedString),
+                "E3 3:14 BadInput unterminated",
+            ),
+            (
+                InputError::Lexer(LexError::StringTooLong(65535)),
+                "E3 3:14 BadInput toolong 65535",
+            ),
+            (
+                InputError::Lexer(LexError::MalformedNumber(text("1.2.3")?)),
+                "E3 3:14 BadInput number 1.2.3",
+            ),
+            (
+                InputError::Lexer(LexError::ImproperSymbol(text("===")?, text("a note")?)),
+                "E3 3:14 BadInput improper ===",
+            ),
+            (
+                InputError::Lexer(LexError::UnexpectedInput(text("~")?)),
+                "E3 3:14 BadInput unexpected ~",
+            ),
+            (
+                InputError::MalformedNumber(text("--9223372036854775808")?),
+                "E4 3:14 BadInput number --9223372036854775808",
+            ),
+            (
+                InputError::ImproperSymbol(text("::")?, text("a note")?),
+                "E5 3:14 BadInput improper ::",
+            ),
+        ];
+        for (error, wanted) in cases {
+            let printed = line(rt.alloc(), Kind::BadInput(error), pos)?;
+            assert_eq!(rt; printed.as_str(), wanted);
+        }
+        Ok(())
+    }
+
+    #[test]
+    fn other_kinds(rt: HostRuntime) -> Result<(), Fail> {
+        let text = |text: &str| RcStr::from_str(rt.alloc(), text);
+        let cases = [
+            (Kind::UnexpectedEOF, "E1 none UnexpectedEOF"),
+            (
+                Kind::UnknownOperator(text("===")?),
+                "E6 none UnknownOperator ===",
+            ),
+            (
+                Kind::MissingToken(text(")")?, text("a note")?),
+                "E7 none MissingToken )",
+            ),
+            (
+                Kind::ExprExpected(text("a boolean")?),
+                "E8 none ExprExpected a\\sboolean",
+            ),
+            (
+                Kind::MismatchedType(text("a boolean expression")?, text("a number")?),
+                "E9 none MismatchedType a\\sboolean\\sexpression a\\snumber",
+            ),
+            (
+                Kind::MalformedCapture(text("a note")?),
+                "E11 none MalformedCapture",
+            ),
+            (Kind::Reserved(text("eval")?), "E14 none Reserved eval"),
+            (
+                Kind::FnDuplicatedParam(text("")?, text("x")?),
+                "E27 none FnDuplicatedParam \\e x",
+            ),
+            (
+                Kind::FnDuplicatedDefinition(text("f")?, 2),
+                "E28 none FnDuplicatedDefinition f 2",
+            ),
+            (
+                Kind::AssignmentToConstant(text("")?),
+                "E30 none AssignmentToConstant \\e",
+            ),
+            (
+                Kind::AssignmentToInvalidLHS(text("")?),
+                "E31 none AssignmentToInvalidLHS \\e",
+            ),
+            (
+                Kind::LiteralTooLarge(text("Size of array literal")?, 3),
+                "E33 none LiteralTooLarge Size\\sof\\sarray\\sliteral 3",
+            ),
+            (Kind::ExprTooDeep, "E34 none ExprTooDeep"),
+            (Kind::TooManyFunctions, "E35 none TooManyFunctions"),
+            (Kind::OutOfMemory, "E36 none OutOfMemory"),
+        ];
+        for (kind, wanted) in cases {
+            let printed = line(rt.alloc(), kind, Position::NONE)?;
+            assert_eq!(rt; printed.as_str(), wanted);
+        }
+        Ok(())
     }
 }

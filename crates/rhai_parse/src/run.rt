@@ -115,7 +115,7 @@ fn print<W: Write>(output: &mut W, answer: &Result<String, Failure>) -> io::Resu
 }
 
 /// Runs the program on the words of its command line without its name, and gives its exit status. It reads the whole input
-/// before it prints anything, and prints everything to `output`, in the formats of docs/PROGRAM.md: 0 with the tree of an
+/// before it prints anything, and prints everything to `output`, in the formats of docs/FORMAT.md: 0 with the tree of an
 /// accepted list, 1 with one line on a refused list or on want of memory, and 2 with one line on a list that cannot be
 /// read or a bad command line, and where `output` fails.
 pub fn run<R: Read, W: Write>(
@@ -137,3 +137,6 @@ pub fn refuse_words<W: Write>(error: &io::Error, output: &mut W) -> u8 {
     };
     print(output, &Err(failure)).unwrap_or(2)
 }
+
+#[cfg(test)]
+mod tests;

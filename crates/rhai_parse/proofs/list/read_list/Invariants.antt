@@ -1,5 +1,5 @@
 -- What the loop over the lines keeps: the lines left can be had, and the entries so far may be delivered.
-use Rattle.std.proofs.Common.{All, IsTrue, ◌≡◌, ◌<◌, ◌≤◌, length}
+use Rattle.std.proofs.Common.{All, IsTrue}
 use Rattle.rhai_lower.specs.Entries.{may_be_delivered}
 use Rattle.rhai_parse.proofs.list.read_list.Given as goal
 
