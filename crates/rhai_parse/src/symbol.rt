@@ -1,8 +1,13 @@
 //! Tokens by how they are written.
 
+ghost use Rattle.std.specs.Prelude.{◌≡◌, IfSome};
+ghost use Rattle.rhai_parse.specs.Symbols.{written_as};
+
 use rhai_parser::Token;
 
-fn bracket(text: &str) -> Option<Token> {
+fn bracket(text: &str) -> Option<Token>
+    ensures { IfSome result (λ token. written_as token ≡ text.now) }
+{
     Some(match text {
         "()" => Token::Unit,
         "{" => Token::LeftBrace,
@@ -17,7 +22,9 @@ fn bracket(text: &str) -> Option<Token> {
     })
 }
 
-fn separator(text: &str) -> Option<Token> {
+fn separator(text: &str) -> Option<Token>
+    ensures { IfSome result (λ token. written_as token ≡ text.now) }
+{
     Some(match text {
         "." => Token::Period,
         "?." => Token::Elvis,
@@ -33,7 +40,9 @@ fn separator(text: &str) -> Option<Token> {
     })
 }
 
-fn arithmetic(text: &str) -> Option<Token> {
+fn arithmetic(text: &str) -> Option<Token>
+    ensures { IfSome result (λ token. written_as token ≡ text.now) }
+{
     Some(match text {
         "u-" => Token::UnaryMinus,
         "u+" => Token::UnaryPlus,
@@ -52,7 +61,9 @@ fn arithmetic(text: &str) -> Option<Token> {
     })
 }
 
-fn relation(text: &str) -> Option<Token> {
+fn relation(text: &str) -> Option<Token>
+    ensures { IfSome result (λ token. written_as token ≡ text.now) }
+{
     Some(match text {
         "||" => Token::Or,
         "&&" => Token::And,
@@ -71,7 +82,9 @@ fn relation(text: &str) -> Option<Token> {
     })
 }
 
-fn assignment(text: &str) -> Option<Token> {
+fn assignment(text: &str) -> Option<Token>
+    ensures { IfSome result (λ token. written_as token ≡ text.now) }
+{
     Some(match text {
         "+=" => Token::PlusAssign,
         "-=" => Token::MinusAssign,
@@ -88,7 +101,9 @@ fn assignment(text: &str) -> Option<Token> {
     })
 }
 
-fn control(text: &str) -> Option<Token> {
+fn control(text: &str) -> Option<Token>
+    ensures { IfSome result (λ token. written_as token ≡ text.now) }
+{
     Some(match text {
         "if" => Token::If,
         "else" => Token::Else,
@@ -108,7 +123,9 @@ fn control(text: &str) -> Option<Token> {
     })
 }
 
-fn keyword(text: &str) -> Option<Token> {
+fn keyword(text: &str) -> Option<Token>
+    ensures { IfSome result (λ token. written_as token ≡ text.now) }
+{
     Some(match text {
         "true" => Token::True,
         "false" => Token::False,
@@ -125,7 +142,9 @@ fn keyword(text: &str) -> Option<Token> {
 
 /// The token without payload that is written so; `u-` and `u+` are the signs before an operand. None where there is no
 /// such token.
-pub fn symbol(text: &str) -> Option<Token> {
+pub fn symbol(text: &str) -> Option<Token>
+    ensures { IfSome result (λ token. written_as token ≡ text.now) }
+{
     bracket(text)
         .or_else(|| separator(text))
         .or_else(|| arithmetic(text))

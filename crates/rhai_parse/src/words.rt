@@ -1,5 +1,7 @@
 //! The words of the command line.
 
+ghost use Rattle.std.specs.Prelude.{◌≡◌, ◌↔◌, IsSome, IsNone};
+
 use crate::number::decimal;
 
 /// What the words ask of the engine; its own value stands where they name none.
@@ -31,7 +33,10 @@ impl Limits {
 }
 
 // Sets what is not set yet; none where the value is none, or the word came before.
-fn set<T: Copy>(place: &mut Option<T>, value: Option<T>) -> Option<()> {
+fn set<T: Copy>(place: &mut Option<T>, value: Option<T>) -> Option<()>
+    ensures once { IsSome result ↔ (IsNone place.old × IsSome value) }
+    ensures value { IsSome result → place.new ≡ value }
+{
     if place.is_some() {
         return None;
     }
