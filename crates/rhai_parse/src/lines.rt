@@ -1,0 +1,32 @@
+//! The input as a whole.
+
+use std::alloc::{AllocError, Global};
+use std::io::{ErrorKind, Read};
+
+// Drops the line feed that ends the last line, if there is one.
+fn drop_last_line_feed(bytes: &mut Vec<u8>) {
+    if bytes.last().copied() == Some(b'\n') {
+        bytes.pop();
+    }
+}
+
+// Drops what stands behind the last line feed.
+fn drop_last_line(bytes: &mut Vec<u8>) {
+    let kept = match bytes.iter().rposition(|byte| *byte == b'\n') {
+        Some(index) => index.saturating_add(1),
+        None => 0,
+    };
+    bytes.truncate(kept);
+}
+
+/// All lines of the input, with a line feed between each two. A line whose reading fails stands there empty, as the last
+/// one. The error is that there is no memory for them.
+pub fn read_lines<R: Read>(alloc: Global, input: &mut R) -> Result<Vec<u8>, AllocError> {
+    let mut bytes = Vec::new(alloc);
+    match input.read_to_end(&mut bytes) {
+        Ok(_) => drop_last_line_feed(&mut bytes),
+        Err(error) if error.kind() == ErrorKind::OutOfMemory => return Err(AllocError),
+        Err(_) => drop_last_line(&mut bytes),
+    }
+    Ok(bytes)
+}

@@ -1,0 +1,247 @@
+//! Lists of tokens, one a line.
+
+ghost use Rattle.std.specs.Prelude.{All, IfOk, IsTrue};
+ghost use Rattle.rhai_lower.specs.Entries.{may_be_delivered};
+
+use crate::escape::unescape;
+use crate::number::{decimal, integer};
+use crate::symbol::symbol;
+use rhai_parser::{Entry, LexError, Position, Token};
+use std::alloc::{AllocError, AllocFailed, Global};
+use std::rc::RcStr;
+use std::str;
+
+/// The tokens of a list, and where its end mark stands.
+#[derive(Drop, Debug)]
+pub struct TokenList {
+    pub entries: Vec<Entry>,
+    pub end: Position,
+}
+
+/// Why a list cannot be read.
+#[derive(Drop, Debug, PartialEq)]
+pub enum ListError {
+    /// This line is none of a list's, counted from 1.
+    Unreadable(usize),
+    /// Memory ran out.
+    OutOfMemory,
+}
+
+// Why a line cannot be read.
+#[derive(Drop, Debug)]
+enum LineError {
+    Unreadable,
+    OutOfMemory,
+}
+
+impl From<AllocError> for LineError {
+    fn from(_error: AllocError) -> LineError {
+        LineError::OutOfMemory
+    }
+}
+
+impl<T: Drop> From<AllocFailed<T>> for LineError {
+    fn from(_error: AllocFailed<T>) -> LineError {
+        LineError::OutOfMemory
+    }
+}
+
+impl LineError {
+    fn at(self, line: usize) -> ListError {
+        match self {
+            LineError::Unreadable => ListError::Unreadable(line),
+            LineError::OutOfMemory => ListError::OutOfMemory,
+        }
+    }
+}
+
+fn small(text: &str) -> Option<u16> {
+    u16::try_from(decimal(text)?).ok()
+}
+
+// A line and a column from 1 to 65535, or `none`.
+fn position(text: &str) -> Option<Position> {
+    if text == "none" {
+        return Some(Position::NONE);
+    }
+    let (line, column) = text.split_once(':')?;
+    Position::new(small(line)?, small(column)?)
+}
+
+fn character(text: &str) -> Option<char> {
+    char::from_u32(u32::try_from(decimal(text)?).ok()?)
+}
+
+fn text(alloc: Global, payload: &str) -> Result<RcStr, LineError> {
+    unescape(alloc, payload)?.ok_or(LineError::Unreadable)
+}
+
+// What the tokenizer says of an input that it could not read.
+fn lex_error(alloc: Global, words: &str) -> Result<LexError, LineError> {
+    match words {
+        "unterminated" => return Ok(LexError::UnterminatedString),
+        "memory" => return Ok(LexError::OutOfMemory),
+        _ => {}
+    }
+    let (kind, rest) = words.split_once(' ').ok_or(LineError::Unreadable)?;
+    Ok(match kind {
+        "toolong" => LexError::StringTooLong(decimal(rest).ok_or(LineError::Unreadable)?),
+        "number" => LexError::MalformedNumber(text(alloc, rest)?),
+        "improper" => LexError::ImproperSymbol(text(alloc, rest)?, RcStr::from_str(alloc, "")?),
+        "unexpected" => LexError::UnexpectedInput(text(alloc, rest)?),
+        _ => return Err(LineError::Unreadable),
+    })
+}
+
+fn token(alloc: Global, kind: &str, payload: &str) -> Result<Token, LineError> {
+    Ok(match kind {
+        "int" => Token::IntegerConstant(integer(payload).ok_or(LineError::Unreadable)?),
+        "char" => Token::CharConstant(character(payload).ok_or(LineError::Unreadable)?),
+        "str" | "tstr" => Token::StringConstant(text(alloc, payload)?),
+        "istr" | "tistr" => Token::InterpolatedString(text(alloc, payload)?),
+        "id" => Token::Identifier(text(alloc, payload)?),
+        "res" => Token::Reserved(text(alloc, payload)?),
+        "sym" => symbol(payload).ok_or(LineError::Unreadable)?,
+        "err" => Token::LexError(lex_error(alloc, payload)?),
+        _ => return Err(LineError::Unreadable),
+    })
+}
+
+// Adds an entry, unless no stream may deliver it.
+fn add(entries: &mut Vec<Entry>, entry: Entry) -> Result<(), LineError>
+    requires { All (λ e. IsTrue (may_be_delivered e)) entries.old.items }
+    ensures { All (λ e. IsTrue (may_be_delivered e)) entries.new.items }
+{
+    if !entry.is_deliverable() {
+        return Err(LineError::Unreadable);
+    }
+    entries.push(entry)?;
+    Ok(())
+}
+
+// Reads a line: it adds a token, or gives the end mark's position.
+fn read_line(
+    alloc: Global,
+    line: &[u8],
+    entries: &mut Vec<Entry>,
+) -> Result<Option<Position>, LineError>
+    requires { All (λ e. IsTrue (may_be_delivered e)) entries.old.items }
+    ensures { All (λ e. IsTrue (may_be_delivered e)) entries.new.items }
+{
+    let line = str::from_utf8(line).ok().ok_or(LineError::Unreadable)?;
+    let (place, rest) = line.split_once(' ').ok_or(LineError::Unreadable)?;
+    let pos = position(place).ok_or(LineError::Unreadable)?;
+    if rest == "eof" {
+        return Ok(Some(pos));
+    }
+    let (kind, payload) = rest.split_once(' ').ok_or(LineError::Unreadable)?;
+    let token = token(alloc, kind, payload)?;
+    let text = matches!(kind, "tstr" | "tistr");
+    add(entries, Entry { token, pos, text })?;
+    Ok(None)
+}
+
+/// The list of these lines, which a line feed stands between: a token on each, and on the last one the end mark.
+/// docs/FORMAT.md has their form. `Unreadable` names the first line that has another, or stands behind the end mark, and
+/// the one behind the last where there is no end mark.
+pub fn read_list(alloc: Global, lines: &[u8]) -> Result<TokenList, ListError>
+    ensures { IfOk result (λ list. All (λ e. IsTrue (may_be_delivered e)) list.entries.items) }
+{
+    let mut entries = Vec::new(alloc);
+    let mut end = None;
+    let mut number = 0usize;
+    for line in lines.split(|byte| *byte == b'\n') {
+        number = number.saturating_add(1);
+        if end.is_some() {
+            return Err(ListError::Unreadable(number));
+        }
+        end = read_line(alloc, line, &mut entries).map_err(|error| error.at(number))?;
+    }
+    match end {
+        Some(end) => Ok(TokenList { entries, end }),
+        None => Err(ListError::Unreadable(number.saturating_add(1))),
+    }
+}
+
+#[cfg(test)]
+mod tests {
+    use super::*;
+    use std::test::Fail;
+
+    const LIST: &[u8] = b"1:1 int -007
+none int -9223372036854775808
+1:3 char 128512
+65535:65535 str \\e
+1:5 str a\\s\\n\\\\\t=
+1:6 istr b
+1:7 tstr c
+1:8 tistr \xc3\xa9
+1:9 id _let1
+1:10 id let
+1:11 res ===
+1:12 res \\e
+1:13 sym u-
+1:14 err unterminated
+1:15 err toolong 7
+1:16 err number 1.2
+1:17 err improper ~
+1:18 err unexpected \\s
+1:19 err memory
+2:1 eof";
+
+    // The tokens of the list, in their order.
+    fn tokens(alloc: Global) -> Result<Vec<(Token, bool)>, AllocError> {
+        let text = |text: &str| RcStr::from_str(alloc, text);
+        Ok(vec![in alloc;
+            (Token::IntegerConstant(-7), false),
+            (Token::IntegerConstant(i64::MIN), false),
+            (Token::CharConstant('\u{1f600}'), false),
+            (Token::StringConstant(text("")?), false),
+            (Token::StringConstant(text("a \n\\\t=")?), false),
+            (Token::InterpolatedString(text("b")?), false),
+            (Token::StringConstant(text("c")?), true),
+            (Token::InterpolatedString(text("\u{e9}")?), true),
+            (Token::Identifier(text("_let1")?), false),
+            (Token::Identifier(text("let")?), false),
+            (Token::Reserved(text("===")?), false),
+            (Token::Reserved(text("")?), false),
+            (Token::UnaryMinus, false),
+            (Token::LexError(LexError::UnterminatedString), false),
+            (Token::LexError(LexError::StringTooLong(7)), false),
+            (
+                Token::LexError(LexError::MalformedNumber(text("1.2")?)),
+                false
+            ),
+            (
+                Token::LexError(LexError::ImproperSymbol(text("~")?, text("")?)),
+                false
+            ),
+            (
+                Token::LexError(LexError::UnexpectedInput(text(" ")?)),
+                false
+            ),
+            (Token::LexError(LexError::OutOfMemory), false),
+        ]?)
+    }
+
+    #[test]
+    fn every_kind(rt: HostRuntime) -> Result<(), Fail> {
+        let list = read_list(rt.alloc(), LIST)?;
+        let wanted = tokens(rt.alloc())?;
+        assert_eq!(rt; list.entries.len(), wanted.len());
+        for (entry, (token, text)) in list.entries.iter().zip(wanted.iter()) {
+            assert_eq!(rt; &entry.token, token);
+            assert_eq!(rt; entry.text, *text, "{token:?}");
+        }
+        let places: Vec<Position> = list
+            .entries
+            .iter()
+            .map(|entry| entry.pos)
+            .collect(rt.alloc())?;
+        assert_eq!(rt; places.get(1).copied(), Some(Position::NONE));
+        assert_eq!(rt; places.get(3).copied(), Position::new(65535, 65535));
+        assert_eq!(rt; places.get(9).copied(), Position::new(1, 10));
+        assert_eq!(rt; Some(list.end), Position::new(2, 1));
+        Ok(())
+    }
+}

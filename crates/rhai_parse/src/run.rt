@@ -1,0 +1,142 @@
+//! The program over any reader and writer.
+
+ghost use Rattle.std.specs.Prelude.{All, IsTrue};
+ghost use Rattle.rhai_lower.specs.Entries.{may_be_delivered};
+
+use crate::lines::read_lines;
+use crate::list::{ListError, TokenList, read_list};
+use crate::print::accepted;
+use crate::refused::Refused;
+use crate::words::{Limits, read_words};
+use bitflags::Flags;
+use rhai_parser::{
+    AST, Engine, FnLib, LangOptions, OptimizationLevel, ParseError, ParseResult, ParseState,
+    TokenStream, TokenizerControl,
+};
+use std::alloc::{AllocError, Global};
+use std::io::{self, ErrorKind, Read, Write};
+
+// Why there is no tree.
+#[derive(Drop, Debug)]
+enum Failure {
+    // This line of the input cannot be read, counted from 1, or with 0 the command line.
+    Unreadable(usize),
+    Refused(ParseError),
+}
+
+impl From<AllocError> for Failure {
+    fn from(error: AllocError) -> Failure {
+        Failure::Refused(ParseError::from(error))
+    }
+}
+
+impl From<ParseError> for Failure {
+    fn from(error: ParseError) -> Failure {
+        Failure::Refused(error)
+    }
+}
+
+impl From<ListError> for Failure {
+    fn from(error: ListError) -> Failure {
+        match error {
+            ListError::Unreadable(line) => Failure::Unreadable(line),
+            ListError::OutOfMemory => Failure::from(AllocError),
+        }
+    }
+}
+
+fn make_engine(alloc: Global, limits: &Limits) -> Engine {
+    let mut engine = Engine::new(alloc);
+    if let Some(limit) = limits.expr_depth {
+        engine.set_max_expr_depth(limit);
+    }
+    if let Some(limit) = limits.fn_depth {
+        engine.set_max_function_expr_depth(limit);
+    }
+    if let Some(limit) = limits.functions {
+        engine.set_max_functions(limit);
+    }
+    if let Some(limit) = limits.array {
+        engine.set_max_array_size(limit);
+    }
+    if let Some(limit) = limits.map {
+        engine.set_max_map_size(limit);
+    }
+    if let Some(bits) = limits.options {
+        engine.set_options(LangOptions::from_bits_retain(bits));
+    }
+    engine
+}
+
+fn parse(alloc: Global, limits: &Limits, list: TokenList) -> ParseResult<AST>
+    requires { All (λ e. IsTrue (may_be_delivered e)) list.entries.items }
+{
+    let engine = make_engine(alloc, limits);
+    let mut input = TokenStream::new(list.entries, list.end);
+    let mut lib = FnLib::new(alloc);
+    let state = ParseState::new(alloc, None, &mut input, TokenizerControl, &mut lib);
+    engine.parse_global_expr(state, |_settings| {}, OptimizationLevel::None)
+}
+
+fn answer<R: Read>(alloc: Global, words: &[String], input: &mut R) -> Result<String, Failure> {
+    let limits = read_words(words).ok_or(Failure::Unreadable(0))?;
+    let lines = read_lines(alloc, input)?;
+    let list = read_list(alloc, &lines)?;
+    let script = parse(alloc, &limits, list)?;
+    Ok(accepted(alloc, &script)?)
+}
+
+// Prints why there is no tree, and gives the exit status.
+fn print_failure<W: Write>(output: &mut W, failure: &Failure) -> io::Result<u8> {
+    match failure {
+        Failure::Unreadable(line) => {
+            writeln!(output, "unreadable line {line}")?;
+            Ok(2)
+        }
+        Failure::Refused(error) => {
+            let refused = Refused(error);
+            writeln!(output, "refused {refused}")?;
+            Ok(1)
+        }
+    }
+}
+
+// Prints the answer, and gives the exit status.
+fn print<W: Write>(output: &mut W, answer: &Result<String, Failure>) -> io::Result<u8> {
+    let status = match answer {
+        Ok(text) => {
+            output.write_all(text.as_bytes())?;
+            0
+        }
+        Err(failure) => print_failure(output, failure)?,
+    };
+    output.flush()?;
+    Ok(status)
+}
+
+/// Runs the program on the words of its command line without its name, and gives its exit status. It reads the whole input
+/// before it prints anything, and prints everything to `output`, in the formats of docs/FORMAT.md: 0 with the tree of an
+/// accepted list, 1 with one line on a refused list or on want of memory, and 2 with one line on a list that cannot be
+/// read or a bad command line, and where `output` fails.
+pub fn run<R: Read, W: Write>(
+    alloc: Global,
+    words: &[String],
+    input: &mut R,
+    output: &mut W,
+) -> u8 {
+    let answer = answer(alloc, words, input);
+    print(output, &answer).unwrap_or(2)
+}
+
+/// What [`run`] does where the words of the command line cannot be had: there is no memory for them, or one of them is
+/// no text.
+pub fn refuse_words<W: Write>(error: &io::Error, output: &mut W) -> u8 {
+    let failure = match error.kind() {
+        ErrorKind::OutOfMemory => Failure::from(AllocError),
+        _ => Failure::Unreadable(0),
+    };
+    print(output, &Err(failure)).unwrap_or(2)
+}
+
+#[cfg(test)]
+mod tests;

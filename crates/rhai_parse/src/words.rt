@@ -1,0 +1,78 @@
+//! The words of the command line.
+
+ghost use Rattle.std.specs.Prelude.{◌≡◌, ◌↔◌, IsSome, IsNone};
+
+use crate::number::decimal;
+
+/// What the words ask of the engine; its own value stands where they name none.
+#[derive(Clone, Copy, PartialEq, Debug)]
+pub struct Limits {
+    /// How deeply the script may nest; 0 is no limit.
+    pub expr_depth: Option<usize>,
+    /// How deeply a function's body may nest; 0 is no limit.
+    pub fn_depth: Option<usize>,
+    /// How many functions and closures the script may have; 0 is none.
+    pub functions: Option<usize>,
+    /// How many items an array literal may have; 0 is no limit.
+    pub array: Option<usize>,
+    /// How many properties a map literal may have; 0 is no limit.
+    pub map: Option<usize>,
+    /// The bits of the language's options.
+    pub options: Option<u8>,
+}
+
+impl Limits {
+    const NONE: Limits = Limits {
+        expr_depth: None,
+        fn_depth: None,
+        functions: None,
+        array: None,
+        map: None,
+        options: None,
+    };
+}
+
+// Sets what is not set yet; none where the value is none, or the word came before.
+fn set<T: Copy>(place: &mut Option<T>, value: Option<T>) -> Option<()>
+    ensures once { IsSome result ↔ (IsNone place.old × IsSome value) }
+    ensures value { IsSome result → place.new ≡ value }
+{
+    if place.is_some() {
+        return None;
+    }
+    *place = Some(value?);
+    Some(())
+}
+
+fn byte(text: &str) -> Option<u8> {
+    u8::try_from(decimal(text)?).ok()
+}
+
+// Reads a word `name=number`; none where it is bad.
+fn read_word(limits: &mut Limits, word: &str) -> Option<()> {
+    let (name, value) = word.split_once('=')?;
+    match name {
+        "expr_depth" => set(&mut limits.expr_depth, decimal(value)),
+        "fn_depth" => set(&mut limits.fn_depth, decimal(value)),
+        "functions" => set(&mut limits.functions, decimal(value)),
+        "array" => set(&mut limits.array, decimal(value)),
+        "map" => set(&mut limits.map, decimal(value)),
+        "options" => set(&mut limits.options, byte(value)),
+        _ => None,
+    }
+}
+
+/// What the words ask for: `expr`, and then any of `expr_depth`, `fn_depth`, `functions`, `array`, `map` and `options`,
+/// each at most once, with `=` and decimal digits behind it, for `options` at most 255. None where a word is bad or the
+/// first is missing.
+pub fn read_words(words: &[String]) -> Option<Limits> {
+    let (first, rest) = words.split_first()?;
+    if first.as_str() != "expr" {
+        return None;
+    }
+    let mut limits = Limits::NONE;
+    for word in rest {
+        read_word(&mut limits, word.as_str())?;
+    }
+    Some(limits)
+}
