@@ -109,6 +109,10 @@ refusal_of e = refusal (cause_of e.0) e.1
 abbrev pub no_memory : ParseError
 no_memory = record { 0 = error.OutOfMemory; 1 = nowhere }
 
+abbrev pub is_memory_cause : Cause → Bool
+is_memory_cause OutOfMemory = true
+is_memory_cause _ = false
+
 abbrev pub is_memory_kind : ParseErrorType → Bool
 is_memory_kind error.OutOfMemory = true
 is_memory_kind _ = false

@@ -1,6 +1,8 @@
 -- What was seen of a stream.
-use Rattle.std.specs.Prelude.{◌≡◌, true, List, [], ◌∷◌, refl}
-use Rattle.rhai_grammar.specs.Delivered.{Item, Tokens, Taken, ask, later}
+use Rattle.std.specs.Prelude.{◌≡◌, Bool, true, false, List, [], ◌∷◌}
+use Rattle.rhai_grammar.specs.Causes as cause
+use Rattle.rhai_grammar.specs.Causes.{Cause, Refusal}
+use Rattle.rhai_grammar.specs.Delivered.{Tokens, Taken, ask, later, is_memory}
 use Rattle.rhai_grammar.specs.Cursors.{Cursor, asked}
 
 -- A stream gives these tokens, one after the other, in these modes.
@@ -21,3 +23,18 @@ BeginsWith taken left s = Gives taken s × (left.peeked ≡ true → ask left.mo
 abbrev pub latest_first : List Taken → List Taken → List Taken
 latest_first [] before = before
 latest_first (k ∷ taken) before = latest_first taken (k ∷ before)
+
+-- the tokenizer found memory for each of these tokens
+abbrev pub Readable : List Taken → Type 0
+Readable [] = Unit {0}
+Readable (k ∷ taken) = (is_memory k.item.lexeme ≡ false) × Readable taken
+
+-- what is refused at the end mark, or where another token is due
+abbrev pub is_at_last : Cause → Bool
+is_at_last cause.UnexpectedEOF = true
+is_at_last (cause.MissingToken t) = true
+is_at_last _ = false
+
+-- Such a refusal stands at the last token that was seen, which was peeked.
+abbrev pub StandsAtLast : Refusal → Cursor → Type 0
+StandsAtLast e left = is_at_last e.cause ≡ true → (left.peeked ≡ true) × (e.at ≡ (asked left).at)

@@ -4,3 +4,5 @@ pub mod Strengths
 pub mod Rules
 pub mod Complete
 pub mod Local
+pub mod Readable
+pub mod Sound

@@ -69,11 +69,14 @@ next_operator_at at Other = Ret None
 abbrev pub binary_next : Settings → ℕ → Node → Lexeme → Position → Node → Prog Node
 binary_next d parent lhs op pos rhs = Call (BinaryOp d pos parent (operator_call op pos lhs rhs)) Ret
 
+-- behind an operator's right operand: the tighter run that begins there, if one does
+abbrev pub binary_right : Settings → Position → ℕ → Node → ℕ → Lexeme → Position → Node → Prog Node
+binary_right c at parent lhs strength op pos rhs =
+    Call NextOperator (λ next. raised c at (λ d. Call (BinaryOp d (position_of rhs) strength rhs) (binary_next d parent lhs op pos)))
+
 -- behind an operator
 abbrev pub binary_on : Settings → Position → ℕ → Node → ℕ → Lexeme → Position → Prog Node
-binary_on c at parent lhs strength op pos =
-    Take (Call (Primary c) (λ rhs. Call NextOperator (λ next.
-    raised c at (λ d. Call (BinaryOp d (position_of rhs) strength rhs) (binary_next d parent lhs op pos)))))
+binary_on c at parent lhs strength op pos = Take (Call (Primary c) (binary_right c at parent lhs strength op pos))
 
 abbrev pub binary_at : Settings → Position → ℕ → Node → Option (ℕ × Bool) → Prog Node
 binary_at c at parent lhs None = Ret lhs
