@@ -1,5 +1,5 @@
 -- What asking a stream leaves.
-use Rattle.std.proofs.Common.{◌≡◌, ℕ, ◌+◌, ◌≤◌, Bool, true, false, List, [], ◌∷◌, refl, arith}
+use Rattle.std.proofs.Common.{◌≡◌, ◌+◌, ◌≤◌, Bool, true, false, List, [], ◌∷◌, refl, arith}
 use Rattle.rhai_lower.specs.Streams as S
 use Rattle.rhai_lower.specs.Streams.{Ask}
 use Rattle.rhai_lower.specs.declared.position.Position.{Position}

@@ -1,9 +1,8 @@
 -- What may be demanded of a stream, when demands are met along it, and when the next one is missed.
 use Rattle.std.specs.Prelude.{◌≡◌, ◌⊎◌, Bool, true, false, if◌then◌else◌}
 use Rattle.rhai_lower.specs.Lexemes.{Lexeme}
-use Rattle.rhai_lower.specs.declared.position.Position.{Position}
 use Rattle.rhai_grammar.specs.Causes.{Cause, Refusal, refusal}
-use Rattle.rhai_grammar.specs.Delivered.{Mode, code, Item, item, Point, next_at, past, is_memory}
+use Rattle.rhai_grammar.specs.Delivered.{Mode, code, Item, Point, next_at, past, is_memory}
 
 -- what a token says that stands where another is due
 pub data Verdict : Type 0 where
@@ -15,7 +14,6 @@ pub data Verdict : Type 0 where
   Otherwise : Verdict
 
 infixr 5 ◌▸◌
-
 pub data Demand : Type 0 where
   -- this token stands here, asked for in this mode; of other tokens some are refused
   Tok : Mode → Item → (others : Lexeme → Verdict) → Demand

@@ -1,9 +1,9 @@
 -- What may stand behind an operand, and how strongly operators bind.
-use Rattle.std.specs.Prelude.{◌≡◌, ℕ, Bool, true, false, Option, Some, None, ◌==◌, ◌||◌, ◌&&◌, nat_lt, not, if◌then◌else◌, codes, refl}
+use Rattle.std.specs.Prelude.{◌≡◌, ℕ, Bool, true, false, Option, Some, None, nat_lt, not, if◌then◌else◌, refl}
 use Rattle.rhai_lower.specs.Texts.{Text}
 use Rattle.rhai_lower.specs.Names.{is_identifier}
 use Rattle.rhai_lower.specs.Tokens.{strength_of, binds_right}
-use Rattle.rhai_lower.specs.Lexemes.{Lexeme, Integer, Reserved, Sign}
+use Rattle.rhai_lower.specs.Lexemes.{Lexeme, Reserved, Sign}
 use Rattle.rhai_lower.specs.declared.token.Token.{Token}
 use Rattle.rhai_lower.specs.declared.token.Token.TheVariants.{And, Or, DoubleQuestion, In, NotIn, ExclusiveRange, InclusiveRange, Plus, Multiply, PowerOf}
 

@@ -1,8 +1,8 @@
 -- The tree of a written form.
-use Rattle.std.specs.Prelude.{◌≡◌, pos, [], Some, None, false, codes, refl}
+use Rattle.std.specs.Prelude.{◌≡◌, pos, [], Some, None, false, refl}
 use Rattle.rhai_lower.specs.Positions.{place}
 use Rattle.rhai_lower.specs.Lexemes.{Lexeme, Sign, text_of}
-use Rattle.rhai_lower.specs.Nodes.{Called, Node, Nodes, integer, call, no_nodes, one_node}
+use Rattle.rhai_lower.specs.Nodes.{Called, Node, integer, call, no_nodes, one_node}
 use Rattle.rhai_lower.specs.declared.position.Position.{Position}
 use Rattle.rhai_lower.specs.declared.token.Token.TheVariants.{Plus}
 use Rattle.rhai_grammar.specs.Forms.{Operand, Number, Run, Just, Binary}

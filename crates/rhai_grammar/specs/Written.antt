@@ -1,12 +1,12 @@
 -- What each written form demands of the stream, before what stands behind it does.
-use Rattle.std.specs.Prelude.{Bool, true, false, if◌then◌else◌}
+use Rattle.std.specs.Prelude.{Bool, true, if◌then◌else◌}
 use Rattle.rhai_lower.specs.Lexemes.{Lexeme, Integer, Faulty, Sign, text_of}
 use Rattle.rhai_lower.specs.Nodes.{position_of}
 use Rattle.rhai_lower.specs.declared.position.Position.{Position}
 use Rattle.rhai_lower.specs.declared.token.Token.TheVariants.{EOF}
 use Rattle.rhai_grammar.specs.Causes as cause
 use Rattle.rhai_grammar.specs.Causes.{Cause, Refusal, refusal}
-use Rattle.rhai_grammar.specs.Delivered.{code, Item, item, is_end}
+use Rattle.rhai_grammar.specs.Delivered.{code, item, is_end}
 use Rattle.rhai_grammar.specs.Settings.{Settings, low, up}
 use Rattle.rhai_grammar.specs.Strengths.{Behind, Operator, Unknown, Other, behind_of, is_operator, left_of, right_of}
 use Rattle.rhai_grammar.specs.Forms.{Operand, Number, Run, Just, Binary}

@@ -1,22 +1,22 @@
 -- What is written so is read so.
 use Rattle.std.proofs.Common.{◌≡◌, ℕ, Bool, true, false, Option, Some, None, refl, sym, ap, ◌∙◌, subst, if◌then◌else◌}
-use Rattle.rhai_lower.specs.Lexemes.{Lexeme, Integer, Sign, Faulty, Name, Reserved, Comment, Character, String, Interpolated}
+use Rattle.rhai_lower.specs.Lexemes.{Lexeme, Integer, Faulty}
 use Rattle.rhai_lower.specs.Nodes.{Node, position_of}
 use Rattle.rhai_lower.specs.declared.position.Position.{Position}
 use Rattle.rhai_grammar.specs.Causes as cause
 use Rattle.rhai_grammar.specs.Causes.{Cause, Refusal, refusal}
 use Rattle.rhai_grammar.specs.Delivered.{code, Item, item, Point, next_at, past, is_memory, is_end}
 use Rattle.rhai_grammar.specs.Settings.{Settings, low, up}
-use Rattle.rhai_grammar.specs.Strengths.{Behind, Operator, Unknown, Other, behind_of, is_operator, strength, is_right, left_of, right_of}
+use Rattle.rhai_grammar.specs.Strengths.{Behind, Operator, Unknown, Other, behind_of, is_operator, strength, is_right}
 use Rattle.rhai_grammar.specs.Forms.{Operand, Number, Run, Just, Binary}
-use Rattle.rhai_grammar.specs.Trees.{operator_call, operand_tree, tree}
-use Rattle.rhai_grammar.specs.Demands.{Verdict, Fine, Wrong, Otherwise, Demands, Nothing, ◌▸◌, Tok, Next, Test, Shape, verdict, Met}
+use Rattle.rhai_grammar.specs.Trees.{operand_tree, tree}
+use Rattle.rhai_grammar.specs.Demands.{Verdict, Fine, Wrong, Otherwise, Demands, ◌▸◌, Next, verdict, Met}
 use Rattle.rhai_grammar.specs.Written as W
 use Rattle.rhai_grammar.specs.Written.{Height, Side, Outermost, RightOf, Spot, outermost, right_side, height_after, raise_behind, side_fits, left_fits, run_ends, operator_known, room_due, end_due}
-use Rattle.rhai_reading.specs.Reading.{Goal, Whole, Expression, Primary, NextOperator, BinaryOp, Prog, Ret, Fail, Peek, Take, Call, goes_on, next_operator_at, binary_at, binary_on, binary_next, raised, body}
-use Rattle.rhai_reading.specs.Histories.{State, Outcome, Done, Refused, Unfinished, Runs}
+use Rattle.rhai_reading.specs.Reading.{Goal, Whole, Expression, Primary, NextOperator, BinaryOp, Prog, Ret, Fail, goes_on, next_operator_at, binary_at, binary_on, binary_next, body}
+use Rattle.rhai_reading.specs.Histories.{Outcome, Done, Runs}
 use Rattle.rhai_reading.proofs.Rules.{at, runs_ret, runs_peek, runs_look, runs_take, runs_call, runs_tail, runs_then, runs_else}
-use Rattle.rhai_reading.proofs.Strengths.{Sensible, sensible, next_goes_on, right_is, left_is, left_down, outer, goes_operator, not_true}
+use Rattle.rhai_reading.proofs.Strengths.{sensible, next_goes_on, right_is, left_is, left_down, outer, not_true}
 
 -- A reader gives x, and leaves a point at which the demands k are met.
 pub record Goes {A : Type 0} (p : Prog A) (s : Point) (x : A) (k : Demands) (t : Point) : Type 0 where
@@ -170,7 +170,7 @@ step q op pos l r k p s t o is on stands R shut stop h b =
     let n = strength (behind_of op) in
     let agrees : Agrees n (RightOf op u) = λ m operator fits. right_is (behind_of op) (behind_of m) (sensible op) (sensible m) operator ∙ fits in
     let right : Runs (body (climb (begins (right_side op u) R.first) n R.first)) (at R.rest true) (Done (tree r) (at R.end true)) =
-        R.climbs shut n agrees (Done (tree r) (at R.end true)) (λ c. climb_stops (height_after (right_side op u) r) n (tree r) R.end c R.known_end stop) true in
+    R.climbs shut n agrees (Done (tree r) (at R.end true)) (λ c. climb_stops (height_after (right_side op u) r) n (tree r) R.end c R.known_end stop) true in
     goes u p (tree l) op pos s o stands is on
     (runs_take (item op pos) stands (operator_readable op is)
     (runs_call (Primary u.settings) _ (R.operand false)
@@ -197,8 +197,17 @@ run (Just x) q k s t m =
     let g = operand x q.first _ s t m in
     let e = entering q.side k g.0 t g.1.1 in
     record {
-      first = operand_tree x; rest = g.0; end = g.0; met = e.1; operand = g.2; known_rest = g.1.0; known_end = g.1.0; entered = e.0; top = tt;
-      shut = λ o is h. tt; climbs = λ h p a o r. r;
+      first = operand_tree x;
+      rest = g.0;
+      end = g.0;
+      met = e.1;
+      operand = g.2;
+      known_rest = g.1.0;
+      known_end = g.1.0;
+      entered = e.0;
+      top = tt;
+      shut = λ o is h. tt;
+      climbs = λ h p a o r. r;
     }
 run (Binary op pos l r) q k s t m =
     let u = height_after q l in
@@ -209,7 +218,15 @@ run (Binary op pos l r) q k s t m =
     let stands = L.met.1.1.1.0 in
     let R = run r (right_side op u) k (past code L.end) t L.met.1.1.1.1 in
     record {
-      first = L.first; rest = L.rest; end = R.end; met = R.met; operand = L.operand; known_rest = L.known_rest; known_end = R.known_end; entered = L.entered; top = side;
+      first = L.first;
+      rest = L.rest;
+      end = R.end;
+      met = R.met;
+      operand = L.operand;
+      known_rest = L.known_rest;
+      known_end = R.known_end;
+      entered = L.entered;
+      top = side;
       shut = λ o other h. shut_left op pos l r o other (R.shut o other (down o op u pos l r h R.top)) h;
       climbs = λ h p a o next. L.climbs (subst (λ (i : Item). Shut l (behind_of i.lexeme)) (sym stands) (L.shut op is left)) p a o (step q op pos l r k p L.end t o is (a op is side) stands R h.1 h.0 next);
     }
@@ -241,4 +258,4 @@ complete c f s t b m =
     let e = expression f c _ s t m in
     let end = fine end_due (next_at code e.end).lexeme e.met.0 in
     runs_call (Expression c) _ (e.runs b) (runs_look end.0 (runs_then _ (room_fine (is_end (next_at code e.end).lexeme) _ end.1)
-        (subst (λ w. Runs (Ret (tree f)) (at e.end true) (Done (tree f) (at w true))) e.met.1 (runs_ret (tree f) (at e.end true)))))
+    (subst (λ w. Runs (Ret (tree f)) (at e.end true) (Done (tree f) (at w true))) e.met.1 (runs_ret (tree f) (at e.end true)))))

@@ -2,9 +2,8 @@
 use Rattle.std.proofs.Common.{◌≡◌, ℕ, zero, suc, Bool, true, false, List, [], ◌∷◌, ◌++◌, refl, sym, ap, ◌∙◌, subst, if◌then◌else◌}
 use Rattle.rhai_lower.specs.Lexemes.{Lexeme}
 use Rattle.rhai_lower.specs.declared.position.Position.{Position}
-use Rattle.rhai_grammar.specs.Causes.{Refusal, out_of_memory}
-use Rattle.rhai_grammar.specs.Delivered.{Mode, code, Item, Tokens, Taken, Point, ask, later, is_memory}
-use Rattle.rhai_grammar.specs.Cursors.{Cursor}
+use Rattle.rhai_grammar.specs.Causes.{out_of_memory}
+use Rattle.rhai_grammar.specs.Delivered.{code, Item, Tokens, Taken, Point, ask, later, is_memory}
 use Rattle.rhai_grammar.specs.Seen.{Gives, leads, BeginsWith, latest_first}
 use Rattle.rhai_reading.specs.Reading.{Goal, Val, Prog, Ret, Fail, Peek, Take, Call, body}
 use Rattle.rhai_reading.specs.Histories.{State, asked, looking, taking, Outcome, Done, Refused, Unfinished, and_then, exec, calls}
@@ -88,9 +87,9 @@ join first k x s u t make a b = record {
       let rest : BeginsWith b.took (cursor t) (leads a.took tokens) = (part, λ p. ap (ask t.mode) (sym (leads_on a.took b.took tokens)) ∙ begins.1 p) in
       let seen : BeginsWith a.took (cursor u) tokens = (first_part a.took b.took tokens begins.0, λ p. front b.took u t (leads a.took tokens) b.gives b.left (b.stays p) rest) in
       let end : reach b.took t (reach a.took u r) ≡ reach (a.took ++ b.took) t r =
-        ap (λ (q : Point). record { point = q; mode = t.mode; peeked = t.peeked })
-        (ap (λ w. record { tokens = w; taken = latest_first b.took (latest_first a.took r.point.taken) }) (sym (leads_on a.took b.took tokens))
-        ∙ ap (λ w. record { tokens = leads (a.took ++ b.took) tokens; taken = w }) (sym (latest_on a.took b.took r.point.taken))) in
+      ap (λ (q : Point). record { point = q; mode = t.mode; peeked = t.peeked })
+      (ap (λ w. record { tokens = w; taken = latest_first b.took (latest_first a.took r.point.taken) }) (sym (leads_on a.took b.took tokens))
+      ∙ ap (λ w. record { tokens = leads (a.took ++ b.took) tokens; taken = w }) (sym (latest_on a.took b.took r.point.taken))) in
       ap (λ o. and_then o k) (a.again r mode peeked seen) ∙ b.again (reach a.took u r) refl refl rest ∙ ap make end;
 }
 
@@ -108,7 +107,11 @@ bind_keeps first k s Unfinished a b = tt
 
 stand : {A : Type 0} (run : State → Outcome A) (s : State) (make : State → Outcome A) → ((r : State) → run r ≡ make r) → Kept run s s make
 stand run s make same = record {
-  took = []; gives = tt; left = refl; history = refl; stays = λ p. (p, refl);
+  took = [];
+  gives = tt;
+  left = refl;
+  history = refl;
+  stays = λ p. (p, refl);
   again = λ r mode peeked begins. same r ∙ ap make (ap (λ m. record { point = r.point; mode = m; peeked = r.peeked }) mode ∙ ap (λ b. record { point = r.point; mode = s.mode; peeked = b }) peeked);
 }
 
@@ -118,7 +121,11 @@ stays_looking (k ∷ took) s t h = h
 
 look : {A : Type 0} (run : Item → State → Outcome A) (s t : State) (make : State → Outcome A) → Kept (run (asked s)) (looking s) t make → Kept (λ w. run (asked w) (looking w)) s t make
 look run s t make a = record {
-  took = a.took; gives = a.gives; left = a.left; history = a.history; stays = λ p. stays_looking a.took s t (a.stays refl);
+  took = a.took;
+  gives = a.gives;
+  left = a.left;
+  history = a.history;
+  stays = λ p. stays_looking a.took s t (a.stays refl);
   again = λ r mode peeked begins.
       let same : asked r ≡ asked s = ap (λ m. ask m r.point.tokens) mode ∙ front a.took (looking s) t r.point.tokens a.gives a.left (a.stays refl) begins in
       ap (λ i. run i (looking r)) same ∙ a.again (looking r) mode refl begins;
@@ -147,11 +154,15 @@ unfolding took_state
 take run s t make a =
     let k : Taken = record { mode = s.mode; item = asked s } in
     record {
-      took = k ∷ a.took; gives = (refl, a.gives); left = a.left; history = a.history; stays = λ p. refl;
+      took = k ∷ a.took;
+      gives = (refl, a.gives);
+      left = a.left;
+      history = a.history;
+      stays = λ p. refl;
       again = λ r mode peeked begins.
           let one : taking r ≡ took_state k r =
-            ap (λ m. record { point = record { tokens = later m r.point.tokens; taken = record { mode = m; item = ask m r.point.tokens } ∷ r.point.taken }; mode = code; peeked = false }) mode
-            ∙ ap (λ (i : Item). record { point = record { tokens = later s.mode r.point.tokens; taken = record { mode = s.mode; item = i } ∷ r.point.taken }; mode = code; peeked = false }) begins.0.0 in
+          ap (λ m. record { point = record { tokens = later m r.point.tokens; taken = record { mode = m; item = ask m r.point.tokens } ∷ r.point.taken }; mode = code; peeked = false }) mode
+          ∙ ap (λ (i : Item). record { point = record { tokens = later s.mode r.point.tokens; taken = record { mode = s.mode; item = i } ∷ r.point.taken }; mode = code; peeked = false }) begins.0.0 in
           ap run one ∙ a.again (took_state k r) refl refl (begins.0.1, begins.1);
     }
 

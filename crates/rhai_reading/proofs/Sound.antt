@@ -1,5 +1,5 @@
 -- What is read is written so, and what is refused is what a form misses.
-use Rattle.std.proofs.Common.{◌≡◌, ℕ, zero, suc, Bool, true, false, Option, Some, None, refl, sym, ap, ◌∙◌, subst, ◌⊎◌, inl, inr, if◌then◌else◌}
+use Rattle.std.proofs.Common.{◌≡◌, ℕ, zero, suc, Bool, true, false, refl, sym, ap, ◌∙◌, subst, inl, inr, if◌then◌else◌}
 use Rattle.rhai_lower.specs.Positions.{nowhere}
 use Rattle.rhai_lower.specs.Lexemes.{Lexeme, Integer, Sign}
 use Rattle.rhai_lower.specs.Nodes.{Node, position_of}
@@ -7,12 +7,12 @@ use Rattle.rhai_lower.specs.declared.position.Position.{Position}
 use Rattle.rhai_lower.specs.declared.token.Token.TheVariants.{EOF}
 use Rattle.rhai_grammar.specs.Causes as cause
 use Rattle.rhai_grammar.specs.Causes.{Cause, Refusal, refusal, out_of_memory, is_memory_cause}
-use Rattle.rhai_grammar.specs.Delivered.{code, Item, item, Point, next_at, past, is_memory, is_end}
+use Rattle.rhai_grammar.specs.Delivered.{code, item, Point, next_at, past, is_memory, is_end}
 use Rattle.rhai_grammar.specs.Seen.{StandsAtLast}
 use Rattle.rhai_grammar.specs.Settings.{Settings, low, up}
-use Rattle.rhai_grammar.specs.Strengths.{Behind, Operator, Unknown, Other, behind_of, is_operator, strength, left_of, right_of}
+use Rattle.rhai_grammar.specs.Strengths.{Behind, Operator, Unknown, Other, behind_of, is_operator, strength}
 use Rattle.rhai_grammar.specs.Forms.{Operand, Number, Run, Just, Binary}
-use Rattle.rhai_grammar.specs.Trees.{operator_call, operand_tree, tree}
+use Rattle.rhai_grammar.specs.Trees.{operand_tree, tree}
 use Rattle.rhai_grammar.specs.Demands as D
 use Rattle.rhai_grammar.specs.Demands.{Verdict, Fine, Wrong, Otherwise, Demands, Nothing, ◌▸◌, Tok, Next, Test, Shape, verdict, Met, Missed}
 use Rattle.rhai_grammar.specs.Written as W
@@ -22,7 +22,7 @@ use Rattle.rhai_reading.specs.Histories.{State, Outcome, Done, Refused, Unfinish
 use Rattle.rhai_reading.proofs.Joins.{cursor}
 use Rattle.rhai_reading.proofs.Rules.{at}
 use Rattle.rhai_reading.proofs.Strengths.{Sensible, sensible, next_goes_on, right_is, left_is, outer, goes_operator, true_not}
-use Rattle.rhai_reading.proofs.Complete.{behind_at, operator_in, climb, fine, operator_readable}
+use Rattle.rhai_reading.proofs.Complete.{behind_at, operator_in, climb, fine}
 
 -- ---- what is shown of a run
 
@@ -232,14 +232,14 @@ right_run n ih q from s L p h suits x t b px known =
     test (calls n) (RunRead q p from) (Halts (run_of q) from) (low u.settings) deep _ (at t b)
     (λ high. record { form = Binary (op_at s) (pos_at s) L (Just x); stops = stops_behind q from s L (Just x) deep t h (λ k. px.missed _ deep _ (inr (known, inl (high, refl, refl)))); last = λ w. absurd cc })
     (λ below. bind (RunRead q2 m (past code s)) (Halts (run_of q2) (past code s)) (RunRead q p from) (Halts (run_of q) from) _ (calls n (BinaryOp (up u.settings) (position_of (operand_tree x)) m (operand_tree x)) (at t b))
-        (ih (BinaryOp (up u.settings) (position_of (operand_tree x)) m (operand_tree x)) t b q2 (past code s) (Just x) refl refl
-            (λ l on. sym (right_is (behind_at s) (behind_of l) (sensible (op_at s)) (sensible l) (goes_operator m (behind_of l) on)) ∙ on) tt
-            (record {
-              passes = λ z. record { met = λ k v m. px.met _ v (known, (below, m)); missed = λ k d v m. px.missed _ d _ (inr (known, inr (below, m))) };
-              stops = λ e r. no_symbol t e _ known r;
-            }))
-        (λ e w halts. record { form = Binary (op_at s) (pos_at s) L halts.form; stops = stops_behind q from s L halts.form e w.point h halts.stops; last = halts.last })
-        (λ rhs w c R. after_right n ih q from s L p h suits rhs w c R))
+    (ih (BinaryOp (up u.settings) (position_of (operand_tree x)) m (operand_tree x)) t b q2 (past code s) (Just x) refl refl
+    (λ l on. sym (right_is (behind_at s) (behind_of l) (sensible (op_at s)) (sensible l) (goes_operator m (behind_of l) on)) ∙ on) tt
+    (record {
+      passes = λ z. record { met = λ k v m. px.met _ v (known, (below, m)); missed = λ k d v m. px.missed _ d _ (inr (known, inr (below, m))) };
+      stops = λ e r. no_symbol t e _ known r;
+    }))
+    (λ e w halts. record { form = Binary (op_at s) (pos_at s) L halts.form; stops = stops_behind q from s L halts.form e w.point h halts.stops; last = halts.last })
+    (λ rhs w c R. after_right n ih q from s L p h suits rhs w c R))
 
 -- behind an operator that goes on
 run_on : (n : ℕ) → AllSound n → (q : Spot) (from s : Point) (L : Run) (p : ℕ) (b : Bool) → Behinds q from L s → Suits p q.side
@@ -249,11 +249,11 @@ run_on n ih q from s L p b h suits =
     let right = binary_right u.settings u.at p (tree L) (strength (behind_at s)) (op_at s) (pos_at s) in
     take (calls n) (RunRead q p from) (Halts (run_of q) from) (Call (Primary u.settings) right) s b
     (bind (Read operand_tree (operand_of u.settings) (past code s)) (Halts (operand_of u.settings) (past code s)) (RunRead q p from) (Halts (run_of q) from) (λ v w. exec (calls n) (right v) w) (calls n (Primary u.settings) (at (past code s) false)) (ih (Primary u.settings) (past code s) false)
-        (λ e t halts. record { form = Binary (op_at s) (pos_at s) L (Just halts.form); stops = stops_behind q from s L (Just halts.form) e t.point h (λ k. halts.stops _); last = halts.last })
-        (λ x t c R. subst (λ y. RunEnsures q p from (exec (calls n) (right y) (at t c))) R.is
-            (bind (λ v w. (w ≡ t) × (v ≡ operator_in (behind_at t)) × Known t) (λ e w. D.Refused operator_known (next_at code t) e × (w.point ≡ t) × StandsAtLast e (cursor w)) (RunRead q p from) (Halts (run_of q) from) (λ v w. exec (calls n) (raised u.settings u.at (λ d. Call (BinaryOp d (position_of (operand_tree R.form)) (strength (behind_at s)) (operand_tree R.form)) (binary_next d p (tree L) (op_at s) (pos_at s)))) w) (calls n NextOperator (at t c)) (ih NextOperator t c)
-                (λ e w r. record { form = Binary (op_at s) (pos_at s) L (Just R.form); stops = stops_behind q from s L (Just R.form) e w.point h (λ k. R.passes.missed _ e _ (inl (r.0, r.1))); last = r.2 })
-                (λ v w d r. right_run n ih q from s L p h suits R.form w d (subst (Passes (past code s) (operand_of u.settings R.form)) (sym r.0) R.passes) (subst Known (sym r.0) r.2)))))
+    (λ e t halts. record { form = Binary (op_at s) (pos_at s) L (Just halts.form); stops = stops_behind q from s L (Just halts.form) e t.point h (λ k. halts.stops _); last = halts.last })
+    (λ x t c R. subst (λ y. RunEnsures q p from (exec (calls n) (right y) (at t c))) R.is
+    (bind (λ v w. (w ≡ t) × (v ≡ operator_in (behind_at t)) × Known t) (λ e w. D.Refused operator_known (next_at code t) e × (w.point ≡ t) × StandsAtLast e (cursor w)) (RunRead q p from) (Halts (run_of q) from) (λ v w. exec (calls n) (raised u.settings u.at (λ d. Call (BinaryOp d (position_of (operand_tree R.form)) (strength (behind_at s)) (operand_tree R.form)) (binary_next d p (tree L) (op_at s) (pos_at s)))) w) (calls n NextOperator (at t c)) (ih NextOperator t c)
+    (λ e w r. record { form = Binary (op_at s) (pos_at s) L (Just R.form); stops = stops_behind q from s L (Just R.form) e w.point h (λ k. R.passes.missed _ e _ (inl (r.0, r.1))); last = r.2 })
+    (λ v w d r. right_run n ih q from s L p h suits R.form w d (subst (Passes (past code s) (operand_of u.settings R.form)) (sym r.0) R.passes) (subst Known (sym r.0) r.2)))))
 
 -- what stands behind a run goes on with it, or does not
 run_at : (n : ℕ) → AllSound n → (q : Spot) (from s : Point) (L : Run) (p : ℕ) (b : Bool) (v : Behind) → behind_at s ≡ v → Known s → Suits p q.side → Ended L (behind_at s) → Stands q from L s
@@ -280,8 +280,8 @@ run_from n ih q from s L p b suits ended stands =
     (λ v t. exec (calls n) (binary_at u.settings u.at p (tree L) v) t) (calls n NextOperator (at s b)) (ih NextOperator s b)
     (λ e t r. record { form = L; stops = subst (Stops from (run_of q L) e) (sym r.1) (stands.stops e r.0); last = r.2 })
     (λ v t c r. subst (λ w. RunEnsures q p from (exec (calls n) (binary_at u.settings u.at p (tree L) v) (at w c))) (sym r.0)
-        (subst (λ w. RunEnsures q p from (exec (calls n) (binary_at u.settings u.at p (tree L) w) (at s c))) (sym r.1)
-        (run_at n ih q from s L p c (behind_at s) refl r.2 suits ended stands)))
+    (subst (λ w. RunEnsures q p from (exec (calls n) (binary_at u.settings u.at p (tree L) w) (at s c))) (sym r.1)
+    (run_at n ih q from s L p c (behind_at s) refl r.2 suits ended stands)))
 
 sound_binary : (n : ℕ) → AllSound n → (c : Settings) (pos : Position) (p : ℕ) (lhs : Node) (s : Point) (b : Bool) → Sound (BinaryOp c pos p lhs) s (exec (calls n) (body (BinaryOp c pos p lhs)) (at s b))
 sound_binary n ih c pos p lhs s b = λ q from L is height suits ended stands.
@@ -319,20 +319,20 @@ sound_expression n ih c s b =
     let N = Halts (expression_of c) s in
     look (calls n) Q N (λ l at. raised c at (λ d. Call (Primary d) (λ lhs. Call (BinaryOp d (position_of lhs) 1 lhs) (λ x. Ret x)))) s b (λ m.
     test (calls n) Q N (low c) (refusal cause.ExprTooDeep pos) (Call (Primary d) (λ lhs. Call (BinaryOp d (position_of lhs) 1 lhs) (λ x. Ret x))) (at s true)
-        (λ high. record { form = any_run; stops = λ k. inl (refused_at (room_due c) s cause.ExprTooDeep m (room_is c s false high), refl); last = λ w. (refl, refl) })
-        (λ below.
-            let room = wrong (room_due c) (op_at s) Fine m (room_is c s true below) in
-            bind (Read operand_tree (operand_of d) s) (Halts (operand_of d) s) Q N (λ lhs t. exec (calls n) (Call (BinaryOp d (position_of lhs) 1 lhs) (λ x. Ret x)) t) (calls n (Primary d) (at s true)) (ih (Primary d) s true)
-            (λ e t halts. record { form = Just halts.form; stops = λ k. inr (room, halts.stops _); last = halts.last })
-            (λ x t a R. subst (λ y. Ensures Q N (exec (calls n) (Call (BinaryOp d (position_of y) 1 y) (λ x. Ret x)) (at t a))) R.is
-                (bind (RunRead (outermost d) 1 s) (Halts (run_of (outermost d)) s) Q N (λ x t. Done x t) (calls n (BinaryOp d (position_of (operand_tree R.form)) 1 (operand_tree R.form)) (at t a))
-                    (ih (BinaryOp d (position_of (operand_tree R.form)) 1 (operand_tree R.form)) t a (outermost d) s (Just R.form) refl refl (λ l e. refl) tt
-                        (record {
-                          passes = λ known. record { met = λ k v m. R.passes.met _ v (known, m); missed = λ k e v m. R.passes.missed _ e _ (inr (known, m)) };
-                          stops = λ e r k. R.passes.missed _ e _ (inl (r, refl));
-                        }))
-                    (λ e t halts. record { form = halts.form; stops = λ k. inr (room, halts.stops _); last = halts.last })
-                    (λ y u c2 W. (refl, run_ended c s room y u W))))))
+    (λ high. record { form = any_run; stops = λ k. inl (refused_at (room_due c) s cause.ExprTooDeep m (room_is c s false high), refl); last = λ w. (refl, refl) })
+    (λ below.
+    let room = wrong (room_due c) (op_at s) Fine m (room_is c s true below) in
+    bind (Read operand_tree (operand_of d) s) (Halts (operand_of d) s) Q N (λ lhs t. exec (calls n) (Call (BinaryOp d (position_of lhs) 1 lhs) (λ x. Ret x)) t) (calls n (Primary d) (at s true)) (ih (Primary d) s true)
+    (λ e t halts. record { form = Just halts.form; stops = λ k. inr (room, halts.stops _); last = halts.last })
+    (λ x t a R. subst (λ y. Ensures Q N (exec (calls n) (Call (BinaryOp d (position_of y) 1 y) (λ x. Ret x)) (at t a))) R.is
+    (bind (RunRead (outermost d) 1 s) (Halts (run_of (outermost d)) s) Q N (λ x t. Done x t) (calls n (BinaryOp d (position_of (operand_tree R.form)) 1 (operand_tree R.form)) (at t a))
+    (ih (BinaryOp d (position_of (operand_tree R.form)) 1 (operand_tree R.form)) t a (outermost d) s (Just R.form) refl refl (λ l e. refl) tt
+    (record {
+      passes = λ known. record { met = λ k v m. R.passes.met _ v (known, m); missed = λ k e v m. R.passes.missed _ e _ (inr (known, m)) };
+      stops = λ e r k. R.passes.missed _ e _ (inl (r, refl));
+    }))
+    (λ e t halts. record { form = halts.form; stops = λ k. inr (room, halts.stops _); last = halts.last })
+    (λ y u c2 W. (refl, run_ended c s room y u W))))))
 
 -- ---- the whole
 
@@ -352,10 +352,10 @@ sound_whole n ih c s b =
     bind (Read tree (expression_of c) s) (Halts (expression_of c) s) Q N (λ e t. exec (calls n) (Peek (whole_at e)) t) (calls n (Expression c) (at s b)) (ih (Expression c) s b)
     (λ e t halts. (halts.form, halts.stops _, halts.last))
     (λ x t a R. subst (λ y. Ensures Q N (exec (calls n) (Peek (whole_at y)) (at t a))) R.is
-        (look (calls n) Q N (whole_at (tree R.form)) t a (λ m.
-        test (calls n) Q N (is_end (op_at t)) (refusal (unexpected (op_at t)) (pos_at t)) (Ret (tree R.form)) (at t true)
-            (λ rest. (R.form, R.passes.missed _ _ _ (inl (refused_at end_due t (unexpected (op_at t)) m (end_is t false rest), refl)), λ w. (refl, refl)))
-            (λ end. (refl, (R.form, refl, R.passes.met _ t (wrong end_due (op_at t) Fine m (end_is t true end), refl)))))))
+    (look (calls n) Q N (whole_at (tree R.form)) t a (λ m.
+    test (calls n) Q N (is_end (op_at t)) (refusal (unexpected (op_at t)) (pos_at t)) (Ret (tree R.form)) (at t true)
+    (λ rest. (R.form, R.passes.missed _ _ _ (inl (refused_at end_due t (unexpected (op_at t)) m (end_is t false rest), refl)), λ w. (refl, refl)))
+    (λ end. (refl, (R.form, refl, R.passes.met _ t (wrong end_due (op_at t) Fine m (end_is t true end), refl)))))))
 
 pub sound : (n : ℕ) → AllSound n
 sound zero (Whole c) s b = tt

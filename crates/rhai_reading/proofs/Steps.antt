@@ -1,5 +1,5 @@
 -- One equation for each reader, and what the guard of calls comes to.
-use Rattle.std.proofs.Common.{◌≡◌, ℕ, zero, suc, ◌+◌, ◌*◌, ◌<◌, ◌≤◌, Bool, true, false, refl, sym, ap, ◌∙◌, arith, nat_lt, if◌then◌else◌}
+use Rattle.std.proofs.Common.{◌≡◌, ℕ, zero, suc, ◌<◌, Bool, true, false, refl, sym, ap, ◌∙◌, arith, nat_lt, if◌then◌else◌}
 use Rattle.std.proofs.lemmas.Bool.{ltb-true, lt-ltb}
 use Rattle.rhai_lower.specs.Nodes.{Node}
 use Rattle.rhai_lower.specs.declared.position.Position.{Position}
@@ -17,9 +17,9 @@ only_less_same : (P Q : Caller) (g : Goal) (s : Cursor) → ((h : Goal) (t : Cur
 unfolding only_less
 only_less_same P Q g s f h t = chosen (nat_lt (need h t) (need g s)) (λ w. f h t (ltb-true (need h t) (need g s) w))
   where
-  chosen : (b : Bool) → (b ≡ true → P h t ≡ Q h t) → (if b then P h t else Unfinished) ≡ (if b then Q h t else Unfinished)
-  chosen true e = e refl
-  chosen false e = refl
+    chosen : (b : Bool) → (b ≡ true → P h t ≡ Q h t) → (if b then P h t else Unfinished) ≡ (if b then Q h t else Unfinished)
+    chosen true e = e refl
+    chosen false e = refl
 
 level_same : (n m : ℕ) (g : Goal) (s : Cursor) → need g s < n → need g s < m → level n g s ≡ level m g s
 unfolding level
@@ -27,7 +27,7 @@ level_same zero m g s p q = absurd (omega arith)
 level_same (suc n) zero g s p q = absurd (omega arith)
 level_same (suc n) (suc m) g s p q =
     let e : (h : Goal) (t : Cursor) → only_less (level n) g s h t ≡ only_less (level m) g s h t =
-      only_less_same (level n) (level m) g s (λ h t less. level_same n m h t (omega arith) (omega arith)) in
+    only_less_same (level n) (level m) g s (λ h t less. level_same n m h t (omega arith) (omega arith)) in
     λ i. exec (λ h t. e h t i) (body g) s
 
 -- what a reader does is what its rule says
@@ -35,7 +35,7 @@ pub run_step : (g : Goal) (s : Cursor) → run g s ≡ exec (guarded g s) (body 
 unfolding run level guarded
 run_step g s =
     let e : (h : Goal) (t : Cursor) → only_less (level (need g s)) g s h t ≡ only_less run g s h t =
-      only_less_same (level (need g s)) run g s (λ h t less. level_same (need g s) (suc (need h t)) h t (omega arith) (omega arith)) in
+    only_less_same (level (need g s)) run g s (λ h t less. level_same (need g s) (suc (need h t)) h t (omega arith) (omega arith)) in
     λ i. exec (λ h t. e h t i) (body g) s
 
 -- a call where less is left is the reader

@@ -1,6 +1,5 @@
 -- What the reader does, with the tokens that it took: what the laws about it speak of.
 use Rattle.std.specs.Prelude.{◌≡◌, ℕ, zero, suc, ◌≤◌, Bool, true, false, if◌then◌else◌}
-use Rattle.rhai_lower.specs.Lexemes.{Lexeme}
 use Rattle.rhai_grammar.specs.Causes.{Refusal, out_of_memory}
 use Rattle.rhai_grammar.specs.Delivered.{Mode, code, Item, Point, next_at, past, is_memory}
 use Rattle.rhai_reading.specs.Reading.{Goal, Val, Prog, Ret, Fail, Peek, Take, Call, body}

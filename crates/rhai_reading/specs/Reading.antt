@@ -1,5 +1,5 @@
 -- The reader as a program that asks a stream. It stands between the code and the definitions: no public promise speaks of it.
-use Rattle.std.specs.Prelude.{ℕ, Bool, true, false, Option, Some, None, ◌==◌, ◌||◌, ◌&&◌, nat_lt, if◌then◌else◌}
+use Rattle.std.specs.Prelude.{ℕ, Bool, Option, Some, None, ◌==◌, ◌||◌, ◌&&◌, nat_lt, if◌then◌else◌}
 use Rattle.rhai_lower.specs.Lexemes.{Lexeme, Integer, Sign}
 use Rattle.rhai_lower.specs.Nodes.{Node, integer, position_of}
 use Rattle.rhai_lower.specs.declared.position.Position.{Position}
