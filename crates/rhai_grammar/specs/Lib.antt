@@ -8,3 +8,4 @@ pub mod Forms
 pub mod Trees
 pub mod Demands
 pub mod Written
+pub mod Promises

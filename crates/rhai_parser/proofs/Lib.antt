@@ -1,2 +1,3 @@
 pub mod OperatorLemmas
 pub mod OperandLemmas
+pub mod PromiseLemmas

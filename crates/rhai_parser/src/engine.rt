@@ -2,19 +2,22 @@
 
 ghost use Rattle.std.specs.Prelude.{◌≡◌, ◌==◌};
 ghost use Rattle.std.specs.Int.RustNames.{bit_and};
-ghost use Rattle.std.specs.Fn.{FnOnceTakesAtMut};
+ghost use Rattle.std.specs.Fn.{FnOnceReturnsAtMut, FnOnceTakesAtMut};
 ghost use Rattle.rhai_lower.specs.View.{view};
 ghost use Rattle.rhai_grammar.specs.Cursors.{cursor_of};
+ghost use Rattle.rhai_grammar.specs.Delivered.{code};
+ghost use Rattle.rhai_grammar.specs.Promises.{Accepts, ReadsExpression};
 ghost use Rattle.rhai_base.specs.Settings.{settings_of};
-ghost use Rattle.rhai_reading.specs.Reading.{Whole};
-ghost use Rattle.rhai_reading.specs.Running.{Gives, run};
+ghost use Rattle.rhai_base.specs.States.{IsFresh};
 ghost use Rattle.rhai_parser.specs.Engines.{fresh_engine, with_bits, expr_settings};
 
 use crate::shared::Shared;
 use bitflags::Flags;
 use rhai_base::{LangOptions, ParseSettingFlags, ParseSettings, ParseState};
 use rhai_grammar::ParseResult;
-use rhai_lower::{AST, Expr, OptimizationLevel, Position, Stmt, TokenStream, optimize_into_ast};
+use rhai_lower::{
+    AST, Expr, OptimizationLevel, Position, Scope, Stmt, TokenStream, optimize_into_ast,
+};
 use std::alloc::Global;
 use std::marker::Model;
 
@@ -187,12 +190,51 @@ impl Engine {
         self.max_map_size = size;
     }
 
-    // Reads the expression that a whole stream is.
-    fn read_expr(&self, input: &mut TokenStream, settings: ParseSettings) -> ParseResult<Expr>
-        ensures gives { Gives view (run (Whole (settings_of settings)) (cursor_of input.old)) result (cursor_of input.new) }
+    // The settings that one expression is read under, before the caller changes them.
+    fn expr_settings(&self) -> ParseSettings
+        ensures { result ≡ expr_settings self.now }
+    {
+        ParseSettings {
+            flags: ParseSettingFlags::GLOBAL_LEVEL
+                | ParseSettingFlags::DISALLOW_STATEMENTS_IN_BLOCKS,
+            options: self.options - LangOptions::STMT_EXPR - LangOptions::LOOP_EXPR,
+            level: 0,
+            pos: Position::START,
+            max_expr_depth: self.max_expr_depth,
+        }
+    }
+
+    // The script of one expression, as the optimizer makes it.
+    fn make_script(
+        &self,
+        expr: Expr,
+        constants: Option<&Scope>,
+        level: OptimizationLevel,
+    ) -> ParseResult<AST>
+        ensures { Accepts (view expr) result }
+    {
+        let statement = Stmt::Expr(Box::new(self.alloc, expr)?);
+        let statements = vec![in self.alloc; statement]?;
+        let functions = Vec::new(self.alloc);
+        Ok(optimize_into_ast(self.alloc, constants, statements, functions, level)?)
+    }
+
+    // Reads the script of one expression that a whole stream is.
+    #[tactic(auto, using(crate::proofs::PromiseLemmas::reads_done, crate::proofs::PromiseLemmas::reads_fails))]
+    fn read_script(
+        &self,
+        input: &mut TokenStream,
+        settings: ParseSettings,
+        constants: Option<&Scope>,
+        level: OptimizationLevel,
+    ) -> ParseResult<AST>
+        ensures reads { (cursor_of input.old).mode ≡ code → ReadsExpression (settings_of settings) (cursor_of input.old) (cursor_of input.new) result }
     {
         let mut shared = Shared { input };
-        self.parse_whole_expr(&mut shared, settings)
+        match self.parse_whole_expr(&mut shared, settings) {
+            Ok(expr) => self.make_script(expr, constants, level),
+            Err(error) => Err(error),
+        }
     }
 
     /// Reads the script of one expression that the whole stream is, up to its end mark, and hands its tree to the optimizer
@@ -211,16 +253,10 @@ impl Engine {
         level: OptimizationLevel,
     ) -> ParseResult<AST>
         requires { FnOnceTakesAtMut F.FnOnce settings (expr_settings self.now) }
+        ensures reads { IsFresh state.entry → (chosen : _) × FnOnceReturnsAtMut F.FnOnce settings (expr_settings self.now) tt chosen × ReadsExpression (settings_of chosen) (cursor_of state.entry.input.now) (cursor_of state.exit.0.now) result }
         ensures library { state.exit.1.0.now ≡ state.entry.lib.now }
     {
-        let mut chosen = ParseSettings {
-            flags: ParseSettingFlags::GLOBAL_LEVEL
-                | ParseSettingFlags::DISALLOW_STATEMENTS_IN_BLOCKS,
-            options: self.options - LangOptions::STMT_EXPR - LangOptions::LOOP_EXPR,
-            level: 0,
-            pos: Position::START,
-            max_expr_depth: self.max_expr_depth,
-        };
+        let mut chosen = self.expr_settings();
         settings(&mut chosen);
         let ParseState {
             input,
@@ -235,10 +271,6 @@ impl Engine {
             imports: _,
             global_imports: _,
         } = state;
-        let expr = self.read_expr(input, chosen)?;
-        let statement = Stmt::Expr(Box::new(self.alloc, expr)?);
-        let statements = vec![in self.alloc; statement]?;
-        let functions = Vec::new(self.alloc);
-        Ok(optimize_into_ast(self.alloc, external_constants, statements, functions, level)?)
+        self.read_script(input, chosen, external_constants, level)
     }
 }

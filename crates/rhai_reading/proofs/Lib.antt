@@ -6,3 +6,4 @@ pub mod Complete
 pub mod Local
 pub mod Readable
 pub mod Sound
+pub mod Main

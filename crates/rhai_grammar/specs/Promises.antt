@@ -1,0 +1,85 @@
+-- What the parser promises of a stream that it reads, in terms of the written forms alone.
+use Rattle.std.specs.Prelude.{◌≡◌, Bool, true, false, List, [], ◌∷◌, Result, Ok, Err, IfOk, IfErr, box_value}
+use Rattle.rhai_lower.specs.Nodes.{Node}
+use Rattle.rhai_lower.specs.View.{view}
+use Rattle.rhai_lower.specs.declared.ast.AST.{AST}
+use Rattle.rhai_lower.specs.declared.ast.Stmt.{Stmt}
+use Rattle.rhai_lower.specs.declared.ast.Stmt.TheVariants as statement
+use Rattle.rhai_grammar.specs.Causes.{Refusal, refusal_of, is_for_memory}
+use Rattle.rhai_grammar.specs.Delivered.{Tokens, Taken, Point, is_memory}
+use Rattle.rhai_grammar.specs.Cursors.{Cursor, asked}
+use Rattle.rhai_grammar.specs.Seen.{Gives, leads, latest_first, BeginsWith, Readable, StandsAtLast}
+use Rattle.rhai_grammar.specs.Settings.{Settings}
+use Rattle.rhai_grammar.specs.Forms.{Run}
+use Rattle.rhai_grammar.specs.Trees.{tree}
+use Rattle.rhai_grammar.specs.Demands.{Met, Missed}
+use Rattle.rhai_grammar.specs.Written.{whole_expression}
+use Rattle.rhai_grammar.specs.declared.error.ParseError.{ParseError}
+
+-- where a stream is read from
+abbrev pub start_of : Cursor → Point
+start_of s = record { tokens = s.tokens; taken = [] }
+
+-- An expression fits and spells a whole stream, up to its end mark.
+abbrev pub IsWritten : Settings → Run → Cursor → Type 0
+IsWritten c f s = (t : Point) × Met (whole_expression f c) (start_of s) t
+
+-- ---- the answer
+
+abbrev pub IsExpression : Node → Stmt → Type 0
+IsExpression x (statement.Expr e) = view (box_value e) ≡ x
+
+abbrev pub AreExpression : Node → List Stmt → Type 0
+AreExpression x [] = ⊥
+AreExpression x (s ∷ []) = IsExpression x s
+AreExpression x (s ∷ t ∷ more) = ⊥
+
+-- a script of one expression, and no functions
+pub record IsScriptOf (x : Node) (script : AST) : Type 0 where
+  pub statements : AreExpression x script.statements.items
+  pub functions : script.functions.items ≡ []
+
+-- the script of this tree, unless memory ran out
+abbrev pub Accepts : Node → Result AST ParseError → Type 0
+Accepts x (Ok script) = IsScriptOf x script
+Accepts x (Err e) = is_for_memory e ≡ true
+
+-- ---- refusals
+
+-- What was seen: these tokens were taken from a stream one after the other, and left it where it is now.
+pub record Saw (taken : List Taken) (start left : Cursor) : Type 0 where
+  pub gives : Gives taken start.tokens
+  pub leaves : left.tokens ≡ leads taken start.tokens
+
+-- A form misses the next of its demands where the stream is now, which names this refusal.
+pub record IsNamed (c : Settings) (taken : List Taken) (start left : Cursor) (e : Refusal) : Type 0 where
+  pub form : Run
+  pub missed : Missed (whole_expression form c) (start_of start) e (record { tokens = left.tokens; taken = latest_first taken [] })
+  pub last : StandsAtLast e left
+
+-- No form that fits begins with what was seen.
+abbrev pub NoneBegins : Settings → List Taken → Cursor → Type 0
+NoneBegins c taken left = (f : Run) (s : Cursor) → IsWritten c f s → BeginsWith taken left s.tokens → ⊥
+
+-- The tokenizer found memory for all that was seen.
+pub record IsReadable (taken : List Taken) (left : Cursor) : Type 0 where
+  pub tokens : Readable (latest_first taken [])
+  pub peeked : left.peeked ≡ true → is_memory (asked left).lexeme ≡ false
+
+-- A refusal, of what was seen.
+pub record IsRefused (c : Settings) (taken : List Taken) (start left : Cursor) (e : Refusal) : Type 0 where
+  pub saw : Saw taken start left
+  pub named : IsNamed c taken start left e
+  pub early : NoneBegins c taken left
+  pub memory : IsReadable taken left
+
+-- ---- the promise
+
+-- What is answered on a stream, of which left is left:
+-- accepted: a script, only where some fitting form spells the whole stream, and it is of that form's tree;
+-- only: for each form that does, the script of its tree, unless memory ran out;
+-- refused: a refusal other than for want of memory, only for a cause that a form names at what was seen, with which no fitting form begins.
+pub record ReadsExpression (c : Settings) (start left : Cursor) (result : Result AST ParseError) : Type 0 where
+  pub accepted : IfOk result (λ script. (f : Run) × IsWritten c f start × IsScriptOf (tree f) script)
+  pub only : (f : Run) → IsWritten c f start → Accepts (tree f) result
+  pub refused : IfErr result (λ e. is_for_memory e ≡ false → (taken : List Taken) × IsRefused c taken start left (refusal_of e))
