@@ -1,1 +1,4 @@
 pub mod CursorLemmas
+pub mod SeenLemmas
+pub mod SpellingLemmas
+pub mod RowLemmas

@@ -9,3 +9,6 @@ pub mod Trees
 pub mod Demands
 pub mod Written
 pub mod Promises
+pub mod Spelling
+pub mod Laws
+pub mod Rows

@@ -5,6 +5,7 @@
 pub mod error;
 pub mod filter;
 pub mod key;
+pub mod laws;
 
 pub use error::{InputError, ParseError, ParseErrorType, ParseResult};
 pub use filter::ExprFilter;

@@ -10,6 +10,7 @@ use Rattle.rhai_grammar.specs.Forms.{Run}
 use Rattle.rhai_grammar.specs.Trees.{tree}
 use Rattle.rhai_grammar.specs.Demands.{Met, Missed}
 use Rattle.rhai_grammar.specs.Written.{whole_expression}
+use Rattle.rhai_grammar.specs.Laws.{FormsHaveOneTree}
 use Rattle.rhai_grammar.specs.Promises.{start_of, IsWritten, IsRefused, NoneBegins}
 use Rattle.rhai_reading.specs.Reading.{Goal, Whole, Prog, Peek, whole_at, body}
 use Rattle.rhai_reading.specs.Running as R
@@ -72,6 +73,12 @@ refused_came c s left d mode e =
 pub runs_once : {A : Type 0} {p : Prog A} {s : State} {a b : Outcome A} → Runs p s a → Runs p s b → a ≡ b
 runs_once r w = sym (r.same (r.depth + w.depth) (omega arith)) ∙ w.same (r.depth + w.depth) (omega arith)
 
+-- two forms that fit and spell the same stream have one tree
+pub one_tree : FormsHaveOneTree
+one_tree c s f g a b =
+    let same = runs_once (complete c f (start_of s) a.0 s.peeked a.1) (complete c g (start_of s) b.0 s.peeked b.1) in
+    cc
+
 -- ---- accepted
 
 pub accepted : (c : Settings) (s left : Cursor) (x : Node) → s.mode ≡ code → run (Whole c) s ≡ R.Done x left → (f : Run) × (tree f ≡ x) × IsWritten c f s
@@ -130,15 +137,17 @@ refused c s left e mode h other =
     let kept = subst (Keeps (calls (suc n) (Whole c)) (begun s)) here (local (suc n) (Whole c) (begun s)) in
     let tokens : w.state.point.tokens ≡ left.tokens = ap (λ (u : Cursor). u.tokens) w.is in
     let end : w.state.point ≡ record { tokens = left.tokens; taken = latest_first kept.took [] } =
-      ap (λ v. record { tokens = v; taken = w.state.point.taken }) tokens ∙ ap (λ v. record { tokens = left.tokens; taken = v }) kept.history in
+    ap (λ v. record { tokens = v; taken = w.state.point.taken }) tokens ∙ ap (λ v. record { tokens = left.tokens; taken = v }) kept.history in
     let first = first_readable c n (start_of s) s.peeked e w.state other here in
-    let seen = subst Clears here (clear (suc n) (Whole c) (begun s) (record { taken = tt; peeked = λ p. first })) other in
-    (kept.took, record {
-      saw = record { gives = kept.gives; leaves = sym tokens ∙ kept.left };
-      named = record { form = halts.0; missed = subst (Missed (whole_expression halts.0 c) (start_of s) e) end halts.1; last = subst (StandsAtLast e) w.is halts.2 };
-      early = subst (NoneBegins c kept.took) w.is (none_begins c n (begun s) w.state e kept.took refl here kept.again);
-      memory = record {
-        tokens = subst (λ (p : Point). Rattle.rhai_grammar.specs.Seen.Readable p.taken) end seen.taken;
-        peeked = subst (λ (u : Cursor). u.peeked ≡ true → is_memory (Rattle.rhai_grammar.specs.Cursors.asked u).lexeme ≡ false) w.is seen.peeked;
-      };
-    })
+    let seen = subst Clears here (clear (suc n) (Whole c) (begun s) (record { taken = tt; peeked = λ p. first })) other in (
+      kept.took,
+      record {
+        saw = record { gives = kept.gives; leaves = sym tokens ∙ kept.left };
+        named = record { form = halts.0; missed = subst (Missed (whole_expression halts.0 c) (start_of s) e) end halts.1; last = subst (StandsAtLast e) w.is halts.2 };
+        early = subst (NoneBegins c kept.took) w.is (none_begins c n (begun s) w.state e kept.took refl here kept.again);
+        memory = record {
+          tokens = subst (λ (p : Point). Rattle.rhai_grammar.specs.Seen.Readable p.taken) end seen.taken;
+          peeked = subst (λ (u : Cursor). u.peeked ≡ true → is_memory (Rattle.rhai_grammar.specs.Cursors.asked u).lexeme ≡ false) w.is seen.peeked;
+        };
+      },
+    )

@@ -1,3 +1,10 @@
 //! The reader as a program that asks a stream, and its laws: proofs only. The code's readers are proved to do what it
 //! does, and the laws say what that means in terms of the definitions.
 #![tactic(auto)]
+
+ghost use Rattle.rhai_grammar.specs.Laws.{FormsHaveOneTree};
+
+/// Two forms that fit and spell the same stream have one tree.
+pub fn forms_have_one_tree()
+    ensures { FormsHaveOneTree }
+{}

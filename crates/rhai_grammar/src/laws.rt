@@ -1,0 +1,28 @@
+//! Laws of the definitions, as contracts of functions that do nothing.
+
+ghost use Rattle.rhai_grammar.specs.Laws.{EntriesAreDelivered, FormsAreSpelled, StreamsAreWhole};
+ghost use Rattle.rhai_grammar.specs.Rows.{SumRow};
+
+/// A form whose demands are met is spelled by the tokens on the way.
+#[tactic(auto, using(crate::proofs::SpellingLemmas::forms_are_spelled))]
+pub fn forms_are_spelled()
+    ensures { FormsAreSpelled }
+{}
+
+/// Behind a form that fits and spells a delivered stream, the stream is at its end.
+#[tactic(auto, using(crate::proofs::SpellingLemmas::streams_are_whole))]
+pub fn streams_are_whole()
+    ensures { StreamsAreWhole }
+{}
+
+/// The entries that a stream takes make a delivered stream.
+#[tactic(auto, using(crate::proofs::SpellingLemmas::entries_are_delivered))]
+pub fn entries_are_delivered()
+    ensures { EntriesAreDelivered }
+{}
+
+/// `1 + 2 * 3` fits under the depth limit 3, with the product as the sum's right operand, and is too deep under the limit 2.
+#[tactic(auto, using(crate::proofs::RowLemmas::sum_row))]
+pub fn sum_row()
+    ensures { SumRow }
+{}
