@@ -11,7 +11,9 @@ pub mod stream;
 pub mod token;
 
 pub use ast::{
-    AST, Expr, FnCallExpr, Namespace, ScriptFuncDef, Stmt, StmtBlock, StmtBlockContainer,
+    AST, BinaryExpr, Expr, FlowControl, FnCallExpr, ForLoop, Ident, LinkFlags, LoopControl,
+    Namespace, RangeCase, ScriptFuncDef, Stmt, StmtBlock, StmtBlockContainer, SwitchCase,
+    SwitchCasesCollection, VariableExpr,
 };
 pub use names::{is_reserved_keyword_or_symbol, is_valid_function_name, is_valid_identifier};
 pub use optimizer::{OptimizationLevel, optimize_into_ast};

@@ -1,8 +1,10 @@
 //! The slots of variables.
 
-ghost use Rattle.std.specs.Prelude.{◌≡◌, []};
+ghost use Rattle.std.specs.Prelude.{◌≡◌, ◌<◌, ◌≤◌, ◌↔◌, [], IsTrue, OnErr, OnOk, length, map, take};
+ghost use Rattle.std.specs.Rc.{rc_str_bytes};
+ghost use Rattle.rhai_lower.specs.Slots.{slot_at, with_slot, with_constant, with_alias, is_declared};
 
-use std::alloc::Global;
+use std::alloc::{AllocError, Global};
 use std::marker::Model;
 use std::rc::RcStr;
 
@@ -39,5 +41,96 @@ impl Scope {
         Scope {
             slots: Vec::new(alloc),
         }
+    }
+
+    /// How many slots there are.
+    pub fn len(&self) -> usize
+        ensures { result ≡ length self.now }
+    {
+        self.slots.len()
+    }
+
+    /// Whether there is no slot.
+    pub fn is_empty(&self) -> bool
+        ensures { IsTrue result ↔ (self.now ≡ []) }
+    {
+        self.slots.is_empty()
+    }
+
+    /// Adds a slot for a variable or a constant, of which nothing is exported yet. The error is that there is no memory
+    /// for it; then nothing changes.
+    pub fn push(&mut self, name: RcStr, constant: bool) -> Result<(), AllocError>
+        ensures ok { OnOk result (self.new ≡ with_slot self.old (rc_str_bytes name) constant) }
+        ensures err { OnErr result (self.new ≡ self.old) }
+    {
+        let aliases = Vec::new(*self.slots.allocator());
+        self.slots.push(Slot {
+            name,
+            constant,
+            aliases,
+        })?;
+        Ok(())
+    }
+
+    /// The name of a slot; the oldest slot has index 0.
+    pub fn name(&self, index: usize) -> &RcStr
+        requires { index < length self.now }
+        ensures { rc_str_bytes result.now ≡ (slot_at self.now index).name }
+    {
+        &self.slots[index].name
+    }
+
+    /// Whether a slot is constant.
+    pub fn is_constant(&self, index: usize) -> bool
+        requires { index < length self.now }
+        ensures { result ≡ (slot_at self.now index).constant }
+    {
+        self.slots[index].constant
+    }
+
+    /// The names under which a slot is exported, in the order in which they came.
+    pub fn aliases(&self, index: usize) -> &[RcStr]
+        requires { index < length self.now }
+        ensures { map rc_str_bytes result.now ≡ (slot_at self.now index).aliases }
+    {
+        self.slots[index].aliases.as_slice()
+    }
+
+    /// Makes a slot constant or variable. It takes no memory.
+    pub fn set_constant(&mut self, index: usize, constant: bool)
+        requires { index < length self.old }
+        ensures { self.new ≡ with_constant self.old index constant }
+    {
+        self.slots[index].constant = constant;
+    }
+
+    /// Exports a slot under a further name. The error is that there is no memory for it; then nothing changes.
+    pub fn add_alias_by_index(&mut self, index: usize, alias: RcStr) -> Result<(), AllocError>
+        requires { index < length self.old }
+        ensures ok { OnOk result (self.new ≡ with_alias self.old index (rc_str_bytes alias)) }
+        ensures err { OnErr result (self.new ≡ self.old) }
+    {
+        self.slots[index].aliases.push(alias)?;
+        Ok(())
+    }
+
+    /// Forgets all slots but the oldest `len`, of which there are so many at least. It takes no memory.
+    pub fn rewind(&mut self, len: usize)
+        requires { len ≤ length self.old }
+        ensures { self.new ≡ take len self.old }
+    {
+        self.slots.truncate(len);
+    }
+
+    /// Whether a slot has this name.
+    pub fn contains(&self, name: &str) -> bool
+        ensures { result ≡ is_declared name.now self.now }
+    {
+        for slot in &self.slots {
+            if slot.name.as_str() == name {
+                return true;
+            }
+        }
+        false
     }
 }

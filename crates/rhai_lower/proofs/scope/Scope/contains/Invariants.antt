@@ -1,0 +1,8 @@
+-- The slots from the index on decide.
+use Rattle.std.proofs.Common.{◌≡◌, map, drop}
+use Rattle.rhai_lower.specs.SlotView.{slot_of}
+use Rattle.rhai_lower.specs.Slots.{is_declared}
+use Rattle.rhai_lower.proofs.scope.Scope.contains.Given as goal
+
+abbrev pub invariant-loop-slot : goal.invariant-loop-slot
+invariant-loop-slot l = is_declared l.name (map slot_of (drop l.slot-index l.slot-items)) ≡ is_declared l.name l.self

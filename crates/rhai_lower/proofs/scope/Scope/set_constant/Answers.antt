@@ -1,0 +1,12 @@
+use Rattle.std.proofs.Common.{◌∙◌, ◌<◌, ap, refl, length, arith}
+use Rattle.std.proofs.lemmas.List.{length-map}
+use Rattle.rhai_lower.specs.SlotView.{slot_of}
+use Rattle.rhai_lower.specs.Slots.{with_constant}
+use Rattle.rhai_lower.proofs.SlotLemmas.{slots-set}
+use Rattle.rhai_lower.proofs.scope.Scope.set_constant.Goals as goal
+
+pub returns : goal.returns
+returns c =
+    let below : c.args.index < length c.self.inside.slots.items = omega (arith, length-map c.self.inside.slots.items slot_of, ap length c.self.view_is) in
+    slots-set _ _ c.index_mut.result.now _ (λ v. record v { constant = c.args.constant }) below c.index_mut.ensures.value refl
+    ∙ ap (λ slots. with_constant slots c.args.index c.args.constant) c.self.view_is
