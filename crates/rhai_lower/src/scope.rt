@@ -1,6 +1,8 @@
 //! The slots of variables.
 
-ghost use Rattle.std.specs.Prelude.{◌≡◌, []};
+ghost use Rattle.std.specs.Prelude.{◌≡◌, ◌<◌, [], length};
+ghost use Rattle.std.specs.Rc.{rc_str_bytes};
+ghost use Rattle.rhai_lower.specs.Slots.{slot_at};
 
 use std::alloc::Global;
 use std::marker::Model;
@@ -39,5 +41,20 @@ impl Scope {
         Scope {
             slots: Vec::new(alloc),
         }
+    }
+
+    /// How many slots there are.
+    pub fn len(&self) -> usize
+        ensures { result ≡ length self.now }
+    {
+        self.slots.len()
+    }
+
+    /// The name of a slot; the oldest slot has index 0.
+    pub fn name(&self, index: usize) -> &RcStr
+        requires { index < length self.now }
+        ensures { rc_str_bytes result.now ≡ (slot_at self.now index).name }
+    {
+        &self.slots[index].name
     }
 }
