@@ -8,3 +8,5 @@ pub mod Forms
 pub mod Trees
 pub mod Demands
 pub mod Written
+pub mod Slots
+pub mod Imports
