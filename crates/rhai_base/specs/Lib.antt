@@ -1,3 +1,4 @@
 pub mod Shown
 pub mod FlagNames
 pub mod Settings
+pub mod Counts

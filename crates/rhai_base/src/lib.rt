@@ -2,9 +2,11 @@
 //! work on, and the look at the next token.
 #![tactic(auto)]
 
+pub mod counts;
 pub mod cursor;
 pub mod settings;
 pub mod state;
 
+pub use counts::ParseCounts;
 pub use settings::{LangOptions, ParseSettingFlags, ParseSettings};
-pub use state::{FnLib, ParseState, TokenizerControl};
+pub use state::{FnLib, ParseState, TokenizerControl, nest_peak};
