@@ -4,6 +4,7 @@
 
 pub mod counts;
 pub mod cursor;
+pub mod lookup;
 pub mod settings;
 pub mod state;
 
