@@ -2,3 +2,4 @@ pub mod Shown
 pub mod FlagNames
 pub mod Settings
 pub mod Counts
+pub mod ClosureNames
