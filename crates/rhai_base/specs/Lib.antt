@@ -1,4 +1,6 @@
-pub mod Shown
+pub mod ClosureNames
+pub mod Counts
 pub mod FlagNames
 pub mod Settings
+pub mod Shown
 pub mod States

@@ -2,9 +2,14 @@
 //! work on, and the look at the next token.
 #![tactic(auto)]
 
+pub mod closure_name;
+pub mod counts;
 pub mod cursor;
+pub mod lookup;
 pub mod settings;
 pub mod state;
 
+pub use closure_name::make_anonymous_fn;
+pub use counts::ParseCounts;
 pub use settings::{LangOptions, ParseSettingFlags, ParseSettings};
-pub use state::{FnLib, ParseState, TokenizerControl};
+pub use state::{FnLib, ParseState, TokenizerControl, nest_peak};

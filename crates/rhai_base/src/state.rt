@@ -2,7 +2,9 @@
 
 ghost use Rattle.std.specs.Prelude.{◌≡◌, [], true};
 ghost use Rattle.rhai_grammar.specs.declared.filter.ExprFilter.TheVariants.{All};
+ghost use Rattle.rhai_base.specs.Counts.{counts_of, none_yet};
 
+use crate::counts::ParseCounts;
 use indexmap::IndexMap;
 use rhai_grammar::{ExprFilter, FnKey};
 use rhai_lower::{Position, Scope, ScriptFuncDef, TokenStream};
@@ -31,6 +33,8 @@ pub struct ParseState<
     pub input: &'t mut TokenStream,
     /// The functions and closures that have ended.
     pub lib: &'f mut FnLib,
+    /// How many functions and closures were begun, and how many grammar functions are active.
+    pub counts: ParseCounts,
     /// What steers the tokenizer.
     pub tokenizer_control: TokenizerControl,
     /// Which tokens an expression may hold.
@@ -53,7 +57,7 @@ pub struct ParseState<
 
 impl<'a, 't, 'f> ParseState<'a, 't, 'f> {
     /// The state in which nothing was read yet: every token may stand in an expression, there is no slot, import or
-    /// captured name, and names may be captured. It takes no memory.
+    /// captured name, names may be captured, and all counts are 0. It takes no memory.
     pub fn new(
         alloc: Global,
         external_constants: Option<&'a Scope>,
@@ -65,6 +69,7 @@ impl<'a, 't, 'f> ParseState<'a, 't, 'f> {
         ensures input { result.input.now ≡ input.old }
         ensures lib_name { result.lib.ghost_name ≡ lib.entry.ghost_name }
         ensures lib { result.lib.now ≡ lib.old }
+        ensures counts { counts_of result.counts ≡ none_yet }
         ensures control { result.tokenizer_control ≡ tokenizer_control }
         ensures filter { result.expr_filter ≡ All }
         ensures constants { result.external_constants ≡ external_constants.entry }
@@ -78,6 +83,7 @@ impl<'a, 't, 'f> ParseState<'a, 't, 'f> {
         ParseState {
             input,
             lib,
+            counts: ParseCounts::new(),
             tokenizer_control,
             expr_filter: ExprFilter::All,
             external_constants,
@@ -89,4 +95,11 @@ impl<'a, 't, 'f> ParseState<'a, 't, 'f> {
             global_imports: Vec::new(alloc),
         }
     }
+}
+
+/// The greatest number of grammar functions that were active at once so far. It takes no memory.
+pub fn nest_peak(state: &ParseState<'_, '_, '_>) -> usize
+    ensures { result ≡ (counts_of state.now.counts).peak }
+{
+    state.counts.nest_peak()
 }

@@ -12,3 +12,5 @@ pub mod Promises
 pub mod Spelling
 pub mod Laws
 pub mod Rows
+pub mod Slots
+pub mod Imports

@@ -1,10 +1,8 @@
 -- What the parser promises of a stream that it reads, in terms of the written forms alone.
-use Rattle.std.specs.Prelude.{◌≡◌, Bool, true, false, List, [], ◌∷◌, Result, Ok, Err, IfOk, IfErr, box_value}
-use Rattle.rhai_lower.specs.Nodes.{Node}
-use Rattle.rhai_lower.specs.View.{view}
+use Rattle.std.specs.Prelude.{◌≡◌, Bool, true, false, List, [], ◌∷◌, Result, Ok, Err, IfOk, IfErr}
+use Rattle.rhai_lower.specs.Nodes.{Node, expression, no_statements, one_statement}
+use Rattle.rhai_lower.specs.View.{statement_views}
 use Rattle.rhai_lower.specs.declared.ast.AST.{AST}
-use Rattle.rhai_lower.specs.declared.ast.Stmt.{Stmt}
-use Rattle.rhai_lower.specs.declared.ast.Stmt.TheVariants as statement
 use Rattle.rhai_grammar.specs.Causes.{Refusal, refusal_of, is_for_memory}
 use Rattle.rhai_grammar.specs.Delivered.{Tokens, Taken, Point, is_memory}
 use Rattle.rhai_grammar.specs.Cursors.{Cursor, asked}
@@ -26,17 +24,9 @@ IsWritten c f s = (t : Point) × Met (whole_expression f c) (start_of s) t
 
 -- ---- the answer
 
-abbrev pub IsExpression : Node → Stmt → Type 0
-IsExpression x (statement.Expr e) = view (box_value e) ≡ x
-
-abbrev pub AreExpression : Node → List Stmt → Type 0
-AreExpression x [] = ⊥
-AreExpression x (s ∷ []) = IsExpression x s
-AreExpression x (s ∷ t ∷ more) = ⊥
-
 -- a script of one expression, and no functions
 pub record IsScriptOf (x : Node) (script : AST) : Type 0 where
-  pub statements : AreExpression x script.statements.items
+  pub statements : statement_views script.statements.items ≡ one_statement (expression x) no_statements
   pub functions : script.functions.items ≡ []
 
 -- the script of this tree, unless memory ran out

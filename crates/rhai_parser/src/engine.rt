@@ -205,6 +205,7 @@ impl Engine {
     }
 
     // The script of one expression, as the optimizer makes it.
+    #[tactic(auto, using(rhai_lower::proofs::Views::view_expression))]
     fn make_script(
         &self,
         expr: Expr,
@@ -270,6 +271,7 @@ impl Engine {
             allow_capture: _,
             imports: _,
             global_imports: _,
+            counts: _,
         } = state;
         self.read_script(input, chosen, external_constants, level)
     }

@@ -1,0 +1,24 @@
+-- What closures are named.
+use Rattle.std.specs.Prelude.{◌≡◌, ℕ, zero, suc, ◌+◌, ◌/◌, ◌%◌, ◌^◌, ◌-◌, [], ◌∷◌, ◌++◌, nat_lt, if◌then◌else◌, codes, refl}
+use Rattle.rhai_lower.specs.Texts.{Text}
+
+-- the hexadecimal digit of a number below 16: `0` to `9`, and then `a` to `f`
+abbrev pub hex_digit : ℕ → ℕ
+hex_digit d = if nat_lt d 10 then 48 + d else 87 + d
+
+-- the last so many hexadecimal digits of a number
+unfoldable pub last_hex_digits : ℕ → ℕ → Text
+last_hex_digits zero n = []
+last_hex_digits (suc count) n = last_hex_digits count (n / 16) ++ hex_digit (n % 16) ∷ []
+
+-- the name of the closure of this number
+abbrev pub closure_name : ℕ → Text
+closure_name n = codes "anon$" ++ last_hex_digits 16 n
+
+-- The first closure's name, that of number 3054, and the last that there can be.
+example :
+    (closure_name 0 ≡ codes "anon$0000000000000000")
+    × (closure_name 3054 ≡ codes "anon$0000000000000bee")
+    × (closure_name (2 ^ 64 - 1) ≡ codes "anon$ffffffffffffffff")
+unfolding last_hex_digits
+example = (refl, refl, refl)
