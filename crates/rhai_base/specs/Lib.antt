@@ -3,3 +3,4 @@ pub mod FlagNames
 pub mod Settings
 pub mod Counts
 pub mod ClosureNames
+pub mod Keys
