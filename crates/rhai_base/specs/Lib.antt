@@ -1,6 +1,7 @@
 pub mod ClosureNames
 pub mod Counts
 pub mod FlagNames
+pub mod Keys
 pub mod Settings
 pub mod Shown
 pub mod States

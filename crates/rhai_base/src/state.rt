@@ -5,18 +5,15 @@ ghost use Rattle.rhai_grammar.specs.declared.filter.ExprFilter.TheVariants.{All}
 ghost use Rattle.rhai_base.specs.Counts.{counts_of, none_yet};
 
 use crate::counts::ParseCounts;
-use indexmap::IndexMap;
-use rhai_grammar::{ExprFilter, FnKey};
-use rhai_lower::{Position, Scope, ScriptFuncDef, TokenStream};
+use crate::library::FnLib;
+use rhai_grammar::ExprFilter;
+use rhai_lower::{Position, Scope, TokenStream};
 use std::alloc::Global;
-use std::rc::{Rc, RcStr};
+use std::rc::RcStr;
 
 /// What steers the tokenizer. The parser hands it on and reads nothing from it.
 #[derive(Clone, Copy, PartialEq, Eq, Hash, Debug)]
 pub struct TokenizerControl;
-
-/// A script's functions and closures by their keys, in the order in which they end.
-pub type FnLib = IndexMap<FnKey, Rc<ScriptFuncDef>>;
 
 /// What a parser works on. It is written `ParseState<'a, 't, 'f>`: the types of the owned fields are parameters so that
 /// the contract of a call that takes a state by value can tell what the call leaves behind the two references.

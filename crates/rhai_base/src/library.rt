@@ -1,0 +1,98 @@
+//! The functions and closures of a script.
+
+ghost use Rattle.std.specs.Prelude.{◌≡◌, ◌↔◌, ◌++◌, ◌∷◌, [], true, false, IsTrue, OnOk, OnErr, IfOk, fold, map};
+ghost use Rattle.indexmap.specs.IndexMap.{values};
+ghost use Rattle.rhai_base.specs.Keys.{key_of, keys_of, same_key, fed_key, has_key, has_name, closures, is_closure};
+
+use indexmap::IndexMap;
+use rhai_grammar::FnKey;
+use rhai_lower::ScriptFuncDef;
+use std::alloc::{AllocError, Global};
+use std::hash::{Hash, Hasher};
+use std::rc::Rc;
+
+/// A script's functions and closures by their keys, in the order in which they end.
+pub type FnLib = IndexMap<FnKey, Rc<ScriptFuncDef>>;
+
+/// Whether two keys name one function: they have the same receiver type, name and number of parameters. Such keys have
+/// equal hashes. It takes no memory.
+pub fn is_same_key(left: &FnKey, right: &FnKey) -> bool
+    ensures value { result ≡ same_key (key_of left.now) (key_of right.now) }
+    ensures parts { IsTrue result ↔ (key_of left.now ≡ key_of right.now) }
+    ensures hashed { IsTrue result → fed_key (key_of left.now) ≡ fed_key (key_of right.now) }
+{
+    *left == *right
+}
+
+/// Feeds a key to a hasher: its receiver type, its name and the number of its parameters, and nothing else.
+pub fn hash_key<H: Hasher>(key: &FnKey, state: &mut H)
+    ensures { state.new ≡ fold H.write state.old (fed_key (key_of key.now)) }
+{
+    key.hash(state);
+}
+
+/// Whether a function has this key. It takes no memory.
+pub fn has_function(lib: &FnLib, key: &FnKey) -> bool
+    ensures { result ≡ has_key (key_of key.now) (keys_of lib.now.entries) }
+{
+    lib.contains_key(key)
+}
+
+/// Adds a function, whose key no other has, behind all others. The error is that there is no memory for it; then nothing
+/// changes.
+pub fn add_function(
+    lib: &mut FnLib,
+    key: FnKey,
+    function: Rc<ScriptFuncDef>,
+) -> Result<(), AllocError>
+    requires { has_key (key_of key) (keys_of lib.old.entries) ≡ false }
+    ensures ok { OnOk result (lib.new.entries ≡ lib.old.entries ++ (key, function) ∷ []) }
+    ensures err { OnErr result (lib.new.entries ≡ lib.old.entries) }
+{
+    lib.insert(key, function)?;
+    Ok(())
+}
+
+/// All functions, in the order in which they ended. The error is that there is no memory for the list.
+pub fn functions(alloc: Global, lib: &FnLib) -> Result<Vec<Rc<ScriptFuncDef>>, AllocError>
+    ensures { IfOk result (λ all. map (λ f. f.value) all.items ≡ map (λ f. f.value) (values lib.now)) }
+{
+    let mut all = Vec::new(alloc);
+    for function in lib.values() {
+        all.push(function.clone()?)?;
+    }
+    Ok(all)
+}
+
+/// Whether a function or closure has this name. It takes no memory, and time for each function.
+pub fn is_function_name(lib: &FnLib, name: &str) -> bool
+    ensures { result ≡ has_name name.now (keys_of lib.now.entries) }
+{
+    for key in lib.keys() {
+        if key.name.as_str() == name {
+            return true;
+        }
+    }
+    false
+}
+
+/// How many closures there are, which are the functions whose names begin with `anon$`. It takes no memory, and time for
+/// each function.
+pub fn closure_count(lib: &FnLib) -> usize
+    ensures { result ≡ closures (keys_of lib.now.entries) }
+{
+    let mut count = 0;
+    for key in lib.keys() {
+        if is_closure_key(key) {
+            count += 1;
+        }
+    }
+    count
+}
+
+// Whether a key's name begins with `anon$`.
+fn is_closure_key(key: &FnKey) -> bool
+    ensures { result ≡ is_closure (key_of key.now) }
+{
+    key.name.as_str().as_bytes().starts_with(b"anon$")
+}
