@@ -5,10 +5,11 @@ use Rattle.std.specs.declared.rc.RcStr.{RcStr}
 use Rattle.rhai_lower.specs.Slots.{SlotValue}
 use Rattle.rhai_lower.specs.declared.position.Position.{Position}
 use Rattle.rhai_grammar.specs.declared.filter.ExprFilter.TheVariants.{All}
+use Rattle.rhai_base.specs.Counts.{counts_of, none_yet}
 use Rattle.rhai_base.specs.declared.state.ParseState.{ParseState}
 
 -- The next token is asked for in code mode, every token may stand in an expression, and there is no function or closure, no
--- slot, no captured name and no import.
+-- slot, no captured name and no import, and all counts are 0.
 pub record IsFresh (s : ParseState (List SlotValue) (Vec (RcStr Global × Position) Global) (Vec (RcStr Global) Global)) : Type 0 where
   pub mode : s.input.now.in_text ≡ false
   pub library : s.lib.now.entries ≡ []
@@ -19,3 +20,4 @@ pub record IsFresh (s : ParseState (List SlotValue) (Vec (RcStr Global × Positi
   pub capture : s.allow_capture ≡ true
   pub imports : s.imports.items ≡ []
   pub global_imports : s.global_imports.items ≡ []
+  pub counts : counts_of s.counts ≡ none_yet
