@@ -1,11 +1,13 @@
 -- An engine as contracts see it.
-use Rattle.std.specs.Prelude.{ℕ, Bool, ◌-◌, ◌^◌, if◌then◌else◌}
+use Rattle.std.specs.Prelude.{ℕ, Bool, List, [], ◌-◌, ◌^◌, if◌then◌else◌}
 use Rattle.std.specs.Int.RustNames.{bit_or}
 use Rattle.bitflags.specs.Sets.{without}
+use Rattle.std.specs.List.{list_any}
+use Rattle.rhai_lower.specs.Texts.{Text, same_text}
 use Rattle.rhai_lower.specs.Positions.{place}
 use Rattle.rhai_base.specs.declared.settings.ParseSettings.{ParseSettings}
 
--- the bits of its options, and its limits
+-- the bits of its options, its limits, and the names of its modules
 pub record EngineValue : Type 0 where
   pub options : ℕ
   pub max_expr_depth : ℕ
@@ -13,10 +15,11 @@ pub record EngineValue : Type 0 where
   pub max_functions : ℕ
   pub max_array_size : ℕ
   pub max_map_size : ℕ
+  pub sub_modules : List Text
 
 -- a new engine: all options but STRICT_VAR
 abbrev pub fresh_engine : EngineValue
-fresh_engine = record { options = 191; max_expr_depth = 64; max_function_expr_depth = 32; max_functions = 2 ^ 64 - 1; max_array_size = 0; max_map_size = 0 }
+fresh_engine = record { options = 191; max_expr_depth = 64; max_function_expr_depth = 32; max_functions = 2 ^ 64 - 1; max_array_size = 0; max_map_size = 0; sub_modules = [] }
 
 -- a set of bits with some set or not
 abbrev pub with_bits : ℕ → ℕ → Bool → ℕ
@@ -32,3 +35,7 @@ expr_settings e = record {
   pos = place 1 1;
   max_expr_depth = e.max_expr_depth;
 }
+
+-- whether a name is among those of the modules
+abbrev pub has_module : Text → List Text → Bool
+has_module name modules = list_any (λ m. same_text m name) modules

@@ -1,6 +1,6 @@
 //! The engine: language options and limits, and the entries of the parser.
 
-ghost use Rattle.std.specs.Prelude.{◌≡◌, ◌==◌};
+ghost use Rattle.std.specs.Prelude.{◌≡◌, ◌==◌, ◌++◌, ◌∷◌, [], OnErr, OnOk};
 ghost use Rattle.std.specs.Int.RustNames.{bit_and};
 ghost use Rattle.std.specs.Fn.{FnOnceReturnsAtMut, FnOnceTakesAtMut};
 ghost use Rattle.rhai_lower.specs.View.{view};
@@ -9,7 +9,7 @@ ghost use Rattle.rhai_grammar.specs.Delivered.{code};
 ghost use Rattle.rhai_grammar.specs.Promises.{Accepts, ReadsExpression};
 ghost use Rattle.rhai_base.specs.Settings.{settings_of};
 ghost use Rattle.rhai_base.specs.States.{IsFresh};
-ghost use Rattle.rhai_parser.specs.Engines.{fresh_engine, with_bits, expr_settings};
+ghost use Rattle.rhai_parser.specs.Engines.{fresh_engine, with_bits, expr_settings, has_module};
 
 use crate::shared::Shared;
 use bitflags::Flags;
@@ -18,8 +18,9 @@ use rhai_grammar::ParseResult;
 use rhai_lower::{
     AST, Expr, OptimizationLevel, Position, Scope, Stmt, TokenStream, optimize_into_ast,
 };
-use std::alloc::Global;
+use std::alloc::{AllocError, Global};
 use std::marker::Model;
+use std::rc::RcStr;
 
 /// Language options and limits that scripts are read under.
 #[derive(Drop)]
@@ -31,26 +32,31 @@ pub struct Engine {
     max_functions: usize,
     max_array_size: usize,
     max_map_size: usize,
+    // The names of the modules that scripts find without importing them.
+    sub_modules: Vec<RcStr>,
 }
 
 impl Model for Engine {
+    ghost use Rattle.std.specs.Prelude.{map};
+    ghost use Rattle.std.specs.Rc.{rc_str_bytes};
     ghost use Rattle.rhai_parser.specs.Engines.{EngineValue};
 
     ghost Value = { EngineValue };
 
     ghost view = { λ e. record {
-      options = e.options.0;
-      max_expr_depth = e.max_expr_depth;
-      max_function_expr_depth = e.max_function_expr_depth;
-      max_functions = e.max_functions;
-      max_array_size = e.max_array_size;
-      max_map_size = e.max_map_size;
+        options = e.options.0;
+        max_expr_depth = e.max_expr_depth;
+        max_function_expr_depth = e.max_function_expr_depth;
+        max_functions = e.max_functions;
+        max_array_size = e.max_array_size;
+        max_map_size = e.max_map_size;
+        sub_modules = map rc_str_bytes e.sub_modules.items;
     } };
 }
 
 impl Engine {
     /// An engine with all options but `STRICT_VAR`, the depths 64 for a script and 32 for a function, any number of functions,
-    /// and no limits on literals. It takes no memory; `alloc` is what its parsers take memory from.
+    /// no limits on literals, and no modules. It takes no memory; `alloc` is what its parsers take memory from.
     pub fn new(alloc: Global) -> Self
         ensures { result ≡ fresh_engine }
     {
@@ -62,6 +68,7 @@ impl Engine {
             max_functions: usize::MAX,
             max_array_size: 0,
             max_map_size: 0,
+            sub_modules: Vec::new(alloc),
         }
     }
 
@@ -188,6 +195,28 @@ impl Engine {
         ensures { self.new ≡ record self.old { max_map_size = size } }
     {
         self.max_map_size = size;
+    }
+
+    /// Whether scripts find a module of this name without importing it. It takes no memory.
+    pub fn has_sub_module(&self, name: &str) -> bool
+        ensures { result ≡ has_module name.now self.now.sub_modules }
+    {
+        for module in &self.sub_modules {
+            if module.as_str() == name {
+                return true;
+            }
+        }
+        false
+    }
+
+    /// Lets scripts find a module of this name without importing it. Where there is no memory for that, nothing changes.
+    pub fn add_sub_module(&mut self, name: &str) -> Result<(), AllocError>
+        ensures ok { OnOk result (self.new ≡ record self.old { sub_modules = self.old.sub_modules ++ name.now ∷ [] }) }
+        ensures err { OnErr result (self.new ≡ self.old) }
+    {
+        let name = RcStr::from_str(self.alloc, name)?;
+        self.sub_modules.push(name)?;
+        Ok(())
     }
 
     // The settings that one expression is read under, before the caller changes them.

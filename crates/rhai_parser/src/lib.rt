@@ -8,10 +8,13 @@ mod shared;
 
 pub use engine::Engine;
 pub use rhai_base::{
-    FnLib, LangOptions, ParseSettingFlags, ParseSettings, ParseState, TokenizerControl,
+    FnLib, LangOptions, ParseCounts, ParseSettingFlags, ParseSettings, ParseState, TokenizerControl,
+    make_anonymous_fn, nest_peak,
 };
 pub use rhai_grammar::{ExprFilter, FnKey, InputError, ParseError, ParseErrorType, ParseResult};
 pub use rhai_lower::{
-    AST, Entry, Expr, FnCallExpr, LexError, Namespace, OptimizationLevel, Position, Scope,
-    ScriptFuncDef, Stmt, StmtBlock, StmtBlockContainer, Token, TokenStream,
+    AST, BinaryExpr, Entry, Expr, FlowControl, FnCallExpr, ForLoop, Ident, LexError, LinkFlags,
+    LoopControl, Namespace, OptimizationLevel, Position, RangeCase, Scope, ScriptFuncDef, Stmt,
+    StmtBlock, StmtBlockContainer, SwitchCase, SwitchCasesCollection, Token, TokenStream,
+    VariableExpr,
 };
