@@ -4,3 +4,4 @@ pub mod Settings
 pub mod Counts
 pub mod ClosureNames
 pub mod Keys
+pub mod Index

@@ -7,11 +7,13 @@ pub mod counts;
 pub mod cursor;
 pub mod library;
 pub mod lookup;
+pub mod names;
 pub mod settings;
 pub mod state;
 
 pub use closure_name::make_anonymous_fn;
 pub use counts::ParseCounts;
 pub use library::{FnLib, add_function, closure_count, functions, has_function, is_function_name};
+pub use names::FnNames;
 pub use settings::{LangOptions, ParseSettingFlags, ParseSettings};
 pub use state::{ParseState, TokenizerControl, nest_peak};
