@@ -3,7 +3,7 @@
 ghost use Rattle.std.specs.Prelude.{◌≡◌, ◌+◌, ◌||◌, ◌++◌, ◌∷◌, [], false, if◌then◌else◌, OnOk, OnErr, IfOk};
 ghost use Rattle.rhai_lower.specs.Texts.{Text, same_text};
 ghost use Rattle.rhai_base.specs.Keys.{key_of, keys_of, has_key};
-ghost use Rattle.rhai_base.specs.Index.{listed, is_listed, Agrees};
+ghost use Rattle.rhai_base.specs.Index.{listed, is_listed, counted, Agrees};
 
 use crate::library::{FnLib, is_closure_key};
 use indexmap::IndexSet;
@@ -44,7 +44,7 @@ impl FnNames {
 
     /// How many closures there are. It takes no memory, and the same time always.
     pub fn closure_count(&self) -> usize
-        ensures { result ≡ self.now.closures }
+        ensures { result ≡ counted self.now }
     {
         self.closures
     }
@@ -77,7 +77,7 @@ impl FnNames {
     // The number of closures once one function more is there.
     fn closures_with(&self, closure: bool, lib: &FnLib) -> usize
         requires { Agrees self.now (keys_of lib.now.entries) }
-        ensures { result ≡ (if closure then self.now.closures + 1 else self.now.closures) }
+        ensures { result ≡ (if closure then counted self.now + 1 else counted self.now) }
     {
         // A library's length leaves room for one more.
         let _functions = lib.len();
