@@ -1,8 +1,7 @@
 -- What `{:016x}` writes is the last sixteen digits.
-use Rattle.std.proofs.Common.{◌≡◌, ℕ, suc, zero, ◌+◌, ◌-◌, ◌*◌, ◌/◌, ◌%◌, ◌^◌, ◌<◌, ◌≤◌, ◌∙◌, ◌==◌, Bool, true, false, cond, List, [], ◌∷◌, ◌++◌, length, replicate, ap, sym, refl, arith, append_assoc, append-nil, eqb-true, eq-eqb, pow-suc}
-use Rattle.std.specs.Fmt.{digits, digits_onto, digit_glyph, padded_integral, format_spec, char_count}
+use Rattle.std.proofs.Common.{◌≡◌, ℕ, suc, zero, ◌+◌, ◌-◌, ◌/◌, ◌%◌, ◌^◌, ◌<◌, ◌∙◌, ◌==◌, Bool, true, false, cond, List, [], ◌∷◌, ◌++◌, length, replicate, ap, sym, refl, arith, append_assoc, append-nil, eqb-true, eq-eqb, pow-suc}
+use Rattle.std.specs.Fmt.{digits, digits_onto, padded_integral, format_spec, char_count}
 use Rattle.std.proofs.lemmas.List.{replicate_more}
-use Rattle.rhai_lower.specs.Texts.{Text}
 use Rattle.rhai_base.specs.ClosureNames.{hex_digit, last_hex_digits}
 
 -- of 0 the digits are zeros

@@ -1,13 +1,12 @@
 -- Keys of the code and what they stand for.
-use Rattle.std.proofs.Common.{◌≡◌, ℕ, Bool, true, false, ◌&&◌, ◌||◌, cond, nat_eq, List, [], ◌∷◌, ◌++◌, Option, None, Some, option_map, is_some, map, ap, sym, refl, ◌∙◌, IsTrue, ◌↔◌}
+use Rattle.std.proofs.Common.{◌≡◌, Bool, true, false, ◌&&◌, ◌||◌, cond, nat_eq, List, [], ◌∷◌, Option, None, Some, option_map, is_some, map, ap, sym, refl, ◌∙◌}
 use Rattle.std.specs.Map.{lookup}
-use Rattle.std.specs.List.{list_any}
 use Rattle.std.specs.Rc.{rc_str_bytes}
 use Rattle.std.specs.declared.rc.RcStr.{RcStr}
 use Rattle.std.specs.declared.alloc.Global.{Global}
-use Rattle.rhai_lower.specs.Texts.{Text, same_text}
+use Rattle.rhai_lower.specs.Texts.{same_text}
 use Rattle.rhai_grammar.specs.declared.key.FnKey.{FnKey}
-use Rattle.rhai_base.specs.Keys.{Key, key_of, keys_of, same_type, same_key, has_key}
+use Rattle.rhai_base.specs.Keys.{key_of, keys_of, same_type, same_key, has_key}
 
 -- equality of keys as it is derived
 abbrev pub equal_types : Option (RcStr Global) → Option (RcStr Global) → Bool

@@ -91,7 +91,7 @@ pub fn closure_count(lib: &FnLib) -> usize
 }
 
 // Whether a key's name begins with `anon$`.
-fn is_closure_key(key: &FnKey) -> bool
+pub(crate) fn is_closure_key(key: &FnKey) -> bool
     ensures { result ≡ is_closure (key_of key.now) }
 {
     key.name.as_str().as_bytes().starts_with(b"anon$")

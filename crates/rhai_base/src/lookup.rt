@@ -34,10 +34,9 @@ fn find_slot(slots: &Scope, name: &str) -> (usize, bool)
 fn find_import(imports: &[RcStr], name: &str) -> Option<NonZeroUsize>
     ensures { option_map (λ place. place.value) result ≡ module_number name.now (map rc_str_bytes imports.now) }
 {
-    let len = imports.len();
-    for i in (0..len).rev() {
+    for i in (0..imports.len()).rev() {
         if imports[i].as_str() == name {
-            return NonZeroUsize::new(len - i);
+            return NonZeroUsize::new(imports.len() - i);
         }
     }
     None
