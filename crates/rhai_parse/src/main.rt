@@ -5,6 +5,7 @@
 mod escape;
 mod lines;
 mod list;
+mod literal;
 mod number;
 mod print;
 mod refused;

@@ -12,6 +12,8 @@ pub use rhai_base::{
 };
 pub use rhai_grammar::{ExprFilter, FnKey, InputError, ParseError, ParseErrorType, ParseResult};
 pub use rhai_lower::{
-    AST, Entry, Expr, FnCallExpr, LexError, Namespace, OptimizationLevel, Position, Scope,
-    ScriptFuncDef, Stmt, StmtBlock, StmtBlockContainer, Token, TokenStream,
+    AST, BinaryExpr, Entry, Expr, FlowControl, FnCallExpr, ForLoop, Ident, LexError, LinkFlags,
+    LoopControl, Namespace, OptimizationLevel, Position, RangeCase, Scope, ScriptFuncDef, Stmt,
+    StmtBlock, StmtBlockContainer, SwitchCase, SwitchCasesCollection, Token, TokenStream,
+    VariableExpr,
 };
