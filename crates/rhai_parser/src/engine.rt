@@ -44,13 +44,13 @@ impl Model for Engine {
     ghost Value = { EngineValue };
 
     ghost view = { λ e. record {
-        options = e.options.0;
-        max_expr_depth = e.max_expr_depth;
-        max_function_expr_depth = e.max_function_expr_depth;
-        max_functions = e.max_functions;
-        max_array_size = e.max_array_size;
-        max_map_size = e.max_map_size;
-        sub_modules = map rc_str_bytes e.sub_modules.items;
+      options = e.options.0;
+      max_expr_depth = e.max_expr_depth;
+      max_function_expr_depth = e.max_function_expr_depth;
+      max_functions = e.max_functions;
+      max_array_size = e.max_array_size;
+      max_map_size = e.max_map_size;
+      sub_modules = map rc_str_bytes e.sub_modules.items;
     } };
 }
 

@@ -8,8 +8,8 @@ mod shared;
 
 pub use engine::Engine;
 pub use rhai_base::{
-    FnLib, LangOptions, ParseCounts, ParseSettingFlags, ParseSettings, ParseState, TokenizerControl,
-    make_anonymous_fn, nest_peak,
+    FnLib, LangOptions, ParseCounts, ParseSettingFlags, ParseSettings, ParseState,
+    TokenizerControl, make_anonymous_fn, nest_peak,
 };
 pub use rhai_grammar::{ExprFilter, FnKey, InputError, ParseError, ParseErrorType, ParseResult};
 pub use rhai_lower::{
