@@ -129,6 +129,10 @@ fn read_line(
     ensures { All (λ e. IsTrue (may_be_delivered e)) entries.new.items }
 {
     let line = str::from_utf8(line).ok().ok_or(LineError::Unreadable)?;
+    // A list with other line ends would else have texts with a carriage return too many.
+    if line.ends_with('\r') {
+        return Err(LineError::Unreadable);
+    }
     let (place, rest) = line.split_once(' ').ok_or(LineError::Unreadable)?;
     let pos = position(place).ok_or(LineError::Unreadable)?;
     if rest == "eof" {
