@@ -8,11 +8,10 @@ use Rattle.rhai_grammar.specs.declared.filter.ExprFilter.TheVariants.{All}
 use Rattle.rhai_base.specs.Counts.{counts_of, none_yet}
 use Rattle.rhai_base.specs.declared.state.ParseState.{ParseState}
 
--- The next token is asked for in code mode, every token may stand in an expression, and there is no function or closure, no
--- slot, no captured name and no import, and all counts are 0.
+-- The next token is asked for in code mode, every token may stand in an expression, there is no slot, no captured name and
+-- no import, and all counts are 0. The library is not spoken of: it may hold functions.
 pub record IsFresh (s : ParseState (List SlotValue) (Vec (RcStr Global × Position) Global) (Vec (RcStr Global) Global)) : Type 0 where
   pub mode : s.input.now.in_text ≡ false
-  pub library : s.lib.now.entries ≡ []
   pub filter : s.expr_filter ≡ All
   pub stack : s.stack ≡ []
   pub frame : s.frame_pointer ≡ 0

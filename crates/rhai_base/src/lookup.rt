@@ -13,8 +13,10 @@ use std::rc::RcStr;
 /// The name of a barrier's slot.
 const BARRIER: &str = "$ BARRIER $";
 
-// The place of the latest slot of this name, or 0, and whether a barrier lies before it.
-fn find_slot(slots: &Scope, name: &str) -> (usize, bool)
+/// Where the variable `name` lies among slots: the place of its latest slot, counted from 1 at the latest of all, or 0 if
+/// no slot has the name; and whether a barrier, a slot of the name `$ BARRIER $`, lies before it, or anywhere if no slot
+/// has the name. A barrier does not stop the search, and is itself never found. It takes no memory.
+pub fn find_slot(slots: &Scope, name: &str) -> (usize, bool)
     ensures value { result ≡ (unwrap_or (number name.now slots.now) 0, barrier_before name.now slots.now) }
 {
     let len = slots.len();

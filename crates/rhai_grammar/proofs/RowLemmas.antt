@@ -1,12 +1,34 @@
 -- The worked rows, by computing.
 use Rattle.std.proofs.Common.{refl, inl, inr}
 use Rattle.rhai_grammar.specs.Settings.{one_more}
-use Rattle.rhai_grammar.specs.Rows.{SumRow}
+use Rattle.rhai_grammar.specs.Slots.{number}
+use Rattle.rhai_grammar.specs.Rows.{SumRow, OpenRow, MinusRow, EndedRow, CallRow}
 
 pub sum_row : SumRow
 unfolding one_more
 sum_row = record {
   tree_is = refl;
-  fits = (refl, (refl, (refl, (refl, (refl, (refl, (refl, (refl, (refl, (refl, (refl, (refl, (refl, (refl, (refl, (refl, (refl, (refl, (refl, refl)))))))))))))))))));
-  deep = inr (refl, inr (refl, inr (refl, (refl, (refl, (refl, inr (refl, inr (refl, inr (refl, inr (refl, (refl, (refl, (refl, inr (refl, inr (refl, inr (refl, inl (refl, refl, refl)))))))))))))))));
+  fits = (refl, (refl, (refl, (refl, (refl, (refl, (refl, (refl, (refl, (refl, (refl, (refl, (refl, (refl, (refl, (refl, (refl, (refl, (refl, (refl, (refl, (refl, (refl, (refl, (refl, (refl, (refl, (refl, (refl, refl)))))))))))))))))))))))))))));
+  deep = inr (refl, (refl, inr (refl, inr (refl, inr (refl, (refl, (refl, (refl, inr (refl, (refl, inr (refl, inr (refl, inr (refl, inr (refl, (refl, (refl, (refl, inr (refl, (refl, inr (refl, inr (refl, inr (refl, inl (refl, refl, refl)))))))))))))))))))))));
+}
+
+pub open_row : OpenRow
+unfolding one_more
+open_row = record { tree_is = refl; fits = (refl, (refl, (refl, (refl, (refl, (refl, (refl, (refl, (refl, (refl, (refl, (refl, (refl, (refl, (refl, (refl, (refl, (refl, refl)))))))))))))))))) }
+
+pub minus_row : MinusRow
+unfolding one_more
+minus_row = record { tree_is = refl; fits = (refl, (refl, (refl, (refl, (refl, (refl, (refl, (refl, (refl, (refl, (refl, (refl, (refl, (refl, (refl, (refl, (refl, (refl, (refl, (refl, (refl, (refl, refl)))))))))))))))))))))) }
+
+pub ended_row : EndedRow
+unfolding one_more
+ended_row = record { missed = inr (refl, (refl, inr (refl, inr (refl, inr (refl, (refl, (refl, (refl, inr (refl, (refl, inl (refl, refl))))))))))) }
+
+pub call_row : CallRow
+unfolding one_more number
+call_row = record {
+  tree_is = refl;
+  fits = (refl, (refl, (refl, (refl, (refl, (refl, (refl, (refl, (refl, (refl, (refl, (refl, (refl, (refl, (refl, (refl, refl))))))))))))))));
+  argument_deep = inr (refl, inr (refl, (refl, inr (refl, inr (refl, inr (refl, inl (refl, refl)))))));
+  list_deep = inr (refl, inr (refl, (refl, inr (refl, inr (refl, inl (refl, refl, refl))))));
 }

@@ -1,64 +1,145 @@
 -- Spelling, as a projection of what forms demand.
 use Rattle.std.proofs.Common.{◌≡◌, Bool, true, false, List, [], ◌∷◌, ◌++◌, rules, refl, sym, ap, ◌∙◌, subst, if◌then◌else◌}
-use Rattle.std.specs.Prelude.{map, All, IsTrue}
+use Rattle.std.specs.Prelude.{Some, None, IsTrue}
 use Rattle.std.proofs.lemmas.List.Elements.{All-head, All-tail}
-use Rattle.rhai_lower.specs.Lexemes.{Lexeme, Integer, Sign, lexeme}
-use Rattle.rhai_lower.specs.Entries.{ask_of, ask_of_token, may_be_delivered, token_may_be_delivered, in_code}
+use Rattle.rhai_lower.specs.Nodes.{position_of}
+use Rattle.rhai_lower.specs.Lexemes.{Lexeme, Sign, lexeme}
+use Rattle.rhai_lower.specs.Entries.{may_be_delivered, token_may_be_delivered}
+use Rattle.rhai_lower.specs.Entries.{in_code as in_code_mode}
 use Rattle.rhai_lower.specs.declared.position.Position.{Position}
 use Rattle.rhai_lower.specs.declared.stream.Entry.{Entry}
 use Rattle.rhai_lower.specs.declared.token.Token.{Token}
 use Rattle.rhai_lower.specs.declared.token.Token.TheVariants as token
 use Rattle.rhai_grammar.specs.Causes.{Cause}
+use Rattle.rhai_grammar.specs.Beginnings.{unexpected}
 use Rattle.rhai_grammar.specs.Delivered as M
 use Rattle.rhai_grammar.specs.Delivered.{Mode, Point, Tokens, Ends, Then, Taken, ask, later, past, next_at, is_end, is_memory}
-use Rattle.rhai_grammar.specs.Cursors.{delivered}
 use Rattle.rhai_grammar.specs.Seen.{Gives, leads}
 use Rattle.rhai_grammar.specs.Settings.{Settings, up}
-use Rattle.rhai_grammar.specs.Forms.{Operand, Number, Run, Just, Binary}
-use Rattle.rhai_grammar.specs.Spelling.{operand_spelling, spelling, is_deliverable, IsDelivered}
-use Rattle.rhai_grammar.specs.Demands.{Verdict, Fine, Wrong, Otherwise, Demands, Nothing, ◌▸◌, Tok, Next, Test, Shape, verdict, Met}
+use Rattle.rhai_grammar.specs.Walks.{Walk}
+use Rattle.rhai_grammar.specs.Forms as form
+use Rattle.rhai_grammar.specs.Forms.{Primary, Operand, Arguments, Items, Run}
+use Rattle.rhai_grammar.specs.Trees.{primary_tree, tree}
+use Rattle.rhai_grammar.specs.Spelling.{in_code, primary_spelling, operand_spelling, argument_spelling, item_spelling, spelling, is_deliverable, IsDelivered}
+use Rattle.rhai_grammar.specs.Demands.{Verdict, Fine, Wrong, Otherwise, Demands, Nothing, ◌▸◌, Next, Met}
 use Rattle.rhai_grammar.specs.Written as W
-use Rattle.rhai_grammar.specs.Written.{Side, Outermost, RightOf, Spot, outermost, right_side, height_after, raise_behind, end_due, run_ends}
+use Rattle.rhai_grammar.specs.Written.{Side, Outermost, RightOf, Spot, outermost, right_side, height_after, is_ranged, raise_behind, operands_fit, end_due, run_ends}
 use Rattle.rhai_grammar.specs.Laws.{EntriesAreDelivered, FormsAreSpelled, StreamsAreWhole}
 use Rattle.rhai_grammar.proofs.SeenLemmas.{both, leads_on}
+
+-- tokens on the way from one point of a stream to another
+abbrev Way : List Taken → Tokens → Tokens → Type 0
+Way taken s e = Gives taken s × (e ≡ leads taken s)
+
+-- a token, and those behind it
+first : (l : Lexeme) (at : Position) (taken : List Taken) (s e : Tokens) → ask M.code s ≡ M.item l at → Way taken (later M.code s) e → Way (in_code l at ∷ taken) s e
+first l at taken s e stands way = ((stands, way.0), way.1)
+
+-- one way, and another behind it
+along : (a b : List Taken) (s m e : Tokens) → Way a s m → Way b m e → Way (a ++ b) s e
+along a b s m e v w =
+    (both a b s v.0 (subst (λ x. Gives b x) v.1 w.0), w.1 ∙ ap (λ x. leads b x) v.1 ∙ sym (leads_on a b s))
 
 -- tokens on the way to a point at which further demands are met
 record Spelled (taken : List Taken) (k : Demands) (s t : Point) : Type 0 where
   pub end : Point
   pub met : Met k end t
-  pub gives : Gives taken s.tokens
-  pub leads_to : end.tokens ≡ leads taken s.tokens
+  pub way : Way taken s.tokens end.tokens
 
 raised : (side : Side) (k : Demands) (s t : Point) → Met (raise_behind side k) s t → Met k s t
 raised Outermost k s t m = m
 raised (RightOf op h) k s t m = m.1
 
-operand_spelled : (x : Operand) (c : Settings) (k : Demands) (s t : Point) → Met (W.operand x c k) s t → Spelled (operand_spelling x) k s t
-operand_spelled (Number n at) c k s t m = record { end = past M.code s; met = m.1; gives = (m.0, tt); leads_to = refl }
+mutual
+  primary_spelled : (x : Primary) (c : Settings) (w : Walk) (ranged : Bool) (k : Demands) (s t : Point) → Met (W.primary x c w ranged k) s t → Spelled (primary_spelling x) k s t
+  primary_spelled (form.Value token at) c w ranged k s t m = record { end = past M.code s; met = m.1.1; way = ((m.1.0, tt), refl) }
+  primary_spelled (form.Named name at) c w ranged k s t m = record { end = past M.code s; met = m.1; way = ((m.0, tt), refl) }
+  primary_spelled (form.Word word at) c w ranged k s t m = record { end = past M.code s; met = m.1.1; way = ((m.0, tt), refl) }
+  primary_spelled (form.Group opening inside closing) c w ranged k s t m =
+      let e = run_spelled inside (outermost (up (up c)) w) _ (past M.code s) t m.1.1.1 in
+      record {
+        end = past M.code e.end;
+        met = e.met.1.1;
+        way = first (Sign token.LeftParen) opening _ s.tokens _ m.0
+            (along (spelling inside) (in_code (Sign token.RightParen) closing ∷ []) _ e.end.tokens _ e.way ((e.met.1.0, tt), refl));
+      }
+  primary_spelled (form.Zero range at) c w ranged k s t m = record { end = s; met = m.1.1; way = (tt, refl) }
 
-run_spelled : (f : Run) (q : Spot) (k : Demands) (s t : Point) → Met (W.run f q k) s t → Spelled (spelling f) k s t
-run_spelled (Just x) q k s t m =
-    let g = operand_spelled x q.first _ s t m in
-    record { end = g.end; met = raised q.side k g.end t g.met.1; gives = g.gives; leads_to = g.leads_to }
-run_spelled (Binary op at l r) q k s t m =
-    let L = run_spelled l q _ s t m in
-    let R = run_spelled r (right_side op (height_after q l)) k (past M.code L.end) t L.met.1.1.1.1 in
-    let way = spelling l in
-    let stands = ap (ask M.code) (sym L.leads_to) ∙ L.met.1.1.1.0 in
-    record {
-      end = R.end;
-      met = R.met;
-      gives = both way _ s.tokens L.gives (stands, subst (λ w. Gives (spelling r) (later M.code w)) L.leads_to R.gives);
-      leads_to = R.leads_to ∙ ap (λ w. leads (spelling r) (later M.code w)) L.leads_to ∙ sym (leads_on way _ s.tokens);
-    }
+  operand_spelled : (x : Operand) (c : Settings) (w : Walk) (ranged : Bool) (k : Demands) (s t : Point) → Met (W.operand x c w ranged k) s t → Spelled (operand_spelling x) k s t
+  operand_spelled (form.Plain x) c w ranged k s t m =
+      let p = primary_spelled x c w ranged _ s t m in
+      record { end = p.end; met = p.met.1; way = p.way }
+  operand_spelled (form.Call x None args) c w ranged k s t m =
+      let p = primary_spelled x c w ranged _ s t m in
+      let a = arguments_spelled args W.anything c w (position_of (primary_tree x w true)) k p.end t p.met.1 in
+      record { end = a.end; met = a.met; way = along (primary_spelling x) (argument_spelling args) _ p.end.tokens _ p.way a.way }
+  operand_spelled (form.Call x (Some bang) args) c w ranged k s t m =
+      let p = primary_spelled x c w ranged _ s t m in
+      let a = arguments_spelled args W.list_due c w (position_of (primary_tree x w true)) k (past M.code p.end) t p.met.1.1 in
+      record {
+        end = a.end;
+        met = a.met;
+        way = along (primary_spelling x) (in_code (Sign token.Bang) bang ∷ argument_spelling args) _ p.end.tokens _ p.way
+            (first (Sign token.Bang) bang _ p.end.tokens _ p.met.1.0 a.way);
+      }
+  operand_spelled (form.Signed sign at x) c w ranged k s t m =
+      let e = operand_spelled x (up c) w false _ (past M.code s) t m.1.1.1 in
+      record { end = e.end; met = e.met.1; way = first sign at _ s.tokens _ m.1.0 e.way }
+  operand_spelled (form.NoOperand token at) c w ranged k s t m = record { end = s; met = m.1.1; way = (tt, refl) }
 
-whole_spelled : (c : Settings) (f : Run) (s t : Point) → Met (W.whole_expression f c) s t → Spelled (spelling f) (Next run_ends ▸ Next end_due ▸ Nothing) s t
-whole_spelled c f s t m = run_spelled f (outermost (up c)) _ s t m.1
+  arguments_spelled : (x : Arguments) (others : Lexeme → Verdict) (c : Settings) (w : Walk) (name : Position) (k : Demands) (s t : Point) → Met (W.arguments x others c w name k) s t → Spelled (argument_spelling x) k s t
+  arguments_spelled (form.EmptyPair at) others c w name k s t m = record { end = past M.code s; met = m.1; way = ((m.0, tt), refl) }
+  arguments_spelled (form.Empty opening closing) others c w name k s t m = record { end = past M.code (past M.code s); met = m.1.1; way = ((m.0, (m.1.0, tt)), refl) }
+  arguments_spelled (form.Listed opening list) others c w name k s t m =
+      let e = items_spelled list (up c) w k (past M.code s) t m.1.1.1 in
+      record { end = e.end; met = e.met; way = first (Sign token.LeftParen) opening _ s.tokens _ m.0 e.way }
+
+  items_spelled : (x : Items) (c : Settings) (w : Walk) (k : Demands) (s t : Point) → Met (W.items x c w k) s t → Spelled (item_spelling x) k s t
+  items_spelled (form.Last f closing) c w k s t m =
+      let e = run_spelled f (outermost (up c) w) _ s t m.1 in
+      record {
+        end = past M.code e.end;
+        met = e.met.1.1;
+        way = along (spelling f) _ s.tokens e.end.tokens _ e.way ((e.met.1.0, tt), refl);
+      }
+  items_spelled (form.Trailing f comma closing) c w k s t m =
+      let e = run_spelled f (outermost (up c) w) _ s t m.1 in
+      record {
+        end = past M.code (past M.code e.end);
+        met = e.met.1.1.1;
+        way = along (spelling f) _ s.tokens e.end.tokens _ e.way ((e.met.1.0, (e.met.1.1.0, tt)), refl);
+      }
+  items_spelled (form.More f comma rest) c w k s t m =
+      let e = run_spelled f (outermost (up c) w) _ s t m.1 in
+      let r = items_spelled rest c w k (past M.code e.end) t e.met.1.1.1 in
+      record {
+        end = r.end;
+        met = r.met;
+        way = along (spelling f) _ s.tokens e.end.tokens _ e.way (first (Sign token.Comma) comma _ e.end.tokens _ e.met.1.0 r.way);
+      }
+
+  run_spelled : (f : Run) (q : Spot) (k : Demands) (s t : Point) → Met (W.run f q k) s t → Spelled (spelling f) k s t
+  run_spelled (form.Just x) q k s t m =
+      let g = operand_spelled x q.first q.walk (is_ranged q.side) _ s t m in
+      record { end = g.end; met = raised q.side k g.end t g.met.1; way = g.way }
+  run_spelled (form.Binary op at l r) q k s t m =
+      let w = q.walk in
+      let left = run_spelled l q _ s t m in
+      let right = run_spelled r (right_side op (height_after q l) w) (operands_fit op (tree l w) (tree r w) k) (past M.code left.end) t left.met.1.1.1.1 in
+      record {
+        end = right.end;
+        met = right.met.1.1;
+        way = along (spelling l) (in_code op at ∷ spelling r) s.tokens left.end.tokens _ left.way
+            (first op at _ left.end.tokens _ left.met.1.1.1.0 right.way);
+      }
+
+whole_spelled : (c : Settings) (w : Walk) (f : Run) (s t : Point) → Met (W.whole_expression f c w) s t → Spelled (spelling f) (Next run_ends ▸ Next end_due ▸ Nothing) s t
+whole_spelled c w f s t m = run_spelled f (outermost (up c) w) _ s t m.1
 
 pub forms_are_spelled : FormsAreSpelled
-forms_are_spelled c f s t m =
-    let g = whole_spelled c f s t m in
-    (g.gives, ap (λ (p : Point). p.tokens) (sym g.met.1.1) ∙ g.leads_to)
+forms_are_spelled c w f s t m =
+    let g = whole_spelled c w f s t m in
+    (g.way.0, ap (λ (p : Point). p.tokens) (sym g.met.1.1) ∙ g.way.1)
 
 -- ---- delivered streams
 
@@ -85,23 +166,23 @@ end_fine false true c h = refl
 end_fine false false c h = absurd cc
 
 pub streams_are_whole : StreamsAreWhole
-streams_are_whole c f s t d m =
-    let g = whole_spelled c f s t m in
+streams_are_whole c w f s t d m =
+    let g = whole_spelled c w f s t m in
     let l = (next_at M.code g.end).lexeme in
-    let w = at_end g.end.tokens (subst IsDelivered (sym g.leads_to) (delivered_leads (spelling f) s.tokens d)) (end_fine (is_memory l) (is_end l) (W.unexpected l) g.met.1.0) in
-    (w.0, ap (λ (p : Point). p.tokens) (sym g.met.1.1) ∙ w.1)
+    let e = at_end g.end.tokens (subst IsDelivered (sym g.way.1) (delivered_leads (spelling f) s.tokens d)) (end_fine (is_memory l) (is_end l) (unexpected l) g.met.1.0) in
+    (e.0, ap (λ (p : Point). p.tokens) (sym g.met.1.1) ∙ e.1)
 
 token_deliverable : (t : Token) → token_may_be_delivered t ≡ true → is_deliverable (lexeme t) ≡ true
 token_deliverable (token.Identifier name) e = e
 token_deliverable token.EOF e = absurd cc
 token_deliverable _ e = refl
 
-code_deliverable : (t : Token) → token_may_be_delivered t ≡ true → is_deliverable (lexeme (in_code t)) ≡ true
+code_deliverable : (t : Token) → token_may_be_delivered t ≡ true → is_deliverable (lexeme (in_code_mode t)) ≡ true
 code_deliverable (token.Identifier name) e = e
 code_deliverable token.EOF e = absurd cc
 code_deliverable _ e = refl
 
-marked_deliverable : (t : Token) (marked : Bool) → token_may_be_delivered t ≡ true → is_deliverable (lexeme (if marked then in_code t else t)) ≡ true
+marked_deliverable : (t : Token) (marked : Bool) → token_may_be_delivered t ≡ true → is_deliverable (lexeme (if marked then in_code_mode t else t)) ≡ true
 marked_deliverable t true e = code_deliverable t e
 marked_deliverable t false e = token_deliverable t e
 

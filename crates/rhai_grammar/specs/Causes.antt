@@ -120,9 +120,13 @@ is_memory_kind _ = false
 abbrev pub is_for_memory : ParseError → Bool
 is_for_memory e = is_memory_kind e.0
 
--- The error says that a script is refused so, unless memory ran out for saying it.
+-- If memory ran out, the error stands nowhere.
+abbrev pub MemoryIsNowhere : ParseError → Type 0
+MemoryIsNowhere e = is_for_memory e ≡ true → e ≡ no_memory
+
+-- The error says that a script is refused so, unless memory ran out for saying it, which stands nowhere.
 abbrev pub Says : Refusal → ParseError → Type 0
-Says r e = is_for_memory e ≡ false → refusal_of e ≡ r
+Says r e = (is_for_memory e ≡ false → refusal_of e ≡ r) × MemoryIsNowhere e
 
 abbrev pub out_of_memory : Refusal
 out_of_memory = refusal OutOfMemory nowhere

@@ -1,6 +1,7 @@
 -- What may be demanded of a stream, when demands are met along it, and when the next one is missed.
 use Rattle.std.specs.Prelude.{◌≡◌, ◌⊎◌, Bool, true, false, if◌then◌else◌}
 use Rattle.rhai_lower.specs.Lexemes.{Lexeme}
+use Rattle.rhai_lower.specs.declared.position.Position.{Position}
 use Rattle.rhai_grammar.specs.Causes.{Cause, Refusal, refusal}
 use Rattle.rhai_grammar.specs.Delivered.{Mode, code, Item, Point, next_at, past, is_memory}
 
@@ -10,6 +11,8 @@ pub data Verdict : Type 0 where
   Fine : Verdict
   -- it is refused, for this cause and at its position
   Wrong : Cause → Verdict
+  -- something before it is refused so
+  Blames : Refusal → Verdict
   -- another form goes on so
   Otherwise : Verdict
 
@@ -17,6 +20,8 @@ infixr 5 ◌▸◌
 pub data Demand : Type 0 where
   -- this token stands here, asked for in this mode; of other tokens some are refused
   Tok : Mode → Item → (others : Lexeme → Verdict) → Demand
+  -- this token comes next, and is not taken; of other tokens some are refused
+  Ahead : Item → (others : Lexeme → Verdict) → Demand
   -- a test of the token that comes next, which is not taken
   Next : (Lexeme → Verdict) → Demand
   -- a test of what was read, and what is refused where it fails
@@ -37,18 +42,27 @@ verdict v l = if is_memory l then Otherwise else v l
 abbrev pub Met : Demands → Point → Point → Type 0
 Met Nothing s t = s ≡ t
 Met (Tok m i others ▸ ds) s t = (next_at m s ≡ i) × Met ds (past m s) t
+Met (Ahead i others ▸ ds) s t = (next_at code s ≡ i) × Met ds s t
 Met (Next v ▸ ds) s t = (verdict v (next_at code s).lexeme ≡ Fine) × Met ds s t
 Met (Test holds e ▸ ds) s t = (holds ≡ true) × Met ds s t
 Met (Shape holds ▸ ds) s t = (holds ≡ true) × Met ds s t
 
--- A token is refused by a verdict on the tokens that may stand at a point.
+-- what a verdict on a token at this position refuses
+abbrev pub Refuses : Verdict → Position → Refusal → Type 0
+Refuses (Wrong cause) at e = e ≡ refusal cause at
+Refuses (Blames d) at e = e ≡ d
+Refuses Fine at e = ⊥
+Refuses Otherwise at e = ⊥
+
+-- A verdict on the tokens that may stand at a point refuses the one that does.
 abbrev pub Refused : (Lexeme → Verdict) → Item → Refusal → Type 0
-Refused v i e = (cause : Cause) × (verdict v i.lexeme ≡ Wrong cause) × (e ≡ refusal cause i.at)
+Refused v i e = Refuses (verdict v i.lexeme) i.at e
 
 -- Some demands are met from one point to another, and there the next one is missed, which names the refusal.
 abbrev pub Missed : Demands → Point → Refusal → Point → Type 0
 Missed Nothing s e u = ⊥
 Missed (Tok m i others ▸ ds) s e u = (Refused others (next_at m s) e × (u ≡ s)) ⊎ ((next_at m s ≡ i) × Missed ds (past m s) e u)
+Missed (Ahead i others ▸ ds) s e u = (Refused others (next_at code s) e × (u ≡ s)) ⊎ ((next_at code s ≡ i) × Missed ds s e u)
 Missed (Next v ▸ ds) s e u = (Refused v (next_at code s) e × (u ≡ s)) ⊎ ((verdict v (next_at code s).lexeme ≡ Fine) × Missed ds s e u)
 Missed (Test holds d ▸ ds) s e u = ((holds ≡ false) × (e ≡ d) × (u ≡ s)) ⊎ ((holds ≡ true) × Missed ds s e u)
 Missed (Shape holds ▸ ds) s e u = (holds ≡ true) × Missed ds s e u

@@ -1,13 +1,47 @@
 -- Written forms: what a person writes, with the position of each token.
-use Rattle.std.specs.Prelude.{ℤ}
+use Rattle.std.specs.Prelude.{Option}
+use Rattle.rhai_lower.specs.Texts.{Text}
 use Rattle.rhai_lower.specs.Lexemes.{Lexeme}
 use Rattle.rhai_lower.specs.declared.position.Position.{Position}
 
--- what stands between operators
-pub data Operand : Type 0 where
-  Number : (n : ℤ) (at : Position) → Operand
+mutual
+  -- an operand without its sign, and without what calls it
+  pub data Primary : Type 0 where
+    -- a value of one token
+    Value : (token : Lexeme) (at : Position) → Primary
+    -- the name of a variable, or of a function that is called
+    Named : (name : Text) (at : Position) → Primary
+    -- a reserved word: `this`, or the name of a function that is called
+    Word : (word : Text) (at : Position) → Primary
+    -- an expression in parentheses
+    Group : (opening : Position) (inside : Run) (closing : Position) → Primary
+    -- the zero before a range operator that nothing is written before; the operator, which is none of this form's tokens
+    Zero : (range : Lexeme) (at : Position) → Primary
 
--- operands joined by binary operators: one operand, or an operator between two runs
-pub data Run : Type 0 where
-  Just : Operand → Run
-  Binary : (op : Lexeme) (at : Position) (left right : Run) → Run
+  -- what stands between operators
+  pub data Operand : Type 0 where
+    Plain : Primary → Operand
+    -- a call, with `!` or without
+    Call : (called : Primary) (bang : Option Position) (arguments : Arguments) → Operand
+    Signed : (sign : Lexeme) (at : Position) (operand : Operand) → Operand
+    -- the unit behind a range operator that nothing is written behind; the token there, which is none of this form's tokens
+    NoOperand : (token : Lexeme) (at : Position) → Operand
+
+  pub data Arguments : Type 0 where
+    -- `()` as one token
+    EmptyPair : (at : Position) → Arguments
+    -- `(` and `)`
+    Empty : (opening closing : Position) → Arguments
+    Listed : (opening : Position) → Items → Arguments
+
+  -- arguments up to the `)`
+  pub data Items : Type 0 where
+    Last : Run → (closing : Position) → Items
+    -- the last one, with a comma behind it
+    Trailing : Run → (comma closing : Position) → Items
+    More : Run → (comma : Position) → Items → Items
+
+  -- operands joined by binary operators: one operand, or an operator between two runs
+  pub data Run : Type 0 where
+    Just : Operand → Run
+    Binary : (op : Lexeme) (at : Position) (left right : Run) → Run

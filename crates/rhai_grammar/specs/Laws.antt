@@ -1,5 +1,5 @@
 -- Laws of the definitions that users rely on.
-use Rattle.std.specs.Prelude.{◌≡◌, true, List, map, All, IsTrue}
+use Rattle.std.specs.Prelude.{◌≡◌, List, map, All, IsTrue}
 use Rattle.rhai_lower.specs.Entries.{ask_of, may_be_delivered}
 use Rattle.rhai_lower.specs.declared.position.Position.{Position}
 use Rattle.rhai_lower.specs.declared.stream.Entry.{Entry}
@@ -7,6 +7,7 @@ use Rattle.rhai_grammar.specs.Delivered.{Point, Ends}
 use Rattle.rhai_grammar.specs.Cursors.{Cursor, delivered}
 use Rattle.rhai_grammar.specs.Seen.{Gives, leads}
 use Rattle.rhai_grammar.specs.Settings.{Settings}
+use Rattle.rhai_grammar.specs.Walks.{Walk}
 use Rattle.rhai_grammar.specs.Forms.{Run}
 use Rattle.rhai_grammar.specs.Trees.{tree}
 use Rattle.rhai_grammar.specs.Spelling.{spelling, IsDelivered}
@@ -16,11 +17,11 @@ use Rattle.rhai_grammar.specs.Promises.{IsWritten}
 
 -- A form whose demands are met is spelled by the tokens on the way.
 abbrev pub FormsAreSpelled : Type 0
-FormsAreSpelled = (c : Settings) (f : Run) (s t : Point) → Met (whole_expression f c) s t → Gives (spelling f) s.tokens × (t.tokens ≡ leads (spelling f) s.tokens)
+FormsAreSpelled = (c : Settings) (w : Walk) (f : Run) (s t : Point) → Met (whole_expression f c w) s t → Gives (spelling f) s.tokens × (t.tokens ≡ leads (spelling f) s.tokens)
 
 -- Behind a form that fits and spells a delivered stream, the stream is at its end.
 abbrev pub StreamsAreWhole : Type 0
-StreamsAreWhole = (c : Settings) (f : Run) (s t : Point) → IsDelivered s.tokens → Met (whole_expression f c) s t → (end : Position) × (t.tokens ≡ Ends end)
+StreamsAreWhole = (c : Settings) (w : Walk) (f : Run) (s t : Point) → IsDelivered s.tokens → Met (whole_expression f c w) s t → (end : Position) × (t.tokens ≡ Ends end)
 
 -- Entries that may be delivered make a delivered stream.
 abbrev pub EntriesAreDelivered : Type 0
@@ -28,4 +29,4 @@ EntriesAreDelivered = (entries : List Entry) (end : Position) → All (λ e. IsT
 
 -- Two forms that fit and spell the same stream have one tree.
 abbrev pub FormsHaveOneTree : Type 0
-FormsHaveOneTree = (c : Settings) (s : Cursor) (f g : Run) → IsWritten c f s → IsWritten c g s → tree f ≡ tree g
+FormsHaveOneTree = (c : Settings) (w : Walk) (s : Cursor) (f g : Run) → IsWritten c w f s → IsWritten c w g s → tree f w ≡ tree g w

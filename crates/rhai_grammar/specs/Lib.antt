@@ -5,6 +5,13 @@ pub mod Cursors
 pub mod Seen
 pub mod Strengths
 pub mod Forms
+pub mod Beginnings
+pub mod Kinds
+pub mod Signs
+pub mod Operators
+pub mod Answers
+pub mod Slots
+pub mod Walks
 pub mod Trees
 pub mod Demands
 pub mod Written
@@ -12,5 +19,4 @@ pub mod Promises
 pub mod Spelling
 pub mod Laws
 pub mod Rows
-pub mod Slots
 pub mod Imports

@@ -1,12 +1,17 @@
 -- The settings that a construct is read under, as plain numbers: the bits of the flags and of the options, the level, and
 -- the limit that it stays within (0: none). Where they stand is no part of them.
 use Rattle.std.specs.Prelude.{◌≡◌, ℕ, ◌+◌, ◌-◌, ◌^◌, ◌==◌, ◌||◌, Bool, true, false, nat_lt, min, refl}
+use Rattle.std.specs.Int.RustNames.{bit_and}
 
 pub record Settings : Type 0 where
   pub flags : ℕ
   pub options : ℕ
   pub level : ℕ
   pub limit : ℕ
+
+-- the bit of the flags that tells a function's body
+abbrev pub in_function : Settings → Bool
+in_function c = bit_and c.flags 2 == 2
 
 -- a raise finds room
 abbrev pub low : Settings → Bool

@@ -1,23 +1,50 @@
 -- The tokens that a written form is spelled with, and streams that are spelled so.
-use Rattle.std.specs.Prelude.{◌≡◌, Bool, true, false, List, [], ◌∷◌, ◌++◌, pos, refl}
+use Rattle.std.specs.Prelude.{◌≡◌, Bool, true, false, Option, Some, None, List, [], ◌∷◌, ◌++◌, pos, codes, refl}
 use Rattle.rhai_lower.specs.Names.{is_identifier}
 use Rattle.rhai_lower.specs.Positions.{place}
-use Rattle.rhai_lower.specs.Lexemes.{Lexeme, Integer, Name, Sign}
+use Rattle.rhai_lower.specs.Lexemes.{Lexeme, Integer, Name, Reserved, Sign}
 use Rattle.rhai_lower.specs.declared.position.Position.{Position}
-use Rattle.rhai_lower.specs.declared.token.Token.TheVariants.{EOF, Plus}
-use Rattle.rhai_grammar.specs.Delivered.{code, item, Item, Tokens, Ends, Then, Taken}
-use Rattle.rhai_grammar.specs.Forms.{Operand, Number, Run, Just, Binary}
+use Rattle.rhai_lower.specs.declared.token.Token.TheVariants.{EOF, LeftParen, RightParen, Comma, Bang}
+use Rattle.rhai_lower.specs.declared.token.Token.TheVariants as token
+use Rattle.rhai_grammar.specs.Delivered.{code, item, Tokens, Ends, Then, Taken}
+use Rattle.rhai_grammar.specs.Forms as form
+use Rattle.rhai_grammar.specs.Forms.{Primary, Operand, Arguments, Items, Run}
 
 abbrev pub in_code : Lexeme → Position → Taken
 in_code l at = record { mode = code; item = item l at }
 
-abbrev pub operand_spelling : Operand → List Taken
-operand_spelling (Number n at) = in_code (Integer n) at ∷ []
+abbrev pub bang_spelling : Option Position → List Taken
+bang_spelling None = []
+bang_spelling (Some at) = in_code (Sign Bang) at ∷ []
 
--- a form's tokens in written order, each with the mode that it is asked for in
-abbrev pub spelling : Run → List Taken
-spelling (Just x) = operand_spelling x
-spelling (Binary op at l r) = spelling l ++ (in_code op at ∷ spelling r)
+-- A form's tokens in written order, each with the mode that it is asked for in. The zero and the unit that are not written have none.
+abbrev mutual
+  pub primary_spelling : Primary → List Taken
+  primary_spelling (form.Value token at) = in_code token at ∷ []
+  primary_spelling (form.Named name at) = in_code (Name name) at ∷ []
+  primary_spelling (form.Word word at) = in_code (Reserved word) at ∷ []
+  primary_spelling (form.Group opening inside closing) = in_code (Sign LeftParen) opening ∷ (spelling inside ++ (in_code (Sign RightParen) closing ∷ []))
+  primary_spelling (form.Zero range at) = []
+
+  pub operand_spelling : Operand → List Taken
+  operand_spelling (form.Plain x) = primary_spelling x
+  operand_spelling (form.Call x bang args) = primary_spelling x ++ (bang_spelling bang ++ argument_spelling args)
+  operand_spelling (form.Signed sign at x) = in_code sign at ∷ operand_spelling x
+  operand_spelling (form.NoOperand token at) = []
+
+  pub argument_spelling : Arguments → List Taken
+  argument_spelling (form.EmptyPair at) = in_code (Sign token.Unit) at ∷ []
+  argument_spelling (form.Empty opening closing) = in_code (Sign LeftParen) opening ∷ in_code (Sign RightParen) closing ∷ []
+  argument_spelling (form.Listed opening list) = in_code (Sign LeftParen) opening ∷ item_spelling list
+
+  pub item_spelling : Items → List Taken
+  item_spelling (form.Last f closing) = spelling f ++ (in_code (Sign RightParen) closing ∷ [])
+  item_spelling (form.Trailing f comma closing) = spelling f ++ (in_code (Sign Comma) comma ∷ in_code (Sign RightParen) closing ∷ [])
+  item_spelling (form.More f comma rest) = spelling f ++ (in_code (Sign Comma) comma ∷ item_spelling rest)
+
+  pub spelling : Run → List Taken
+  spelling (form.Just x) = operand_spelling x
+  spelling (form.Binary op at l r) = spelling l ++ (in_code op at ∷ spelling r)
 
 -- a token that a tokenizer delivers: an identifier is a valid name, and the end mark stands at the end alone
 abbrev pub is_deliverable : Lexeme → Bool
@@ -30,6 +57,6 @@ abbrev pub IsDelivered : Tokens → Type 0
 IsDelivered (Ends p) = Unit {0}
 IsDelivered (Then a b s t) = ((is_deliverable a.lexeme ≡ true) × (is_deliverable b.lexeme ≡ true)) × (IsDelivered s × IsDelivered t)
 
--- `1 + 2`
-example : spelling (Binary (Sign Plus) (place 1 3) (Just (Number (pos 1) (place 1 1))) (Just (Number (pos 2) (place 1 5)))) ≡ in_code (Integer (pos 1)) (place 1 1) ∷ in_code (Sign Plus) (place 1 3) ∷ in_code (Integer (pos 2)) (place 1 5) ∷ []
+-- `f(1)`
+example : spelling (form.Just (form.Call (form.Named (codes "f") (place 1 1)) None (form.Listed (place 1 2) (form.Last (form.Just (form.Plain (form.Value (Integer (pos 1)) (place 1 3)))) (place 1 4))))) ≡ in_code (Name (codes "f")) (place 1 1) ∷ in_code (Sign LeftParen) (place 1 2) ∷ in_code (Integer (pos 1)) (place 1 3) ∷ in_code (Sign RightParen) (place 1 4) ∷ []
 example = refl

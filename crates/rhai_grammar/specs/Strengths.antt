@@ -4,19 +4,7 @@ use Rattle.rhai_lower.specs.Texts.{Text}
 use Rattle.rhai_lower.specs.Names.{is_identifier}
 use Rattle.rhai_lower.specs.Tokens.{strength_of, binds_right}
 use Rattle.rhai_lower.specs.Lexemes.{Lexeme, Reserved, Sign}
-use Rattle.rhai_lower.specs.declared.token.Token.{Token}
-use Rattle.rhai_lower.specs.declared.token.Token.TheVariants.{And, Or, DoubleQuestion, In, NotIn, ExclusiveRange, InclusiveRange, Plus, Multiply, PowerOf}
-
--- The strength of an operator that the written forms have. Those that join lists, test membership or make ranges come later.
-abbrev pub plain_strength : Token → Option ℕ
-plain_strength And = None
-plain_strength Or = None
-plain_strength DoubleQuestion = None
-plain_strength In = None
-plain_strength NotIn = None
-plain_strength ExclusiveRange = None
-plain_strength InclusiveRange = None
-plain_strength t = strength_of t
+use Rattle.rhai_lower.specs.declared.token.Token.TheVariants.{Plus, Multiply, PowerOf}
 
 -- what stands behind an operand
 pub data Behind : Type 0 where
@@ -36,7 +24,7 @@ behind_word true t = Other
 behind_word false t = Unknown t
 
 abbrev pub behind_of : Lexeme → Behind
-behind_of (Sign t) = behind_sign (plain_strength t) (binds_right t)
+behind_of (Sign t) = behind_sign (strength_of t) (binds_right t)
 behind_of (Reserved t) = behind_word (is_identifier t) t
 behind_of _ = Other
 

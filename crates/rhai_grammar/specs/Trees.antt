@@ -1,27 +1,85 @@
 -- The tree of a written form.
-use Rattle.std.specs.Prelude.{◌≡◌, pos, [], Some, None, false, refl}
+use Rattle.std.specs.Prelude.{◌≡◌, ℕ, ◌+◌, pos, negsuc, Bool, true, false, Option, Some, None, [], if◌then◌else◌, refl}
+use Rattle.std.specs.Option.{is_some}
+use Rattle.rhai_lower.specs.Texts.{Text}
 use Rattle.rhai_lower.specs.Positions.{place}
-use Rattle.rhai_lower.specs.Lexemes.{Lexeme, Sign, text_of}
-use Rattle.rhai_lower.specs.Nodes.{Called, Node, integer, call, no_nodes, one_node}
+use Rattle.rhai_lower.specs.Lexemes.{Integer, Sign}
+use Rattle.rhai_lower.specs.Nodes.{Called, Node, Nodes, unit, integer, variable, this, call, no_nodes, one_node, position_of}
 use Rattle.rhai_lower.specs.declared.position.Position.{Position}
-use Rattle.rhai_lower.specs.declared.token.Token.TheVariants.{Plus}
-use Rattle.rhai_grammar.specs.Forms.{Operand, Number, Run, Just, Binary}
+use Rattle.rhai_lower.specs.declared.token.Token.TheVariants.{Plus, UnaryMinus}
+use Rattle.rhai_grammar.specs.Beginnings.{beginning, value_at, is_this}
+use Rattle.rhai_grammar.specs.Signs.{signed}
+use Rattle.rhai_grammar.specs.Operators.{operator_tree, operator_call}
+use Rattle.rhai_grammar.specs.Slots.{number}
+use Rattle.rhai_grammar.specs.Walks.{Walk, nothing_live}
+use Rattle.rhai_grammar.specs.Forms as form
+use Rattle.rhai_grammar.specs.Forms.{Primary, Operand, Arguments, Items, Run}
 
--- a call that only a native function of two arguments can answer, named by the operator that is written
-abbrev pub operator_called : Lexeme → Called
-operator_called op = record { name = text_of op; path = []; module_index = None; script_args = None; native_args = 2; captures_scope = false; op_token = Some op }
+-- ---- names and calls
 
--- an operator's call, which stands at the operator
-abbrev pub operator_call : Lexeme → Position → Node → Node → Node
-operator_call op at left right = call (operator_called op) (one_node left (one_node right no_nodes)) at
+abbrev pub variable_of : Option ℕ → Text → Position → Node
+variable_of slot name at = variable (record { number = slot; name = name; path = []; module_index = None }) at
 
-abbrev pub operand_tree : Operand → Node
-operand_tree (Number n at) = integer n at
+-- A name that is called is no variable's, and has no number.
+abbrev pub name_tree : Walk → (called : Bool) → Text → Position → Node
+name_tree w called name at = variable_of (if called then None else number name w.slots) name at
 
-abbrev pub tree : Run → Node
-tree (Just x) = operand_tree x
-tree (Binary op at l r) = operator_call op at (tree l) (tree r)
+abbrev pub word_tree : Text → Position → Node
+word_tree word at = if is_this word then this at else variable_of None word at
 
--- `1 + 2`
-example : tree (Binary (Sign Plus) (place 1 3) (Just (Number (pos 1) (place 1 1))) (Just (Number (pos 2) (place 1 5)))) ≡ operator_call (Sign Plus) (place 1 3) (integer (pos 1) (place 1 1)) (integer (pos 2) (place 1 5))
+abbrev pub is_variable : Node → Bool
+is_variable (variable v p) = true
+is_variable _ = false
+
+abbrev pub name_of : Node → Text
+name_of (variable v p) = v.name
+name_of _ = []
+
+abbrev pub node_count : Nodes → ℕ
+node_count no_nodes = 0
+node_count (one_node n ns) = node_count ns + 1
+
+-- a call that a function of a script may answer as well as a native one
+abbrev pub function_called : Text → (bang : Bool) → ℕ → Called
+function_called name bang count = record { name = name; path = []; module_index = None; script_args = Some count; native_args = count; captures_scope = bang; op_token = None }
+
+-- the call of a name, which stands at the name
+abbrev pub call_tree : Node → (bang : Bool) → Nodes → Node
+call_tree name bang arguments = call (function_called (name_of name) bang (node_count arguments)) arguments (position_of name)
+
+-- ---- forms
+
+abbrev mutual
+  pub primary_tree : Primary → Walk → (called : Bool) → Node
+  primary_tree (form.Value token at) w called = value_at at (beginning token)
+  primary_tree (form.Named name at) w called = name_tree w called name at
+  primary_tree (form.Word word at) w called = word_tree word at
+  primary_tree (form.Group opening inside closing) w called = tree inside w
+  primary_tree (form.Zero range at) w called = integer (pos 0) at
+
+  pub operand_tree : Operand → Walk → Node
+  operand_tree (form.Plain x) w = primary_tree x w false
+  operand_tree (form.Call x bang arguments) w = call_tree (primary_tree x w true) (is_some bang) (argument_trees arguments w)
+  operand_tree (form.Signed sign at x) w = signed sign at (operand_tree x w)
+  operand_tree (form.NoOperand token at) w = unit at
+
+  pub argument_trees : Arguments → Walk → Nodes
+  argument_trees (form.EmptyPair at) w = no_nodes
+  argument_trees (form.Empty opening closing) w = no_nodes
+  argument_trees (form.Listed opening items) w = item_trees items w
+
+  pub item_trees : Items → Walk → Nodes
+  item_trees (form.Last f closing) w = one_node (tree f w) no_nodes
+  item_trees (form.Trailing f comma closing) w = one_node (tree f w) no_nodes
+  item_trees (form.More f comma items) w = one_node (tree f w) (item_trees items w)
+
+  pub tree : Run → Walk → Node
+  tree (form.Just x) w = operand_tree x w
+  tree (form.Binary op at l r) w = operator_tree op at (tree l w) (tree r w)
+
+abbrev example_one : (column : ℕ) → Run
+example_one column = form.Just (form.Plain (form.Value (Integer (pos 1)) (place 1 column)))
+
+-- `-1 + 1`
+example : tree (form.Binary (Sign Plus) (place 1 4) (form.Just (form.Signed (Sign UnaryMinus) (place 1 1) (form.Plain (form.Value (Integer (pos 1)) (place 1 2))))) (example_one 6)) nothing_live ≡ operator_call (Sign Plus) (place 1 4) (integer (negsuc 0) (place 1 1)) (integer (pos 1) (place 1 6))
 example = refl

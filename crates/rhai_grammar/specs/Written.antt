@@ -1,30 +1,78 @@
 -- What each written form demands of the stream, before what stands behind it does.
-use Rattle.std.specs.Prelude.{Bool, true, if◌then◌else◌}
-use Rattle.rhai_lower.specs.Lexemes.{Lexeme, Integer, Faulty, Sign, text_of}
-use Rattle.rhai_lower.specs.Nodes.{position_of}
+use Rattle.std.specs.Prelude.{Bool, true, false, Some, None, ◌&&◌, codes, if◌then◌else◌}
+use Rattle.rhai_lower.specs.Texts.{Text}
+use Rattle.rhai_lower.specs.Lexemes.{Lexeme, Name, Reserved, Sign}
+use Rattle.rhai_lower.specs.Nodes.{Node, position_of}
 use Rattle.rhai_lower.specs.declared.position.Position.{Position}
-use Rattle.rhai_lower.specs.declared.token.Token.TheVariants.{EOF}
+use Rattle.rhai_lower.specs.declared.token.Token.TheVariants.{Unit, LeftParen, RightParen, Comma, Bang}
 use Rattle.rhai_grammar.specs.Causes as cause
 use Rattle.rhai_grammar.specs.Causes.{Cause, Refusal, refusal}
 use Rattle.rhai_grammar.specs.Delivered.{code, item, is_end}
-use Rattle.rhai_grammar.specs.Settings.{Settings, low, up}
+use Rattle.rhai_grammar.specs.Settings.{Settings, low, up, in_function}
+use Rattle.rhai_grammar.specs.Walks.{Walk}
+use Rattle.rhai_grammar.specs.Beginnings as begin
+use Rattle.rhai_grammar.specs.Beginnings.{Beginning, beginning, unexpected, missing, is_value, is_sign, is_range, closes, calling, calls, is_list, may_be_called, is_this, Following, following, no_argument}
+use Rattle.rhai_grammar.specs.Signs.{sign_holds, malformed}
+use Rattle.rhai_grammar.specs.Operators.{boolean_holds, mismatched}
 use Rattle.rhai_grammar.specs.Strengths.{Behind, Operator, Unknown, Other, behind_of, is_operator, left_of, right_of}
-use Rattle.rhai_grammar.specs.Forms.{Operand, Number, Run, Just, Binary}
-use Rattle.rhai_grammar.specs.Trees.{operand_tree}
-use Rattle.rhai_grammar.specs.Demands.{Verdict, Fine, Wrong, Otherwise, Demands, Nothing, Tok, Next, Test, Shape, ◌▸◌}
+use Rattle.rhai_grammar.specs.Forms as form
+use Rattle.rhai_grammar.specs.Forms.{Primary, Operand, Arguments, Items, Run}
+use Rattle.rhai_grammar.specs.Trees.{is_variable, primary_tree, operand_tree, tree}
+use Rattle.rhai_grammar.specs.Demands.{Verdict, Fine, Wrong, Blames, Otherwise, Demands, Nothing, Tok, Ahead, Next, Test, Shape, ◌▸◌}
 
 -- ---- which tokens are refused where one is due
 
--- a token that has no place here: the tokenizer's error if it is one
-abbrev pub unexpected : Lexeme → Cause
-unexpected (Faulty f) = cause.BadInput (cause.Lexer f)
-unexpected l = cause.BadInput (cause.UnexpectedInput (text_of l))
+-- where an operand is due; behind a range operator, some tokens say that none is written
+abbrev pub due : Beginning → Verdict
+due (begin.NoBeginning why) = Wrong why
+due _ = Otherwise
 
--- where an operand is due
-abbrev pub operand_due : Lexeme → Verdict
-operand_due (Integer n) = Otherwise
-operand_due (Sign EOF) = Wrong cause.UnexpectedEOF
-operand_due l = Wrong (unexpected l)
+abbrev pub operand_due : (ranged : Bool) → Lexeme → Verdict
+operand_due ranged l = if ranged && closes l then Otherwise else due (beginning l)
+
+abbrev pub anything : Lexeme → Verdict
+anything l = Otherwise
+
+-- Behind a reserved word: what calls it, if it may be called. In a function `this` may stand with anything behind it.
+abbrev pub word_use : Settings → Text → Position → (called : Bool) → Verdict
+word_use c word at called =
+    if may_be_called word && called then Fine else
+    if is_this word then (if in_function c then Fine else Blames (refusal (cause.BadInput (cause.ImproperSymbol word)) at)) else
+    Blames (refusal (cause.Reserved word) at)
+
+abbrev pub word_behind : Settings → Text → Position → Lexeme → Verdict
+word_behind c word at l = word_use c word at (calls l)
+
+-- behind an operand that is not called: nothing that calls a variable
+abbrev pub uncalled : Node → Lexeme → Verdict
+uncalled x l = if is_variable x && calls l then Otherwise else Fine
+
+-- behind the `!` of a call
+abbrev pub list_due : Lexeme → Verdict
+list_due l = if is_list (calling l) then Otherwise else Wrong (missing (codes "(") l)
+
+-- behind the `(` of a call: no end mark and no error of the tokenizer
+abbrev pub close_or_argument : Lexeme → Verdict
+close_or_argument l = if no_argument l then Wrong (missing (codes ")") l) else Otherwise
+
+abbrev pub argument_due : Lexeme → Verdict
+argument_due l = if no_argument l then Wrong (missing (codes ")") l) else if begin.is_close (following l) then Otherwise else Fine
+
+-- behind an argument
+abbrev pub follows : Following → Verdict
+follows (begin.NoFollowing why) = Wrong why
+follows _ = Otherwise
+
+abbrev pub comma_or_close : Lexeme → Verdict
+comma_or_close l = follows (following l)
+
+-- behind the comma of an argument that another one follows
+abbrev pub goes_on : Lexeme → Verdict
+goes_on l = if begin.is_close (following l) then Otherwise else Fine
+
+-- behind an expression in parentheses
+abbrev pub close_due : Lexeme → Verdict
+close_due l = if begin.is_close (following l) then Otherwise else Wrong (missing (codes ")") l)
 
 -- behind an operand: a reserved symbol is no operator
 abbrev pub known_behind : Behind → Verdict
@@ -44,9 +92,6 @@ ended_behind Other = Fine
 abbrev pub run_ends : Lexeme → Verdict
 run_ends l = ended_behind (behind_of l)
 
-abbrev pub anything : Lexeme → Verdict
-anything l = Otherwise
-
 -- where a level is raised at the token that comes next
 abbrev pub room_due : Settings → Lexeme → Verdict
 room_due c l = if low c then Fine else Wrong cause.ExprTooDeep
@@ -55,7 +100,7 @@ room_due c l = if low c then Fine else Wrong cause.ExprTooDeep
 abbrev pub end_due : Lexeme → Verdict
 end_due l = if is_end l then Fine else Wrong (unexpected l)
 
--- ---- levels along a run
+-- ---- levels
 
 -- settings, and where the next raise of their level is refused
 pub record Height : Type 0 where
@@ -66,61 +111,118 @@ pub record Height : Type 0 where
 abbrev pub raise : Height → Demands → Demands
 raise h k = Test (low h.settings) (refusal cause.ExprTooDeep h.at) ▸ k
 
+abbrev pub raise_at : Settings → Position → Demands → Demands
+raise_at c at k = Test (low c) (refusal cause.ExprTooDeep at) ▸ k
+
 -- where a run stands
 pub data Side : Type 0 where
   Outermost : Side
   -- on the right of an operator, whose own level is raised behind the first operand
   RightOf : (op : Lexeme) (height : Height) → Side
 
--- A run's first operand is read under the first settings, and its operators begin under the second.
+-- A run's first operand is read under the first settings, and its operators begin under the second; what is live there.
 pub record Spot : Type 0 where
   pub first : Settings
   pub begins : Settings
   pub side : Side
+  pub walk : Walk
 
-abbrev pub outermost : Settings → Spot
-outermost c = record { first = c; begins = c; side = Outermost }
+abbrev pub outermost : Settings → Walk → Spot
+outermost c w = record { first = c; begins = c; side = Outermost; walk = w }
 
-abbrev pub right_side : Lexeme → Height → Spot
-right_side op h = record { first = h.settings; begins = up h.settings; side = RightOf op h }
+abbrev pub right_side : Lexeme → Height → Walk → Spot
+right_side op h w = record { first = h.settings; begins = up h.settings; side = RightOf op h; walk = w }
 
 -- The height behind a run: that of its first operand, and one level more for each operator on its left side.
 abbrev pub height_after : Spot → Run → Height
-height_after q (Just x) = record { settings = q.begins; at = position_of (operand_tree x) }
-height_after q (Binary op at l r) = record { settings = up (height_after q l).settings; at = at }
+height_after q (form.Just x) = record { settings = q.begins; at = position_of (operand_tree x q.walk) }
+height_after q (form.Binary op at l r) = record { settings = up (height_after q l).settings; at = at }
 
 -- Behind an operator's right operand its level is raised: for the tighter run that begins there, and for what follows.
 abbrev pub raise_behind : Side → Demands → Demands
 raise_behind Outermost k = k
 raise_behind (RightOf op h) k = raise h k
 
+-- an operand stands directly behind a range operator
+abbrev pub is_ranged : Side → Bool
+is_ranged Outermost = false
+is_ranged (RightOf op h) = is_range (beginning op)
+
 abbrev pub side_fits : Side → Behind → Bool
 side_fits Outermost inner = true
 side_fits (RightOf op h) inner = right_of (behind_of op) inner
 
 abbrev pub left_fits : Behind → Run → Bool
-left_fits op (Just x) = true
-left_fits op (Binary inner at l r) = left_of op (behind_of inner)
+left_fits op (form.Just x) = true
+left_fits op (form.Binary inner at l r) = left_of op (behind_of inner)
+
+-- the two ends of an expression
+abbrev pub begun : Settings → Demands → Demands
+begun c k = Next (room_due c) ▸ k
+
+abbrev pub ended : Demands → Demands
+ended k = Next run_ends ▸ k
+
+-- `&&` and `||` join what can be boolean
+abbrev pub operands_fit : Lexeme → Node → Node → Demands → Demands
+operands_fit op x y k = Test (boolean_holds op x) (mismatched x) ▸ Test (boolean_holds op y) (mismatched y) ▸ k
 
 -- ---- the forms
 
-abbrev pub operand : Operand → Settings → Demands → Demands
-operand (Number n at) c k = Tok code (item (Integer n) at) operand_due ▸ k
+abbrev mutual
+  pub primary : Primary → Settings → Walk → (ranged : Bool) → Demands → Demands
+  primary (form.Value token at) c w ranged k = Shape (is_value (beginning token)) ▸ Tok code (item token at) (operand_due ranged) ▸ k
+  primary (form.Named name at) c w ranged k = Tok code (item (Name name) at) (operand_due ranged) ▸ k
+  primary (form.Word word at) c w ranged k = Tok code (item (Reserved word) at) (operand_due ranged) ▸ Next (word_behind c word at) ▸ k
+  primary (form.Group opening inside closing) c w ranged k =
+      Tok code (item (Sign LeftParen) opening) (operand_due ranged) ▸ raise_at c opening (
+      begun (up c) (run inside (outermost (up (up c)) w) (ended (Tok code (item (Sign RightParen) closing) close_due ▸ k))))
+  primary (form.Zero range at) c w ranged k = Shape (is_range (beginning range)) ▸ Ahead (item range at) (operand_due ranged) ▸ k
 
--- Behind each operand stands no reserved symbol. An operator stands between a left run and a right one, each of which has
--- operators that bind as the strengths say.
-abbrev pub run : Run → Spot → Demands → Demands
-run (Just x) q k = operand x q.first (Next operator_known ▸ raise_behind q.side k)
-run (Binary op at l r) q k =
-    run l q (
-    Shape (is_operator (behind_of op)) ▸ Shape (left_fits (behind_of op) l) ▸ Shape (side_fits q.side (behind_of op)) ▸
-    Tok code (item op at) anything ▸
-    run r (right_side op (height_after q l)) k)
+  -- A variable that something calls is the name of a call. What calls it is all that may follow a reserved word other than `this`.
+  pub operand : Operand → Settings → Walk → (ranged : Bool) → Demands → Demands
+  operand (form.Plain x) c w ranged k = primary x c w ranged (Next (uncalled (primary_tree x w false)) ▸ k)
+  operand (form.Call x None args) c w ranged k =
+      primary x c w ranged (Shape (is_variable (primary_tree x w true)) ▸ arguments args anything c w (position_of (primary_tree x w true)) k)
+  operand (form.Call x (Some bang) args) c w ranged k =
+      primary x c w ranged (Shape (is_variable (primary_tree x w true)) ▸
+      Tok code (item (Sign Bang) bang) anything ▸ arguments args list_due c w (position_of (primary_tree x w true)) k)
+  operand (form.Signed sign at x) c w ranged k =
+      Shape (is_sign (beginning sign)) ▸ Tok code (item sign at) (operand_due ranged) ▸ raise_at c at (
+      operand x (up c) w false (Test (sign_holds sign (operand_tree x w)) (malformed at (operand_tree x w)) ▸ k))
+  operand (form.NoOperand token at) c w ranged k = Shape (ranged && closes token) ▸ Ahead (item token at) (operand_due ranged) ▸ k
 
--- An expression raises the level at its first token.
-abbrev pub expression : Run → Settings → Demands → Demands
-expression f c k = Next (room_due c) ▸ run f (outermost (up c)) (Next run_ends ▸ k)
+  -- The level of arguments is raised once for all, and refused at the name that is called.
+  pub arguments : Arguments → (others : Lexeme → Verdict) → Settings → Walk → Position → Demands → Demands
+  arguments (form.EmptyPair at) others c w name k = Tok code (item (Sign Unit) at) others ▸ k
+  arguments (form.Empty opening closing) others c w name k =
+      Tok code (item (Sign LeftParen) opening) others ▸ Tok code (item (Sign RightParen) closing) close_or_argument ▸ k
+  arguments (form.Listed opening list) others c w name k =
+      Tok code (item (Sign LeftParen) opening) others ▸ Next argument_due ▸ raise_at c name (items list (up c) w k)
+
+  pub items : Items → Settings → Walk → Demands → Demands
+  items (form.Last f closing) c w k = begun c (run f (outermost (up c) w) (ended (Tok code (item (Sign RightParen) closing) comma_or_close ▸ k)))
+  items (form.Trailing f comma closing) c w k =
+      begun c (run f (outermost (up c) w) (ended (
+      Tok code (item (Sign Comma) comma) comma_or_close ▸ Tok code (item (Sign RightParen) closing) anything ▸ k)))
+  items (form.More f comma rest) c w k =
+      begun c (run f (outermost (up c) w) (ended (
+      Tok code (item (Sign Comma) comma) comma_or_close ▸ Next goes_on ▸ items rest c w k)))
+
+  -- Behind each operand stands no reserved symbol. An operator stands between a left run and a right one, each of which has
+  -- operators that bind as the strengths say.
+  pub run : Run → Spot → Demands → Demands
+  run (form.Just x) q k = operand x q.first q.walk (is_ranged q.side) (Next operator_known ▸ raise_behind q.side k)
+  run (form.Binary op at l r) q k =
+      run l q (
+      Shape (is_operator (behind_of op)) ▸ Shape (left_fits (behind_of op) l) ▸ Shape (side_fits q.side (behind_of op)) ▸
+      Tok code (item op at) anything ▸
+      run r (right_side op (height_after q l) q.walk) (operands_fit op (tree l q.walk) (tree r q.walk) k))
+
+-- An expression raises the level at its first token, and ends where no operator goes on with it.
+abbrev pub expression : Run → Settings → Walk → Demands → Demands
+expression f c w k = begun c (run f (outermost (up c) w) (ended k))
 
 -- a whole stream that is one expression
-abbrev pub whole_expression : Run → Settings → Demands
-whole_expression f c = expression f c (Next end_due ▸ Nothing)
+abbrev pub whole_expression : Run → Settings → Walk → Demands
+whole_expression f c w = expression f c w (Next end_due ▸ Nothing)

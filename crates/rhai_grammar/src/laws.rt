@@ -1,7 +1,7 @@
 //! Laws of the definitions, as contracts of functions that do nothing.
 
 ghost use Rattle.rhai_grammar.specs.Laws.{EntriesAreDelivered, FormsAreSpelled, StreamsAreWhole};
-ghost use Rattle.rhai_grammar.specs.Rows.{SumRow};
+ghost use Rattle.rhai_grammar.specs.Rows.{CallRow, EndedRow, MinusRow, OpenRow, SumRow};
 
 /// A form whose demands are met is spelled by the tokens on the way.
 #[tactic(auto, using(crate::proofs::SpellingLemmas::forms_are_spelled))]
@@ -25,4 +25,28 @@ pub fn entries_are_delivered()
 #[tactic(auto, using(crate::proofs::RowLemmas::sum_row))]
 pub fn sum_row()
     ensures { SumRow }
+{}
+
+/// `..5` is a range from an unwritten zero.
+#[tactic(auto, using(crate::proofs::RowLemmas::open_row))]
+pub fn open_row()
+    ensures { OpenRow }
+{}
+
+/// `-..5` is a range from an unwritten zero behind a sign, which is 0.
+#[tactic(auto, using(crate::proofs::RowLemmas::minus_row))]
+pub fn minus_row()
+    ensures { MinusRow }
+{}
+
+/// `5..` is refused at the end mark, where an operand is due.
+#[tactic(auto, using(crate::proofs::RowLemmas::ended_row))]
+pub fn ended_row()
+    ensures { EndedRow }
+{}
+
+/// `f(1)` fits under the depth limit 3; under the limit 2 its argument is too deep, and under the limit 1 the list of arguments.
+#[tactic(auto, using(crate::proofs::RowLemmas::call_row))]
+pub fn call_row()
+    ensures { CallRow }
 {}

@@ -1,3 +1,5 @@
 pub mod OperatorLemmas
-pub mod OperandLemmas
+pub mod NameLemmas
+pub mod AnswerLemmas
+pub mod RunLemmas
 pub mod PromiseLemmas

@@ -10,7 +10,7 @@ use Rattle.rhai_lower.specs.declared.token.Token.{Token}
 use Rattle.rhai_lower.specs.declared.token.Token.TheVariants as token
 use Rattle.rhai_grammar.specs.Strengths.{Unknown, behind_sign, behind_word, behind_of}
 use Rattle.rhai_reading.specs.Reading.{Ret, next_operator_at}
-use Rattle.rhai_parser.specs.Operators.{operator_of, operator_pair, plain_operator, is_reserved_symbol}
+use Rattle.rhai_parser.specs.Operators.{operator_of, operator_pair, written_operator, is_reserved_symbol}
 
 word_behind : (b : Bool) (t : Text) → not b ≡ true → behind_word b t ≡ Unknown t
 word_behind true t e = absurd cc
@@ -28,6 +28,6 @@ sign_plain : (n : Option ℕ) (right : Bool) (at : Position) → next_operator_a
 sign_plain None right at = refl
 sign_plain (Some n) right at = refl
 
-pub plain_behind : (t : Token) (at : Position) → is_reserved_symbol (lexeme t) ≡ false → next_operator_at at (behind_of (lexeme t)) ≡ Ret (option_map operator_pair (plain_operator t))
-plain_behind (token.Reserved t) at e = word_plain (is_identifier (rc_str_bytes t)) (rc_str_bytes t) at e
-plain_behind _ at e = refl
+pub written_behind : (t : Token) (at : Position) → is_reserved_symbol (lexeme t) ≡ false → next_operator_at at (behind_of (lexeme t)) ≡ Ret (option_map operator_pair (written_operator t))
+written_behind (token.Reserved t) at e = word_plain (is_identifier (rc_str_bytes t)) (rc_str_bytes t) at e
+written_behind _ at e = refl

@@ -1,2 +1,5 @@
 pub mod Operators
 pub mod Engines
+pub mod Frames
+pub mod Tokens
+pub mod Words

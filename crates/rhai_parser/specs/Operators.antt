@@ -2,9 +2,8 @@
 use Rattle.std.specs.Prelude.{ℕ, Bool, false, Option, Some, None, not}
 use Rattle.rhai_lower.specs.Names.{is_identifier}
 use Rattle.rhai_lower.specs.Lexemes.{Lexeme, Reserved}
-use Rattle.rhai_lower.specs.Tokens.{binds_right}
+use Rattle.rhai_lower.specs.Tokens.{binds_right, strength_of}
 use Rattle.rhai_lower.specs.declared.token.Token.{Token}
-use Rattle.rhai_grammar.specs.Strengths.{plain_strength}
 use Rattle.rhai_parser.specs.declared.operators.Operator.{Operator}
 
 abbrev pub operator_pair : Operator → ℕ × Bool
@@ -14,8 +13,8 @@ abbrev pub operator_of : Option ℕ → Bool → Option Operator
 operator_of None right = None
 operator_of (Some n) right = Some (record { strength = n; right = right })
 
-abbrev pub plain_operator : Token → Option Operator
-plain_operator t = operator_of (plain_strength t) (binds_right t)
+abbrev pub written_operator : Token → Option Operator
+written_operator t = operator_of (strength_of t) (binds_right t)
 
 -- a reserved symbol, and no word
 abbrev pub is_reserved_symbol : Lexeme → Bool

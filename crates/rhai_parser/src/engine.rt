@@ -1,16 +1,24 @@
 //! The engine: language options and limits, and the entries of the parser.
 
-ghost use Rattle.std.specs.Prelude.{◌≡◌, ◌==◌, ◌++◌, ◌∷◌, [], OnErr, OnOk};
+ghost use Rattle.std.specs.Prelude.{◌≡◌, ◌==◌, ◌++◌, ◌∷◌, List, [], IfErr, OnErr, OnOk};
 ghost use Rattle.std.specs.Int.RustNames.{bit_and};
 ghost use Rattle.std.specs.Fn.{FnOnceReturnsAtMut, FnOnceTakesAtMut};
+ghost use Rattle.std.specs.declared.alloc.Global.{Global};
+ghost use Rattle.std.specs.declared.rc.Rc.{Rc};
 ghost use Rattle.rhai_lower.specs.View.{view};
+ghost use Rattle.rhai_lower.specs.declared.ast.ScriptFuncDef.{ScriptFuncDef};
+ghost use Rattle.rhai_grammar.specs.Causes.{MemoryIsNowhere};
 ghost use Rattle.rhai_grammar.specs.Cursors.{cursor_of};
 ghost use Rattle.rhai_grammar.specs.Delivered.{code};
-ghost use Rattle.rhai_grammar.specs.Promises.{Accepts, ReadsExpression};
+ghost use Rattle.rhai_grammar.specs.declared.key.FnKey.{FnKey};
+ghost use Rattle.rhai_grammar.specs.Promises.{Accepts, HasRead, ReadsExpression, UnlessMemory};
+ghost use Rattle.rhai_grammar.specs.Walks.{nothing_live};
 ghost use Rattle.rhai_base.specs.Settings.{settings_of};
 ghost use Rattle.rhai_base.specs.States.{IsFresh};
+ghost use Rattle.rhai_parser.specs.Frames.{walk_of};
 ghost use Rattle.rhai_parser.specs.Engines.{fresh_engine, with_bits, expr_settings, has_module};
 
+use crate::frame::Frame;
 use crate::shared::Shared;
 use bitflags::Flags;
 use rhai_base::{LangOptions, ParseSettingFlags, ParseSettings, ParseState};
@@ -39,7 +47,8 @@ pub struct Engine {
 impl Model for Engine {
     ghost use Rattle.std.specs.Prelude.{map};
     ghost use Rattle.std.specs.Rc.{rc_str_bytes};
-    ghost use Rattle.rhai_parser.specs.Engines.{EngineValue};
+    ghost use Rattle.rhai_parser.specs.Frames.{walk_of};
+ghost use Rattle.rhai_parser.specs.Engines.{EngineValue};
 
     ghost Value = { EngineValue };
 
@@ -241,7 +250,8 @@ impl Engine {
         constants: Option<&Scope>,
         level: OptimizationLevel,
     ) -> ParseResult<AST>
-        ensures { Accepts (view expr) result }
+        ensures script { Accepts (view expr) result }
+        ensures nowhere { IfErr result MemoryIsNowhere }
     {
         let statement = Stmt::Expr(Box::new(self.alloc, expr)?);
         let statements = vec![in self.alloc; statement]?;
@@ -254,14 +264,17 @@ impl Engine {
     fn read_script(
         &self,
         input: &mut TokenStream,
+        frame: &Frame,
         settings: ParseSettings,
         constants: Option<&Scope>,
         level: OptimizationLevel,
     ) -> ParseResult<AST>
-        ensures reads { (cursor_of input.old).mode ≡ code → ReadsExpression (settings_of settings) (cursor_of input.old) (cursor_of input.new) result }
+        ensures reads { (library : List (FnKey × Rc ScriptFuncDef Global)) → (cursor_of input.old).mode ≡ code → ReadsExpression library (settings_of settings) (walk_of frame.now) (cursor_of input.old) (cursor_of input.new) result }
+        ensures memory { UnlessMemory (HasRead (cursor_of input.old) (cursor_of input.new)) result }
+        ensures nowhere { IfErr result MemoryIsNowhere }
     {
         let mut shared = Shared { input };
-        match self.parse_whole_expr(&mut shared, settings) {
+        match self.parse_whole_expr(&mut shared, frame, settings) {
             Ok(expr) => self.make_script(expr, constants, level),
             Err(error) => Err(error),
         }
@@ -275,7 +288,7 @@ impl Engine {
     /// `DISALLOW_STATEMENTS_IN_BLOCKS`. `level` is how much the optimizer may do.
     ///
     /// An error tells why and where the stream is no such script; all are in docs/GRAMMAR.md, "Errors". `OutOfMemory` comes
-    /// where memory ran out, or where the stream said so.
+    /// where memory ran out, or where the stream said so, and stands at no position.
     pub fn parse_global_expr<F: FnOnce(&mut ParseSettings)>(
         &self,
         state: ParseState<'_, '_, '_>,
@@ -283,7 +296,9 @@ impl Engine {
         level: OptimizationLevel,
     ) -> ParseResult<AST>
         requires { FnOnceTakesAtMut F.FnOnce settings (expr_settings self.now) }
-        ensures reads { IsFresh state.entry → (chosen : _) × FnOnceReturnsAtMut F.FnOnce settings (expr_settings self.now) tt chosen × ReadsExpression (settings_of chosen) (cursor_of state.entry.input.now) (cursor_of state.exit.0.now) result }
+        ensures reads { IsFresh state.entry → (chosen : _) × FnOnceReturnsAtMut F.FnOnce settings (expr_settings self.now) tt chosen × ReadsExpression state.entry.lib.now.entries (settings_of chosen) nothing_live (cursor_of state.entry.input.now) (cursor_of state.exit.0.now) result }
+        ensures memory { UnlessMemory (HasRead (cursor_of state.entry.input.now) (cursor_of state.exit.0.now)) result }
+        ensures nowhere { IfErr result MemoryIsNowhere }
         ensures library { state.exit.1.0.now ≡ state.entry.lib.now }
     {
         let mut chosen = self.expr_settings();
@@ -294,7 +309,7 @@ impl Engine {
             tokenizer_control: _,
             expr_filter: _,
             external_constants,
-            stack: _,
+            stack,
             frame_pointer: _,
             external_vars: _,
             allow_capture: _,
@@ -302,6 +317,7 @@ impl Engine {
             global_imports: _,
             counts: _,
         } = state;
-        self.read_script(input, chosen, external_constants, level)
+        let frame = Frame { stack };
+        self.read_script(input, &frame, chosen, external_constants, level)
     }
 }

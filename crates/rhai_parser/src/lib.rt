@@ -3,8 +3,12 @@
 
 pub mod engine;
 mod expr;
+mod frame;
+mod names;
 mod operators;
+mod refusals;
 mod shared;
+mod tokens;
 
 pub use engine::Engine;
 pub use rhai_base::{

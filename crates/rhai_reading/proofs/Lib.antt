@@ -2,8 +2,12 @@ pub mod Steps
 pub mod Joins
 pub mod Strengths
 pub mod Rules
+pub mod Beginnings
+pub mod Tokens
+pub mod Looks
 pub mod Complete
 pub mod Local
 pub mod Readable
+pub mod Modes
 pub mod Sound
 pub mod Main

@@ -1,10 +1,10 @@
 -- What the reader does, as a function: a fixed point of its rules, guarded by what is left to read.
 use Rattle.std.specs.Prelude.{◌≡◌, ℕ, zero, suc, ◌+◌, ◌*◌, false, Result, Ok, Err, nat_lt, if◌then◌else◌}
-use Rattle.rhai_grammar.specs.Causes.{Refusal, refusal_of, is_for_memory, out_of_memory}
+use Rattle.rhai_grammar.specs.Causes.{Refusal, refusal_of, is_for_memory, MemoryIsNowhere, out_of_memory}
 use Rattle.rhai_grammar.specs.Delivered.{is_memory}
 use Rattle.rhai_grammar.specs.Cursors.{Cursor, asked, looking, taking, left}
 use Rattle.rhai_grammar.specs.declared.error.ParseError.{ParseError}
-use Rattle.rhai_reading.specs.Reading.{Goal, Whole, Expression, Primary, NextOperator, BinaryOp, Val, Prog, Ret, Fail, Peek, Take, Call, body}
+use Rattle.rhai_reading.specs.Reading.{Goal, Whole, Expression, Operand, Primary, Postfix, Arguments, Items, NextOperator, BinaryOp, Val, Prog, Ret, Fail, Peek, Take, Call, body}
 
 -- what came of a reader, with the cursor that it left
 pub data Out (A : Type 0) : Type 0 where
@@ -30,11 +30,15 @@ exec call (Call g k) s = and_then (call g s) (λ v t. exec call (k v) t)
 
 -- A call at the same token is one to a goal of lower rank.
 abbrev pub rank : Goal → ℕ
-rank (Whole c) = 3
-rank (Expression c) = 2
-rank (Primary c) = 0
+rank (Whole c w) = 5
+rank (Expression c w) = 3
+rank (Operand c w ranged) = 2
+rank (Primary c w) = 1
+rank (Postfix c w x) = 1
+rank (Arguments c w at) = 5
+rank (Items c w before) = 4
 rank NextOperator = 0
-rank (BinaryOp c at parent lhs) = 1
+rank (BinaryOp c w at parent lhs) = 1
 
 -- the work that is left, above every rank for each token
 abbrev pub work : ℕ → ℕ → ℕ
@@ -59,9 +63,9 @@ guarded = only_less run
 
 -- ---- what the code's readers promise
 
--- The error is the refusal of a reader, unless memory ran out.
+-- The error is the refusal of a reader, unless memory ran out, which stands nowhere.
 abbrev pub Fails : {A : Type 0} → Out A → ParseError → Cursor → Type 0
-Fails o e t = is_for_memory e ≡ false → o ≡ Refused (refusal_of e) t
+Fails o e t = (is_for_memory e ≡ false → o ≡ Refused (refusal_of e) t) × MemoryIsNowhere e
 
 -- What a function returned, seen by view, is what a reader gives, and so is what it left; unless memory ran out.
 abbrev pub Gives : {X A : Type 0} → (X → A) → Out A → Result X ParseError → Cursor → Type 0

@@ -1,13 +1,15 @@
 //! The engine: its readers and setters, and what `parse_global_expr` makes of a state and of the caller's closure.
 
-use crate::refusals::too_deep;
-use crate::script::{at, script_of, stream_of, text};
+use crate::refusals::{check_refused, too_deep};
+use crate::sample::{function, key};
+use crate::script::{at, parse_in, script_of, stream_of};
 use crate::shape::shape;
 use rhai_parser::{
-    Engine, FnKey, FnLib, LangOptions, OptimizationLevel, ParseSettingFlags, ParseSettings,
-    ParseState, Position, ScriptFuncDef, StmtBlock, TokenizerControl,
+    AST, Engine, FnLib, LangOptions, OptimizationLevel, ParseResult, ParseSettingFlags,
+    ParseSettings, ParseState, Position, TokenizerControl,
 };
-use std::rc::Rc;
+use std::alloc::{AllocError, Global};
+use std::process::Abort;
 use std::test::Fail;
 
 #[test]
@@ -87,59 +89,60 @@ fn settings_given_to_the_caller(rt: HostRuntime) -> Result<(), Fail> {
     Ok(())
 }
 
+// What is answered to `1` where the caller sets this level and limit, and takes the position away.
+fn parse_at(
+    rt: &impl Abort,
+    alloc: Global,
+    level: usize,
+    limit: usize,
+) -> Result<ParseResult<AST>, AllocError> {
+    let mut input = stream_of(rt, script_of(alloc, "1")?);
+    let mut lib = FnLib::new(alloc);
+    let state = ParseState::new(alloc, None, &mut input, TokenizerControl, &mut lib);
+    let change = |settings: &mut ParseSettings| {
+        settings.level = level;
+        settings.max_expr_depth = limit;
+        settings.pos = Position::NONE;
+    };
+    Ok(Engine::new(alloc).parse_global_expr(state, change, OptimizationLevel::Full))
+}
+
 #[test]
 fn settings_changed_by_the_caller(rt: HostRuntime) -> Result<(), Fail> {
     let alloc = rt.alloc();
-    for (level, limit, refused) in [(2, 2, true), (1, 2, false), (usize::MAX, 0, false)] {
-        let mut input = stream_of(&rt, script_of(alloc, "1")?);
-        let mut lib = FnLib::new(alloc);
-        let state = ParseState::new(alloc, None, &mut input, TokenizerControl, &mut lib);
-        let answer = Engine::new(alloc).parse_global_expr(
-            state,
-            |settings| {
-                settings.level = level;
-                settings.max_expr_depth = limit;
-                settings.pos = Position::NONE;
-            },
-            OptimizationLevel::Full,
-        );
-        if refused {
-            assert_eq!(rt; answer, Err(too_deep(1)), "at the first token");
-        } else {
-            assert_eq!(rt; shape(alloc, &answer?)?.as_str(), "1@1:1;");
-        }
+    // The refusal stands at the first token, whatever position the caller leaves.
+    check_refused(
+        &rt,
+        parse_at(&rt, alloc, 2, 2)?,
+        too_deep(1),
+        "at the limit",
+    );
+    for (level, limit) in [(1, 2), (usize::MAX, 0)] {
+        let script = parse_at(&rt, alloc, level, limit)??;
+        assert_eq!(rt; shape(alloc, &script)?.as_str(), "1@1:1;");
     }
     Ok(())
+}
+
+// Whether a line is accepted, with this library.
+fn is_accepted(
+    rt: &impl Abort,
+    alloc: Global,
+    lib: &mut FnLib,
+    line: &str,
+) -> Result<bool, AllocError> {
+    let script = script_of(alloc, line)?;
+    Ok(parse_in(rt, alloc, &Engine::new(alloc), lib, script).is_ok())
 }
 
 #[test]
 fn the_library_stays(rt: HostRuntime) -> Result<(), Fail> {
     let alloc = rt.alloc();
-    for (line, accepted) in [("1 + 2", true), ("1 +", false)] {
-        let mut lib = FnLib::new(alloc);
-        let key = FnKey {
-            this_type: None,
-            name: text(alloc, "f")?,
-            params: 0,
-        };
-        let function = ScriptFuncDef {
-            this_type: None,
-            name: text(alloc, "f")?,
-            private: false,
-            params: Vec::new(alloc),
-            body: StmtBlock {
-                statements: Vec::new(alloc),
-                start: at(1),
-                end: at(2),
-            },
-        };
-        lib.insert(key, Rc::new(alloc, function)?)?;
-        let mut input = stream_of(&rt, script_of(alloc, line)?);
-        let state = ParseState::new(alloc, None, &mut input, TokenizerControl, &mut lib);
-        let engine = Engine::new(alloc);
-        let answer = engine.parse_global_expr(state, |_settings| {}, OptimizationLevel::None);
-        assert_eq!(rt; answer.is_ok(), accepted, "{line}");
-        assert_eq!(rt; lib.len(), 1, "{line}");
-    }
+    let mut lib = FnLib::new(alloc);
+    lib.insert(key(alloc, "f", 0)?, function(alloc, "f")?)?;
+    assert!(rt; is_accepted(&rt, alloc, &mut lib, "1 + 2")?);
+    assert!(rt; lib.len() == 1);
+    assert!(rt; !is_accepted(&rt, alloc, &mut lib, "1 +")?);
+    assert!(rt; lib.len() == 1);
     Ok(())
 }

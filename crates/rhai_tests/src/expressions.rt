@@ -1,5 +1,6 @@
 //! Accepted scripts and their trees.
 
+use crate::refusals::{check_line, too_deep};
 use crate::script::{engine, parse, script_of};
 use crate::shape::shape;
 use rhai_parser::Engine;
@@ -126,7 +127,6 @@ fn long_runs(rt: HostRuntime) -> Result<(), Fail> {
 fn a_run_too_long(rt: HostRuntime) -> Result<(), Fail> {
     let alloc = rt.alloc();
     let line = flat_run(alloc, 64)?;
-    let answer = parse(&rt, alloc, &Engine::new(alloc), script_of(alloc, &line)?);
-    assert_eq!(rt; answer, Err(crate::refusals::too_deep(251)));
+    check_line(&rt, alloc, 64, &line, too_deep(251))?;
     Ok(())
 }

@@ -2,6 +2,7 @@
 
 use bitflags::Flags;
 use rhai_parser::{LangOptions, ParseSettingFlags};
+use std::process::Abort;
 use std::test::Fail;
 
 #[test]
@@ -22,9 +23,9 @@ fn flags_and_their_names(rt: HostRuntime) {
             "DISALLOW_UNQUOTED_MAP_PROPERTIES",
         ),
     ] {
-        assert_eq!(rt; flag.bits(), bits, "{name}");
-        assert_eq!(rt; ParseSettingFlags::from_bits_retain(bits), flag, "{name}");
-        assert_eq!(rt; ParseSettingFlags::from_name(name), Some(flag), "{name}");
+        assert!(rt; flag.bits() == bits, "{name}");
+        assert!(rt; ParseSettingFlags::from_bits_retain(bits) == flag, "{name}");
+        assert!(rt; ParseSettingFlags::from_name(name) == Some(flag), "{name}");
     }
     assert_eq!(rt; ParseSettingFlags::all().bits(), 63);
     assert_eq!(rt; ParseSettingFlags::FLAGS.len(), 6);
@@ -43,9 +44,9 @@ fn options_and_their_names(rt: HostRuntime) {
         (LangOptions::STRICT_VAR, 64, "STRICT_VAR"),
         (LangOptions::SHADOWING, 128, "SHADOWING"),
     ] {
-        assert_eq!(rt; option.bits(), bits, "{name}");
-        assert_eq!(rt; LangOptions::from_bits_retain(bits), option, "{name}");
-        assert_eq!(rt; LangOptions::from_name(name), Some(option), "{name}");
+        assert!(rt; option.bits() == bits, "{name}");
+        assert!(rt; LangOptions::from_bits_retain(bits) == option, "{name}");
+        assert!(rt; LangOptions::from_name(name) == Some(option), "{name}");
     }
     assert_eq!(rt; LangOptions::all().bits(), 255);
     assert_eq!(rt; LangOptions::FLAGS.len(), 8);
@@ -59,57 +60,54 @@ const OPERATIONS: [[u8; 6]; 4] = [
     [0, 3, 3, 0, 3, 0],
 ];
 
+// Compares what the operators give with a row.
+fn check_flags(rt: &impl Abort, row: [ParseSettingFlags; 6]) {
+    let [first, second, union, common, one, rest] = row;
+    assert!(rt; first | second == union && first & second == common);
+    assert!(rt; first ^ second == one && first - second == rest);
+    let mut set = first;
+    set |= second;
+    assert!(rt; set == union);
+    set -= second;
+    set ^= first;
+    assert!(rt; set == common);
+    set &= rest;
+    assert!(rt; set.is_empty());
+}
+
 #[test]
 fn operations_on_flags(rt: HostRuntime) {
     for row in OPERATIONS {
-        let [first, second, union, common, one, rest] = row.map(
-            ParseSettingFlags::from_bits_retain,
-        );
-        assert_eq!(rt; first | second, union);
-        assert_eq!(rt; first & second, common);
-        assert_eq!(rt; first ^ second, one);
-        assert_eq!(rt; first - second, rest);
-        let mut set = first;
-        set |= second;
-        assert_eq!(rt; set, union);
-        set -= second;
-        set ^= first;
-        assert_eq!(rt; set, common);
-        set &= rest;
-        assert!(rt; set.is_empty());
+        check_flags(&rt, row.map(ParseSettingFlags::from_bits_retain));
     }
-    assert_eq!(rt;
-        !ParseSettingFlags::GLOBAL_LEVEL,
-        ParseSettingFlags::from_bits_retain(62)
-    );
-    assert_eq!(rt;
-        !ParseSettingFlags::from_bits_retain(0),
-        ParseSettingFlags::all()
-    );
+    let others = ParseSettingFlags::from_bits_retain(62);
+    assert!(rt; !ParseSettingFlags::GLOBAL_LEVEL == others);
+    assert!(rt; !(others - others) == ParseSettingFlags::all());
+}
+
+// Compares what the operators give with a row.
+fn check_options(rt: &impl Abort, row: [LangOptions; 6]) {
+    let [first, second, union, common, one, rest] = row;
+    assert!(rt; first | second == union && first & second == common);
+    assert!(rt; first ^ second == one && first - second == rest);
+    let mut set = first;
+    set |= second;
+    assert!(rt; set == union);
+    set -= second;
+    set ^= first;
+    assert!(rt; set == common);
+    set &= rest;
+    assert!(rt; set.is_empty());
 }
 
 #[test]
 fn operations_on_options(rt: HostRuntime) {
     for row in OPERATIONS {
-        let [first, second, union, common, one, rest] = row.map(LangOptions::from_bits_retain);
-        assert_eq!(rt; first | second, union);
-        assert_eq!(rt; first & second, common);
-        assert_eq!(rt; first ^ second, one);
-        assert_eq!(rt; first - second, rest);
-        let mut set = first;
-        set |= second;
-        assert_eq!(rt; set, union);
-        set -= second;
-        set ^= first;
-        assert_eq!(rt; set, common);
-        set &= rest;
-        assert!(rt; set.is_empty());
+        check_options(&rt, row.map(LangOptions::from_bits_retain));
     }
-    assert_eq!(rt;
-        !LangOptions::STRICT_VAR,
-        LangOptions::from_bits_retain(191)
-    );
-    assert_eq!(rt; !LangOptions::from_bits_retain(0), LangOptions::all());
+    let others = LangOptions::from_bits_retain(191);
+    assert!(rt; !LangOptions::STRICT_VAR == others);
+    assert!(rt; !(others - others) == LangOptions::all());
 }
 
 #[test]

@@ -1,7 +1,9 @@
 //! The limit of depth: where a raise is refused.
 
-use crate::refusals::{too_deep, unexpected_text, unknown_operator};
+use crate::refusals::{check_line, too_deep, unexpected_text, unknown_operator};
 use crate::script::{engine, parse, script_of};
+use std::alloc::{AllocError, Global};
+use std::process::Abort;
 use std::test::Fail;
 
 #[test]
@@ -22,10 +24,19 @@ fn refused_raises(rt: HostRuntime) -> Result<(), Fail> {
         // The raise for an operator comes before the rest is looked at.
         ("1 + 2 3", 1, 1),
     ] {
-        let answer = parse(&rt, alloc, &engine(alloc, limit), script_of(alloc, line)?);
-        assert_eq!(rt; answer, Err(too_deep(column)), "{line} with {limit}");
+        check_line(&rt, alloc, limit, line, too_deep(column))?;
     }
     Ok(())
+}
+
+// Whether a line is accepted under this limit.
+fn is_accepted(
+    rt: &impl Abort,
+    alloc: Global,
+    limit: usize,
+    line: &str,
+) -> Result<bool, AllocError> {
+    Ok(parse(rt, alloc, &engine(alloc, limit), script_of(alloc, line)?).is_ok())
 }
 
 #[test]
@@ -41,8 +52,10 @@ fn raises_within_the_limit(rt: HostRuntime) -> Result<(), Fail> {
         ("1 + 2 * 3 ** 4 - 5", 0),
         ("1 + 2 * 3 ** 4 - 5", usize::MAX),
     ] {
-        let answer = parse(&rt, alloc, &engine(alloc, limit), script_of(alloc, line)?);
-        assert!(rt; answer.is_ok(), "{line} with {limit}");
+        assert!(rt;
+            is_accepted(&rt, alloc, limit, line)?,
+            "{line} with {limit}"
+        );
     }
     Ok(())
 }
@@ -50,14 +63,20 @@ fn raises_within_the_limit(rt: HostRuntime) -> Result<(), Fail> {
 #[test]
 fn what_goes_before_a_raise(rt: HostRuntime) -> Result<(), Fail> {
     let alloc = rt.alloc();
-    let engine = engine(alloc, 1);
-    for (line, wanted) in vec![in alloc;
-        ("1 + 2 ===", unknown_operator(alloc, "===", 7)?),
-        ("1 + this", unexpected_text(alloc, "this", 5)?),
-        ("1 2", unexpected_text(alloc, "2", 3)?),
-    ]? {
-        let answer = parse(&rt, alloc, &engine, script_of(alloc, line)?);
-        assert_eq!(rt; answer, Err(wanted), "{line}");
-    }
+    check_line(
+        &rt,
+        alloc,
+        1,
+        "1 + 2 ===",
+        unknown_operator(alloc, "===", 7)?,
+    )?;
+    check_line(
+        &rt,
+        alloc,
+        1,
+        "1 + *",
+        unexpected_text(alloc, "*", 5)?,
+    )?;
+    check_line(&rt, alloc, 1, "1 2", unexpected_text(alloc, "2", 3)?)?;
     Ok(())
 }

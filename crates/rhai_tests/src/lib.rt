@@ -8,7 +8,11 @@ mod expressions;
 #[cfg(test)]
 mod flags;
 #[cfg(test)]
+mod growth;
+#[cfg(test)]
 mod levels;
+#[cfg(test)]
+mod lookup;
 #[cfg(test)]
 mod memory;
 #[cfg(test)]
@@ -17,6 +21,8 @@ mod names;
 mod position;
 #[cfg(test)]
 mod refusals;
+#[cfg(test)]
+mod sample;
 #[cfg(test)]
 mod script;
 #[cfg(test)]

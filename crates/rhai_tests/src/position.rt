@@ -1,7 +1,19 @@
 //! Positions.
 
 use rhai_parser::Position;
+use std::alloc::{AllocError, Global};
+use std::process::Abort;
 use std::test::Fail;
+
+fn check_written(
+    rt: &impl Abort,
+    alloc: Global,
+    place: Position,
+    written: &str,
+) -> Result<(), AllocError> {
+    assert_eq!(rt; format!(in alloc; "{place}")?.as_str(), written);
+    Ok(())
+}
 
 #[test]
 fn positions_and_their_parts(rt: HostRuntime) -> Result<(), Fail> {
@@ -11,10 +23,9 @@ fn positions_and_their_parts(rt: HostRuntime) -> Result<(), Fail> {
         (65535, 12, "65535:12"),
     ] {
         let place = Position::new(line, column).ok_or("no position")?;
-        assert_eq!(rt; place.line(), Some(line), "{written}");
-        assert_eq!(rt; place.column(), Some(column), "{written}");
+        assert_eq!(rt; (place.line(), place.column()), (Some(line), Some(column)));
         assert!(rt; !place.is_none(), "{written}");
-        assert_eq!(rt; format!(in rt.alloc(); "{place}")?.as_str(), written);
+        check_written(&rt, rt.alloc(), place, written)?;
     }
     Ok(())
 }
@@ -27,7 +38,6 @@ fn no_position(rt: HostRuntime) -> Result<(), Fail> {
     let none = Position::NONE;
     assert_eq!(rt; (none.line(), none.column()), (None, None));
     assert!(rt; none.is_none());
-    assert_eq!(rt; format!(in rt.alloc(); "{none}")?.as_str(), "none");
     assert_eq!(rt; Some(Position::START), Position::new(1, 1));
-    Ok(())
+    Ok(check_written(&rt, rt.alloc(), none, "none")?)
 }

@@ -1,8 +1,11 @@
 //! The kinds of refusals with their payloads, and where they stand.
 
-use crate::script::{at, parse, script_of, text, with_token};
-use rhai_parser::{Engine, InputError, LexError, ParseError, ParseErrorType, Position, Token};
+use crate::script::{at, engine, parse, script_of, text, with_token};
+use rhai_parser::{
+    AST, Engine, InputError, LexError, ParseError, ParseErrorType, ParseResult, Position, Token,
+};
 use std::alloc::{AllocError, Global};
+use std::process::Abort;
 use std::test::Fail;
 
 pub(crate) fn too_deep(column: u16) -> ParseError {
@@ -27,18 +30,38 @@ pub(crate) fn unknown_operator(
     Ok(ParseError(kind, at(column)))
 }
 
-fn lexer_error(error: LexError, column: u16) -> ParseError {
-    let kind = ParseErrorType::BadInput(InputError::Lexer(error));
-    ParseError(kind, at(column))
+/// Compares a refusal with the one that is wanted.
+pub(crate) fn check_refused(
+    rt: &impl Abort,
+    answer: ParseResult<AST>,
+    wanted: ParseError,
+    line: &str,
+) {
+    match answer {
+        Ok(_) => assert!(rt; false, "accepted: {line}"),
+        Err(error) => assert!(rt; error == wanted, "{line}: {error:?}"),
+    }
+}
+
+/// Compares the refusal of a line under this limit with the one that is wanted.
+pub(crate) fn check_line(
+    rt: &impl Abort,
+    alloc: Global,
+    limit: usize,
+    line: &str,
+    wanted: ParseError,
+) -> Result<(), AllocError> {
+    let answer = parse(rt, alloc, &engine(alloc, limit), script_of(alloc, line)?);
+    check_refused(rt, answer, wanted, line);
+    Ok(())
 }
 
 #[test]
 fn ends_too_soon(rt: HostRuntime) -> Result<(), Fail> {
     let alloc = rt.alloc();
     for (line, column) in [("", 1), ("1 +", 4), ("1 + 2 **", 9)] {
-        let answer = parse(&rt, alloc, &Engine::new(alloc), script_of(alloc, line)?);
         let wanted = ParseError(ParseErrorType::UnexpectedEOF, at(column));
-        assert_eq!(rt; answer, Err(wanted), "{line}");
+        check_line(&rt, alloc, 64, line, wanted)?;
     }
     Ok(())
 }
@@ -49,28 +72,13 @@ fn tokens_without_a_place(rt: HostRuntime) -> Result<(), Fail> {
     for (line, payload, column) in [
         ("1 2", "2", 3),
         ("1 + 2 3", "3", 7),
-        ("+ 1", "+", 1),
+        ("* 1", "*", 1),
         ("1 + * 2", "*", 5),
-        ("===", "===", 1),
-        ("1 + ===", "===", 5),
-        ("this", "this", 1),
         ("1 this", "this", 3),
         ("1 + 2 print", "print", 7),
-        // Operators of later forms end a run.
-        ("1 || 2", "||", 3),
-        ("1 && 2", "&&", 3),
-        ("1 ?? 2", "??", 3),
-        ("1 in 2", "in", 3),
-        ("1 !in 2", "!in", 3),
-        ("1 .. 2", "..", 3),
-        ("1 ..= 2", "..=", 3),
     ] {
-        let answer = parse(&rt, alloc, &Engine::new(alloc), script_of(alloc, line)?);
-        assert_eq!(rt;
-            answer,
-            Err(unexpected_text(alloc, payload, column)?),
-            "{line}"
-        );
+        let wanted = unexpected_text(alloc, payload, column)?;
+        check_line(&rt, alloc, 64, line, wanted)?;
     }
     Ok(())
 }
@@ -85,12 +93,50 @@ fn reserved_symbols_behind_an_operand(rt: HostRuntime) -> Result<(), Fail> {
         // A word that is no identifier counts as a symbol.
         ("1 _1", "_1", 3),
     ] {
-        let answer = parse(&rt, alloc, &Engine::new(alloc), script_of(alloc, line)?);
-        assert_eq!(rt;
-            answer,
-            Err(unknown_operator(alloc, symbol, column)?),
-            "{line}"
-        );
+        let wanted = unknown_operator(alloc, symbol, column)?;
+        check_line(&rt, alloc, 64, line, wanted)?;
+    }
+    Ok(())
+}
+
+// Compares the refusal of `1 + 2` with this token at a place, or behind its last, which stands in this column.
+fn check_token_at(
+    rt: &impl Abort,
+    alloc: Global,
+    token: Token,
+    (place, column): (usize, u16),
+    wanted: InputError,
+) -> Result<(), AllocError> {
+    let script = with_token(script_of(alloc, "1 + 2")?, place, token)?;
+    let answer = parse(rt, alloc, &engine(alloc, 64), script);
+    let wanted = ParseError(ParseErrorType::BadInput(wanted), at(column));
+    check_refused(rt, answer, wanted, "1 + 2");
+    Ok(())
+}
+
+// A token that is unexpected as an operand and behind one.
+fn check_token(
+    rt: &impl Abort,
+    alloc: Global,
+    token: Token,
+    written: &str,
+) -> Result<(), AllocError> {
+    let wanted = InputError::UnexpectedInput(text(alloc, written)?);
+    check_token_at(rt, alloc, token.clone()?, (2, 5), wanted)?;
+    let wanted = InputError::UnexpectedInput(text(alloc, written)?);
+    check_token_at(rt, alloc, token, (3, 6), wanted)
+}
+
+#[test]
+fn reserved_words_as_operands(rt: HostRuntime) -> Result<(), Fail> {
+    let alloc = rt.alloc();
+    for (line, word, column) in [
+        ("===", "===", 1),
+        ("1 + ===", "===", 5),
+        ("print", "print", 1),
+    ] {
+        let kind = ParseErrorType::Reserved(text(alloc, word)?);
+        check_line(&rt, alloc, 64, line, ParseError(kind, at(column)))?;
     }
     Ok(())
 }
@@ -98,31 +144,34 @@ fn reserved_symbols_behind_an_operand(rt: HostRuntime) -> Result<(), Fail> {
 #[test]
 fn tokens_of_later_forms(rt: HostRuntime) -> Result<(), Fail> {
     let alloc = rt.alloc();
-    for (token, written) in vec![in alloc;
-        (Token::UnaryMinus, "-"),
-        (Token::LeftParen, "("),
-        (Token::True, "true"),
-        (Token::CharConstant('c'), "c"),
-        (Token::StringConstant(text(alloc, "s")?), "s"),
-        (Token::InterpolatedString(text(alloc, "t")?), "t"),
-        (Token::Identifier(text(alloc, "x")?), "x"),
-        (Token::Comment(text(alloc, "/// d")?), "/// d"),
-        (Token::PlusAssign, "+="),
-    ]? {
-        let rest = with_token(script_of(alloc, "1 + 2 3")?, 3, token.clone()?)?;
-        let answer = parse(&rt, alloc, &Engine::new(alloc), rest);
-        assert_eq!(rt;
-            answer,
-            Err(unexpected_text(alloc, written, 7)?),
-            "{written}"
-        );
-        let operand = with_token(script_of(alloc, "1 + 2 3")?, 2, token)?;
-        let answer = parse(&rt, alloc, &Engine::new(alloc), operand);
-        assert_eq!(rt;
-            answer,
-            Err(unexpected_text(alloc, written, 5)?),
-            "{written}"
-        );
+    check_token(&rt, alloc, Token::LeftBracket, "[")?;
+    check_token(&rt, alloc, Token::LeftBrace, "{")?;
+    check_token(&rt, alloc, Token::PlusAssign, "+=")?;
+    Ok(())
+}
+
+// Each kind of token that holds a text.
+fn check_word(rt: &impl Abort, alloc: Global, word: &str) -> Result<(), AllocError> {
+    check_token(
+        rt,
+        alloc,
+        Token::InterpolatedString(text(alloc, word)?),
+        word,
+    )?;
+    check_token(rt, alloc, Token::Comment(text(alloc, word)?), word)
+}
+
+#[test]
+fn texts_of_later_forms(rt: HostRuntime) -> Result<(), Fail> {
+    Ok(check_word(&rt, rt.alloc(), "x")?)
+}
+
+// An error of the tokenizer, in place of each token of a script, and behind the last.
+fn check_error(rt: &impl Abort, alloc: Global, error: LexError) -> Result<(), AllocError> {
+    for stands in [(0, 1), (1, 3), (2, 5), (3, 6)] {
+        let token = Token::LexError(error.clone()?);
+        let wanted = InputError::Lexer(error.clone()?);
+        check_token_at(rt, alloc, token, stands, wanted)?;
     }
     Ok(())
 }
@@ -130,21 +179,16 @@ fn tokens_of_later_forms(rt: HostRuntime) -> Result<(), Fail> {
 #[test]
 fn errors_of_the_tokenizer(rt: HostRuntime) -> Result<(), Fail> {
     let alloc = rt.alloc();
-    for error in vec![in alloc;
-        LexError::UnterminatedString,
-        LexError::StringTooLong(7),
-        LexError::MalformedNumber(text(alloc, "1.2.3")?),
-        LexError::ImproperSymbol(text(alloc, "~")?, text(alloc, "a note")?),
-        LexError::UnexpectedInput(text(alloc, "$")?),
-    ]? {
-        for (place, column) in [(0, 1), (1, 3), (2, 5), (3, 6)] {
-            let token = Token::LexError(error.clone()?);
-            let script = with_token(script_of(alloc, "1 + 2")?, place, token)?;
-            let answer = parse(&rt, alloc, &Engine::new(alloc), script);
-            let wanted = lexer_error(error.clone()?, column);
-            assert_eq!(rt; answer, Err(wanted), "{error:?} {place}");
-        }
-    }
+    check_error(&rt, alloc, LexError::UnterminatedString)?;
+    check_error(&rt, alloc, LexError::StringTooLong(7))?;
+    check_error(&rt, alloc, LexError::MalformedNumber(text(alloc, "1.2.3")?))?;
+    let symbol = text(alloc, "~")?;
+    check_error(
+        &rt,
+        alloc,
+        LexError::ImproperSymbol(symbol, text(alloc, "a note")?),
+    )?;
+    check_error(&rt, alloc, LexError::UnexpectedInput(text(alloc, "$")?))?;
     Ok(())
 }
 
@@ -155,6 +199,6 @@ fn a_refusal_without_position(rt: HostRuntime) -> Result<(), Fail> {
     list.end = Position::NONE;
     let answer = parse(&rt, alloc, &Engine::new(alloc), list);
     let wanted = ParseError(ParseErrorType::UnexpectedEOF, Position::NONE);
-    assert_eq!(rt; answer, Err(wanted));
+    check_refused(&rt, answer, wanted, "");
     Ok(())
 }

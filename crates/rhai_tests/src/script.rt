@@ -128,6 +128,19 @@ pub(crate) fn stream_of(rt: &impl Abort, script: Script) -> TokenStream
     TokenStream::new(script.entries, script.end)
 }
 
+/// What the parser answers to a script, with this library of functions.
+pub(crate) fn parse_in(
+    rt: &impl Abort,
+    alloc: Global,
+    engine: &Engine,
+    lib: &mut FnLib,
+    script: Script,
+) -> ParseResult<AST> {
+    let mut input = stream_of(rt, script);
+    let state = ParseState::new(alloc, None, &mut input, TokenizerControl, lib);
+    engine.parse_global_expr(state, |_settings| {}, OptimizationLevel::None)
+}
+
 /// What the parser answers to a script.
 pub(crate) fn parse(
     rt: &impl Abort,
@@ -135,10 +148,8 @@ pub(crate) fn parse(
     engine: &Engine,
     script: Script,
 ) -> ParseResult<AST> {
-    let mut input = stream_of(rt, script);
     let mut lib = FnLib::new(alloc);
-    let state = ParseState::new(alloc, None, &mut input, TokenizerControl, &mut lib);
-    engine.parse_global_expr(state, |_settings| {}, OptimizationLevel::None)
+    parse_in(rt, alloc, engine, &mut lib, script)
 }
 
 /// An engine with this limit of depth.

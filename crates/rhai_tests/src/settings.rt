@@ -2,7 +2,8 @@
 
 use crate::refusals::too_deep;
 use crate::script::at;
-use rhai_parser::{LangOptions, ParseSettingFlags, ParseSettings, Position};
+use rhai_parser::{LangOptions, ParseResult, ParseSettingFlags, ParseSettings, Position};
+use std::process::Abort;
 use std::test::Fail;
 
 fn settings(level: usize, max_expr_depth: usize) -> ParseSettings {
@@ -36,6 +37,22 @@ fn flags_and_options(rt: HostRuntime) {
     assert!(rt; !settings.has_option(ifs | strict), "all of them");
 }
 
+// Compares the answer of a raise with these settings, or, with none, with the refusal at the position before it.
+fn check_raise(
+    rt: &impl Abort,
+    answer: ParseResult<ParseSettings>,
+    wanted: Option<ParseSettings>,
+    level: usize,
+) {
+    match answer {
+        Ok(raised) => assert!(rt; Some(raised) == wanted, "from level {level}"),
+        Err(error) => assert!(rt;
+            wanted.is_none() && error == too_deep(7),
+            "from level {level}"
+        ),
+    }
+}
+
 #[test]
 fn raises(rt: HostRuntime) {
     for (level, limit, deeper) in [
@@ -47,18 +64,10 @@ fn raises(rt: HostRuntime) {
         (usize::MAX - 1, usize::MAX, usize::MAX),
     ] {
         let wanted = settings(deeper, limit);
-        assert_eq!(rt;
-            settings(level, limit).level_up(),
-            Ok(wanted),
-            "{level} {limit}"
-        );
+        check_raise(&rt, settings(level, limit).level_up(), Some(wanted), level);
         let pos = Position::NONE;
         let answer = settings(level, limit).level_up_with_position(pos);
-        assert_eq!(rt;
-            answer,
-            Ok(ParseSettings { pos, ..wanted }),
-            "{level} {limit}"
-        );
+        check_raise(&rt, answer, Some(ParseSettings { pos, ..wanted }), level);
     }
 }
 
@@ -71,14 +80,9 @@ fn refused_raises(rt: HostRuntime) {
         (usize::MAX, 64),
         (usize::MAX, usize::MAX),
     ] {
-        let refused = Err(too_deep(7));
-        assert_eq!(rt;
-            settings(level, limit).level_up(),
-            refused,
-            "{level} {limit}"
-        );
+        check_raise(&rt, settings(level, limit).level_up(), None, level);
         let answer = settings(level, limit).level_up_with_position(at(9));
-        assert_eq!(rt; answer, Err(too_deep(7)), "{level} {limit}");
+        check_raise(&rt, answer, None, level);
     }
 }
 

@@ -1,21 +1,34 @@
 //! What a stream delivers.
 
+ghost use Rattle.std.specs.Prelude.{◌≡◌, false, OnOk};
+
 use crate::script::{Script, at, entry, script_of, stream_of, text};
-use rhai_parser::{Entry, LexError, Token};
+use rhai_parser::{Entry, LexError, Token, TokenStream};
 use std::alloc::{AllocError, Global};
+use std::process::Abort;
 use std::test::Fail;
+
+fn check_peek(rt: &impl Abort, stream: &mut TokenStream, token: Token, column: u16) {
+    assert_eq!(rt; *stream.peek(), (token, at(column)));
+}
+
+fn check_next(rt: &impl Abort, stream: &mut TokenStream, token: Token, column: u16)
+    ensures { stream.new.peeked ≡ false }
+{
+    assert_eq!(rt; stream.next(), (token, at(column)));
+}
 
 #[test]
 fn peek_next_and_skip(rt: HostRuntime) -> Result<(), Fail> {
     let mut stream = stream_of(&rt, script_of(rt.alloc(), "1 + 2")?);
-    assert_eq!(rt; *stream.peek(), (Token::IntegerConstant(1), at(1)));
-    assert_eq!(rt; *stream.peek(), (Token::IntegerConstant(1), at(1)));
-    assert_eq!(rt; stream.next(), (Token::IntegerConstant(1), at(1)));
+    check_peek(&rt, &mut stream, Token::IntegerConstant(1), 1);
+    check_peek(&rt, &mut stream, Token::IntegerConstant(1), 1);
+    check_next(&rt, &mut stream, Token::IntegerConstant(1), 1);
     stream.skip();
-    assert_eq!(rt; stream.next(), (Token::IntegerConstant(2), at(5)));
+    check_next(&rt, &mut stream, Token::IntegerConstant(2), 5);
     for _ in 0..3 {
-        assert_eq!(rt; *stream.peek(), (Token::EOF, at(6)));
-        assert_eq!(rt; stream.next(), (Token::EOF, at(6)));
+        check_peek(&rt, &mut stream, Token::EOF, 6);
+        check_next(&rt, &mut stream, Token::EOF, 6);
         stream.skip();
     }
     Ok(())
@@ -43,23 +56,58 @@ fn refused_text(alloc: Global, payload: &str) -> Result<Token, AllocError> {
     Ok(Token::LexError(LexError::UnexpectedInput(text(alloc, payload)?)))
 }
 
+// The text of a string that comes next.
+fn check_string(
+    rt: &impl Abort,
+    alloc: Global,
+    stream: &mut TokenStream,
+    payload: &str,
+    column: u16,
+) -> Result<(), AllocError>
+    ensures { OnOk result (stream.new.peeked ≡ false) }
+{
+    let token = Token::StringConstant(text(alloc, payload)?);
+    check_next(rt, stream, token, column);
+    Ok(())
+}
+
 #[test]
 fn marked_texts_in_code_mode(rt: HostRuntime) -> Result<(), Fail> {
     let alloc = rt.alloc();
     let mut stream = stream_of(&rt, marked(alloc)?);
-    assert_eq!(rt; *stream.peek(), (refused_text(alloc, "a")?, at(1)));
-    assert_eq!(rt; stream.next(), (refused_text(alloc, "a")?, at(1)));
-    assert_eq!(rt; stream.next(), (refused_text(alloc, "b")?, at(2)));
-    assert_eq!(rt; stream.next(), (Token::Plus, at(3)));
-    assert_eq!(rt;
-        stream.next(),
-        (Token::Identifier(text(alloc, "c")?), at(4))
-    );
-    assert_eq!(rt;
-        stream.next(),
-        (Token::StringConstant(text(alloc, "d")?), at(5))
-    );
-    assert_eq!(rt; stream.next(), (Token::EOF, at(6)));
+    check_peek(&rt, &mut stream, refused_text(alloc, "a")?, 1);
+    check_next(&rt, &mut stream, refused_text(alloc, "a")?, 1);
+    check_next(&rt, &mut stream, refused_text(alloc, "b")?, 2);
+    check_next(&rt, &mut stream, Token::Plus, 3);
+    check_next(&rt, &mut stream, Token::Identifier(text(alloc, "c")?), 4);
+    check_string(&rt, alloc, &mut stream, "d", 5)?;
+    check_next(&rt, &mut stream, Token::EOF, 6);
+    Ok(())
+}
+
+// Asks each token in text mode.
+fn check_text_mode(
+    rt: &impl Abort,
+    alloc: Global,
+    stream: &mut TokenStream,
+) -> Result<(), AllocError>
+    requires { stream.old.peeked ≡ false }
+{
+    stream.set_text_mode();
+    check_peek(rt, stream, Token::StringConstant(text(alloc, "a")?), 1);
+    check_string(rt, alloc, stream, "a", 1)?;
+    stream.set_text_mode();
+    check_next(rt, stream, Token::InterpolatedString(text(alloc, "b")?), 2);
+    stream.set_text_mode();
+    check_next(rt, stream, Token::Plus, 3);
+    stream.set_text_mode();
+    stream.skip();
+    stream.set_text_mode();
+    check_string(rt, alloc, stream, "d", 5)?;
+    stream.set_text_mode();
+    check_peek(rt, stream, Token::EOF, 6);
+    check_next(rt, stream, Token::EOF, 6);
+    check_next(rt, stream, Token::EOF, 6);
     Ok(())
 }
 
@@ -67,34 +115,7 @@ fn marked_texts_in_code_mode(rt: HostRuntime) -> Result<(), Fail> {
 fn texts_in_text_mode(rt: HostRuntime) -> Result<(), Fail> {
     let alloc = rt.alloc();
     let mut stream = stream_of(&rt, marked(alloc)?);
-    stream.set_text_mode();
-    assert_eq!(rt;
-        *stream.peek(),
-        (Token::StringConstant(text(alloc, "a")?), at(1))
-    );
-    assert_eq!(rt;
-        stream.next(),
-        (Token::StringConstant(text(alloc, "a")?), at(1))
-    );
-    stream.set_text_mode();
-    assert_eq!(rt;
-        stream.next(),
-        (Token::InterpolatedString(text(alloc, "b")?), at(2))
-    );
-    stream.set_text_mode();
-    assert_eq!(rt; stream.next(), (Token::Plus, at(3)));
-    stream.set_text_mode();
-    stream.skip();
-    stream.set_text_mode();
-    assert_eq!(rt;
-        stream.next(),
-        (Token::StringConstant(text(alloc, "d")?), at(5))
-    );
-    stream.set_text_mode();
-    assert_eq!(rt; *stream.peek(), (Token::EOF, at(6)));
-    assert_eq!(rt; stream.next(), (Token::EOF, at(6)));
-    assert_eq!(rt; stream.next(), (Token::EOF, at(6)));
-    Ok(())
+    Ok(check_text_mode(&rt, alloc, &mut stream)?)
 }
 
 #[test]
@@ -102,11 +123,8 @@ fn text_mode_holds_for_one_ask(rt: HostRuntime) -> Result<(), Fail> {
     let alloc = rt.alloc();
     let mut stream = stream_of(&rt, marked(alloc)?);
     stream.set_text_mode();
-    assert_eq!(rt;
-        stream.next(),
-        (Token::StringConstant(text(alloc, "a")?), at(1))
-    );
-    assert_eq!(rt; stream.next(), (refused_text(alloc, "b")?, at(2)));
+    check_string(&rt, alloc, &mut stream, "a", 1)?;
+    check_next(&rt, &mut stream, refused_text(alloc, "b")?, 2);
     Ok(())
 }
 

@@ -135,32 +135,64 @@ fn keywords(rt: HostRuntime) -> Result<(), Fail> {
     Ok(())
 }
 
+fn check_payload(
+    rt: &impl Abort,
+    alloc: Global,
+    token: Token,
+    written: &str,
+) -> Result<(), AllocError> {
+    assert!(rt;
+        token.literal_syntax() == "" && token.precedence().is_none(),
+        "{written}"
+    );
+    assert!(rt;
+        !token.is_bind_right() && !token.is_op_assignment(),
+        "{written}"
+    );
+    assert!(rt; token.text(alloc)?.as_str() == written, "{written}");
+    Ok(())
+}
+
 #[test]
-fn tokens_with_payload(rt: HostRuntime) -> Result<(), Fail> {
+fn numbers(rt: HostRuntime) -> Result<(), Fail> {
     let alloc = rt.alloc();
-    let table = vec![in alloc;
-        (Token::IntegerConstant(0), "0"),
-        (Token::IntegerConstant(i64::MIN), "-9223372036854775808"),
-        (Token::IntegerConstant(i64::MAX), "9223372036854775807"),
-        (Token::CharConstant('\u{1f600}'), "\u{1f600}"),
-        (Token::StringConstant(text(alloc, "a \n\\")?), "a \n\\"),
-        (Token::StringConstant(text(alloc, "")?), ""),
-        (Token::InterpolatedString(text(alloc, "b${")?), "b${"),
-        (Token::Identifier(text(alloc, "_x")?), "_x"),
-        (Token::Reserved(text(alloc, "===")?), "==="),
-        (Token::Comment(text(alloc, "/// c")?), "/// c"),
-        (Token::LexError(LexError::StringTooLong(7)), ""),
-        (
-            Token::LexError(LexError::UnexpectedInput(text(alloc, "~")?)),
-            ""
-        ),
-    ]?;
-    for (token, written) in &table {
-        assert_eq!(rt; token.literal_syntax(), "", "{written}");
-        assert_eq!(rt; token.text(alloc)?.as_str(), *written);
-        assert_eq!(rt; token.precedence(), None, "{written}");
-        assert!(rt; !token.is_bind_right(), "{written}");
-        assert!(rt; !token.is_op_assignment(), "{written}");
+    for (number, written) in [
+        (0, "0"),
+        (i64::MIN, "-9223372036854775808"),
+        (i64::MAX, "9223372036854775807"),
+    ] {
+        check_payload(&rt, alloc, Token::IntegerConstant(number), written)?;
     }
     Ok(())
+}
+
+// Each kind of token that holds a text.
+fn check_word(rt: &impl Abort, alloc: Global, word: &str) -> Result<(), AllocError> {
+    check_payload(rt, alloc, Token::StringConstant(text(alloc, word)?), word)?;
+    check_payload(
+        rt,
+        alloc,
+        Token::InterpolatedString(text(alloc, word)?),
+        word,
+    )?;
+    check_payload(rt, alloc, Token::Identifier(text(alloc, word)?), word)?;
+    check_payload(rt, alloc, Token::Reserved(text(alloc, word)?), word)?;
+    check_payload(rt, alloc, Token::Comment(text(alloc, word)?), word)
+}
+
+#[test]
+fn texts(rt: HostRuntime) -> Result<(), Fail> {
+    for word in ["a \n\\", "", "b${", "_x", "==="] {
+        check_word(&rt, rt.alloc(), word)?;
+    }
+    Ok(())
+}
+
+#[test]
+fn characters_and_errors(rt: HostRuntime) -> Result<(), Fail> {
+    let alloc = rt.alloc();
+    check_payload(&rt, alloc, Token::CharConstant('\u{1f600}'), "\u{1f600}")?;
+    check_payload(&rt, alloc, Token::LexError(LexError::StringTooLong(7)), "")?;
+    let error = LexError::UnexpectedInput(text(alloc, "~")?);
+    Ok(check_payload(&rt, alloc, Token::LexError(error), "")?)
 }

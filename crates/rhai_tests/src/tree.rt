@@ -1,13 +1,11 @@
 //! The tree as it is handed on, and as it is compared.
 
+use crate::sample::function;
 use crate::script::{at, engine, parse, script_of, text};
 use rhai_lower::optimize_into_ast;
-use rhai_parser::{
-    AST, Expr, FnCallExpr, Namespace, OptimizationLevel, Scope, ScriptFuncDef, Stmt, StmtBlock,
-    Token,
-};
+use rhai_parser::{AST, Expr, FnCallExpr, Namespace, OptimizationLevel, Scope, Stmt, Token};
 use std::alloc::{AllocError, Global};
-use std::rc::Rc;
+use std::process::Abort;
 use std::test::Fail;
 
 fn int(number: i64, column: u16) -> Expr {
@@ -37,71 +35,67 @@ fn call(
     Ok(Expr::FnCall(Box::new(alloc, call)?, at(column)))
 }
 
+fn product(alloc: Global) -> Result<Expr, AllocError> {
+    let args = vec![in alloc; int(2, 5), int(3, 9)]?;
+    call(alloc, "*", Token::Multiply, 7, args)
+}
+
+// The tree of `1 + 2 * 3`.
+fn sum(alloc: Global) -> Result<Expr, AllocError> {
+    let args = vec![in alloc; int(1, 1), product(alloc)?]?;
+    call(alloc, "+", Token::Plus, 3, args)
+}
+
 fn one_statement(alloc: Global, expr: Expr) -> Result<Vec<Stmt>, AllocError> {
     Ok(vec![in alloc; Stmt::Expr(Box::new(alloc, expr)?)]?)
+}
+
+fn sum_script(alloc: Global) -> Result<AST, AllocError> {
+    Ok(AST {
+        statements: one_statement(alloc, sum(alloc)?)?,
+        functions: Vec::new(alloc),
+    })
 }
 
 #[test]
 fn each_field_of_a_tree(rt: HostRuntime) -> Result<(), Fail> {
     let alloc = rt.alloc();
-    let product = call(
-        alloc,
-        "*",
-        Token::Multiply,
-        7,
-        vec![in alloc; int(2, 5), int(3, 9)]?,
-    )?;
-    let sum = call(
-        alloc,
-        "+",
-        Token::Plus,
-        3,
-        vec![in alloc; int(1, 1), product]?,
-    )?;
-    assert_eq!(rt; sum.position(), at(3));
-    let wanted = AST {
-        statements: one_statement(alloc, sum)?,
-        functions: Vec::new(alloc),
-    };
     let script = script_of(alloc, "1 + 2 * 3")?;
     let answer = parse(&rt, alloc, &engine(alloc, 3), script)?;
-    assert_eq!(rt; answer, wanted);
+    assert!(rt; answer == sum_script(alloc)?);
     Ok(())
 }
 
-// A function of no parameters with an empty body.
-fn function(alloc: Global, name: &str) -> Result<Rc<ScriptFuncDef>, AllocError> {
-    let function = ScriptFuncDef {
-        this_type: None,
-        name: text(alloc, name)?,
-        private: false,
-        params: Vec::new(alloc),
-        body: StmtBlock {
-            statements: Vec::new(alloc),
-            start: at(1),
-            end: at(2),
-        },
-    };
-    Ok(Rc::new(alloc, function)?)
+#[test]
+fn where_a_call_stands(rt: HostRuntime) -> Result<(), Fail> {
+    assert_eq!(rt; sum(rt.alloc())?.position(), at(3));
+    Ok(())
+}
+
+// A script of one statement and one function.
+fn small_script(alloc: Global) -> Result<AST, AllocError> {
+    Ok(AST {
+        statements: one_statement(alloc, int(7, 1))?,
+        functions: vec![in alloc; function(alloc, "f")?]?,
+    })
+}
+
+fn check_level(rt: &impl Abort, alloc: Global, level: OptimizationLevel) -> Result<(), AllocError> {
+    let constants = Scope::new(alloc);
+    let given = small_script(alloc)?;
+    let AST {
+        statements,
+        functions,
+    } = given;
+    let script = optimize_into_ast(alloc, Some(&constants), statements, functions, level)?;
+    assert!(rt; script == small_script(alloc)?, "{level:?}");
+    Ok(())
 }
 
 #[test]
 fn the_optimizer_leaves_a_script_as_it_is(rt: HostRuntime) -> Result<(), Fail> {
-    let alloc = rt.alloc();
-    let constants = Scope::new(alloc);
-    for level in [
-        OptimizationLevel::None,
-        OptimizationLevel::Simple,
-        OptimizationLevel::Full,
-    ] {
-        let wanted = AST {
-            statements: one_statement(alloc, int(7, 1))?,
-            functions: vec![in alloc; function(alloc, "f")?]?,
-        };
-        let statements = one_statement(alloc, int(7, 1))?;
-        let functions = vec![in alloc; function(alloc, "f")?]?;
-        let script = optimize_into_ast(alloc, Some(&constants), statements, functions, level)?;
-        assert_eq!(rt; script, wanted, "{level:?}");
-    }
+    check_level(&rt, rt.alloc(), OptimizationLevel::None)?;
+    check_level(&rt, rt.alloc(), OptimizationLevel::Simple)?;
+    check_level(&rt, rt.alloc(), OptimizationLevel::Full)?;
     Ok(())
 }

@@ -1,0 +1,163 @@
+-- What a token begins where an operand is due, what it does behind a name, and what it does behind an argument.
+use Rattle.std.specs.Prelude.{◌≡◌, Bool, true, false, codes, refl}
+use Rattle.rhai_lower.specs.Texts.{Text, same_text}
+use Rattle.rhai_lower.specs.Names.{reserved_as}
+use Rattle.rhai_lower.specs.Lexemes.{Lexeme, Integer, Character, String, Name, Reserved, Faulty, Sign, text_of}
+use Rattle.rhai_lower.specs.Nodes.{Node, unit, boolean, integer, character, string}
+use Rattle.rhai_lower.specs.declared.position.Position.{Position}
+use Rattle.rhai_lower.specs.declared.token.Token.{Token}
+use Rattle.rhai_lower.specs.declared.token.Token.TheVariants.{Unit, True, False, LeftParen, RightParen, RightBracket, RightBrace, Comma, SemiColon, DoubleArrow, Minus, UnaryMinus, Plus, UnaryPlus, Bang, ExclusiveRange, InclusiveRange, EOF}
+use Rattle.rhai_grammar.specs.Causes as cause
+use Rattle.rhai_grammar.specs.Causes.{Cause}
+
+-- a token that has no place here: the tokenizer's error if it is one
+abbrev pub unexpected : Lexeme → Cause
+unexpected (Faulty f) = cause.BadInput (cause.Lexer f)
+unexpected l = cause.BadInput (cause.UnexpectedInput (text_of l))
+
+-- another token stands where this one is due: the tokenizer's error if it is one
+abbrev pub missing : Text → Lexeme → Cause
+missing due (Faulty f) = cause.BadInput (cause.Lexer f)
+missing due l = cause.MissingToken due
+
+-- what begins where an operand is due
+pub data Beginning : Type 0 where
+  -- a value, which the token is: its node at each position
+  Single : (Position → Node) → Beginning
+  AName : Text → Beginning
+  AWord : Text → Beginning
+  AGroup : Beginning
+  ASign : Beginning
+  -- a range operator, whose left operand is not written
+  ARange : Beginning
+  -- no operand, and why that is refused
+  NoBeginning : Cause → Beginning
+
+abbrev pub sign_beginning : Token → Beginning
+sign_beginning Unit = Single unit
+sign_beginning True = Single (boolean true)
+sign_beginning False = Single (boolean false)
+sign_beginning LeftParen = AGroup
+sign_beginning Minus = ASign
+sign_beginning UnaryMinus = ASign
+sign_beginning Plus = ASign
+sign_beginning UnaryPlus = ASign
+sign_beginning Bang = ASign
+sign_beginning ExclusiveRange = ARange
+sign_beginning InclusiveRange = ARange
+sign_beginning EOF = NoBeginning cause.UnexpectedEOF
+sign_beginning t = NoBeginning (unexpected (Sign t))
+
+abbrev pub beginning : Lexeme → Beginning
+beginning (Integer n) = Single (integer n)
+beginning (Character c) = Single (character c)
+beginning (String t) = Single (string t)
+beginning (Name t) = AName t
+beginning (Reserved t) = AWord t
+beginning (Sign t) = sign_beginning t
+beginning l = NoBeginning (unexpected l)
+
+abbrev pub is_value : Beginning → Bool
+is_value (Single node) = true
+is_value _ = false
+
+abbrev pub is_sign : Beginning → Bool
+is_sign ASign = true
+is_sign _ = false
+
+abbrev pub is_range : Beginning → Bool
+is_range ARange = true
+is_range _ = false
+
+-- the node of a value
+abbrev pub value_at : Position → Beginning → Node
+value_at at (Single node) = node at
+value_at at _ = unit at
+
+-- Behind a range operator, these tokens stand for a unit that is not written.
+abbrev pub closes_sign : Token → Bool
+closes_sign RightBracket = true
+closes_sign RightParen = true
+closes_sign RightBrace = true
+closes_sign Comma = true
+closes_sign SemiColon = true
+closes_sign DoubleArrow = true
+closes_sign _ = false
+
+abbrev pub closes : Lexeme → Bool
+closes (Sign t) = closes_sign t
+closes _ = false
+
+-- ---- behind a name
+
+-- what calls the name before it
+pub data Calling : Type 0 where
+  WithPair : Calling
+  WithList : Calling
+  WithBang : Calling
+  NoCall : Calling
+
+abbrev pub sign_calling : Token → Calling
+sign_calling Unit = WithPair
+sign_calling LeftParen = WithList
+sign_calling Bang = WithBang
+sign_calling _ = NoCall
+
+abbrev pub calling : Lexeme → Calling
+calling (Sign t) = sign_calling t
+calling _ = NoCall
+
+abbrev pub is_call : Calling → Bool
+is_call NoCall = false
+is_call _ = true
+
+-- arguments, with no `!` before them
+abbrev pub is_list : Calling → Bool
+is_list WithPair = true
+is_list WithList = true
+is_list _ = false
+
+abbrev pub calls : Lexeme → Bool
+calls l = is_call (calling l)
+
+abbrev pub is_this : Text → Bool
+is_this word = same_text word (codes "this")
+
+abbrev called_part : Bool × Bool × Bool → Bool
+called_part (reserved, called, method) = called
+
+-- a reserved word that may be called
+abbrev pub may_be_called : Text → Bool
+may_be_called word = called_part (reserved_as word)
+
+-- ---- among arguments
+
+pub data Following : Type 0 where
+  AComma : Following
+  AClose : Following
+  -- anything else, and why that is refused
+  NoFollowing : Cause → Following
+
+abbrev pub sign_following : Token → Following
+sign_following Comma = AComma
+sign_following RightParen = AClose
+sign_following EOF = NoFollowing (cause.MissingToken (codes ")"))
+sign_following t = NoFollowing (cause.MissingToken (codes ","))
+
+abbrev pub following : Lexeme → Following
+following (Sign t) = sign_following t
+following l = NoFollowing (missing (codes ",") l)
+
+abbrev pub is_close : Following → Bool
+is_close AClose = true
+is_close _ = false
+
+-- the list of arguments cannot begin: the end mark stands there, or an error of the tokenizer
+abbrev pub no_argument : Lexeme → Bool
+no_argument (Faulty f) = true
+no_argument (Sign EOF) = true
+no_argument _ = false
+
+-- `(` begins a group where an operand is due and calls the name before it; `print` may be called, `this` may not.
+example : (beginning (Sign LeftParen) ≡ AGroup) × (calling (Sign LeftParen) ≡ WithList) × (may_be_called (codes "print") ≡ true) × (may_be_called (codes "this") ≡ false) × (following (Sign EOF) ≡ NoFollowing (cause.MissingToken (codes ")")))
+example = (refl, refl, refl, refl, refl)

@@ -1,0 +1,131 @@
+-- What a binary operator makes of its operands.
+use Rattle.std.specs.Prelude.{◌≡◌, Bool, true, false, [], Option, Some, None, Result, Ok, Err, is_none, unwrap_or, if◌then◌else◌, codes, pos, refl}
+use Rattle.rhai_lower.specs.Positions.{place}
+use Rattle.rhai_lower.specs.Lexemes.{Lexeme, Sign, text_of}
+use Rattle.rhai_lower.specs.Nodes.{Called, Node, Nodes, integer, boolean, call, conjunction, disjunction, coalescing, no_nodes, one_node, start_of}
+use Rattle.rhai_lower.specs.declared.position.Position.{Position}
+use Rattle.rhai_lower.specs.declared.token.Token.TheVariants.{And, Or, DoubleQuestion, In, NotIn, Bang}
+use Rattle.rhai_grammar.specs.Causes.{Refusal, refusal, MismatchedType}
+use Rattle.rhai_grammar.specs.Kinds.{not_boolean}
+use Rattle.rhai_grammar.specs.Signs.{sign_call}
+
+-- a call that only a native function of two arguments can answer, named by the operator that is written
+abbrev pub operator_called : Lexeme → Called
+operator_called op = record { name = text_of op; path = []; module_index = None; script_args = None; native_args = 2; captures_scope = false; op_token = Some op }
+
+-- an operator's call, which stands at the operator
+abbrev pub operator_call : Lexeme → Position → Node → Node → Node
+operator_call op at left right = call (operator_called op) (one_node left (one_node right no_nodes)) at
+
+-- ---- `in`
+
+-- Membership calls `contains`, which a script may define, of what is looked into and what is looked for.
+abbrev pub contains_called : Option Lexeme → Called
+contains_called op = record { name = codes "contains"; path = []; module_index = None; script_args = Some 2; native_args = 2; captures_scope = false; op_token = op }
+
+abbrev pub contains_call : Option Lexeme → Position → Node → Node → Node
+contains_call op at left right = call (contains_called op) (one_node right (one_node left no_nodes)) at
+
+-- `!in` is `!` of a membership that remembers how it was written
+abbrev pub no_membership : Lexeme → Position → Node → Node → Node
+no_membership op at left right = sign_call (Sign Bang) at (contains_call (Some op) at left right)
+
+-- ---- `&&`, `||` and `??`
+
+-- lists of two and more operands
+pub data ListKind : Type 0 where
+  Conjunction : ListKind
+  Disjunction : ListKind
+  Coalescing : ListKind
+
+abbrev pub list_tree : ListKind → Nodes → Position → Node
+list_tree Conjunction ns at = conjunction ns at
+list_tree Disjunction ns at = disjunction ns at
+list_tree Coalescing ns at = coalescing ns at
+
+-- an operand of such an operator: a list of its own kind, or one item
+pub data Part : Type 0 where
+  Items : Nodes → Position → Part
+  Item : Node → Part
+
+abbrev pub part : ListKind → Node → Part
+part Conjunction (conjunction ns p) = Items ns p
+part Disjunction (disjunction ns p) = Items ns p
+part Coalescing (coalescing ns p) = Items ns p
+part kind n = Item n
+
+-- the items of one list behind those of another
+abbrev pub joined : Nodes → Nodes → Nodes
+joined no_nodes ms = ms
+joined (one_node n ns) ms = one_node n (joined ns ms)
+
+abbrev pub items : Part → Nodes
+items (Items ns p) = ns
+items (Item n) = one_node n no_nodes
+
+-- A list on the left keeps its position; otherwise the list stands at the operator.
+abbrev pub list_position : Position → Part → Position
+list_position at (Items ns p) = p
+list_position at (Item n) = at
+
+abbrev pub list_of_parts : ListKind → Position → Part → Part → Node
+list_of_parts kind at left right = list_tree kind (joined (items left) (items right)) (list_position at left)
+
+abbrev pub list_of : ListKind → Position → Node → Node → Node
+list_of kind at left right = list_of_parts kind at (part kind left) (part kind right)
+
+-- ---- all operators
+
+-- how an operator joins its operands
+pub data Joining : Type 0 where
+  Lists : ListKind → Joining
+  Membership : Joining
+  NoMembership : Joining
+  Calls : Joining
+
+abbrev pub joining : Lexeme → Joining
+joining (Sign And) = Lists Conjunction
+joining (Sign Or) = Lists Disjunction
+joining (Sign DoubleQuestion) = Lists Coalescing
+joining (Sign In) = Membership
+joining (Sign NotIn) = NoMembership
+joining _ = Calls
+
+abbrev pub joined_tree : Joining → Lexeme → Position → Node → Node → Node
+joined_tree (Lists kind) op at left right = list_of kind at left right
+joined_tree Membership op at left right = contains_call None at left right
+joined_tree NoMembership op at left right = no_membership op at left right
+joined_tree Calls op at left right = operator_call op at left right
+
+abbrev pub operator_tree : Lexeme → Position → Node → Node → Node
+operator_tree op at left right = joined_tree (joining op) op at left right
+
+-- `&&` and `||` take what can be a boolean
+abbrev pub takes_booleans : Joining → Bool
+takes_booleans (Lists Conjunction) = true
+takes_booleans (Lists Disjunction) = true
+takes_booleans _ = false
+
+abbrev pub boolean_holds : Lexeme → Node → Bool
+boolean_holds op n = if takes_booleans (joining op) then is_none (not_boolean n) else true
+
+-- an operand that cannot be a boolean: its kind is named where it starts
+abbrev pub mismatched : Node → Refusal
+mismatched n = refusal (MismatchedType (codes "a boolean expression") (unwrap_or (not_boolean n) [])) (start_of n)
+
+-- what an operator, its position and its operands give; the left operand is tested first
+abbrev pub operator_result : Lexeme → Position → Node → Node → Result Node Refusal
+operator_result op at left right =
+    if boolean_holds op left
+    then (if boolean_holds op right then Ok (operator_tree op at left right) else Err (mismatched right))
+    else Err (mismatched left)
+
+-- `(a && b) && c` is one list, which stands at the first `&&`; `1 && a` is refused at the 1.
+abbrev example_true : Node
+example_true = boolean true (place 1 1)
+
+abbrev example_list : Node
+example_list = operator_tree (Sign And) (place 1 3) example_true example_true
+
+example : (operator_tree (Sign And) (place 1 5) example_list example_true ≡ conjunction (one_node example_true (one_node example_true (one_node example_true no_nodes))) (place 1 3)) × (operator_tree (Sign And) (place 1 5) example_true example_list ≡ conjunction (one_node example_true (one_node example_true (one_node example_true no_nodes))) (place 1 5)) × (operator_result (Sign And) (place 1 3) (integer (pos 1) (place 1 1)) example_true ≡ Err (refusal (MismatchedType (codes "a boolean expression") (codes "a number")) (place 1 1)))
+example = (refl, refl, refl)

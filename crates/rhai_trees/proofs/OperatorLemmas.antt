@@ -1,0 +1,69 @@
+-- What a binary operator makes of its operands, by the code's tests.
+use Rattle.std.proofs.Common.{◌≡◌, Bool, true, false, List, [], ◌∷◌, ◌++◌, Option, Some, None, Result, Ok, Err, refl, ap}
+use Rattle.std.specs.Prelude.{codes, if◌then◌else◌, is_none, unwrap_or}
+use Rattle.rhai_lower.specs.Texts.{Text}
+use Rattle.rhai_lower.specs.Lexemes.{Lexeme}
+use Rattle.rhai_lower.specs.Nodes.{Node, one_node, start_of}
+use Rattle.rhai_lower.specs.View.{view, views}
+use Rattle.rhai_lower.specs.declared.ast.Expr.{Expr}
+use Rattle.rhai_lower.specs.declared.position.Position.{Position}
+use Rattle.rhai_grammar.specs.Causes.{MismatchedType, Refusal, refusal}
+use Rattle.rhai_grammar.specs.Kinds.{not_boolean}
+use Rattle.rhai_grammar.specs.Operators.{Conjunction, Disjunction, Lists, boolean_holds, joined, joining, mismatched, operator_result, operator_tree, takes_booleans}
+use Rattle.rhai_trees.specs.Views.{operand_fault}
+
+-- lists one behind the other
+pub views_append : (es fs : List Expr) → views (es ++ fs) ≡ joined (views es) (views fs)
+views_append [] fs = refl
+views_append (e ∷ es) fs = ap (λ rest. one_node (view e) rest) (views_append es fs)
+
+-- ---- operands that cannot be booleans
+
+pub holds_where_due : (l : Lexeme) (n : Node) → takes_booleans (joining l) ≡ true → boolean_holds l n ≡ is_none (not_boolean n)
+holds_where_due l n e = ap (λ b. if b then is_none (not_boolean n) else true) e
+
+pub holds_and : (l : Lexeme) (n : Node) → joining l ≡ Lists Conjunction → boolean_holds l n ≡ is_none (not_boolean n)
+holds_and l n e = holds_where_due l n (ap takes_booleans e)
+
+pub holds_or : (l : Lexeme) (n : Node) → joining l ≡ Lists Disjunction → boolean_holds l n ≡ is_none (not_boolean n)
+holds_or l n e = holds_where_due l n (ap takes_booleans e)
+
+pub holds_others : (l : Lexeme) (n : Node) → takes_booleans (joining l) ≡ false → boolean_holds l n ≡ true
+holds_others l n e = ap (λ b. if b then is_none (not_boolean n) else true) e
+
+pub mismatched_kind : (n : Node) (kind : Text) → not_boolean n ≡ Some kind → mismatched n ≡ refusal (MismatchedType (codes "a boolean expression") kind) (start_of n)
+mismatched_kind n kind e = ap (λ o. refusal (MismatchedType (codes "a boolean expression") (unwrap_or o [])) (start_of n)) e
+
+-- ---- what is answered
+
+pub fault_left : (l : Lexeme) (n m : Node) → boolean_holds l n ≡ false → operand_fault l n m ≡ Some (mismatched n)
+fault_left l n m e = rw e refl
+
+pub fault_right : (l : Lexeme) (n m : Node) → boolean_holds l n ≡ true → boolean_holds l m ≡ false → operand_fault l n m ≡ Some (mismatched m)
+fault_right l n m e f = rw (e, f) refl
+
+pub fault_none : (l : Lexeme) (n m : Node) → boolean_holds l n ≡ true → boolean_holds l m ≡ true → operand_fault l n m ≡ None
+fault_none l n m e f = rw (e, f) refl
+
+-- an operator's result, by the tests of its operands
+abbrev by_tests : (b c : Bool) (x y : Refusal) (n : Node) → Result Node Refusal
+by_tests b c x y n = if b then (if c then Ok n else Err y) else Err x
+
+abbrev faults : (b c : Bool) (x y : Refusal) → Option Refusal
+faults b c x y = if b then (if c then None else Some y) else Some x
+
+refused : (b c : Bool) (x y r : Refusal) (n : Node) → faults b c x y ≡ Some r → by_tests b c x y n ≡ Err r
+refused true true x y r n e = absurd cc
+refused true false x y r n e = cc
+refused false c x y r n e = cc
+
+taken : (b c : Bool) (x y : Refusal) (n : Node) → faults b c x y ≡ None → by_tests b c x y n ≡ Ok n
+taken true true x y n e = refl
+taken true false x y n e = absurd cc
+taken false c x y n e = absurd cc
+
+pub result_refused : (l : Lexeme) (at : Position) (n m : Node) (r : Refusal) → operand_fault l n m ≡ Some r → operator_result l at n m ≡ Err r
+result_refused l at n m r e = refused (boolean_holds l n) (boolean_holds l m) (mismatched n) (mismatched m) r (operator_tree l at n m) e
+
+pub result_taken : (l : Lexeme) (at : Position) (n m : Node) → operand_fault l n m ≡ None → operator_result l at n m ≡ Ok (operator_tree l at n m)
+result_taken l at n m e = taken (boolean_holds l n) (boolean_holds l m) (mismatched n) (mismatched m) (operator_tree l at n m) e

@@ -1,0 +1,373 @@
+//! Tests on trees: what a node cannot be, whatever its value, and what is a constant.
+
+ghost use Rattle.std.specs.Prelude.{◌≡◌, option_map};
+ghost use Rattle.rhai_lower.specs.Lexemes.{lexeme};
+ghost use Rattle.rhai_lower.specs.View.{property_views, view, views};
+ghost use Rattle.rhai_grammar.specs.Kinds.{are_bounds, are_constant, are_literal_values, have_constants, have_literal_values, Counted, Keyed, index_fault, index_kind, indexed, kind_fault, is_constant, is_literal_value, is_range_end, is_range_start, makes_range, not_boolean, not_iterable};
+ghost use Rattle.rhai_trees.specs.Views.{index_kind_view, indexed_view};
+
+use rhai_lower::{Expr, Ident, Token};
+
+/// What an operand takes as an index.
+#[derive(Clone, Copy)]
+pub(crate) enum Indexed {
+    /// A string, as an object map does.
+    Keyed,
+    /// A number, as a literal does that is counted.
+    Counted,
+    /// It is not known.
+    Unknown,
+}
+
+/// What an index is.
+#[derive(Clone, Copy)]
+pub(crate) enum IndexKind {
+    /// A number.
+    Number,
+    /// A string.
+    Words,
+    /// A character.
+    Character,
+    /// Unit.
+    Unit,
+    /// A boolean.
+    Boolean,
+    /// It is not known.
+    Anything,
+}
+
+/// The kind of an expression that cannot be a boolean, as errors name it; none if it can. It takes no memory.
+pub fn not_boolean(expr: &Expr) -> Option<&'static str>
+    ensures { option_map (λ t. t.now) result ≡ not_boolean (view expr.now) }
+{
+    match expr {
+        Expr::Unit(_) => Some("()"),
+        Expr::FnPointer(_, _, _) => Some("Fn"),
+        Expr::IntegerConstant(_, _) => Some("a number"),
+        Expr::CharConstant(_, _) => Some("a character"),
+        Expr::StringConstant(_, _) | Expr::InterpolatedString(_, _) => Some("a string"),
+        Expr::Array(_, _) => Some("an array"),
+        Expr::Map(_, _) => Some("an object map"),
+        Expr::BoolConstant(_, _)
+        | Expr::Variable(_, _)
+        | Expr::ThisPtr(_)
+        | Expr::Property(_, _)
+        | Expr::FnCall(_, _)
+        | Expr::MethodCall(_, _)
+        | Expr::Dot(_, _, _)
+        | Expr::Index(_, _, _)
+        | Expr::And(_, _)
+        | Expr::Or(_, _)
+        | Expr::Coalesce(_, _)
+        | Expr::Stmt(_) => None,
+    }
+}
+
+/// The kind of an expression that `for` cannot go over, as errors name it; none if it can. It takes no memory.
+pub fn not_iterable(expr: &Expr) -> Option<&'static str>
+    ensures { option_map (λ t. t.now) result ≡ not_iterable (view expr.now) }
+{
+    match expr {
+        Expr::Unit(_) => Some("()"),
+        Expr::BoolConstant(_, _) => Some("a boolean"),
+        Expr::IntegerConstant(_, _) => Some("a number"),
+        Expr::CharConstant(_, _) => Some("a character"),
+        Expr::Map(_, _) => Some("an object map"),
+        Expr::StringConstant(_, _)
+        | Expr::InterpolatedString(_, _)
+        | Expr::Array(_, _)
+        | Expr::FnPointer(_, _, _)
+        | Expr::Variable(_, _)
+        | Expr::ThisPtr(_)
+        | Expr::Property(_, _)
+        | Expr::FnCall(_, _)
+        | Expr::MethodCall(_, _)
+        | Expr::Dot(_, _, _)
+        | Expr::Index(_, _, _)
+        | Expr::And(_, _)
+        | Expr::Or(_, _)
+        | Expr::Coalesce(_, _)
+        | Expr::Stmt(_) => None,
+    }
+}
+
+/// Why an index cannot stand in the first bracket behind an operand, as the error says it; none if it can. It takes no
+/// memory.
+pub fn index_fault(root: &Expr, index: &Expr) -> Option<&'static str>
+    ensures { option_map (λ t. t.now) result ≡ index_fault (view root.now) (view index.now) }
+{
+    match index_due(root) {
+        Indexed::Keyed => key_fault(index_kind(index)),
+        Indexed::Counted => count_fault(index_kind(index)),
+        Indexed::Unknown => None,
+    }
+}
+
+// Why an index of this kind is none of an object map.
+fn key_fault(index: IndexKind) -> Option<&'static str>
+    ensures { option_map (λ t. t.now) result ≡ kind_fault Keyed (index_kind_view index) }
+{
+    match index {
+        IndexKind::Number => Some("Object map expects string index, not a number"),
+        IndexKind::Character => Some("Object map expects string index, not a character"),
+        IndexKind::Unit => Some("Object map expects string index, not ()"),
+        IndexKind::Boolean => Some("Object map expects string index, not a boolean"),
+        IndexKind::Words | IndexKind::Anything => None,
+    }
+}
+
+// Why an index of this kind is none of a literal that is counted.
+fn count_fault(index: IndexKind) -> Option<&'static str>
+    ensures { option_map (λ t. t.now) result ≡ kind_fault Counted (index_kind_view index) }
+{
+    match index {
+        IndexKind::Words => {
+            Some("Array, string or bit-field expects numeric index, not a string")
+        }
+        IndexKind::Character => {
+            Some("Array, string or bit-field expects integer index, not a character")
+        }
+        IndexKind::Unit => Some("Array, string or bit-field expects integer index, not ()"),
+        IndexKind::Boolean => {
+            Some("Array, string or bit-field expects integer index, not a boolean")
+        }
+        IndexKind::Number | IndexKind::Anything => None,
+    }
+}
+
+// What an operand takes as an index.
+fn index_due(root: &Expr) -> Indexed
+    ensures { indexed_view result ≡ indexed (view root.now) }
+{
+    match root {
+        Expr::Map(_, _) => Indexed::Keyed,
+        Expr::IntegerConstant(_, _)
+        | Expr::Array(_, _)
+        | Expr::StringConstant(_, _)
+        | Expr::InterpolatedString(_, _) => Indexed::Counted,
+        Expr::Unit(_)
+        | Expr::BoolConstant(_, _)
+        | Expr::CharConstant(_, _)
+        | Expr::FnPointer(_, _, _)
+        | Expr::Variable(_, _)
+        | Expr::ThisPtr(_)
+        | Expr::Property(_, _)
+        | Expr::FnCall(_, _)
+        | Expr::MethodCall(_, _)
+        | Expr::Dot(_, _, _)
+        | Expr::Index(_, _, _)
+        | Expr::And(_, _)
+        | Expr::Or(_, _)
+        | Expr::Coalesce(_, _)
+        | Expr::Stmt(_) => Indexed::Unknown,
+    }
+}
+
+// What an index is.
+fn index_kind(index: &Expr) -> IndexKind
+    ensures { index_kind_view result ≡ index_kind (view index.now) }
+{
+    match index {
+        Expr::IntegerConstant(_, _) => IndexKind::Number,
+        Expr::StringConstant(_, _) | Expr::InterpolatedString(_, _) => IndexKind::Words,
+        Expr::CharConstant(_, _) => IndexKind::Character,
+        Expr::Unit(_) => IndexKind::Unit,
+        Expr::BoolConstant(_, _) | Expr::And(_, _) | Expr::Or(_, _) => IndexKind::Boolean,
+        Expr::Array(_, _)
+        | Expr::Map(_, _)
+        | Expr::FnPointer(_, _, _)
+        | Expr::Variable(_, _)
+        | Expr::ThisPtr(_)
+        | Expr::Property(_, _)
+        | Expr::FnCall(_, _)
+        | Expr::MethodCall(_, _)
+        | Expr::Dot(_, _, _)
+        | Expr::Index(_, _, _)
+        | Expr::Coalesce(_, _)
+        | Expr::Stmt(_) => IndexKind::Anything,
+    }
+}
+
+/// Whether an expression is a constant: a literal without parts, or an array or object map of constants. It takes no
+/// memory.
+#[cycle(constants)]
+#[tactic(auto, using(rhai_lower::proofs::Views::view_map))]
+pub fn is_constant(expr: &Expr) -> bool
+    ensures { result ≡ is_constant (view expr.now) }
+{
+    match expr {
+        Expr::Unit(_)
+        | Expr::BoolConstant(_, _)
+        | Expr::IntegerConstant(_, _)
+        | Expr::CharConstant(_, _)
+        | Expr::StringConstant(_, _)
+        | Expr::FnPointer(_, _, _) => true,
+        Expr::Array(items, _) => are_constant(items),
+        Expr::Map(properties, _) => have_constants(properties),
+        Expr::InterpolatedString(_, _)
+        | Expr::Variable(_, _)
+        | Expr::ThisPtr(_)
+        | Expr::Property(_, _)
+        | Expr::FnCall(_, _)
+        | Expr::MethodCall(_, _)
+        | Expr::Dot(_, _, _)
+        | Expr::Index(_, _, _)
+        | Expr::And(_, _)
+        | Expr::Or(_, _)
+        | Expr::Coalesce(_, _)
+        | Expr::Stmt(_) => false,
+    }
+}
+
+#[cycle(constants)]
+fn are_constant(items: &[Expr]) -> bool
+    ensures { result ≡ are_constant (views items.now) }
+{
+    for item in items {
+        if !is_constant(item) {
+            return false;
+        }
+    }
+    true
+}
+
+#[cycle(constants)]
+fn have_constants(properties: &[(Ident, Expr)]) -> bool
+    ensures { result ≡ have_constants (property_views properties.now) }
+{
+    for property in properties {
+        if !is_constant(&property.1) {
+            return false;
+        }
+    }
+    true
+}
+
+/// Whether an expression is a value that a `switch` case may have: as a constant, and ranges of integers beside. It takes
+/// no memory.
+#[cycle(literals)]
+#[tactic(auto, using(rhai_lower::proofs::Views::view_map))]
+pub fn is_literal_value(expr: &Expr) -> bool
+    ensures { result ≡ is_literal_value (view expr.now) }
+{
+    match expr {
+        Expr::Unit(_)
+        | Expr::BoolConstant(_, _)
+        | Expr::IntegerConstant(_, _)
+        | Expr::CharConstant(_, _)
+        | Expr::StringConstant(_, _)
+        | Expr::FnPointer(_, _, _) => true,
+        Expr::Array(items, _) => are_literal_values(items),
+        Expr::Map(properties, _) => have_literal_values(properties),
+        Expr::FnCall(call, _) => makes_range(&call.op_token) && are_bounds(&call.args),
+        Expr::InterpolatedString(_, _)
+        | Expr::Variable(_, _)
+        | Expr::ThisPtr(_)
+        | Expr::Property(_, _)
+        | Expr::MethodCall(_, _)
+        | Expr::Dot(_, _, _)
+        | Expr::Index(_, _, _)
+        | Expr::And(_, _)
+        | Expr::Or(_, _)
+        | Expr::Coalesce(_, _)
+        | Expr::Stmt(_) => false,
+    }
+}
+
+#[cycle(literals)]
+fn are_literal_values(items: &[Expr]) -> bool
+    ensures { result ≡ are_literal_values (views items.now) }
+{
+    for item in items {
+        if !is_literal_value(item) {
+            return false;
+        }
+    }
+    true
+}
+
+#[cycle(literals)]
+fn have_literal_values(properties: &[(Ident, Expr)]) -> bool
+    ensures { result ≡ have_literal_values (property_views properties.now) }
+{
+    for property in properties {
+        if !is_literal_value(&property.1) {
+            return false;
+        }
+    }
+    true
+}
+
+// Whether an operator makes a range.
+fn makes_range(op_token: &Option<Token>) -> bool
+    ensures { result ≡ makes_range (option_map lexeme op_token.now) }
+{
+    match op_token {
+        Some(Token::ExclusiveRange) | Some(Token::InclusiveRange) => true,
+        Some(_) | None => false,
+    }
+}
+
+// Whether a range may have these ends.
+#[tactic(auto, using(crate::proofs::KindLemmas::few_bounds, crate::proofs::KindLemmas::many_bounds))]
+fn are_bounds(bounds: &[Expr]) -> bool
+    ensures { result ≡ are_bounds (views bounds.now) }
+{
+    match bounds {
+        [first, last] => is_range_start(first) && is_range_end(last),
+        _ => false,
+    }
+}
+
+fn is_range_start(expr: &Expr) -> bool
+    ensures { result ≡ is_range_start (view expr.now) }
+{
+    match expr {
+        Expr::IntegerConstant(_, _) => true,
+        Expr::Unit(_)
+        | Expr::BoolConstant(_, _)
+        | Expr::CharConstant(_, _)
+        | Expr::StringConstant(_, _)
+        | Expr::InterpolatedString(_, _)
+        | Expr::Array(_, _)
+        | Expr::Map(_, _)
+        | Expr::FnPointer(_, _, _)
+        | Expr::Variable(_, _)
+        | Expr::ThisPtr(_)
+        | Expr::Property(_, _)
+        | Expr::FnCall(_, _)
+        | Expr::MethodCall(_, _)
+        | Expr::Dot(_, _, _)
+        | Expr::Index(_, _, _)
+        | Expr::And(_, _)
+        | Expr::Or(_, _)
+        | Expr::Coalesce(_, _)
+        | Expr::Stmt(_) => false,
+    }
+}
+
+fn is_range_end(expr: &Expr) -> bool
+    ensures { result ≡ is_range_end (view expr.now) }
+{
+    match expr {
+        Expr::IntegerConstant(_, _) | Expr::Unit(_) => true,
+        Expr::BoolConstant(_, _)
+        | Expr::CharConstant(_, _)
+        | Expr::StringConstant(_, _)
+        | Expr::InterpolatedString(_, _)
+        | Expr::Array(_, _)
+        | Expr::Map(_, _)
+        | Expr::FnPointer(_, _, _)
+        | Expr::Variable(_, _)
+        | Expr::ThisPtr(_)
+        | Expr::Property(_, _)
+        | Expr::FnCall(_, _)
+        | Expr::MethodCall(_, _)
+        | Expr::Dot(_, _, _)
+        | Expr::Index(_, _, _)
+        | Expr::And(_, _)
+        | Expr::Or(_, _)
+        | Expr::Coalesce(_, _)
+        | Expr::Stmt(_) => false,
+    }
+}

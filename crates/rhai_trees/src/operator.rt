@@ -1,0 +1,248 @@
+//! Binary operators with their operands.
+
+ghost use Rattle.std.specs.Prelude.{◌≡◌, None, Some, true, false, IfErr, IfOk, IsOk, is_none};
+ghost use Rattle.rhai_lower.specs.Lexemes.{lexeme};
+ghost use Rattle.rhai_lower.specs.View.{view, views};
+ghost use Rattle.rhai_grammar.specs.Answers.{Answers};
+ghost use Rattle.rhai_grammar.specs.Causes.{MemoryIsNowhere, is_for_memory, no_memory, refusal_of};
+ghost use Rattle.rhai_grammar.specs.Operators.{Coalescing, Conjunction, Disjunction, boolean_holds, items, joining, list_of, list_position, list_tree, mismatched, no_membership, operator_result, operator_tree, part};
+ghost use Rattle.rhai_grammar.specs.Kinds.{not_boolean};
+ghost use Rattle.rhai_trees.specs.Views.{joining_view, list_kind_view, operand_fault, part_view};
+
+use crate::call::{contains_call, native_call};
+use crate::kind::not_boolean;
+use rhai_grammar::{ParseError, ParseErrorType, ParseResult};
+use rhai_lower::{Expr, Position, Token};
+use std::alloc::{AllocError, Global};
+use std::rc::RcStr;
+
+/// The lists that operators make.
+#[derive(Clone, Copy)]
+pub(crate) enum ListKind {
+    /// The operands of `&&`.
+    And,
+    /// The operands of `||`.
+    Or,
+    /// The operands of `??`.
+    Coalesce,
+}
+
+/// How an operator joins its operands.
+#[derive(Clone, Copy)]
+pub(crate) enum Joining {
+    /// To a list.
+    List(ListKind),
+    /// To a call of `contains`.
+    Membership,
+    /// To the negation of such a call.
+    NoMembership,
+    /// To a call named by the operator.
+    Call,
+}
+
+/// An operand of an operator that makes lists.
+#[derive(Drop)]
+pub(crate) enum Part {
+    /// A list of the operator's own kind, and where it stands.
+    Items(Vec<Expr>, Position),
+    /// Anything else, which is one item.
+    Item(Expr),
+}
+
+/// What a binary operator makes of its operands. `&&`, `||` and `??` make lists, and go on with those that stand on
+/// either side; a list on the left keeps its position. `in` calls `contains`, and `!in` negates such a call. Any other
+/// operator is a call, at the operator, which only a native function can answer.
+///
+/// `op_token` is the operator, `pos` where it stands. An operand of `&&` or `||` that cannot be a boolean is
+/// `MismatchedType`, where it starts, the left one first; want of memory is `OutOfMemory`.
+#[tactic(auto, using(crate::proofs::OperatorLemmas::result_taken, crate::proofs::OperatorLemmas::result_refused))]
+pub fn make_binary(
+    alloc: Global,
+    op_token: Token,
+    pos: Position,
+    lhs: Expr,
+    rhs: Expr,
+) -> ParseResult<Expr>
+    ensures answers { Answers view (operator_result (lexeme op_token) pos (view lhs) (view rhs)) result }
+    ensures nowhere { IfErr result MemoryIsNowhere }
+{
+    match test_operands(alloc, &op_token, &lhs, &rhs) {
+        Ok(()) => join_operands(alloc, op_token, pos, lhs, rhs),
+        Err(error) => Err(error),
+    }
+}
+
+// Refuses the first operand that cannot be a boolean, where one is due.
+#[tactic(auto, using(crate::proofs::OperatorLemmas::fault_left, crate::proofs::OperatorLemmas::fault_right, crate::proofs::OperatorLemmas::fault_none))]
+fn test_operands(alloc: Global, op_token: &Token, lhs: &Expr, rhs: &Expr) -> ParseResult<()>
+    ensures passes { IsOk result → operand_fault (lexeme op_token.now) (view lhs.now) (view rhs.now) ≡ None }
+    ensures refuses { IfErr result (λ e. is_for_memory e ≡ false → operand_fault (lexeme op_token.now) (view lhs.now) (view rhs.now) ≡ Some (refusal_of e)) }
+    ensures nowhere { IfErr result MemoryIsNowhere }
+{
+    test_operand(alloc, op_token, lhs)?;
+    test_operand(alloc, op_token, rhs)
+}
+
+// Refuses an operand that cannot be a boolean, where one is due.
+#[tactic(auto, using(crate::proofs::OperatorLemmas::holds_and, crate::proofs::OperatorLemmas::holds_or, crate::proofs::OperatorLemmas::holds_others))]
+fn test_operand(alloc: Global, op_token: &Token, operand: &Expr) -> ParseResult<()>
+    ensures passes { IsOk result → boolean_holds (lexeme op_token.now) (view operand.now) ≡ true }
+    ensures refuses { IfErr result (λ e. is_for_memory e ≡ false → (boolean_holds (lexeme op_token.now) (view operand.now) ≡ false) × (refusal_of e ≡ mismatched (view operand.now))) }
+    ensures nowhere { IfErr result MemoryIsNowhere }
+{
+    match joining_of(op_token) {
+        Joining::List(ListKind::And) | Joining::List(ListKind::Or) => test_boolean(alloc, operand),
+        Joining::List(ListKind::Coalesce)
+        | Joining::Membership
+        | Joining::NoMembership
+        | Joining::Call => Ok(()),
+    }
+}
+
+// Refuses an operand that cannot be a boolean.
+#[tactic(auto, using(crate::proofs::OperatorLemmas::mismatched_kind))]
+fn test_boolean(alloc: Global, operand: &Expr) -> ParseResult<()>
+    ensures passes { IsOk result → is_none (not_boolean (view operand.now)) ≡ true }
+    ensures refuses { IfErr result (λ e. is_for_memory e ≡ false → (is_none (not_boolean (view operand.now)) ≡ false) × (refusal_of e ≡ mismatched (view operand.now))) }
+    ensures nowhere { IfErr result MemoryIsNowhere }
+{
+    match not_boolean(operand) {
+        None => Ok(()),
+        Some(kind) => {
+            let due = RcStr::from_str(alloc, "a boolean expression")?;
+            let found = RcStr::from_str(alloc, kind)?;
+            let start = operand.start_position();
+            Err(ParseError(ParseErrorType::MismatchedType(due, found), start))
+        }
+    }
+}
+
+// How an operator joins its operands.
+fn joining_of(op_token: &Token) -> Joining
+    ensures { joining_view result ≡ joining (lexeme op_token.now) }
+{
+    match op_token {
+        Token::And => Joining::List(ListKind::And),
+        Token::Or => Joining::List(ListKind::Or),
+        Token::DoubleQuestion => Joining::List(ListKind::Coalesce),
+        Token::In => Joining::Membership,
+        Token::NotIn => Joining::NoMembership,
+        _ => Joining::Call,
+    }
+}
+
+// What an operator makes of operands that it takes. The error is that there is no memory for it.
+fn join_operands(
+    alloc: Global,
+    op_token: Token,
+    pos: Position,
+    lhs: Expr,
+    rhs: Expr,
+) -> ParseResult<Expr>
+    ensures tree { IfOk result (λ e. view e ≡ operator_tree (lexeme op_token) pos (view lhs) (view rhs)) }
+    ensures nowhere { IfErr result (λ e. e ≡ no_memory) }
+{
+    match joining_of(&op_token) {
+        Joining::List(kind) => join_list(alloc, kind, pos, lhs, rhs),
+        Joining::Membership => Ok(contains_call(alloc, None, pos, lhs, rhs)?),
+        Joining::NoMembership => Ok(no_membership(alloc, op_token, pos, lhs, rhs)?),
+        Joining::Call => Ok(native_call(alloc, op_token, pos, vec![in alloc; lhs, rhs]?)?),
+    }
+}
+
+// `lhs !in rhs`
+fn no_membership(
+    alloc: Global,
+    op_token: Token,
+    pos: Position,
+    lhs: Expr,
+    rhs: Expr,
+) -> Result<Expr, AllocError>
+    ensures { IfOk result (λ e. view e ≡ no_membership (lexeme op_token) pos (view lhs) (view rhs)) }
+{
+    let call = contains_call(alloc, Some(op_token), pos, lhs, rhs)?;
+    native_call(alloc, Token::Bang, pos, vec![in alloc; call]?)
+}
+
+// The list of two operands, which goes on with a list of this kind on either side.
+#[tactic(auto, using(crate::proofs::OperatorLemmas::views_append))]
+fn join_list(
+    alloc: Global,
+    kind: ListKind,
+    pos: Position,
+    lhs: Expr,
+    rhs: Expr,
+) -> ParseResult<Expr>
+    ensures tree { IfOk result (λ e. view e ≡ list_of (list_kind_view kind) pos (view lhs) (view rhs)) }
+    ensures nowhere { IfErr result (λ e. e ≡ no_memory) }
+{
+    let (mut items, at) = begin_list(alloc, as_part(kind, lhs), pos)?;
+    match as_part(kind, rhs) {
+        Part::Items(mut more, _) => items.append(&mut more)?,
+        Part::Item(item) => items.push(item)?,
+    }
+    Ok(list(kind, items, at))
+}
+
+// The items that the left operand brings, and where the list stands.
+fn begin_list(alloc: Global, left: Part, pos: Position) -> Result<(Vec<Expr>, Position), AllocError>
+    ensures { IfOk result (λ l. (views l.0.items ≡ items (part_view left)) × (l.1 ≡ list_position pos (part_view left))) }
+{
+    match left {
+        Part::Items(items, at) => Ok((items, at)),
+        Part::Item(item) => Ok((vec![in alloc; item]?, pos)),
+    }
+}
+
+// An operand of an operator that makes lists of this kind.
+fn as_part(kind: ListKind, operand: Expr) -> Part
+    ensures { part_view result ≡ part (list_kind_view kind) (view operand) }
+{
+    match kind {
+        ListKind::And => and_part(operand),
+        ListKind::Or => or_part(operand),
+        ListKind::Coalesce => coalesce_part(operand),
+    }
+}
+
+#[tactic(auto, using(rhai_lower::proofs::Views::view_and))]
+fn and_part(operand: Expr) -> Part
+    ensures { part_view result ≡ part Conjunction (view operand) }
+{
+    match operand {
+        Expr::And(items, pos) => Part::Items(items, pos),
+        item => Part::Item(item),
+    }
+}
+
+#[tactic(auto, using(rhai_lower::proofs::Views::view_or))]
+fn or_part(operand: Expr) -> Part
+    ensures { part_view result ≡ part Disjunction (view operand) }
+{
+    match operand {
+        Expr::Or(items, pos) => Part::Items(items, pos),
+        item => Part::Item(item),
+    }
+}
+
+#[tactic(auto, using(rhai_lower::proofs::Views::view_coalesce))]
+fn coalesce_part(operand: Expr) -> Part
+    ensures { part_view result ≡ part Coalescing (view operand) }
+{
+    match operand {
+        Expr::Coalesce(items, pos) => Part::Items(items, pos),
+        item => Part::Item(item),
+    }
+}
+
+// The list of this kind.
+#[tactic(auto, using(rhai_lower::proofs::Views::view_and, rhai_lower::proofs::Views::view_or, rhai_lower::proofs::Views::view_coalesce))]
+fn list(kind: ListKind, items: Vec<Expr>, pos: Position) -> Expr
+    ensures { view result ≡ list_tree (list_kind_view kind) (views items.items) pos }
+{
+    match kind {
+        ListKind::And => Expr::And(items, pos),
+        ListKind::Or => Expr::Or(items, pos),
+        ListKind::Coalesce => Expr::Coalesce(items, pos),
+    }
+}

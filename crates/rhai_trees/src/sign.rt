@@ -1,0 +1,123 @@
+//! Signs before an operand: `-`, `+` and `!`.
+
+ghost use Rattle.std.specs.Prelude.{◌≡◌, IfErr, IfOk};
+ghost use Rattle.rhai_lower.specs.Lexemes.{lexeme};
+ghost use Rattle.rhai_lower.specs.View.{view};
+ghost use Rattle.rhai_grammar.specs.Answers.{Answers};
+ghost use Rattle.rhai_grammar.specs.Causes.{MemoryIsNowhere};
+ghost use Rattle.rhai_grammar.specs.Signs.{effect, plain_sign, sign_call, sign_result};
+ghost use Rattle.rhai_trees.specs.Views.{effect_view, integer_value, negated};
+
+use crate::call::native_call;
+use rhai_grammar::{InputError, ParseError, ParseErrorType, ParseResult};
+use rhai_lower::{Expr, Position, Token};
+use std::alloc::{AllocError, Global};
+use std::rc::RcStr;
+
+/// What a sign does to an integer constant.
+#[derive(Clone, Copy)]
+pub(crate) enum Effect {
+    /// It gives the negated integer.
+    Negates,
+    /// It gives the integer itself.
+    Keeps,
+    /// It calls a function, as of any other operand.
+    Calls,
+}
+
+/// What a sign gives before an operand. Minus on an integer constant is the negated integer, at the sign; plus on one is
+/// that constant as it is; otherwise a sign is a call, at the sign, which only a native function can answer.
+///
+/// `op_token` is the sign, `pos` where it stands. Minus on the least integer is `MalformedNumber`, at the sign; want of
+/// memory is `OutOfMemory`.
+#[tactic(auto, using(crate::proofs::SignLemmas::result_negates, crate::proofs::SignLemmas::result_keeps, crate::proofs::SignLemmas::result_calls, crate::proofs::SignLemmas::result_others))]
+pub fn make_unary(alloc: Global, op_token: Token, pos: Position, operand: Expr) -> ParseResult<Expr>
+    ensures answers { Answers view (sign_result (lexeme op_token) pos (view operand)) result }
+    ensures nowhere { IfErr result MemoryIsNowhere }
+{
+    match (sign_effect(&op_token), integer_of(&operand)) {
+        (Effect::Negates, Some(number)) => negated(alloc, number, pos),
+        (Effect::Keeps, Some(_)) => Ok(operand),
+        (Effect::Calls, Some(_)) | (_, None) => {
+            Ok(sign_call(alloc, plain_sign(op_token), pos, operand)?)
+        }
+    }
+}
+
+// What a token does to an integer constant, as a sign before it.
+fn sign_effect(op_token: &Token) -> Effect
+    ensures { effect_view result ≡ effect (lexeme op_token.now) }
+{
+    match op_token {
+        Token::Minus | Token::UnaryMinus => Effect::Negates,
+        Token::Plus | Token::UnaryPlus => Effect::Keeps,
+        _ => Effect::Calls,
+    }
+}
+
+// The sign as a call names it.
+fn plain_sign(op_token: Token) -> Token
+    ensures { lexeme result ≡ plain_sign (lexeme op_token) }
+{
+    match op_token {
+        Token::UnaryMinus => Token::Minus,
+        Token::UnaryPlus => Token::Plus,
+        other => other,
+    }
+}
+
+// The value of an integer constant.
+fn integer_of(expr: &Expr) -> Option<i64>
+    ensures { result ≡ integer_value (view expr.now) }
+{
+    match expr {
+        Expr::IntegerConstant(number, _) => Some(*number),
+        Expr::Unit(_)
+        | Expr::BoolConstant(_, _)
+        | Expr::CharConstant(_, _)
+        | Expr::StringConstant(_, _)
+        | Expr::InterpolatedString(_, _)
+        | Expr::Array(_, _)
+        | Expr::Map(_, _)
+        | Expr::FnPointer(_, _, _)
+        | Expr::Variable(_, _)
+        | Expr::ThisPtr(_)
+        | Expr::Property(_, _)
+        | Expr::FnCall(_, _)
+        | Expr::MethodCall(_, _)
+        | Expr::Dot(_, _, _)
+        | Expr::Index(_, _, _)
+        | Expr::And(_, _)
+        | Expr::Or(_, _)
+        | Expr::Coalesce(_, _)
+        | Expr::Stmt(_) => None,
+    }
+}
+
+// Minus on an integer constant.
+#[tactic(auto, using(rhai_lower::proofs::Views::view_integer, crate::proofs::SignLemmas::negated_fits, crate::proofs::SignLemmas::negated_least))]
+fn negated(alloc: Global, number: i64, pos: Position) -> ParseResult<Expr>
+    ensures answers { Answers view (negated number pos) result }
+    ensures nowhere { IfErr result MemoryIsNowhere }
+{
+    match number.checked_neg() {
+        Some(negated) => Ok(Expr::IntegerConstant(negated, pos)),
+        None => {
+            let text = RcStr::from_string(format!(in alloc; "-{number}")?)?;
+            let input = InputError::MalformedNumber(text);
+            Err(ParseError(ParseErrorType::BadInput(input), pos))
+        }
+    }
+}
+
+// The call that a sign is before any other operand.
+fn sign_call(
+    alloc: Global,
+    op_token: Token,
+    pos: Position,
+    operand: Expr,
+) -> Result<Expr, AllocError>
+    ensures { IfOk result (λ e. view e ≡ sign_call (lexeme op_token) pos (view operand)) }
+{
+    native_call(alloc, op_token, pos, vec![in alloc; operand]?)
+}

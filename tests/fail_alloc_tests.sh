@@ -1,0 +1,41 @@
+#!/usr/bin/env bash
+# Runs the tests of crates/rhai_tests with each allocation refused in turn: the first of each test, then the second, and so
+# on. A test whose name ends in `_refused` has to pass in every run. Its partner, whose name ends in `_with_ample_memory`,
+# does the same and wants to come to its end, so that it fails in each run in which a refusal is met. The runs end once no
+# partner fails any more, and two further runs then find none either. Other tests may fail for want of memory.
+# It takes up to a minute a run.
+#
+# usage: tests/fail_alloc_tests.sh
+set -u
+export LC_ALL=C
+
+more=2
+root=$(cd "$(dirname "$0")/.." && pwd)
+printed=$(mktemp)
+trap 'rm -f "$printed"' EXIT
+cd "$root/crates/rhai_tests" || exit 2
+
+# How many tests of this kind ended so.
+count() {
+    grep -c "^test .*$1 \.\.\. $2\$" "$printed"
+}
+
+refused=0
+ample=0
+for number in $(seq 1 1000); do
+    rt try --test --fail-alloc "$number" >"$printed" 2>&1
+    met=$(count _with_ample_memory FAILED)
+    held=$(count _refused ok)
+    if [ "$held" = 0 ] || [ "$(count _refused FAILED)" != 0 ] || [ $((met + $(count _with_ample_memory ok))) != "$held" ]; then
+        echo "allocation $number:"
+        cat "$printed"
+        exit 1
+    fi
+    refused=$((refused + met))
+    [ "$met" = 0 ] && ample=$((ample + 1))
+    if [ "$ample" -gt "$more" ]; then
+        break
+    fi
+done
+echo "$refused allocations of $held tests were refused in turn, and no assertion failed"
+[ "$ample" -gt "$more" ] && [ "$refused" -gt 0 ]
