@@ -128,7 +128,7 @@ mutual
       let right = run_spelled r (right_side op (height_after q l) w) (operands_fit op (tree l w) (tree r w) k) (past M.code left.end) t left.met.1.1.1.1 in
       record {
         end = right.end;
-        met = right.met.1.1;
+        met = right.met.1.1.1;
         way = along (spelling l) (in_code op at ∷ spelling r) s.tokens left.end.tokens _ left.way
             (first op at _ left.end.tokens _ left.met.1.1.1.0 right.way);
       }

@@ -55,6 +55,29 @@ pub record SumRow : Type 0 where
   pub fits : Met (whole_expression sum_form (depth 3) nothing_live) (unread sum_tokens 10) (between sum_tokens [] 10)
   pub deep : Missed (whole_expression sum_form (depth 2) nothing_live) (unread sum_tokens 10) (refusal cause.ExprTooDeep (place 1 5)) (between sum_tokens [] 10)
 
+-- `1 + 2` fits under the depth limit 2. Under the limit 1 it misses the raise behind the 2, which is refused at the 1.
+abbrev pub pair_tokens : List (Lexeme × ℕ)
+pair_tokens = (Integer (pos 1), 1) ∷ (Sign Plus, 3) ∷ (Integer (pos 2), 5) ∷ []
+
+abbrev pub pair_form : Run
+pair_form = Binary (Sign Plus) (place 1 3) (number 1 1) (number 2 5)
+
+pub record PairRow : Type 0 where
+  pub tree_is : tree pair_form nothing_live ≡ operator_call (Sign Plus) (place 1 3) (integer (pos 1) (place 1 1)) (integer (pos 2) (place 1 5))
+  pub fits : Met (whole_expression pair_form (depth 2) nothing_live) (unread pair_tokens 6) (between pair_tokens [] 6)
+  pub deep : Missed (whole_expression pair_form (depth 1) nothing_live) (unread pair_tokens 6) (refusal cause.ExprTooDeep (place 1 1)) (between pair_tokens [] 6)
+
+-- `1 + 2 + 3` is too deep under the limit 2: each operator raises the level, and the second raise is refused at the first operator.
+abbrev pub flat_tokens : List (Lexeme × ℕ)
+flat_tokens = (Integer (pos 1), 1) ∷ (Sign Plus, 3) ∷ (Integer (pos 2), 5) ∷ (Sign Plus, 7) ∷ (Integer (pos 3), 9) ∷ []
+
+abbrev pub flat_form : Run
+flat_form = Binary (Sign Plus) (place 1 7) pair_form (number 3 9)
+
+pub record FlatRow : Type 0 where
+  pub tree_is : tree flat_form nothing_live ≡ operator_call (Sign Plus) (place 1 7) (tree pair_form nothing_live) (integer (pos 3) (place 1 9))
+  pub deep : Missed (whole_expression flat_form (depth 2) nothing_live) (unread flat_tokens 10) (refusal cause.ExprTooDeep (place 1 3)) (between flat_tokens [] 10)
+
 -- a range from an unwritten zero up to 5, both at these columns
 abbrev pub range_tree : (left range right : ℕ) → Node
 range_tree left range right = operator_call (Sign ExclusiveRange) (place 1 range) (integer (pos 0) (place 1 left)) (integer (pos 5) (place 1 right))

@@ -92,6 +92,13 @@ ended_behind Other = Fine
 abbrev pub run_ends : Lexeme → Verdict
 run_ends l = ended_behind (behind_of l)
 
+-- behind an operator's right side: no operator that would go on with it
+abbrev pub ended_side : Behind → Behind → Verdict
+ended_side op inner = if is_operator inner && right_of op inner then Otherwise else Fine
+
+abbrev pub side_ends : Lexeme → Lexeme → Verdict
+side_ends op l = ended_side (behind_of op) (behind_of l)
+
 -- where a level is raised at the token that comes next
 abbrev pub room_due : Settings → Lexeme → Verdict
 room_due c l = if low c then Fine else Wrong cause.ExprTooDeep
@@ -163,9 +170,9 @@ begun c k = Next (room_due c) ▸ k
 abbrev pub ended : Demands → Demands
 ended k = Next run_ends ▸ k
 
--- `&&` and `||` join what can be boolean
+-- Behind its whole right side an operator joins its operands: `&&` and `||` those that can be boolean.
 abbrev pub operands_fit : Lexeme → Node → Node → Demands → Demands
-operands_fit op x y k = Test (boolean_holds op x) (mismatched x) ▸ Test (boolean_holds op y) (mismatched y) ▸ k
+operands_fit op x y k = Next (side_ends op) ▸ Test (boolean_holds op x) (mismatched x) ▸ Test (boolean_holds op y) (mismatched y) ▸ k
 
 -- ---- the forms
 

@@ -1,7 +1,7 @@
 //! Laws of the definitions, as contracts of functions that do nothing.
 
 ghost use Rattle.rhai_grammar.specs.Laws.{EntriesAreDelivered, FormsAreSpelled, StreamsAreWhole};
-ghost use Rattle.rhai_grammar.specs.Rows.{CallRow, EndedRow, MinusRow, OpenRow, SumRow};
+ghost use Rattle.rhai_grammar.specs.Rows.{CallRow, EndedRow, MinusRow, OpenRow, SumRow, PairRow, FlatRow};
 
 /// A form whose demands are met is spelled by the tokens on the way.
 #[tactic(auto, using(crate::proofs::SpellingLemmas::forms_are_spelled))]
@@ -25,6 +25,18 @@ pub fn entries_are_delivered()
 #[tactic(auto, using(crate::proofs::RowLemmas::sum_row))]
 pub fn sum_row()
     ensures { SumRow }
+{}
+
+/// `1 + 2` fits under the depth limit 2, and is too deep under the limit 1.
+#[tactic(auto, using(crate::proofs::RowLemmas::pair_row))]
+pub fn pair_row()
+    ensures { PairRow }
+{}
+
+/// `1 + 2 + 3` is too deep under the depth limit 2: each operator raises the level.
+#[tactic(auto, using(crate::proofs::RowLemmas::flat_row))]
+pub fn flat_row()
+    ensures { FlatRow }
 {}
 
 /// `..5` is a range from an unwritten zero.

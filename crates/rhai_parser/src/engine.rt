@@ -48,7 +48,7 @@ impl Model for Engine {
     ghost use Rattle.std.specs.Prelude.{map};
     ghost use Rattle.std.specs.Rc.{rc_str_bytes};
     ghost use Rattle.rhai_parser.specs.Frames.{walk_of};
-ghost use Rattle.rhai_parser.specs.Engines.{EngineValue};
+    ghost use Rattle.rhai_parser.specs.Engines.{EngineValue};
 
     ghost Value = { EngineValue };
 

@@ -11,9 +11,7 @@ ghost use Rattle.rhai_parser.specs.Frames.{walk_of};
 
 use crate::engine::Engine;
 use crate::frame::Frame;
-use crate::names::{
-    arguments_due, as_variable, end_group, make_call, name_node, word_node,
-};
+use crate::names::{arguments_due, as_variable, end_group, make_call, name_node, word_node};
 use crate::operators::next_operator;
 use crate::refusals::{missing, no_operand, not_following, unexpected};
 use crate::shared::Shared;

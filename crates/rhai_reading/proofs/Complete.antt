@@ -170,7 +170,7 @@ step q op pos l r k p s t o is on stands right shut stop h b =
     (runs_call NextOperator _ (next_operator right.rest right.looked right.known_rest)
     (runs_then (Fail (refusal cause.ExprTooDeep u.at)) right.entered
     (runs_call (climb (begins side right.first) w n right.first) (binary_next (up u.settings) w p x op pos) tighter
-    (runs_then _ right.met.0 (runs_then _ right.met.1.0
+    (runs_then _ right.met.1.0 (runs_then _ right.met.1.1.0
     (runs_tail (climb (height_after q (Binary op pos l r)) w p (operator_tree op pos x y)) (h true))))))))) b
 
 shut_left : (op : Lexeme) (pos : Position) (l r : Run) (o : Lexeme) → is_operator (behind_of o) ≡ true → Shut r (behind_of o) → left_fits (behind_of o) (Binary op pos l r) ≡ true → Shut (Binary op pos l r) (behind_of o)
@@ -534,7 +534,7 @@ mutual
         first = left.first;
         rest = left.rest;
         end = right.end;
-        met = right.met.1.1;
+        met = right.met.1.1.1;
         looked = left.looked;
         operand = left.operand;
         known_rest = left.known_rest;

@@ -18,7 +18,7 @@ use Rattle.rhai_grammar.specs.Beginnings as begin
 use Rattle.rhai_grammar.specs.Beginnings.{Beginning, beginning, unexpected, missing, is_value, is_sign, is_range, closes, Calling, calling, calls, is_call, is_list, may_be_called, is_this, Following, following, is_close, no_argument, value_at}
 use Rattle.rhai_grammar.specs.Signs.{signed, sign_holds, malformed}
 use Rattle.rhai_grammar.specs.Operators.{joined, boolean_holds, mismatched}
-use Rattle.rhai_grammar.specs.Strengths.{Behind, Operator, Unknown, Other, behind_of, is_operator, strength}
+use Rattle.rhai_grammar.specs.Strengths.{Behind, Operator, Unknown, Other, behind_of, is_operator, strength, right_of}
 use Rattle.rhai_grammar.specs.Forms as form
 use Rattle.rhai_grammar.specs.Forms.{Primary, Operand, Arguments, Items, Run, Just, Binary}
 use Rattle.rhai_grammar.specs.Trees.{primary_tree, operand_tree, argument_trees, item_trees, tree, is_variable, variable_of, word_tree, call_tree}
@@ -281,11 +281,14 @@ group_read call c w ranged s f t b opens below passes =
     })
     (λ closed.
     let there = stands t (Sign token.RightParen) (closes_is (op_at t) closed) in
-    take call Q N (Ret (tree f w)) t true (refl, record {
-      form = form.Group (pos_at s) f (pos_at t);
-      is = refl;
-      passes = record { met = λ k u h. (here, (below, passes.met _ u (there, h))); missed = λ k d u h. inr (here, inr (below, passes.missed _ d _ (inr (there, h)))) };
-    })))
+    take call Q N (Ret (tree f w)) t true (
+      refl,
+      record {
+        form = form.Group (pos_at s) f (pos_at t);
+        is = refl;
+        passes = record { met = λ k u h. (here, (below, passes.met _ u (there, h))); missed = λ k d u h. inr (here, inr (below, passes.missed _ d _ (inr (there, h)))) };
+      },
+    )))
 
 primary_by : (n : ℕ) → AllSound n → (c : Settings) (w : Walk) (ranged : Bool) (s : Point) (v : Beginning) → beginning (op_at s) ≡ v → (ranged && closes (op_at s)) ≡ false → is_sign v ≡ false → is_memory (op_at s) ≡ false
     → PrimaryEnsures c w ranged s (exec (deep n) (R.primary_at c w (op_at s) (pos_at s) v) (at s true))
@@ -364,14 +367,17 @@ list_read n ih c w ranged from p bang others u b C e =
     take (deep n) Q N (R.Call (R.Arguments c w name) (λ ns. Ret (call_tree x (is_some bang) ns))) u b
     (bind (Read (enclosed_trees w) (enclosed_of c w name) (past code u)) (Halts (enclosed_of c w name) (past code u)) Q N (λ ns t. exec (deep n) (Ret (call_tree x (is_some bang) ns)) t) (deep n (R.Arguments c w name) (at (past code u) false)) (ih (R.Arguments c w name) (past code u) false)
     (λ d t halts. record { form = form.Call p bang (with_paren (pos_at u) halts.form); stops = λ k. C.missed (with_paren (pos_at u) halts.form) k d t.point (args_missed others c w name halts.form u t.point k d here (halts.stops k)); last = halts.last })
-    (λ ns t a G. (refl, record {
-      form = form.Call p bang (with_paren (pos_at u) G.form);
-      is = ap (call_tree x (is_some bang)) (args_trees w (pos_at u) G.form ∙ G.is);
-      passes = record {
-        met = λ k v h. C.met (with_paren (pos_at u) G.form) k v (args_met others c w name G.form u v k here (G.passes.met k v h));
-        missed = λ k d v h. C.missed (with_paren (pos_at u) G.form) k d v (args_missed others c w name G.form u v k d here (G.passes.missed k d v h));
-      };
-    })))
+    (λ ns t a G. (
+      refl,
+      record {
+        form = form.Call p bang (with_paren (pos_at u) G.form);
+        is = ap (call_tree x (is_some bang)) (args_trees w (pos_at u) G.form ∙ G.is);
+        passes = record {
+          met = λ k v h. C.met (with_paren (pos_at u) G.form) k v (args_met others c w name G.form u v k here (G.passes.met k v h));
+          missed = λ k d v h. C.missed (with_paren (pos_at u) G.form) k d v (args_missed others c w name G.form u v k d here (G.passes.missed k d v h));
+        };
+      },
+    )))
 
 -- behind the `!` of a call
 bang_read : (n : ℕ) → AllSound n → (c : Settings) (w : Walk) (ranged : Bool) (from : Point) (p : Primary) (bang : Position) (u : Point) (v : Calling) → calling (op_at u) ≡ v → is_memory (op_at u) ≡ false → Calls c w ranged from p (Some bang) W.list_due u
@@ -501,23 +507,28 @@ comma_read : (n : ℕ) → AllSound n → (c : Settings) (w : Walk) (before : No
 comma_read n ih c w before s f t passes here m true e =
     let u = past code t in
     let there = stands u (Sign token.RightParen) (closes_is (op_at u) e) in
-    take (deep n) (Read (items_behind w before) (items_of c w) s) (Halts (items_of c w) s) (Ret (with_node before (tree f w))) u true
-    (refl, record {
-      form = form.Trailing f (pos_at t) (pos_at u);
-      is = one_more before (tree f w);
-      passes = record { met = λ k v h. passes.met _ v (here, (there, h)); missed = λ k d v h. passes.missed _ d v (inr (here, inr (there, h))) };
-    })
+    take (deep n) (Read (items_behind w before) (items_of c w) s) (Halts (items_of c w) s) (Ret (with_node before (tree f w))) u true (
+      refl,
+      record {
+        form = form.Trailing f (pos_at t) (pos_at u);
+        is = one_more before (tree f w);
+        passes = record { met = λ k v h. passes.met _ v (here, (there, h)); missed = λ k d v h. passes.missed _ d v (inr (here, inr (there, h))) };
+      },
+    )
 comma_read n ih c w before s f t passes here m false e =
     let u = past code t in
     let ns = with_node before (tree f w) in
     let ok = wrong W.goes_on (op_at u) Fine m (ap (λ b. if b then Otherwise else Fine) e) in
     bind (Read (items_behind w ns) (items_of c w) u) (Halts (items_of c w) u) (Read (items_behind w before) (items_of c w) s) (Halts (items_of c w) s) (λ ms v. Done ms v) (deep n (R.Items c w ns) (at u true)) (ih (R.Items c w ns) u true)
     (λ d v halts. record { form = form.More f (pos_at t) halts.form; stops = λ k. passes.missed _ d v.point (inr (here, inr (ok, halts.stops k))); last = halts.last })
-    (λ ms v a G. (refl, record {
-      form = form.More f (pos_at t) G.form;
-      is = more_behind before (item_trees G.form w) (tree f w) ∙ G.is;
-      passes = record { met = λ k z h. passes.met _ z (here, (ok, G.passes.met k z h)); missed = λ k d z h. passes.missed _ d z (inr (here, inr (ok, G.passes.missed k d z h))) };
-    }))
+    (λ ms v a G. (
+      refl,
+      record {
+        form = form.More f (pos_at t) G.form;
+        is = more_behind before (item_trees G.form w) (tree f w) ∙ G.is;
+        passes = record { met = λ k z h. passes.met _ z (here, (ok, G.passes.met k z h)); missed = λ k d z h. passes.missed _ d z (inr (here, inr (ok, G.passes.missed k d z h))) };
+      },
+    ))
 
 -- behind an argument
 item_read : (n : ℕ) → AllSound n → (c : Settings) (w : Walk) (before : Nodes) (s : Point) (f : Run) (t : Point) → Passes s (expression_of c w f) t → is_memory (op_at t) ≡ false → (v : Following) → following (op_at t) ≡ v
@@ -563,11 +574,14 @@ sign_read call c w ranged s x t a sign below passes =
     let y = operand_tree x w in
     test call (Read (tree_of_operand w) (operand_of c w ranged) s) (Halts (operand_of c w ranged) s) (sign_holds (op_at s) y) (malformed (pos_at s) y) (Ret (signed (op_at s) (pos_at s) y)) (at t a)
     (λ least. record { form = form.Signed (op_at s) (pos_at s) x; stops = λ k. (sign, inr (refl, inr (below, passes.missed _ _ t (inl (least, refl, refl))))); last = λ z. absurd cc })
-    (λ holds. (refl, record {
-      form = form.Signed (op_at s) (pos_at s) x;
-      is = refl;
-      passes = record { met = λ k u h. (sign, (refl, (below, passes.met _ u (holds, h)))); missed = λ k d u h. (sign, inr (refl, inr (below, passes.missed _ d u (inr (holds, h))))) };
-    }))
+    (λ holds. (
+      refl,
+      record {
+        form = form.Signed (op_at s) (pos_at s) x;
+        is = refl;
+        passes = record { met = λ k u h. (sign, (refl, (below, passes.met _ u (holds, h)))); missed = λ k d u h. (sign, inr (refl, inr (below, passes.missed _ d u (inr (holds, h))))) };
+      },
+    ))
 
 -- an operand without a sign
 unsigned_read : (n : ℕ) → AllSound n → (c : Settings) (w : Walk) (ranged : Bool) (s : Point) → (ranged && closes (op_at s)) ≡ false → is_sign (beginning (op_at s)) ≡ false
@@ -639,15 +653,16 @@ right_spot q L s = right_side (op_at s) (height_after q L) q.walk
 stops_behind : (q : Spot) (from s : Point) (L r : Run) (e : Refusal) (v : Point) → Behinds q from L s → Stops (past code s) (run_of (right_spot q L s) r) e v → Stops from (run_of q (Binary (op_at s) (pos_at s) L r)) e v
 stops_behind q from s L r e v h stops = λ k. h.passes.missed _ e _ (h.is, (h.left, (h.side, inr (refl, stops _))))
 
--- both operands fit the operator
-record Suited (q : Spot) (op : Lexeme) (l r : Run) : Type 0 where
+-- the right side ends at a point, and both operands fit the operator
+record Suited (q : Spot) (op : Lexeme) (l r : Run) (t : Point) : Type 0 where
+  pub ends : verdict (W.side_ends op) (op_at t) ≡ Fine
   pub left : boolean_holds op (tree l q.walk) ≡ true
   pub right : boolean_holds op (tree r q.walk) ≡ true
 
-passes_behind : (q : Spot) (from s t : Point) (L r : Run) → Behinds q from L s → Suited q (op_at s) L r → Passes (past code s) (run_of (right_spot q L s) r) t → Passes from (run_of q (Binary (op_at s) (pos_at s) L r)) t
+passes_behind : (q : Spot) (from s t : Point) (L r : Run) → Behinds q from L s → Suited q (op_at s) L r t → Passes (past code s) (run_of (right_spot q L s) r) t → Passes from (run_of q (Binary (op_at s) (pos_at s) L r)) t
 passes_behind q from s t L r h b G = record {
-  met = λ k u m. h.passes.met _ u (h.is, (h.left, (h.side, (refl, G.met _ u (b.left, (b.right, m))))));
-  missed = λ k d v m. h.passes.missed _ d _ (h.is, (h.left, (h.side, inr (refl, G.missed _ d v (inr (b.left, inr (b.right, m)))))));
+  met = λ k u m. h.passes.met _ u (h.is, (h.left, (h.side, (refl, G.met _ u (b.ends, (b.left, (b.right, m)))))));
+  missed = λ k d v m. h.passes.missed _ d _ (h.is, (h.left, (h.side, inr (refl, G.missed _ d v (inr (b.ends, inr (b.left, inr (b.right, m))))))));
 }
 
 abbrev pub RunEnsures : Spot → ℕ → Point → Outcome Node → Type 0
@@ -658,19 +673,28 @@ no_symbol : (s : Point) (e : Refusal) (P : Type 0) → Known s → D.Refused ope
 no_symbol s e P known r = absurd (subst (λ x. D.Refuses x (pos_at s) e) known r)
 
 -- an operand that the operator does not take
-misfit_left : (q : Spot) (from s t : Point) (L r : Run) (a : Bool) → Behinds q from L s → Passes (past code s) (run_of (right_spot q L s) r) t → boolean_holds (op_at s) (tree L q.walk) ≡ false → Halts (run_of q) from (mismatched (tree L q.walk)) (at t a)
-misfit_left q from s t L r a h G e = record {
+misfit_left : (q : Spot) (from s t : Point) (L r : Run) (a : Bool) → Behinds q from L s → verdict (W.side_ends (op_at s)) (op_at t) ≡ Fine → Passes (past code s) (run_of (right_spot q L s) r) t → boolean_holds (op_at s) (tree L q.walk) ≡ false → Halts (run_of q) from (mismatched (tree L q.walk)) (at t a)
+misfit_left q from s t L r a h ends G e = record {
   form = Binary (op_at s) (pos_at s) L r;
-  stops = λ k. h.passes.missed _ _ _ (h.is, (h.left, (h.side, inr (refl, G.missed _ _ t (inl (e, refl, refl))))));
+  stops = λ k. h.passes.missed _ _ _ (h.is, (h.left, (h.side, inr (refl, G.missed _ _ t (inr (ends, inl (e, refl, refl)))))));
   last = λ z. absurd cc;
 }
 
-misfit_right : (q : Spot) (from s t : Point) (L r : Run) (a : Bool) → Behinds q from L s → Passes (past code s) (run_of (right_spot q L s) r) t → boolean_holds (op_at s) (tree L q.walk) ≡ true → boolean_holds (op_at s) (tree r q.walk) ≡ false → Halts (run_of q) from (mismatched (tree r q.walk)) (at t a)
-misfit_right q from s t L r a h G ok e = record {
+misfit_right : (q : Spot) (from s t : Point) (L r : Run) (a : Bool) → Behinds q from L s → verdict (W.side_ends (op_at s)) (op_at t) ≡ Fine → Passes (past code s) (run_of (right_spot q L s) r) t → boolean_holds (op_at s) (tree L q.walk) ≡ true → boolean_holds (op_at s) (tree r q.walk) ≡ false → Halts (run_of q) from (mismatched (tree r q.walk)) (at t a)
+misfit_right q from s t L r a h ends G ok e = record {
   form = Binary (op_at s) (pos_at s) L r;
-  stops = λ k. h.passes.missed _ _ _ (h.is, (h.left, (h.side, inr (refl, G.missed _ _ t (inr (ok, inl (e, refl, refl)))))));
+  stops = λ k. h.passes.missed _ _ _ (h.is, (h.left, (h.side, inr (refl, G.missed _ _ t (inr (ends, inr (ok, inl (e, refl, refl))))))));
   last = λ z. absurd cc;
 }
+
+-- what does not go on with the right side of an operator ends it
+side_ended : (s t : Point) → next_goes_on (strength (behind_at s)) (behind_at t) ≡ false → Known t → verdict (W.side_ends (op_at s)) (op_at t) ≡ Fine
+side_ended s t off known = wrong (W.side_ends (op_at s)) (op_at t) Fine (fine operator_known (op_at t) known).0 (ap (λ b. if b then Otherwise else Fine) (ends (behind_at t) (sensible (op_at t)) off))
+  where
+    ends : (v : Behind) → Sensible v → next_goes_on (strength (behind_at s)) v ≡ false → (is_operator v && right_of (behind_at s) v) ≡ false
+    ends (Operator n right) h e = sym (right_is (behind_at s) (Operator n right) (sensible (op_at s)) h refl) ∙ e
+    ends (Unknown t) h e = refl
+    ends Other h e = refl
 
 -- behind the right side the run goes on
 after_right : (n : ℕ) → AllSound n → (q : Spot) (from s : Point) (L : Run) (p : ℕ) → Behinds q from L s → Suits p q.side → (rhs : Node) (w : Point) (b : Bool) → RunRead (right_spot q L s) (strength (behind_at s)) (past code s) rhs w
@@ -685,14 +709,15 @@ after_right n ih q from s L p h suits rhs w b G =
     let y = tree r q.walk in
     let op = op_at s in
     let go = climb (height_after q whole) q.walk p (tree whole q.walk) in
+    let ends = side_ended s w G.1 G.2 in
     subst (λ y. RunEnsures q p from (exec (deep n) (binary_next (up u.settings) q.walk p (tree L q.walk) (op_at s) (pos_at s) y) (at w b))) G.0.is
     (test (deep n) Q N (boolean_holds op x) (mismatched x) (if boolean_holds op y then R.Call go Ret else Fail (mismatched y)) (at w b)
-    (λ misfit. misfit_left q from s w L r b h G.0.passes misfit)
+    (λ misfit. misfit_left q from s w L r b h ends G.0.passes misfit)
     (λ left. test (deep n) Q N (boolean_holds op y) (mismatched y) (R.Call go Ret) (at w b)
-    (λ misfit. misfit_right q from s w L r b h G.0.passes left misfit)
+    (λ misfit. misfit_right q from s w L r b h ends G.0.passes left misfit)
     (λ right. tail Q N (deep n go (at w b))
     (ih go w b q from whole refl refl refl suits G.1
-    (record { passes = λ known. passes_behind q from s w L r h (record { left = left; right = right }) G.0.passes; stops = λ e r. no_symbol w e _ G.2 r })))))
+    (record { passes = λ known. passes_behind q from s w L r h (record { ends = ends; left = left; right = right }) G.0.passes; stops = λ e r. no_symbol w e _ G.2 r })))))
 
 -- the right side, from its first operand on
 right_run : (n : ℕ) → AllSound n → (q : Spot) (from s : Point) (L : Run) (p : ℕ) → Behinds q from L s → Suits p q.side → (x : Operand) (t : Point) (b : Bool) → Passes (past code s) (operand_of (height_after q L).settings q.walk (is_range (beginning (op_at s))) x) t → Known t

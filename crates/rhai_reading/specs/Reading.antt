@@ -159,7 +159,7 @@ next_operator_at at Other = Ret None
 abbrev pub binary_next : Settings → Walk → ℕ → Node → Lexeme → Position → Node → Prog Node
 binary_next d w parent lhs op pos rhs =
     if boolean_holds op lhs then
-      (if boolean_holds op rhs then Call (BinaryOp d w pos parent (operator_tree op pos lhs rhs)) Ret else Fail (mismatched rhs))
+    (if boolean_holds op rhs then Call (BinaryOp d w pos parent (operator_tree op pos lhs rhs)) Ret else Fail (mismatched rhs))
     else Fail (mismatched lhs)
 
 -- behind an operator's right operand: the tighter run that begins there, if one does

@@ -70,13 +70,7 @@ fn what_goes_before_a_raise(rt: HostRuntime) -> Result<(), Fail> {
         "1 + 2 ===",
         unknown_operator(alloc, "===", 7)?,
     )?;
-    check_line(
-        &rt,
-        alloc,
-        1,
-        "1 + *",
-        unexpected_text(alloc, "*", 5)?,
-    )?;
+    check_line(&rt, alloc, 1, "1 + *", unexpected_text(alloc, "*", 5)?)?;
     check_line(&rt, alloc, 1, "1 2", unexpected_text(alloc, "2", 3)?)?;
     Ok(())
 }
