@@ -16,15 +16,6 @@ plain_sign (Sign UnaryMinus) = Sign Minus
 plain_sign (Sign UnaryPlus) = Sign Plus
 plain_sign op = op
 
--- a token that is a sign where an operand is due
-abbrev pub is_sign : Lexeme → Bool
-is_sign (Sign Minus) = true
-is_sign (Sign UnaryMinus) = true
-is_sign (Sign Plus) = true
-is_sign (Sign UnaryPlus) = true
-is_sign (Sign Bang) = true
-is_sign _ = false
-
 -- what a sign does to an integer constant: it negates it, keeps it, or calls a function of it as of anything else
 pub data Effect : Type 0 where
   Negates : Effect

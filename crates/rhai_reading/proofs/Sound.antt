@@ -262,9 +262,6 @@ word_read call c w ranged s word here m false x true false e f g h v = λ z. wor
 word_read call c w ranged s word here m true false false z e f g h v = λ z. word_refused c w ranged s word _ here m v refl
 word_read call c w ranged s word here m false x false z e f g h v = λ z. word_refused c w ranged s word _ here m v refl
 
-abbrev word_all : {A : Type 0} → (Bool → Bool → Bool → Bool → A) → (word : Text) (l : Lexeme) (c : Settings) → A
-word_all f word l c = f (may_be_called word) (calls l) (is_this word) (in_function c)
-
 -- the `)` behind an expression in parentheses
 group_read : (call : Histories) (c : Settings) (w : Walk) (ranged : Bool) (s : Point) (f : Run) (t : Point) (b : Bool) → op_at s ≡ Sign token.LeftParen → low c ≡ true → Passes (past code s) (expression_of (up c) w f) t
     → PrimaryEnsures c w ranged s (exec call (Peek (R.group_at (tree f w))) (at t b))
