@@ -47,7 +47,7 @@ pub struct LinkFlags {
 
 /// A call of a function, or an operator's.
 #[cycle(ast)]
-#[derive(PartialEq, Debug, Drop)]
+#[derive(PartialEq, Debug)]
 pub struct FnCallExpr {
     /// The function's name, or the operator's symbol.
     pub name: RcStr,
@@ -297,6 +297,32 @@ pub struct AST {
     pub statements: StmtBlockContainer,
     /// The functions and closures, in the order in which they end.
     pub functions: Vec<Rc<ScriptFuncDef>>,
+}
+
+impl Drop for FnCallExpr {
+    // A run of operators nests in its first operands, as deep as it is long: a loop goes down these, where the drop that
+    // is derived would run out of stack.
+    #[cycle(drop)]
+    fn drop(mut self) {
+        loop {
+            let FnCallExpr {
+                mut args,
+                name: _,
+                namespace: _,
+                script_args: _,
+                native_args: _,
+                capture_parent_scope: _,
+                op_token: _,
+            } = self;
+            if args.is_empty() {
+                return;
+            }
+            match args.remove(0) {
+                Expr::FnCall(first, _) => self = Box::into_inner(first),
+                _ => return,
+            }
+        }
+    }
 }
 
 impl Expr {

@@ -72,6 +72,23 @@ fn where_a_call_stands(rt: HostRuntime) -> Result<(), Fail> {
     Ok(())
 }
 
+// The tree of a run of so many operators, which nests to the left.
+fn run(alloc: Global, operators: usize) -> Result<Expr, AllocError> {
+    let mut tree = int(0, 1);
+    for _ in 0..operators {
+        let args = vec![in alloc; tree, int(1, 3)]?;
+        tree = call(alloc, "+", Token::Plus, 2, args)?;
+    }
+    Ok(tree)
+}
+
+#[test]
+fn a_long_run_is_let_go(rt: HostRuntime) -> Result<(), Fail> {
+    let tree = run(rt.alloc(), 100_000)?;
+    assert_eq!(rt; tree.position(), at(2));
+    Ok(())
+}
+
 // A script of one statement and one function.
 fn small_script(alloc: Global) -> Result<AST, AllocError> {
     Ok(AST {
