@@ -300,8 +300,8 @@ pub struct AST {
 }
 
 impl Drop for FnCallExpr {
-    // A run of operators nests in its first operands, as deep as it is long: a loop goes down these, where the drop that
-    // is derived would run out of stack.
+    // A run of operators that bind left nests in its first operands, as deep as it is long: a loop goes down these, where
+    // the drop that is derived would run out of stack.
     #[cycle(drop)]
     fn drop(mut self) {
         loop {
