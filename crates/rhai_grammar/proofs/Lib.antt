@@ -2,3 +2,4 @@ pub mod CursorLemmas
 pub mod SeenLemmas
 pub mod SpellingLemmas
 pub mod RowLemmas
+pub mod ChainLemmas

@@ -1,12 +1,12 @@
 -- What a token begins where an operand is due, what it does behind a name, and what it does behind an argument.
-use Rattle.std.specs.Prelude.{◌≡◌, Bool, true, false, codes, refl}
+use Rattle.std.specs.Prelude.{◌≡◌, Bool, true, false, codes, if◌then◌else◌, refl}
 use Rattle.rhai_lower.specs.Texts.{Text, same_text}
 use Rattle.rhai_lower.specs.Names.{reserved_as}
 use Rattle.rhai_lower.specs.Lexemes.{Lexeme, Integer, Character, String, Name, Reserved, Faulty, Sign, text_of}
 use Rattle.rhai_lower.specs.Nodes.{Node, unit, boolean, integer, character, string}
 use Rattle.rhai_lower.specs.declared.position.Position.{Position}
 use Rattle.rhai_lower.specs.declared.token.Token.{Token}
-use Rattle.rhai_lower.specs.declared.token.Token.TheVariants.{Unit, True, False, LeftParen, RightParen, RightBracket, RightBrace, Comma, SemiColon, DoubleArrow, Minus, UnaryMinus, Plus, UnaryPlus, Bang, ExclusiveRange, InclusiveRange, EOF}
+use Rattle.rhai_lower.specs.declared.token.Token.TheVariants.{Unit, True, False, LeftParen, RightParen, LeftBracket, RightBracket, QuestionBracket, Period, Elvis, MapStart, RightBrace, Comma, SemiColon, DoubleArrow, Minus, UnaryMinus, Plus, UnaryPlus, Bang, ExclusiveRange, InclusiveRange, EOF}
 use Rattle.rhai_grammar.specs.Causes as cause
 use Rattle.rhai_grammar.specs.Causes.{Cause}
 
@@ -27,6 +27,8 @@ pub data Beginning : Type 0 where
   AName : Text → Beginning
   AWord : Text → Beginning
   AGroup : Beginning
+  AnArray : Beginning
+  AMap : Beginning
   ASign : Beginning
   -- a range operator, whose left operand is not written
   ARange : Beginning
@@ -38,6 +40,8 @@ sign_beginning Unit = Single unit
 sign_beginning True = Single (boolean true)
 sign_beginning False = Single (boolean false)
 sign_beginning LeftParen = AGroup
+sign_beginning LeftBracket = AnArray
+sign_beginning MapStart = AMap
 sign_beginning Minus = ASign
 sign_beginning UnaryMinus = ASign
 sign_beginning Plus = ASign
@@ -129,6 +133,84 @@ called_part (reserved, called, method) = called
 -- a reserved word that may be called
 abbrev pub may_be_called : Text → Bool
 may_be_called word = called_part (reserved_as word)
+
+-- ---- behind an operand
+
+-- what goes on with the operand before it
+pub data Linking : Type 0 where
+  ABracket : Linking
+  ADot : Linking
+  NoLinking : Linking
+
+abbrev pub sign_linking : Token → Linking
+sign_linking LeftBracket = ABracket
+sign_linking QuestionBracket = ABracket
+sign_linking Period = ADot
+sign_linking Elvis = ADot
+sign_linking _ = NoLinking
+
+abbrev pub linking : Lexeme → Linking
+linking (Sign t) = sign_linking t
+linking _ = NoLinking
+
+abbrev pub is_bracket : Linking → Bool
+is_bracket ABracket = true
+is_bracket _ = false
+
+abbrev pub is_dot : Linking → Bool
+is_dot ADot = true
+is_dot _ = false
+
+abbrev pub is_link : Linking → Bool
+is_link NoLinking = false
+is_link _ = true
+
+-- a link with a question mark
+abbrev pub is_negated_sign : Token → Bool
+is_negated_sign QuestionBracket = true
+is_negated_sign Elvis = true
+is_negated_sign _ = false
+
+abbrev pub is_negated : Lexeme → Bool
+is_negated (Sign t) = is_negated_sign t
+is_negated _ = false
+
+abbrev pub closes_index_sign : Token → Bool
+closes_index_sign RightBracket = true
+closes_index_sign _ = false
+
+abbrev pub closes_index : Lexeme → Bool
+closes_index (Sign t) = closes_index_sign t
+closes_index _ = false
+
+abbrev method_part : Bool × Bool × Bool → Bool
+method_part (reserved, called, method) = method
+
+-- a reserved word that may be called as a method
+abbrev pub may_be_method : Text → Bool
+may_be_method word = method_part (reserved_as word)
+
+-- what stands behind a dot
+pub data MemberPlace : Type 0 where
+  AMember : MemberPlace
+  -- no member, and why that is refused
+  NoMember : Cause → MemberPlace
+
+-- A member is a name, or a word that may be called as a method.
+abbrev pub member_place : Lexeme → MemberPlace
+member_place (Name t) = AMember
+member_place (Reserved t) = if may_be_method t then AMember else NoMember (cause.Reserved t)
+member_place (Faulty f) = NoMember (cause.BadInput (cause.Lexer f))
+member_place l = NoMember cause.PropertyExpected
+
+abbrev pub is_member : MemberPlace → Bool
+is_member AMember = true
+is_member _ = false
+
+-- a name, and no reserved word
+abbrev pub is_name : Lexeme → Bool
+is_name (Name t) = true
+is_name _ = false
 
 -- ---- among arguments
 

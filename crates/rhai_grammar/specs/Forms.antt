@@ -15,14 +15,32 @@ mutual
     Word : (word : Text) (at : Position) → Primary
     -- an expression in parentheses
     Group : (opening : Position) (inside : Run) (closing : Position) → Primary
+    -- an array, from its `[`
+    Array : (opening : Position) (elements : Elements) → Primary
+    -- an object map, from its `#{`
+    Map : (opening : Position) (fields : Fields) → Primary
     -- the zero before a range operator that nothing is written before; the operator, which is none of this form's tokens
     Zero : (range : Lexeme) (at : Position) → Primary
 
+  -- an operand without its sign and its links
+  pub data Base : Type 0 where
+    Plain : Primary → Base
+    -- a call, with `!` or without
+    Call : (called : Primary) (bang : Option Position) (arguments : Arguments) → Base
+
+  -- the brackets and dots behind an operand, with what they hold
+  pub data Links : Type 0 where
+    NoLink : Links
+    -- `[` index `]` or `?[` index `]`
+    Bracket : (opening : Lexeme) (at : Position) (index : Run) (closing : Position) → Links → Links
+    -- a property behind `.` or `?.`
+    Property : (dot : Lexeme) (at : Position) (name : Text) (name_at : Position) → Links → Links
+    -- a call behind `.` or `?.`
+    Method : (dot : Lexeme) (at : Position) (name : Lexeme) (name_at : Position) (bang : Option Position) (arguments : Arguments) → Links → Links
+
   -- what stands between operators
   pub data Operand : Type 0 where
-    Plain : Primary → Operand
-    -- a call, with `!` or without
-    Call : (called : Primary) (bang : Option Position) (arguments : Arguments) → Operand
+    Linked : Base → Links → Operand
     Signed : (sign : Lexeme) (at : Position) (operand : Operand) → Operand
     -- the unit behind a range operator that nothing is written behind; the token there, which is none of this form's tokens
     NoOperand : (token : Lexeme) (at : Position) → Operand
@@ -40,6 +58,20 @@ mutual
     -- the last one, with a comma behind it
     Trailing : Run → (comma closing : Position) → Items
     More : Run → (comma : Position) → Items → Items
+
+  -- the items of an array up to its `]`
+  pub data Elements : Type 0 where
+    -- no item more, behind the `[` or a comma
+    NoElement : (closing : Position) → Elements
+    LastElement : Run → (closing : Position) → Elements
+    Element : Run → (comma : Position) → Elements → Elements
+
+  -- the properties of an object map up to its `}`: each has a key, which is a name or a string
+  pub data Fields : Type 0 where
+    -- no property more, behind the `#{` or a comma
+    NoField : (closing : Position) → Fields
+    LastField : (key : Lexeme) (at colon : Position) (value : Run) (closing : Position) → Fields
+    Field : (key : Lexeme) (at colon : Position) (value : Run) (comma : Position) → Fields → Fields
 
   -- operands joined by binary operators: one operand, or an operator between two runs
   pub data Run : Type 0 where

@@ -11,7 +11,9 @@ pub mod Signs
 pub mod Operators
 pub mod Answers
 pub mod Slots
-pub mod Walks
+pub mod Contexts
+pub mod Literals
+pub mod Chains
 pub mod Trees
 pub mod Demands
 pub mod Written

@@ -8,9 +8,9 @@ use Rattle.rhai_grammar.specs.Causes as cause
 use Rattle.rhai_grammar.specs.Causes.{Refusal, refusal}
 use Rattle.rhai_grammar.specs.Delivered.{code, item, Tokens, Ends, Then, Taken, Point}
 use Rattle.rhai_grammar.specs.Settings.{Settings}
-use Rattle.rhai_grammar.specs.Walks.{nothing_live}
+use Rattle.rhai_grammar.specs.Contexts.{bare}
 use Rattle.rhai_grammar.specs.Operators.{operator_call}
-use Rattle.rhai_grammar.specs.Forms.{Run, Just, Binary, Plain, Value, Named, Zero, Call, Signed, Listed, Last}
+use Rattle.rhai_grammar.specs.Forms.{Primary, Operand, Run, Just, Binary, Linked, NoLink, Plain, Value, Named, Zero, Call, Signed, Listed, Last}
 use Rattle.rhai_grammar.specs.Trees.{function_called, tree}
 use Rattle.rhai_grammar.specs.Demands.{Met, Missed}
 use Rattle.rhai_grammar.specs.Written.{whole_expression}
@@ -35,8 +35,12 @@ between ts us end = record { tokens = line us end; taken = reverse (taken_from t
 abbrev pub depth : ℕ → Settings
 depth limit = record { flags = 0; options = 0; level = 0; limit = limit }
 
+-- an operand with nothing behind it
+abbrev pub plain : Primary → Operand
+plain x = Linked (Plain x) NoLink
+
 abbrev pub number : ℕ → ℕ → Run
-number n column = Just (Plain (Value (Integer (pos n)) (place 1 column)))
+number n column = Just (plain (Value (Integer (pos n)) (place 1 column)))
 
 -- `1 + 2 * 3`: the product is the sum's right operand.
 abbrev pub sum_tokens : List (Lexeme × ℕ)
@@ -51,9 +55,9 @@ sum_tree = operator_call (Sign Plus) (place 1 3) (integer (pos 1) (place 1 1)) (
 -- The sum fits under the depth limit 3, and has its tree. Under the limit 2 it misses the raise for `*`, which is refused at the 2 before it;
 -- by then `*` and the 3 were taken.
 pub record SumRow : Type 0 where
-  pub tree_is : tree sum_form nothing_live ≡ sum_tree
-  pub fits : Met (whole_expression sum_form (depth 3) nothing_live) (unread sum_tokens 10) (between sum_tokens [] 10)
-  pub deep : Missed (whole_expression sum_form (depth 2) nothing_live) (unread sum_tokens 10) (refusal cause.ExprTooDeep (place 1 5)) (between sum_tokens [] 10)
+  pub tree_is : tree sum_form bare ≡ sum_tree
+  pub fits : Met (whole_expression sum_form (depth 3) bare) (unread sum_tokens 10) (between sum_tokens [] 10)
+  pub deep : Missed (whole_expression sum_form (depth 2) bare) (unread sum_tokens 10) (refusal cause.ExprTooDeep (place 1 5)) (between sum_tokens [] 10)
 
 -- `1 + 2` fits under the depth limit 2. Under the limit 1 it misses the raise behind the 2, which is refused at the 1.
 abbrev pub pair_tokens : List (Lexeme × ℕ)
@@ -63,9 +67,9 @@ abbrev pub pair_form : Run
 pair_form = Binary (Sign Plus) (place 1 3) (number 1 1) (number 2 5)
 
 pub record PairRow : Type 0 where
-  pub tree_is : tree pair_form nothing_live ≡ operator_call (Sign Plus) (place 1 3) (integer (pos 1) (place 1 1)) (integer (pos 2) (place 1 5))
-  pub fits : Met (whole_expression pair_form (depth 2) nothing_live) (unread pair_tokens 6) (between pair_tokens [] 6)
-  pub deep : Missed (whole_expression pair_form (depth 1) nothing_live) (unread pair_tokens 6) (refusal cause.ExprTooDeep (place 1 1)) (between pair_tokens [] 6)
+  pub tree_is : tree pair_form bare ≡ operator_call (Sign Plus) (place 1 3) (integer (pos 1) (place 1 1)) (integer (pos 2) (place 1 5))
+  pub fits : Met (whole_expression pair_form (depth 2) bare) (unread pair_tokens 6) (between pair_tokens [] 6)
+  pub deep : Missed (whole_expression pair_form (depth 1) bare) (unread pair_tokens 6) (refusal cause.ExprTooDeep (place 1 1)) (between pair_tokens [] 6)
 
 -- `1 + 2 + 3` is too deep under the limit 2: each operator raises the level, and the second raise is refused at the first operator.
 abbrev pub flat_tokens : List (Lexeme × ℕ)
@@ -75,8 +79,8 @@ abbrev pub flat_form : Run
 flat_form = Binary (Sign Plus) (place 1 7) pair_form (number 3 9)
 
 pub record FlatRow : Type 0 where
-  pub tree_is : tree flat_form nothing_live ≡ operator_call (Sign Plus) (place 1 7) (tree pair_form nothing_live) (integer (pos 3) (place 1 9))
-  pub deep : Missed (whole_expression flat_form (depth 2) nothing_live) (unread flat_tokens 10) (refusal cause.ExprTooDeep (place 1 3)) (between flat_tokens [] 10)
+  pub tree_is : tree flat_form bare ≡ operator_call (Sign Plus) (place 1 7) (tree pair_form bare) (integer (pos 3) (place 1 9))
+  pub deep : Missed (whole_expression flat_form (depth 2) bare) (unread flat_tokens 10) (refusal cause.ExprTooDeep (place 1 3)) (between flat_tokens [] 10)
 
 -- a range from an unwritten zero up to 5, both at these columns
 abbrev pub range_tree : (left range right : ℕ) → Node
@@ -87,22 +91,22 @@ abbrev pub open_tokens : List (Lexeme × ℕ)
 open_tokens = (Sign ExclusiveRange, 1) ∷ (Integer (pos 5), 3) ∷ []
 
 abbrev pub open_form : Run
-open_form = Binary (Sign ExclusiveRange) (place 1 1) (Just (Plain (Zero (Sign ExclusiveRange) (place 1 1)))) (number 5 3)
+open_form = Binary (Sign ExclusiveRange) (place 1 1) (Just (plain (Zero (Sign ExclusiveRange) (place 1 1)))) (number 5 3)
 
 pub record OpenRow : Type 0 where
-  pub tree_is : tree open_form nothing_live ≡ range_tree 1 1 3
-  pub fits : Met (whole_expression open_form (depth 0) nothing_live) (unread open_tokens 4) (between open_tokens [] 4)
+  pub tree_is : tree open_form bare ≡ range_tree 1 1 3
+  pub fits : Met (whole_expression open_form (depth 0) bare) (unread open_tokens 4) (between open_tokens [] 4)
 
 -- `-..5`: the sign stands before the unwritten zero, which is 0 at the sign.
 abbrev pub minus_tokens : List (Lexeme × ℕ)
 minus_tokens = (Sign Minus, 1) ∷ (Sign ExclusiveRange, 2) ∷ (Integer (pos 5), 4) ∷ []
 
 abbrev pub minus_form : Run
-minus_form = Binary (Sign ExclusiveRange) (place 1 2) (Just (Signed (Sign Minus) (place 1 1) (Plain (Zero (Sign ExclusiveRange) (place 1 2))))) (number 5 4)
+minus_form = Binary (Sign ExclusiveRange) (place 1 2) (Just (Signed (Sign Minus) (place 1 1) (plain (Zero (Sign ExclusiveRange) (place 1 2))))) (number 5 4)
 
 pub record MinusRow : Type 0 where
-  pub tree_is : tree minus_form nothing_live ≡ range_tree 1 2 4
-  pub fits : Met (whole_expression minus_form (depth 0) nothing_live) (unread minus_tokens 5) (between minus_tokens [] 5)
+  pub tree_is : tree minus_form bare ≡ range_tree 1 2 4
+  pub fits : Met (whole_expression minus_form (depth 0) bare) (unread minus_tokens 5) (between minus_tokens [] 5)
 
 -- `5..`: before the end mark an operand is due behind the range operator.
 abbrev pub ended_tokens : List (Lexeme × ℕ)
@@ -112,14 +116,14 @@ abbrev pub ended_form : Run
 ended_form = Binary (Sign ExclusiveRange) (place 1 2) (number 5 1) (number 0 1)
 
 pub record EndedRow : Type 0 where
-  pub missed : Missed (whole_expression ended_form (depth 0) nothing_live) (unread ended_tokens 4) (refusal cause.UnexpectedEOF (place 1 4)) (between ended_tokens [] 4)
+  pub missed : Missed (whole_expression ended_form (depth 0) bare) (unread ended_tokens 4) (refusal cause.UnexpectedEOF (place 1 4)) (between ended_tokens [] 4)
 
 -- `f(1)` fits under the depth limit 3. Under the limit 2 the argument is too deep, and under the limit 1 the list of arguments at its name.
 abbrev pub call_tokens : List (Lexeme × ℕ)
 call_tokens = (Name (codes "f"), 1) ∷ (Sign LeftParen, 2) ∷ (Integer (pos 1), 3) ∷ (Sign RightParen, 4) ∷ []
 
 abbrev pub call_form : Run
-call_form = Just (Call (Named (codes "f") (place 1 1)) None (Listed (place 1 2) (Last (number 1 3) (place 1 4))))
+call_form = Just (Linked (Call (Named (codes "f") (place 1 1)) None (Listed (place 1 2) (Last (number 1 3) (place 1 4)))) NoLink)
 
 abbrev pub call_begun : List (Lexeme × ℕ)
 call_begun = (Name (codes "f"), 1) ∷ (Sign LeftParen, 2) ∷ []
@@ -128,7 +132,7 @@ abbrev pub call_rest : List (Lexeme × ℕ)
 call_rest = (Integer (pos 1), 3) ∷ (Sign RightParen, 4) ∷ []
 
 pub record CallRow : Type 0 where
-  pub tree_is : tree call_form nothing_live ≡ call (function_called (codes "f") false 1) (one_node (integer (pos 1) (place 1 3)) no_nodes) (place 1 1)
-  pub fits : Met (whole_expression call_form (depth 3) nothing_live) (unread call_tokens 5) (between call_tokens [] 5)
-  pub argument_deep : Missed (whole_expression call_form (depth 2) nothing_live) (unread call_tokens 5) (refusal cause.ExprTooDeep (place 1 3)) (between call_begun call_rest 5)
-  pub list_deep : Missed (whole_expression call_form (depth 1) nothing_live) (unread call_tokens 5) (refusal cause.ExprTooDeep (place 1 1)) (between call_begun call_rest 5)
+  pub tree_is : tree call_form bare ≡ call (function_called (codes "f") false 1) (one_node (integer (pos 1) (place 1 3)) no_nodes) (place 1 1)
+  pub fits : Met (whole_expression call_form (depth 3) bare) (unread call_tokens 5) (between call_tokens [] 5)
+  pub argument_deep : Missed (whole_expression call_form (depth 2) bare) (unread call_tokens 5) (refusal cause.ExprTooDeep (place 1 3)) (between call_begun call_rest 5)
+  pub list_deep : Missed (whole_expression call_form (depth 1) bare) (unread call_tokens 5) (refusal cause.ExprTooDeep (place 1 1)) (between call_begun call_rest 5)

@@ -13,6 +13,10 @@ pub record Settings : Type 0 where
 abbrev pub in_function : Settings → Bool
 in_function c = bit_and c.flags 2 == 2
 
+-- the bit of the flags that asks for strings as keys of object maps
+abbrev pub quoted_keys : Settings → Bool
+quoted_keys c = bit_and c.flags 32 == 32
+
 -- a raise finds room
 abbrev pub low : Settings → Bool
 low c = (c.limit == 0) || nat_lt c.level c.limit

@@ -1,23 +1,25 @@
 -- What each written form demands of the stream, before what stands behind it does.
-use Rattle.std.specs.Prelude.{Bool, true, false, Some, None, ◌&&◌, codes, if◌then◌else◌}
+use Rattle.std.specs.Prelude.{ℕ, ◌+◌, ◌==◌, Bool, true, false, not, Option, Some, None, List, [], ◌∷◌, ◌++◌, ◌&&◌, codes, if◌then◌else◌}
 use Rattle.rhai_lower.specs.Texts.{Text}
-use Rattle.rhai_lower.specs.Lexemes.{Lexeme, Name, Reserved, Sign}
-use Rattle.rhai_lower.specs.Nodes.{Node, position_of}
+use Rattle.rhai_lower.specs.Lexemes.{Lexeme, Name, Reserved, Sign, text_of}
+use Rattle.rhai_lower.specs.Nodes.{Node, Properties, no_properties, with_property, property, position_of}
 use Rattle.rhai_lower.specs.declared.position.Position.{Position}
-use Rattle.rhai_lower.specs.declared.token.Token.TheVariants.{Unit, LeftParen, RightParen, Comma, Bang}
+use Rattle.rhai_lower.specs.declared.token.Token.TheVariants.{Unit, LeftParen, RightParen, LeftBracket, RightBracket, MapStart, RightBrace, Colon, Comma, Bang}
 use Rattle.rhai_grammar.specs.Causes as cause
 use Rattle.rhai_grammar.specs.Causes.{Cause, Refusal, refusal}
 use Rattle.rhai_grammar.specs.Delivered.{code, item, is_end}
-use Rattle.rhai_grammar.specs.Settings.{Settings, low, up, in_function}
-use Rattle.rhai_grammar.specs.Walks.{Walk}
+use Rattle.rhai_grammar.specs.Settings.{Settings, low, up, in_function, quoted_keys}
+use Rattle.rhai_grammar.specs.Contexts.{Context, full}
 use Rattle.rhai_grammar.specs.Beginnings as begin
-use Rattle.rhai_grammar.specs.Beginnings.{Beginning, beginning, unexpected, missing, is_value, is_sign, is_range, closes, calling, calls, is_list, may_be_called, is_this, Following, following, no_argument}
+use Rattle.rhai_grammar.specs.Beginnings.{Beginning, beginning, unexpected, missing, is_value, is_sign, is_range, closes, calling, calls, is_list, may_be_called, is_this, Following, following, no_argument, linking, is_bracket, is_dot, is_link, closes_index, MemberPlace, AMember, NoMember, member_place, is_member}
+use Rattle.rhai_grammar.specs.Literals.{ItemPlace, ItemsEnd, AnItem, NoItem, item_place, behind_item, KeyPlace, NoKey, key_place, is_key, has_key, property_count, is_colon, too_many_fields, behind_value}
 use Rattle.rhai_grammar.specs.Signs.{sign_holds, malformed}
 use Rattle.rhai_grammar.specs.Operators.{boolean_holds, mismatched}
 use Rattle.rhai_grammar.specs.Strengths.{Behind, Operator, Unknown, Other, behind_of, is_operator, left_of, right_of}
 use Rattle.rhai_grammar.specs.Forms as form
-use Rattle.rhai_grammar.specs.Forms.{Primary, Operand, Arguments, Items, Run}
-use Rattle.rhai_grammar.specs.Trees.{is_variable, primary_tree, operand_tree, tree}
+use Rattle.rhai_grammar.specs.Forms.{Primary, Base, Links, Operand, Arguments, Items, Elements, Fields, Run}
+use Rattle.rhai_grammar.specs.Trees.{is_variable, bracket_link, member_link, method_tree, primary_tree, base_tree, argument_trees, operand_tree, tree}
+use Rattle.rhai_grammar.specs.Chains.{Link, index_refusal, last_fault}
 use Rattle.rhai_grammar.specs.Demands.{Verdict, Fine, Wrong, Blames, Otherwise, Demands, Nothing, Tok, Ahead, Next, Test, Shape, ◌▸◌}
 
 -- ---- which tokens are refused where one is due
@@ -47,6 +49,34 @@ word_behind c word at l = word_use c word at (calls l)
 abbrev pub uncalled : Node → Lexeme → Verdict
 uncalled x l = if is_variable x && calls l then Otherwise else Fine
 
+-- behind an operand with its links: nothing that goes on with it
+abbrev pub unlinked : Lexeme → Verdict
+unlinked l = if is_link (linking l) then Otherwise else Fine
+
+-- behind the index in a bracket
+abbrev pub index_closes : Lexeme → Verdict
+index_closes l = if closes_index l then Otherwise else Wrong (missing (codes "]") l)
+
+-- behind a dot
+abbrev pub member_at : MemberPlace → Verdict
+member_at AMember = Fine
+member_at (NoMember why) = Wrong why
+
+abbrev pub member_due : Lexeme → Verdict
+member_due l = member_at (member_place l)
+
+-- behind a property's name: nothing that calls it
+abbrev pub uncalled_member : Lexeme → Verdict
+uncalled_member l = if calls l then Otherwise else Fine
+
+-- Behind a method's name: what calls it. A reserved word is no property.
+abbrev pub no_method : Lexeme → Position → Verdict
+no_method (Reserved t) at = Blames (refusal (cause.Reserved t) at)
+no_method _ at = Otherwise
+
+abbrev pub method_behind : (name : Lexeme) → Position → Lexeme → Verdict
+method_behind name at l = if calls l then Fine else no_method name at
+
 -- behind the `!` of a call
 abbrev pub list_due : Lexeme → Verdict
 list_due l = if is_list (calling l) then Otherwise else Wrong (missing (codes "(") l)
@@ -73,6 +103,48 @@ goes_on l = if begin.is_close (following l) then Otherwise else Fine
 -- behind an expression in parentheses
 abbrev pub close_due : Lexeme → Verdict
 close_due l = if begin.is_close (following l) then Otherwise else Wrong (missing (codes ")") l)
+
+-- where an item of an array may begin: an item, or the end
+abbrev pub item_at : ItemPlace → Verdict
+item_at AnItem = Fine
+item_at ItemsEnd = Otherwise
+item_at (NoItem why) = Wrong why
+
+abbrev pub item_due : (limit count : ℕ) → Lexeme → Verdict
+item_due limit count l = item_at (item_place limit count l)
+
+abbrev pub no_item_at : ItemPlace → Verdict
+no_item_at AnItem = Otherwise
+no_item_at ItemsEnd = Otherwise
+no_item_at (NoItem why) = Wrong why
+
+abbrev pub no_item_due : (limit count : ℕ) → Lexeme → Verdict
+no_item_due limit count l = no_item_at (item_place limit count l)
+
+abbrev pub item_follows : Lexeme → Verdict
+item_follows l = follows (behind_item l)
+
+-- where a key of an object map may stand: a key, or the end
+abbrev pub key_at : KeyPlace → Verdict
+key_at (NoKey why) = Wrong why
+key_at _ = Otherwise
+
+-- where the key of one more property may stand
+abbrev pub next_key : Settings → Properties → Lexeme → KeyPlace
+next_key c before l = key_place (quoted_keys c) (property_count before == 0) l
+
+abbrev pub key_due : Settings → Properties → Lexeme → Verdict
+key_due c before l = key_at (next_key c before l)
+
+abbrev pub colon_due : Lexeme → Verdict
+colon_due l = if is_colon l then Otherwise else Wrong (missing (codes ":") l)
+
+-- behind the colon of one more property
+abbrev pub value_due : (limit count : ℕ) → Lexeme → Verdict
+value_due limit count l = if full limit count then Wrong (too_many_fields limit) else Fine
+
+abbrev pub value_follows : Lexeme → Verdict
+value_follows l = follows (behind_value l)
 
 -- behind an operand: a reserved symbol is no operator
 abbrev pub known_behind : Behind → Verdict
@@ -132,12 +204,12 @@ pub record Spot : Type 0 where
   pub first : Settings
   pub begins : Settings
   pub side : Side
-  pub walk : Walk
+  pub walk : Context
 
-abbrev pub outermost : Settings → Walk → Spot
+abbrev pub outermost : Settings → Context → Spot
 outermost c w = record { first = c; begins = c; side = Outermost; walk = w }
 
-abbrev pub right_side : Lexeme → Height → Walk → Spot
+abbrev pub right_side : Lexeme → Height → Context → Spot
 right_side op h w = record { first = h.settings; begins = up h.settings; side = RightOf op h; walk = w }
 
 -- The height behind a run: that of its first operand, and one level more for each operator on its left side.
@@ -174,40 +246,109 @@ ended k = Next run_ends ▸ k
 abbrev pub operands_fit : Lexeme → Node → Node → Demands → Demands
 operands_fit op x y k = Next (side_ends op) ▸ Test (boolean_holds op x) (mismatched x) ▸ Test (boolean_holds op y) (mismatched y) ▸ k
 
+-- A property up to its value: no property before has its key.
+abbrev pub field : (key : Lexeme) (at colon : Position) (before : Properties) → Settings → Context → (opening : Position) → Demands → Demands
+field key at colon before c w opening k =
+    Shape (is_key (next_key c before key)) ▸ Tok code (item key at) (key_due c before) ▸
+    Test (not (has_key (text_of key) before)) (refusal (cause.DuplicatedProperty (text_of key)) at) ▸
+    Tok code (item (Sign Colon) colon) colon_due ▸ Next (value_due w.sizes.map (property_count before)) ▸
+    raise_at c opening k
+
+-- ---- links
+
+-- Where a link stands: the settings of the operand that it goes on with, those of the brackets directly before it, the
+-- operand that the index in a bracket is tested for, if it is, and the links before.
+pub record LinkSpot : Type 0 where
+  pub settings : Settings
+  pub brackets : Settings
+  pub indexed : Option Node
+  pub before : List Link
+
+abbrev pub behind_operand : Settings → Node → LinkSpot
+behind_operand c x = record { settings = c; brackets = c; indexed = Some x; before = [] }
+
+abbrev pub behind_bracket : LinkSpot → Link → LinkSpot
+behind_bracket q l = record { settings = q.settings; brackets = up q.brackets; indexed = None; before = q.before ++ (l ∷ []) }
+
+-- All to the right of a dot is one level deeper.
+abbrev pub behind_dot : LinkSpot → Link → LinkSpot
+behind_dot q l = record { settings = up q.settings; brackets = up q.settings; indexed = None; before = q.before ++ (l ∷ []) }
+
+-- what is refused, if anything is
+abbrev pub unfaulted : Option Refusal → Demands → Demands
+unfaulted None k = k
+unfaulted (Some e) k = Test false e ▸ k
+
+-- a dot with the name of a method
+abbrev pub method : (dot : Lexeme) (at : Position) (name : Lexeme) (name_at : Position) → LinkSpot → Demands → Demands
+method dot at name name_at q k =
+    Shape (is_dot (linking dot)) ▸ Shape (is_member (member_place name)) ▸ Tok code (item dot at) anything ▸ Next member_due ▸
+    raise_at q.settings at (Tok code (item name name_at) anything ▸ Next (method_behind name name_at) ▸ k)
+
 -- ---- the forms
 
 abbrev mutual
-  pub primary : Primary → Settings → Walk → (ranged : Bool) → Demands → Demands
+  pub primary : Primary → Settings → Context → (ranged : Bool) → Demands → Demands
   primary (form.Value token at) c w ranged k = Shape (is_value (beginning token)) ▸ Tok code (item token at) (operand_due ranged) ▸ k
   primary (form.Named name at) c w ranged k = Tok code (item (Name name) at) (operand_due ranged) ▸ k
   primary (form.Word word at) c w ranged k = Tok code (item (Reserved word) at) (operand_due ranged) ▸ Next (word_behind c word at) ▸ k
   primary (form.Group opening inside closing) c w ranged k =
       Tok code (item (Sign LeftParen) opening) (operand_due ranged) ▸ raise_at c opening (
       begun (up c) (run inside (outermost (up (up c)) w) (ended (Tok code (item (Sign RightParen) closing) close_due ▸ k))))
+  primary (form.Array opening list) c w ranged k =
+      Tok code (item (Sign LeftBracket) opening) (operand_due ranged) ▸ raise_at c opening (elements list 0 (up c) w opening k)
+  primary (form.Map opening list) c w ranged k =
+      Tok code (item (Sign MapStart) opening) (operand_due ranged) ▸ raise_at c opening (fields list no_properties (up c) w opening k)
   primary (form.Zero range at) c w ranged k = Shape (is_range (beginning range)) ▸ Ahead (item range at) (operand_due ranged) ▸ k
 
   -- A variable that something calls is the name of a call. What calls it is all that may follow a reserved word other than `this`.
-  pub operand : Operand → Settings → Walk → (ranged : Bool) → Demands → Demands
-  operand (form.Plain x) c w ranged k = primary x c w ranged (Next (uncalled (primary_tree x w false)) ▸ k)
-  operand (form.Call x None args) c w ranged k =
+  pub base : Base → Settings → Context → (ranged : Bool) → Demands → Demands
+  base (form.Plain x) c w ranged k = primary x c w ranged (Next (uncalled (primary_tree x w false)) ▸ k)
+  base (form.Call x None args) c w ranged k =
       primary x c w ranged (Shape (is_variable (primary_tree x w true)) ▸ arguments args anything c w (position_of (primary_tree x w true)) k)
-  operand (form.Call x (Some bang) args) c w ranged k =
+  base (form.Call x (Some bang) args) c w ranged k =
       primary x c w ranged (Shape (is_variable (primary_tree x w true)) ▸
       Tok code (item (Sign Bang) bang) anything ▸ arguments args list_due c w (position_of (primary_tree x w true)) k)
+
+  -- A bracket raises the level, and its index once more; a dot raises that of the operand, for all to its right. Behind the
+  -- links it is tested which of the members are no methods.
+  pub links : Links → LinkSpot → Context → Demands → Demands
+  links form.NoLink q w k = Next unlinked ▸ unfaulted (last_fault q.before) k
+  links (form.Bracket opening at f closing rest) q w k =
+      Shape (is_bracket (linking opening)) ▸ Tok code (item opening at) anything ▸
+      raise_at q.brackets at (raise_at (up q.brackets) at (
+      begun (up (up q.brackets)) (run f (outermost (up (up (up q.brackets))) w) (ended (
+      unfaulted (index_refusal q.indexed (tree f w)) (
+      Tok code (item (Sign RightBracket) closing) index_closes ▸ links rest (behind_bracket q (bracket_link opening at (tree f w))) w k))))))
+  links (form.Property dot at name name_at rest) q w k =
+      Shape (is_dot (linking dot)) ▸ Tok code (item dot at) anything ▸ Next member_due ▸ raise_at q.settings at (
+      Tok code (item (Name name) name_at) anything ▸ Next uncalled_member ▸
+      links rest (behind_dot q (member_link dot at (property name name_at))) w k)
+  links (form.Method dot at name name_at None args rest) q w k =
+      method dot at name name_at q (
+      arguments args anything (up q.settings) w name_at (
+      links rest (behind_dot q (member_link dot at (method_tree (text_of name) name_at false (argument_trees args w)))) w k))
+  links (form.Method dot at name name_at (Some bang) args rest) q w k =
+      method dot at name name_at q (
+      Tok code (item (Sign Bang) bang) anything ▸ arguments args list_due (up q.settings) w name_at (
+      links rest (behind_dot q (member_link dot at (method_tree (text_of name) name_at true (argument_trees args w)))) w k))
+
+  pub operand : Operand → Settings → Context → (ranged : Bool) → Demands → Demands
+  operand (form.Linked x list) c w ranged k = base x c w ranged (links list (behind_operand c (base_tree x w)) w k)
   operand (form.Signed sign at x) c w ranged k =
       Shape (is_sign (beginning sign)) ▸ Tok code (item sign at) (operand_due ranged) ▸ raise_at c at (
       operand x (up c) w false (Test (sign_holds sign (operand_tree x w)) (malformed at (operand_tree x w)) ▸ k))
   operand (form.NoOperand token at) c w ranged k = Shape (ranged && closes token) ▸ Ahead (item token at) (operand_due ranged) ▸ k
 
   -- The level of arguments is raised once for all, and refused at the name that is called.
-  pub arguments : Arguments → (others : Lexeme → Verdict) → Settings → Walk → Position → Demands → Demands
+  pub arguments : Arguments → (others : Lexeme → Verdict) → Settings → Context → Position → Demands → Demands
   arguments (form.EmptyPair at) others c w name k = Tok code (item (Sign Unit) at) others ▸ k
   arguments (form.Empty opening closing) others c w name k =
       Tok code (item (Sign LeftParen) opening) others ▸ Tok code (item (Sign RightParen) closing) close_or_argument ▸ k
   arguments (form.Listed opening list) others c w name k =
       Tok code (item (Sign LeftParen) opening) others ▸ Next argument_due ▸ raise_at c name (items list (up c) w k)
 
-  pub items : Items → Settings → Walk → Demands → Demands
+  pub items : Items → Settings → Context → Demands → Demands
   items (form.Last f closing) c w k = begun c (run f (outermost (up c) w) (ended (Tok code (item (Sign RightParen) closing) comma_or_close ▸ k)))
   items (form.Trailing f comma closing) c w k =
       begun c (run f (outermost (up c) w) (ended (
@@ -215,6 +356,27 @@ abbrev mutual
   items (form.More f comma rest) c w k =
       begun c (run f (outermost (up c) w) (ended (
       Tok code (item (Sign Comma) comma) comma_or_close ▸ Next goes_on ▸ items rest c w k)))
+
+  -- The level is raised at the `[` for each item anew. Count: the items before.
+  pub elements : Elements → (count : ℕ) → Settings → Context → (opening : Position) → Demands → Demands
+  elements (form.NoElement closing) count c w opening k = Tok code (item (Sign RightBracket) closing) (no_item_due w.sizes.array count) ▸ k
+  elements (form.LastElement f closing) count c w opening k =
+      Next (item_due w.sizes.array count) ▸ raise_at c opening (
+      begun (up c) (run f (outermost (up (up c)) w) (ended (Tok code (item (Sign RightBracket) closing) item_follows ▸ k))))
+  elements (form.Element f comma rest) count c w opening k =
+      Next (item_due w.sizes.array count) ▸ raise_at c opening (
+      begun (up c) (run f (outermost (up (up c)) w) (ended (Tok code (item (Sign Comma) comma) item_follows ▸ elements rest (count + 1) c w opening k))))
+
+  -- The level is raised at the `#{` for each value anew. Before: the properties before.
+  pub fields : Fields → (before : Properties) → Settings → Context → (opening : Position) → Demands → Demands
+  fields (form.NoField closing) before c w opening k = Tok code (item (Sign RightBrace) closing) (key_due c before) ▸ k
+  fields (form.LastField key at colon f closing) before c w opening k =
+      field key at colon before c w opening (
+      begun (up c) (run f (outermost (up (up c)) w) (ended (Tok code (item (Sign RightBrace) closing) value_follows ▸ k))))
+  fields (form.Field key at colon f comma rest) before c w opening k =
+      field key at colon before c w opening (
+      begun (up c) (run f (outermost (up (up c)) w) (ended (
+      Tok code (item (Sign Comma) comma) value_follows ▸ fields rest (with_property before (text_of key) at (tree f w)) c w opening k))))
 
   -- Behind each operand stands no reserved symbol. An operator stands between a left run and a right one, each of which has
   -- operators that bind as the strengths say.
@@ -227,9 +389,9 @@ abbrev mutual
       run r (right_side op (height_after q l) q.walk) (operands_fit op (tree l q.walk) (tree r q.walk) k))
 
 -- An expression raises the level at its first token, and ends where no operator goes on with it.
-abbrev pub expression : Run → Settings → Walk → Demands → Demands
+abbrev pub expression : Run → Settings → Context → Demands → Demands
 expression f c w k = begun c (run f (outermost (up c) w) (ended k))
 
 -- a whole stream that is one expression
-abbrev pub whole_expression : Run → Settings → Walk → Demands
+abbrev pub whole_expression : Run → Settings → Context → Demands
 whole_expression f c w = expression f c w (Next end_due ▸ Nothing)

@@ -1,6 +1,6 @@
 //! Laws of the definitions, as contracts of functions that do nothing.
 
-ghost use Rattle.rhai_grammar.specs.Laws.{EntriesAreDelivered, FormsAreSpelled, StreamsAreWhole};
+ghost use Rattle.rhai_grammar.specs.Laws.{ChainsAreJoined, EntriesAreDelivered, FormsAreSpelled, StreamsAreWhole};
 ghost use Rattle.rhai_grammar.specs.Rows.{CallRow, EndedRow, MinusRow, OpenRow, SumRow, PairRow, FlatRow};
 
 /// A form whose demands are met is spelled by the tokens on the way.
@@ -19,6 +19,12 @@ pub fn streams_are_whole()
 #[tactic(auto, using(crate::proofs::SpellingLemmas::entries_are_delivered))]
 pub fn entries_are_delivered()
     ensures { EntriesAreDelivered }
+{}
+
+/// A chain in parentheses that goes on has the tree of the chain that is written without them.
+#[tactic(auto, using(crate::proofs::ChainLemmas::chains_are_joined))]
+pub fn chains_are_joined()
+    ensures { ChainsAreJoined }
 {}
 
 /// `1 + 2 * 3` fits under the depth limit 3, with the product as the sum's right operand, and is too deep under the limit 2.

@@ -67,7 +67,7 @@ pub struct FnCallExpr {
 
 /// Two expressions that belong together.
 #[cycle(ast)]
-#[derive(PartialEq, Debug, Drop)]
+#[derive(PartialEq, Debug)]
 pub struct BinaryExpr {
     pub lhs: Expr,
     pub rhs: Expr,
@@ -319,6 +319,22 @@ impl Drop for FnCallExpr {
             }
             match args.remove(0) {
                 Expr::FnCall(first, _) => self = Box::into_inner(first),
+                _ => return,
+            }
+        }
+    }
+}
+
+impl Drop for BinaryExpr {
+    // A chain nests to the right, as deep as it has links: a loop goes down its links, where the drop that is derived
+    // would run out of stack.
+    #[cycle(drop)]
+    fn drop(mut self) {
+        loop {
+            let BinaryExpr { lhs: _, rhs } = self;
+            match rhs {
+                Expr::Dot(rest, _, _) => self = Box::into_inner(rest),
+                Expr::Index(rest, _, _) => self = Box::into_inner(rest),
                 _ => return,
             }
         }

@@ -193,39 +193,55 @@ none int -9223372036854775808
 1:19 err memory
 2:1 eof";
 
+    fn text(alloc: Global, text: &str) -> Result<RcStr, AllocError> {
+        RcStr::from_str(alloc, text)
+    }
+
+    // The values and texts of the list, in their order, and whether they are marked as text.
+    fn add_texts(alloc: Global, tokens: &mut Vec<(Token, bool)>) -> Result<(), AllocError> {
+        tokens.push((Token::IntegerConstant(-7), false))?;
+        tokens.push((Token::IntegerConstant(i64::MIN), false))?;
+        tokens.push((Token::CharConstant('\u{1f600}'), false))?;
+        tokens.push((Token::StringConstant(text(alloc, "")?), false))?;
+        tokens.push((Token::StringConstant(text(alloc, "a \n\\\t=")?), false))?;
+        tokens.push((Token::InterpolatedString(text(alloc, "b")?), false))?;
+        tokens.push((Token::StringConstant(text(alloc, "c")?), true))?;
+        tokens.push((Token::InterpolatedString(text(alloc, "\u{e9}")?), true))?;
+        Ok(())
+    }
+
+    // The names and symbols behind them.
+    fn add_names(alloc: Global, tokens: &mut Vec<(Token, bool)>) -> Result<(), AllocError> {
+        tokens.push((Token::Identifier(text(alloc, "_let1")?), false))?;
+        tokens.push((Token::Identifier(text(alloc, "let")?), false))?;
+        tokens.push((Token::Reserved(text(alloc, "===")?), false))?;
+        tokens.push((Token::Reserved(text(alloc, "")?), false))?;
+        tokens.push((Token::UnaryMinus, false))?;
+        Ok(())
+    }
+
+    // The errors of the tokenizer behind these.
+    fn add_errors(alloc: Global, tokens: &mut Vec<(Token, bool)>) -> Result<(), AllocError> {
+        tokens.push((Token::LexError(LexError::UnterminatedString), false))?;
+        tokens.push((Token::LexError(LexError::StringTooLong(7)), false))?;
+        let number = LexError::MalformedNumber(text(alloc, "1.2")?);
+        tokens.push((Token::LexError(number), false))?;
+        let (symbol, note) = (text(alloc, "~")?, text(alloc, "")?);
+        let improper = LexError::ImproperSymbol(symbol, note);
+        tokens.push((Token::LexError(improper), false))?;
+        let unexpected = LexError::UnexpectedInput(text(alloc, " ")?);
+        tokens.push((Token::LexError(unexpected), false))?;
+        tokens.push((Token::LexError(LexError::OutOfMemory), false))?;
+        Ok(())
+    }
+
     // The tokens of the list, in their order.
     fn tokens(alloc: Global) -> Result<Vec<(Token, bool)>, AllocError> {
-        let text = |text: &str| RcStr::from_str(alloc, text);
-        Ok(vec![in alloc;
-            (Token::IntegerConstant(-7), false),
-            (Token::IntegerConstant(i64::MIN), false),
-            (Token::CharConstant('\u{1f600}'), false),
-            (Token::StringConstant(text("")?), false),
-            (Token::StringConstant(text("a \n\\\t=")?), false),
-            (Token::InterpolatedString(text("b")?), false),
-            (Token::StringConstant(text("c")?), true),
-            (Token::InterpolatedString(text("\u{e9}")?), true),
-            (Token::Identifier(text("_let1")?), false),
-            (Token::Identifier(text("let")?), false),
-            (Token::Reserved(text("===")?), false),
-            (Token::Reserved(text("")?), false),
-            (Token::UnaryMinus, false),
-            (Token::LexError(LexError::UnterminatedString), false),
-            (Token::LexError(LexError::StringTooLong(7)), false),
-            (
-                Token::LexError(LexError::MalformedNumber(text("1.2")?)),
-                false
-            ),
-            (
-                Token::LexError(LexError::ImproperSymbol(text("~")?, text("")?)),
-                false
-            ),
-            (
-                Token::LexError(LexError::UnexpectedInput(text(" ")?)),
-                false
-            ),
-            (Token::LexError(LexError::OutOfMemory), false),
-        ]?)
+        let mut tokens = Vec::new(alloc);
+        add_texts(alloc, &mut tokens)?;
+        add_names(alloc, &mut tokens)?;
+        add_errors(alloc, &mut tokens)?;
+        Ok(tokens)
     }
 
     #[test]

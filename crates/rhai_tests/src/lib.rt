@@ -12,6 +12,8 @@ mod growth;
 #[cfg(test)]
 mod levels;
 #[cfg(test)]
+mod literals;
+#[cfg(test)]
 mod lookup;
 #[cfg(test)]
 mod memory;

@@ -144,8 +144,8 @@ fn reserved_words_as_operands(rt: HostRuntime) -> Result<(), Fail> {
 #[test]
 fn tokens_of_later_forms(rt: HostRuntime) -> Result<(), Fail> {
     let alloc = rt.alloc();
-    check_token(&rt, alloc, Token::LeftBracket, "[")?;
     check_token(&rt, alloc, Token::LeftBrace, "{")?;
+    check_token(&rt, alloc, Token::If, "if")?;
     check_token(&rt, alloc, Token::PlusAssign, "+=")?;
     Ok(())
 }
