@@ -2,6 +2,7 @@
 
 ghost use Rattle.std.specs.Prelude.{◌≡◌, IfOk};
 ghost use Rattle.rhai_lower.specs.Nodes.{position_of, start_of, first_start, statement_position, block_of_one, made_block};
+ghost use Rattle.rhai_lower.specs.declared.ast.BinaryExpr.{out-BinaryExpr};
 ghost use Rattle.rhai_lower.specs.View.{block_view, statement_view, view, views};
 
 use crate::position::Position;
@@ -322,6 +323,17 @@ impl Drop for FnCallExpr {
                 _ => return,
             }
         }
+    }
+}
+
+impl BinaryExpr {
+    /// The two expressions, the left one first. It does not allocate.
+    pub fn into_parts(self) -> (Expr, Expr)
+        ensures left { result.0 ≡ (out-BinaryExpr self).lhs }
+        ensures right { result.1 ≡ (out-BinaryExpr self).rhs }
+    {
+        let BinaryExpr { lhs, rhs } = self;
+        (lhs, rhs)
     }
 }
 

@@ -100,6 +100,8 @@ impl Engine {
                         pos,
                         item,
                     })?;
+                    indexed = None;
+                    continue;
                 }
                 Linking::Dot { negated } => {
                     skip(shared.input);
@@ -113,13 +115,14 @@ impl Engine {
                         pos,
                         item,
                     })?;
+                    indexed = None;
+                    continue;
                 }
                 Linking::Nothing => {
                     test_links(self.alloc(), &links)?;
                     return Ok(links);
                 }
             }
-            indexed = None;
         }
     }
 

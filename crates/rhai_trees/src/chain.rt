@@ -82,12 +82,12 @@ fn split(tree: Expr) -> (Expr, Option<OpenLink>)
 {
     match tree {
         Expr::Dot(sides, flags, pos) => {
-            let BinaryExpr { lhs, rhs } = Box::into_inner(sides);
+            let (lhs, rhs) = Box::into_inner(sides).into_parts();
             let link = open_link(LinkKind::Dot, flags.negated, false, pos, rhs);
             (lhs, Some(link))
         }
         Expr::Index(sides, flags, pos) => {
-            let BinaryExpr { lhs, rhs } = Box::into_inner(sides);
+            let (lhs, rhs) = Box::into_inner(sides).into_parts();
             let ends = flags.terminating;
             let link = open_link(LinkKind::Index, flags.negated, ends, pos, rhs);
             (lhs, Some(link))

@@ -1,12 +1,17 @@
-use Rattle.std.proofs.Common.{rules, ◌≡◌, ◌∙◌, option_map}
+use Rattle.std.proofs.Common.{rules, arith, ◌≡◌, ◌∙◌, None, option_map}
 use Rattle.std.specs.Rc.{rc_str_bytes}
 use Rattle.rhai_lower.specs.Lexemes.{lexeme}
-use Rattle.rhai_lower.specs.View.{view}
+use Rattle.rhai_lower.specs.View.{property_views, view}
+use Rattle.rhai_lower.proofs.Views.{property_views_push}
 use Rattle.rhai_grammar.specs.Causes.{refusal_of}
 use Rattle.rhai_grammar.specs.Cursors.{cursor_of}
+use Rattle.rhai_grammar.specs.Written.{LinkSpot}
+use Rattle.rhai_trees.specs.Chains.{link_views}
 use Rattle.rhai_base.specs.Settings.{settings_of}
 use Rattle.rhai_parser.specs.Frames.{context_of}
 use Rattle.rhai_parser.specs.Operators.{operator_pair}
+use Rattle.rhai_parser.proofs.ChainLemmas.{DotTaken, dot_goes_on, dot_short, links_push}
+use Rattle.rhai_parser.proofs.LiteralLemmas.{FieldTaken, field_goes_on, field_short}
 use Rattle.rhai_parser.proofs.RunLemmas.{walked_on, walked_refused, walked_short, worded_done, worded_refused}
 use Rattle.rhai_parser.proofs.engine.Engine.+parser.Goals as goal
 
@@ -113,8 +118,54 @@ parse_primary-returns-in-Err-clause-gives t c = (
   c.in-Err.ensures.nowhere,
 )
 
-pub parse_links-loop-links-preserved : goal.parse_links-loop-links-preserved
-parse_links-loop-links-preserved t c = ?
-
 pub parse_map_literal-loop-properties-preserved : goal.parse_map_literal-loop-properties-preserved
-parse_map_literal-loop-properties-preserved t c = ?
+parse_map_literal-loop-properties-preserved t c =
+    let taken : FieldTaken (settings_of c.args.settings) (settings_of c.in_ok-deeper.deeper) (context_of c.args.self.now c.args.frame.now) (property_views c.loop-properties.properties.items) (property_views c.push.new.self.items) (rc_str_bytes c.in-Some.key.name, c.in-Some.key.pos) (view c.in_ok-value.value)
+    (cursor_of c.loop-properties.shared.input.now) (cursor_of c.next_key.new.input) (cursor_of c.parse_expr.new.shared.input.now) (cursor_of c.peek.follows.lender-at-none) (cursor_of c.skip.new.input) = record {
+      key_read = search rules;
+      key_short = search rules;
+      room = search rules;
+      deeper = search rules;
+      value = search rules;
+      value_short = search rules;
+      readable = search rules;
+      comma = search rules;
+      more = search rules;
+      look = search rules;
+      took = search rules;
+      shrinks = c.skip.ensures.shrinks;
+      joined = search (rules, property_views_push);
+    } in
+    record {
+      same = c.loop-properties.invariant.same ∙ field_goes_on _ _ _ _ _ _ _ _ _ _ _ _ _ taken;
+      shorter = let less = field_short _ _ _ _ _ _ _ _ _ _ _ _ taken in omega (arith, less, c.loop-properties.invariant.shorter);
+      same_input = search rules;
+    }
+
+pub parse_links-loop-links-preserved : goal.parse_links-loop-links-preserved
+parse_links-loop-links-preserved t c =
+    let spot : LinkSpot = record { settings = settings_of c.loop-links.settings; brackets = settings_of c.loop-links.brackets; indexed = option_map (λ x. view x.now) c.loop-links.indexed; before = link_views c.loop-links.links.items } in
+    let next : LinkSpot = record { settings = settings_of c.in_ok-settings-in-Dot.settings; brackets = settings_of c.in_ok-settings-in-Dot.settings; indexed = None; before = link_views c.push-in-Dot.new.self.items } in
+    let taken : DotTaken (settings_of c.in_ok-settings-in-Dot.settings) (context_of c.args.self.now c.args.frame.now) spot next (lexeme c.in_ok-token.field-0.now.0) c.in_ok-token.field-0.now.1 (view c.in_ok-item-in-Dot.item)
+    (cursor_of c.loop-links.shared.input.now) (cursor_of c.peek.follows.lender-at-none) (cursor_of c.skip-in-Dot.new.input) (cursor_of c.member_due.new.input) (cursor_of c.parse_member.new.shared.input.now) = record {
+      token = search rules;
+      readable = search rules;
+      dot = search rules;
+      more = search rules;
+      look = search rules;
+      took = search rules;
+      shrinks = c.skip-in-Dot.ensures.shrinks;
+      readable_on = search rules;
+      due = search rules;
+      look_on = search rules;
+      room = search rules;
+      deeper = search rules;
+      member = search rules;
+      member_short = search rules;
+      joined = search (rules, links_push);
+    } in
+    record {
+      same = c.loop-links.invariant.same ∙ dot_goes_on _ _ _ _ _ _ _ _ _ _ _ _ taken;
+      shorter = let less = (dot_short _ _ _ _ _ _ _ _ _ _ _ _ taken).1 in omega (arith, less, c.loop-links.invariant.shorter);
+      same_input = search rules;
+    }
