@@ -47,7 +47,7 @@ run() {
     local printed status zero_byte=no
     "$program" $1 <"$folder/list" >"$folder/printed"
     status=$?
-    # (it reads all, and then fails, unless a byte 0 ends it)
+    # (it takes the whole file, and succeeds only at a byte 0, which no answer has)
     IFS= read -r -d '' printed <"$folder/printed" && zero_byte=yes
     if [ "$printed" = "$answer" ] && [ "$status" = "$2" ] && [ "$zero_byte" = no ]; then
         passed=$((passed + 1))
