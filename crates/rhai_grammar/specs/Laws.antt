@@ -1,7 +1,6 @@
 -- Laws of the definitions that users rely on.
-use Rattle.std.specs.Prelude.{◌≡◌, List, [], ◌∷◌, ◌++◌, map, All, IsTrue}
+use Rattle.std.specs.Prelude.{◌≡◌, List, map, All, IsTrue}
 use Rattle.rhai_lower.specs.Entries.{ask_of, may_be_delivered}
-use Rattle.rhai_lower.specs.Nodes.{Node}
 use Rattle.rhai_lower.specs.declared.position.Position.{Position}
 use Rattle.rhai_lower.specs.declared.stream.Entry.{Entry}
 use Rattle.rhai_grammar.specs.Delivered.{Point, Ends}
@@ -9,13 +8,12 @@ use Rattle.rhai_grammar.specs.Cursors.{Cursor, delivered}
 use Rattle.rhai_grammar.specs.Seen.{Gives, leads}
 use Rattle.rhai_grammar.specs.Settings.{Settings}
 use Rattle.rhai_grammar.specs.Contexts.{Context}
-use Rattle.rhai_grammar.specs.Forms.{Run}
-use Rattle.rhai_grammar.specs.Trees.{tree}
+use Rattle.rhai_grammar.specs.Forms.{Base, Links, Run, Group, Plain, Linked, Just, followed}
+use Rattle.rhai_grammar.specs.Trees.{operand_tree, tree}
 use Rattle.rhai_grammar.specs.Spelling.{spelling, IsDelivered}
 use Rattle.rhai_grammar.specs.Demands.{Met}
 use Rattle.rhai_grammar.specs.Written.{whole_expression}
 use Rattle.rhai_grammar.specs.Promises.{IsWritten}
-use Rattle.rhai_grammar.specs.Chains.{Dotted, Link, chain_of, chained}
 
 -- A form whose demands are met is spelled by the tokens on the way.
 abbrev pub FormsAreSpelled : Type 0
@@ -33,7 +31,7 @@ EntriesAreDelivered = (entries : List Entry) (end : Position) → All (λ e. IsT
 abbrev pub FormsHaveOneTree : Type 0
 FormsHaveOneTree = (c : Settings) (w : Context) (s : Cursor) (f g : Run) → IsWritten c w f s → IsWritten c w g s → tree f w ≡ tree g w
 
--- A chain in parentheses that goes on has the tree of the chain that is written without them. Only what stands behind its
--- last link, where that is a dot, must be no chain.
-abbrev pub ChainsAreJoined : Type 0
-ChainsAreJoined = (x : Node) (a b : List Link) (l : Link) → (l.kind ≡ Dotted → (chain_of l.item).links ≡ []) → chained (chained x (a ++ l ∷ [])) b ≡ chained x (a ++ (l ∷ b))
+-- A chain in parentheses that goes on has the tree of the chain that is written without them, whether the two forms fit or
+-- not: the parentheses leave no trace, and each link keeps its position and its mark.
+pub record ChainsAreJoined : Type 0 where
+  pub joined : (w : Context) (opening closing : Position) (x : Base) (links more : Links) → operand_tree (Linked (Plain (Group opening (Just (Linked x links)) closing)) more) w ≡ operand_tree (Linked x (followed links more)) w
