@@ -8,7 +8,7 @@ use Rattle.rhai_grammar.specs.Cursors.{Cursor, delivered}
 use Rattle.rhai_grammar.specs.Seen.{Gives, leads}
 use Rattle.rhai_grammar.specs.Settings.{Settings}
 use Rattle.rhai_grammar.specs.Contexts.{Context}
-use Rattle.rhai_grammar.specs.Forms.{Base, Links, Run, Group, Plain, Linked, Just, followed}
+use Rattle.rhai_grammar.specs.Forms.{Base, Links, Operand, Run, Group, Plain, Linked, Just, followed}
 use Rattle.rhai_grammar.specs.Trees.{operand_tree, tree}
 use Rattle.rhai_grammar.specs.Spelling.{spelling, IsDelivered}
 use Rattle.rhai_grammar.specs.Demands.{Met}
@@ -31,7 +31,12 @@ EntriesAreDelivered = (entries : List Entry) (end : Position) → All (λ e. IsT
 abbrev pub FormsHaveOneTree : Type 0
 FormsHaveOneTree = (c : Settings) (w : Context) (s : Cursor) (f g : Run) → IsWritten c w f s → IsWritten c w g s → tree f w ≡ tree g w
 
--- A chain in parentheses that goes on has the tree of the chain that is written without them, whether the two forms fit or
--- not: the parentheses leave no trace, and each link keeps its position and its mark.
+-- a chain in parentheses, with links after it
+abbrev pub grouped_chain : (opening : Position) → Base → Links → (closing : Position) → (more : Links) → Operand
+grouped_chain opening x links closing more = Linked (Plain (Group opening (Just (Linked x links)) closing)) more
+
+-- A chain in parentheses that goes on has the tree of the chain that is written without them, whether the two forms
+-- fit or not: the parentheses leave no trace, and each link keeps its position.
 pub record ChainsAreJoined : Type 0 where
-  pub joined : (w : Context) (opening closing : Position) (x : Base) (links more : Links) → operand_tree (Linked (Plain (Group opening (Just (Linked x links)) closing)) more) w ≡ operand_tree (Linked x (followed links more)) w
+  pub joined : (w : Context) (opening closing : Position) (x : Base) (links more : Links) →
+      operand_tree (grouped_chain opening x links closing more) w ≡ operand_tree (Linked x (followed links more)) w

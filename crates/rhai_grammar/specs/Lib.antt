@@ -21,4 +21,5 @@ pub mod Promises
 pub mod Spelling
 pub mod Laws
 pub mod Rows
+pub mod RowsOfChains
 pub mod Imports
