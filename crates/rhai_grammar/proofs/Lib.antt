@@ -3,3 +3,4 @@ pub mod SeenLemmas
 pub mod SpellingLemmas
 pub mod RowLemmas
 pub mod ChainLemmas
+pub mod FairLemmas

@@ -3,6 +3,7 @@ use Rattle.std.specs.Prelude.{◌≡◌, List, map, All, IsTrue}
 use Rattle.rhai_lower.specs.Entries.{ask_of, may_be_delivered}
 use Rattle.rhai_lower.specs.declared.position.Position.{Position}
 use Rattle.rhai_lower.specs.declared.stream.Entry.{Entry}
+use Rattle.rhai_grammar.specs.Causes.{Refusal}
 use Rattle.rhai_grammar.specs.Delivered.{Point, Ends}
 use Rattle.rhai_grammar.specs.Cursors.{Cursor, delivered}
 use Rattle.rhai_grammar.specs.Seen.{Gives, leads}
@@ -11,7 +12,7 @@ use Rattle.rhai_grammar.specs.Contexts.{Context}
 use Rattle.rhai_grammar.specs.Forms.{Base, Links, Operand, Run, Group, Plain, Linked, Just, followed}
 use Rattle.rhai_grammar.specs.Trees.{operand_tree, tree}
 use Rattle.rhai_grammar.specs.Spelling.{spelling, IsDelivered}
-use Rattle.rhai_grammar.specs.Demands.{Met}
+use Rattle.rhai_grammar.specs.Demands.{IsFair, Met, Missed}
 use Rattle.rhai_grammar.specs.Written.{whole_expression}
 use Rattle.rhai_grammar.specs.Promises.{IsWritten}
 
@@ -30,6 +31,12 @@ EntriesAreDelivered = (entries : List Entry) (end : Position) → All (λ e. IsT
 -- Two forms that fit and spell the same stream have one tree.
 abbrev pub FormsHaveOneTree : Type 0
 FormsHaveOneTree = (c : Settings) (w : Context) (s : Cursor) (f g : Run) → IsWritten c w f s → IsWritten c w g s → tree f w ≡ tree g w
+
+-- No form has a place in which one token is both due and refused. So a form that fits along a stream is not refused there.
+pub record FormsAreFair : Type 0 where
+  pub fair : (c : Settings) (w : Context) (f : Run) → IsFair (whole_expression f c w)
+  pub apart : (c : Settings) (w : Context) (f : Run) (s t u : Point) (e : Refusal) →
+      Met (whole_expression f c w) s t → Missed (whole_expression f c w) s e u → ⊥
 
 -- a chain in parentheses, with links after it
 abbrev pub grouped_chain : (opening : Position) → Base → Links → (closing : Position) → (more : Links) → Operand

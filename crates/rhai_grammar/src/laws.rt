@@ -1,6 +1,7 @@
 //! Laws of the definitions, as contracts of functions that do nothing.
 
-ghost use Rattle.rhai_grammar.specs.Laws.{ChainsAreJoined, EntriesAreDelivered, FormsAreSpelled, StreamsAreWhole};
+ghost use Rattle.rhai_grammar.specs.Laws.{ChainsAreJoined, EntriesAreDelivered, FormsAreFair};
+ghost use Rattle.rhai_grammar.specs.Laws.{FormsAreSpelled, StreamsAreWhole};
 ghost use Rattle.rhai_grammar.specs.Rows.{CallRow, EndedRow, FlatRow, MinusRow, OpenRow};
 ghost use Rattle.rhai_grammar.specs.Rows.{PairRow, RangedRow, SizedRow, SumRow};
 ghost use Rattle.rhai_grammar.specs.RowsOfChains.{CaptureRow, GroupedRow, JoinedRow, QuestionedRow};
@@ -21,6 +22,12 @@ pub fn streams_are_whole()
 #[tactic(auto, using(crate::proofs::SpellingLemmas::entries_are_delivered))]
 pub fn entries_are_delivered()
     ensures { EntriesAreDelivered }
+{}
+
+/// No form has a place in which one token is both due and refused, so a form that fits is not refused.
+#[tactic(auto, using(crate::proofs::FairLemmas::forms_are_fair))]
+pub fn forms_are_fair()
+    ensures { FormsAreFair }
 {}
 
 /// A chain in parentheses that goes on has the tree of the chain that is written without them.
