@@ -5,9 +5,11 @@ use Rattle.rhai_lower.specs.declared.position.Position.{Position}
 use Rattle.rhai_grammar.specs.Chains.{Bracket, Chain, Dotted, Link, LinkKind, chain_of, chained, is_last, link_node, nest}
 use Rattle.rhai_grammar.specs.Contexts.{Context}
 use Rattle.rhai_grammar.specs.Forms as form
-use Rattle.rhai_grammar.specs.Forms.{Links, followed}
+use Rattle.rhai_grammar.specs.Forms.{Base, Links, followed}
 use Rattle.rhai_grammar.specs.Trees.{base_tree, link_list}
+use Rattle.rhai_grammar.specs.Shapes.{node_shape}
 use Rattle.rhai_grammar.specs.Laws.{ChainsAreJoined}
+use Rattle.rhai_grammar.proofs.ShapeLemmas.{trees_keep_shape}
 
 abbrev alone : Node → Chain
 alone x = record { root = x; links = [] }
@@ -95,9 +97,15 @@ link_list-followed w (form.Bracket opening at f closing rest) more = let e = lin
 link_list-followed w (form.Property sign at name name_at rest) more = let e = link_list-followed w rest more in cc
 link_list-followed w (form.Method sign at name name_at bang arguments rest) more = let e = link_list-followed w rest more in cc
 
+equal : (w : Context) (x : Base) (links more : Links) → chained (chained (base_tree x w) (link_list links w)) (link_list more w) ≡ chained (base_tree x w) (link_list (followed links more) w)
+equal w x links more =
+    joined_all (base_tree x w) (link_list links w) (link_list more w) (written_may_end w links)
+    ∙ ap (chained (base_tree x w)) (sym (link_list-followed w links more))
+
 pub chains_are_joined : ChainsAreJoined
 chains_are_joined = record {
-  joined = λ w opening closing x links more.
-      joined_all (base_tree x w) (link_list links w) (link_list more w) (written_may_end w links)
-      ∙ ap (chained (base_tree x w)) (sym (link_list-followed w links more));
+  equal = λ w opening closing x links more. equal w x links more;
+  same_shape = λ w opening closing x links more f e.
+      ap node_shape (equal w x links more)
+      ∙ trees_keep_shape w (form.Just (form.Linked x (followed links more))) f (sym e);
 }

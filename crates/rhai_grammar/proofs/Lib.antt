@@ -4,3 +4,4 @@ pub mod SpellingLemmas
 pub mod RowLemmas
 pub mod ChainLemmas
 pub mod FairLemmas
+pub mod ShapeLemmas

@@ -9,8 +9,9 @@ use Rattle.rhai_grammar.specs.Cursors.{Cursor, delivered}
 use Rattle.rhai_grammar.specs.Seen.{Gives, leads}
 use Rattle.rhai_grammar.specs.Settings.{Settings}
 use Rattle.rhai_grammar.specs.Contexts.{Context}
-use Rattle.rhai_grammar.specs.Forms.{Base, Links, Operand, Run, Group, Plain, Linked, Just, followed}
-use Rattle.rhai_grammar.specs.Trees.{operand_tree, tree}
+use Rattle.rhai_grammar.specs.Forms.{Base, Links, Run, Group, Plain, Linked, Just, followed}
+use Rattle.rhai_grammar.specs.Trees.{tree}
+use Rattle.rhai_grammar.specs.Shapes.{run_shape, node_shape}
 use Rattle.rhai_grammar.specs.Spelling.{spelling, IsDelivered}
 use Rattle.rhai_grammar.specs.Demands.{IsFair, Met, Missed}
 use Rattle.rhai_grammar.specs.Written.{whole_expression}
@@ -38,12 +39,20 @@ pub record FormsAreFair : Type 0 where
   pub apart : (c : Settings) (w : Context) (f : Run) (s t u : Point) (e : Refusal) →
       Met (whole_expression f c w) s t → Missed (whole_expression f c w) s e u → ⊥
 
+-- Forms that are the same but for positions have trees that are the same but for positions.
+abbrev pub TreesKeepShape : Type 0
+TreesKeepShape = (w : Context) (f g : Run) → run_shape f ≡ run_shape g → node_shape (tree f w) ≡ node_shape (tree g w)
+
 -- a chain in parentheses, with links after it
-abbrev pub grouped_chain : (opening : Position) → Base → Links → (closing : Position) → (more : Links) → Operand
-grouped_chain opening x links closing more = Linked (Plain (Group opening (Just (Linked x links)) closing)) more
+abbrev pub grouped_chain : (opening : Position) → Base → Links → (closing : Position) → (more : Links) → Run
+grouped_chain opening x links closing more = Just (Linked (Plain (Group opening (Just (Linked x links)) closing)) more)
 
 -- A chain in parentheses that goes on has the tree of the chain that is written without them, whether the two forms
--- fit or not: the parentheses leave no trace, and each link keeps its position.
+-- fit or not. Where the other tokens keep their positions, the trees are equal: the parentheses leave no trace in them.
+-- Where they do not, as in two scripts, the trees are the same but for positions.
 pub record ChainsAreJoined : Type 0 where
-  pub joined : (w : Context) (opening closing : Position) (x : Base) (links more : Links) →
-      operand_tree (grouped_chain opening x links closing more) w ≡ operand_tree (Linked x (followed links more)) w
+  pub equal : (w : Context) (opening closing : Position) (x : Base) (links more : Links) →
+      tree (grouped_chain opening x links closing more) w ≡ tree (Just (Linked x (followed links more))) w
+  pub same_shape : (w : Context) (opening closing : Position) (x : Base) (links more : Links) (f : Run) →
+      run_shape f ≡ run_shape (Just (Linked x (followed links more))) →
+      node_shape (tree (grouped_chain opening x links closing more) w) ≡ node_shape (tree f w)

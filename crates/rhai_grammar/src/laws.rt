@@ -1,7 +1,7 @@
 //! Laws of the definitions, as contracts of functions that do nothing.
 
 ghost use Rattle.rhai_grammar.specs.Laws.{ChainsAreJoined, EntriesAreDelivered, FormsAreFair};
-ghost use Rattle.rhai_grammar.specs.Laws.{FormsAreSpelled, StreamsAreWhole};
+ghost use Rattle.rhai_grammar.specs.Laws.{FormsAreSpelled, StreamsAreWhole, TreesKeepShape};
 ghost use Rattle.rhai_grammar.specs.Rows.{CallRow, EndedRow, FlatRow, MinusRow, OpenRow};
 ghost use Rattle.rhai_grammar.specs.Rows.{PairRow, RangedRow, SizedRow, SumRow};
 ghost use Rattle.rhai_grammar.specs.RowsOfChains.{CaptureRow, GroupedRow, JoinedRow, QuestionedRow};
@@ -28,6 +28,12 @@ pub fn entries_are_delivered()
 #[tactic(auto, using(crate::proofs::FairLemmas::forms_are_fair))]
 pub fn forms_are_fair()
     ensures { FormsAreFair }
+{}
+
+/// Forms that are the same but for positions have trees that are the same but for positions.
+#[tactic(auto, using(crate::proofs::ShapeLemmas::trees_keep_shape))]
+pub fn trees_keep_shape()
+    ensures { TreesKeepShape }
 {}
 
 /// A chain in parentheses that goes on has the tree of the chain that is written without them.
