@@ -5,10 +5,10 @@ use Rattle.rhai_lower.specs.declared.position.Position.{Position}
 use Rattle.rhai_grammar.specs.Chains.{Bracket, Chain, Dotted, Link, LinkKind, chain_of, chained, is_last, link_node, nest}
 use Rattle.rhai_grammar.specs.Contexts.{Context}
 use Rattle.rhai_grammar.specs.Forms as form
-use Rattle.rhai_grammar.specs.Forms.{Base, Links, followed}
+use Rattle.rhai_grammar.specs.Forms.{Base, Links}
 use Rattle.rhai_grammar.specs.Trees.{base_tree, link_list}
 use Rattle.rhai_grammar.specs.Shapes.{node_shape}
-use Rattle.rhai_grammar.specs.Laws.{ChainsAreJoined}
+use Rattle.rhai_grammar.specs.Laws.{ChainsAreJoined, followed}
 use Rattle.rhai_grammar.proofs.ShapeLemmas.{trees_keep_shape}
 
 abbrev alone : Node → Chain

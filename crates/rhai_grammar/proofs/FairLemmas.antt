@@ -12,10 +12,10 @@ use Rattle.rhai_grammar.specs.Chains.{index_refusal, last_fault}
 use Rattle.rhai_grammar.specs.Contexts.{Context}
 use Rattle.rhai_grammar.specs.Delivered as M
 use Rattle.rhai_grammar.specs.Delivered.{Item, Point, is_memory, next_at, past}
-use Rattle.rhai_grammar.specs.Demands.{◌▸◌, Ahead, Blames, Demands, Fine, IsFair, Met, Missed, Next, Nothing, Otherwise, Refused, Refuses, Shape, Test, Tok, Verdict, Wrong, is_refused, verdict}
+use Rattle.rhai_grammar.specs.Demands.{◌▸◌, Ahead, Blames, Demands, Fine, Met, Missed, Next, Nothing, Otherwise, Refused, Refuses, Shape, Test, Tok, Verdict, Wrong, verdict}
 use Rattle.rhai_grammar.specs.Forms as form
 use Rattle.rhai_grammar.specs.Forms.{Arguments, Base, Elements, Fields, Items, Links, Operand, Primary, Run}
-use Rattle.rhai_grammar.specs.Laws.{FormsAreFair}
+use Rattle.rhai_grammar.specs.Laws.{FormsAreFair, IsFair, is_refused}
 use Rattle.rhai_grammar.specs.Literals.{KeyPlace, NoKey, is_key}
 use Rattle.rhai_grammar.specs.Settings.{Settings, up}
 use Rattle.rhai_grammar.specs.Trees.{argument_trees, base_tree, bracket_link, member_link, method_tree, primary_tree, tree}

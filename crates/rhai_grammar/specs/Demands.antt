@@ -66,17 +66,3 @@ Missed (Ahead i others ▸ ds) s e u = (Refused others (next_at code s) e × (u 
 Missed (Next v ▸ ds) s e u = (Refused v (next_at code s) e × (u ≡ s)) ⊎ ((verdict v (next_at code s).lexeme ≡ Fine) × Missed ds s e u)
 Missed (Test holds d ▸ ds) s e u = ((holds ≡ false) × (e ≡ d) × (u ≡ s)) ⊎ ((holds ≡ true) × Missed ds s e u)
 Missed (Shape holds ▸ ds) s e u = (holds ≡ true) × Missed ds s e u
-
-abbrev pub is_refused : Verdict → Bool
-is_refused (Wrong cause) = true
-is_refused (Blames e) = true
-is_refused _ = false
-
--- No token is both due and refused in one place, in the shapes that may be written so.
-abbrev pub IsFair : Demands → Type 0
-IsFair Nothing = Unit {0}
-IsFair (Tok m i others ▸ ds) = (is_refused (verdict others i.lexeme) ≡ false) × IsFair ds
-IsFair (Ahead i others ▸ ds) = (is_refused (verdict others i.lexeme) ≡ false) × IsFair ds
-IsFair (Next v ▸ ds) = IsFair ds
-IsFair (Test holds e ▸ ds) = IsFair ds
-IsFair (Shape holds ▸ ds) = holds ≡ true → IsFair ds

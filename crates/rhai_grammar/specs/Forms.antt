@@ -77,10 +77,3 @@ mutual
   pub data Run : Type 0 where
     Just : Operand → Run
     Binary : (op : Lexeme) (at : Position) (left right : Run) → Run
-
--- links, and others after them
-abbrev pub followed : Links → Links → Links
-followed NoLink more = more
-followed (Bracket opening at index closing rest) more = Bracket opening at index closing (followed rest more)
-followed (Property dot at name name_at rest) more = Property dot at name name_at (followed rest more)
-followed (Method dot at name name_at bang arguments rest) more = Method dot at name name_at bang arguments (followed rest more)

@@ -5,6 +5,9 @@ use Rattle.rhai_lower.specs.Positions.{nowhere, place}
 use Rattle.rhai_lower.specs.Nodes as node
 use Rattle.rhai_lower.specs.Nodes.{Arms, Block, Called, Cases, Named, Node, Nodes, Optional, Properties, Statement, Statements}
 use Rattle.rhai_lower.specs.declared.position.Position.{Position}
+use Rattle.rhai_grammar.specs.Contexts.{bare}
+use Rattle.rhai_grammar.specs.Slots.{number}
+use Rattle.rhai_grammar.specs.Trees.{tree}
 use Rattle.rhai_grammar.specs.Forms as form
 use Rattle.rhai_grammar.specs.Forms.{Arguments, Base, Elements, Fields, Items, Links, Operand, Primary, Run}
 
@@ -114,7 +117,8 @@ abbrev mutual
 
   pub links_shape : Links → Links
   links_shape form.NoLink = form.NoLink
-  links_shape (form.Bracket opening at f closing rest) = form.Bracket opening nowhere (run_shape f) nowhere (links_shape rest)
+  links_shape (form.Bracket opening at f closing rest) =
+      form.Bracket opening nowhere (run_shape f) nowhere (links_shape rest)
   links_shape (form.Property dot at name name_at rest) = form.Property dot nowhere name nowhere (links_shape rest)
   links_shape (form.Method dot at name name_at bang arguments rest) =
       form.Method dot nowhere name nowhere (bang_shape bang) (arguments_shape arguments) (links_shape rest)
@@ -142,12 +146,19 @@ abbrev mutual
   pub fields_shape : Fields → Fields
   fields_shape (form.NoField closing) = form.NoField nowhere
   fields_shape (form.LastField key at colon f closing) = form.LastField key nowhere nowhere (run_shape f) nowhere
-  fields_shape (form.Field key at colon f comma fields) = form.Field key nowhere nowhere (run_shape f) nowhere (fields_shape fields)
+  fields_shape (form.Field key at colon f comma fields) =
+      form.Field key nowhere nowhere (run_shape f) nowhere (fields_shape fields)
 
   pub run_shape : Run → Run
   run_shape (form.Just x) = form.Just (operand_shape x)
   run_shape (form.Binary op at l r) = form.Binary op nowhere (run_shape l) (run_shape r)
 
--- `a` at two places is one form but for positions, and so are two trees of it.
-example : (operand_shape (form.Linked (form.Plain (form.Named (codes "a") (place 1 1))) form.NoLink) ≡ operand_shape (form.Linked (form.Plain (form.Named (codes "a") (place 2 5))) form.NoLink)) × (node_shape (node.property (codes "a") (place 1 1)) ≡ node_shape (node.property (codes "a") (place 2 5)))
+abbrev example_name : (column : ℕ) → Run
+example_name column = form.Just (form.Linked (form.Plain (form.Named (codes "a") (place 1 column))) form.NoLink)
+
+-- `a` at two places is one form but for positions, and has one tree but for positions.
+example :
+    (run_shape (example_name 1) ≡ run_shape (example_name 5))
+    × (node_shape (tree (example_name 1) bare) ≡ node_shape (tree (example_name 5) bare))
+unfolding number
 example = (refl, refl)
