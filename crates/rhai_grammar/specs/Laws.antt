@@ -39,7 +39,7 @@ is_refused (Wrong cause) = true
 is_refused (Blames e) = true
 is_refused _ = false
 
--- No token is both due and refused in one place, in the shapes that may be written so.
+-- No token is both due and refused in one place, as far as the bounds on what may be written so hold.
 abbrev pub IsFair : Demands → Type 0
 IsFair Nothing = Unit {0}
 IsFair (Tok m i others ▸ ds) = (is_refused (verdict others i.lexeme) ≡ false) × IsFair ds
@@ -64,7 +64,8 @@ abbrev pub followed : Links → Links → Links
 followed NoLink more = more
 followed (Bracket opening at index closing rest) more = Bracket opening at index closing (followed rest more)
 followed (Property dot at name name_at rest) more = Property dot at name name_at (followed rest more)
-followed (Method dot at name name_at bang arguments rest) more = Method dot at name name_at bang arguments (followed rest more)
+followed (Method dot at name name_at bang arguments rest) more =
+    Method dot at name name_at bang arguments (followed rest more)
 
 -- a chain in parentheses, with links after it
 abbrev pub grouped_chain : (opening : Position) → Base → Links → (closing : Position) → (more : Links) → Run
