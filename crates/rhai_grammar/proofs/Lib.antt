@@ -3,3 +3,5 @@ pub mod SeenLemmas
 pub mod SpellingLemmas
 pub mod RowLemmas
 pub mod ChainLemmas
+pub mod FairLemmas
+pub mod ShapeLemmas

@@ -2,7 +2,8 @@
 use Rattle.std.proofs.Common.{refl, inl, inr}
 use Rattle.rhai_grammar.specs.Settings.{one_more}
 use Rattle.rhai_grammar.specs.Slots.{number}
-use Rattle.rhai_grammar.specs.Rows.{SumRow, PairRow, FlatRow, OpenRow, MinusRow, EndedRow, CallRow}
+use Rattle.rhai_grammar.specs.Rows.{SumRow, PairRow, FlatRow, OpenRow, MinusRow, EndedRow, CallRow, RangedRow, SizedRow}
+use Rattle.rhai_grammar.specs.RowsOfChains.{GroupedRow, JoinedRow, QuestionedRow, CaptureRow}
 
 pub sum_row : SumRow
 unfolding one_more
@@ -44,3 +45,37 @@ call_row = record {
   argument_deep = inr (refl, inr (refl, (refl, inr (refl, inr (refl, inr (refl, inl (refl, refl)))))));
   list_deep = inr (refl, inr (refl, (refl, inr (refl, inr (refl, inl (refl, refl, refl))))));
 }
+
+pub ranged_row : RangedRow
+unfolding one_more
+ranged_row = record { tree_is = refl; fits = (refl, (refl, (refl, (refl, (refl, (refl, (refl, (refl, (refl, (refl, (refl, (refl, (refl, (refl, (refl, (refl, (refl, (refl, (refl, (refl, (refl, (refl, (refl, (refl, (refl, (refl, (refl, (refl, (refl, refl))))))))))))))))))))))))))))) }
+
+pub sized_row : SizedRow
+unfolding one_more
+sized_row = record { missed = inr (refl, inr (refl, inr (refl, inr (refl, inr (refl, inr (refl, (refl, inr (refl, inr (refl, inr (refl, inr (refl, inr (refl, inr (refl, inr (refl, inr (refl, inr (refl, (refl, inr (refl, inr (refl, inr (refl, inr (refl, inr (refl, inr (refl, inl (refl, refl)))))))))))))))))))))))) }
+
+pub grouped_row : GroupedRow
+unfolding one_more number
+grouped_row = record {
+  tree_is = refl;
+  fits = (refl, (refl, (refl, (refl, (refl, (refl, (refl, (refl, (refl, (refl, (refl, (refl, (refl, (refl, (refl, (refl, (refl, (refl, (refl, (refl, (refl, (refl, (refl, (refl, (refl, (refl, (refl, (refl, (refl, (refl, (refl, (refl, (refl, (refl, (refl, (refl, (refl, (refl, (refl, (refl, (refl, (refl, (refl, (refl, (refl, (refl, (refl, (refl, (refl, refl)))))))))))))))))))))))))))))))))))))))))))))))));
+  plain_tree_is = refl;
+  plain_fits = (refl, (refl, (refl, (refl, (refl, (refl, (refl, (refl, (refl, (refl, (refl, (refl, (refl, (refl, (refl, (refl, (refl, (refl, (refl, (refl, (refl, (refl, (refl, (refl, (refl, (refl, (refl, (refl, (refl, (refl, (refl, (refl, (refl, (refl, (refl, (refl, (refl, (refl, (refl, (refl, (refl, refl)))))))))))))))))))))))))))))))))))))))));
+}
+
+pub joined_row : JoinedRow
+unfolding one_more number
+joined_row = record {
+  tree_is = refl;
+  fits = (refl, (refl, (refl, (refl, (refl, (refl, (refl, (refl, (refl, (refl, (refl, (refl, (refl, (refl, (refl, (refl, (refl, (refl, (refl, (refl, (refl, (refl, (refl, (refl, (refl, (refl, (refl, (refl, (refl, (refl, (refl, (refl, (refl, (refl, (refl, (refl, (refl, refl)))))))))))))))))))))))))))))))))))));
+  plain_tree_is = refl;
+  plain_fits = (refl, (refl, (refl, (refl, (refl, (refl, (refl, (refl, (refl, (refl, (refl, (refl, (refl, (refl, (refl, (refl, (refl, (refl, (refl, (refl, (refl, (refl, (refl, (refl, (refl, (refl, (refl, (refl, (refl, refl)))))))))))))))))))))))))))));
+}
+
+pub questioned_row : QuestionedRow
+unfolding one_more number
+questioned_row = record { tree_is = refl; fits = (refl, (refl, (refl, (refl, (refl, (refl, (refl, (refl, (refl, (refl, (refl, (refl, (refl, (refl, (refl, (refl, (refl, (refl, (refl, (refl, (refl, (refl, (refl, (refl, (refl, (refl, (refl, (refl, (refl, refl))))))))))))))))))))))))))))) }
+
+pub capture_row : CaptureRow
+unfolding one_more number
+capture_row = record { missed = inr (refl, inr (refl, inr (refl, (refl, (refl, inr (refl, inr (refl, inr (refl, inr (refl, inr (refl, inr (refl, inr (refl, (refl, inr (refl, inr (refl, inr (refl, inr (refl, inr (refl, inr (refl, inl (refl, refl, refl)))))))))))))))))))) }

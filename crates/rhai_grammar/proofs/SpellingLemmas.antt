@@ -100,6 +100,7 @@ mutual
         way = along (primary_spelling x) (in_code (Sign token.Bang) bang ∷ argument_spelling args) _ p.end.tokens _ p.way
             (first (Sign token.Bang) bang _ p.end.tokens _ p.met.1.0 a.way);
       }
+
   links_spelled : (x : Links) (q : LinkSpot) (w : Context) (k : Demands) (s t : Point) → Met (W.links x q w k) s t → Spelled (link_spelling x) k s t
   links_spelled form.NoLink q w k s t m = record { end = s; met = unfaulted (last_fault q.before) k s t m.1; way = (tt, refl) }
   links_spelled (form.Bracket opening at f closing rest) q w k s t m =

@@ -1,21 +1,21 @@
 -- Laws of the definitions that users rely on.
-use Rattle.std.specs.Prelude.{◌≡◌, List, [], ◌∷◌, ◌++◌, map, All, IsTrue}
+use Rattle.std.specs.Prelude.{◌≡◌, Bool, true, false, List, map, All, IsTrue}
 use Rattle.rhai_lower.specs.Entries.{ask_of, may_be_delivered}
-use Rattle.rhai_lower.specs.Nodes.{Node}
 use Rattle.rhai_lower.specs.declared.position.Position.{Position}
 use Rattle.rhai_lower.specs.declared.stream.Entry.{Entry}
+use Rattle.rhai_grammar.specs.Causes.{Refusal}
 use Rattle.rhai_grammar.specs.Delivered.{Point, Ends}
 use Rattle.rhai_grammar.specs.Cursors.{Cursor, delivered}
 use Rattle.rhai_grammar.specs.Seen.{Gives, leads}
 use Rattle.rhai_grammar.specs.Settings.{Settings}
 use Rattle.rhai_grammar.specs.Contexts.{Context}
-use Rattle.rhai_grammar.specs.Forms.{Run}
+use Rattle.rhai_grammar.specs.Forms.{Base, Links, NoLink, Bracket, Property, Method, Run, Group, Plain, Linked, Just}
 use Rattle.rhai_grammar.specs.Trees.{tree}
+use Rattle.rhai_grammar.specs.Shapes.{run_shape, node_shape}
 use Rattle.rhai_grammar.specs.Spelling.{spelling, IsDelivered}
-use Rattle.rhai_grammar.specs.Demands.{Met}
+use Rattle.rhai_grammar.specs.Demands.{Verdict, Wrong, Blames, Demands, Nothing, Tok, Ahead, Next, Test, Shape, ◌▸◌, verdict, Met, Missed}
 use Rattle.rhai_grammar.specs.Written.{whole_expression}
 use Rattle.rhai_grammar.specs.Promises.{IsWritten}
-use Rattle.rhai_grammar.specs.Chains.{Dotted, Link, chain_of, chained}
 
 -- A form whose demands are met is spelled by the tokens on the way.
 abbrev pub FormsAreSpelled : Type 0
@@ -33,7 +33,50 @@ EntriesAreDelivered = (entries : List Entry) (end : Position) → All (λ e. IsT
 abbrev pub FormsHaveOneTree : Type 0
 FormsHaveOneTree = (c : Settings) (w : Context) (s : Cursor) (f g : Run) → IsWritten c w f s → IsWritten c w g s → tree f w ≡ tree g w
 
--- A chain in parentheses that goes on has the tree of the chain that is written without them. Only what stands behind its
--- last link, where that is a dot, must be no chain.
-abbrev pub ChainsAreJoined : Type 0
-ChainsAreJoined = (x : Node) (a b : List Link) (l : Link) → (l.kind ≡ Dotted → (chain_of l.item).links ≡ []) → chained (chained x (a ++ l ∷ [])) b ≡ chained x (a ++ (l ∷ b))
+-- a verdict that refuses
+abbrev pub is_refused : Verdict → Bool
+is_refused (Wrong cause) = true
+is_refused (Blames e) = true
+is_refused _ = false
+
+-- No token is both due and refused in one place, as far as the bounds on what may be written so hold.
+abbrev pub IsFair : Demands → Type 0
+IsFair Nothing = Unit {0}
+IsFair (Tok m i others ▸ ds) = (is_refused (verdict others i.lexeme) ≡ false) × IsFair ds
+IsFair (Ahead i others ▸ ds) = (is_refused (verdict others i.lexeme) ≡ false) × IsFair ds
+IsFair (Next v ▸ ds) = IsFair ds
+IsFair (Test holds e ▸ ds) = IsFair ds
+IsFair (Shape holds ▸ ds) = holds ≡ true → IsFair ds
+
+-- No form has a place in which one token is both due and refused. So a form that fits along a stream is not refused
+-- there.
+pub record FormsAreFair : Type 0 where
+  pub fair : (c : Settings) (w : Context) (f : Run) → IsFair (whole_expression f c w)
+  pub apart : (c : Settings) (w : Context) (f : Run) (s t u : Point) (e : Refusal) →
+      Met (whole_expression f c w) s t → Missed (whole_expression f c w) s e u → ⊥
+
+-- Forms that are the same but for positions have trees that are the same but for positions.
+abbrev pub TreesKeepShape : Type 0
+TreesKeepShape = (w : Context) (f g : Run) → run_shape f ≡ run_shape g → node_shape (tree f w) ≡ node_shape (tree g w)
+
+-- links, and others after them
+abbrev pub followed : Links → Links → Links
+followed NoLink more = more
+followed (Bracket opening at index closing rest) more = Bracket opening at index closing (followed rest more)
+followed (Property dot at name name_at rest) more = Property dot at name name_at (followed rest more)
+followed (Method dot at name name_at bang arguments rest) more =
+    Method dot at name name_at bang arguments (followed rest more)
+
+-- a chain in parentheses, with links after it
+abbrev pub grouped_chain : (opening : Position) → Base → Links → (closing : Position) → (more : Links) → Run
+grouped_chain opening x links closing more = Just (Linked (Plain (Group opening (Just (Linked x links)) closing)) more)
+
+-- A chain in parentheses that goes on has the tree of the chain that is written without them, whether the two forms
+-- fit or not. Where the other tokens keep their positions, the trees are equal: the parentheses leave no trace in them.
+-- Where they do not, as in two scripts, the trees are the same but for positions.
+pub record ChainsAreJoined : Type 0 where
+  pub equal : (w : Context) (opening closing : Position) (x : Base) (links more : Links) →
+      tree (grouped_chain opening x links closing more) w ≡ tree (Just (Linked x (followed links more))) w
+  pub same_shape : (w : Context) (opening closing : Position) (x : Base) (links more : Links) (f : Run) →
+      run_shape f ≡ run_shape (Just (Linked x (followed links more))) →
+      node_shape (tree (grouped_chain opening x links closing more) w) ≡ node_shape (tree f w)

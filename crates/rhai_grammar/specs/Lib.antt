@@ -19,6 +19,8 @@ pub mod Demands
 pub mod Written
 pub mod Promises
 pub mod Spelling
+pub mod Shapes
 pub mod Laws
 pub mod Rows
+pub mod RowsOfChains
 pub mod Imports

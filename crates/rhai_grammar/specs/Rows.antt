@@ -1,16 +1,17 @@
 -- Worked rows: scripts, their written forms, and what the definitions say of them.
-use Rattle.std.specs.Prelude.{◌≡◌, ℕ, pos, codes, None, false, List, [], ◌∷◌, reverse}
+use Rattle.std.specs.Prelude.{◌≡◌, ℕ, pos, codes, None, false, List, [], ◌∷◌, ◌++◌, reverse}
 use Rattle.rhai_lower.specs.Positions.{place}
 use Rattle.rhai_lower.specs.Lexemes.{Lexeme, Integer, Name, Sign}
-use Rattle.rhai_lower.specs.Nodes.{Node, integer, call, no_nodes, one_node}
-use Rattle.rhai_lower.specs.declared.token.Token.TheVariants.{Plus, Multiply, Minus, ExclusiveRange, LeftParen, RightParen}
+use Rattle.rhai_lower.specs.Nodes.{Node, unit, integer, array, call, no_nodes, one_node}
+use Rattle.rhai_lower.specs.declared.token.Token.TheVariants.{Plus, Multiply, Minus, ExclusiveRange, LeftParen, RightParen, LeftBracket, RightBracket, Comma}
 use Rattle.rhai_grammar.specs.Causes as cause
 use Rattle.rhai_grammar.specs.Causes.{Refusal, refusal}
 use Rattle.rhai_grammar.specs.Delivered.{code, item, Tokens, Ends, Then, Taken, Point}
 use Rattle.rhai_grammar.specs.Settings.{Settings}
-use Rattle.rhai_grammar.specs.Contexts.{bare}
+use Rattle.rhai_grammar.specs.Contexts.{Context, nothing_live, bare}
 use Rattle.rhai_grammar.specs.Operators.{operator_call}
-use Rattle.rhai_grammar.specs.Forms.{Primary, Operand, Run, Just, Binary, Linked, NoLink, Plain, Value, Named, Zero, Call, Signed, Listed, Last}
+use Rattle.rhai_grammar.specs.Forms.{Primary, Operand, Run, Just, Binary, Linked, NoLink, Plain, Value, Named, Zero, Array, Call, Signed, NoOperand, Listed, Last, Element, LastElement}
+use Rattle.rhai_grammar.specs.Literals.{too_many_items}
 use Rattle.rhai_grammar.specs.Trees.{function_called, tree}
 use Rattle.rhai_grammar.specs.Demands.{Met, Missed}
 use Rattle.rhai_grammar.specs.Written.{whole_expression}
@@ -41,6 +42,10 @@ plain x = Linked (Plain x) NoLink
 
 abbrev pub number : ℕ → ℕ → Run
 number n column = Just (plain (Value (Integer (pos n)) (place 1 column)))
+
+-- A form fits under the engine's default depth limit, where nothing was defined, and spells these tokens.
+abbrev pub Fits : Run → List (Lexeme × ℕ) → (end : ℕ) → Type 0
+Fits f tokens end = Met (whole_expression f (depth 64) bare) (unread tokens end) (between tokens [] end)
 
 -- `1 + 2 * 3`: the product is the sum's right operand.
 abbrev pub sum_tokens : List (Lexeme × ℕ)
@@ -136,3 +141,45 @@ pub record CallRow : Type 0 where
   pub fits : Met (whole_expression call_form (depth 3) bare) (unread call_tokens 5) (between call_tokens [] 5)
   pub argument_deep : Missed (whole_expression call_form (depth 2) bare) (unread call_tokens 5) (refusal cause.ExprTooDeep (place 1 3)) (between call_begun call_rest 5)
   pub list_deep : Missed (whole_expression call_form (depth 1) bare) (unread call_tokens 5) (refusal cause.ExprTooDeep (place 1 1)) (between call_begun call_rest 5)
+
+-- `[5..]`: before the `]` the unit after the range operator is not written, and stands at the `]`.
+abbrev pub ranged_tokens : List (Lexeme × ℕ)
+ranged_tokens = (Sign LeftBracket, 1) ∷ (Integer (pos 5), 2) ∷ (Sign ExclusiveRange, 3) ∷ (Sign RightBracket, 5) ∷ []
+
+abbrev pub ranged_item : Run
+ranged_item = Binary (Sign ExclusiveRange) (place 1 3) (number 5 2) (Just (NoOperand (Sign RightBracket) (place 1 5)))
+
+abbrev pub ranged_form : Run
+ranged_form = Just (plain (Array (place 1 1) (LastElement ranged_item (place 1 5))))
+
+abbrev pub ranged_tree : Node
+ranged_tree = operator_call (Sign ExclusiveRange) (place 1 3) (integer (pos 5) (place 1 2)) (unit (place 1 5))
+
+pub record RangedRow : Type 0 where
+  pub tree_is : tree ranged_form bare ≡ array (one_node ranged_tree no_nodes) (place 1 1)
+  pub fits : Fits ranged_form ranged_tokens 6
+
+-- `[1, 2, 3]`: where an array has two items at most, the third is one too many.
+abbrev pub sized_begun : List (Lexeme × ℕ)
+sized_begun = (Sign LeftBracket, 1) ∷ (Integer (pos 1), 2) ∷ (Sign Comma, 3) ∷ (Integer (pos 2), 5) ∷ (Sign Comma, 6) ∷ []
+
+abbrev pub sized_rest : List (Lexeme × ℕ)
+sized_rest = (Integer (pos 3), 8) ∷ (Sign RightBracket, 9) ∷ []
+
+abbrev pub sized_form : Run
+sized_form =
+    Just (plain (Array (place 1 1) (
+    Element (number 1 2) (place 1 3) (Element (number 2 5) (place 1 6) (LastElement (number 3 8) (place 1 9))))))
+
+abbrev pub two_items : Context
+two_items = nothing_live (record { array = 2; map = 0 })
+
+abbrev pub sized_tokens : List (Lexeme × ℕ)
+sized_tokens = sized_begun ++ sized_rest
+
+abbrev pub sized_refused : Refusal
+sized_refused = refusal (too_many_items 2) (place 1 8)
+
+pub record SizedRow : Type 0 where
+  pub missed : Missed (whole_expression sized_form (depth 64) two_items) (unread sized_tokens 10)
+      sized_refused (between sized_begun sized_rest 10)

@@ -1,7 +1,10 @@
 //! Laws of the definitions, as contracts of functions that do nothing.
 
-ghost use Rattle.rhai_grammar.specs.Laws.{ChainsAreJoined, EntriesAreDelivered, FormsAreSpelled, StreamsAreWhole};
-ghost use Rattle.rhai_grammar.specs.Rows.{CallRow, EndedRow, MinusRow, OpenRow, SumRow, PairRow, FlatRow};
+ghost use Rattle.rhai_grammar.specs.Laws.{ChainsAreJoined, EntriesAreDelivered, FormsAreFair};
+ghost use Rattle.rhai_grammar.specs.Laws.{FormsAreSpelled, StreamsAreWhole, TreesKeepShape};
+ghost use Rattle.rhai_grammar.specs.Rows.{CallRow, EndedRow, FlatRow, MinusRow, OpenRow};
+ghost use Rattle.rhai_grammar.specs.Rows.{PairRow, RangedRow, SizedRow, SumRow};
+ghost use Rattle.rhai_grammar.specs.RowsOfChains.{CaptureRow, GroupedRow, JoinedRow, QuestionedRow};
 
 /// A form whose demands are met is spelled by the tokens on the way.
 #[tactic(auto, using(crate::proofs::SpellingLemmas::forms_are_spelled))]
@@ -19,6 +22,18 @@ pub fn streams_are_whole()
 #[tactic(auto, using(crate::proofs::SpellingLemmas::entries_are_delivered))]
 pub fn entries_are_delivered()
     ensures { EntriesAreDelivered }
+{}
+
+/// No form has a place in which one token is both due and refused, so a form that fits is not refused.
+#[tactic(auto, using(crate::proofs::FairLemmas::forms_are_fair))]
+pub fn forms_are_fair()
+    ensures { FormsAreFair }
+{}
+
+/// Forms that are the same but for positions have trees that are the same but for positions.
+#[tactic(auto, using(crate::proofs::ShapeLemmas::trees_keep_shape))]
+pub fn trees_keep_shape()
+    ensures { TreesKeepShape }
 {}
 
 /// A chain in parentheses that goes on has the tree of the chain that is written without them.
@@ -67,4 +82,40 @@ pub fn ended_row()
 #[tactic(auto, using(crate::proofs::RowLemmas::call_row))]
 pub fn call_row()
     ensures { CallRow }
+{}
+
+/// `[5..]` is an array of a range up to an unwritten unit, which stands at the `]`.
+#[tactic(auto, using(crate::proofs::RowLemmas::ranged_row))]
+pub fn ranged_row()
+    ensures { RangedRow }
+{}
+
+/// `[1, 2, 3]` is refused at its third item where an array has two items at most.
+#[tactic(auto, using(crate::proofs::RowLemmas::sized_row))]
+pub fn sized_row()
+    ensures { SizedRow }
+{}
+
+/// `( x[y].prop_a )[z].prop_b` and `x[y].prop_a[z].prop_b` fit, and have one tree but for positions.
+#[tactic(auto, using(crate::proofs::RowLemmas::grouped_row))]
+pub fn grouped_row()
+    ensures { GroupedRow }
+{}
+
+/// `(a[b])[c]` and `a[b][c]` fit, and have one tree but for positions.
+#[tactic(auto, using(crate::proofs::RowLemmas::joined_row))]
+pub fn joined_row()
+    ensures { JoinedRow }
+{}
+
+/// `a?[b][c]` has the question mark at its first bracket, and its second one ends the chain.
+#[tactic(auto, using(crate::proofs::RowLemmas::questioned_row))]
+pub fn questioned_row()
+    ensures { QuestionedRow }
+{}
+
+/// `a.f!().b` is refused at `f`, once all to its right was read.
+#[tactic(auto, using(crate::proofs::RowLemmas::capture_row))]
+pub fn capture_row()
+    ensures { CaptureRow }
 {}
