@@ -5,8 +5,11 @@ pub mod Rules
 pub mod Beginnings
 pub mod Tokens
 pub mod Places
+pub mod Lists
 pub mod Looks
-pub mod Rooms
+pub mod Paths
+pub mod Shows
+pub mod Reaches
 pub mod Complete
 pub mod Local
 pub mod Readable
