@@ -9,6 +9,7 @@ pub mod Lists
 pub mod Looks
 pub mod Paths
 pub mod Shows
+pub mod FormKinds
 pub mod Reaches
 pub mod Complete
 pub mod Local

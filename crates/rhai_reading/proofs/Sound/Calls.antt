@@ -24,7 +24,8 @@ use Rattle.rhai_reading.proofs.Lists.{added, added_last}
 use Rattle.rhai_reading.proofs.Looks.{op_at, pos_at}
 use Rattle.rhai_reading.proofs.Paths.{Aim, Way, ◌▹◌}
 use Rattle.rhai_reading.proofs.Shows.{Histories, Goes, wrong, fine, fails, take, look, either, gives, done, refuse, raise, part, ends, separated, Passed}
-use Rattle.rhai_reading.proofs.Sound.Law.{AllSound, Enclosed, Closed, Listing, enclosed_of, enclosed_trees, CallForm, By, call_of, call_answer, tree_before, any_items, bases, callings, primaries, items, enclosed}
+use Rattle.rhai_reading.proofs.FormKinds.{Enclosed, Closed, Listing, enclosed_of, enclosed_trees, CallForm, By, call_of, call_answer, tree_before, bases, callings, primaries, items, enclosed}
+use Rattle.rhai_reading.proofs.Sound.Law.{AllSound, any_items}
 
 -- ---- what calls a name
 

@@ -31,7 +31,8 @@ use Rattle.rhai_reading.proofs.Lists.{behind_one_more}
 use Rattle.rhai_reading.proofs.Looks.{op_at, pos_at}
 use Rattle.rhai_reading.proofs.Paths.{Fits, Aim, Way, ◌▹◌, Lost}
 use Rattle.rhai_reading.proofs.Shows.{Histories, Goes, wrong, ill, blamed, fine, fails, take, look, either, gives, done, refuse, halt, raise, check, part, first, ends, Passed}
-use Rattle.rhai_reading.proofs.Sound.Law.{AllSound, any_run, expressions, CallForm, By, call_answer, links, indices, MemberForm, AProperty, AMethod, member_of, member_tree, members}
+use Rattle.rhai_reading.proofs.FormKinds.{expressions, CallForm, By, call_answer, links, indices, MemberForm, AProperty, AMethod, member_of, member_tree, members}
+use Rattle.rhai_reading.proofs.Sound.Law.{AllSound, any_run}
 
 -- ---- tests that refuse
 

@@ -21,7 +21,8 @@ use Rattle.rhai_reading.proofs.Lists.{added, added_last, added_none, one_more_no
 use Rattle.rhai_reading.proofs.Looks.{op_at, pos_at}
 use Rattle.rhai_reading.proofs.Paths.{Fits, Aim, Way, ◌▹◌}
 use Rattle.rhai_reading.proofs.Shows.{Histories, Goes, wrong, ill, fine, fails, take, look, either, gives, done, refuse, halt, raise, check, part, ends, separated, Passed}
-use Rattle.rhai_reading.proofs.Sound.Law.{AllSound, any_run, elements, fields, KeyForm, NoMore, Keyed, key_answer, key_of, next_keys}
+use Rattle.rhai_reading.proofs.FormKinds.{elements, fields, KeyForm, NoMore, Keyed, key_answer, key_of, next_keys}
+use Rattle.rhai_reading.proofs.Sound.Law.{AllSound, any_run}
 
 module _ {call : Histories} (ih : AllSound call) (c : Settings) (w : Context) (opening : Position) (before : Nodes) (s : Point) where
   element_by : (v : ItemPlace) → item_place w.sizes.array (node_count before) (op_at s) ≡ v → is_memory (op_at s) ≡ false

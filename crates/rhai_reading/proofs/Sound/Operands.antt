@@ -20,7 +20,8 @@ use Rattle.rhai_reading.proofs.Tokens.{called_no_this}
 use Rattle.rhai_reading.proofs.Looks.{op_at, pos_at}
 use Rattle.rhai_reading.proofs.Paths.{◌▹◌}
 use Rattle.rhai_reading.proofs.Shows.{Histories, Goes, wrong, blamed, fine, fails, take, look, either, gives, done, refuse, halt, test, raise, check, part, first, ends}
-use Rattle.rhai_reading.proofs.Sound.Law.{AllSound, tree_before, any_primary, any_operand, any_run, operands, primaries}
+use Rattle.rhai_reading.proofs.FormKinds.{tree_before, operands, primaries}
+use Rattle.rhai_reading.proofs.Sound.Law.{AllSound, any_primary, any_operand, any_run}
 
 module _ {call : Histories} (ih : AllSound call) (c : Settings) (w : Context) (ranged : Bool) (s : Point) where
   primary_by : (v : Beginning) → beginning (op_at s) ≡ v → (ranged && closes (op_at s)) ≡ false → is_sign v ≡ false → is_memory (op_at s) ≡ false

@@ -25,7 +25,8 @@ use Rattle.rhai_reading.proofs.Strengths.{Sensible, sensible, next_goes_on, righ
 use Rattle.rhai_reading.proofs.Looks.{op_at, pos_at, behind_at, operator_in, climb, fine as known_fine}
 use Rattle.rhai_reading.proofs.Paths.{Fits, Fails, Aim, Way, ◌▹◌, lost, Lost}
 use Rattle.rhai_reading.proofs.Shows.{Histories, over, Shows, Halts, fine, fails, ret, take, look, either, test, raise, called, tail, part, lost_at, Kind, Passed}
-use Rattle.rhai_reading.proofs.Sound.Law.{AllSound, Ended, Suits, Stands, RunRead, runs}
+use Rattle.rhai_reading.proofs.FormKinds.{runs}
+use Rattle.rhai_reading.proofs.Sound.Law.{AllSound, Ended, Suits, Stands, RunRead}
 
 -- ---- what stands behind an operand
 

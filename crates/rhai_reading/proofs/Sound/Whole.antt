@@ -18,7 +18,8 @@ use Rattle.rhai_reading.proofs.Strengths.{Sensible, sensible, next_goes_on, oute
 use Rattle.rhai_reading.proofs.Looks.{op_at, behind_at, fine as known_fine}
 use Rattle.rhai_reading.proofs.Paths.{Fits, ◌▹◌, here, lost, Way, To, reached}
 use Rattle.rhai_reading.proofs.Shows.{Histories, Ensures, Shows, Halts, Goes, ill, fine, over, ret, look, raise, check, part}
-use Rattle.rhai_reading.proofs.Sound.Law.{Sound, AllSound, WholeRead, WholeHalts, any_run, expressions, wholes}
+use Rattle.rhai_reading.proofs.FormKinds.{expressions, wholes}
+use Rattle.rhai_reading.proofs.Sound.Law.{Sound, AllSound, WholeRead, WholeHalts, any_run}
 use Rattle.rhai_reading.proofs.Sound.Runs.{run_part}
 
 ends_fine : (s : Point) → next_goes_on 1 (behind_at s) ≡ false → Fits operator_known s → Fits run_ends s
