@@ -4,7 +4,6 @@ pub mod Strengths
 pub mod Rules
 pub mod Beginnings
 pub mod Tokens
-pub mod Places
 pub mod Lists
 pub mod Looks
 pub mod Paths

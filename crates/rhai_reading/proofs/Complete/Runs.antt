@@ -1,12 +1,12 @@
--- Runs of operators, and expressions: what is written so is read so.
+-- Runs of operators: what is written so is read so.
 use Rattle.std.proofs.Common.{◌≡◌, ℕ, Bool, true, false, Some, None, refl, sym, ap, ◌∙◌, subst, if◌then◌else◌}
 use Rattle.rhai_lower.specs.Lexemes.{Lexeme}
-use Rattle.rhai_lower.specs.Nodes.{Node, position_of}
+use Rattle.rhai_lower.specs.Nodes.{Node}
 use Rattle.rhai_lower.specs.declared.position.Position.{Position}
 use Rattle.rhai_grammar.specs.Causes as cause
 use Rattle.rhai_grammar.specs.Causes.{Cause, Refusal, refusal}
 use Rattle.rhai_grammar.specs.Delivered.{code, Item, item, Point, next_at, past}
-use Rattle.rhai_grammar.specs.Settings.{Settings, low, up}
+use Rattle.rhai_grammar.specs.Settings.{Settings, up}
 use Rattle.rhai_grammar.specs.Contexts.{Context}
 use Rattle.rhai_grammar.specs.Beginnings.{beginning, is_range}
 use Rattle.rhai_grammar.specs.Operators.{operator_tree}
@@ -17,12 +17,12 @@ use Rattle.rhai_grammar.specs.Demands.{Fine, Otherwise, Demands, verdict, Met}
 use Rattle.rhai_grammar.specs.Written as W
 use Rattle.rhai_grammar.specs.Written.{Height, Side, Outermost, RightOf, Spot, outermost, right_side, height_after, is_ranged, raise_behind, side_fits, left_fits, operands_fit, run_ends, operator_known, room_due, end_due, begun, ended}
 use Rattle.rhai_reading.specs.Reading as R
-use Rattle.rhai_reading.specs.Reading.{Goal, Whole, Expression, NextOperator, BinaryOp, Prog, Ret, Fail, Take, Call, goes_on, next_operator_at, operand_by, primary_at, list_on, call_at, bang_at, binary_at, binary_on, binary_next, body}
+use Rattle.rhai_reading.specs.Reading.{Goal, Whole, Expression, NextOperator, BinaryOp, Prog, Ret, Fail, Take, Call, goes_on, next_operator_at, operand_by, primary_at, list_on, called_at, bang_at, binary_at, binary_on, binary_next, body}
 use Rattle.rhai_reading.specs.Histories.{Outcome, Done, Runs}
 use Rattle.rhai_reading.proofs.Rules.{at, runs_ret, runs_peek, runs_look, runs_take, runs_call, runs_tail, runs_then, runs_else}
-use Rattle.rhai_reading.proofs.Reaches.{Reaches}
-use Rattle.rhai_reading.proofs.Looks.{behind_at, operator_in, climb, fine, or_wrong}
-use Rattle.rhai_reading.proofs.Strengths.{sensible, next_goes_on, right_is, left_is, left_down, outer, not_true}
+use Rattle.rhai_reading.proofs.Complete.Law.{Shut, Agrees, Top, Entered, begins, Reads}
+use Rattle.rhai_reading.proofs.Looks.{behind_at, operator_in, climb, fine}
+use Rattle.rhai_reading.proofs.Strengths.{sensible, next_goes_on, right_is, left_is, left_down, not_true}
 use Rattle.rhai_reading.proofs.Tokens.{operator_readable}
 
 -- what stands behind an operand is looked at
@@ -38,12 +38,7 @@ next_operator s b e =
 
 -- ---- runs
 
--- no operator along the right side goes on with what stands there
-abbrev pub Shut : Run → Behind → Type 0
-Shut (Just x) v = Unit {0}
-Shut (Binary op pos l r) v = (next_goes_on (strength (behind_of op)) v ≡ false) × Shut r v
-
-none_goes : (p : ℕ) (v : Behind) → is_operator v ≡ false → next_goes_on p v ≡ false
+pub none_goes : (p : ℕ) (v : Behind) → is_operator v ≡ false → next_goes_on p v ≡ false
 none_goes p (Operator n right) e = absurd cc
 none_goes p (Unknown t) e = refl
 none_goes p Other e = refl
@@ -52,50 +47,17 @@ pub shut_none : (f : Run) (v : Behind) → is_operator v ≡ false → Shut f v
 shut_none (Just x) v e = tt
 shut_none (Binary op pos l r) v e = (none_goes (strength (behind_of op)) v e, shut_none r v e)
 
--- operators that may stand on this side go on with a run of strength p
-abbrev pub Agrees : ℕ → Side → Type 0
-Agrees p side = (l : Lexeme) → is_operator (behind_of l) ≡ true → side_fits side (behind_of l) ≡ true → next_goes_on p (behind_of l) ≡ true
-
--- the run's own top fits where it stands
-abbrev pub Top : Side → Run → Type 0
-Top side (Just x) = Unit {0}
-Top side (Binary op pos l r) = side_fits side (behind_of op) ≡ true
-
--- the level was raised there
-abbrev pub Entered : Side → Type 0
-Entered Outermost = Unit {0}
-Entered (RightOf op h) = low h.settings ≡ true
-
 pub entering : (side : Side) (k : Demands) (s t : Point) → Met (raise_behind side k) s t → Entered side × Met k s t
 entering Outermost k s t m = (tt, m)
 entering (RightOf op h) k s t m = m
 
--- where a run's operators begin, once its first operand was read
-abbrev pub begins : Spot → Node → Height
-begins q x = record { settings = q.begins; at = position_of x }
-
-stops : (c : Settings) (w : Context) (pos : Position) (p : ℕ) (x : Node) (s : Point) (v : Behind) → next_goes_on p v ≡ false → Runs (binary_at c w pos p x (operator_in v)) (at s true) (Done x (at s true))
+pub stops : (c : Settings) (w : Context) (pos : Position) (p : ℕ) (x : Node) (s : Point) (v : Behind) → next_goes_on p v ≡ false → Runs (binary_at c w pos p x (operator_in v)) (at s true) (Done x (at s true))
 stops c w pos p x s (Operator n right) e = runs_else _ e (runs_ret x (at s true))
 stops c w pos p x s (Unknown t) e = runs_ret x (at s true)
 stops c w pos p x s Other e = runs_ret x (at s true)
 
-climb_stops : (w : Context) (h : Height) (p : ℕ) (x : Node) (s : Point) (b : Bool) → verdict operator_known (next_at code s).lexeme ≡ Fine → next_goes_on p (behind_at s) ≡ false → Runs (body (climb h w p x)) (at s b) (Done x (at s true))
+pub climb_stops : (w : Context) (h : Height) (p : ℕ) (x : Node) (s : Point) (b : Bool) → verdict operator_known (next_at code s).lexeme ≡ Fine → next_goes_on p (behind_at s) ≡ false → Runs (body (climb h w p x)) (at s b) (Done x (at s true))
 climb_stops w h p x s b known e = runs_call NextOperator (binary_at h.settings w h.at p x) (next_operator s b known) (stops h.settings w h.at p x s (behind_at s) e)
-
--- The first operand is read, and from there on the reader is where it is once it has the whole run.
-pub record Reads (f : Run) (q : Spot) (k : Demands) (s : Point) (b : Bool) (t : Point) : Type 0 where
-  pub first : Node
-  pub rest : Point
-  pub end : Point
-  pub met : Met k end t
-  pub looked : Bool
-  pub operand : Runs (body (R.Operand q.first q.walk (is_ranged q.side))) (at s b) (Done first (at rest looked))
-  pub known_rest : verdict operator_known (next_at code rest).lexeme ≡ Fine
-  pub known_end : verdict operator_known (next_at code end).lexeme ≡ Fine
-  pub entered : Entered q.side
-  pub top : Top q.side f
-  pub shut : (o : Lexeme) → is_operator (behind_of o) ≡ true → left_fits (behind_of o) f ≡ true → Shut f (behind_of o)
-  pub climbs : Shut f (behind_at end) → (p : ℕ) → Agrees p q.side → (o : Outcome Node) → ((b : Bool) → Runs (body (climb (height_after q f) q.walk p (tree f q.walk))) (at end b) o) → (b : Bool) → Runs (body (climb (begins q first) q.walk p first)) (at rest b) o
 
 -- ---- operators
 
@@ -163,27 +125,3 @@ shut_left op pos l r o is h e = (not_true _ (sym (left_is (behind_of o) (behind_
 pub down : (o op : Lexeme) (u : Height) (pos : Position) (l r : Run) → left_fits (behind_of o) (Binary op pos l r) ≡ true → Top (RightOf op u) r → left_fits (behind_of o) r ≡ true
 down o op u pos l (Just x) e h = refl
 down o op u pos l (Binary inner at a b) e h = left_down (behind_of o) (behind_of op) (behind_of inner) (sensible o) (sensible op) e h
-
--- ---- expressions
-
-no_operator : (v : Behind) → W.ended_behind v ≡ Fine → is_operator v ≡ false
-no_operator (Operator n right) e = absurd cc
-no_operator (Unknown t) e = absurd cc
-no_operator Other e = refl
-
--- a run with the two ends of an expression
-pub expressed : {f : Run} (c : Settings) {w : Context} {k : Demands} {s : Point} {b : Bool} {t : Point} → verdict (room_due c) (next_at code s).lexeme ≡ Fine → Reads f (outermost (up c) w) (ended k) s true t → Reaches (body (Expression c w)) s b (tree f w) k t
-expressed {f = f} c {w = w} {s = s} m reads =
-    let q = outermost (up c) w in
-    let room = fine (room_due c) (next_at code s).lexeme m in
-    let ends = no_operator (behind_at reads.end) (fine run_ends (next_at code reads.end).lexeme reads.met.0).1 in
-    let agrees : Agrees 1 Outermost = λ l is e. outer (behind_of l) (sensible l) is in
-    let stop = none_goes 1 (behind_at reads.end) ends in
-    record {
-      end = reads.end;
-      met = reads.met.1;
-      looked = true;
-      runs = runs_look room.0 (runs_then _ (or_wrong (low c) _ room.1)
-          (runs_call (R.Operand (up c) w false) _ reads.operand (runs_tail (climb (begins q reads.first) w 1 reads.first)
-          (reads.climbs (shut_none f (behind_at reads.end) ends) 1 agrees _ (λ a. climb_stops w (height_after q f) 1 (tree f w) reads.end a reads.known_end stop) reads.looked))));
-    }
