@@ -9,8 +9,8 @@ use Rattle.rhai_grammar.specs.Causes.{refusal}
 use Rattle.rhai_grammar.specs.Contexts.{full}
 use Rattle.rhai_grammar.specs.Delivered.{code, Item, item, Point, next_at}
 use Rattle.rhai_grammar.specs.Demands.{Blames}
-use Rattle.rhai_grammar.specs.Beginnings.{Beginning, AName, AWord, AGroup, AnArray, AMap, beginning, sign_beginning, Calling, WithPair, WithList, WithBang, calling, sign_calling, Following, AComma, AClose, following, sign_following, is_close, closes_index, is_name, member_place, is_member}
-use Rattle.rhai_grammar.specs.Literals.{ItemPlace, ItemsEnd, AnItem, NoItem, too_many_items, sign_item, item_place, behind_item, sign_behind_item, KeyPlace, FieldsEnd, AKey, sign_key, key_place, is_colon, behind_value, sign_behind_value}
+use Rattle.rhai_grammar.specs.Beginnings.{Beginning, AName, AWord, AGroup, AnArray, AMap, beginning, Calling, WithPair, WithList, WithBang, calling, Following, AComma, AClose, following, is_close, closes_index, is_name, member_place, is_member}
+use Rattle.rhai_grammar.specs.Literals.{ItemPlace, ItemsEnd, AnItem, NoItem, too_many_items, item_place, behind_item, KeyPlace, FieldsEnd, AKey, key_place, is_colon, behind_value}
 use Rattle.rhai_grammar.specs.Written.{no_method}
 use Rattle.rhai_reading.proofs.Looks.{op_at, pos_at}
 
@@ -24,16 +24,12 @@ Begins AnArray i = i ≡ item (Sign token.LeftBracket) i.at
 Begins AMap i = i ≡ item (Sign token.MapStart) i.at
 Begins _ i = Unit {0}
 
-sign_begins : (t : Token) (p : Position) → Begins (sign_beginning t) (item (Sign t) p)
-sign_begins token.LeftParen p = refl
-sign_begins token.LeftBracket p = refl
-sign_begins token.MapStart p = refl
-sign_begins _ p = tt
-
 begins : (l : Lexeme) (p : Position) → Begins (beginning l) (item l p)
 begins (Name t) p = refl
 begins (Reserved t) p = refl
-begins (Sign t) p = sign_begins t p
+begins (Sign token.LeftParen) p = refl
+begins (Sign token.LeftBracket) p = refl
+begins (Sign token.MapStart) p = refl
 begins _ p = tt
 
 pub begun : {v : Beginning} (s : Point) → beginning (op_at s) ≡ v → Begins v (next_at code s)
@@ -47,14 +43,10 @@ Calls WithList i = i ≡ item (Sign token.LeftParen) i.at
 Calls WithBang i = i ≡ item (Sign token.Bang) i.at
 Calls _ i = Unit {0}
 
-sign_calls : (t : Token) (p : Position) → Calls (sign_calling t) (item (Sign t) p)
-sign_calls token.Unit p = refl
-sign_calls token.LeftParen p = refl
-sign_calls token.Bang p = refl
-sign_calls _ p = tt
-
 calls : (l : Lexeme) (p : Position) → Calls (calling l) (item l p)
-calls (Sign t) p = sign_calls t p
+calls (Sign token.Unit) p = refl
+calls (Sign token.LeftParen) p = refl
+calls (Sign token.Bang) p = refl
 calls _ p = tt
 
 pub called : {v : Calling} (s : Point) → calling (op_at s) ≡ v → Calls v (next_at code s)
@@ -68,13 +60,9 @@ Follows close AClose i = i ≡ item (Sign close) i.at
 Follows close _ i = Unit {0}
 
 -- an argument
-sign_follows : (t : Token) (p : Position) → Follows token.RightParen (sign_following t) (item (Sign t) p)
-sign_follows token.Comma p = refl
-sign_follows token.RightParen p = refl
-sign_follows _ p = tt
-
 follows : (l : Lexeme) (p : Position) → Follows token.RightParen (following l) (item l p)
-follows (Sign t) p = sign_follows t p
+follows (Sign token.Comma) p = refl
+follows (Sign token.RightParen) p = refl
 follows _ p = tt
 
 pub followed : {v : Following} (s : Point) → following (op_at s) ≡ v → Follows token.RightParen v (next_at code s)
@@ -89,26 +77,18 @@ pub closed : (s : Point) → is_close (following (op_at s)) ≡ true → next_at
 closed s e = followed s (only_close (following (op_at s)) e)
 
 -- an item of an array
-sign_follows_item : (t : Token) (p : Position) → Follows token.RightBracket (sign_behind_item t) (item (Sign t) p)
-sign_follows_item token.Comma p = refl
-sign_follows_item token.RightBracket p = refl
-sign_follows_item _ p = tt
-
 follows_item : (l : Lexeme) (p : Position) → Follows token.RightBracket (behind_item l) (item l p)
-follows_item (Sign t) p = sign_follows_item t p
+follows_item (Sign token.Comma) p = refl
+follows_item (Sign token.RightBracket) p = refl
 follows_item _ p = tt
 
 pub item_followed : {v : Following} (s : Point) → behind_item (op_at s) ≡ v → Follows token.RightBracket v (next_at code s)
 item_followed s e = subst (λ v. Follows token.RightBracket v (next_at code s)) e (follows_item (op_at s) (pos_at s))
 
 -- the value of a property
-sign_follows_value : (t : Token) (p : Position) → Follows token.RightBrace (sign_behind_value t) (item (Sign t) p)
-sign_follows_value token.Comma p = refl
-sign_follows_value token.RightBrace p = refl
-sign_follows_value _ p = tt
-
 follows_value : (l : Lexeme) (p : Position) → Follows token.RightBrace (behind_value l) (item l p)
-follows_value (Sign t) p = sign_follows_value t p
+follows_value (Sign token.Comma) p = refl
+follows_value (Sign token.RightBrace) p = refl
 follows_value _ p = tt
 
 pub value_followed : {v : Following} (s : Point) → behind_value (op_at s) ≡ v → Follows token.RightBrace v (next_at code s)
@@ -125,13 +105,9 @@ room_places : (full_ : Bool) (limit : ℕ) (i : Item) → Places (if full_ then 
 room_places true limit i = tt
 room_places false limit i = tt
 
-sign_places : (limit count : ℕ) (t : Token) (p : Position) → Places (sign_item limit count t) (item (Sign t) p)
-sign_places limit count token.RightBracket p = refl
-sign_places limit count token.EOF p = tt
-sign_places limit count t p = room_places (full limit count) limit (item (Sign t) p)
-
 places : (limit count : ℕ) (l : Lexeme) (p : Position) → Places (item_place limit count l) (item l p)
-places limit count (Sign t) p = sign_places limit count t p
+places limit count (Sign token.RightBracket) p = refl
+places limit count (Sign token.EOF) p = tt
 places limit count l p = room_places (full limit count) limit (item l p)
 
 pub placed : {v : ItemPlace} (limit count : ℕ) (s : Point) → item_place limit count (op_at s) ≡ v → Places v (next_at code s)
@@ -144,16 +120,11 @@ Keys FieldsEnd i = i ≡ item (Sign token.RightBrace) i.at
 Keys (AKey t) i = text_of i.lexeme ≡ t
 Keys _ i = Unit {0}
 
-sign_keys : (first : Bool) (t : Token) (p : Position) → Keys (sign_key first t) (item (Sign t) p)
-sign_keys first token.RightBrace p = refl
-sign_keys first token.EOF p = tt
-sign_keys first _ p = tt
-
 keys : (quoted first : Bool) (l : Lexeme) (p : Position) → Keys (key_place quoted first l) (item l p)
 keys quoted first (String t) p = refl
 keys true first (Name t) p = tt
 keys false first (Name t) p = refl
-keys quoted first (Sign t) p = sign_keys first t p
+keys quoted first (Sign token.RightBrace) p = refl
 keys quoted first _ p = tt
 
 pub keyed : {v : KeyPlace} (quoted first : Bool) (s : Point) → key_place quoted first (op_at s) ≡ v → Keys v (next_at code s)
