@@ -4,9 +4,12 @@ pub mod Strengths
 pub mod Rules
 pub mod Beginnings
 pub mod Tokens
-pub mod Places
+pub mod Lists
 pub mod Looks
-pub mod Rooms
+pub mod Paths
+pub mod Shows
+pub mod FormKinds
+pub mod Reaches
 pub mod Complete
 pub mod Local
 pub mod Readable
