@@ -1,24 +1,35 @@
--- What a form stands in, besides its settings.
+-- What a form stands in: what goes down into it, and what was defined before it.
 use Rattle.std.specs.Prelude.{◌≡◌, ℕ, Bool, true, false, ◌&&◌, not, List, [], nat_lt, refl}
 use Rattle.rhai_lower.specs.Slots.{SlotValue}
+use Rattle.rhai_grammar.specs.Settings as settings
+use Rattle.rhai_grammar.specs.Settings.{Settings}
 
 -- the most items that a literal of an array may have, and the most properties that one of an object map may have; 0 is no limit
 pub record Sizes : Type 0 where
   pub array : ℕ
   pub map : ℕ
 
+-- What goes down into a form, and is the same for all its parts but for the level: the settings, and the engine's limits.
 pub record Context : Type 0 where
+  pub settings : Settings
   pub sizes : Sizes
-  -- the slots of the variables that were defined before and are still live, the oldest first
+
+-- What was defined before a form, in written order, and can still be used.
+pub record Live : Type 0 where
+  -- the slots of the variables, the oldest first
   pub slots : List SlotValue
 
 -- where nothing was defined
-abbrev pub nothing_live : Sizes → Context
-nothing_live sizes = record { sizes = sizes; slots = [] }
+abbrev pub nothing_live : Live
+nothing_live = record { slots = [] }
 
--- where nothing was defined, and literals may have any size
-abbrev pub bare : Context
-bare = nothing_live (record { array = 0; map = 0 })
+-- a raise of the level finds room
+abbrev pub has_room : Context → Bool
+has_room c = settings.has_room c.settings
+
+-- one level deeper
+abbrev pub level_up : Context → Context
+level_up c = record c { settings = settings.level_up c.settings }
 
 -- A literal that has so many parts has no room for one more.
 abbrev pub full : (limit count : ℕ) → Bool

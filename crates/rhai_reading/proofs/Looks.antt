@@ -5,7 +5,7 @@ use Rattle.rhai_lower.specs.Nodes.{Node}
 use Rattle.rhai_lower.specs.declared.position.Position.{Position}
 use Rattle.rhai_grammar.specs.Causes.{Cause}
 use Rattle.rhai_grammar.specs.Delivered.{code, Point, next_at, is_memory}
-use Rattle.rhai_grammar.specs.Contexts.{Context}
+use Rattle.rhai_grammar.specs.Contexts.{Live}
 use Rattle.rhai_grammar.specs.Strengths.{Behind, Operator, Unknown, Other, behind_of}
 use Rattle.rhai_grammar.specs.Demands.{Verdict, Fine, Wrong, Otherwise, verdict}
 use Rattle.rhai_grammar.specs.Written.{Height}
@@ -25,7 +25,7 @@ operator_in (Operator n right) = Some (n, right)
 operator_in (Unknown t) = None
 operator_in Other = None
 
-abbrev pub climb : Height → Context → ℕ → Node → Goal
+abbrev pub climb : Height → Live → ℕ → Node → Goal
 climb h w p x = BinaryOp h.settings w h.at p x
 
 -- ---- verdicts that are fine

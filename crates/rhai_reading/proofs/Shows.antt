@@ -7,7 +7,7 @@ use Rattle.rhai_grammar.specs.Causes.{Cause, Refusal, refusal, out_of_memory, is
 use Rattle.rhai_grammar.specs.Beginnings.{Following, AComma, AClose, NoFollowing}
 use Rattle.rhai_grammar.specs.Delivered.{code, Item, Point, next_at, past, is_memory}
 use Rattle.rhai_grammar.specs.Seen.{StandsAtLast, is_at_last}
-use Rattle.rhai_grammar.specs.Settings.{Settings, low}
+use Rattle.rhai_grammar.specs.Contexts.{Context, has_room}
 use Rattle.rhai_grammar.specs.Demands as D
 use Rattle.rhai_grammar.specs.Demands.{Verdict, Fine, Wrong, Blames, Otherwise, Demands, ◌▸◌, Tok, Next, Test, verdict}
 use Rattle.rhai_reading.specs.Reading.{Goal, Val, Prog, Ret, Fail, Peek, Take, Call}
@@ -150,8 +150,8 @@ module _ {A F B : Type 0} {call : Histories} {Q : A → Point → Type 0} {K : K
   pub test : (t : Bool) (f : F) {e : Refusal} {p : Prog A} {s : Point} {b : Bool} → is_at_last e.cause ≡ false → (t ≡ false → (k : Demands) → Way (K.demands f k) from (Lost e s)) → (t ≡ true → Shows call Q (Halts K from) p s b) → Shows call Q (Halts K from) (if t then p else Fail e) s b
   test t f earlier way on = either t on (λ no_. halt f earlier (way no_))
 
-  pub raise : (c : Settings) (f : F) {pos : Position} {p : Prog A} {s : Point} {b : Bool} → (low c ≡ false → (k : Demands) → Way (K.demands f k) from (Lost (refusal cause.ExprTooDeep pos) s)) → (low c ≡ true → Shows call Q (Halts K from) p s b) → Shows call Q (Halts K from) (if low c then p else Fail (refusal cause.ExprTooDeep pos)) s b
-  raise c f way below = test (low c) f refl way below
+  pub raise : (c : Context) (f : F) {pos : Position} {p : Prog A} {s : Point} {b : Bool} → (has_room c ≡ false → (k : Demands) → Way (K.demands f k) from (Lost (refusal cause.ExprTooDeep pos) s)) → (has_room c ≡ true → Shows call Q (Halts K from) p s b) → Shows call Q (Halts K from) (if has_room c then p else Fail (refusal cause.ExprTooDeep pos)) s b
+  raise c f way below = test (has_room c) f refl way below
 
   -- a test of the token that was looked at
   pub check : (t : Bool) (f : F) {c : Cause} {p : Prog A} {s : Point} → (t ≡ false → (k : Demands) → Way (K.demands f k) from (Lost (refusal c (pos_at s)) s)) → (t ≡ true → Shows call Q (Halts K from) p s true) → Shows call Q (Halts K from) (if t then p else Fail (refusal c (pos_at s))) s true

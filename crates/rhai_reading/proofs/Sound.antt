@@ -38,7 +38,7 @@ step ih (R.Arguments c w name) s b = tells (C.arguments ih c w name s b)
 step ih (R.Items c w before) s b = tells (C.item_list ih c w before s b)
 step ih (R.Elements c w opening before) s b = tells (L.element_list ih c w opening before s b)
 step ih (R.Fields c w opening before) s b = tells (L.field_list ih c w opening before s b)
-step ih (R.NextKey c w before) s b = tells (L.next_key _ c w before s b)
+step ih (R.NextKey c before) s b = tells (L.next_key _ c before s b)
 step ih R.NextOperator s b = tells (N.next_operator _ s b)
 step ih (R.BinaryOp c w pos p lhs) s b =
     λ q from L live is height suits ended stands. tells (N.run ih c w pos p lhs s b q from L live is height suits ended stands)

@@ -3,7 +3,7 @@ use Rattle.std.proofs.Common.{◌≡◌, ℕ, Bool, true, false}
 use Rattle.rhai_lower.specs.Lexemes.{Lexeme}
 use Rattle.rhai_lower.specs.Nodes.{Node, position_of}
 use Rattle.rhai_grammar.specs.Delivered.{code, Point, next_at, is_memory}
-use Rattle.rhai_grammar.specs.Settings.{low}
+use Rattle.rhai_grammar.specs.Contexts.{has_room}
 use Rattle.rhai_grammar.specs.Beginnings.{calls}
 use Rattle.rhai_grammar.specs.Strengths.{Behind, behind_of, is_operator, strength}
 use Rattle.rhai_grammar.specs.Forms.{Run, Just, Binary}
@@ -48,7 +48,7 @@ Top side (Binary op pos l r) = side_fits side (behind_of op) ≡ true
 -- the level was raised there
 abbrev pub Entered : Side → Type 0
 Entered Outermost = Unit {0}
-Entered (RightOf op h) = low h.settings ≡ true
+Entered (RightOf op h) = has_room h.settings ≡ true
 
 -- where a run's operators begin, once its first operand was read
 abbrev pub begins : Spot → Node → Height
@@ -61,10 +61,10 @@ pub record Reads (f : Run) (q : Spot) (k : Demands) (s : Point) (b : Bool) (t : 
   pub end : Point
   pub met : Met k end t
   pub looked : Bool
-  pub operand : Runs (body (R.Operand q.first q.walk (is_ranged q.side))) (at s b) (Done first (at rest looked))
+  pub operand : Runs (body (R.Operand q.first q.live (is_ranged q.side))) (at s b) (Done first (at rest looked))
   pub known_rest : verdict operator_known (next_at code rest).lexeme ≡ Fine
   pub known_end : verdict operator_known (next_at code end).lexeme ≡ Fine
   pub entered : Entered q.side
   pub top : Top q.side f
   pub shut : (o : Lexeme) → is_operator (behind_of o) ≡ true → left_fits (behind_of o) f ≡ true → Shut f (behind_of o)
-  pub climbs : Shut f (behind_at end) → (p : ℕ) → Agrees p q.side → (o : Outcome Node) → ((b : Bool) → Runs (body (climb (height_after q f) q.walk p (tree f q.walk))) (at end b) o) → (b : Bool) → Runs (body (climb (begins q first) q.walk p first)) (at rest b) o
+  pub climbs : Shut f (behind_at end) → (p : ℕ) → Agrees p q.side → (o : Outcome Node) → ((b : Bool) → Runs (body (climb (height_after q f) q.live p (tree f q.live))) (at end b) o) → (b : Bool) → Runs (body (climb (begins q first) q.live p first)) (at rest b) o

@@ -6,8 +6,7 @@ use Rattle.rhai_lower.specs.declared.position.Position.{Position}
 use Rattle.rhai_lower.specs.declared.token.Token.TheVariants.{LeftParen, RightParen}
 use Rattle.rhai_grammar.specs.Causes.{Refusal}
 use Rattle.rhai_grammar.specs.Delivered.{code, Item, item, Point, next_at, past}
-use Rattle.rhai_grammar.specs.Settings.{Settings, low, up}
-use Rattle.rhai_grammar.specs.Contexts.{Context}
+use Rattle.rhai_grammar.specs.Contexts.{Context, Live, has_room, level_up}
 use Rattle.rhai_grammar.specs.Beginnings as begin
 use Rattle.rhai_grammar.specs.Beginnings.{Beginning, beginning, is_value, value_at, is_sign, is_range, closes, Calling, calling, calls, is_call, is_list, may_be_called, is_this, following, is_close, no_argument}
 use Rattle.rhai_grammar.specs.Forms as form
@@ -27,7 +26,7 @@ pub looks : (f : Lexeme → Bool) (s : Point) (i : Item) → next_at code s ≡ 
 looks f s i e h = ap (λ (j : Item). f j.lexeme) e ∙ h
 
 -- the first token of a primary
-pub begins_here : (x : Primary) (c : Settings) (w : Context) (ranged : Bool) (k : Demands) (s t : Point) → Met (W.primary x c w ranged k) s t → is_primary (beginning (op_at s)) ≡ true
+pub begins_here : (x : Primary) (c : Context) (w : Live) (ranged : Bool) (k : Demands) (s t : Point) → Met (W.primary x c w ranged k) s t → is_primary (beginning (op_at s)) ≡ true
 begins_here (form.Value token pos) c w ranged k s t m = looks (λ l. is_primary (beginning l)) s _ m.1.0 (value_primary (beginning token) m.0)
 begins_here (form.Named name pos) c w ranged k s t m = looks (λ l. is_primary (beginning l)) s _ m.0 refl
 begins_here (form.Word word pos) c w ranged k s t m = looks (λ l. is_primary (beginning l)) s _ m.0 refl
@@ -36,21 +35,21 @@ begins_here (form.Array opening list) c w ranged k s t m = looks (λ l. is_prima
 begins_here (form.Map opening list) c w ranged k s t m = looks (λ l. is_primary (beginning l)) s _ m.0 refl
 begins_here (form.Zero range pos) c w ranged k s t m = looks (λ l. is_primary (beginning l)) s _ m.1.0 (range_primary (beginning range) m.0)
 
-pub base_begins : (x : Base) (c : Settings) (w : Context) (ranged : Bool) (k : Demands) (s t : Point) → Met (W.base x c w ranged k) s t → is_primary (beginning (op_at s)) ≡ true
+pub base_begins : (x : Base) (c : Context) (w : Live) (ranged : Bool) (k : Demands) (s t : Point) → Met (W.base x c w ranged k) s t → is_primary (beginning (op_at s)) ≡ true
 base_begins (form.Plain x) c w ranged k s t m = begins_here x c w ranged _ s t m
 base_begins (form.Call x None args) c w ranged k s t m = begins_here x c w ranged _ s t m
 base_begins (form.Call x (Some bang) args) c w ranged k s t m = begins_here x c w ranged _ s t m
 
 module _ {x : Node} {k : Demands} {s : Point} {b : Bool} {t : Point} where
-  pub value_reaches : (c : Settings) (w : Context) (l : Lexeme) (pos : Position) (v : Beginning) → is_value v ≡ true → Reaches (Take (Ret (value_at pos v))) s b x k t → Reaches (primary_at c w l pos v) s b x k t
+  pub value_reaches : (c : Context) (w : Live) (l : Lexeme) (pos : Position) (v : Beginning) → is_value v ≡ true → Reaches (Take (Ret (value_at pos v))) s b x k t → Reaches (primary_at c w l pos v) s b x k t
   value_reaches c w l pos (begin.Single node) e r = r
   value_reaches c w l pos _ e r = absurd cc
 
-  pub range_reaches : (c : Settings) (w : Context) (l : Lexeme) (pos : Position) (v : Beginning) → is_range v ≡ true → Reaches (Ret (integer (lib.IntN.pos 0) pos)) s b x k t → Reaches (primary_at c w l pos v) s b x k t
+  pub range_reaches : (c : Context) (w : Live) (l : Lexeme) (pos : Position) (v : Beginning) → is_range v ≡ true → Reaches (Ret (integer (lib.IntN.pos 0) pos)) s b x k t → Reaches (primary_at c w l pos v) s b x k t
   range_reaches c w l pos begin.ARange e r = r
   range_reaches c w l pos _ e r = absurd cc
 
-  pub sign_reaches : (c : Settings) (w : Context) (l : Lexeme) (pos : Position) (v : Beginning) → is_sign v ≡ true → Reaches (Take (R.raised c pos (λ d. Call (R.Operand d w false) (R.sign_on l pos)))) s b x k t → Reaches (operand_by c w l pos v) s b x k t
+  pub sign_reaches : (c : Context) (w : Live) (l : Lexeme) (pos : Position) (v : Beginning) → is_sign v ≡ true → Reaches (Take (R.raised c pos (λ d. Call (R.Operand d w false) (R.sign_on l pos)))) s b x k t → Reaches (operand_by c w l pos v) s b x k t
   sign_reaches c w l pos begin.ASign e r = r
   sign_reaches c w l pos _ e r = absurd cc
 
@@ -65,11 +64,11 @@ word_by false true false x y d e k s t b h ok m = absurd cc
 word_by false false function x y d e k s t b h ok m = absurd cc
 
 -- the links behind an operand
-abbrev pub links_on : Settings → Context → Node → Prog Node
+abbrev pub links_on : Context → Live → Node → Prog Node
 links_on c w y = Call (R.Links w (behind_operand c y)) (λ ls. Ret (chained y ls))
 
 -- an operand that no sign stands before, and that is written
-pub opened : (c : Settings) (w : Context) (ranged : Bool) {s : Point} {b : Bool} {x : Node} {k : Demands} {t : Point} → is_primary (beginning (op_at s)) ≡ true
+pub opened : (c : Context) (w : Live) (ranged : Bool) {s : Point} {b : Bool} {x : Node} {k : Demands} {t : Point} → is_primary (beginning (op_at s)) ≡ true
     → Reaches (Call (R.Primary c w) (λ x. Call (R.Postfix c w x) (links_on c w))) s true x k t → Reaches (body (R.Operand c w ranged)) s b x k t
 opened c w ranged {s = s} {x = x} {k = k} {t = t} e r =
     let g = primary_begun (beginning (op_at s)) e in
@@ -81,6 +80,6 @@ opened c w ranged {s = s} {x = x} {k = k} {t = t} e r =
     plain _ e = r
 
 -- an expression in parentheses, from what its inside comes to
-pub group : (c : Settings) (w : Context) {x : Node} {opening closing : Position} {k : Demands} {s t : Point} {b : Bool} → next_at code s ≡ item (Sign LeftParen) opening → low c ≡ true
-    → Reaches (body (R.Expression (up c) w)) (past code s) false x (Tok code (item (Sign RightParen) closing) W.close_due ▸ k) t → Reaches (body (R.Primary c w)) s b x k t
+pub group : (c : Context) (w : Live) {x : Node} {opening closing : Position} {k : Demands} {s t : Point} {b : Bool} → next_at code s ≡ item (Sign LeftParen) opening → has_room c ≡ true
+    → Reaches (body (R.Expression (level_up c) w)) (past code s) false x (Tok code (item (Sign RightParen) closing) W.close_due ▸ k) t → Reaches (body (R.Primary c w)) s b x k t
 group c w here below inside = due here refl refl (if_true _ below (part inside (λ u l n. due n.0 refl refl (ret n.1))))

@@ -6,8 +6,7 @@ use Rattle.rhai_lower.specs.declared.position.Position.{Position}
 use Rattle.rhai_grammar.specs.Causes as cause
 use Rattle.rhai_grammar.specs.Causes.{Cause, Refusal, refusal}
 use Rattle.rhai_grammar.specs.Delivered.{code, Item, item, Point, next_at, past}
-use Rattle.rhai_grammar.specs.Settings.{Settings, up}
-use Rattle.rhai_grammar.specs.Contexts.{Context}
+use Rattle.rhai_grammar.specs.Contexts.{Context, Live, level_up}
 use Rattle.rhai_grammar.specs.Beginnings.{beginning, is_range}
 use Rattle.rhai_grammar.specs.Operators.{operator_tree}
 use Rattle.rhai_grammar.specs.Strengths.{Behind, Operator, Unknown, Other, behind_of, is_operator, strength, is_right}
@@ -51,12 +50,12 @@ pub entering : (side : Side) (k : Demands) (s t : Point) → Met (raise_behind s
 entering Outermost k s t m = (tt, m)
 entering (RightOf op h) k s t m = m
 
-pub stops : (c : Settings) (w : Context) (pos : Position) (p : ℕ) (x : Node) (s : Point) (v : Behind) → next_goes_on p v ≡ false → Runs (binary_at c w pos p x (operator_in v)) (at s true) (Done x (at s true))
+pub stops : (c : Context) (w : Live) (pos : Position) (p : ℕ) (x : Node) (s : Point) (v : Behind) → next_goes_on p v ≡ false → Runs (binary_at c w pos p x (operator_in v)) (at s true) (Done x (at s true))
 stops c w pos p x s (Operator n right) e = runs_else _ e (runs_ret x (at s true))
 stops c w pos p x s (Unknown t) e = runs_ret x (at s true)
 stops c w pos p x s Other e = runs_ret x (at s true)
 
-pub climb_stops : (w : Context) (h : Height) (p : ℕ) (x : Node) (s : Point) (b : Bool) → verdict operator_known (next_at code s).lexeme ≡ Fine → next_goes_on p (behind_at s) ≡ false → Runs (body (climb h w p x)) (at s b) (Done x (at s true))
+pub climb_stops : (w : Live) (h : Height) (p : ℕ) (x : Node) (s : Point) (b : Bool) → verdict operator_known (next_at code s).lexeme ≡ Fine → next_goes_on p (behind_at s) ≡ false → Runs (body (climb h w p x)) (at s b) (Done x (at s true))
 climb_stops w h p x s b known e = runs_call NextOperator (binary_at h.settings w h.at p x) (next_operator s b known) (stops h.settings w h.at p x s (behind_at s) e)
 
 -- ---- operators
@@ -87,7 +86,7 @@ known_at : (op : Lexeme) (pos : Position) (s : Point) → StandsAt op pos s → 
 known_at op pos s at e = subst (λ (i : Item). verdict operator_known i.lexeme ≡ Fine) (sym at) (is_known op e)
 
 -- an operator that goes on
-goes : (w : Context) (h : Height) (p : ℕ) (x : Node) (op : Lexeme) (pos : Position) (s : Point) (o : Outcome Node) → StandsAt op pos s → is_operator (behind_of op) ≡ true → next_goes_on p (behind_of op) ≡ true → Runs (binary_on h.settings w h.at p x (strength (behind_of op)) op pos) (at s true) o → (b : Bool) → Runs (body (climb h w p x)) (at s b) o
+goes : (w : Live) (h : Height) (p : ℕ) (x : Node) (op : Lexeme) (pos : Position) (s : Point) (o : Outcome Node) → StandsAt op pos s → is_operator (behind_of op) ≡ true → next_goes_on p (behind_of op) ≡ true → Runs (binary_on h.settings w h.at p x (strength (behind_of op)) op pos) (at s true) o → (b : Bool) → Runs (body (climb h w p x)) (at s b) o
 goes w h p x op pos s o stands is on r b =
     let v = behind_of op in
     let some : operator_in (behind_at s) ≡ Some (strength v, is_right v) = ap (λ (i : Item). operator_in (behind_of i.lexeme)) stands ∙ in_operator v is in
@@ -97,10 +96,10 @@ goes w h p x op pos s o stands is on r b =
 
 pub step : (q : Spot) (op : Lexeme) (pos : Position) (l r : Run) (k : Demands) (p : ℕ) (s t : Point) (o : Outcome Node)
     → is_operator (behind_of op) ≡ true → next_goes_on p (behind_of op) ≡ true → StandsAt op pos s
-    → (right : Reads r (right_side op (height_after q l) q.walk) (operands_fit op (tree l q.walk) (tree r q.walk) k) (past code s) false t) → Shut r (behind_at right.end) → next_goes_on (strength (behind_of op)) (behind_at right.end) ≡ false
-    → ((b : Bool) → Runs (body (climb (height_after q (Binary op pos l r)) q.walk p (tree (Binary op pos l r) q.walk))) (at right.end b) o) → (b : Bool) → Runs (body (climb (height_after q l) q.walk p (tree l q.walk))) (at s b) o
+    → (right : Reads r (right_side op (height_after q l) q.live) (operands_fit op (tree l q.live) (tree r q.live) k) (past code s) false t) → Shut r (behind_at right.end) → next_goes_on (strength (behind_of op)) (behind_at right.end) ≡ false
+    → ((b : Bool) → Runs (body (climb (height_after q (Binary op pos l r)) q.live p (tree (Binary op pos l r) q.live))) (at right.end b) o) → (b : Bool) → Runs (body (climb (height_after q l) q.live p (tree l q.live))) (at s b) o
 step q op pos l r k p s t o is on stands right shut stop h b =
-    let w = q.walk in
+    let w = q.live in
     let u = height_after q l in
     let n = strength (behind_of op) in
     let x = tree l w in
@@ -114,7 +113,7 @@ step q op pos l r k p s t o is on stands right shut stop h b =
     (runs_call (R.Operand u.settings w (is_range (beginning op))) _ right.operand
     (runs_call NextOperator _ (next_operator right.rest right.looked right.known_rest)
     (runs_then (Fail (refusal cause.ExprTooDeep u.at)) right.entered
-    (runs_call (climb (begins side right.first) w n right.first) (binary_next (up u.settings) w p x op pos) tighter
+    (runs_call (climb (begins side right.first) w n right.first) (binary_next (level_up u.settings) w p x op pos) tighter
     (runs_then _ right.met.1.0 (runs_then _ right.met.1.1.0
     (runs_tail (climb (height_after q (Binary op pos l r)) w p (operator_tree op pos x y)) (h true))))))))) b
 

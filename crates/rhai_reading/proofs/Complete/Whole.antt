@@ -2,8 +2,7 @@
 use Rattle.std.proofs.Common.{◌≡◌, Bool, true, false, refl, subst}
 use Rattle.rhai_lower.specs.Nodes.{Node}
 use Rattle.rhai_grammar.specs.Delivered.{code, Point, next_at, is_end}
-use Rattle.rhai_grammar.specs.Settings.{Settings, low, up}
-use Rattle.rhai_grammar.specs.Contexts.{Context}
+use Rattle.rhai_grammar.specs.Contexts.{Context, Live, has_room, level_up}
 use Rattle.rhai_grammar.specs.Strengths.{Behind, Operator, Unknown, Other, behind_of, is_operator}
 use Rattle.rhai_grammar.specs.Forms.{Run}
 use Rattle.rhai_grammar.specs.Trees.{tree}
@@ -26,9 +25,9 @@ no_operator (Unknown t) e = absurd cc
 no_operator Other e = refl
 
 -- a run with the two ends of an expression
-pub expressed : {f : Run} (c : Settings) {w : Context} {k : Demands} {s : Point} {b : Bool} {t : Point} → verdict (room_due c) (next_at code s).lexeme ≡ Fine → Reads f (outermost (up c) w) (ended k) s true t → Reaches (body (Expression c w)) s b (tree f w) k t
+pub expressed : {f : Run} (c : Context) {w : Live} {k : Demands} {s : Point} {b : Bool} {t : Point} → verdict (room_due c) (next_at code s).lexeme ≡ Fine → Reads f (outermost (level_up c) w) (ended k) s true t → Reaches (body (Expression c w)) s b (tree f w) k t
 expressed {f = f} c {w = w} {s = s} m reads =
-    let q = outermost (up c) w in
+    let q = outermost (level_up c) w in
     let room = fine (room_due c) (next_at code s).lexeme m in
     let ends = no_operator (behind_at reads.end) (fine run_ends (next_at code reads.end).lexeme reads.met.0).1 in
     let agrees : Agrees 1 Outermost = λ l is e. outer (behind_of l) (sensible l) is in
@@ -37,13 +36,13 @@ expressed {f = f} c {w = w} {s = s} m reads =
       end = reads.end;
       met = reads.met.1;
       looked = true;
-      runs = runs_look room.0 (runs_then _ (or_wrong (low c) _ room.1)
-          (runs_call (R.Operand (up c) w false) _ reads.operand (runs_tail (climb (begins q reads.first) w 1 reads.first)
+      runs = runs_look room.0 (runs_then _ (or_wrong (has_room c) _ room.1)
+          (runs_call (R.Operand (level_up c) w false) _ reads.operand (runs_tail (climb (begins q reads.first) w 1 reads.first)
           (reads.climbs (shut_none f (behind_at reads.end) ends) 1 agrees _ (λ a. climb_stops w (height_after q f) 1 (tree f w) reads.end a reads.known_end stop) reads.looked))));
     }
 
 -- a whole stream, from what its expression comes to
-pub whole : (c : Settings) (w : Context) {x : Node} {s t : Point} {b : Bool} → Reaches (body (Expression c w)) s b x (Next end_due ▸ Nothing) t → Runs (body (Whole c w)) (at s b) (Done x (at t true))
+pub whole : (c : Context) (w : Live) {x : Node} {s t : Point} {b : Bool} → Reaches (body (Expression c w)) s b x (Next end_due ▸ Nothing) t → Runs (body (Whole c w)) (at s b) (Done x (at t true))
 whole c w {x = x} e =
     let end = fine end_due (op_at e.end) e.met.0 in
     runs_call (Expression c w) _ e.runs (runs_look end.0 (runs_then _ (or_wrong (is_end (op_at e.end)) _ end.1)

@@ -8,8 +8,7 @@ use Rattle.rhai_lower.specs.Nodes.{Node, Nodes, no_nodes, with_node, position_of
 use Rattle.rhai_lower.specs.declared.position.Position.{Position}
 use Rattle.rhai_lower.specs.declared.token.Token.TheVariants as token
 use Rattle.rhai_grammar.specs.Delivered.{code, item, Point, next_at, past, is_memory}
-use Rattle.rhai_grammar.specs.Settings.{Settings, up}
-use Rattle.rhai_grammar.specs.Contexts.{Context}
+use Rattle.rhai_grammar.specs.Contexts.{Context, Live, level_up}
 use Rattle.rhai_grammar.specs.Beginnings as begin
 use Rattle.rhai_grammar.specs.Beginnings.{Calling, calling, calls, is_call, Following, following, is_close, no_argument}
 use Rattle.rhai_grammar.specs.Forms as form
@@ -33,15 +32,15 @@ abbrev with_paren : Position → Enclosed → Arguments
 with_paren opening (Closed closing) = form.Empty opening closing
 with_paren opening (Listing list) = form.Listed opening list
 
-paren : (list : Enclosed) (others : Lexeme → Verdict) (c : Settings) (w : Context) (name : Position) (k : Demands) {u : Point} {o : Aim} → next_at code u ≡ item (Sign token.LeftParen) (pos_at u) → Way (enclosed_of c w name list k) (past code u) o → Way (W.arguments (with_paren (pos_at u) list) others c w name k) u o
+paren : (list : Enclosed) (others : Lexeme → Verdict) (c : Context) (w : Live) (name : Position) (k : Demands) {u : Point} {o : Aim} → next_at code u ≡ item (Sign token.LeftParen) (pos_at u) → Way (enclosed_of c w name list k) (past code u) o → Way (W.arguments (with_paren (pos_at u) list) others c w name k) u o
 paren (Closed closing) others c w name k here r = here ▹ r
 paren (Listing list) others c w name k here r = here ▹ r
 
-paren_trees : (w : Context) (opening : Position) (list : Enclosed) → argument_trees (with_paren opening list) w ≡ enclosed_trees w list
+paren_trees : (w : Live) (opening : Position) (list : Enclosed) → argument_trees (with_paren opening list) w ≡ enclosed_trees w list
 paren_trees w opening (Closed closing) = refl
 paren_trees w opening (Listing list) = refl
 
-module _ {call : Histories} (ih : AllSound call) (c : Settings) (w : Context) (name : Position) (s : Point) where
+module _ {call : Histories} (ih : AllSound call) (c : Context) (w : Live) (name : Position) (s : Point) where
   -- the arguments begin at u, behind what leads there
   module _ (bang : Option Position) (others : Lexeme → Verdict) (u : Point) (b : Bool) (lead : (args : Arguments) (k : Demands) (o : Aim) → Way (W.arguments args others c w name k) u o → Way (call_of c w name (By bang args) k) s o) where
     pair : calling (op_at u) ≡ begin.WithPair → Goes call (callings c w name) s (Take (Ret (is_some bang, no_nodes))) u b
@@ -74,11 +73,11 @@ module _ {call : Histories} (ih : AllSound call) (c : Settings) (w : Context) (n
 abbrev with_call : Primary → CallForm → Base
 with_call x (By bang args) = form.Call x bang args
 
-with_call_tree : (p : Primary) (w : Context) (f : CallForm) → base_tree (with_call p f) w ≡ call_tree (primary_tree p w true) (call_answer w f).0 (call_answer w f).1
+with_call_tree : (p : Primary) (w : Live) (f : CallForm) → base_tree (with_call p f) w ≡ call_tree (primary_tree p w true) (call_answer w f).0 (call_answer w f).1
 with_call_tree p w (By bang args) = refl
 
 -- only a variable's tree depends on whether something calls it
-same_tree : (p : Primary) (w : Context) (b : Bool) → is_variable (primary_tree p w b) ≡ false → primary_tree p w false ≡ primary_tree p w b
+same_tree : (p : Primary) (w : Live) (b : Bool) → is_variable (primary_tree p w b) ≡ false → primary_tree p w false ≡ primary_tree p w b
 same_tree p w false e = refl
 same_tree (form.Named name pos) w true e = absurd cc
 same_tree (form.Value l pos) w true e = refl
@@ -88,7 +87,7 @@ same_tree (form.Array opening list) w true e = refl
 same_tree (form.Map opening list) w true e = refl
 same_tree (form.Zero range pos) w true e = refl
 
-module _ {call : Histories} (ih : AllSound call) (c : Settings) (w : Context) (ranged : Bool) (from : Point) (p : Primary) (s : Point) (G : Passed (primaries c w ranged) p from s) where
+module _ {call : Histories} (ih : AllSound call) (c : Context) (w : Live) (ranged : Bool) (from : Point) (p : Primary) (s : Point) (G : Passed (primaries c w ranged) p from s) where
   call_way : is_variable (primary_tree p w true) ≡ true → (f : CallForm) (k : Demands) (o : Aim) → Way (call_of c w (position_of (primary_tree p w true)) f k) s o → Way (W.base (with_call p f) c w ranged k) from o
   call_way v (By None args) k o r = G.on (v ▹ r)
   call_way v (By (Some bang) args) k o r = G.on (v ▹ r)
@@ -109,13 +108,13 @@ module _ {call : Histories} (ih : AllSound call) (c : Settings) (w : Context) (r
 
 -- ---- arguments
 
-module _ {call : Histories} (ih : AllSound call) (c : Settings) (w : Context) where
+module _ {call : Histories} (ih : AllSound call) (c : Context) (w : Live) where
   pub arguments : (name : Position) (s : Point) (b : Bool) → Goes call (enclosed c w name) s (body (R.Arguments c w name)) s b
   arguments name s b = look (λ m.
       either (no_argument (op_at s)) (λ none. refuse (Closed nowhere) (λ k. wrong m (rw none))) (λ some.
       either (is_close (following (op_at s))) (λ close. take (done (Closed (pos_at s)) (λ k o r. closed s close ▹ r))) (λ due.
       raise c (Listing any_items) (λ high k. fine m (rw (some, due)) ▹ fails high) (λ below.
-      ends (ih.of (R.Items (up c) w no_nodes) s true) Listing (λ t l. refl) (λ l k o r. fine m (rw (some, due)) ▹ below ▹ r)))))
+      ends (ih.of (R.Items (level_up c) w no_nodes) s true) Listing (λ t l. refl) (λ l k o r. fine m (rw (some, due)) ▹ below ▹ r)))))
 
   pub item_list : (before : Nodes) (s : Point) (b : Bool) → Goes call (items c w before) s (body (R.Items c w before)) s b
   item_list before s b =

@@ -11,8 +11,7 @@ use Rattle.rhai_grammar.specs.Causes as cause
 use Rattle.rhai_grammar.specs.Causes.{Refusal, refusal}
 use Rattle.rhai_grammar.specs.Delivered.{code, Point, past, is_memory}
 use Rattle.rhai_grammar.specs.Seen.{is_at_last}
-use Rattle.rhai_grammar.specs.Settings.{Settings, low, up}
-use Rattle.rhai_grammar.specs.Contexts.{Context}
+use Rattle.rhai_grammar.specs.Contexts.{Context, Live, has_room, level_up}
 use Rattle.rhai_grammar.specs.Beginnings as begin
 use Rattle.rhai_grammar.specs.Beginnings.{calls, Linking, linking, is_bracket, is_dot, closes_index, is_name, MemberPlace, AMember, NoMember, member_place, is_member}
 use Rattle.rhai_grammar.specs.Chains as chain
@@ -78,10 +77,10 @@ faulted {e = e} k {s = s} is = subst (λ f. Way (W.unfaulted f k) s (Lost e s)) 
 
 -- ---- the index in a bracket, and the member behind a dot
 
-method_is : (w : Context) (name : Lexeme) (is : is_member (member_place name) ≡ true) (pos : Position) (f : CallForm) → member_tree w (AMethod name is pos f) ≡ method_tree (text_of name) pos (call_answer w f).0 (call_answer w f).1
+method_is : (w : Live) (name : Lexeme) (is : is_member (member_place name) ≡ true) (pos : Position) (f : CallForm) → member_tree w (AMethod name is pos f) ≡ method_tree (text_of name) pos (call_answer w f).0 (call_answer w f).1
 method_is w name is pos (By bang args) = refl
 
-module _ {call : Histories} (ih : AllSound call) (c : Settings) (w : Context) where
+module _ {call : Histories} (ih : AllSound call) (c : Context) (w : Live) where
   index_by : (indexed : Option Node) (s : Point) (f : Run) (t : Point) (b : Bool) → Passed (expressions c w) f s t → (v : Option Refusal) → index_refusal indexed (tree f w) ≡ v
       → Goes call (indices c w indexed) s (R.index_on (tree f w) v) t b
   index_by indexed s f t b G None e =
@@ -109,19 +108,19 @@ abbrev with_member : (dot : Lexeme) → Position → MemberForm → Links → Li
 with_member dot pos (AProperty name name_at) rest = form.Property dot pos name name_at rest
 with_member dot pos (AMethod name is name_at (By bang args)) rest = form.Method dot pos name name_at bang args rest
 
-member_links : (w : Context) (dot : Lexeme) (pos : Position) (before : List Link) (f : MemberForm) (rest : Links)
+member_links : (w : Live) (dot : Lexeme) (pos : Position) (before : List Link) (f : MemberForm) (rest : Links)
     → before ++ link_list (with_member dot pos f rest) w ≡ (before ++ (member_link dot pos (member_tree w f) ∷ [])) ++ link_list rest w
 member_links w dot pos before (AProperty name name_at) rest = sym (behind_one_more before _ (link_list rest w))
 member_links w dot pos before (AMethod name is name_at (By bang args)) rest = sym (behind_one_more before _ (link_list rest w))
 
-module _ {call : Histories} (ih : AllSound call) (w : Context) (q : LinkSpot) (s : Point) where
+module _ {call : Histories} (ih : AllSound call) (w : Live) (q : LinkSpot) (s : Point) where
   -- behind the last link
   links_end : Fits W.unlinked s → (v : Option Refusal) → last_fault q.before ≡ v → Goes call (links w q) s (R.links_end q.before v) s true
   links_end free None e = gives form.NoLink (append-nil q.before) (λ k o r. free ▹ unfaulted e r)
   links_end free (Some d) e = halt form.NoLink (early _ d (last_early q.before) e) (λ k. free ▹ faulted k e)
 
-  dot_way : is_dot (linking (op_at s)) ≡ true → Fits W.member_due (past code s) → low q.settings ≡ true → (f : MemberForm) (rest : Links) (k : Demands) (o : Aim)
-      → Way (member_of (up q.settings) w f (W.links rest (behind_dot q (member_link (op_at s) (pos_at s) (member_tree w f))) w k)) (past code s) o → Way (W.links (with_member (op_at s) (pos_at s) f rest) q w k) s o
+  dot_way : is_dot (linking (op_at s)) ≡ true → Fits W.member_due (past code s) → has_room q.settings ≡ true → (f : MemberForm) (rest : Links) (k : Demands) (o : Aim)
+      → Way (member_of (level_up q.settings) w f (W.links rest (behind_dot q (member_link (op_at s) (pos_at s) (member_tree w f))) w k)) (past code s) o → Way (W.links (with_member (op_at s) (pos_at s) f rest) q w k) s o
   dot_way dot due below (AProperty name pos) rest k o r = dot ▹ refl ▹ due ▹ below ▹ r
   dot_way dot due below (AMethod name is pos (By None args)) rest k o r = dot ▹ is ▹ refl ▹ due ▹ below ▹ r
   dot_way dot due below (AMethod name is pos (By (Some bang) args)) rest k o r = dot ▹ is ▹ refl ▹ due ▹ below ▹ r
@@ -133,7 +132,7 @@ module _ {call : Histories} (ih : AllSound call) (w : Context) (q : LinkSpot) (s
       let t = past code s in
       let due : Fits W.member_due t = fine m (rw e) in
       raise q.settings (form.Property (op_at s) (pos_at s) [] nowhere form.NoLink) (λ high k. dot ▹ refl ▹ due ▹ fails high) (λ below.
-      first (ih.of (R.Member (up q.settings) w) t true (ap is_member e)) (with_member (op_at s) (pos_at s)) form.NoLink (dot_way dot due below) (λ f u a.
+      first (ih.of (R.Member (level_up q.settings) w) t true (ap is_member e)) (with_member (op_at s) (pos_at s)) form.NoLink (dot_way dot due below) (λ f u a.
       ends (ih.of (R.Links w (behind_dot q (member_link (op_at s) (pos_at s) (member_tree w f)))) u a) (λ rest. rest) (λ v rest. member_links w (op_at s) (pos_at s) q.before f rest) (λ rest k o r. r)))
   dot_by dot (NoMember why) e m = refuse (form.Property (op_at s) (pos_at s) [] nowhere form.NoLink) (λ k. dot ▹ refl ▹ ill m (rw e))
 
@@ -141,8 +140,8 @@ module _ {call : Histories} (ih : AllSound call) (w : Context) (q : LinkSpot) (s
   links_by begin.ABracket e m =
       let bracket = ap is_bracket e in
       let any = form.Bracket (op_at s) (pos_at s) any_run nowhere form.NoLink in
-      take (raise q.brackets any (λ high k. bracket ▹ refl ▹ fails high) (λ below. raise (up q.brackets) any (λ high k. bracket ▹ refl ▹ below ▹ fails high) (λ deeper.
-      first (ih.of (R.Index (up (up q.brackets)) w q.indexed) (past code s) false) (λ f rest. form.Bracket (op_at s) (pos_at s) f.index f.closing rest) form.NoLink (λ f rest k o r. bracket ▹ refl ▹ below ▹ deeper ▹ r) (λ f u a.
+      take (raise q.brackets any (λ high k. bracket ▹ refl ▹ fails high) (λ below. raise (level_up q.brackets) any (λ high k. bracket ▹ refl ▹ below ▹ fails high) (λ deeper.
+      first (ih.of (R.Index (level_up (level_up q.brackets)) w q.indexed) (past code s) false) (λ f rest. form.Bracket (op_at s) (pos_at s) f.index f.closing rest) form.NoLink (λ f rest k o r. bracket ▹ refl ▹ below ▹ deeper ▹ r) (λ f u a.
       ends (ih.of (R.Links w (behind_bracket q (bracket_link (op_at s) (pos_at s) (tree f.index w)))) u a) (λ rest. rest) (λ v rest. sym (behind_one_more q.before _ (link_list rest w))) (λ rest k o r. r)))))
   links_by begin.ADot e m = take (look (λ n. dot_by (ap is_dot e) (member_place (op_at (past code s))) refl n))
   links_by begin.NoLinking e m = links_end (fine m (rw e)) (last_fault q.before) refl

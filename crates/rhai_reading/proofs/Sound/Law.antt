@@ -7,8 +7,7 @@ use Rattle.rhai_lower.specs.Nodes.{Node}
 use Rattle.rhai_grammar.specs.Causes.{Refusal}
 use Rattle.rhai_grammar.specs.Delivered.{Point}
 use Rattle.rhai_grammar.specs.Seen.{StandsAtLast}
-use Rattle.rhai_grammar.specs.Settings.{Settings}
-use Rattle.rhai_grammar.specs.Contexts.{Context}
+use Rattle.rhai_grammar.specs.Contexts.{Context, Live}
 use Rattle.rhai_grammar.specs.Beginnings.{beginning, is_sign, closes, calls, member_place, is_member}
 use Rattle.rhai_grammar.specs.Strengths.{Behind, behind_of, strength}
 use Rattle.rhai_grammar.specs.Forms as form
@@ -47,17 +46,17 @@ pub record Stands (q : Spot) (from : Point) (L : Run) (s : Point) : Type 0 where
 -- A run was read, and nothing goes on with it.
 pub record RunRead (q : Spot) (p : ℕ) (from : Point) (x : Node) (t : Point) : Type 0 where
   pub form : Run
-  pub is : tree form q.walk ≡ x
+  pub is : tree form q.live ≡ x
   pub passes : Passed (runs q) form from t
   pub off : next_goes_on p (behind_at t) ≡ false
   pub known : Fits operator_known t
 
 -- ---- the whole
 
-abbrev pub WholeRead : Settings → Context → Point → Node → Point → Type 0
+abbrev pub WholeRead : Context → Live → Point → Node → Point → Type 0
 WholeRead c w s x t = (f : Run) × (tree f w ≡ x) × Met (W.whole_expression f c w) s t
 
-abbrev pub WholeHalts : Settings → Context → Point → Refusal → State → Type 0
+abbrev pub WholeHalts : Context → Live → Point → Refusal → State → Type 0
 WholeHalts c w s e u = (f : Run) × Missed (W.whole_expression f c w) s e u.point × StandsAtLast e (cursor u)
 
 -- ---- the law
@@ -76,9 +75,9 @@ Sound (R.Arguments c w name) s o = Answers (enclosed c w name) s o
 Sound (R.Items c w before) s o = Answers (items c w before) s o
 Sound (R.Elements c w opening before) s o = Answers (elements c w opening before) s o
 Sound (R.Fields c w opening before) s o = Answers (fields c w opening before) s o
-Sound (R.NextKey c w before) s o = Answers (next_keys c w before) s o
+Sound (R.NextKey c before) s o = Answers (next_keys c before) s o
 Sound R.NextOperator s o = Tells (λ v t. (t ≡ s) × (v ≡ operator_in (behind_at s)) × Fits operator_known s) (λ e u. Fails (Next operator_known) s e × (u.point ≡ s) × StandsAtLast e (cursor u)) o
-Sound (R.BinaryOp c w pos p lhs) s o = (q : Spot) (from : Point) (L : Run) → q.walk ≡ w → tree L q.walk ≡ lhs → height_after q L ≡ record { settings = c; at = pos } → Suits p q.side → Ended L (behind_at s) → Stands q from L s
+Sound (R.BinaryOp c w pos p lhs) s o = (q : Spot) (from : Point) (L : Run) → q.live ≡ w → tree L q.live ≡ lhs → height_after q L ≡ record { settings = c; at = pos } → Suits p q.side → Ended L (behind_at s) → Stands q from L s
     → Tells (RunRead q p from) (Halts (runs q) from) o
 
 pub record AllSound (call : Histories) : Type 0 where

@@ -4,8 +4,8 @@ use Rattle.std.specs.Prelude.{◌&&◌}
 use Rattle.rhai_lower.specs.Positions.{nowhere}
 use Rattle.rhai_lower.specs.Nodes.{no_nodes, no_properties}
 use Rattle.rhai_grammar.specs.Delivered.{code, Point, past, is_memory}
-use Rattle.rhai_grammar.specs.Settings.{Settings, up, in_function}
-use Rattle.rhai_grammar.specs.Contexts.{Context}
+use Rattle.rhai_grammar.specs.Settings.{in_function}
+use Rattle.rhai_grammar.specs.Contexts.{Context, Live, level_up}
 use Rattle.rhai_grammar.specs.Beginnings as begin
 use Rattle.rhai_grammar.specs.Beginnings.{Beginning, beginning, is_value, is_sign, is_range, closes, calls, following, is_close, may_be_called, is_this, value_at}
 use Rattle.rhai_grammar.specs.Signs.{sign_holds}
@@ -23,7 +23,7 @@ use Rattle.rhai_reading.proofs.Shows.{Histories, Goes, wrong, blamed, fine, fail
 use Rattle.rhai_reading.proofs.FormKinds.{tree_before, operands, primaries}
 use Rattle.rhai_reading.proofs.Sound.Law.{AllSound, any_primary, any_operand, any_run}
 
-module _ {call : Histories} (ih : AllSound call) (c : Settings) (w : Context) (ranged : Bool) (s : Point) where
+module _ {call : Histories} (ih : AllSound call) (c : Context) (w : Live) (ranged : Bool) (s : Point) where
   primary_by : (v : Beginning) → beginning (op_at s) ≡ v → (ranged && closes (op_at s)) ≡ false → is_sign v ≡ false → is_memory (op_at s) ≡ false
       → Goes call (primaries c w ranged) s (R.primary_at c w (op_at s) (pos_at s) v) s true
   primary_by (begin.Single node) e written sign m = take (gives (form.Value (op_at s) (pos_at s)) (ap (value_at (pos_at s)) e) (λ k o r. ap is_value e ▹ refl ▹ r))
@@ -35,22 +35,22 @@ module _ {call : Histories} (ih : AllSound call) (c : Settings) (w : Context) (r
       take (look (λ n.
       either (may_be_called word && calls next) (λ may. gives x (rw (called_no_this word (calls next) may)) (λ k o r. here ▹ fine n (rw may) ▹ r)) (λ none.
       either (is_this word)
-      (λ this. either (in_function c) (λ inside. gives x (rw this) (λ k o r. here ▹ fine n (rw (none, this, inside)) ▹ r)) (λ outside. halt x refl (λ k. here ▹ blamed n (rw (none, this, outside)))))
+      (λ this. either (in_function c.settings) (λ inside. gives x (rw this) (λ k o r. here ▹ fine n (rw (none, this, inside)) ▹ r)) (λ outside. halt x refl (λ k. here ▹ blamed n (rw (none, this, outside)))))
       (λ other. halt x refl (λ k. here ▹ blamed n (rw (none, other)))))))
   primary_by begin.AGroup e written sign m =
       let here = begun s e in
       take (raise c (form.Group (pos_at s) any_run nowhere) (λ high k. here ▹ fails high) (λ below.
-      first (ih.of (R.Expression (up c) w) (past code s) false) (form.Group (pos_at s)) nowhere (λ f p k o r. here ▹ below ▹ r) (λ f t b.
+      first (ih.of (R.Expression (level_up c) w) (past code s) false) (form.Group (pos_at s)) nowhere (λ f p k o r. here ▹ below ▹ r) (λ f t b.
       look (λ n. check (is_close (following (op_at t))) nowhere (λ other k. wrong n (rw other)) (λ close.
       take (done (pos_at t) (λ k o r. closed t close ▹ r)))))))
   primary_by begin.AnArray e written sign m =
       let here = begun s e in
       take (raise c (form.Array (pos_at s) (form.NoElement nowhere)) (λ high k. here ▹ fails high) (λ below.
-      ends (ih.of (R.Elements (up c) w (pos_at s) no_nodes) (past code s) false) (form.Array (pos_at s)) (λ t list. refl) (λ list k o r. here ▹ below ▹ r)))
+      ends (ih.of (R.Elements (level_up c) w (pos_at s) no_nodes) (past code s) false) (form.Array (pos_at s)) (λ t list. refl) (λ list k o r. here ▹ below ▹ r)))
   primary_by begin.AMap e written sign m =
       let here = begun s e in
       take (raise c (form.Map (pos_at s) (form.NoField nowhere)) (λ high k. here ▹ fails high) (λ below.
-      ends (ih.of (R.Fields (up c) w (pos_at s) no_properties) (past code s) false) (form.Map (pos_at s)) (λ t list. refl) (λ list k o r. here ▹ below ▹ r)))
+      ends (ih.of (R.Fields (level_up c) w (pos_at s) no_properties) (past code s) false) (form.Map (pos_at s)) (λ t list. refl) (λ list k o r. here ▹ below ▹ r)))
   primary_by begin.ASign e written sign m = absurd cc
   primary_by begin.ARange e written sign m = done (form.Zero (op_at s) (pos_at s)) (λ k o r. ap is_range e ▹ refl ▹ r)
   primary_by (begin.NoBeginning why) e written sign m = refuse any_primary (λ k. refl ▹ wrong m (rw (written, e)))
@@ -68,7 +68,7 @@ module _ {call : Histories} (ih : AllSound call) (c : Settings) (w : Context) (r
   operand_by begin.ASign e written =
       let sign = ap is_sign e in
       take (raise c (form.Signed (op_at s) (pos_at s) any_operand) (λ high k. sign ▹ refl ▹ fails high) (λ below.
-      first (ih.of (R.Operand (up c) w false) (past code s) false) (λ x (h : Unit {0}). form.Signed (op_at s) (pos_at s) x) tt (λ x h k o r. sign ▹ refl ▹ below ▹ r) (λ x t b.
+      first (ih.of (R.Operand (level_up c) w false) (past code s) false) (λ x (h : Unit {0}). form.Signed (op_at s) (pos_at s) x) tt (λ x h k o r. sign ▹ refl ▹ below ▹ r) (λ x t b.
       test (sign_holds (op_at s) (operand_tree x w)) tt refl (λ least k. fails least) (λ holds.
       done tt (λ k o r. holds ▹ r)))))
   operand_by _ e written = unsigned written (ap is_sign e)

@@ -7,8 +7,7 @@ use Rattle.rhai_lower.specs.declared.position.Position.{Position}
 use Rattle.rhai_grammar.specs.Causes.{Refusal}
 use Rattle.rhai_grammar.specs.Delivered.{code, Point, past, is_memory}
 use Rattle.rhai_grammar.specs.Seen.{StandsAtLast}
-use Rattle.rhai_grammar.specs.Settings.{Settings}
-use Rattle.rhai_grammar.specs.Contexts.{Context}
+use Rattle.rhai_grammar.specs.Contexts.{Context, Live}
 use Rattle.rhai_grammar.specs.Beginnings.{beginning, is_range}
 use Rattle.rhai_grammar.specs.Operators.{boolean_holds}
 use Rattle.rhai_grammar.specs.Strengths.{Behind, Operator, Unknown, Other, behind_of, is_operator, strength, right_of}
@@ -60,14 +59,14 @@ no_symbol s e P known r = absurd (subst (λ x. D.Refuses x (pos_at s) e) known.f
 -- An operator that may stand behind a run, and the way to its right side.
 record Behinds (q : Spot) (from : Point) (L : Run) (s : Point) : Type 0 where
   pub is : is_operator (behind_at s) ≡ true
-  pub right : (r : Run) (k : Demands) (o : Aim) → Way (W.run r (right_side (op_at s) (height_after q L) q.walk) (W.operands_fit (op_at s) (tree L q.walk) (tree r q.walk) k)) (past code s) o → Way (W.run (Binary (op_at s) (pos_at s) L r) q k) from o
+  pub right : (r : Run) (k : Demands) (o : Aim) → Way (W.run r (right_side (op_at s) (height_after q L) q.live) (W.operands_fit (op_at s) (tree L q.live) (tree r q.live) k)) (past code s) o → Way (W.run (Binary (op_at s) (pos_at s) L r) q k) from o
 
 module _ {call : Histories} (ih : AllSound call) where
   -- a run was read as a part of another form
-  pub run_part : {F B : Type 0} {K : Kind F B} {from : Point} {A : Type 0} {Q : A → Point → Type 0} {c : Settings} {w : Context} {pos : Position} {m : ℕ} {k : Node → Prog A} {s : Point} {b : Bool} {lhs : Node}
-      (q : Spot) (start : Point) (L : Run) → q.walk ≡ w → tree L q.walk ≡ lhs → height_after q L ≡ record { settings = c; at = pos } → Suits m q.side → Ended L (behind_at s) → Stands q start L s
+  pub run_part : {F B : Type 0} {K : Kind F B} {from : Point} {A : Type 0} {Q : A → Point → Type 0} {c : Context} {w : Live} {pos : Position} {m : ℕ} {k : Node → Prog A} {s : Point} {b : Bool} {lhs : Node}
+      (q : Spot) (start : Point) (L : Run) → q.live ≡ w → tree L q.live ≡ lhs → height_after q L ≡ record { settings = c; at = pos } → Suits m q.side → Ended L (behind_at s) → Stands q start L s
       → (wrap : Run → F) → ((f : Run) (k : Demands) (o : Aim) → ((j : Demands) → Way (W.run f q j) start o) → Way (K.demands (wrap f) k) from o)
-      → ((f : Run) (t : Point) (a : Bool) → Passed (runs q) f start t → next_goes_on m (behind_at t) ≡ false → Fits operator_known t → Shows call Q (Halts K from) (k (tree f q.walk)) t a)
+      → ((f : Run) (t : Point) (a : Bool) → Passed (runs q) f start t → next_goes_on m (behind_at t) ≡ false → Fits operator_known t → Shows call Q (Halts K from) (k (tree f q.live)) t a)
       → Shows call Q (Halts K from) (Call (R.BinaryOp c w pos m lhs) k) s b
   run_part {K = K} {from = from} {Q = Q} {k = k} {s = s} {b = b} q start L live is height suits ended stands wrap way on =
       called (ih.of (R.BinaryOp _ _ _ _ _) s b q start L live is height suits ended stands) (λ e t r. record { form = wrap r.form; stops = way r.form _ _ (λ j. r.stops); last = r.last })
@@ -84,10 +83,10 @@ module _ {call : Histories} (ih : AllSound call) where
 
   module _ (q : Spot) (from s : Point) (L : Run) (p : ℕ) (suits : Suits p q.side) where
     -- behind an operator that goes on
-    run_on : (h : Behinds q from L s) (b : Bool) → Shows call (RunRead q p from) (Halts (runs q) from) (binary_on (height_after q L).settings q.walk (height_after q L).at p (tree L q.walk) (strength (behind_at s)) (op_at s) (pos_at s)) s b
+    run_on : (h : Behinds q from L s) (b : Bool) → Shows call (RunRead q p from) (Halts (runs q) from) (binary_on (height_after q L).settings q.live (height_after q L).at p (tree L q.live) (strength (behind_at s)) (op_at s) (pos_at s)) s b
     run_on h b =
         let u = height_after q L in
-        let w = q.walk in
+        let w = q.live in
         let op = op_at s in
         let binary = Binary op (pos_at s) L in
         let q2 = right_side op u w in
@@ -105,7 +104,7 @@ module _ {call : Histories} (ih : AllSound call) where
         (record { passes = λ z. over (λ k o way. h.right r k o (G.on (ends ▹ left ▹ right ▹ way))); stops = λ e r. no_symbol v e _ known_end r })))))))))
 
     -- what stands behind a run goes on with it, or does not
-    run_at : (v : Behind) (b : Bool) → behind_at s ≡ v → Fits operator_known s → Ended L (behind_at s) → Stands q from L s → Shows call (RunRead q p from) (Halts (runs q) from) (binary_at (height_after q L).settings q.walk (height_after q L).at p (tree L q.walk) (operator_in v)) s b
+    run_at : (v : Behind) (b : Bool) → behind_at s ≡ v → Fits operator_known s → Ended L (behind_at s) → Stands q from L s → Shows call (RunRead q p from) (Halts (runs q) from) (binary_at (height_after q L).settings q.live (height_after q L).at p (tree L q.live) (operator_in v)) s b
     run_at (Operator m right) b e known ended stands =
         let u = height_after q L in
         either (goes_on p m right)
@@ -113,18 +112,18 @@ module _ {call : Histories} (ih : AllSound call) where
         let is : is_operator (behind_at s) ≡ true = ap is_operator e in
         let G = stands.passes known in
         let h : Behinds q from L s = record { is = is; right = λ r k o way. G.on (is ▹ ended_fits (op_at s) L is ended ▹ suits (op_at s) (ap (next_goes_on p) e ∙ on) ▹ refl ▹ way) } in
-        look (λ n. subst (λ k. Shows call (RunRead q p from) (Halts (runs q) from) (binary_on u.settings q.walk u.at p (tree L q.walk) k (op_at s) (pos_at s)) s true) (ap strength e) (run_on h true)))
+        look (λ n. subst (λ k. Shows call (RunRead q p from) (Halts (runs q) from) (binary_on u.settings q.live u.at p (tree L q.live) k (op_at s) (pos_at s)) s true) (ap strength e) (run_on h true)))
         (λ off. ret (record { form = L; is = refl; passes = stands.passes known; off = ap (next_goes_on p) e ∙ off; known = known }))
     run_at (Unknown t) b e known ended stands = ret (record { form = L; is = refl; passes = stands.passes known; off = ap (next_goes_on p) e; known = known })
     run_at Other b e known ended stands = ret (record { form = L; is = refl; passes = stands.passes known; off = ap (next_goes_on p) e; known = known })
 
-    run_from : (b : Bool) → Ended L (behind_at s) → Stands q from L s → Shows call (RunRead q p from) (Halts (runs q) from) (body (climb (height_after q L) q.walk p (tree L q.walk))) s b
+    run_from : (b : Bool) → Ended L (behind_at s) → Stands q from L s → Shows call (RunRead q p from) (Halts (runs q) from) (body (climb (height_after q L) q.live p (tree L q.live))) s b
     run_from b ended stands = operator_part L stands.stops (λ known a. run_at (behind_at s) a refl known ended stands)
 
-  pub run : (c : Settings) (w : Context) (pos : Position) (p : ℕ) (lhs : Node) (s : Point) (b : Bool) (q : Spot) (from : Point) (L : Run) → q.walk ≡ w → tree L q.walk ≡ lhs → height_after q L ≡ record { settings = c; at = pos } → Suits p q.side → Ended L (behind_at s) → Stands q from L s
+  pub run : (c : Context) (w : Live) (pos : Position) (p : ℕ) (lhs : Node) (s : Point) (b : Bool) (q : Spot) (from : Point) (L : Run) → q.live ≡ w → tree L q.live ≡ lhs → height_after q L ≡ record { settings = c; at = pos } → Suits p q.side → Ended L (behind_at s) → Stands q from L s
       → Shows call (RunRead q p from) (Halts (runs q) from) (body (R.BinaryOp c w pos p lhs)) s b
   run c w pos p lhs s b q from L live is height suits ended stands =
       subst (λ z. Shows call (RunRead q p from) (Halts (runs q) from) (body (R.BinaryOp c z pos p lhs)) s b) live
-      (subst (λ x. Shows call (RunRead q p from) (Halts (runs q) from) (body (R.BinaryOp c q.walk pos p x)) s b) is
-      (subst (λ (h : Height). Shows call (RunRead q p from) (Halts (runs q) from) (body (climb h q.walk p (tree L q.walk))) s b) height
+      (subst (λ x. Shows call (RunRead q p from) (Halts (runs q) from) (body (R.BinaryOp c q.live pos p x)) s b) is
+      (subst (λ (h : Height). Shows call (RunRead q p from) (Halts (runs q) from) (body (climb h q.live p (tree L q.live))) s b) height
       (run_from q from s L p suits b ended stands)))

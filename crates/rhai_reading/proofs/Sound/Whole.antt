@@ -2,8 +2,7 @@
 use Rattle.std.proofs.Common.{◌≡◌, Bool, true, false, refl}
 use Rattle.rhai_lower.specs.Nodes.{Node}
 use Rattle.rhai_grammar.specs.Delivered.{Point, is_end}
-use Rattle.rhai_grammar.specs.Settings.{Settings, up}
-use Rattle.rhai_grammar.specs.Contexts.{Context}
+use Rattle.rhai_grammar.specs.Contexts.{Context, Live, level_up}
 use Rattle.rhai_grammar.specs.Strengths.{Behind, Operator, Unknown, Other}
 use Rattle.rhai_grammar.specs.Forms.{Run, Just}
 use Rattle.rhai_grammar.specs.Trees.{tree}
@@ -32,12 +31,12 @@ ends_fine s off known =
     ends (Unknown t) h off k = absurd cc
     ends Other h off k = refl
 
-module _ {call : Histories} (ih : AllSound call) (c : Settings) (w : Context) (s : Point) where
+module _ {call : Histories} (ih : AllSound call) (c : Context) (w : Live) (s : Point) where
   pub expression : (b : Bool) → Goes call (expressions c w) s (body (R.Expression c w)) s b
   expression b = look (λ m.
       raise c any_run (λ high k. ill m (rw high)) (λ below.
-      part (ih.of (R.Operand (up c) w false) s true) Just (λ x k o r. fine m (rw below) ▹ r _) (λ x t a X.
-      run_part ih (outermost (up c) w) s (Just x) refl refl refl (λ l e. refl) tt
+      part (ih.of (R.Operand (level_up c) w false) s true) Just (λ x k o r. fine m (rw below) ▹ r _) (λ x t a X.
+      run_part ih (outermost (level_up c) w) s (Just x) refl refl refl (λ l e. refl) tt
       (record { passes = λ known. over (λ k o r. X.on (known ▹ r)); stops = λ e r k. X.on (lost r) })
       (λ f. f) (λ f k o r. fine m (rw below) ▹ r _) (λ f u d G off known.
       ret (record { form = f; is = refl; passes = over (λ k o r. fine m (rw below) ▹ G.on (ends_fine u off known ▹ r)) })))))
@@ -47,10 +46,10 @@ module _ {call : Histories} (ih : AllSound call) (c : Settings) (w : Context) (s
       part (ih.of (R.Expression c w) s b) (λ f. f) (λ f k o r. r _) (λ f t a G.
       look (λ m. check (is_end (op_at t)) f (λ rest k. G.on (ill m (rw rest))) (λ end. ret (f, refl, G.on (fine m (rw end) ▹ here)))))
 
-written : (c : Settings) (w : Context) (s : Point) (o : Outcome Node) → Ensures (λ x t. (f : Run) × (tree f w ≡ x) × Way (W.whole_expression f c w) s (To t)) (Halts (wholes c w) s) o → Ensures (WholeRead c w s) (WholeHalts c w s) o
+written : (c : Context) (w : Live) (s : Point) (o : Outcome Node) → Ensures (λ x t. (f : Run) × (tree f w ≡ x) × Way (W.whole_expression f c w) s (To t)) (Halts (wholes c w) s) o → Ensures (WholeRead c w s) (WholeHalts c w s) o
 written c w s (Done x t) h = (h.0, (h.1.0, h.1.1, reached h.1.2))
 written c w s (Refused e t) h = λ z. let r = h z in (r.form, reached (r.stops {k = Nothing}), r.last)
 written c w s Unfinished h = tt
 
-pub whole : {call : Histories} → AllSound call → (c : Settings) (w : Context) (s : Point) (b : Bool) → Sound (R.Whole c w) s (exec call (body (R.Whole c w)) (at s b))
+pub whole : {call : Histories} → AllSound call → (c : Context) (w : Live) (s : Point) (b : Bool) → Sound (R.Whole c w) s (exec call (body (R.Whole c w)) (at s b))
 whole ih c w s b = written c w s _ (whole_by ih c w s b).shown
