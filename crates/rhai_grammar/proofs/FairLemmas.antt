@@ -30,18 +30,18 @@ unless false v e = e
 anything : (l : Lexeme) → is_refused (verdict W.anything l) ≡ false
 anything l = unless (is_memory l) Otherwise refl
 
-operand_due : (ranged : Bool) (l : Lexeme) → is_refused (W.due (beginning l)) ≡ false → is_refused (verdict (W.operand_due ranged) l) ≡ false
-operand_due ranged l e = unless (is_memory l) (W.operand_due ranged l) (unless (ranged && closes l) (W.due (beginning l)) e)
+operand_due : (ranged : Bool) (l : Lexeme) → is_refused (W.beginning_due (beginning l)) ≡ false → is_refused (verdict (W.operand_due ranged) l) ≡ false
+operand_due ranged l e = unless (is_memory l) (W.operand_due ranged l) (unless (ranged && closes l) (W.beginning_due (beginning l)) e)
 
-value_due : (b : Beginning) → is_value b ≡ true → is_refused (W.due b) ≡ false
+value_due : (b : Beginning) → is_value b ≡ true → is_refused (W.beginning_due b) ≡ false
 value_due (B.NoBeginning why) e = absurd cc
 value_due _ e = refl
 
-sign_due : (b : Beginning) → is_sign b ≡ true → is_refused (W.due b) ≡ false
+sign_due : (b : Beginning) → is_sign b ≡ true → is_refused (W.beginning_due b) ≡ false
 sign_due (B.NoBeginning why) e = absurd cc
 sign_due _ e = refl
 
-range_due : (b : Beginning) → is_range b ≡ true → is_refused (W.due b) ≡ false
+range_due : (b : Beginning) → is_range b ≡ true → is_refused (W.beginning_due b) ≡ false
 range_due (B.NoBeginning why) e = absurd cc
 range_due _ e = refl
 
@@ -106,7 +106,7 @@ mutual
   operand (form.Signed sign at x) c w ranged k h = λ e.
       (operand_due ranged sign (sign_due (beginning sign) e), operand x (level_up c) w false _ h)
   operand (form.NoOperand token at) c w ranged k h = λ e.
-      (unless (is_memory token) (W.operand_due ranged token) (none_due (ranged && closes token) (W.due (beginning token)) e), h)
+      (unless (is_memory token) (W.operand_due ranged token) (none_due (ranged && closes token) (W.beginning_due (beginning token)) e), h)
 
   arguments : (x : Arguments) (others : Lexeme → Verdict) → is_refused (verdict others (Sign token.Unit)) ≡ false → is_refused (verdict others (Sign token.LeftParen)) ≡ false → (c : Context) (w : Live) (name : Position) (k : Demands) → IsFair k → IsFair (W.arguments x others c w name k)
   arguments (form.EmptyPair at) others pair list c w name k h = (pair, h)

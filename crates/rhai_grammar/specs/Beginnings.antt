@@ -175,14 +175,6 @@ abbrev pub is_negated : Lexeme → Bool
 is_negated (Sign t) = is_negated_sign t
 is_negated _ = false
 
-abbrev pub closes_index_sign : Token → Bool
-closes_index_sign RightBracket = true
-closes_index_sign _ = false
-
-abbrev pub closes_index : Lexeme → Bool
-closes_index (Sign t) = closes_index_sign t
-closes_index _ = false
-
 abbrev method_part : Bool × Bool × Bool → Bool
 method_part (reserved, called, method) = method
 

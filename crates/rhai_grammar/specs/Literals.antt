@@ -5,7 +5,7 @@ use Rattle.rhai_lower.specs.Names.{is_identifier}
 use Rattle.rhai_lower.specs.Lexemes.{Lexeme, Faulty, Interpolated, Name, Reserved, Sign, String}
 use Rattle.rhai_lower.specs.Nodes.{Properties, no_properties, one_property}
 use Rattle.rhai_lower.specs.declared.token.Token.{Token}
-use Rattle.rhai_lower.specs.declared.token.Token.TheVariants.{Colon, Comma, EOF, RightBrace, RightBracket, Plus}
+use Rattle.rhai_lower.specs.declared.token.Token.TheVariants.{Comma, EOF, RightBrace, RightBracket, Plus}
 use Rattle.rhai_grammar.specs.Causes as cause
 use Rattle.rhai_grammar.specs.Causes.{Cause}
 use Rattle.rhai_grammar.specs.Contexts.{full}
@@ -91,14 +91,6 @@ key_place quoted first l = NoKey (no_key first l)
 abbrev pub is_key : KeyPlace → Bool
 is_key (AKey t) = true
 is_key _ = false
-
-abbrev pub sign_colon : Token → Bool
-sign_colon Colon = true
-sign_colon _ = false
-
-abbrev pub is_colon : Lexeme → Bool
-is_colon (Sign t) = sign_colon t
-is_colon _ = false
 
 abbrev pub too_many_fields : (limit : ℕ) → Cause
 too_many_fields limit = cause.LiteralTooLarge (codes "Number of properties in object map literal") limit

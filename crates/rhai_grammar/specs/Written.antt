@@ -4,15 +4,18 @@ use Rattle.rhai_lower.specs.Texts.{Text}
 use Rattle.rhai_lower.specs.Lexemes.{Lexeme, Name, Reserved, Sign, text_of}
 use Rattle.rhai_lower.specs.Nodes.{Node, Properties, no_properties, with_property, property, position_of}
 use Rattle.rhai_lower.specs.declared.position.Position.{Position}
-use Rattle.rhai_lower.specs.declared.token.Token.TheVariants.{Unit, LeftParen, RightParen, LeftBracket, RightBracket, MapStart, RightBrace, Colon, Comma, Bang}
+use Rattle.rhai_lower.specs.declared.token.Token.TheVariants.{Unit, LeftParen, RightParen, LeftBracket, RightBracket, MapStart, RightBrace, Comma, Bang}
 use Rattle.rhai_grammar.specs.Causes as cause
 use Rattle.rhai_grammar.specs.Causes.{Cause, Refusal, refusal}
 use Rattle.rhai_grammar.specs.Delivered.{code, item, is_end}
 use Rattle.rhai_grammar.specs.Settings.{in_function, quoted_keys}
+use Rattle.rhai_grammar.specs.DueTokens.{token_of, is_due, not_due}
+use Rattle.rhai_grammar.specs.declared.due.DueToken.{DueToken}
+use Rattle.rhai_grammar.specs.declared.due.DueToken.TheVariants as due
 use Rattle.rhai_grammar.specs.Contexts.{Context, Live, full, has_room, level_up}
 use Rattle.rhai_grammar.specs.Beginnings as begin
-use Rattle.rhai_grammar.specs.Beginnings.{Beginning, beginning, unexpected, missing, is_value, is_sign, is_range, closes, calling, calls, is_list, may_be_called, is_this, Following, following, no_argument, linking, is_bracket, is_dot, is_link, closes_index, MemberPlace, AMember, NoMember, member_place, is_member}
-use Rattle.rhai_grammar.specs.Literals.{ItemPlace, ItemsEnd, AnItem, NoItem, item_place, behind_item, KeyPlace, NoKey, key_place, is_key, has_key, property_count, is_colon, too_many_fields, behind_value}
+use Rattle.rhai_grammar.specs.Beginnings.{Beginning, beginning, unexpected, missing, is_value, is_sign, is_range, closes, calling, calls, is_list, may_be_called, is_this, Following, following, no_argument, linking, is_bracket, is_dot, is_link, MemberPlace, AMember, NoMember, member_place, is_member}
+use Rattle.rhai_grammar.specs.Literals.{ItemPlace, ItemsEnd, AnItem, NoItem, item_place, behind_item, KeyPlace, NoKey, key_place, is_key, has_key, property_count, too_many_fields, behind_value}
 use Rattle.rhai_grammar.specs.Signs.{sign_holds, malformed}
 use Rattle.rhai_grammar.specs.Operators.{boolean_holds, mismatched}
 use Rattle.rhai_grammar.specs.Strengths.{Behind, Operator, Unknown, Other, behind_of, is_operator, left_of, right_of}
@@ -24,13 +27,20 @@ use Rattle.rhai_grammar.specs.Demands.{Verdict, Fine, Wrong, Blames, Otherwise, 
 
 -- ---- which tokens are refused where one is due
 
+-- where no other token may stand
+abbrev pub unless_due : DueToken → Lexeme → Verdict
+unless_due d l = if is_due d l then Otherwise else Wrong (not_due d l)
+
+abbrev pub due_token : DueToken → Position → Demands → Demands
+due_token d at k = Tok code (item (Sign (token_of d)) at) (unless_due d) ▸ k
+
 -- where an operand is due; behind a range operator, some tokens say that none is written
-abbrev pub due : Beginning → Verdict
-due (begin.NoBeginning why) = Wrong why
-due _ = Otherwise
+abbrev pub beginning_due : Beginning → Verdict
+beginning_due (begin.NoBeginning why) = Wrong why
+beginning_due _ = Otherwise
 
 abbrev pub operand_due : (ranged : Bool) → Lexeme → Verdict
-operand_due ranged l = if ranged && closes l then Otherwise else due (beginning l)
+operand_due ranged l = if ranged && closes l then Otherwise else beginning_due (beginning l)
 
 abbrev pub anything : Lexeme → Verdict
 anything l = Otherwise
@@ -52,10 +62,6 @@ uncalled x l = if is_variable x && calls l then Otherwise else Fine
 -- behind an operand with its links: nothing that goes on with it
 abbrev pub unlinked : Lexeme → Verdict
 unlinked l = if is_link (linking l) then Otherwise else Fine
-
--- behind the index in a bracket
-abbrev pub index_closes : Lexeme → Verdict
-index_closes l = if closes_index l then Otherwise else Wrong (missing (codes "]") l)
 
 -- behind a dot
 abbrev pub member_at : MemberPlace → Verdict
@@ -100,10 +106,6 @@ comma_or_close l = follows (following l)
 abbrev pub goes_on : Lexeme → Verdict
 goes_on l = if begin.is_close (following l) then Otherwise else Fine
 
--- behind an expression in parentheses
-abbrev pub close_due : Lexeme → Verdict
-close_due l = if begin.is_close (following l) then Otherwise else Wrong (missing (codes ")") l)
-
 -- where an item of an array may begin: an item, or the end
 abbrev pub item_at : ItemPlace → Verdict
 item_at AnItem = Fine
@@ -135,9 +137,6 @@ next_key c before l = key_place (quoted_keys c.settings) (property_count before 
 
 abbrev pub key_due : Context → Properties → Lexeme → Verdict
 key_due c before l = key_at (next_key c before l)
-
-abbrev pub colon_due : Lexeme → Verdict
-colon_due l = if is_colon l then Otherwise else Wrong (missing (codes ":") l)
 
 -- behind the colon of one more property
 abbrev pub value_due : (limit count : ℕ) → Lexeme → Verdict
@@ -251,8 +250,7 @@ abbrev pub field : (key : Lexeme) (at colon : Position) (before : Properties) �
 field key at colon before c opening k =
     Shape (is_key (next_key c before key)) ▸ Tok code (item key at) (key_due c before) ▸
     Test (not (has_key (text_of key) before)) (refusal (cause.DuplicatedProperty (text_of key)) at) ▸
-    Tok code (item (Sign Colon) colon) colon_due ▸ Next (value_due c.sizes.map (property_count before)) ▸
-    raise_at c opening k
+    due_token due.Colon colon (Next (value_due c.sizes.map (property_count before)) ▸ raise_at c opening k)
 
 -- ---- links
 
@@ -294,7 +292,7 @@ abbrev mutual
   primary (form.Word word at) c w ranged k = Tok code (item (Reserved word) at) (operand_due ranged) ▸ Next (word_behind c word at) ▸ k
   primary (form.Group opening inside closing) c w ranged k =
       Tok code (item (Sign LeftParen) opening) (operand_due ranged) ▸ raise_at c opening (
-      begun (level_up c) (run inside (outermost (level_up (level_up c)) w) (ended (Tok code (item (Sign RightParen) closing) close_due ▸ k))))
+      begun (level_up c) (run inside (outermost (level_up (level_up c)) w) (ended (due_token due.RightParen closing k))))
   primary (form.Array opening list) c w ranged k =
       Tok code (item (Sign LeftBracket) opening) (operand_due ranged) ▸ raise_at c opening (elements list 0 (level_up c) w opening k)
   primary (form.Map opening list) c w ranged k =
@@ -319,7 +317,7 @@ abbrev mutual
       raise_at q.brackets at (raise_at (level_up q.brackets) at (
       begun (level_up (level_up q.brackets)) (run f (outermost (level_up (level_up (level_up q.brackets))) w) (ended (
       unfaulted (index_refusal q.indexed (tree f w)) (
-      Tok code (item (Sign RightBracket) closing) index_closes ▸ links rest (behind_bracket q (bracket_link opening at (tree f w))) w k))))))
+      due_token due.RightBracket closing (links rest (behind_bracket q (bracket_link opening at (tree f w))) w k)))))))
   links (form.Property dot at name name_at rest) q w k =
       Shape (is_dot (linking dot)) ▸ Tok code (item dot at) anything ▸ Next member_due ▸ raise_at q.settings at (
       Tok code (item (Name name) name_at) anything ▸ Next uncalled_member ▸
