@@ -9,8 +9,11 @@ use Rattle.rhai_grammar.specs.Causes.{refusal}
 use Rattle.rhai_grammar.specs.Contexts.{full}
 use Rattle.rhai_grammar.specs.Delivered.{code, Item, item, Point, next_at}
 use Rattle.rhai_grammar.specs.Demands.{Blames}
-use Rattle.rhai_grammar.specs.Beginnings.{Beginning, AName, AWord, AGroup, AnArray, AMap, beginning, Calling, WithPair, WithList, WithBang, calling, Following, AComma, AClose, following, is_close, closes_index, is_name, member_place, is_member}
-use Rattle.rhai_grammar.specs.Literals.{ItemPlace, ItemsEnd, AnItem, NoItem, too_many_items, item_place, behind_item, KeyPlace, FieldsEnd, AKey, key_place, is_colon, behind_value}
+use Rattle.rhai_grammar.specs.Beginnings.{Beginning, AName, AWord, AGroup, AnArray, AMap, beginning, Calling, WithPair}
+use Rattle.rhai_grammar.specs.Beginnings.{WithList, WithBang, calling, Following, AComma, AClose, following, is_close}
+use Rattle.rhai_grammar.specs.Beginnings.{is_name, member_place, is_member}
+use Rattle.rhai_grammar.specs.Literals.{ItemPlace, ItemsEnd, AnItem, NoItem, too_many_items, item_place, behind_item}
+use Rattle.rhai_grammar.specs.Literals.{KeyPlace, FieldsEnd, AKey, key_place, behind_value}
 use Rattle.rhai_grammar.specs.Written.{no_method}
 use Rattle.rhai_reading.proofs.Looks.{op_at, pos_at}
 
@@ -73,7 +76,8 @@ only_close AClose e = refl
 only_close _ e = absurd cc
 
 -- what `is_close` finds is the closing parenthesis
-pub closed : (s : Point) → is_close (following (op_at s)) ≡ true → next_at code s ≡ item (Sign token.RightParen) (pos_at s)
+pub closed : (s : Point) → is_close (following (op_at s)) ≡ true
+    → next_at code s ≡ item (Sign token.RightParen) (pos_at s)
 closed s e = followed s (only_close (following (op_at s)) e)
 
 -- an item of an array
@@ -82,7 +86,8 @@ follows_item (Sign token.Comma) p = refl
 follows_item (Sign token.RightBracket) p = refl
 follows_item _ p = tt
 
-pub item_followed : {v : Following} (s : Point) → behind_item (op_at s) ≡ v → Follows token.RightBracket v (next_at code s)
+pub item_followed : {v : Following} (s : Point) → behind_item (op_at s) ≡ v
+    → Follows token.RightBracket v (next_at code s)
 item_followed s e = subst (λ v. Follows token.RightBracket v (next_at code s)) e (follows_item (op_at s) (pos_at s))
 
 -- the value of a property
@@ -91,7 +96,8 @@ follows_value (Sign token.Comma) p = refl
 follows_value (Sign token.RightBrace) p = refl
 follows_value _ p = tt
 
-pub value_followed : {v : Following} (s : Point) → behind_value (op_at s) ≡ v → Follows token.RightBrace v (next_at code s)
+pub value_followed : {v : Following} (s : Point) → behind_value (op_at s) ≡ v
+    → Follows token.RightBrace v (next_at code s)
 value_followed s e = subst (λ v. Follows token.RightBrace v (next_at code s)) e (follows_value (op_at s) (pos_at s))
 
 -- ---- where an item of an array may begin
@@ -110,7 +116,8 @@ places limit count (Sign token.RightBracket) p = refl
 places limit count (Sign token.EOF) p = tt
 places limit count l p = room_places (full limit count) limit (item l p)
 
-pub placed : {v : ItemPlace} (limit count : ℕ) (s : Point) → item_place limit count (op_at s) ≡ v → Places v (next_at code s)
+pub placed : {v : ItemPlace} (limit count : ℕ) (s : Point) → item_place limit count (op_at s) ≡ v
+    → Places v (next_at code s)
 placed limit count s e = subst (λ v. Places v (next_at code s)) e (places limit count (op_at s) (pos_at s))
 
 -- ---- where a key may stand: it is named by the text of its token
@@ -127,25 +134,19 @@ keys false first (Name t) p = refl
 keys quoted first (Sign token.RightBrace) p = refl
 keys quoted first _ p = tt
 
-pub keyed : {v : KeyPlace} (quoted first : Bool) (s : Point) → key_place quoted first (op_at s) ≡ v → Keys v (next_at code s)
+pub keyed : {v : KeyPlace} (quoted first : Bool) (s : Point) → key_place quoted first (op_at s) ≡ v
+    → Keys v (next_at code s)
 keyed quoted first s e = subst (λ v. Keys v (next_at code s)) e (keys quoted first (op_at s) (pos_at s))
 
 -- ---- one token
-
-pub colon_is : (l : Lexeme) (p : Position) → is_colon l ≡ true → item l p ≡ item (Sign token.Colon) p
-colon_is (Sign token.Colon) p e = refl
-colon_is _ p e = absurd cc
-
-pub index_close_is : (l : Lexeme) (p : Position) → closes_index l ≡ true → item l p ≡ item (Sign token.RightBracket) p
-index_close_is (Sign token.RightBracket) p e = refl
-index_close_is _ p e = absurd cc
 
 pub name_is : (l : Lexeme) (p : Position) → is_name l ≡ true → item l p ≡ item (Name (text_of l)) p
 name_is (Name t) p e = refl
 name_is _ p e = absurd cc
 
 -- a member that is no name is a reserved word
-pub word_is : (l : Lexeme) (p : Position) → is_member (member_place l) ≡ true → is_name l ≡ false → no_method l p ≡ Blames (refusal (cause.Reserved (text_of l)) p)
+pub word_is : (l : Lexeme) (p : Position) → is_member (member_place l) ≡ true → is_name l ≡ false
+    → no_method l p ≡ Blames (refusal (cause.Reserved (text_of l)) p)
 word_is (Reserved t) p e f = refl
 word_is (Name t) p e f = absurd cc
 word_is _ p e f = absurd cc

@@ -7,6 +7,7 @@ use Rattle.rhai_lower.specs.Lexemes.{Lexeme, Name, Sign, text_of}
 use Rattle.rhai_lower.specs.Nodes.{Node, Nodes, no_nodes, Properties, property}
 use Rattle.rhai_lower.specs.declared.position.Position.{Position}
 use Rattle.rhai_lower.specs.declared.token.Token.TheVariants as token
+use Rattle.rhai_grammar.specs.declared.due.DueToken.TheVariants as due
 use Rattle.rhai_grammar.specs.Causes as cause
 use Rattle.rhai_grammar.specs.Causes.{Refusal, refusal}
 use Rattle.rhai_grammar.specs.Delivered.{code, item, Point}
@@ -16,7 +17,8 @@ use Rattle.rhai_grammar.specs.Literals.{is_key, has_key, property_count}
 use Rattle.rhai_grammar.specs.Chains.{Link, index_refusal}
 use Rattle.rhai_grammar.specs.Operators.{joined}
 use Rattle.rhai_grammar.specs.Forms.{Primary, Base, Links, Operand, Arguments, Items, Elements, Fields, Run}
-use Rattle.rhai_grammar.specs.Trees.{primary_tree, base_tree, link_list, operand_tree, argument_trees, item_trees, element_trees, field_trees, tree, node_count, method_tree}
+use Rattle.rhai_grammar.specs.Trees.{primary_tree, base_tree, link_list, operand_tree, argument_trees, item_trees}
+use Rattle.rhai_grammar.specs.Trees.{element_trees, field_trees, tree, node_count, method_tree}
 use Rattle.rhai_grammar.specs.Demands.{Demands, ◌▸◌, Tok, Next, Test, Shape}
 use Rattle.rhai_grammar.specs.Written as W
 use Rattle.rhai_grammar.specs.Written.{LinkSpot, Height, Side, Spot, height_after, side_fits, operator_known}
@@ -70,7 +72,8 @@ pub data CallForm : Type 0 where
 
 abbrev pub call_of : Context → Live → Position → CallForm → Demands → Demands
 call_of c w name (By None args) k = W.arguments args W.anything c w name k
-call_of c w name (By (Some bang) args) k = Tok code (item (Sign token.Bang) bang) W.anything ▸ W.arguments args W.list_due c w name k
+call_of c w name (By (Some bang) args) k =
+    Tok code (item (Sign token.Bang) bang) W.anything ▸ W.arguments args W.list_due c w name k
 
 abbrev pub call_answer : Live → CallForm → Bool × Nodes
 call_answer w (By bang args) = (is_some bang, argument_trees args w)
@@ -81,10 +84,16 @@ callings c w name = record { tree = λ t f. call_answer w f; demands = call_of c
 -- ---- literals
 
 abbrev pub elements : Context → Live → (opening : Position) → (before : Nodes) → Kind Elements Nodes
-elements c w opening before = record { tree = λ t list. joined before (element_trees list w); demands = λ list k. W.elements list (node_count before) c w opening k }
+elements c w opening before = record {
+  tree = λ t list. joined before (element_trees list w);
+  demands = λ list k. W.elements list (node_count before) c w opening k;
+}
 
 abbrev pub fields : Context → Live → (opening : Position) → (before : Properties) → Kind Fields Properties
-fields c w opening before = record { tree = λ t list. joined_properties before (field_trees list w); demands = λ list k. W.fields list before c w opening k }
+fields c w opening before = record {
+  tree = λ t list. joined_properties before (field_trees list w);
+  demands = λ list k. W.fields list before c w opening k;
+}
 
 -- what stands where one more property may: the `}`, or a key with its colon
 pub data KeyForm : Type 0 where
@@ -96,7 +105,7 @@ key_of c before (NoMore closing) k = Tok code (item (Sign token.RightBrace) clos
 key_of c before (Keyed key pos colon) k =
     Shape (is_key (W.next_key c before key)) ▸ Tok code (item key pos) (W.key_due c before) ▸
     Test (not (has_key (text_of key) before)) (refusal (cause.DuplicatedProperty (text_of key)) pos) ▸
-    Tok code (item (Sign token.Colon) colon) W.colon_due ▸ Next (W.value_due c.sizes.map (property_count before)) ▸ k
+    W.due_token due.Colon colon (Next (W.value_due c.sizes.map (property_count before)) ▸ k)
 
 abbrev pub key_answer : KeyForm → Option (Text × Position)
 key_answer (NoMore closing) = None
@@ -117,7 +126,8 @@ pub record IndexForm : Type 0 where
 
 abbrev pub index_of : Context → Live → Option Node → IndexForm → Demands → Demands
 index_of c w indexed f k =
-    W.expression f.index c w (W.unfaulted (index_refusal indexed (tree f.index w)) (Tok code (item (Sign token.RightBracket) f.closing) W.index_closes ▸ k))
+    W.expression f.index c w (W.unfaulted (index_refusal indexed (tree f.index w))
+    (W.due_token due.RightBracket f.closing k))
 
 abbrev pub indices : Context → Live → Option Node → Kind IndexForm Node
 indices c w indexed = record { tree = λ t f. tree f.index w; demands = index_of c w indexed }
@@ -129,11 +139,13 @@ pub data MemberForm : Type 0 where
 
 abbrev pub member_of : Context → Live → MemberForm → Demands → Demands
 member_of c w (AProperty name pos) k = Tok code (item (Name name) pos) W.anything ▸ Next W.uncalled_member ▸ k
-member_of c w (AMethod name is pos call) k = Tok code (item name pos) W.anything ▸ Next (W.method_behind name pos) ▸ call_of c w pos call k
+member_of c w (AMethod name is pos call) k =
+    Tok code (item name pos) W.anything ▸ Next (W.method_behind name pos) ▸ call_of c w pos call k
 
 abbrev pub member_tree : Live → MemberForm → Node
 member_tree w (AProperty name pos) = property name pos
-member_tree w (AMethod name is pos (By bang args)) = method_tree (text_of name) pos (is_some bang) (argument_trees args w)
+member_tree w (AMethod name is pos (By bang args)) =
+    method_tree (text_of name) pos (is_some bang) (argument_trees args w)
 
 abbrev pub members : Context → Live → Kind MemberForm Node
 members c w = record { tree = λ t f. member_tree w f; demands = member_of c w }

@@ -14,5 +14,6 @@ pub mod Complete
 pub mod Local
 pub mod Readable
 pub mod Modes
+pub mod Dues
 pub mod Sound
 pub mod Main

@@ -1,7 +1,8 @@
 -- Lists that grow by one at their end.
 use Rattle.std.proofs.Common.{◌≡◌, ◌+◌, List, [], ◌∷◌, ◌++◌, refl, ap, append_assoc}
 use Rattle.rhai_lower.specs.Texts.{Text}
-use Rattle.rhai_lower.specs.Nodes.{Node, Nodes, no_nodes, one_node, with_node, Properties, no_properties, one_property, with_property}
+use Rattle.rhai_lower.specs.Nodes.{Node, Nodes, no_nodes, one_node, with_node, Properties, no_properties, one_property}
+use Rattle.rhai_lower.specs.Nodes.{with_property}
 use Rattle.rhai_lower.specs.declared.position.Position.{Position}
 use Rattle.rhai_grammar.specs.Operators.{joined}
 use Rattle.rhai_grammar.specs.Trees.{node_count}

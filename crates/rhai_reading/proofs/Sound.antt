@@ -41,7 +41,8 @@ step ih (R.Fields c w opening before) s b = tells (L.field_list ih c w opening b
 step ih (R.NextKey c before) s b = tells (L.next_key _ c before s b)
 step ih R.NextOperator s b = tells (N.next_operator _ s b)
 step ih (R.BinaryOp c w pos p lhs) s b =
-    λ q from L live is height suits ended stands. tells (N.run ih c w pos p lhs s b q from L live is height suits ended stands)
+    λ q from L live is height suits ended stands. tells
+    (N.run ih c w pos p lhs s b q from L live is height suits ended stands)
 
 -- before any call is made
 none : (g : Goal) (s : Point) (b : Bool) → Sound g s (deep zero g (at s b))

@@ -8,12 +8,15 @@ use Rattle.rhai_grammar.specs.Causes as cause
 use Rattle.rhai_grammar.specs.Causes.{Refusal, refusal}
 use Rattle.rhai_grammar.specs.Delivered.{is_end}
 use Rattle.rhai_grammar.specs.Settings.{in_function}
+use Rattle.rhai_grammar.specs.DueTokens.{is_due, not_due}
+use Rattle.rhai_grammar.specs.declared.due.DueToken.{DueToken}
+use Rattle.rhai_grammar.specs.declared.due.DueToken.TheVariants as due
 use Rattle.rhai_grammar.specs.Contexts.{Context, Live, full, has_room, level_up}
-use Rattle.rhai_grammar.specs.Literals.{ItemPlace, ItemsEnd, AnItem, NoItem, item_place, behind_item, KeyPlace, FieldsEnd, AKey, NoKey, has_key, property_count, is_colon, too_many_fields, behind_value}
+use Rattle.rhai_grammar.specs.Literals.{ItemPlace, ItemsEnd, AnItem, NoItem, item_place, behind_item, KeyPlace, FieldsEnd, AKey, NoKey, has_key, property_count, too_many_fields, behind_value}
 use Rattle.rhai_grammar.specs.Written.{next_key, LinkSpot, behind_operand, behind_bracket, behind_dot}
 use Rattle.rhai_grammar.specs.Chains.{Link, chained, index_refusal, last_fault}
 use Rattle.rhai_grammar.specs.Beginnings as begin
-use Rattle.rhai_grammar.specs.Beginnings.{Beginning, beginning, unexpected, missing, is_range, closes, Calling, calling, calls, may_be_called, is_this, Following, following, no_argument, is_close, Linking, ABracket, ADot, NoLinking, linking, closes_index, is_name, MemberPlace, AMember, NoMember, member_place}
+use Rattle.rhai_grammar.specs.Beginnings.{Beginning, beginning, unexpected, missing, is_range, closes, Calling, calling, calls, may_be_called, is_this, Following, following, no_argument, is_close, Linking, ABracket, ADot, NoLinking, linking, is_name, MemberPlace, AMember, NoMember, member_place}
 use Rattle.rhai_grammar.specs.Signs.{signed, sign_holds, malformed}
 use Rattle.rhai_grammar.specs.Operators.{operator_tree, boolean_holds, mismatched}
 use Rattle.rhai_grammar.specs.Strengths.{Behind, Operator, Unknown, Other, behind_of}
@@ -87,6 +90,10 @@ pub data Prog (A : Type 0) : Type 0 where
 abbrev pub raised : {A : Type 0} → Context → Position → (Context → Prog A) → Prog A
 raised c at k = if has_room c then k (level_up c) else Fail (refusal cause.ExprTooDeep at)
 
+-- this token is due, or what else is there is refused
+abbrev pub match_token : {A : Type 0} → DueToken → Prog A → Prog A
+match_token d p = Peek (λ l at. if is_due d l then Take p else Fail (refusal (not_due d l) at))
+
 abbrev pub whole_at : Node → Lexeme → Position → Prog Node
 whole_at e l at = if is_end l then Ret e else Fail (refusal (unexpected l) at)
 
@@ -103,15 +110,11 @@ word_at c word at l pos =
     if is_this word then (if in_function c.settings then Ret (this at) else Fail (refusal (cause.BadInput (cause.ImproperSymbol word)) at)) else
     Fail (refusal (cause.Reserved word) at)
 
--- behind an expression in parentheses
-abbrev pub group_at : Node → Lexeme → Position → Prog Node
-group_at x l pos = if is_close (following l) then Take (Ret x) else Fail (refusal (missing (codes ")") l) pos)
-
 abbrev pub primary_at : Context → Live → Lexeme → Position → Beginning → Prog Node
 primary_at c w l at (begin.Single node) = Take (Ret (node at))
 primary_at c w l at (begin.AName name) = Take (Peek (name_at w name at))
 primary_at c w l at (begin.AWord word) = Take (Peek (word_at c word at))
-primary_at c w l at begin.AGroup = Take (raised c at (λ d. Call (Expression d w) (λ x. Peek (group_at x))))
+primary_at c w l at begin.AGroup = Take (raised c at (λ d. Call (Expression d w) (λ x. match_token due.RightParen (Ret x))))
 primary_at c w l at begin.AnArray = Take (raised c at (λ d. Call (Elements d w at no_nodes) (λ ns. Ret (array ns at))))
 primary_at c w l at begin.AMap = Take (raised c at (λ d. Call (Fields d w at no_properties) (λ ps. Ret (object_map ps at))))
 primary_at c w l at begin.ASign = Fail (refusal (unexpected l) at)
@@ -191,15 +194,10 @@ abbrev pub room_at : Context → Properties → Text → Position → Lexeme →
 room_at c before key at l pos =
     if full c.sizes.map (property_count before) then Fail (refusal (too_many_fields c.sizes.map) pos) else Ret (Some (key, at))
 
--- behind a key
-abbrev pub colon_at : Context → Properties → Text → Position → Lexeme → Position → Prog (Option (Text × Position))
-colon_at c before key at l pos =
-    if is_colon l then Take (Peek (room_at c before key at)) else Fail (refusal (missing (codes ":") l) pos)
-
 abbrev pub key_on : Context → Properties → Position → KeyPlace → Prog (Option (Text × Position))
 key_on c before at FieldsEnd = Take (Ret None)
 key_on c before at (AKey key) =
-    Take (if has_key key before then Fail (refusal (cause.DuplicatedProperty key) at) else Peek (colon_at c before key at))
+    Take (if has_key key before then Fail (refusal (cause.DuplicatedProperty key) at) else match_token due.Colon (Peek (room_at c before key at)))
 key_on c before at (NoKey why) = Fail (refusal why at)
 
 -- behind a value
@@ -217,12 +215,9 @@ field_on c w opening before (Some key) = raised c opening (λ d. Call (Expressio
 
 -- ---- chains
 
--- behind an index, which may be refused
-abbrev pub index_at : Node → Lexeme → Position → Prog Node
-index_at x l at = if closes_index l then Take (Ret x) else Fail (refusal (missing (codes "]") l) at)
-
+-- after an index, which may be refused
 abbrev pub index_on : Node → Option Refusal → Prog Node
-index_on x None = Peek (index_at x)
+index_on x None = match_token due.RightBracket (Ret x)
 index_on x (Some e) = Fail e
 
 -- behind a member's name

@@ -11,7 +11,8 @@ use Rattle.rhai_grammar.specs.Contexts.{Context, Live}
 use Rattle.rhai_grammar.specs.Beginnings.{beginning, is_sign, closes, calls, member_place, is_member}
 use Rattle.rhai_grammar.specs.Strengths.{Behind, behind_of, strength}
 use Rattle.rhai_grammar.specs.Forms as form
-use Rattle.rhai_grammar.specs.Forms.{Primary, Base, Links, Operand, Arguments, Items, Elements, Fields, Run, Just, Binary}
+use Rattle.rhai_grammar.specs.Forms.{Primary, Base, Links, Operand, Arguments, Items, Elements, Fields, Run, Just}
+use Rattle.rhai_grammar.specs.Forms.{Binary}
 use Rattle.rhai_grammar.specs.Trees.{tree}
 use Rattle.rhai_grammar.specs.Demands.{Demands, Next, Met, Missed}
 use Rattle.rhai_grammar.specs.Written as W
@@ -22,7 +23,8 @@ use Rattle.rhai_reading.specs.Histories.{State, Outcome}
 use Rattle.rhai_reading.proofs.Joins.{cursor}
 use Rattle.rhai_reading.proofs.Rules.{at}
 use Rattle.rhai_reading.proofs.Strengths.{next_goes_on}
-use Rattle.rhai_reading.proofs.FormKinds.{runs, operands, primaries, tree_before, bases, expressions, enclosed, items, callings, elements, fields, next_keys, links, indices, members}
+use Rattle.rhai_reading.proofs.FormKinds.{runs, operands, primaries, tree_before, bases, expressions, enclosed, items}
+use Rattle.rhai_reading.proofs.FormKinds.{callings, elements, fields, next_keys, links, indices, members}
 use Rattle.rhai_reading.proofs.Looks.{op_at, behind_at, operator_in}
 use Rattle.rhai_reading.proofs.Paths.{Fits, Fails, Way, Lost}
 use Rattle.rhai_reading.proofs.Shows.{Histories, Ensures, Tells, Halts, Answers, Passed}
@@ -65,8 +67,12 @@ abbrev pub Sound : (g : Goal) → Point → Outcome (Val g) → Type 0
 Sound (R.Whole c w) s o = Ensures (WholeRead c w s) (WholeHalts c w s) o
 Sound (R.Expression c w) s o = Answers (expressions c w) s o
 Sound (R.Operand c w ranged) s o = Answers (operands c w ranged) s o
-Sound (R.Primary c w) s o = (ranged : Bool) → (ranged && closes (op_at s)) ≡ false → is_sign (beginning (op_at s)) ≡ false → Answers (primaries c w ranged) s o
-Sound (R.Postfix c w x) s o = (ranged : Bool) (from : Point) (p : Primary) → tree_before w s p ≡ x → Passed (primaries c w ranged) p from s → Answers (bases c w ranged) from o
+Sound (R.Primary c w) s o =
+    (ranged : Bool) → (ranged && closes (op_at s)) ≡ false → is_sign (beginning (op_at s)) ≡ false
+    → Answers (primaries c w ranged) s o
+Sound (R.Postfix c w x) s o =
+    (ranged : Bool) (from : Point) (p : Primary) → tree_before w s p ≡ x → Passed (primaries c w ranged) p from s
+    → Answers (bases c w ranged) from o
 Sound (R.Called c w name) s o = calls (op_at s) ≡ true → Answers (callings c w name) s o
 Sound (R.Links w q) s o = Answers (links w q) s o
 Sound (R.Index c w indexed) s o = Answers (indices c w indexed) s o
@@ -76,8 +82,12 @@ Sound (R.Items c w before) s o = Answers (items c w before) s o
 Sound (R.Elements c w opening before) s o = Answers (elements c w opening before) s o
 Sound (R.Fields c w opening before) s o = Answers (fields c w opening before) s o
 Sound (R.NextKey c before) s o = Answers (next_keys c before) s o
-Sound R.NextOperator s o = Tells (λ v t. (t ≡ s) × (v ≡ operator_in (behind_at s)) × Fits operator_known s) (λ e u. Fails (Next operator_known) s e × (u.point ≡ s) × StandsAtLast e (cursor u)) o
-Sound (R.BinaryOp c w pos p lhs) s o = (q : Spot) (from : Point) (L : Run) → q.live ≡ w → tree L q.live ≡ lhs → height_after q L ≡ record { settings = c; at = pos } → Suits p q.side → Ended L (behind_at s) → Stands q from L s
+Sound R.NextOperator s o =
+    Tells (λ v t. (t ≡ s) × (v ≡ operator_in (behind_at s)) × Fits operator_known s)
+    (λ e u. Fails (Next operator_known) s e × (u.point ≡ s) × StandsAtLast e (cursor u)) o
+Sound (R.BinaryOp c w pos p lhs) s o =
+    (q : Spot) (from : Point) (L : Run) → q.live ≡ w → tree L q.live ≡ lhs
+    → height_after q L ≡ record { settings = c; at = pos } → Suits p q.side → Ended L (behind_at s) → Stands q from L s
     → Tells (RunRead q p from) (Halts (runs q) from) o
 
 pub record AllSound (call : Histories) : Type 0 where

@@ -16,7 +16,8 @@ use Rattle.rhai_reading.proofs.Rules.{at}
 use Rattle.rhai_reading.proofs.Strengths.{Sensible, sensible, next_goes_on, outer}
 use Rattle.rhai_reading.proofs.Looks.{op_at, behind_at, fine as known_fine}
 use Rattle.rhai_reading.proofs.Paths.{Fits, ◌▹◌, here, lost, Way, To, reached}
-use Rattle.rhai_reading.proofs.Shows.{Histories, Ensures, Shows, Halts, Goes, ill, fine, over, ret, look, raise, check, part}
+use Rattle.rhai_reading.proofs.Shows.{Histories, Ensures, Shows, Halts, Goes, ill, fine, over, ret, look, raise, check}
+use Rattle.rhai_reading.proofs.Shows.{part}
 use Rattle.rhai_reading.proofs.FormKinds.{expressions, wholes}
 use Rattle.rhai_reading.proofs.Sound.Law.{Sound, AllSound, WholeRead, WholeHalts, any_run}
 use Rattle.rhai_reading.proofs.Sound.Runs.{run_part}
@@ -39,17 +40,27 @@ module _ {call : Histories} (ih : AllSound call) (c : Context) (w : Live) (s : P
       run_part ih (outermost (level_up c) w) s (Just x) refl refl refl (λ l e. refl) tt
       (record { passes = λ known. over (λ k o r. X.on (known ▹ r)); stops = λ e r k. X.on (lost r) })
       (λ f. f) (λ f k o r. fine m (rw below) ▹ r _) (λ f u d G off known.
-      ret (record { form = f; is = refl; passes = over (λ k o r. fine m (rw below) ▹ G.on (ends_fine u off known ▹ r)) })))))
+      ret (record {
+        form = f;
+        is = refl;
+        passes = over
+            (λ k o r. fine m (rw below) ▹ G.on (ends_fine u off known ▹ r));
+      })))))
 
-  whole_by : (b : Bool) → Shows call (λ x t. (f : Run) × (tree f w ≡ x) × Way (W.whole_expression f c w) s (To t)) (Halts (wholes c w) s) (body (R.Whole c w)) s b
+  whole_by : (b : Bool) → Shows call (λ x t. (f : Run) × (tree f w ≡ x) × Way (W.whole_expression f c w) s (To t))
+      (Halts (wholes c w) s) (body (R.Whole c w)) s b
   whole_by b =
       part (ih.of (R.Expression c w) s b) (λ f. f) (λ f k o r. r _) (λ f t a G.
-      look (λ m. check (is_end (op_at t)) f (λ rest k. G.on (ill m (rw rest))) (λ end. ret (f, refl, G.on (fine m (rw end) ▹ here)))))
+      look (λ m. check (is_end (op_at t)) f (λ rest k. G.on (ill m (rw rest)))
+      (λ end. ret (f, refl, G.on (fine m (rw end) ▹ here)))))
 
-written : (c : Context) (w : Live) (s : Point) (o : Outcome Node) → Ensures (λ x t. (f : Run) × (tree f w ≡ x) × Way (W.whole_expression f c w) s (To t)) (Halts (wholes c w) s) o → Ensures (WholeRead c w s) (WholeHalts c w s) o
+written : (c : Context) (w : Live) (s : Point) (o : Outcome Node)
+    → Ensures (λ x t. (f : Run) × (tree f w ≡ x) × Way (W.whole_expression f c w) s (To t)) (Halts (wholes c w) s) o
+    → Ensures (WholeRead c w s) (WholeHalts c w s) o
 written c w s (Done x t) h = (h.0, (h.1.0, h.1.1, reached h.1.2))
 written c w s (Refused e t) h = λ z. let r = h z in (r.form, reached (r.stops {k = Nothing}), r.last)
 written c w s Unfinished h = tt
 
-pub whole : {call : Histories} → AllSound call → (c : Context) (w : Live) (s : Point) (b : Bool) → Sound (R.Whole c w) s (exec call (body (R.Whole c w)) (at s b))
+pub whole : {call : Histories} → AllSound call → (c : Context) (w : Live) (s : Point) (b : Bool)
+    → Sound (R.Whole c w) s (exec call (body (R.Whole c w)) (at s b))
 whole ih c w s b = written c w s _ (whole_by ih c w s b).shown
