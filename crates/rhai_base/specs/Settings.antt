@@ -4,7 +4,7 @@ use Rattle.rhai_lower.specs.Positions.{place}
 use Rattle.rhai_lower.specs.declared.position.Position.{Position}
 use Rattle.rhai_grammar.specs.declared.error.ParseErrorType.TheVariants as error
 use Rattle.rhai_grammar.specs.declared.error.ParseError.{ParseError}
-use Rattle.rhai_grammar.specs.Settings.{Settings, low, up, one_more}
+use Rattle.rhai_grammar.specs.Settings.{Settings, has_room, level_up, one_more}
 use Rattle.rhai_base.specs.declared.settings.ParseSettings.{ParseSettings}
 
 -- all but the position
@@ -18,8 +18,8 @@ too_deep at = record { 0 = error.ExprTooDeep; 1 = at }
 -- A raise finds room and gives the settings one level deeper, at this position, or it finds none and is refused at the
 -- old one.
 abbrev pub Raises : ParseSettings → Position → Result ParseSettings ParseError → Type 0
-Raises c at (Ok d) = (low (settings_of c) ≡ true) × (settings_of d ≡ up (settings_of c)) × (d.pos ≡ at)
-Raises c at (Err e) = (low (settings_of c) ≡ false) × (e ≡ too_deep c.pos)
+Raises c at (Ok d) = (has_room (settings_of c) ≡ true) × (settings_of d ≡ level_up (settings_of c)) × (d.pos ≡ at)
+Raises c at (Err e) = (has_room (settings_of c) ≡ false) × (e ≡ too_deep c.pos)
 
 -- no flags and no options
 abbrev bare : (level limit : ℕ) → Position → ParseSettings

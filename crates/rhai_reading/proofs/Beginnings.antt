@@ -1,4 +1,4 @@
--- The token behind each view of one.
+-- Which token it is that a view of one found.
 use Rattle.std.proofs.Common.{◌≡◌, ℕ, Bool, true, false, refl, subst, if◌then◌else◌}
 use Rattle.rhai_lower.specs.Lexemes.{Lexeme, Name, Reserved, Sign, String, text_of}
 use Rattle.rhai_lower.specs.declared.position.Position.{Position}
@@ -38,7 +38,7 @@ begins _ p = tt
 pub begun : {v : Beginning} (s : Point) → beginning (op_at s) ≡ v → Begins v (next_at code s)
 begun s e = subst (λ v. Begins v (next_at code s)) e (begins (op_at s) (pos_at s))
 
--- ---- behind a name
+-- ---- after a name
 
 abbrev pub Calls : Calling → Item → Type 0
 Calls WithPair i = i ≡ item (Sign token.Unit) i.at
@@ -55,7 +55,7 @@ calls _ p = tt
 pub called : {v : Calling} (s : Point) → calling (op_at s) ≡ v → Calls v (next_at code s)
 called s e = subst (λ v. Calls v (next_at code s)) e (calls (op_at s) (pos_at s))
 
--- ---- behind a part of a list, which this token closes
+-- ---- after a part of a list, which this token closes
 
 abbrev pub Follows : (close : Token) → Following → Item → Type 0
 Follows close AComma i = i ≡ item (Sign token.Comma) i.at

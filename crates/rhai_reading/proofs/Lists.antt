@@ -7,7 +7,7 @@ use Rattle.rhai_lower.specs.declared.position.Position.{Position}
 use Rattle.rhai_grammar.specs.Operators.{joined}
 use Rattle.rhai_grammar.specs.Trees.{node_count}
 
--- nodes behind those before them
+-- nodes after those before them
 pub added : (ns : Nodes) (x : Node) (ms : Nodes) → joined (with_node ns x) ms ≡ joined ns (one_node x ms)
 added no_nodes x ms = refl
 added (one_node n ns) x ms = ap (one_node n) (added ns x ms)
@@ -24,7 +24,7 @@ pub one_more_node : (ns : Nodes) (x : Node) → node_count (with_node ns x) ≡ 
 one_more_node no_nodes x = refl
 one_more_node (one_node n ns) x = ap (λ count. count + 1) (one_more_node ns x)
 
--- the properties of one list behind those of another
+-- the properties of one list after those of another
 abbrev pub joined_properties : Properties → Properties → Properties
 joined_properties no_properties qs = qs
 joined_properties (one_property key pos x ps) qs = one_property key pos x (joined_properties ps qs)
@@ -43,6 +43,6 @@ pub no_property : (ps : Properties) → joined_properties ps no_properties ≡ p
 no_property no_properties = refl
 no_property (one_property key pos x ps) = ap (one_property key pos x) (no_property ps)
 
--- what stands behind one more
+-- what stands after one more
 pub behind_one_more : {A : Type 0} (xs : List A) (x : A) (ys : List A) → (xs ++ (x ∷ [])) ++ ys ≡ xs ++ (x ∷ ys)
 behind_one_more xs x ys = append_assoc xs (x ∷ []) ys

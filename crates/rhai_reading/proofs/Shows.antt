@@ -199,7 +199,7 @@ module _ {A F B : Type 0} {call : Histories} {Q : A → Point → Type 0} {K : K
       called h (λ e t r. record { form = wrap r.form; stops = way r.form _ _ (λ j. r.stops); last = r.last })
       (λ x t b r. subst (λ y. Shows call Q (Halts K from) (k y) t b) r.is (on r.form t b r.passes))
 
--- ---- what stands behind a part of a list: a comma, what closes the list, or what is refused
+-- ---- what stands after a part of a list: a comma, what closes the list, or what is refused
 
 module _ {A F : Type 0} {call : Histories} {K : Kind F A} {from : Point} where
   pub separated : (view : Lexeme → Following) (next : Position → Following → Prog A) {s : Point} {b : Bool}

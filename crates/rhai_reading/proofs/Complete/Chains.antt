@@ -1,4 +1,4 @@
--- Brackets and dots behind an operand: the steps to what is written.
+-- Brackets and dots after an operand: the steps to what is written.
 use Rattle.std.proofs.Common.{◌≡◌, Bool, true, false, Option, Some, None, List, [], ◌∷◌, ◌++◌, append-nil, refl, sym}
 use Rattle.std.specs.Option.{is_some}
 use Rattle.rhai_lower.specs.Texts.{Text}
@@ -27,7 +27,7 @@ use Rattle.rhai_reading.proofs.Looks.{op_at, pos_at, no_other}
 use Rattle.rhai_reading.proofs.Complete.Law.{ArgumentsRead, LinksRead, ExpressionRead}
 use Rattle.rhai_reading.proofs.Complete.Calls.{call_here, called_by}
 
--- behind the last link
+-- after the last link
 pub no_link : LinksRead form.NoLink
 no_link q w k s t b m =
     next W.unlinked m.0 (λ e. seen (no_link_is (linking (op_at s)) (no_other (is_link (linking (op_at s))) e).0)

@@ -26,7 +26,7 @@ use Rattle.rhai_reading.proofs.Strengths.{next_goes_on}
 
 -- ---- what stands in the laws
 
--- No token behind x is in the way: it can be read, and calls x only where that is called.
+-- No token after x is in the way: it can be read, and calls x only where that is called.
 abbrev pub Usable : Node → (called : Bool) → Lexeme → Type 0
 Usable x called l = (is_memory l ≡ false) × (is_variable x ≡ true → calls l ≡ called)
 

@@ -28,7 +28,7 @@ use Rattle.rhai_reading.proofs.Complete.Law.{PrimaryRead, ElementsRead, FieldsRe
 
 module _ (c : Context) (w : Live) (opening : Position) (before : Nodes) {x : Node} {j k : Demands} {s t : Point}
     {b : Bool} {all : Nodes} where
-  -- an item, from what it comes to, and what stands behind it
+  -- an item, from what it comes to, and what stands after it
   element : verdict (W.item_due c.sizes.array (node_count before)) (op_at s) ≡ Fine → has_room c ≡ true
       → Reaches (body (R.Expression (level_up c) w)) s true x j t
       → ((u : Point) (l : Bool) → Met j u t → Reaches (R.element_on c w opening before x) u l all k t)

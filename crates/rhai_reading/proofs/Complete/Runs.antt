@@ -29,7 +29,7 @@ use Rattle.rhai_reading.proofs.Looks.{behind_at, operator_in, climb, fine}
 use Rattle.rhai_reading.proofs.Strengths.{sensible, next_goes_on, right_is, left_is, left_down, not_true}
 use Rattle.rhai_reading.proofs.Tokens.{operator_readable}
 
--- what stands behind an operand is looked at
+-- what stands after an operand is looked at
 pub next_operator : (s : Point) (b : Bool) → verdict operator_known (next_at code s).lexeme ≡ Fine
     → Runs (body NextOperator) (at s b) (Done (operator_in (behind_at s)) (at s true))
 next_operator s b e =

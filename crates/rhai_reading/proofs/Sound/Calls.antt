@@ -47,7 +47,7 @@ paren_trees w opening (Closed closing) = refl
 paren_trees w opening (Listing list) = refl
 
 module _ {call : Histories} (ih : AllSound call) (c : Context) (w : Live) (name : Position) (s : Point) where
-  -- the arguments begin at u, behind what leads there
+  -- the arguments begin at u, after what leads there
   module _ (bang : Option Position) (others : Lexeme → Verdict) (u : Point) (b : Bool)
       (lead : (args : Arguments) (k : Demands) (o : Aim) → Way (W.arguments args others c w name k) u o
       → Way (call_of c w name (By bang args) k) s o) where
@@ -61,7 +61,7 @@ module _ {call : Histories} (ih : AllSound call) (c : Context) (w : Live) (name 
         (λ t l. ap (λ (ns : Nodes). (is_some bang, ns)) (paren_trees w (pos_at u) l))
         (λ l k o r. lead _ _ _ (paren l _ c w _ _ (called u e) r)))
 
-  -- behind the `!`
+  -- after the `!`
   bang_by : next_at code s ≡ item (Sign token.Bang) (pos_at s) → (v : Calling) → calling (op_at (past code s)) ≡ v
       → is_memory (op_at (past code s)) ≡ false
       → Goes call (callings c w name) s (R.bang_at c w name (op_at (past code s)) (pos_at (past code s)) v)
@@ -110,29 +110,24 @@ module _ {call : Histories} (ih : AllSound call) (c : Context) (w : Live) (range
   call_way v (By None args) k o r = G.on (v ▹ r)
   call_way v (By (Some bang) args) k o r = G.on (v ▹ r)
 
-  -- whether something calls it or not
-  postfix_by : (b : Bool) → calls (op_at s) ≡ b → is_memory (op_at s) ≡ false → is_variable (primary_tree p w b) ≡ true
-      → Goes call (bases c w ranged) from (if b then R.Call (R.Called c w (position_of (primary_tree p w b)))
-      (λ a. Ret (call_tree (primary_tree p w b) a.0 a.1)) else Ret (primary_tree p w b)) s true
-  postfix_by true e m v =
+  -- whether something calls it, and whether it is a variable
+  postfix_by : (b v : Bool) → calls (op_at s) ≡ b → is_variable (primary_tree p w b) ≡ v → is_memory (op_at s) ≡ false
+      → let x = primary_tree p w b in
+      Goes call (bases c w ranged) from
+      (if v && b then R.Call (R.Called c w (position_of x)) (λ a. Ret (call_tree x a.0 a.1)) else Ret x) s true
+  postfix_by true true e v m =
       ends (ih.of (R.Called c w (position_of (primary_tree p w true))) s true e) (with_call p)
       (λ t f. with_call_tree p w f) (call_way v)
-  postfix_by false e m v = done (form.Plain p) (λ k o r. G.on (fine m (rw (v, e)) ▹ r))
+  postfix_by false true e v m = done (form.Plain p) (λ k o r. G.on (fine m (rw (v, e)) ▹ r))
+  postfix_by b false e v m =
+      let same = same_tree p w b v in
+      gives (form.Plain p) same (λ k o r. G.on (fine m (simp (ap is_variable same ∙ v)) ▹ r))
 
   pub postfix : (x : Node) (b : Bool) → tree_before w s p ≡ x
       → Goes call (bases c w ranged) from (body (R.Postfix c w x)) s b
   postfix x b is =
       subst (λ y. Goes call (bases c w ranged) from (body (R.Postfix c w y)) s b) is
-      (look (λ m. postfix_of (is_variable (tree_before w s p)) refl m))
-    where
-      postfix_of : (v : Bool) → is_variable (tree_before w s p) ≡ v → is_memory (op_at s) ≡ false
-          → Goes call (bases c w ranged) from (if v && calls (op_at s) then R.Call
-          (R.Called c w (position_of (tree_before w s p)))
-          (λ a. Ret (call_tree (tree_before w s p) a.0 a.1)) else Ret (tree_before w s p)) s true
-      postfix_of true v m = postfix_by (calls (op_at s)) refl m v
-      postfix_of false v m =
-          let same = same_tree p w (calls (op_at s)) v in gives (form.Plain p) same
-          (λ k o r. G.on (fine m (simp (ap is_variable same ∙ v)) ▹ r))
+      (look (λ m. postfix_by (calls (op_at s)) (is_variable (tree_before w s p)) refl refl m))
 
 -- ---- arguments
 

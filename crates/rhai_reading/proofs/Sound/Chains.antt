@@ -1,4 +1,4 @@
--- Brackets and dots behind an operand.
+-- Brackets and dots after an operand.
 use Rattle.std.proofs.Common.{◌≡◌, Bool, true, false, Option, Some, None, List, [], ◌∷◌, ◌++◌, append-nil, refl, sym}
 use Rattle.std.proofs.Common.{ap, subst, if◌then◌else◌}
 use Rattle.std.specs.Prelude.{option_map}
@@ -136,7 +136,7 @@ member_links w dot pos before (AMethod name is name_at (By bang args)) rest =
     sym (behind_one_more before _ (link_list rest w))
 
 module _ {call : Histories} (ih : AllSound call) (w : Live) (q : LinkSpot) (s : Point) where
-  -- behind the last link
+  -- after the last link
   links_end : Fits W.unlinked s → (v : Option Refusal) → last_fault q.before ≡ v
       → Goes call (links w q) s (R.links_end q.before v) s true
   links_end free None e = gives form.NoLink (append-nil q.before) (λ k o r. free ▹ unfaulted e r)
@@ -151,7 +151,7 @@ module _ {call : Histories} (ih : AllSound call) (w : Live) (q : LinkSpot) (s : 
   dot_way dot due below (AMethod name is pos (By None args)) rest k o r = dot ▹ is ▹ refl ▹ due ▹ below ▹ r
   dot_way dot due below (AMethod name is pos (By (Some bang) args)) rest k o r = dot ▹ is ▹ refl ▹ due ▹ below ▹ r
 
-  -- behind a dot
+  -- after a dot
   dot_by : is_dot (linking (op_at s)) ≡ true → (v : MemberPlace) → member_place (op_at (past code s)) ≡ v
       → is_memory (op_at (past code s)) ≡ false
       → Goes call (links w q) s (R.dot_at w q (op_at s) (pos_at s) (pos_at (past code s)) v) (past code s) true

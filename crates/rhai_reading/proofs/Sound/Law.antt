@@ -93,7 +93,7 @@ Sound (R.BinaryOp c w pos p lhs) s o =
 pub record AllSound (call : Histories) : Type 0 where
   pub of : (g : Goal) (s : Point) (b : Bool) → Sound g s (call g (at s b))
 
--- ---- fillers: what stands behind a missed demand
+-- ---- fillers: what stands after a missed demand
 
 abbrev pub any_primary : Primary
 any_primary = form.Value (Integer (lib.IntN.pos 0)) nowhere

@@ -1,4 +1,4 @@
--- What stands behind an operand, and runs of operators.
+-- What stands after an operand, and runs of operators.
 use Rattle.std.proofs.Common.{◌≡◌, ℕ, Bool, true, false, refl, sym, ap, ◌∙◌, subst}
 use Rattle.std.specs.Prelude.{Option, ◌&&◌}
 use Rattle.rhai_lower.specs.Lexemes.{Lexeme}
@@ -29,7 +29,7 @@ use Rattle.rhai_reading.proofs.Shows.{called, tail, part, lost_at, Kind, Passed}
 use Rattle.rhai_reading.proofs.FormKinds.{runs}
 use Rattle.rhai_reading.proofs.Sound.Law.{AllSound, Ended, Suits, Stands, RunRead}
 
--- ---- what stands behind an operand
+-- ---- what stands after an operand
 
 pub next_operator : (call : Histories) (s : Point) (b : Bool)
     → Shows call (λ v t. (t ≡ s) × (v ≡ operator_in (behind_at s)) × Fits operator_known s)
@@ -70,7 +70,7 @@ side_ended s t off known =
 pub no_symbol : (s : Point) (e : Refusal) (P : Type 0) → Fits operator_known s → Fails (Next operator_known) s e → P
 no_symbol s e P known r = absurd (subst (λ x. D.Refuses x (pos_at s) e) known.fits r)
 
--- An operator that may stand behind a run, and the way to its right side.
+-- An operator that may stand after a run, and the way to its right side.
 record Behinds (q : Spot) (from : Point) (L : Run) (s : Point) : Type 0 where
   pub is : is_operator (behind_at s) ≡ true
   pub right : (r : Run) (k : Demands) (o : Aim)
@@ -95,7 +95,7 @@ module _ {call : Histories} (ih : AllSound call) where
       (λ e t r. record { form = wrap r.form; stops = way r.form _ _ (λ j. r.stops); last = r.last })
       (λ x t a r. subst (λ y. Shows call Q (Halts K from) (k y) t a) r.is (on r.form t a r.passes r.off r.known))
 
-  -- what stands behind an operand, as a part of a form
+  -- what stands after an operand, as a part of a form
   operator_part : {F B : Type 0} {K : Kind F B} {from : Point} {A : Type 0} {Q : A → Point → Type 0}
       {k : Option (ℕ × Bool) → Prog A} {s : Point} {b : Bool} (f : F)
       → ((e : Refusal) → Fails (Next operator_known) s e → (k : Demands) → Way (K.demands f k) from (Lost e s))
@@ -109,7 +109,7 @@ module _ {call : Histories} (ih : AllSound call) where
       (subst (λ v. Shows call Q (Halts K from) (k v) s a) (sym r.1) (on r.2 a)))
 
   module _ (q : Spot) (from s : Point) (L : Run) (p : ℕ) (suits : Suits p q.side) where
-    -- behind an operator that goes on
+    -- after an operator that goes on
     run_on : (h : Behinds q from L s) (b : Bool) → Shows call (RunRead q p from) (Halts (runs q) from)
         (binary_on (height_after q L).settings q.live (height_after q L).at p (tree L q.live) (strength (behind_at s))
         (op_at s) (pos_at s)) s b
@@ -142,7 +142,7 @@ module _ {call : Histories} (ih : AllSound call) where
               no_symbol v e _ known_end r;
         })))))))))
 
-    -- what stands behind a run goes on with it, or does not
+    -- what stands after a run goes on with it, or does not
     run_at : (v : Behind) (b : Bool) → behind_at s ≡ v → Fits operator_known s → Ended L (behind_at s)
         → Stands q from L s → Shows call (RunRead q p from) (Halts (runs q) from)
         (binary_at (height_after q L).settings q.live (height_after q L).at p (tree L q.live) (operator_in v)) s b
