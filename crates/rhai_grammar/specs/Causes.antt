@@ -1,4 +1,4 @@
--- Why a script is refused, as definitions see it: texts are their bytes, and notes for people are left out.
+-- Why a script is refused, as the definitions see it: texts are bytes, and notes for people are left out.
 use Rattle.std.specs.Prelude.{◌≡◌, ℕ, Bool, true, false, refl}
 use Rattle.std.specs.Rc.{rc_str_bytes}
 use Rattle.rhai_lower.specs.Texts.{Text}
@@ -94,7 +94,7 @@ cause_of error.ExprTooDeep = ExprTooDeep
 cause_of error.TooManyFunctions = TooManyFunctions
 cause_of error.OutOfMemory = OutOfMemory
 
--- why, and where
+-- an error: its cause and its position
 pub record Refusal : Type 0 where
   pub cause : Cause
   pub at : Position
@@ -105,7 +105,7 @@ refusal cause at = record { cause = cause; at = at }
 abbrev pub refusal_of : ParseError → Refusal
 refusal_of e = refusal (cause_of e.0) e.1
 
--- memory ran out, which stands nowhere
+-- the error when memory ran out, which has no position
 abbrev pub no_memory : ParseError
 no_memory = record { 0 = error.OutOfMemory; 1 = nowhere }
 
@@ -120,11 +120,11 @@ is_memory_kind _ = false
 abbrev pub is_for_memory : ParseError → Bool
 is_for_memory e = is_memory_kind e.0
 
--- If memory ran out, the error stands nowhere.
+-- If memory ran out, the error has no position.
 abbrev pub MemoryIsNowhere : ParseError → Type 0
 MemoryIsNowhere e = is_for_memory e ≡ true → e ≡ no_memory
 
--- The error says that a script is refused so, unless memory ran out for saying it, which stands nowhere.
+-- The error reports this refusal, unless memory ran out while it was made; then it has no position.
 abbrev pub Says : Refusal → ParseError → Type 0
 Says r e = (is_for_memory e ≡ false → refusal_of e ≡ r) × MemoryIsNowhere e
 
