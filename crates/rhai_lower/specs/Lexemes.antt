@@ -1,4 +1,4 @@
--- Tokens as definitions see them: texts are their bytes.
+-- Tokens as the definitions see them: texts are bytes.
 use Rattle.std.specs.Prelude.{◌≡◌, ℕ, ℤ, [], codes, refl}
 use Rattle.std.specs.Fmt.{signed_decimal}
 use Rattle.std.specs.Rc.{rc_str_bytes}
@@ -27,7 +27,7 @@ fault (error.ImproperSymbol t note) = ImproperSymbol (rc_str_bytes t) (rc_str_by
 fault (error.UnexpectedInput t) = UnexpectedInput (rc_str_bytes t)
 fault error.OutOfMemory = NoMemory
 
--- a token: one with payload, or one that is always written in one way
+-- a token: one with a payload, or one that is always written the same
 pub data Lexeme : Type 0 where
   Integer : ℤ → Lexeme
   Character : ℕ → Lexeme
@@ -62,6 +62,6 @@ text_of (Faulty f) = []
 text_of (Comment t) = t
 text_of (Sign t) = literal_of t
 
--- The token `+` is a sign that is written so.
+-- The token `+` is a sign, and its text is `+`.
 example : (lexeme token.Plus ≡ Sign token.Plus) × (text_of (Sign token.Plus) ≡ codes "+")
 example = (refl, refl)

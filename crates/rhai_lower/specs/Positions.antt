@@ -1,4 +1,4 @@
--- Positions: a line and a column from 1, or none.
+-- Positions: a line and a column, each counted from 1, or none.
 use Rattle.std.specs.Prelude.{◌≡◌, ℕ, zero, suc, Option, Some, None, refl}
 use Rattle.rhai_lower.specs.declared.position.Position.{Position}
 
@@ -10,7 +10,7 @@ place line column = record { line = line; column = column }
 abbrev pub nowhere : Position
 nowhere = place 0 0
 
--- a number from 1, where 0 is none
+-- a number from 1; 0 is none
 abbrev pub from_one : ℕ → Option ℕ
 from_one zero = None
 from_one (suc n) = Some (suc n)

@@ -1,4 +1,4 @@
--- What the tree of the code stands for.
+-- What the tree of the code represents.
 use Rattle.std.specs.Prelude.{ℕ, Option, Some, None, List, [], ◌∷◌, Box, map, option_map, box_value}
 use Rattle.std.specs.Int.NonZero.{non_zero_usize_get}
 use Rattle.std.specs.Rc.{rc_str_bytes}
@@ -39,7 +39,7 @@ named v = record { number = option_map non_zero_usize_get v.index; name = rc_str
 abbrev pub shared_of : List (Ident × Option NonZeroUsize) → List (Text × Position × Option ℕ)
 shared_of vs = map (λ v. (rc_str_bytes v.0.name, v.0.pos, option_map non_zero_usize_get v.1)) vs
 
--- lists of which each item is already seen
+-- lists whose items are views already
 abbrev pub nodes_of : List Node → Nodes
 nodes_of [] = no_nodes
 nodes_of (n ∷ ns) = one_node n (nodes_of ns)
@@ -64,8 +64,8 @@ abbrev pub optional_of : Option (Box Node Global) → Optional
 optional_of None = absent
 optional_of (Some n) = present (box_value n)
 
--- What the structs between expressions and statements are once their parts are seen: two expressions, a guard with two
--- blocks, a call, the parts of `for`, a guard with a block, a case, and all cases of a `switch`.
+-- The views of the structs between expressions and statements, given those of their parts: two expressions, a guard
+-- with two blocks, a call, the parts of `for`, a guard with a block, a case, and all cases of a `switch`.
 abbrev pub Pair : Type 0
 Pair = Node × Node
 
