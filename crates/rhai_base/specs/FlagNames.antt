@@ -24,7 +24,7 @@ option_names =
     ∷ (codes "SHADOWING", 128)
     ∷ []
 
--- Six bits are flags and all eight are options, and `LOOPING` is the bit of 32.
+-- Six bits are flags, all eight are options, and `LOOPING` is bit 32.
 example :
     (known_bits flag_names ≡ 63)
     × (known_bits option_names ≡ 255)
