@@ -4,6 +4,7 @@ use Rattle.std.specs.Prelude.{◌≡◌, ℕ, ◌-◌, ◌^◌, max, refl}
 use Rattle.rhai_grammar.specs.Settings.{one_more}
 use Rattle.rhai_base.specs.declared.counts.ParseCounts.{ParseCounts}
 
+-- functions and closures begun, grammar functions active, and the greatest number active at once
 pub record Counts : Type 0 where
   pub begun : ℕ
   pub active : ℕ
@@ -13,6 +14,7 @@ pub record Counts : Type 0 where
 abbrev pub counts_of : ParseCounts → Counts
 counts_of c = record { begun = c.begun; active = c.active; peak = c.peak }
 
+-- the counts before anything is parsed
 abbrev pub none_yet : Counts
 none_yet = record { begun = 0; active = 0; peak = 0 }
 

@@ -2,6 +2,7 @@
 use Rattle.std.specs.Prelude.{◌≡◌, List, [], ◌∷◌, Some, codes, refl}
 use Rattle.bitflags.specs.Sets.{Row, known_bits, known_from, find_name, find_row}
 
+-- the flags, with their bits
 abbrev pub flag_names : List Row
 flag_names =
     (codes "GLOBAL_LEVEL", 1)
@@ -12,6 +13,7 @@ flag_names =
     ∷ (codes "DISALLOW_UNQUOTED_MAP_PROPERTIES", 32)
     ∷ []
 
+-- the options, with their bits
 abbrev pub option_names : List Row
 option_names =
     (codes "IF_EXPR", 1)

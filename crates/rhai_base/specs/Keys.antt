@@ -21,6 +21,7 @@ key_of k = record { this_type = option_map rc_str_bytes k.this_type; name = rc_s
 abbrev pub keys_of : {V : Type 0} → List (FnKey × V) → List Key
 keys_of entries = map (λ e. key_of e.0) entries
 
+-- two receiver types are equal, or both are absent
 abbrev pub same_type : Option Text → Option Text → Bool
 same_type None None = true
 same_type (Some a) (Some b) = same_text a b

@@ -18,6 +18,7 @@ pub data InputCause : Type 0 where
   MalformedNumber : Text → InputCause
   ImproperSymbol : Text → InputCause
 
+-- why a script is refused: the kinds of error, with texts as bytes
 pub data Cause : Type 0 where
   UnexpectedEOF : Cause
   BadInput : InputCause → Cause
@@ -59,6 +60,7 @@ input_cause (input.Lexer e) = Lexer (fault e)
 input_cause (input.MalformedNumber t) = MalformedNumber (rc_str_bytes t)
 input_cause (input.ImproperSymbol t note) = ImproperSymbol (rc_str_bytes t)
 
+-- the cause of an error kind of the code
 abbrev pub cause_of : ParseErrorType → Cause
 cause_of error.UnexpectedEOF = UnexpectedEOF
 cause_of (error.BadInput e) = BadInput (input_cause e)
@@ -102,6 +104,7 @@ pub record Refusal : Type 0 where
 abbrev pub refusal : Cause → Position → Refusal
 refusal cause at = record { cause = cause; at = at }
 
+-- the refusal of an error of the code
 abbrev pub refusal_of : ParseError → Refusal
 refusal_of e = refusal (cause_of e.0) e.1
 
@@ -117,6 +120,7 @@ abbrev pub is_memory_kind : ParseErrorType → Bool
 is_memory_kind error.OutOfMemory = true
 is_memory_kind _ = false
 
+-- the error says that memory ran out
 abbrev pub is_for_memory : ParseError → Bool
 is_for_memory e = is_memory_kind e.0
 
@@ -128,6 +132,7 @@ MemoryIsNowhere e = is_for_memory e ≡ true → e ≡ no_memory
 abbrev pub Says : Refusal → ParseError → Type 0
 Says r e = (is_for_memory e ≡ false → refusal_of e ≡ r) × MemoryIsNowhere e
 
+-- the refusal when memory ran out, without a position
 abbrev pub out_of_memory : Refusal
 out_of_memory = refusal OutOfMemory nowhere
 

@@ -10,6 +10,7 @@ use Rattle.rhai_grammar.specs.Causes as cause
 use Rattle.rhai_grammar.specs.Kinds.{index_fault}
 use Rattle.rhai_grammar.specs.Causes.{Refusal, refusal}
 
+-- a bracket or a dot
 pub data LinkKind : Type 0 where
   -- `[..]` or `?[..]`
   Bracket : LinkKind
@@ -29,6 +30,7 @@ pub record Chain : Type 0 where
   pub root : Node
   pub links : List Link
 
+-- no link follows
 abbrev pub is_last : List Link → Bool
 is_last [] = true
 is_last _ = false
@@ -83,6 +85,7 @@ abbrev member_fault : Node → Option Refusal
 member_fault (method_call c args p) = method_fault c args p
 member_fault _ = None
 
+-- the error of a link, if its member is not allowed as a method
 abbrev pub link_fault : Link → Option Refusal
 link_fault l = by_kind l.kind
   where

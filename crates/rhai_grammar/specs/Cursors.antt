@@ -8,9 +8,11 @@ use Rattle.rhai_lower.specs.declared.token.Token.{Token}
 use Rattle.rhai_lower.specs.declared.token.Token.TheVariants.{Plus}
 use Rattle.rhai_grammar.specs.Delivered.{Mode, code, text, Item, item, Tokens, Ends, Then, ask, later}
 
+-- a token of the code with its position, as the definitions see it
 abbrev pub item_of : Token × Position → Item
 item_of t = item (lexeme t.0) t.1
 
+-- the tokens that these requests deliver, up to the end mark at this position
 abbrev pub delivered : List Ask → Position → Tokens
 delivered [] end = Ends end
 delivered (a ∷ more) end = let rest = delivered more end in Then (item_of a.code) (item_of a.text) rest rest
@@ -19,6 +21,7 @@ delivered (a ∷ more) end = let rest = delivered more end in Then (item_of a.co
 abbrev pub tokens_of : Stream → Tokens
 tokens_of s = delivered s.asks s.end
 
+-- the mode of a request; the flag says whether it is text mode
 abbrev pub mode_by : Bool → Mode
 mode_by true = text
 mode_by false = code
@@ -29,6 +32,7 @@ pub record Cursor : Type 0 where
   pub mode : Mode
   pub peeked : Bool
 
+-- the stream of the code as a cursor
 abbrev pub cursor_of : Stream → Cursor
 cursor_of s = record { tokens = tokens_of s; mode = mode_by s.in_text; peeked = s.peeked }
 

@@ -15,6 +15,7 @@ pub record Item : Type 0 where
   pub lexeme : Lexeme
   pub at : Position
 
+-- this token at this position
 abbrev pub item : Lexeme → Position → Item
 item l p = record { lexeme = l; at = p }
 
@@ -23,6 +24,7 @@ pub data Tokens : Type 0 where
   Ends : (at : Position) → Tokens
   Then : (in_code in_text : Item) (after_code after_text : Tokens) → Tokens
 
+-- the first value in code mode, the second in text mode
 abbrev pub by_mode : {A : Type 0} → Mode → A → A → A
 by_mode code in_code in_text = in_code
 by_mode text in_code in_text = in_text
@@ -37,6 +39,7 @@ abbrev pub later : Mode → Tokens → Tokens
 later m (Ends p) = Ends p
 later m (Then a b s t) = by_mode m s t
 
+-- the end mark
 abbrev pub is_end : Lexeme → Bool
 is_end (Sign EOF) = true
 is_end _ = false
@@ -56,6 +59,7 @@ pub record Point : Type 0 where
   pub tokens : Tokens
   pub taken : List Taken
 
+-- the next token at a point, requested in a mode
 abbrev pub next_at : Mode → Point → Item
 next_at m s = ask m s.tokens
 

@@ -17,6 +17,7 @@ pub data Verdict : Type 0 where
   Otherwise : Verdict
 
 infixr 5 ◌▸◌
+-- what a form demands at one point of a stream
 pub data Demand : Type 0 where
   -- this token comes next, requested in this mode, and is taken; some other tokens are refused
   Tok : Mode → Item → (others : Lexeme → Verdict) → Demand

@@ -36,6 +36,7 @@ pub data Indexed : Type 0 where
   Counted : Indexed
   Unknown : Indexed
 
+-- which index the value of a node takes
 abbrev pub indexed : Node → Indexed
 indexed (object_map ps p) = Keyed
 indexed (integer n p) = Counted
@@ -51,6 +52,7 @@ pub data IndexKind : Type 0 where
   Never : Text → IndexKind
   Anything : IndexKind
 
+-- the kind of a node as an index
 abbrev pub index_kind : Node → IndexKind
 index_kind (integer n p) = Number
 index_kind (string t p) = Words
@@ -62,6 +64,7 @@ index_kind (conjunction ns p) = Never (codes "a boolean")
 index_kind (disjunction ns p) = Never (codes "a boolean")
 index_kind _ = Anything
 
+-- why an operand does not take an index of this kind; none if it does
 abbrev pub kind_fault : Indexed → IndexKind → Option Text
 kind_fault Keyed Number = Some (codes "Object map expects string index, not a number")
 kind_fault Keyed Words = None

@@ -24,6 +24,7 @@ operator_call op at left right = call (operator_called op) (one_node left (one_n
 abbrev pub contains_called : Option Lexeme → Called
 contains_called op = record { name = codes "contains"; path = []; module_index = None; script_args = Some 2; native_args = 2; captures_scope = false; op_token = op }
 
+-- the call of `contains` for `left in right`, at the operator's position
 abbrev pub contains_call : Option Lexeme → Position → Node → Node → Node
 contains_call op at left right = call (contains_called op) (one_node right (one_node left no_nodes)) at
 
@@ -39,6 +40,7 @@ pub data ListKind : Type 0 where
   Disjunction : ListKind
   Coalescing : ListKind
 
+-- the list of these operands, at this position
 abbrev pub list_tree : ListKind → Nodes → Position → Node
 list_tree Conjunction ns at = conjunction ns at
 list_tree Disjunction ns at = disjunction ns at
@@ -49,6 +51,7 @@ pub data Part : Type 0 where
   Items : Nodes → Position → Part
   Item : Node → Part
 
+-- an operand, as part of a list of this kind
 abbrev pub part : ListKind → Node → Part
 part Conjunction (conjunction ns p) = Items ns p
 part Disjunction (disjunction ns p) = Items ns p
@@ -60,6 +63,7 @@ abbrev pub joined : Nodes → Nodes → Nodes
 joined no_nodes ms = ms
 joined (one_node n ns) ms = one_node n (joined ns ms)
 
+-- the items that a part adds to a list
 abbrev pub items : Part → Nodes
 items (Items ns p) = ns
 items (Item n) = one_node n no_nodes
@@ -72,6 +76,7 @@ list_position at (Item n) = at
 abbrev pub list_of_parts : ListKind → Position → Part → Part → Node
 list_of_parts kind at left right = list_tree kind (joined (items left) (items right)) (list_position at left)
 
+-- the list of two operands
 abbrev pub list_of : ListKind → Position → Node → Node → Node
 list_of kind at left right = list_of_parts kind at (part kind left) (part kind right)
 
@@ -84,6 +89,7 @@ pub data Joining : Type 0 where
   NoMembership : Joining
   Calls : Joining
 
+-- how this operator joins its operands
 abbrev pub joining : Lexeme → Joining
 joining (Sign And) = Lists Conjunction
 joining (Sign Or) = Lists Disjunction
@@ -98,6 +104,7 @@ joined_tree Membership op at left right = contains_call None at left right
 joined_tree NoMembership op at left right = no_membership op at left right
 joined_tree Calls op at left right = operator_call op at left right
 
+-- the tree of an operator at a position with its operands
 abbrev pub operator_tree : Lexeme → Position → Node → Node → Node
 operator_tree op at left right = joined_tree (joining op) op at left right
 
@@ -107,6 +114,7 @@ takes_booleans (Lists Conjunction) = true
 takes_booleans (Lists Disjunction) = true
 takes_booleans _ = false
 
+-- the operator takes this operand, which must be a possible boolean for `&&` and `||`
 abbrev pub boolean_holds : Lexeme → Node → Bool
 boolean_holds op n = if takes_booleans (joining op) then is_none (not_boolean n) else true
 

@@ -22,6 +22,7 @@ pub data Effect : Type 0 where
   Keeps : Effect
   Calls : Effect
 
+-- what this sign does to an integer constant
 abbrev pub effect : Lexeme → Effect
 effect (Sign Minus) = Negates
 effect (Sign UnaryMinus) = Negates
@@ -33,6 +34,7 @@ effect _ = Calls
 abbrev pub sign_called : Lexeme → Called
 sign_called op = record { name = text_of op; path = []; module_index = None; script_args = None; native_args = 1; captures_scope = false; op_token = Some op }
 
+-- the call of a sign, at the sign's position
 abbrev pub sign_call : Lexeme → Position → Node → Node
 sign_call op at n = call (sign_called op) (one_node n no_nodes) at
 
@@ -42,9 +44,11 @@ affected Negates op at (integer n p) = integer (neg_ℤ n) at
 affected Keeps op at (integer n p) = integer n p
 affected e op at n = sign_call op at n
 
+-- the tree of a sign at a position with its operand
 abbrev pub signed : Lexeme → Position → Node → Node
 signed op at n = affected (effect op) (plain_sign op) at n
 
+-- the least integer
 abbrev pub least : ℤ
 least = negsuc (2 ^ 63 - 1)
 
@@ -53,6 +57,7 @@ abbrev pub effect_holds : Effect → Node → Bool
 effect_holds Negates (integer n p) = not (int_eq n least)
 effect_holds e n = true
 
+-- the sign may be applied to this operand, as any but minus on the least integer may
 abbrev pub sign_holds : Lexeme → Node → Bool
 sign_holds op n = effect_holds (effect op) n
 

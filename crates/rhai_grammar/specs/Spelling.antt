@@ -10,9 +10,11 @@ use Rattle.rhai_grammar.specs.Delivered.{code, item, Tokens, Ends, Then, Taken}
 use Rattle.rhai_grammar.specs.Forms as form
 use Rattle.rhai_grammar.specs.Forms.{Primary, Base, Links, Operand, Arguments, Items, Elements, Fields, Run}
 
+-- a token at a position, requested in code mode
 abbrev pub in_code : Lexeme → Position → Taken
 in_code l at = record { mode = code; item = item l at }
 
+-- the `!` of a call, if it has one
 abbrev pub bang_spelling : Option Position → List Taken
 bang_spelling None = []
 bang_spelling (Some at) = in_code (Sign Bang) at ∷ []

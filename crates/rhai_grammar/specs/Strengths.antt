@@ -23,19 +23,23 @@ abbrev pub behind_word : Bool → Text → Behind
 behind_word true t = Other
 behind_word false t = Unknown t
 
+-- what this token is after an operand
 abbrev pub behind_of : Lexeme → Behind
 behind_of (Sign t) = behind_sign (strength_of t) (binds_right t)
 behind_of (Reserved t) = behind_word (is_identifier t) t
 behind_of _ = Other
 
+-- a binary operator
 abbrev pub is_operator : Behind → Bool
 is_operator (Operator n right) = true
 is_operator _ = false
 
+-- the strength of an operator, 0 for anything else
 abbrev pub strength : Behind → ℕ
 strength (Operator n right) = n
 strength _ = 0
 
+-- a right-associative operator
 abbrev pub is_right : Behind → Bool
 is_right (Operator n right) = right
 is_right _ = false

@@ -19,6 +19,7 @@ use Rattle.rhai_grammar.specs.Forms.{Primary, Base, Links, Operand, Arguments, I
 
 -- ---- names and calls
 
+-- a variable without a path
 abbrev pub variable_of : Option ℕ → Text → Position → Node
 variable_of slot name at = variable (record { number = slot; name = name; path = []; module_index = None }) at
 
@@ -26,6 +27,7 @@ variable_of slot name at = variable (record { number = slot; name = name; path =
 abbrev pub name_tree : List SlotValue → (called : Bool) → Text → Position → Node
 name_tree slots called name at = variable_of (if called then None else number name slots) name at
 
+-- the node of a reserved word as an operand
 abbrev pub word_tree : Text → Position → Node
 word_tree word at = if is_this word then this at else variable_of None word at
 
@@ -51,9 +53,11 @@ call_tree name bang arguments = call (function_called (name_of name) bang (node_
 
 -- ---- links
 
+-- a bracket with this index
 abbrev pub bracket_link : (opening : Lexeme) → Position → Node → Link
 bracket_link opening at x = record { kind = Bracket; negated = is_negated opening; at = at; item = x }
 
+-- a dot with this member
 abbrev pub member_link : (dot : Lexeme) → Position → Node → Link
 member_link dot at x = record { kind = Dotted; negated = is_negated dot; at = at; item = x }
 
@@ -61,6 +65,7 @@ member_link dot at x = record { kind = Dotted; negated = is_negated dot; at = at
 abbrev pub method_called : Text → (bang : Bool) → ℕ → Called
 method_called name bang count = record { name = name; path = []; module_index = None; script_args = Some count; native_args = count + 1; captures_scope = bang; op_token = None }
 
+-- a method call, at its name's position
 abbrev pub method_tree : Text → Position → (bang : Bool) → Nodes → Node
 method_tree name at bang arguments = method_call (method_called name bang (node_count arguments)) arguments at
 

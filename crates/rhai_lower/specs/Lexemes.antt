@@ -19,6 +19,7 @@ pub data Fault : Type 0 where
   UnexpectedInput : Text → Fault
   NoMemory : Fault
 
+-- an error of the tokenizer as the definitions see it
 abbrev pub fault : LexError → Fault
 fault error.UnterminatedString = UnterminatedString
 fault (error.StringTooLong n) = StringTooLong n
@@ -39,6 +40,7 @@ pub data Lexeme : Type 0 where
   Comment : Text → Lexeme
   Sign : Token → Lexeme
 
+-- a token of the code as the definitions see it
 abbrev pub lexeme : Token → Lexeme
 lexeme (token.IntegerConstant n) = Integer n
 lexeme (token.CharConstant c) = Character c

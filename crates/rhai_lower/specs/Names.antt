@@ -8,6 +8,7 @@ use Rattle.rhai_lower.specs.Texts.{Text, same_text}
 abbrev pub is_word : ℕ → Bool
 is_word b = is_ascii_alphanumeric b || b == 95
 
+-- the first byte other than an underscore
 abbrev pub first_but_underscore : Text → Option ℕ
 first_but_underscore t = find (λ b. not (b == 95)) t
 
@@ -37,6 +38,7 @@ reserved_as t =
     if is_one_of called_words t then (true, true, false) else
     if same_text t (codes "this") then (true, false, false) else (false, false, false)
 
+-- a text on the list of reserved words
 abbrev pub is_reserved : Text → Bool
 is_reserved t = (reserved_as t).0
 

@@ -15,9 +15,11 @@ abbrev pub from_one : ℕ → Option ℕ
 from_one zero = None
 from_one (suc n) = Some (suc n)
 
+-- the line of a position, counted from 1; none without a position
 abbrev pub line_of : Position → Option ℕ
 line_of p = from_one p.line
 
+-- the column of a position, counted from 1; none without a position
 abbrev pub column_of : Position → Option ℕ
 column_of p = from_one p.column
 

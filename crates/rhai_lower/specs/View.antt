@@ -162,12 +162,15 @@ statement_step (Stmt-F.Import n t p) = Nodes.import_statement (box_value n) (rc_
 statement_step (Stmt-F.Export t a p) = Nodes.export_statement (rc_str_bytes t) (rc_str_bytes a) p
 statement_step (Stmt-F.Share v p) = Nodes.share (shared_of v.items) p
 
+-- an expression of the code as plain data
 abbrev pub view : Expr → Node
 view = fold-Expr Node Statement Pair Flow Seen Rounds Guarded Block Case Choice expr_step statement_step pair_step flow_step call_step rounds_step guarded_step block_step case_step choice_step
 
+-- a statement of the code as plain data
 abbrev pub statement_view : Stmt → Statement
 statement_view = fold-Stmt Node Statement Pair Flow Seen Rounds Guarded Block Case Choice expr_step statement_step pair_step flow_step call_step rounds_step guarded_step block_step case_step choice_step
 
+-- a block of the code as plain data
 abbrev pub block_view : StmtBlock → Block
 block_view = fold-StmtBlock Node Statement Pair Flow Seen Rounds Guarded Block Case Choice expr_step statement_step pair_step flow_step call_step rounds_step guarded_step block_step case_step choice_step
 

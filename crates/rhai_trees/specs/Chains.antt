@@ -16,6 +16,7 @@ abbrev pub link_kind_view : LinkKind → chain.LinkKind
 link_kind_view link_kind.Index = chain.Bracket
 link_kind_view link_kind.Dot = chain.Dotted
 
+-- a link of the code as the definitions see it
 abbrev pub link_view : Link → chain.Link
 link_view l = record { kind = link_kind_view l.kind; negated = l.negated; at = l.pos; item = view l.item }
 
@@ -36,6 +37,7 @@ followed l rest = record { kind = l.kind; negated = l.negated; at = l.at; item =
 abbrev pub open_links : OpenLink → List chain.Link
 open_links o = followed (link_view o.link) (chain_behind o.ends (view o.link.item))
 
+-- the links from an optional one on
 abbrev pub links_left : Option OpenLink → List chain.Link
 links_left None = []
 links_left (Some o) = open_links o
