@@ -3,7 +3,7 @@ use Rattle.std.proofs.Common.{◌≡◌, Bool, true, false, List, [], ◌∷◌,
 use Rattle.rhai_lower.specs.Nodes.{Node, dot, index}
 use Rattle.rhai_lower.specs.declared.position.Position.{Position}
 use Rattle.rhai_grammar.specs.Chains.{Bracket, Chain, Dotted, Link, LinkKind, chain_of, chained, is_last, link_node, nest}
-use Rattle.rhai_grammar.specs.Contexts.{Context}
+use Rattle.rhai_grammar.specs.Contexts.{Live}
 use Rattle.rhai_grammar.specs.Forms as form
 use Rattle.rhai_grammar.specs.Forms.{Base, Links}
 use Rattle.rhai_grammar.specs.Trees.{base_tree, link_list}
@@ -85,19 +85,19 @@ joined_all x [] b hs = refl
 joined_all x (l ∷ ls) b hs = joined_more x [] l ls b hs.0 hs.1
 
 -- Each member in a form is a property or a method, which is not a chain.
-written_may_end : (w : Context) (links : Links) → MayEnd (link_list links w)
+written_may_end : (w : Live) (links : Links) → MayEnd (link_list links w)
 written_may_end w form.NoLink = tt
 written_may_end w (form.Bracket opening at f closing rest) = (λ e. absurd cc, written_may_end w rest)
 written_may_end w (form.Property sign at name name_at rest) = (λ e. refl, written_may_end w rest)
 written_may_end w (form.Method sign at name name_at bang arguments rest) = (λ e. refl, written_may_end w rest)
 
-link_list-followed : (w : Context) (links more : Links) → link_list (followed links more) w ≡ link_list links w ++ link_list more w
+link_list-followed : (w : Live) (links more : Links) → link_list (followed links more) w ≡ link_list links w ++ link_list more w
 link_list-followed w form.NoLink more = refl
 link_list-followed w (form.Bracket opening at f closing rest) more = let e = link_list-followed w rest more in cc
 link_list-followed w (form.Property sign at name name_at rest) more = let e = link_list-followed w rest more in cc
 link_list-followed w (form.Method sign at name name_at bang arguments rest) more = let e = link_list-followed w rest more in cc
 
-equal : (w : Context) (x : Base) (links more : Links) → chained (chained (base_tree x w) (link_list links w)) (link_list more w) ≡ chained (base_tree x w) (link_list (followed links more) w)
+equal : (w : Live) (x : Base) (links more : Links) → chained (chained (base_tree x w) (link_list links w)) (link_list more w) ≡ chained (base_tree x w) (link_list (followed links more) w)
 equal w x links more =
     joined_all (base_tree x w) (link_list links w) (link_list more w) (written_may_end w links)
     ∙ ap (chained (base_tree x w)) (sym (link_list-followed w links more))

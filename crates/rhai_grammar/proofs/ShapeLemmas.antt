@@ -12,7 +12,7 @@ use Rattle.rhai_lower.specs.declared.token.Token.{Token}
 use Rattle.rhai_lower.specs.declared.token.Token.TheVariants as token
 use Rattle.rhai_grammar.specs.Beginnings.{beginning, is_this, sign_beginning, value_at}
 use Rattle.rhai_grammar.specs.Chains.{Bracket, Chain, Dotted, Link, LinkKind, chain_of, chained, is_last, link_node, nest}
-use Rattle.rhai_grammar.specs.Contexts.{Context}
+use Rattle.rhai_grammar.specs.Contexts.{Live}
 use Rattle.rhai_grammar.specs.Forms as form
 use Rattle.rhai_grammar.specs.Forms.{Arguments, Base, Elements, Fields, Items, Links, Operand, Primary, Run}
 use Rattle.rhai_grammar.specs.Laws.{TreesKeepShape}
@@ -169,7 +169,7 @@ chains x (l ∷ ls) =
 -- ---- forms
 
 mutual
-  primary : (x : Primary) (w : Context) (called : Bool) → node_shape (primary_tree x w called) ≡ primary_tree (shape.primary_shape x) w called
+  primary : (x : Primary) (w : Live) (called : Bool) → node_shape (primary_tree x w called) ≡ primary_tree (shape.primary_shape x) w called
   primary (form.Value token at) w called = value token at
   primary (form.Named name at) w called = refl
   primary (form.Word text at) w called = word text (is_this text) at
@@ -178,7 +178,7 @@ mutual
   primary (form.Map opening list) w called = let e = fields list w in cc
   primary (form.Zero range at) w called = refl
 
-  base : (x : Base) (w : Context) → node_shape (base_tree x w) ≡ base_tree (shape.base_shape x) w
+  base : (x : Base) (w : Live) → node_shape (base_tree x w) ≡ base_tree (shape.base_shape x) w
   base (form.Plain x) w = primary x w false
   base (form.Call x mark args) w =
       let e = primary x w true in
@@ -186,7 +186,7 @@ mutual
       let g = bang mark in
       call (primary_tree x w true) (is_some mark) (argument_trees args w) ∙ (cc)
 
-  links : (x : Links) (w : Context) → link_shapes (link_list x w) ≡ link_list (shape.links_shape x) w
+  links : (x : Links) (w : Live) → link_shapes (link_list x w) ≡ link_list (shape.links_shape x) w
   links form.NoLink w = refl
   links (form.Bracket opening at f closing rest) w = let e = run f w in let g = links rest w in cc
   links (form.Property sign at text text_at rest) w = let g = links rest w in cc
@@ -197,7 +197,7 @@ mutual
       let h = method (text_of text) text_at (is_some mark) (argument_trees args w) in
       cc
 
-  operand : (x : Operand) (w : Context) → node_shape (operand_tree x w) ≡ operand_tree (shape.operand_shape x) w
+  operand : (x : Operand) (w : Live) → node_shape (operand_tree x w) ≡ operand_tree (shape.operand_shape x) w
   operand (form.Linked x list) w =
       let e = base x w in
       let f = links list w in
@@ -205,27 +205,27 @@ mutual
   operand (form.Signed sign at x) w = sign_effect (effect sign) (plain_sign sign) at (operand_tree x w) ∙ ap (λ n. signed sign nowhere n) (operand x w)
   operand (form.NoOperand token at) w = refl
 
-  arguments : (x : Arguments) (w : Context) → nodes_shape (argument_trees x w) ≡ argument_trees (shape.arguments_shape x) w
+  arguments : (x : Arguments) (w : Live) → nodes_shape (argument_trees x w) ≡ argument_trees (shape.arguments_shape x) w
   arguments (form.EmptyPair at) w = refl
   arguments (form.Empty opening closing) w = refl
   arguments (form.Listed opening list) w = items list w
 
-  items : (x : Items) (w : Context) → nodes_shape (T.item_trees x w) ≡ T.item_trees (shape.items_shape x) w
+  items : (x : Items) (w : Live) → nodes_shape (T.item_trees x w) ≡ T.item_trees (shape.items_shape x) w
   items (form.Last f closing) w = let e = run f w in cc
   items (form.Trailing f comma closing) w = let e = run f w in cc
   items (form.More f comma rest) w = let e = run f w in let g = items rest w in cc
 
-  elements : (x : Elements) (w : Context) → nodes_shape (T.element_trees x w) ≡ T.element_trees (shape.elements_shape x) w
+  elements : (x : Elements) (w : Live) → nodes_shape (T.element_trees x w) ≡ T.element_trees (shape.elements_shape x) w
   elements (form.NoElement closing) w = refl
   elements (form.LastElement f closing) w = let e = run f w in cc
   elements (form.Element f comma rest) w = let e = run f w in let g = elements rest w in cc
 
-  fields : (x : Fields) (w : Context) → shape.properties_shape (T.field_trees x w) ≡ T.field_trees (shape.fields_shape x) w
+  fields : (x : Fields) (w : Live) → shape.properties_shape (T.field_trees x w) ≡ T.field_trees (shape.fields_shape x) w
   fields (form.NoField closing) w = refl
   fields (form.LastField key at colon f closing) w = let e = run f w in cc
   fields (form.Field key at colon f comma rest) w = let e = run f w in let g = fields rest w in cc
 
-  run : (f : Run) (w : Context) → node_shape (tree f w) ≡ tree (shape.run_shape f) w
+  run : (f : Run) (w : Live) → node_shape (tree f w) ≡ tree (shape.run_shape f) w
   run (form.Just x) w = operand x w
   run (form.Binary op at l r) w =
       let e = run l w in

@@ -15,8 +15,7 @@ use Rattle.rhai_grammar.specs.Beginnings.{unexpected}
 use Rattle.rhai_grammar.specs.Delivered as M
 use Rattle.rhai_grammar.specs.Delivered.{Mode, Point, Tokens, Ends, Then, Taken, ask, later, past, next_at, is_end, is_memory}
 use Rattle.rhai_grammar.specs.Seen.{Gives, leads}
-use Rattle.rhai_grammar.specs.Settings.{Settings, up}
-use Rattle.rhai_grammar.specs.Contexts.{Context}
+use Rattle.rhai_grammar.specs.Contexts.{Context, Live, level_up}
 use Rattle.rhai_grammar.specs.Forms as form
 use Rattle.rhai_grammar.specs.Forms.{Primary, Base, Links, Operand, Arguments, Items, Elements, Fields, Run}
 use Rattle.rhai_grammar.specs.Trees.{bracket_link, member_link, method_tree, primary_tree, base_tree, argument_trees, tree}
@@ -63,12 +62,12 @@ unfaulted None k s t m = m
 unfaulted (Some e) k s t m = let h = m.0 in absurd cc
 
 mutual
-  primary_spelled : (x : Primary) (c : Settings) (w : Context) (ranged : Bool) (k : Demands) (s t : Point) → Met (W.primary x c w ranged k) s t → Spelled (primary_spelling x) k s t
+  primary_spelled : (x : Primary) (c : Context) (w : Live) (ranged : Bool) (k : Demands) (s t : Point) → Met (W.primary x c w ranged k) s t → Spelled (primary_spelling x) k s t
   primary_spelled (form.Value token at) c w ranged k s t m = record { end = past M.code s; met = m.1.1; way = ((m.1.0, tt), refl) }
   primary_spelled (form.Named name at) c w ranged k s t m = record { end = past M.code s; met = m.1; way = ((m.0, tt), refl) }
   primary_spelled (form.Word word at) c w ranged k s t m = record { end = past M.code s; met = m.1.1; way = ((m.0, tt), refl) }
   primary_spelled (form.Group opening inside closing) c w ranged k s t m =
-      let e = run_spelled inside (outermost (up (up c)) w) _ (past M.code s) t m.1.1.1 in
+      let e = run_spelled inside (outermost (level_up (level_up c)) w) _ (past M.code s) t m.1.1.1 in
       record {
         end = past M.code e.end;
         met = e.met.1.1;
@@ -76,14 +75,14 @@ mutual
             (along (spelling inside) (in_code (Sign token.RightParen) closing ∷ []) _ e.end.tokens _ e.way ((e.met.1.0, tt), refl));
       }
   primary_spelled (form.Array opening list) c w ranged k s t m =
-      let e = elements_spelled list 0 (up c) w opening k (past M.code s) t m.1.1 in
+      let e = elements_spelled list 0 (level_up c) w opening k (past M.code s) t m.1.1 in
       record { end = e.end; met = e.met; way = first (Sign token.LeftBracket) opening _ s.tokens _ m.0 e.way }
   primary_spelled (form.Map opening list) c w ranged k s t m =
-      let e = fields_spelled list no_properties (up c) w opening k (past M.code s) t m.1.1 in
+      let e = fields_spelled list no_properties (level_up c) w opening k (past M.code s) t m.1.1 in
       record { end = e.end; met = e.met; way = first (Sign token.MapStart) opening _ s.tokens _ m.0 e.way }
   primary_spelled (form.Zero range at) c w ranged k s t m = record { end = s; met = m.1.1; way = (tt, refl) }
 
-  base_spelled : (x : Base) (c : Settings) (w : Context) (ranged : Bool) (k : Demands) (s t : Point) → Met (W.base x c w ranged k) s t → Spelled (base_spelling x) k s t
+  base_spelled : (x : Base) (c : Context) (w : Live) (ranged : Bool) (k : Demands) (s t : Point) → Met (W.base x c w ranged k) s t → Spelled (base_spelling x) k s t
   base_spelled (form.Plain x) c w ranged k s t m =
       let p = primary_spelled x c w ranged _ s t m in
       record { end = p.end; met = p.met.1; way = p.way }
@@ -101,11 +100,11 @@ mutual
             (first (Sign token.Bang) bang _ p.end.tokens _ p.met.1.0 a.way);
       }
 
-  links_spelled : (x : Links) (q : LinkSpot) (w : Context) (k : Demands) (s t : Point) → Met (W.links x q w k) s t → Spelled (link_spelling x) k s t
+  links_spelled : (x : Links) (q : LinkSpot) (w : Live) (k : Demands) (s t : Point) → Met (W.links x q w k) s t → Spelled (link_spelling x) k s t
   links_spelled form.NoLink q w k s t m = record { end = s; met = unfaulted (last_fault q.before) k s t m.1; way = (tt, refl) }
   links_spelled (form.Bracket opening at f closing rest) q w k s t m =
-      let d = up (up q.brackets) in
-      let e = run_spelled f (outermost (up d) w) _ (past M.code s) t m.1.1.1.1.1 in
+      let d = level_up (level_up q.brackets) in
+      let e = run_spelled f (outermost (level_up d) w) _ (past M.code s) t m.1.1.1.1.1 in
       let i = unfaulted (index_refusal q.indexed (tree f w)) _ e.end t e.met.1 in
       let r = links_spelled rest (behind_bracket q (bracket_link opening at (tree f w))) w k (past M.code e.end) t i.1 in
       record {
@@ -124,7 +123,7 @@ mutual
       }
   links_spelled (form.Method dot at name name_at None args rest) q w k s t m =
       let x = method_tree (text_of name) name_at false (argument_trees args w) in
-      let a = arguments_spelled args W.anything (up q.settings) w name_at _ (past M.code (past M.code s)) t m.1.1.1.1.1.1.1 in
+      let a = arguments_spelled args W.anything (level_up q.settings) w name_at _ (past M.code (past M.code s)) t m.1.1.1.1.1.1.1 in
       let r = links_spelled rest (behind_dot q (member_link dot at x)) w k a.end t a.met in
       record {
         end = r.end;
@@ -136,7 +135,7 @@ mutual
   links_spelled (form.Method dot at name name_at (Some bang) args rest) q w k s t m =
       let x = method_tree (text_of name) name_at true (argument_trees args w) in
       let p = past M.code (past M.code s) in
-      let a = arguments_spelled args W.list_due (up q.settings) w name_at _ (past M.code p) t m.1.1.1.1.1.1.1.1 in
+      let a = arguments_spelled args W.list_due (level_up q.settings) w name_at _ (past M.code p) t m.1.1.1.1.1.1.1.1 in
       let r = links_spelled rest (behind_dot q (member_link dot at x)) w k a.end t a.met in
       record {
         end = r.end;
@@ -146,40 +145,40 @@ mutual
             (first (Sign token.Bang) bang (argument_spelling args ++ link_spelling rest) p.tokens _ m.1.1.1.1.1.1.1.0 (along (argument_spelling args) (link_spelling rest) _ a.end.tokens _ a.way r.way)));
       }
 
-  operand_spelled : (x : Operand) (c : Settings) (w : Context) (ranged : Bool) (k : Demands) (s t : Point) → Met (W.operand x c w ranged k) s t → Spelled (operand_spelling x) k s t
+  operand_spelled : (x : Operand) (c : Context) (w : Live) (ranged : Bool) (k : Demands) (s t : Point) → Met (W.operand x c w ranged k) s t → Spelled (operand_spelling x) k s t
   operand_spelled (form.Linked x list) c w ranged k s t m =
       let b = base_spelled x c w ranged _ s t m in
       let l = links_spelled list (behind_operand c (base_tree x w)) w k b.end t b.met in
       record { end = l.end; met = l.met; way = along (base_spelling x) (link_spelling list) _ b.end.tokens _ b.way l.way }
   operand_spelled (form.Signed sign at x) c w ranged k s t m =
-      let e = operand_spelled x (up c) w false _ (past M.code s) t m.1.1.1 in
+      let e = operand_spelled x (level_up c) w false _ (past M.code s) t m.1.1.1 in
       record { end = e.end; met = e.met.1; way = first sign at _ s.tokens _ m.1.0 e.way }
   operand_spelled (form.NoOperand token at) c w ranged k s t m = record { end = s; met = m.1.1; way = (tt, refl) }
 
-  arguments_spelled : (x : Arguments) (others : Lexeme → Verdict) (c : Settings) (w : Context) (name : Position) (k : Demands) (s t : Point) → Met (W.arguments x others c w name k) s t → Spelled (argument_spelling x) k s t
+  arguments_spelled : (x : Arguments) (others : Lexeme → Verdict) (c : Context) (w : Live) (name : Position) (k : Demands) (s t : Point) → Met (W.arguments x others c w name k) s t → Spelled (argument_spelling x) k s t
   arguments_spelled (form.EmptyPair at) others c w name k s t m = record { end = past M.code s; met = m.1; way = ((m.0, tt), refl) }
   arguments_spelled (form.Empty opening closing) others c w name k s t m = record { end = past M.code (past M.code s); met = m.1.1; way = ((m.0, (m.1.0, tt)), refl) }
   arguments_spelled (form.Listed opening list) others c w name k s t m =
-      let e = items_spelled list (up c) w k (past M.code s) t m.1.1.1 in
+      let e = items_spelled list (level_up c) w k (past M.code s) t m.1.1.1 in
       record { end = e.end; met = e.met; way = first (Sign token.LeftParen) opening _ s.tokens _ m.0 e.way }
 
-  items_spelled : (x : Items) (c : Settings) (w : Context) (k : Demands) (s t : Point) → Met (W.items x c w k) s t → Spelled (item_spelling x) k s t
+  items_spelled : (x : Items) (c : Context) (w : Live) (k : Demands) (s t : Point) → Met (W.items x c w k) s t → Spelled (item_spelling x) k s t
   items_spelled (form.Last f closing) c w k s t m =
-      let e = run_spelled f (outermost (up c) w) _ s t m.1 in
+      let e = run_spelled f (outermost (level_up c) w) _ s t m.1 in
       record {
         end = past M.code e.end;
         met = e.met.1.1;
         way = along (spelling f) _ s.tokens e.end.tokens _ e.way ((e.met.1.0, tt), refl);
       }
   items_spelled (form.Trailing f comma closing) c w k s t m =
-      let e = run_spelled f (outermost (up c) w) _ s t m.1 in
+      let e = run_spelled f (outermost (level_up c) w) _ s t m.1 in
       record {
         end = past M.code (past M.code e.end);
         met = e.met.1.1.1;
         way = along (spelling f) _ s.tokens e.end.tokens _ e.way ((e.met.1.0, (e.met.1.1.0, tt)), refl);
       }
   items_spelled (form.More f comma rest) c w k s t m =
-      let e = run_spelled f (outermost (up c) w) _ s t m.1 in
+      let e = run_spelled f (outermost (level_up c) w) _ s t m.1 in
       let r = items_spelled rest c w k (past M.code e.end) t e.met.1.1.1 in
       record {
         end = r.end;
@@ -187,17 +186,17 @@ mutual
         way = along (spelling f) _ s.tokens e.end.tokens _ e.way (first (Sign token.Comma) comma _ e.end.tokens _ e.met.1.0 r.way);
       }
 
-  elements_spelled : (x : Elements) (count : ℕ) (c : Settings) (w : Context) (opening : Position) (k : Demands) (s t : Point) → Met (W.elements x count c w opening k) s t → Spelled (element_spelling x) k s t
+  elements_spelled : (x : Elements) (count : ℕ) (c : Context) (w : Live) (opening : Position) (k : Demands) (s t : Point) → Met (W.elements x count c w opening k) s t → Spelled (element_spelling x) k s t
   elements_spelled (form.NoElement closing) count c w opening k s t m = record { end = past M.code s; met = m.1; way = ((m.0, tt), refl) }
   elements_spelled (form.LastElement f closing) count c w opening k s t m =
-      let e = run_spelled f (outermost (up (up c)) w) _ s t m.1.1.1 in
+      let e = run_spelled f (outermost (level_up (level_up c)) w) _ s t m.1.1.1 in
       record {
         end = past M.code e.end;
         met = e.met.1.1;
         way = along (spelling f) _ s.tokens e.end.tokens _ e.way ((e.met.1.0, tt), refl);
       }
   elements_spelled (form.Element f comma rest) count c w opening k s t m =
-      let e = run_spelled f (outermost (up (up c)) w) _ s t m.1.1.1 in
+      let e = run_spelled f (outermost (level_up (level_up c)) w) _ s t m.1.1.1 in
       let r = elements_spelled rest (count + 1) c w opening k (past M.code e.end) t e.met.1.1 in
       record {
         end = r.end;
@@ -205,17 +204,17 @@ mutual
         way = along (spelling f) _ s.tokens e.end.tokens _ e.way (first (Sign token.Comma) comma _ e.end.tokens _ e.met.1.0 r.way);
       }
 
-  fields_spelled : (x : Fields) (before : Properties) (c : Settings) (w : Context) (opening : Position) (k : Demands) (s t : Point) → Met (W.fields x before c w opening k) s t → Spelled (field_spelling x) k s t
+  fields_spelled : (x : Fields) (before : Properties) (c : Context) (w : Live) (opening : Position) (k : Demands) (s t : Point) → Met (W.fields x before c w opening k) s t → Spelled (field_spelling x) k s t
   fields_spelled (form.NoField closing) before c w opening k s t m = record { end = past M.code s; met = m.1; way = ((m.0, tt), refl) }
   fields_spelled (form.LastField key at colon f closing) before c w opening k s t m =
-      let e = run_spelled f (outermost (up (up c)) w) _ (past M.code (past M.code s)) t m.1.1.1.1.1.1.1 in
+      let e = run_spelled f (outermost (level_up (level_up c)) w) _ (past M.code (past M.code s)) t m.1.1.1.1.1.1.1 in
       record {
         end = past M.code e.end;
         met = e.met.1.1;
         way = key_spelled key at colon _ s _ m.1.0 m.1.1.1.0 (along (spelling f) _ _ e.end.tokens _ e.way ((e.met.1.0, tt), refl));
       }
   fields_spelled (form.Field key at colon f comma rest) before c w opening k s t m =
-      let e = run_spelled f (outermost (up (up c)) w) _ (past M.code (past M.code s)) t m.1.1.1.1.1.1.1 in
+      let e = run_spelled f (outermost (level_up (level_up c)) w) _ (past M.code (past M.code s)) t m.1.1.1.1.1.1.1 in
       let r = fields_spelled rest (with_property before (text_of key) at (tree f w)) c w opening k (past M.code e.end) t e.met.1.1 in
       record {
         end = r.end;
@@ -226,10 +225,10 @@ mutual
 
   run_spelled : (f : Run) (q : Spot) (k : Demands) (s t : Point) → Met (W.run f q k) s t → Spelled (spelling f) k s t
   run_spelled (form.Just x) q k s t m =
-      let g = operand_spelled x q.first q.walk (is_ranged q.side) _ s t m in
+      let g = operand_spelled x q.first q.live (is_ranged q.side) _ s t m in
       record { end = g.end; met = raised q.side k g.end t g.met.1; way = g.way }
   run_spelled (form.Binary op at l r) q k s t m =
-      let w = q.walk in
+      let w = q.live in
       let left = run_spelled l q _ s t m in
       let right = run_spelled r (right_side op (height_after q l) w) (operands_fit op (tree l w) (tree r w) k) (past M.code left.end) t left.met.1.1.1.1 in
       record {
@@ -239,8 +238,8 @@ mutual
             (first op at _ left.end.tokens _ left.met.1.1.1.0 right.way);
       }
 
-whole_spelled : (c : Settings) (w : Context) (f : Run) (s t : Point) → Met (W.whole_expression f c w) s t → Spelled (spelling f) (Next run_ends ▸ Next end_due ▸ Nothing) s t
-whole_spelled c w f s t m = run_spelled f (outermost (up c) w) _ s t m.1
+whole_spelled : (c : Context) (w : Live) (f : Run) (s t : Point) → Met (W.whole_expression f c w) s t → Spelled (spelling f) (Next run_ends ▸ Next end_due ▸ Nothing) s t
+whole_spelled c w f s t m = run_spelled f (outermost (level_up c) w) _ s t m.1
 
 pub forms_are_spelled : FormsAreSpelled
 forms_are_spelled c w f s t m =

@@ -52,7 +52,6 @@ sign_beginning InclusiveRange = ARange
 sign_beginning EOF = NoBeginning cause.UnexpectedEOF
 sign_beginning t = NoBeginning (unexpected (Sign t))
 
--- what a token begins where an operand is expected
 abbrev pub beginning : Lexeme → Beginning
 beginning (Integer n) = Single (integer n)
 beginning (Character c) = Single (character c)
@@ -89,7 +88,6 @@ closes_sign SemiColon = true
 closes_sign DoubleArrow = true
 closes_sign _ = false
 
--- a token that stands for an omitted unit after a range operator
 abbrev pub closes : Lexeme → Bool
 closes (Sign t) = closes_sign t
 closes _ = false
@@ -109,7 +107,6 @@ sign_calling LeftParen = WithList
 sign_calling Bang = WithBang
 sign_calling _ = NoCall
 
--- how this token calls the name before it
 abbrev pub calling : Lexeme → Calling
 calling (Sign t) = sign_calling t
 calling _ = NoCall
@@ -124,7 +121,6 @@ is_list WithPair = true
 is_list WithList = true
 is_list _ = false
 
--- a token that calls the name before it
 abbrev pub calls : Lexeme → Bool
 calls l = is_call (calling l)
 
@@ -153,7 +149,6 @@ sign_linking Period = ADot
 sign_linking Elvis = ADot
 sign_linking _ = NoLinking
 
--- how this token continues the operand before it
 abbrev pub linking : Lexeme → Linking
 linking (Sign t) = sign_linking t
 linking _ = NoLinking
@@ -176,19 +171,9 @@ is_negated_sign QuestionBracket = true
 is_negated_sign Elvis = true
 is_negated_sign _ = false
 
--- a bracket or dot with a question mark
 abbrev pub is_negated : Lexeme → Bool
 is_negated (Sign t) = is_negated_sign t
 is_negated _ = false
-
-abbrev pub closes_index_sign : Token → Bool
-closes_index_sign RightBracket = true
-closes_index_sign _ = false
-
--- the `]`
-abbrev pub closes_index : Lexeme → Bool
-closes_index (Sign t) = closes_index_sign t
-closes_index _ = false
 
 abbrev method_part : Bool × Bool × Bool → Bool
 method_part (reserved, called, method) = method
@@ -221,7 +206,6 @@ is_name _ = false
 
 -- ---- among arguments
 
--- what comes after an argument or an item
 pub data Following : Type 0 where
   AComma : Following
   AClose : Following
@@ -234,7 +218,6 @@ sign_following RightParen = AClose
 sign_following EOF = NoFollowing (cause.MissingToken (codes ")"))
 sign_following t = NoFollowing (cause.MissingToken (codes ","))
 
--- what comes after an argument
 abbrev pub following : Lexeme → Following
 following (Sign t) = sign_following t
 following l = NoFollowing (missing (codes ",") l)

@@ -1,24 +1,35 @@
--- The context of a form, besides its settings.
+-- What the meaning of a form depends on: the settings and limits around it, and what was defined before it.
 use Rattle.std.specs.Prelude.{◌≡◌, ℕ, Bool, true, false, ◌&&◌, not, List, [], nat_lt, refl}
 use Rattle.rhai_lower.specs.Slots.{SlotValue}
+use Rattle.rhai_grammar.specs.Settings as settings
+use Rattle.rhai_grammar.specs.Settings.{Settings}
 
 -- the greatest number of items in an array literal, and of properties in an object map literal; 0 means no limit
 pub record Sizes : Type 0 where
   pub array : ℕ
   pub map : ℕ
 
+-- What a form passes on to its parts, with only the level changed: the settings, and the engine's limits.
 pub record Context : Type 0 where
+  pub settings : Settings
   pub sizes : Sizes
-  -- the slots of the variables that were defined before and are still live, the oldest first
+
+-- What was defined before a form, in written order, and is still live.
+pub record Live : Type 0 where
+  -- the slots of the variables, the oldest first
   pub slots : List SlotValue
 
--- a context in which nothing was defined
-abbrev pub nothing_live : Sizes → Context
-nothing_live sizes = record { sizes = sizes; slots = [] }
+-- nothing was defined
+abbrev pub nothing_live : Live
+nothing_live = record { slots = [] }
 
--- a context in which nothing was defined, and literals may have any size
-abbrev pub bare : Context
-bare = nothing_live (record { array = 0; map = 0 })
+-- a raise of the level is possible
+abbrev pub has_room : Context → Bool
+has_room c = settings.has_room c.settings
+
+-- one level deeper
+abbrev pub level_up : Context → Context
+level_up c = record c { settings = settings.level_up c.settings }
 
 -- A literal with this number of parts has no room for one more.
 abbrev pub full : (limit count : ℕ) → Bool

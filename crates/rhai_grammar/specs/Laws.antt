@@ -7,8 +7,7 @@ use Rattle.rhai_grammar.specs.Causes.{Refusal}
 use Rattle.rhai_grammar.specs.Delivered.{Point, Ends}
 use Rattle.rhai_grammar.specs.Cursors.{Cursor, delivered}
 use Rattle.rhai_grammar.specs.Seen.{Gives, leads}
-use Rattle.rhai_grammar.specs.Settings.{Settings}
-use Rattle.rhai_grammar.specs.Contexts.{Context}
+use Rattle.rhai_grammar.specs.Contexts.{Context, Live}
 use Rattle.rhai_grammar.specs.Forms.{Base, Links, NoLink, Bracket, Property, Method, Run, Group, Plain, Linked, Just}
 use Rattle.rhai_grammar.specs.Trees.{tree}
 use Rattle.rhai_grammar.specs.Shapes.{run_shape, node_shape}
@@ -19,11 +18,11 @@ use Rattle.rhai_grammar.specs.Promises.{IsWritten}
 
 -- A form whose demands are met is spelled by the tokens that were taken.
 abbrev pub FormsAreSpelled : Type 0
-FormsAreSpelled = (c : Settings) (w : Context) (f : Run) (s t : Point) → Met (whole_expression f c w) s t → Gives (spelling f) s.tokens × (t.tokens ≡ leads (spelling f) s.tokens)
+FormsAreSpelled = (c : Context) (w : Live) (f : Run) (s t : Point) → Met (whole_expression f c w) s t → Gives (spelling f) s.tokens × (t.tokens ≡ leads (spelling f) s.tokens)
 
 -- After a form that fits and spells a delivered stream, the stream is at its end.
 abbrev pub StreamsAreWhole : Type 0
-StreamsAreWhole = (c : Settings) (w : Context) (f : Run) (s t : Point) → IsDelivered s.tokens → Met (whole_expression f c w) s t → (end : Position) × (t.tokens ≡ Ends end)
+StreamsAreWhole = (c : Context) (w : Live) (f : Run) (s t : Point) → IsDelivered s.tokens → Met (whole_expression f c w) s t → (end : Position) × (t.tokens ≡ Ends end)
 
 -- Entries that may be delivered make a delivered stream.
 abbrev pub EntriesAreDelivered : Type 0
@@ -31,7 +30,7 @@ EntriesAreDelivered = (entries : List Entry) (end : Position) → All (λ e. IsT
 
 -- Two forms that fit and spell the same stream have the same tree.
 abbrev pub FormsHaveOneTree : Type 0
-FormsHaveOneTree = (c : Settings) (w : Context) (s : Cursor) (f g : Run) → IsWritten c w f s → IsWritten c w g s → tree f w ≡ tree g w
+FormsHaveOneTree = (c : Context) (w : Live) (s : Cursor) (f g : Run) → IsWritten c w f s → IsWritten c w g s → tree f w ≡ tree g w
 
 -- a verdict that is an error
 abbrev pub is_refused : Verdict → Bool
@@ -51,13 +50,13 @@ IsFair (Shape holds ▸ ds) = holds ≡ true → IsFair ds
 -- In no form is a token both required and refused at one place. So if a form fits along a stream, it gives no error
 -- there.
 pub record FormsAreFair : Type 0 where
-  pub fair : (c : Settings) (w : Context) (f : Run) → IsFair (whole_expression f c w)
-  pub apart : (c : Settings) (w : Context) (f : Run) (s t u : Point) (e : Refusal) →
+  pub fair : (c : Context) (w : Live) (f : Run) → IsFair (whole_expression f c w)
+  pub apart : (c : Context) (w : Live) (f : Run) (s t u : Point) (e : Refusal) →
       Met (whole_expression f c w) s t → Missed (whole_expression f c w) s e u → ⊥
 
 -- Forms that are equal up to positions have trees that are equal up to positions.
 abbrev pub TreesKeepShape : Type 0
-TreesKeepShape = (w : Context) (f g : Run) → run_shape f ≡ run_shape g → node_shape (tree f w) ≡ node_shape (tree g w)
+TreesKeepShape = (w : Live) (f g : Run) → run_shape f ≡ run_shape g → node_shape (tree f w) ≡ node_shape (tree g w)
 
 -- links, and others after them
 abbrev pub followed : Links → Links → Links
@@ -75,8 +74,8 @@ grouped_chain opening x links closing more = Just (Linked (Plain (Group opening 
 -- the two forms fit or not. If the other tokens keep their positions, the trees are equal: the parentheses leave no
 -- trace. Otherwise, as in two scripts, the trees are equal up to positions.
 pub record ChainsAreJoined : Type 0 where
-  pub equal : (w : Context) (opening closing : Position) (x : Base) (links more : Links) →
+  pub equal : (w : Live) (opening closing : Position) (x : Base) (links more : Links) →
       tree (grouped_chain opening x links closing more) w ≡ tree (Just (Linked x (followed links more))) w
-  pub same_shape : (w : Context) (opening closing : Position) (x : Base) (links more : Links) (f : Run) →
+  pub same_shape : (w : Live) (opening closing : Position) (x : Base) (links more : Links) (f : Run) →
       run_shape f ≡ run_shape (Just (Linked x (followed links more))) →
       node_shape (tree (grouped_chain opening x links closing more) w) ≡ node_shape (tree f w)

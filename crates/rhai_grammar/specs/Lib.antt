@@ -1,6 +1,7 @@
 pub mod Causes
 pub mod Settings
 pub mod Delivered
+pub mod DueTokens
 pub mod Cursors
 pub mod Seen
 pub mod Strengths

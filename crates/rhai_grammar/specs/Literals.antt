@@ -5,7 +5,7 @@ use Rattle.rhai_lower.specs.Names.{is_identifier}
 use Rattle.rhai_lower.specs.Lexemes.{Lexeme, Faulty, Interpolated, Name, Reserved, Sign, String}
 use Rattle.rhai_lower.specs.Nodes.{Properties, no_properties, one_property}
 use Rattle.rhai_lower.specs.declared.token.Token.{Token}
-use Rattle.rhai_lower.specs.declared.token.Token.TheVariants.{Colon, Comma, EOF, RightBrace, RightBracket, Plus}
+use Rattle.rhai_lower.specs.declared.token.Token.TheVariants.{Comma, EOF, RightBrace, RightBracket, Plus}
 use Rattle.rhai_grammar.specs.Causes as cause
 use Rattle.rhai_grammar.specs.Causes.{Cause}
 use Rattle.rhai_grammar.specs.Contexts.{full}
@@ -21,7 +21,6 @@ pub data ItemPlace : Type 0 where
   -- no item, and the error for that
   NoItem : Cause → ItemPlace
 
--- the error for one more item in a full array
 abbrev pub too_many_items : (limit : ℕ) → Cause
 too_many_items limit = cause.LiteralTooLarge (codes "Size of array literal") limit
 
@@ -34,7 +33,6 @@ sign_item limit count RightBracket = ItemsEnd
 sign_item limit count EOF = NoItem (cause.MissingToken (codes "]"))
 sign_item limit count _ = item_room limit count
 
--- what a token is where an item may begin, after `count` items
 abbrev pub item_place : (limit count : ℕ) → Lexeme → ItemPlace
 item_place limit count (Sign t) = sign_item limit count t
 item_place limit count _ = item_room limit count
@@ -52,12 +50,10 @@ behind_item l = NoFollowing (missing (codes ",") l)
 
 -- ---- object maps
 
--- the number of properties
 abbrev pub property_count : Properties → ℕ
 property_count no_properties = 0
 property_count (one_property key at value ps) = property_count ps + 1
 
--- a property has this key
 abbrev pub has_key : Text → Properties → Bool
 has_key t no_properties = false
 has_key t (one_property key at value ps) = same_text key t || has_key t ps
@@ -70,7 +66,6 @@ pub data KeyPlace : Type 0 where
   -- no key, and the error for that
   NoKey : Cause → KeyPlace
 
--- the error for a token where a key is expected after a comma
 abbrev pub no_property : Lexeme → Cause
 no_property (Faulty f) = cause.BadInput (cause.Lexer f)
 no_property l = cause.PropertyExpected
@@ -97,16 +92,6 @@ abbrev pub is_key : KeyPlace → Bool
 is_key (AKey t) = true
 is_key _ = false
 
-abbrev pub sign_colon : Token → Bool
-sign_colon Colon = true
-sign_colon _ = false
-
--- the `:`
-abbrev pub is_colon : Lexeme → Bool
-is_colon (Sign t) = sign_colon t
-is_colon _ = false
-
--- the error for one more value in a full object map
 abbrev pub too_many_fields : (limit : ℕ) → Cause
 too_many_fields limit = cause.LiteralTooLarge (codes "Number of properties in object map literal") limit
 

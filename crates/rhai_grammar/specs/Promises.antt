@@ -7,8 +7,7 @@ use Rattle.rhai_grammar.specs.Causes.{Refusal, refusal_of, is_for_memory}
 use Rattle.rhai_grammar.specs.Delivered.{code, Taken, Point, is_memory}
 use Rattle.rhai_grammar.specs.Cursors.{Cursor, asked}
 use Rattle.rhai_grammar.specs.Seen.{Gives, leads, latest_first, BeginsWith, Readable, StandsAtLast}
-use Rattle.rhai_grammar.specs.Settings.{Settings}
-use Rattle.rhai_grammar.specs.Contexts.{Context}
+use Rattle.rhai_grammar.specs.Contexts.{Context, Live}
 use Rattle.rhai_grammar.specs.Forms.{Run}
 use Rattle.rhai_grammar.specs.Trees.{tree}
 use Rattle.rhai_grammar.specs.Demands.{Met, Missed}
@@ -20,7 +19,7 @@ abbrev pub start_of : Cursor → Point
 start_of s = record { tokens = s.tokens; taken = [] }
 
 -- An expression fits and spells a whole stream, up to its end mark.
-abbrev pub IsWritten : Settings → Context → Run → Cursor → Type 0
+abbrev pub IsWritten : Context → Live → Run → Cursor → Type 0
 IsWritten c w f s = (t : Point) × Met (whole_expression f c w) (start_of s) t
 
 -- ---- the answer
@@ -61,17 +60,17 @@ UnlessMemory P (Err e) = is_for_memory e ≡ false → P
 -- ---- refusals
 
 -- A form misses its next demand at the place where the stream is now, with this error.
-pub record IsNamed (c : Settings) (w : Context) (taken : List Taken) (start left : Cursor) (e : Refusal) : Type 0 where
+pub record IsNamed (c : Context) (w : Live) (taken : List Taken) (start left : Cursor) (e : Refusal) : Type 0 where
   pub form : Run
   pub missed : Missed (whole_expression form c w) (start_of start) e (record { tokens = left.tokens; taken = latest_first taken [] })
   pub last : StandsAtLast e left
 
 -- No form that fits begins with the tokens seen.
-abbrev pub NoneBegins : Settings → Context → List Taken → Cursor → Type 0
+abbrev pub NoneBegins : Context → Live → List Taken → Cursor → Type 0
 NoneBegins c w taken left = (f : Run) (s : Cursor) → IsWritten c w f s → BeginsWith taken left s.tokens → ⊥
 
 -- A refusal after the tokens seen. The last token was peeked in code mode.
-pub record IsRefused (c : Settings) (w : Context) (taken : List Taken) (start left : Cursor) (e : Refusal) : Type 0 where
+pub record IsRefused (c : Context) (w : Live) (taken : List Taken) (start left : Cursor) (e : Refusal) : Type 0 where
   pub saw : Saw taken start left
   pub named : IsNamed c w taken start left e
   pub early : NoneBegins c w taken left
@@ -87,7 +86,7 @@ pub record IsRefused (c : Settings) (w : Context) (taken : List Taken) (start le
 -- - `only`: with an empty library, for each such form the result is the script of its tree, unless memory ran out;
 -- - `refused`: an error other than out of memory is one that a form gives after the tokens seen, and no form that fits
 --   begins with these tokens.
-pub record ReadsExpression {F : Type 0} (library : List F) (c : Settings) (w : Context) (start left : Cursor) (result : Result AST ParseError) : Type 0 where
+pub record ReadsExpression {F : Type 0} (library : List F) (c : Context) (w : Live) (start left : Cursor) (result : Result AST ParseError) : Type 0 where
   pub accepted : library ≡ [] → IfOk result (λ script. (f : Run) × IsWritten c w f start × IsScriptOf (tree f w) script)
   pub only : library ≡ [] → (f : Run) → IsWritten c w f start → Accepts (tree f w) result
   pub refused : IfErr result (λ e. is_for_memory e ≡ false → (taken : List Taken) × IsRefused c w taken start left (refusal_of e))

@@ -9,7 +9,7 @@ use Rattle.rhai_lower.specs.declared.ast.LinkFlags.{LinkFlags}
 use Rattle.rhai_lower.specs.declared.token.Token.TheVariants as token
 use Rattle.rhai_grammar.specs.Causes as cause
 use Rattle.rhai_grammar.specs.Causes.{Refusal, refusal}
-use Rattle.rhai_grammar.specs.Contexts.{bare}
+use Rattle.rhai_grammar.specs.Contexts.{nothing_live}
 use Rattle.rhai_grammar.specs.Forms.{Links, Run, Just, Linked, NoLink, Bracket, Property, Method, Plain, Named, Group, EmptyPair}
 use Rattle.rhai_grammar.specs.Trees.{variable_of, tree}
 use Rattle.rhai_grammar.specs.Demands.{Missed}
@@ -92,9 +92,9 @@ long_form =
 
 -- Both fit, and their trees are equal up to positions.
 pub record GroupedRow : Type 0 where
-  pub tree_is : tree grouped_form bare ≡ long_tree 3 4 5 7 8 16 17 19 20
+  pub tree_is : tree grouped_form nothing_live ≡ long_tree 3 4 5 7 8 16 17 19 20
   pub fits : Fits grouped_form grouped_tokens 26
-  pub plain_tree_is : tree long_form bare ≡ long_tree 1 2 3 5 6 12 13 15 16
+  pub plain_tree_is : tree long_form nothing_live ≡ long_tree 1 2 3 5 6 12 13 15 16
   pub plain_fits : Fits long_form long_tokens 22
 
 -- Index(a, Index(b, c)), in which the second bracket ends the chain
@@ -127,9 +127,9 @@ brackets_form = linked (codes "a") 1 (bracketed 2 (codes "b") 3 4 (bracketed 5 (
 -- Both fit, and their trees are equal up to positions: the bracket that ends the chain in parentheses does not end the
 -- whole chain.
 pub record JoinedRow : Type 0 where
-  pub tree_is : tree joined_form bare ≡ brackets_tree no_mark 2 3 4 7 8
+  pub tree_is : tree joined_form nothing_live ≡ brackets_tree no_mark 2 3 4 7 8
   pub fits : Fits joined_form joined_tokens 10
-  pub plain_tree_is : tree brackets_form bare ≡ brackets_tree no_mark 1 2 3 5 6
+  pub plain_tree_is : tree brackets_form nothing_live ≡ brackets_tree no_mark 1 2 3 5 6
   pub plain_fits : Fits brackets_form brackets_tokens 8
 
 -- ---- marks, and a member that is refused
@@ -147,7 +147,7 @@ questioned_form =
     bracketed 6 (codes "c") 7 8 NoLink))
 
 pub record QuestionedRow : Type 0 where
-  pub tree_is : tree questioned_form bare ≡ brackets_tree questioned 1 2 4 6 7
+  pub tree_is : tree questioned_form nothing_live ≡ brackets_tree questioned 1 2 4 6 7
   pub fits : Fits questioned_form questioned_tokens 9
 
 -- `a.f!().b`: a method with `!` is refused at its name, after all to its right was parsed.
@@ -166,5 +166,5 @@ abbrev pub capture_refused : Refusal
 capture_refused = refusal cause.MalformedCapture (place 1 3)
 
 pub record CaptureRow : Type 0 where
-  pub missed : Missed (whole_expression capture_form (depth 64) bare) (unread capture_tokens 9)
+  pub missed : Missed (whole_expression capture_form (depth 64) nothing_live) (unread capture_tokens 9)
       capture_refused (between capture_tokens [] 9)

@@ -18,21 +18,21 @@ abbrev pub quoted_keys : Settings → Bool
 quoted_keys c = bit_and c.flags 32 == 32
 
 -- a raise is possible
-abbrev pub low : Settings → Bool
-low c = (c.limit == 0) || nat_lt c.level c.limit
+abbrev pub has_room : Settings → Bool
+has_room c = (c.limit == 0) || nat_lt c.level c.limit
 
 -- one level more; saturates at the greatest `usize`
 unfoldable pub one_more : ℕ → ℕ
 one_more n = min (n + 1) (2 ^ 64 - 1)
 
 -- the settings one level deeper
-abbrev pub up : Settings → Settings
-up c = record c { level = one_more c.level }
+abbrev pub level_up : Settings → Settings
+level_up c = record c { level = one_more c.level }
 
 abbrev at_level : ℕ → ℕ → Settings
 at_level limit level = record { flags = 0; options = 0; level = level; limit = limit }
 
 -- Under a limit of 2 the level may be raised twice, without a limit always, and the greatest level stays.
-example : (up (at_level 2 0) ≡ at_level 2 1) × (low (at_level 2 1) ≡ true) × (low (at_level 2 2) ≡ false) × (low (at_level 0 2) ≡ true) × (up (at_level 0 (2 ^ 64 - 1)) ≡ at_level 0 (2 ^ 64 - 1))
+example : (level_up (at_level 2 0) ≡ at_level 2 1) × (has_room (at_level 2 1) ≡ true) × (has_room (at_level 2 2) ≡ false) × (has_room (at_level 0 2) ≡ true) × (level_up (at_level 0 (2 ^ 64 - 1)) ≡ at_level 0 (2 ^ 64 - 1))
 unfolding one_more
 example = (refl, refl, refl, refl, refl)

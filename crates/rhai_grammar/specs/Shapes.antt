@@ -5,7 +5,7 @@ use Rattle.rhai_lower.specs.Positions.{nowhere, place}
 use Rattle.rhai_lower.specs.Nodes as node
 use Rattle.rhai_lower.specs.Nodes.{Arms, Block, Called, Cases, Named, Node, Nodes, Optional, Properties, Statement, Statements}
 use Rattle.rhai_lower.specs.declared.position.Position.{Position}
-use Rattle.rhai_grammar.specs.Contexts.{bare}
+use Rattle.rhai_grammar.specs.Contexts.{nothing_live}
 use Rattle.rhai_grammar.specs.Slots.{number}
 use Rattle.rhai_grammar.specs.Trees.{tree}
 use Rattle.rhai_grammar.specs.Forms as form
@@ -159,6 +159,6 @@ example_name column = form.Just (form.Linked (form.Plain (form.Named (codes "a")
 -- `a` at two positions has one form and one tree up to positions.
 example :
     (run_shape (example_name 1) ≡ run_shape (example_name 5))
-    × (node_shape (tree (example_name 1) bare) ≡ node_shape (tree (example_name 5) bare))
+    × (node_shape (tree (example_name 1) nothing_live) ≡ node_shape (tree (example_name 5) nothing_live))
 unfolding number
 example = (refl, refl)

@@ -13,7 +13,7 @@ use Rattle.rhai_grammar.specs.Chains.{Link, Bracket, Dotted, chained}
 use Rattle.rhai_grammar.specs.Signs.{signed}
 use Rattle.rhai_grammar.specs.Operators.{operator_tree, operator_call}
 use Rattle.rhai_grammar.specs.Slots.{number}
-use Rattle.rhai_grammar.specs.Contexts.{Context, bare}
+use Rattle.rhai_grammar.specs.Contexts.{Live, nothing_live}
 use Rattle.rhai_grammar.specs.Forms as form
 use Rattle.rhai_grammar.specs.Forms.{Primary, Base, Links, Operand, Arguments, Items, Elements, Fields, Run}
 
@@ -72,7 +72,7 @@ method_tree name at bang arguments = method_call (method_called name bang (node_
 -- ---- forms
 
 abbrev mutual
-  pub primary_tree : Primary → Context → (called : Bool) → Node
+  pub primary_tree : Primary → Live → (called : Bool) → Node
   primary_tree (form.Value token at) w called = value_at at (beginning token)
   primary_tree (form.Named name at) w called = name_tree w.slots called name at
   primary_tree (form.Word word at) w called = word_tree word at
@@ -81,43 +81,43 @@ abbrev mutual
   primary_tree (form.Map opening fields) w called = object_map (field_trees fields w) opening
   primary_tree (form.Zero range at) w called = integer (pos 0) at
 
-  pub base_tree : Base → Context → Node
+  pub base_tree : Base → Live → Node
   base_tree (form.Plain x) w = primary_tree x w false
   base_tree (form.Call x bang arguments) w = call_tree (primary_tree x w true) (is_some bang) (argument_trees arguments w)
 
-  pub link_list : Links → Context → List Link
+  pub link_list : Links → Live → List Link
   link_list form.NoLink w = []
   link_list (form.Bracket opening at f closing rest) w = bracket_link opening at (tree f w) ∷ link_list rest w
   link_list (form.Property dot at name name_at rest) w = member_link dot at (property name name_at) ∷ link_list rest w
   link_list (form.Method dot at name name_at bang arguments rest) w =
       member_link dot at (method_tree (text_of name) name_at (is_some bang) (argument_trees arguments w)) ∷ link_list rest w
 
-  pub operand_tree : Operand → Context → Node
+  pub operand_tree : Operand → Live → Node
   operand_tree (form.Linked x links) w = chained (base_tree x w) (link_list links w)
   operand_tree (form.Signed sign at x) w = signed sign at (operand_tree x w)
   operand_tree (form.NoOperand token at) w = unit at
 
-  pub argument_trees : Arguments → Context → Nodes
+  pub argument_trees : Arguments → Live → Nodes
   argument_trees (form.EmptyPair at) w = no_nodes
   argument_trees (form.Empty opening closing) w = no_nodes
   argument_trees (form.Listed opening items) w = item_trees items w
 
-  pub item_trees : Items → Context → Nodes
+  pub item_trees : Items → Live → Nodes
   item_trees (form.Last f closing) w = one_node (tree f w) no_nodes
   item_trees (form.Trailing f comma closing) w = one_node (tree f w) no_nodes
   item_trees (form.More f comma items) w = one_node (tree f w) (item_trees items w)
 
-  pub element_trees : Elements → Context → Nodes
+  pub element_trees : Elements → Live → Nodes
   element_trees (form.NoElement closing) w = no_nodes
   element_trees (form.LastElement f closing) w = one_node (tree f w) no_nodes
   element_trees (form.Element f comma elements) w = one_node (tree f w) (element_trees elements w)
 
-  pub field_trees : Fields → Context → Properties
+  pub field_trees : Fields → Live → Properties
   field_trees (form.NoField closing) w = no_properties
   field_trees (form.LastField key at colon f closing) w = one_property (text_of key) at (tree f w) no_properties
   field_trees (form.Field key at colon f comma fields) w = one_property (text_of key) at (tree f w) (field_trees fields w)
 
-  pub tree : Run → Context → Node
+  pub tree : Run → Live → Node
   tree (form.Just x) w = operand_tree x w
   tree (form.Binary op at l r) w = operator_tree op at (tree l w) (tree r w)
 
@@ -125,5 +125,5 @@ abbrev example_one : (column : ℕ) → Run
 example_one column = form.Just (form.Linked (form.Plain (form.Value (Integer (pos 1)) (place 1 column))) form.NoLink)
 
 -- `-1 + 1`
-example : tree (form.Binary (Sign Plus) (place 1 4) (form.Just (form.Signed (Sign UnaryMinus) (place 1 1) (form.Linked (form.Plain (form.Value (Integer (pos 1)) (place 1 2))) form.NoLink))) (example_one 6)) bare ≡ operator_call (Sign Plus) (place 1 4) (integer (negsuc 0) (place 1 1)) (integer (pos 1) (place 1 6))
+example : tree (form.Binary (Sign Plus) (place 1 4) (form.Just (form.Signed (Sign UnaryMinus) (place 1 1) (form.Linked (form.Plain (form.Value (Integer (pos 1)) (place 1 2))) form.NoLink))) (example_one 6)) nothing_live ≡ operator_call (Sign Plus) (place 1 4) (integer (negsuc 0) (place 1 1)) (integer (pos 1) (place 1 6))
 example = refl

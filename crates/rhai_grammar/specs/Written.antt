@@ -4,15 +4,18 @@ use Rattle.rhai_lower.specs.Texts.{Text}
 use Rattle.rhai_lower.specs.Lexemes.{Lexeme, Name, Reserved, Sign, text_of}
 use Rattle.rhai_lower.specs.Nodes.{Node, Properties, no_properties, with_property, property, position_of}
 use Rattle.rhai_lower.specs.declared.position.Position.{Position}
-use Rattle.rhai_lower.specs.declared.token.Token.TheVariants.{Unit, LeftParen, RightParen, LeftBracket, RightBracket, MapStart, RightBrace, Colon, Comma, Bang}
+use Rattle.rhai_lower.specs.declared.token.Token.TheVariants.{Unit, LeftParen, RightParen, LeftBracket, RightBracket, MapStart, RightBrace, Comma, Bang}
 use Rattle.rhai_grammar.specs.Causes as cause
 use Rattle.rhai_grammar.specs.Causes.{Cause, Refusal, refusal}
 use Rattle.rhai_grammar.specs.Delivered.{code, item, is_end}
-use Rattle.rhai_grammar.specs.Settings.{Settings, low, up, in_function, quoted_keys}
-use Rattle.rhai_grammar.specs.Contexts.{Context, full}
+use Rattle.rhai_grammar.specs.Settings.{in_function, quoted_keys}
+use Rattle.rhai_grammar.specs.DueTokens.{token_of, is_due, not_due}
+use Rattle.rhai_grammar.specs.declared.due.DueToken.{DueToken}
+use Rattle.rhai_grammar.specs.declared.due.DueToken.TheVariants as due
+use Rattle.rhai_grammar.specs.Contexts.{Context, Live, full, has_room, level_up}
 use Rattle.rhai_grammar.specs.Beginnings as begin
-use Rattle.rhai_grammar.specs.Beginnings.{Beginning, beginning, unexpected, missing, is_value, is_sign, is_range, closes, calling, calls, is_list, may_be_called, is_this, Following, following, no_argument, linking, is_bracket, is_dot, is_link, closes_index, MemberPlace, AMember, NoMember, member_place, is_member}
-use Rattle.rhai_grammar.specs.Literals.{ItemPlace, ItemsEnd, AnItem, NoItem, item_place, behind_item, KeyPlace, NoKey, key_place, is_key, has_key, property_count, is_colon, too_many_fields, behind_value}
+use Rattle.rhai_grammar.specs.Beginnings.{Beginning, beginning, unexpected, missing, is_value, is_sign, is_range, closes, calling, calls, is_list, may_be_called, is_this, Following, following, no_argument, linking, is_bracket, is_dot, is_link, MemberPlace, AMember, NoMember, member_place, is_member}
+use Rattle.rhai_grammar.specs.Literals.{ItemPlace, ItemsEnd, AnItem, NoItem, item_place, behind_item, KeyPlace, NoKey, key_place, is_key, has_key, property_count, too_many_fields, behind_value}
 use Rattle.rhai_grammar.specs.Signs.{sign_holds, malformed}
 use Rattle.rhai_grammar.specs.Operators.{boolean_holds, mismatched}
 use Rattle.rhai_grammar.specs.Strengths.{Behind, Operator, Unknown, Other, behind_of, is_operator, left_of, right_of}
@@ -24,25 +27,32 @@ use Rattle.rhai_grammar.specs.Demands.{Verdict, Fine, Wrong, Blames, Otherwise, 
 
 -- ---- which tokens are refused in place of a required one
 
+-- where no other token is allowed
+abbrev pub unless_due : DueToken → Lexeme → Verdict
+unless_due d l = if is_due d l then Otherwise else Wrong (not_due d l)
+
+abbrev pub due_token : DueToken → Position → Demands → Demands
+due_token d at k = Tok code (item (Sign (token_of d)) at) (unless_due d) ▸ k
+
 -- where an operand is expected; after a range operator, some tokens say that it is omitted
-abbrev pub due : Beginning → Verdict
-due (begin.NoBeginning why) = Wrong why
-due _ = Otherwise
+abbrev pub beginning_due : Beginning → Verdict
+beginning_due (begin.NoBeginning why) = Wrong why
+beginning_due _ = Otherwise
 
 abbrev pub operand_due : (ranged : Bool) → Lexeme → Verdict
-operand_due ranged l = if ranged && closes l then Otherwise else due (beginning l)
+operand_due ranged l = if ranged && closes l then Otherwise else beginning_due (beginning l)
 
 abbrev pub anything : Lexeme → Verdict
 anything l = Otherwise
 
 -- After a reserved word: what calls it, if it may be called. In a function `this` may be followed by anything.
-abbrev pub word_use : Settings → Text → Position → (called : Bool) → Verdict
+abbrev pub word_use : Context → Text → Position → (called : Bool) → Verdict
 word_use c word at called =
     if may_be_called word && called then Fine else
-    if is_this word then (if in_function c then Fine else Blames (refusal (cause.BadInput (cause.ImproperSymbol word)) at)) else
+    if is_this word then (if in_function c.settings then Fine else Blames (refusal (cause.BadInput (cause.ImproperSymbol word)) at)) else
     Blames (refusal (cause.Reserved word) at)
 
-abbrev pub word_behind : Settings → Text → Position → Lexeme → Verdict
+abbrev pub word_behind : Context → Text → Position → Lexeme → Verdict
 word_behind c word at l = word_use c word at (calls l)
 
 -- after an operand that is not called: nothing that calls a variable
@@ -52,10 +62,6 @@ uncalled x l = if is_variable x && calls l then Otherwise else Fine
 -- after an operand with its links: no further link
 abbrev pub unlinked : Lexeme → Verdict
 unlinked l = if is_link (linking l) then Otherwise else Fine
-
--- after the index in a bracket
-abbrev pub index_closes : Lexeme → Verdict
-index_closes l = if closes_index l then Otherwise else Wrong (missing (codes "]") l)
 
 -- after a dot
 abbrev pub member_at : MemberPlace → Verdict
@@ -100,10 +106,6 @@ comma_or_close l = follows (following l)
 abbrev pub goes_on : Lexeme → Verdict
 goes_on l = if begin.is_close (following l) then Otherwise else Fine
 
--- after an expression in parentheses
-abbrev pub close_due : Lexeme → Verdict
-close_due l = if begin.is_close (following l) then Otherwise else Wrong (missing (codes ")") l)
-
 -- where an item of an array may begin: an item, or the end
 abbrev pub item_at : ItemPlace → Verdict
 item_at AnItem = Fine
@@ -130,14 +132,11 @@ key_at (NoKey why) = Wrong why
 key_at _ = Otherwise
 
 -- what a token is where one more key may begin, after these properties
-abbrev pub next_key : Settings → Properties → Lexeme → KeyPlace
-next_key c before l = key_place (quoted_keys c) (property_count before == 0) l
+abbrev pub next_key : Context → Properties → Lexeme → KeyPlace
+next_key c before l = key_place (quoted_keys c.settings) (property_count before == 0) l
 
-abbrev pub key_due : Settings → Properties → Lexeme → Verdict
+abbrev pub key_due : Context → Properties → Lexeme → Verdict
 key_due c before l = key_at (next_key c before l)
-
-abbrev pub colon_due : Lexeme → Verdict
-colon_due l = if is_colon l then Otherwise else Wrong (missing (codes ":") l)
 
 -- after the colon of one more property
 abbrev pub value_due : (limit count : ℕ) → Lexeme → Verdict
@@ -172,8 +171,8 @@ abbrev pub side_ends : Lexeme → Lexeme → Verdict
 side_ends op l = ended_side (behind_of op) (behind_of l)
 
 -- where a level is raised at the next token
-abbrev pub room_due : Settings → Lexeme → Verdict
-room_due c l = if low c then Fine else Wrong cause.ExprTooDeep
+abbrev pub room_due : Context → Lexeme → Verdict
+room_due c l = if has_room c then Fine else Wrong cause.ExprTooDeep
 
 -- after a whole expression
 abbrev pub end_due : Lexeme → Verdict
@@ -183,15 +182,15 @@ end_due l = if is_end l then Fine else Wrong (unexpected l)
 
 -- settings, and the position at which the next raise of their level is refused
 pub record Height : Type 0 where
-  pub settings : Settings
+  pub settings : Context
   pub at : Position
 
 -- the level is raised, or that is refused
 abbrev pub raise : Height → Demands → Demands
-raise h k = Test (low h.settings) (refusal cause.ExprTooDeep h.at) ▸ k
+raise h k = Test (has_room h.settings) (refusal cause.ExprTooDeep h.at) ▸ k
 
-abbrev pub raise_at : Settings → Position → Demands → Demands
-raise_at c at k = Test (low c) (refusal cause.ExprTooDeep at) ▸ k
+abbrev pub raise_at : Context → Position → Demands → Demands
+raise_at c at k = Test (has_room c) (refusal cause.ExprTooDeep at) ▸ k
 
 -- the place of a run
 pub data Side : Type 0 where
@@ -199,24 +198,24 @@ pub data Side : Type 0 where
   -- on the right of an operator, whose level is raised after the first operand
   RightOf : (op : Lexeme) (height : Height) → Side
 
--- A run's first operand is parsed under the settings `first`, and its operators begin under `begins`; `walk` is the
--- context.
+-- A run's first operand is parsed under the settings `first`, and its operators begin under `begins`; `live` is
+-- what was defined before it.
 pub record Spot : Type 0 where
-  pub first : Settings
-  pub begins : Settings
+  pub first : Context
+  pub begins : Context
   pub side : Side
-  pub walk : Context
+  pub live : Live
 
-abbrev pub outermost : Settings → Context → Spot
-outermost c w = record { first = c; begins = c; side = Outermost; walk = w }
+abbrev pub outermost : Context → Live → Spot
+outermost c w = record { first = c; begins = c; side = Outermost; live = w }
 
-abbrev pub right_side : Lexeme → Height → Context → Spot
-right_side op h w = record { first = h.settings; begins = up h.settings; side = RightOf op h; walk = w }
+abbrev pub right_side : Lexeme → Height → Live → Spot
+right_side op h w = record { first = h.settings; begins = level_up h.settings; side = RightOf op h; live = w }
 
 -- The height after a run: that of its first operand, and one level more for each operator on its left side.
 abbrev pub height_after : Spot → Run → Height
-height_after q (form.Just x) = record { settings = q.begins; at = position_of (operand_tree x q.walk) }
-height_after q (form.Binary op at l r) = record { settings = up (height_after q l).settings; at = at }
+height_after q (form.Just x) = record { settings = q.begins; at = position_of (operand_tree x q.live) }
+height_after q (form.Binary op at l r) = record { settings = level_up (height_after q l).settings; at = at }
 
 -- After an operator's right operand its level is raised: for the nested run that begins there, and for what follows.
 abbrev pub raise_behind : Side → Demands → Demands
@@ -237,7 +236,7 @@ left_fits op (form.Just x) = true
 left_fits op (form.Binary inner at l r) = left_of op (behind_of inner)
 
 -- the two ends of an expression
-abbrev pub begun : Settings → Demands → Demands
+abbrev pub begun : Context → Demands → Demands
 begun c k = Next (room_due c) ▸ k
 
 abbrev pub ended : Demands → Demands
@@ -248,32 +247,31 @@ abbrev pub operands_fit : Lexeme → Node → Node → Demands → Demands
 operands_fit op x y k = Next (side_ends op) ▸ Test (boolean_holds op x) (mismatched x) ▸ Test (boolean_holds op y) (mismatched y) ▸ k
 
 -- A property up to its value: no earlier property has its key.
-abbrev pub field : (key : Lexeme) (at colon : Position) (before : Properties) → Settings → Context → (opening : Position) → Demands → Demands
-field key at colon before c w opening k =
+abbrev pub field : (key : Lexeme) (at colon : Position) (before : Properties) → Context → (opening : Position) → Demands → Demands
+field key at colon before c opening k =
     Shape (is_key (next_key c before key)) ▸ Tok code (item key at) (key_due c before) ▸
     Test (not (has_key (text_of key) before)) (refusal (cause.DuplicatedProperty (text_of key)) at) ▸
-    Tok code (item (Sign Colon) colon) colon_due ▸ Next (value_due w.sizes.map (property_count before)) ▸
-    raise_at c opening k
+    due_token due.Colon colon (Next (value_due c.sizes.map (property_count before)) ▸ raise_at c opening k)
 
 -- ---- links
 
 -- The place of a link: the settings of the operand that it continues, those of the brackets directly before it, the
 -- operand against which the index of a bracket is tested, if it is, and the links before.
 pub record LinkSpot : Type 0 where
-  pub settings : Settings
-  pub brackets : Settings
+  pub settings : Context
+  pub brackets : Context
   pub indexed : Option Node
   pub before : List Link
 
-abbrev pub behind_operand : Settings → Node → LinkSpot
+abbrev pub behind_operand : Context → Node → LinkSpot
 behind_operand c x = record { settings = c; brackets = c; indexed = Some x; before = [] }
 
 abbrev pub behind_bracket : LinkSpot → Link → LinkSpot
-behind_bracket q l = record { settings = q.settings; brackets = up q.brackets; indexed = None; before = q.before ++ (l ∷ []) }
+behind_bracket q l = record { settings = q.settings; brackets = level_up q.brackets; indexed = None; before = q.before ++ (l ∷ []) }
 
 -- Everything to the right of a dot is one level deeper.
 abbrev pub behind_dot : LinkSpot → Link → LinkSpot
-behind_dot q l = record { settings = up q.settings; brackets = up q.settings; indexed = None; before = q.before ++ (l ∷ []) }
+behind_dot q l = record { settings = level_up q.settings; brackets = level_up q.settings; indexed = None; before = q.before ++ (l ∷ []) }
 
 -- the error, if there is one
 abbrev pub unfaulted : Option Refusal → Demands → Demands
@@ -289,21 +287,21 @@ method dot at name name_at q k =
 -- ---- the forms
 
 abbrev mutual
-  pub primary : Primary → Settings → Context → (ranged : Bool) → Demands → Demands
+  pub primary : Primary → Context → Live → (ranged : Bool) → Demands → Demands
   primary (form.Value token at) c w ranged k = Shape (is_value (beginning token)) ▸ Tok code (item token at) (operand_due ranged) ▸ k
   primary (form.Named name at) c w ranged k = Tok code (item (Name name) at) (operand_due ranged) ▸ k
   primary (form.Word word at) c w ranged k = Tok code (item (Reserved word) at) (operand_due ranged) ▸ Next (word_behind c word at) ▸ k
   primary (form.Group opening inside closing) c w ranged k =
       Tok code (item (Sign LeftParen) opening) (operand_due ranged) ▸ raise_at c opening (
-      begun (up c) (run inside (outermost (up (up c)) w) (ended (Tok code (item (Sign RightParen) closing) close_due ▸ k))))
+      begun (level_up c) (run inside (outermost (level_up (level_up c)) w) (ended (due_token due.RightParen closing k))))
   primary (form.Array opening list) c w ranged k =
-      Tok code (item (Sign LeftBracket) opening) (operand_due ranged) ▸ raise_at c opening (elements list 0 (up c) w opening k)
+      Tok code (item (Sign LeftBracket) opening) (operand_due ranged) ▸ raise_at c opening (elements list 0 (level_up c) w opening k)
   primary (form.Map opening list) c w ranged k =
-      Tok code (item (Sign MapStart) opening) (operand_due ranged) ▸ raise_at c opening (fields list no_properties (up c) w opening k)
+      Tok code (item (Sign MapStart) opening) (operand_due ranged) ▸ raise_at c opening (fields list no_properties (level_up c) w opening k)
   primary (form.Zero range at) c w ranged k = Shape (is_range (beginning range)) ▸ Ahead (item range at) (operand_due ranged) ▸ k
 
   -- A variable that is called is the name of a call. Only what calls it may follow a reserved word other than `this`.
-  pub base : Base → Settings → Context → (ranged : Bool) → Demands → Demands
+  pub base : Base → Context → Live → (ranged : Bool) → Demands → Demands
   base (form.Plain x) c w ranged k = primary x c w ranged (Next (uncalled (primary_tree x w false)) ▸ k)
   base (form.Call x None args) c w ranged k =
       primary x c w ranged (Shape (is_variable (primary_tree x w true)) ▸ arguments args anything c w (position_of (primary_tree x w true)) k)
@@ -313,86 +311,86 @@ abbrev mutual
 
   -- A bracket raises the level, and its index once more; a dot raises that of the operand, for everything to its right.
   -- After the links the members are tested: some are not allowed as methods.
-  pub links : Links → LinkSpot → Context → Demands → Demands
+  pub links : Links → LinkSpot → Live → Demands → Demands
   links form.NoLink q w k = Next unlinked ▸ unfaulted (last_fault q.before) k
   links (form.Bracket opening at f closing rest) q w k =
       Shape (is_bracket (linking opening)) ▸ Tok code (item opening at) anything ▸
-      raise_at q.brackets at (raise_at (up q.brackets) at (
-      begun (up (up q.brackets)) (run f (outermost (up (up (up q.brackets))) w) (ended (
+      raise_at q.brackets at (raise_at (level_up q.brackets) at (
+      begun (level_up (level_up q.brackets)) (run f (outermost (level_up (level_up (level_up q.brackets))) w) (ended (
       unfaulted (index_refusal q.indexed (tree f w)) (
-      Tok code (item (Sign RightBracket) closing) index_closes ▸ links rest (behind_bracket q (bracket_link opening at (tree f w))) w k))))))
+      due_token due.RightBracket closing (links rest (behind_bracket q (bracket_link opening at (tree f w))) w k)))))))
   links (form.Property dot at name name_at rest) q w k =
       Shape (is_dot (linking dot)) ▸ Tok code (item dot at) anything ▸ Next member_due ▸ raise_at q.settings at (
       Tok code (item (Name name) name_at) anything ▸ Next uncalled_member ▸
       links rest (behind_dot q (member_link dot at (property name name_at))) w k)
   links (form.Method dot at name name_at None args rest) q w k =
       method dot at name name_at q (
-      arguments args anything (up q.settings) w name_at (
+      arguments args anything (level_up q.settings) w name_at (
       links rest (behind_dot q (member_link dot at (method_tree (text_of name) name_at false (argument_trees args w)))) w k))
   links (form.Method dot at name name_at (Some bang) args rest) q w k =
       method dot at name name_at q (
-      Tok code (item (Sign Bang) bang) anything ▸ arguments args list_due (up q.settings) w name_at (
+      Tok code (item (Sign Bang) bang) anything ▸ arguments args list_due (level_up q.settings) w name_at (
       links rest (behind_dot q (member_link dot at (method_tree (text_of name) name_at true (argument_trees args w)))) w k))
 
-  pub operand : Operand → Settings → Context → (ranged : Bool) → Demands → Demands
+  pub operand : Operand → Context → Live → (ranged : Bool) → Demands → Demands
   operand (form.Linked x list) c w ranged k = base x c w ranged (links list (behind_operand c (base_tree x w)) w k)
   operand (form.Signed sign at x) c w ranged k =
       Shape (is_sign (beginning sign)) ▸ Tok code (item sign at) (operand_due ranged) ▸ raise_at c at (
-      operand x (up c) w false (Test (sign_holds sign (operand_tree x w)) (malformed at (operand_tree x w)) ▸ k))
+      operand x (level_up c) w false (Test (sign_holds sign (operand_tree x w)) (malformed at (operand_tree x w)) ▸ k))
   operand (form.NoOperand token at) c w ranged k = Shape (ranged && closes token) ▸ Ahead (item token at) (operand_due ranged) ▸ k
 
   -- The level of arguments is raised once for all of them; the refusal has the position of the name that is called.
-  pub arguments : Arguments → (others : Lexeme → Verdict) → Settings → Context → Position → Demands → Demands
+  pub arguments : Arguments → (others : Lexeme → Verdict) → Context → Live → Position → Demands → Demands
   arguments (form.EmptyPair at) others c w name k = Tok code (item (Sign Unit) at) others ▸ k
   arguments (form.Empty opening closing) others c w name k =
       Tok code (item (Sign LeftParen) opening) others ▸ Tok code (item (Sign RightParen) closing) close_or_argument ▸ k
   arguments (form.Listed opening list) others c w name k =
-      Tok code (item (Sign LeftParen) opening) others ▸ Next argument_due ▸ raise_at c name (items list (up c) w k)
+      Tok code (item (Sign LeftParen) opening) others ▸ Next argument_due ▸ raise_at c name (items list (level_up c) w k)
 
-  pub items : Items → Settings → Context → Demands → Demands
-  items (form.Last f closing) c w k = begun c (run f (outermost (up c) w) (ended (Tok code (item (Sign RightParen) closing) comma_or_close ▸ k)))
+  pub items : Items → Context → Live → Demands → Demands
+  items (form.Last f closing) c w k = begun c (run f (outermost (level_up c) w) (ended (Tok code (item (Sign RightParen) closing) comma_or_close ▸ k)))
   items (form.Trailing f comma closing) c w k =
-      begun c (run f (outermost (up c) w) (ended (
+      begun c (run f (outermost (level_up c) w) (ended (
       Tok code (item (Sign Comma) comma) comma_or_close ▸ Tok code (item (Sign RightParen) closing) anything ▸ k)))
   items (form.More f comma rest) c w k =
-      begun c (run f (outermost (up c) w) (ended (
+      begun c (run f (outermost (level_up c) w) (ended (
       Tok code (item (Sign Comma) comma) comma_or_close ▸ Next goes_on ▸ items rest c w k)))
 
   -- The level is raised again for each item; the refusal is at the `[`. `count` is the number of items before.
-  pub elements : Elements → (count : ℕ) → Settings → Context → (opening : Position) → Demands → Demands
-  elements (form.NoElement closing) count c w opening k = Tok code (item (Sign RightBracket) closing) (no_item_due w.sizes.array count) ▸ k
+  pub elements : Elements → (count : ℕ) → Context → Live → (opening : Position) → Demands → Demands
+  elements (form.NoElement closing) count c w opening k = Tok code (item (Sign RightBracket) closing) (no_item_due c.sizes.array count) ▸ k
   elements (form.LastElement f closing) count c w opening k =
-      Next (item_due w.sizes.array count) ▸ raise_at c opening (
-      begun (up c) (run f (outermost (up (up c)) w) (ended (Tok code (item (Sign RightBracket) closing) item_follows ▸ k))))
+      Next (item_due c.sizes.array count) ▸ raise_at c opening (
+      begun (level_up c) (run f (outermost (level_up (level_up c)) w) (ended (Tok code (item (Sign RightBracket) closing) item_follows ▸ k))))
   elements (form.Element f comma rest) count c w opening k =
-      Next (item_due w.sizes.array count) ▸ raise_at c opening (
-      begun (up c) (run f (outermost (up (up c)) w) (ended (Tok code (item (Sign Comma) comma) item_follows ▸ elements rest (count + 1) c w opening k))))
+      Next (item_due c.sizes.array count) ▸ raise_at c opening (
+      begun (level_up c) (run f (outermost (level_up (level_up c)) w) (ended (Tok code (item (Sign Comma) comma) item_follows ▸ elements rest (count + 1) c w opening k))))
 
   -- The level is raised again for each value; the refusal is at the `#{`. `before` are the properties before.
-  pub fields : Fields → (before : Properties) → Settings → Context → (opening : Position) → Demands → Demands
+  pub fields : Fields → (before : Properties) → Context → Live → (opening : Position) → Demands → Demands
   fields (form.NoField closing) before c w opening k = Tok code (item (Sign RightBrace) closing) (key_due c before) ▸ k
   fields (form.LastField key at colon f closing) before c w opening k =
-      field key at colon before c w opening (
-      begun (up c) (run f (outermost (up (up c)) w) (ended (Tok code (item (Sign RightBrace) closing) value_follows ▸ k))))
+      field key at colon before c opening (
+      begun (level_up c) (run f (outermost (level_up (level_up c)) w) (ended (Tok code (item (Sign RightBrace) closing) value_follows ▸ k))))
   fields (form.Field key at colon f comma rest) before c w opening k =
-      field key at colon before c w opening (
-      begun (up c) (run f (outermost (up (up c)) w) (ended (
+      field key at colon before c opening (
+      begun (level_up c) (run f (outermost (level_up (level_up c)) w) (ended (
       Tok code (item (Sign Comma) comma) value_follows ▸ fields rest (with_property before (text_of key) at (tree f w)) c w opening k))))
 
   -- No operand is followed by a reserved symbol. An operator is between a left run and a right one, whose own operators
   -- bind as the strengths say.
   pub run : Run → Spot → Demands → Demands
-  run (form.Just x) q k = operand x q.first q.walk (is_ranged q.side) (Next operator_known ▸ raise_behind q.side k)
+  run (form.Just x) q k = operand x q.first q.live (is_ranged q.side) (Next operator_known ▸ raise_behind q.side k)
   run (form.Binary op at l r) q k =
       run l q (
       Shape (is_operator (behind_of op)) ▸ Shape (left_fits (behind_of op) l) ▸ Shape (side_fits q.side (behind_of op)) ▸
       Tok code (item op at) anything ▸
-      run r (right_side op (height_after q l) q.walk) (operands_fit op (tree l q.walk) (tree r q.walk) k))
+      run r (right_side op (height_after q l) q.live) (operands_fit op (tree l q.live) (tree r q.live) k))
 
 -- An expression raises the level at its first token, and ends where no operator continues it.
-abbrev pub expression : Run → Settings → Context → Demands → Demands
-expression f c w k = begun c (run f (outermost (up c) w) (ended k))
+abbrev pub expression : Run → Context → Live → Demands → Demands
+expression f c w k = begun c (run f (outermost (level_up c) w) (ended k))
 
 -- a whole stream that is one expression
-abbrev pub whole_expression : Run → Settings → Context → Demands
+abbrev pub whole_expression : Run → Context → Live → Demands
 whole_expression f c w = expression f c w (Next end_due ▸ Nothing)

@@ -2,11 +2,13 @@
 //! name.
 #![tactic(auto)]
 
+pub mod due;
 pub mod error;
 pub mod filter;
 pub mod key;
 pub mod laws;
 
+pub use due::DueToken;
 pub use error::{InputError, ParseError, ParseErrorType, ParseResult};
 pub use filter::ExprFilter;
 pub use key::FnKey;

@@ -1,81 +1,152 @@
 -- The token behind each view of one.
-use Rattle.std.proofs.Common.{◌≡◌, true, refl, ap}
-use Rattle.rhai_lower.specs.Texts.{Text}
-use Rattle.rhai_lower.specs.Lexemes.{Lexeme, Name, Reserved, Sign}
+use Rattle.std.proofs.Common.{◌≡◌, ℕ, Bool, true, false, refl, subst, if◌then◌else◌}
+use Rattle.rhai_lower.specs.Lexemes.{Lexeme, Name, Reserved, Sign, String, text_of}
+use Rattle.rhai_lower.specs.declared.position.Position.{Position}
 use Rattle.rhai_lower.specs.declared.token.Token.{Token}
 use Rattle.rhai_lower.specs.declared.token.Token.TheVariants as token
-use Rattle.rhai_grammar.specs.Beginnings.{AName, AWord, AGroup, beginning, sign_beginning, WithPair, WithList, WithBang, calling, sign_calling, Following, AComma, AClose, following, sign_following, is_close}
+use Rattle.rhai_grammar.specs.Causes as cause
+use Rattle.rhai_grammar.specs.Causes.{refusal}
+use Rattle.rhai_grammar.specs.Contexts.{full}
+use Rattle.rhai_grammar.specs.Delivered.{code, Item, item, Point, next_at}
+use Rattle.rhai_grammar.specs.Demands.{Blames}
+use Rattle.rhai_grammar.specs.Beginnings.{Beginning, AName, AWord, AGroup, AnArray, AMap, beginning, Calling, WithPair}
+use Rattle.rhai_grammar.specs.Beginnings.{WithList, WithBang, calling, Following, AComma, AClose, following, is_close}
+use Rattle.rhai_grammar.specs.Beginnings.{is_name, member_place, is_member}
+use Rattle.rhai_grammar.specs.Literals.{ItemPlace, ItemsEnd, AnItem, NoItem, too_many_items, item_place, behind_item}
+use Rattle.rhai_grammar.specs.Literals.{KeyPlace, FieldsEnd, AKey, key_place, behind_value}
+use Rattle.rhai_grammar.specs.Written.{no_method}
+use Rattle.rhai_reading.proofs.Looks.{op_at, pos_at}
 
-name_sign : (u : Token) (t : Text) → sign_beginning u ≡ AName t → Sign u ≡ Name t
-name_sign token.Unit t e = absurd cc
-name_sign _ t e = absurd cc
+-- ---- where an operand is due
 
-pub name_is : (l : Lexeme) (t : Text) → beginning l ≡ AName t → l ≡ Name t
-name_is (Name u) t e = let v : u ≡ t = cc in ap Name v
-name_is (Sign u) t e = name_sign u t e
-name_is _ t e = absurd cc
+abbrev pub Begins : Beginning → Item → Type 0
+Begins (AName t) i = i ≡ item (Name t) i.at
+Begins (AWord t) i = i ≡ item (Reserved t) i.at
+Begins AGroup i = i ≡ item (Sign token.LeftParen) i.at
+Begins AnArray i = i ≡ item (Sign token.LeftBracket) i.at
+Begins AMap i = i ≡ item (Sign token.MapStart) i.at
+Begins _ i = Unit {0}
 
-word_sign : (u : Token) (t : Text) → sign_beginning u ≡ AWord t → Sign u ≡ Reserved t
-word_sign token.Unit t e = absurd cc
-word_sign _ t e = absurd cc
+begins : (l : Lexeme) (p : Position) → Begins (beginning l) (item l p)
+begins (Name t) p = refl
+begins (Reserved t) p = refl
+begins (Sign token.LeftParen) p = refl
+begins (Sign token.LeftBracket) p = refl
+begins (Sign token.MapStart) p = refl
+begins _ p = tt
 
-pub word_is : (l : Lexeme) (t : Text) → beginning l ≡ AWord t → l ≡ Reserved t
-word_is (Reserved u) t e = let v : u ≡ t = cc in ap Reserved v
-word_is (Sign u) t e = word_sign u t e
-word_is _ t e = absurd cc
+pub begun : {v : Beginning} (s : Point) → beginning (op_at s) ≡ v → Begins v (next_at code s)
+begun s e = subst (λ v. Begins v (next_at code s)) e (begins (op_at s) (pos_at s))
 
-group_sign : (u : Token) → sign_beginning u ≡ AGroup → Sign u ≡ Sign token.LeftParen
-group_sign token.LeftParen e = refl
-group_sign _ e = absurd cc
+-- ---- behind a name
 
-pub group_is : (l : Lexeme) → beginning l ≡ AGroup → l ≡ Sign token.LeftParen
-group_is (Sign u) e = group_sign u e
-group_is _ e = absurd cc
+abbrev pub Calls : Calling → Item → Type 0
+Calls WithPair i = i ≡ item (Sign token.Unit) i.at
+Calls WithList i = i ≡ item (Sign token.LeftParen) i.at
+Calls WithBang i = i ≡ item (Sign token.Bang) i.at
+Calls _ i = Unit {0}
 
-pair_sign : (u : Token) → sign_calling u ≡ WithPair → Sign u ≡ Sign token.Unit
-pair_sign token.Unit e = refl
-pair_sign _ e = absurd cc
+calls : (l : Lexeme) (p : Position) → Calls (calling l) (item l p)
+calls (Sign token.Unit) p = refl
+calls (Sign token.LeftParen) p = refl
+calls (Sign token.Bang) p = refl
+calls _ p = tt
 
-pub pair_is : (l : Lexeme) → calling l ≡ WithPair → l ≡ Sign token.Unit
-pair_is (Sign u) e = pair_sign u e
-pair_is _ e = absurd cc
+pub called : {v : Calling} (s : Point) → calling (op_at s) ≡ v → Calls v (next_at code s)
+called s e = subst (λ v. Calls v (next_at code s)) e (calls (op_at s) (pos_at s))
 
-list_sign : (u : Token) → sign_calling u ≡ WithList → Sign u ≡ Sign token.LeftParen
-list_sign token.LeftParen e = refl
-list_sign _ e = absurd cc
+-- ---- behind a part of a list, which this token closes
 
-pub list_is : (l : Lexeme) → calling l ≡ WithList → l ≡ Sign token.LeftParen
-list_is (Sign u) e = list_sign u e
-list_is _ e = absurd cc
+abbrev pub Follows : (close : Token) → Following → Item → Type 0
+Follows close AComma i = i ≡ item (Sign token.Comma) i.at
+Follows close AClose i = i ≡ item (Sign close) i.at
+Follows close _ i = Unit {0}
 
-bang_sign : (u : Token) → sign_calling u ≡ WithBang → Sign u ≡ Sign token.Bang
-bang_sign token.Bang e = refl
-bang_sign _ e = absurd cc
+-- an argument
+follows : (l : Lexeme) (p : Position) → Follows token.RightParen (following l) (item l p)
+follows (Sign token.Comma) p = refl
+follows (Sign token.RightParen) p = refl
+follows _ p = tt
 
-pub bang_is : (l : Lexeme) → calling l ≡ WithBang → l ≡ Sign token.Bang
-bang_is (Sign u) e = bang_sign u e
-bang_is _ e = absurd cc
+pub followed : {v : Following} (s : Point) → following (op_at s) ≡ v → Follows token.RightParen v (next_at code s)
+followed s e = subst (λ v. Follows token.RightParen v (next_at code s)) e (follows (op_at s) (pos_at s))
 
-comma_sign : (u : Token) → sign_following u ≡ AComma → Sign u ≡ Sign token.Comma
-comma_sign token.Comma e = refl
-comma_sign _ e = absurd cc
-
-pub comma_is : (l : Lexeme) → following l ≡ AComma → l ≡ Sign token.Comma
-comma_is (Sign u) e = comma_sign u e
-comma_is _ e = absurd cc
-
-close_sign : (u : Token) → sign_following u ≡ AClose → Sign u ≡ Sign token.RightParen
-close_sign token.RightParen e = refl
-close_sign _ e = absurd cc
-
-pub close_is : (l : Lexeme) → following l ≡ AClose → l ≡ Sign token.RightParen
-close_is (Sign u) e = close_sign u e
-close_is _ e = absurd cc
-
-closing : (v : Following) → is_close v ≡ true → v ≡ AClose
-closing AClose e = refl
-closing _ e = absurd cc
+only_close : (v : Following) → is_close v ≡ true → v ≡ AClose
+only_close AClose e = refl
+only_close _ e = absurd cc
 
 -- what `is_close` finds is the closing parenthesis
-pub closes_is : (l : Lexeme) → is_close (following l) ≡ true → l ≡ Sign token.RightParen
-closes_is l e = close_is l (closing (following l) e)
+pub closed : (s : Point) → is_close (following (op_at s)) ≡ true
+    → next_at code s ≡ item (Sign token.RightParen) (pos_at s)
+closed s e = followed s (only_close (following (op_at s)) e)
+
+-- an item of an array
+follows_item : (l : Lexeme) (p : Position) → Follows token.RightBracket (behind_item l) (item l p)
+follows_item (Sign token.Comma) p = refl
+follows_item (Sign token.RightBracket) p = refl
+follows_item _ p = tt
+
+pub item_followed : {v : Following} (s : Point) → behind_item (op_at s) ≡ v
+    → Follows token.RightBracket v (next_at code s)
+item_followed s e = subst (λ v. Follows token.RightBracket v (next_at code s)) e (follows_item (op_at s) (pos_at s))
+
+-- the value of a property
+follows_value : (l : Lexeme) (p : Position) → Follows token.RightBrace (behind_value l) (item l p)
+follows_value (Sign token.Comma) p = refl
+follows_value (Sign token.RightBrace) p = refl
+follows_value _ p = tt
+
+pub value_followed : {v : Following} (s : Point) → behind_value (op_at s) ≡ v
+    → Follows token.RightBrace v (next_at code s)
+value_followed s e = subst (λ v. Follows token.RightBrace v (next_at code s)) e (follows_value (op_at s) (pos_at s))
+
+-- ---- where an item of an array may begin
+
+abbrev pub Places : ItemPlace → Item → Type 0
+Places ItemsEnd i = i ≡ item (Sign token.RightBracket) i.at
+Places _ i = Unit {0}
+
+-- with room for it or not
+room_places : (full_ : Bool) (limit : ℕ) (i : Item) → Places (if full_ then NoItem (too_many_items limit) else AnItem) i
+room_places true limit i = tt
+room_places false limit i = tt
+
+places : (limit count : ℕ) (l : Lexeme) (p : Position) → Places (item_place limit count l) (item l p)
+places limit count (Sign token.RightBracket) p = refl
+places limit count (Sign token.EOF) p = tt
+places limit count l p = room_places (full limit count) limit (item l p)
+
+pub placed : {v : ItemPlace} (limit count : ℕ) (s : Point) → item_place limit count (op_at s) ≡ v
+    → Places v (next_at code s)
+placed limit count s e = subst (λ v. Places v (next_at code s)) e (places limit count (op_at s) (pos_at s))
+
+-- ---- where a key may stand: it is named by the text of its token
+
+abbrev pub Keys : KeyPlace → Item → Type 0
+Keys FieldsEnd i = i ≡ item (Sign token.RightBrace) i.at
+Keys (AKey t) i = text_of i.lexeme ≡ t
+Keys _ i = Unit {0}
+
+keys : (quoted first : Bool) (l : Lexeme) (p : Position) → Keys (key_place quoted first l) (item l p)
+keys quoted first (String t) p = refl
+keys true first (Name t) p = tt
+keys false first (Name t) p = refl
+keys quoted first (Sign token.RightBrace) p = refl
+keys quoted first _ p = tt
+
+pub keyed : {v : KeyPlace} (quoted first : Bool) (s : Point) → key_place quoted first (op_at s) ≡ v
+    → Keys v (next_at code s)
+keyed quoted first s e = subst (λ v. Keys v (next_at code s)) e (keys quoted first (op_at s) (pos_at s))
+
+-- ---- one token
+
+pub name_is : (l : Lexeme) (p : Position) → is_name l ≡ true → item l p ≡ item (Name (text_of l)) p
+name_is (Name t) p e = refl
+name_is _ p e = absurd cc
+
+-- a member that is no name is a reserved word
+pub word_is : (l : Lexeme) (p : Position) → is_member (member_place l) ≡ true → is_name l ≡ false
+    → no_method l p ≡ Blames (refusal (cause.Reserved (text_of l)) p)
+word_is (Reserved t) p e f = refl
+word_is (Name t) p e f = absurd cc
+word_is _ p e f = absurd cc

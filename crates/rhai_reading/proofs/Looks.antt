@@ -3,10 +3,11 @@ use Rattle.std.proofs.Common.{◌≡◌, ℕ, Bool, true, false, Option, Some, N
 use Rattle.rhai_lower.specs.Lexemes.{Lexeme}
 use Rattle.rhai_lower.specs.Nodes.{Node}
 use Rattle.rhai_lower.specs.declared.position.Position.{Position}
+use Rattle.rhai_grammar.specs.Causes.{Cause}
 use Rattle.rhai_grammar.specs.Delivered.{code, Point, next_at, is_memory}
-use Rattle.rhai_grammar.specs.Contexts.{Context}
+use Rattle.rhai_grammar.specs.Contexts.{Live}
 use Rattle.rhai_grammar.specs.Strengths.{Behind, Operator, Unknown, Other, behind_of}
-use Rattle.rhai_grammar.specs.Demands.{Verdict, Fine, Otherwise, verdict}
+use Rattle.rhai_grammar.specs.Demands.{Verdict, Fine, Wrong, Otherwise, verdict}
 use Rattle.rhai_grammar.specs.Written.{Height}
 use Rattle.rhai_reading.specs.Reading.{Goal, BinaryOp}
 
@@ -24,13 +25,23 @@ operator_in (Operator n right) = Some (n, right)
 operator_in (Unknown t) = None
 operator_in Other = None
 
-abbrev pub climb : Height → Context → ℕ → Node → Goal
+abbrev pub climb : Height → Live → ℕ → Node → Goal
 climb h w p x = BinaryOp h.settings w h.at p x
 
-verdict_by : (m : Bool) (v : Verdict) → (if m then Otherwise else v) ≡ Fine → (m ≡ false) × (v ≡ Fine)
-verdict_by true v e = absurd cc
-verdict_by false v e = (refl, e)
+-- ---- verdicts that are fine
+
+pub no_other : (b : Bool) {v : Verdict} → (if b then Otherwise else v) ≡ Fine → (b ≡ false) × (v ≡ Fine)
+no_other true e = absurd cc
+no_other false e = (refl, e)
+
+pub no_wrong : (b : Bool) (c : Cause) {v : Verdict} → (if b then Wrong c else v) ≡ Fine → (b ≡ false) × (v ≡ Fine)
+no_wrong true c e = absurd cc
+no_wrong false c e = (refl, e)
+
+pub or_wrong : (b : Bool) (c : Cause) → (if b then Fine else Wrong c) ≡ Fine → b ≡ true
+or_wrong true c e = refl
+or_wrong false c e = absurd cc
 
 -- a token that is fine can be read
 pub fine : (v : Lexeme → Verdict) (l : Lexeme) → verdict v l ≡ Fine → (is_memory l ≡ false) × (v l ≡ Fine)
-fine v l e = verdict_by (is_memory l) (v l) e
+fine v l e = no_other (is_memory l) e

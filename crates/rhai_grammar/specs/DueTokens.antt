@@ -1,0 +1,41 @@
+-- Tokens that are required where a construct continues or ends, and the error for another token in their place.
+use Rattle.std.specs.Prelude.{◌≡◌, Bool, true, false, codes, refl}
+use Rattle.rhai_lower.specs.Texts.{Text}
+use Rattle.rhai_lower.specs.Lexemes.{Lexeme, Sign}
+use Rattle.rhai_lower.specs.declared.token.Token.{Token}
+use Rattle.rhai_lower.specs.declared.token.Token.TheVariants as token
+use Rattle.rhai_grammar.specs.Beginnings.{missing}
+use Rattle.rhai_grammar.specs.Causes as cause
+use Rattle.rhai_grammar.specs.Causes.{Cause}
+use Rattle.rhai_grammar.specs.declared.due.DueToken.{DueToken}
+use Rattle.rhai_grammar.specs.declared.due.DueToken.TheVariants.{RightParen, RightBracket, Colon}
+
+abbrev pub token_of : DueToken → Token
+token_of RightParen = token.RightParen
+token_of RightBracket = token.RightBracket
+token_of Colon = token.Colon
+
+-- how it is written
+abbrev pub text_of_due : DueToken → Text
+text_of_due RightParen = codes ")"
+text_of_due RightBracket = codes "]"
+text_of_due Colon = codes ":"
+
+abbrev is_due_sign : DueToken → Token → Bool
+is_due_sign RightParen token.RightParen = true
+is_due_sign RightBracket token.RightBracket = true
+is_due_sign Colon token.Colon = true
+is_due_sign _ _ = false
+
+-- a token is the required one
+abbrev pub is_due : DueToken → Lexeme → Bool
+is_due d (Sign t) = is_due_sign d t
+is_due d _ = false
+
+-- the error for another token there
+abbrev pub not_due : DueToken → Lexeme → Cause
+not_due d l = missing (text_of_due d) l
+
+-- Where `)` is required, `]` is refused as a missing `)`.
+example : (is_due RightParen (Sign token.RightParen) ≡ true) × (is_due RightParen (Sign token.RightBracket) ≡ false) × (not_due RightParen (Sign token.RightBracket) ≡ cause.MissingToken (codes ")"))
+example = (refl, refl, refl)

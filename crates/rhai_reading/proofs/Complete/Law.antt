@@ -1,0 +1,134 @@
+-- What is said of the written forms: that each is read.
+use Rattle.std.proofs.Common.{◌≡◌, ℕ, Bool, true, false}
+use Rattle.rhai_lower.specs.Lexemes.{Lexeme}
+use Rattle.rhai_lower.specs.Nodes.{Node, Nodes, no_nodes, Properties, position_of}
+use Rattle.rhai_lower.specs.declared.position.Position.{Position}
+use Rattle.rhai_grammar.specs.Delivered.{code, Point, next_at, is_memory}
+use Rattle.rhai_grammar.specs.Contexts.{Context, Live, has_room}
+use Rattle.rhai_grammar.specs.Beginnings.{Calling, WithPair, WithList, calling, calls}
+use Rattle.rhai_grammar.specs.Strengths.{Behind, behind_of, is_operator, strength}
+use Rattle.rhai_grammar.specs.Forms.{Primary, Base, Links, Operand, Arguments, Items, Elements, Fields, Run, Just}
+use Rattle.rhai_grammar.specs.Forms.{Binary}
+use Rattle.rhai_grammar.specs.Trees.{is_variable, primary_tree, base_tree, argument_trees, tree}
+use Rattle.rhai_grammar.specs.Demands.{Verdict, Fine, Demands, verdict, Met}
+use Rattle.rhai_grammar.specs.Written as W
+use Rattle.rhai_grammar.specs.Written.{LinkSpot, Height, Side, Outermost, RightOf, Spot, height_after, is_ranged}
+use Rattle.rhai_grammar.specs.Written.{side_fits, left_fits, operator_known}
+use Rattle.rhai_reading.specs.Reading as R
+use Rattle.rhai_reading.specs.Reading.{Goal, Val, Prog, Ret, Peek, Take, Call, list_on, body}
+use Rattle.rhai_reading.specs.Histories.{Outcome, Done, Runs}
+use Rattle.rhai_reading.proofs.Rules.{at}
+use Rattle.rhai_reading.proofs.Shows.{Kind}
+use Rattle.rhai_reading.proofs.FormKinds.{expressions, operands, items, elements, fields, links}
+use Rattle.rhai_reading.proofs.Reaches.{Reaches}
+use Rattle.rhai_reading.proofs.Looks.{op_at, behind_at, climb}
+use Rattle.rhai_reading.proofs.Strengths.{next_goes_on}
+
+-- ---- what stands in the laws
+
+-- No token behind x is in the way: it can be read, and calls x only where that is called.
+abbrev pub Usable : Node → (called : Bool) → Lexeme → Type 0
+Usable x called l = (is_memory l ≡ false) × (is_variable x ≡ true → calls l ≡ called)
+
+-- what a reader does at the arguments of a call
+pub record Lists (c : Context) (w : Live) (name : Position) (bang : Bool)
+    (p : Lexeme → Position → Calling → Prog (Bool × Nodes)) : Type 0 where
+  pub pair : (l : Lexeme) (pos : Position) → p l pos WithPair ≡ Take (Ret (bang, no_nodes))
+  pub list : (l : Lexeme) (pos : Position) → p l pos WithList ≡ list_on c w name bang
+
+-- no operator along the right side goes on with what stands there
+abbrev pub Shut : Run → Behind → Type 0
+Shut (Just x) v = Unit {0}
+Shut (Binary op pos l r) v = (next_goes_on (strength (behind_of op)) v ≡ false) × Shut r v
+
+-- operators that may stand on this side go on with a run of strength p
+abbrev pub Agrees : ℕ → Side → Type 0
+Agrees p side =
+    (l : Lexeme) → is_operator (behind_of l) ≡ true → side_fits side (behind_of l) ≡ true
+    → next_goes_on p (behind_of l) ≡ true
+
+-- the run's own top fits where it stands
+abbrev pub Top : Side → Run → Type 0
+Top side (Just x) = Unit {0}
+Top side (Binary op pos l r) = side_fits side (behind_of op) ≡ true
+
+-- the level was raised there
+abbrev pub Entered : Side → Type 0
+Entered Outermost = Unit {0}
+Entered (RightOf op h) = has_room h.settings ≡ true
+
+-- where a run's operators begin, once its first operand was read
+abbrev pub begins : Spot → Node → Height
+begins q x = record { settings = q.begins; at = position_of x }
+
+-- The first operand is read, and from there on the reader is where it is once it has the whole run.
+pub record Reads (f : Run) (q : Spot) (k : Demands) (s : Point) (b : Bool) (t : Point) : Type 0 where
+  pub first : Node
+  pub rest : Point
+  pub end : Point
+  pub met : Met k end t
+  pub looked : Bool
+  pub operand : Runs (body (R.Operand q.first q.live (is_ranged q.side))) (at s b) (Done first (at rest looked))
+  pub known_rest : verdict operator_known (next_at code rest).lexeme ≡ Fine
+  pub known_end : verdict operator_known (next_at code end).lexeme ≡ Fine
+  pub entered : Entered q.side
+  pub top : Top q.side f
+  pub shut : (o : Lexeme) → is_operator (behind_of o) ≡ true → left_fits (behind_of o) f ≡ true → Shut f (behind_of o)
+  pub climbs : Shut f (behind_at end) → (p : ℕ) → Agrees p q.side → (o : Outcome Node)
+      → ((b : Bool) → Runs (body (climb (height_after q f) q.live p (tree f q.live))) (at end b) o) → (b : Bool)
+      → Runs (body (climb (begins q first) q.live p first)) (at rest b) o
+
+-- ---- the laws
+
+-- a form is read as what it is
+abbrev pub IsRead : {F : Type 0} → (g : Goal) → Kind F (Val g) → F → Type 0
+IsRead g K f = (k : Demands) (s t : Point) (b : Bool) → Met (K.demands f k) s t → Reaches (body g) s b (K.tree t f) k t
+
+abbrev pub ExpressionRead : Run → Type 0
+ExpressionRead f = (c : Context) (w : Live) → IsRead (R.Expression c w) (expressions c w) f
+
+abbrev pub OperandRead : Operand → Type 0
+OperandRead x = (c : Context) (w : Live) (ranged : Bool) → IsRead (R.Operand c w ranged) (operands c w ranged) x
+
+-- where no token behind it is in the way
+abbrev pub PrimaryRead : Primary → Type 0
+PrimaryRead x =
+    (c : Context) (w : Live) (ranged called : Bool) (k : Demands) (s t : Point) (b : Bool)
+    → Met (W.primary x c w ranged k) s t
+    → ((u : Point) → Met k u t → Usable (primary_tree x w called) called (op_at u))
+    → Reaches (body (R.Primary c w)) s b (primary_tree x w called) k t
+
+-- with what comes after it
+abbrev pub BaseRead : Base → Type 0
+BaseRead x =
+    (c : Context) (w : Live) (ranged : Bool) (k j : Demands) (s t : Point) (y : Node) (rest : Node → Prog Node)
+    → Met (W.base x c w ranged k) s t
+    → ((u : Point) (l : Bool) → Met k u t → Reaches (rest (base_tree x w)) u l y j t)
+    → Reaches (Call (R.Primary c w) (λ n. Call (R.Postfix c w n) rest)) s true y j t
+
+-- with or without a `!` before them
+abbrev pub ArgumentsRead : Arguments → Type 0
+ArgumentsRead x =
+    (others : Lexeme → Verdict) (c : Context) (w : Live) (name : Position) (k : Demands) (bang : Bool)
+    (p : Lexeme → Position → Calling → Prog (Bool × Nodes)) → Lists c w name bang p
+    → (s t : Point) (b : Bool) → Met (W.arguments x others c w name k) s t
+    → Reaches (Peek (λ l pos. p l pos (calling l))) s b (bang, argument_trees x w) k t
+
+abbrev pub ItemsRead : Items → Type 0
+ItemsRead x = (c : Context) (w : Live) (before : Nodes) → IsRead (R.Items c w before) (items c w before) x
+
+abbrev pub ElementsRead : Elements → Type 0
+ElementsRead x =
+    (c : Context) (w : Live) (opening : Position) (before : Nodes)
+    → IsRead (R.Elements c w opening before) (elements c w opening before) x
+
+abbrev pub FieldsRead : Fields → Type 0
+FieldsRead x =
+    (c : Context) (w : Live) (opening : Position) (before : Properties)
+    → IsRead (R.Fields c w opening before) (fields c w opening before) x
+
+abbrev pub LinksRead : Links → Type 0
+LinksRead x = (q : LinkSpot) (w : Live) → IsRead (R.Links w q) (links w q) x
+
+abbrev pub RunRead : Run → Type 0
+RunRead f = (q : Spot) (k : Demands) (s t : Point) (b : Bool) → Met (W.run f q k) s t → Reads f q k s b t

@@ -1,0 +1,127 @@
+-- Primaries, and operands with their signs: the steps to what is written.
+use Rattle.std.proofs.Common.{◌≡◌, Bool, true, false, Some, None, refl, ap, ◌∙◌, if◌then◌else◌}
+use Rattle.rhai_lower.specs.Texts.{Text}
+use Rattle.rhai_lower.specs.Lexemes.{Lexeme}
+use Rattle.rhai_lower.specs.Nodes.{Node}
+use Rattle.rhai_lower.specs.declared.position.Position.{Position}
+use Rattle.rhai_grammar.specs.Causes.{Refusal}
+use Rattle.rhai_grammar.specs.Chains.{chained}
+use Rattle.rhai_grammar.specs.Delivered.{code, Item, Point, next_at, past}
+use Rattle.rhai_grammar.specs.Contexts.{Context, Live, level_up}
+use Rattle.rhai_grammar.specs.Beginnings as begin
+use Rattle.rhai_grammar.specs.Beginnings.{Beginning, beginning}
+use Rattle.rhai_grammar.specs.Forms as form
+use Rattle.rhai_grammar.specs.Forms.{Primary, Base, Links, Operand, Run}
+use Rattle.rhai_grammar.specs.Trees.{name_tree, base_tree}
+use Rattle.rhai_grammar.specs.Demands.{Fine, Blames, Demands, Met}
+use Rattle.rhai_grammar.specs.Written as W
+use Rattle.rhai_grammar.specs.Written.{behind_operand}
+use Rattle.rhai_reading.specs.Reading as R
+use Rattle.rhai_reading.specs.Reading.{Prog, Ret, Fail, Call, operand_by, body}
+use Rattle.rhai_reading.proofs.Reaches.{Reaches, seen, next, ret, gives, look, peek, take, due, if_true, if_false, part}
+use Rattle.rhai_reading.proofs.Looks.{op_at, pos_at}
+use Rattle.rhai_reading.proofs.Tokens.{is_primary, value_is, range_is, sign_is, value_primary, range_primary}
+use Rattle.rhai_reading.proofs.Tokens.{primary_begun, sign_begun, begun_readable, written, unwritten_readable}
+use Rattle.rhai_reading.proofs.Tokens.{called_no_this}
+use Rattle.rhai_reading.proofs.Complete.Law.{PrimaryRead, BaseRead, LinksRead, OperandRead, ExpressionRead}
+
+-- what a test says of the token that stands at a point
+looks : (f : Lexeme → Bool) (s : Point) (i : Item) → next_at code s ≡ i → f i.lexeme ≡ true → f (op_at s) ≡ true
+looks f s i e h = ap (λ (j : Item). f j.lexeme) e ∙ h
+
+-- the first token of a primary
+begins_here : (x : Primary) (c : Context) (w : Live) (ranged : Bool) (k : Demands) (s t : Point)
+    → Met (W.primary x c w ranged k) s t → is_primary (beginning (op_at s)) ≡ true
+begins_here (form.Value token pos) c w ranged k s t m =
+    looks (λ l. is_primary (beginning l)) s _ m.1.0 (value_primary (beginning token) m.0)
+begins_here (form.Named name pos) c w ranged k s t m = looks (λ l. is_primary (beginning l)) s _ m.0 refl
+begins_here (form.Word word pos) c w ranged k s t m = looks (λ l. is_primary (beginning l)) s _ m.0 refl
+begins_here (form.Group opening inside closing) c w ranged k s t m = looks (λ l. is_primary (beginning l)) s _ m.0 refl
+begins_here (form.Array opening list) c w ranged k s t m = looks (λ l. is_primary (beginning l)) s _ m.0 refl
+begins_here (form.Map opening list) c w ranged k s t m = looks (λ l. is_primary (beginning l)) s _ m.0 refl
+begins_here (form.Zero range pos) c w ranged k s t m =
+    looks (λ l. is_primary (beginning l)) s _ m.1.0 (range_primary (beginning range) m.0)
+
+base_begins : (x : Base) (c : Context) (w : Live) (ranged : Bool) (k : Demands) (s t : Point)
+    → Met (W.base x c w ranged k) s t → is_primary (beginning (op_at s)) ≡ true
+base_begins (form.Plain x) c w ranged k s t m = begins_here x c w ranged _ s t m
+base_begins (form.Call x None args) c w ranged k s t m = begins_here x c w ranged _ s t m
+base_begins (form.Call x (Some bang) args) c w ranged k s t m = begins_here x c w ranged _ s t m
+
+-- a reserved word: called, or `this` in a function
+word_by : (called this_word function : Bool) (x y : Node) (d e : Refusal) (k : Demands) (s t : Point) (b : Bool)
+    → (called ≡ true → this_word ≡ false)
+    → (if called then Fine else if this_word then (if function then Fine else Blames d) else Blames e) ≡ Fine
+    → Met k s t
+    → Reaches (if called then Ret x else if this_word then (if function then Ret y else Fail d) else Fail e) s b
+    (if this_word then y else x) k t
+word_by true true function x y d e k s t b h ok m = let a = h refl in absurd cc
+word_by true false function x y d e k s t b h ok m = ret m
+word_by false true true x y d e k s t b h ok m = ret m
+word_by false true false x y d e k s t b h ok m = absurd cc
+word_by false false function x y d e k s t b h ok m = absurd cc
+
+-- the links behind an operand
+abbrev links_on : Context → Live → Node → Prog Node
+links_on c w y = Call (R.Links w (behind_operand c y)) (λ ls. Ret (chained y ls))
+
+-- an operand that no sign stands before, and that is written
+opened : (c : Context) (w : Live) (ranged : Bool) {s : Point} {b : Bool} {x : Node} {k : Demands} {t : Point}
+    → is_primary (beginning (op_at s)) ≡ true
+    → Reaches (Call (R.Primary c w) (λ x. Call (R.Postfix c w x) (links_on c w))) s true x k t
+    → Reaches (body (R.Operand c w ranged)) s b x k t
+opened c w ranged {s = s} {x = x} {k = k} {t = t} e r =
+    let g = primary_begun (beginning (op_at s)) e in
+    look (begun_readable (op_at s) g) (if_false _ (written ranged (op_at s) g) (plain (beginning (op_at s)) e))
+  where
+    plain : (v : Beginning) → is_primary v ≡ true → Reaches (operand_by c w (op_at s) (pos_at s) v) s true x k t
+    plain begin.ASign e = absurd cc
+    plain (begin.NoBeginning why) e = absurd cc
+    plain _ e = r
+
+-- ---- primaries
+
+pub value : (token : Lexeme) (pos : Position) → PrimaryRead (form.Value token pos)
+value token pos c w ranged called k s t b m behind =
+    let can = begun_readable token (primary_begun _ (value_primary (beginning token) m.0)) in
+    peek m.1.0 can (seen (value_is (beginning token) m.0) (R.primary_at c w token pos) (take m.1.0 can (ret m.1.1)))
+
+pub named : (name : Text) (pos : Position) → PrimaryRead (form.Named name pos)
+named name pos c w ranged called k s t b m behind =
+    let u = behind (past code s) m.1 in
+    due m.0 refl refl (look u.0 (gives (ap (λ v. name_tree w.slots v name pos) (u.1 refl)) m.1))
+
+pub word : (text : Text) (pos : Position) → PrimaryRead (form.Word text pos)
+word text pos c w ranged called k s t b m behind =
+    due m.0 refl refl (next (W.word_behind c text pos) m.1.0
+    (λ may. word_by _ _ _ _ _ _ _ k _ t _ (called_no_this text _) may m.1.1))
+
+pub group : (opening : Position) (inside : Run) (closing : Position) → ExpressionRead inside
+    → PrimaryRead (form.Group opening inside closing)
+group opening inside closing expression c w ranged called k s t b m behind =
+    due m.0 refl refl (if_true _ m.1.0 (part (expression (level_up c) w _ (past code s) t false m.1.1)
+    (λ u l n. due n.0 refl refl (ret n.1))))
+
+pub zero : (range : Lexeme) (pos : Position) → PrimaryRead (form.Zero range pos)
+zero range pos c w ranged called k s t b m behind =
+    let can = begun_readable range (primary_begun _ (range_primary (beginning range) m.0)) in
+    peek m.1.0 can (seen (range_is (beginning range) m.0) (R.primary_at c w range pos) (ret m.1.1))
+
+-- ---- operands
+
+pub linked : (x : Base) (list : Links) → BaseRead x → LinksRead list → OperandRead (form.Linked x list)
+linked x list base links c w ranged k s t b m =
+    opened c w ranged (base_begins x c w ranged _ s t m) (base c w ranged _ k s t _ (links_on c w) m (λ u l h.
+    part (links (behind_operand c (base_tree x w)) w k u t l h) (λ v a n. ret n)))
+
+pub signed : (sign : Lexeme) (pos : Position) (x : Operand) → OperandRead x → OperandRead (form.Signed sign pos x)
+signed sign pos x operand c w ranged k s t b m =
+    let can = sign_begun (beginning sign) m.0 in
+    let reads = begun_readable sign can in
+    peek m.1.0 reads (if_false _ (written ranged sign can)
+    (seen (sign_is (beginning sign) m.0) (R.operand_by c w sign pos)
+    (take m.1.0 reads (if_true _ m.1.1.0 (part (operand (level_up c) w false _ (past code s) t false m.1.1.1)
+    (λ u l n. if_true _ n.0 (ret n.1)))))))
+
+pub no_operand : (token : Lexeme) (pos : Position) → OperandRead (form.NoOperand token pos)
+no_operand token pos c w ranged k s t b m = peek m.1.0 (unwritten_readable ranged token m.0) (if_true _ m.0 (ret m.1.1))

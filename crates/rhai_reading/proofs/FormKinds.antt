@@ -1,0 +1,154 @@
+-- The forms that each reader reads, with their trees and demands.
+use Rattle.std.proofs.Common.{◌≡◌, Bool, true, List, ◌++◌}
+use Rattle.std.specs.Prelude.{Option, Some, None, not}
+use Rattle.std.specs.Option.{is_some}
+use Rattle.rhai_lower.specs.Texts.{Text}
+use Rattle.rhai_lower.specs.Lexemes.{Lexeme, Name, Sign, text_of}
+use Rattle.rhai_lower.specs.Nodes.{Node, Nodes, no_nodes, Properties, property}
+use Rattle.rhai_lower.specs.declared.position.Position.{Position}
+use Rattle.rhai_lower.specs.declared.token.Token.TheVariants as token
+use Rattle.rhai_grammar.specs.declared.due.DueToken.TheVariants as due
+use Rattle.rhai_grammar.specs.Causes as cause
+use Rattle.rhai_grammar.specs.Causes.{Refusal, refusal}
+use Rattle.rhai_grammar.specs.Delivered.{code, item, Point}
+use Rattle.rhai_grammar.specs.Contexts.{Context, Live, level_up}
+use Rattle.rhai_grammar.specs.Beginnings.{calls, member_place, is_member}
+use Rattle.rhai_grammar.specs.Literals.{is_key, has_key, property_count}
+use Rattle.rhai_grammar.specs.Chains.{Link, index_refusal}
+use Rattle.rhai_grammar.specs.Operators.{joined}
+use Rattle.rhai_grammar.specs.Forms.{Primary, Base, Links, Operand, Arguments, Items, Elements, Fields, Run}
+use Rattle.rhai_grammar.specs.Trees.{primary_tree, base_tree, link_list, operand_tree, argument_trees, item_trees}
+use Rattle.rhai_grammar.specs.Trees.{element_trees, field_trees, tree, node_count, method_tree}
+use Rattle.rhai_grammar.specs.Demands.{Demands, ◌▸◌, Tok, Next, Test, Shape}
+use Rattle.rhai_grammar.specs.Written as W
+use Rattle.rhai_grammar.specs.Written.{LinkSpot, Height, Side, Spot, height_after, side_fits, operator_known}
+use Rattle.rhai_reading.proofs.Lists.{joined_properties}
+use Rattle.rhai_reading.proofs.Looks.{op_at}
+use Rattle.rhai_reading.proofs.Shows.{Kind}
+
+-- ---- operands
+
+abbrev pub expressions : Context → Live → Kind Run Node
+expressions c w = record { tree = λ t f. tree f w; demands = λ f k. W.expression f c w k }
+
+abbrev pub operands : Context → Live → Bool → Kind Operand Node
+operands c w ranged = record { tree = λ t x. operand_tree x w; demands = λ x k. W.operand x c w ranged k }
+
+-- the token behind a primary may call it
+abbrev pub tree_before : Live → Point → Primary → Node
+tree_before w t x = primary_tree x w (calls (op_at t))
+
+abbrev pub primaries : Context → Live → Bool → Kind Primary Node
+primaries c w ranged = record { tree = tree_before w; demands = λ x k. W.primary x c w ranged k }
+
+abbrev pub bases : Context → Live → Bool → Kind Base Node
+bases c w ranged = record { tree = λ t x. base_tree x w; demands = λ x k. W.base x c w ranged k }
+
+abbrev pub items : Context → Live → (before : Nodes) → Kind Items Nodes
+items c w before = record { tree = λ t list. joined before (item_trees list w); demands = λ list k. W.items list c w k }
+
+abbrev pub runs : Spot → Kind Run Node
+runs q = record { tree = λ t f. tree f q.live; demands = λ f k. W.run f q k }
+
+-- what stands behind the `(` of a call
+pub data Enclosed : Type 0 where
+  Closed : Position → Enclosed
+  Listing : Items → Enclosed
+
+abbrev pub enclosed_trees : Live → Enclosed → Nodes
+enclosed_trees w (Closed closing) = no_nodes
+enclosed_trees w (Listing list) = item_trees list w
+
+abbrev pub enclosed_of : Context → Live → Position → Enclosed → Demands → Demands
+enclosed_of c w name (Closed closing) k = Tok code (item (Sign token.RightParen) closing) W.close_or_argument ▸ k
+enclosed_of c w name (Listing list) k = Next W.argument_due ▸ W.raise_at c name (W.items list (level_up c) w k)
+
+abbrev pub enclosed : Context → Live → Position → Kind Enclosed Nodes
+enclosed c w name = record { tree = λ t list. enclosed_trees w list; demands = enclosed_of c w name }
+
+-- what calls a name: a `!`, if there is one, and arguments
+pub data CallForm : Type 0 where
+  By : (bang : Option Position) → Arguments → CallForm
+
+abbrev pub call_of : Context → Live → Position → CallForm → Demands → Demands
+call_of c w name (By None args) k = W.arguments args W.anything c w name k
+call_of c w name (By (Some bang) args) k =
+    Tok code (item (Sign token.Bang) bang) W.anything ▸ W.arguments args W.list_due c w name k
+
+abbrev pub call_answer : Live → CallForm → Bool × Nodes
+call_answer w (By bang args) = (is_some bang, argument_trees args w)
+
+abbrev pub callings : Context → Live → Position → Kind CallForm (Bool × Nodes)
+callings c w name = record { tree = λ t f. call_answer w f; demands = call_of c w name }
+
+-- ---- literals
+
+abbrev pub elements : Context → Live → (opening : Position) → (before : Nodes) → Kind Elements Nodes
+elements c w opening before = record {
+  tree = λ t list. joined before (element_trees list w);
+  demands = λ list k. W.elements list (node_count before) c w opening k;
+}
+
+abbrev pub fields : Context → Live → (opening : Position) → (before : Properties) → Kind Fields Properties
+fields c w opening before = record {
+  tree = λ t list. joined_properties before (field_trees list w);
+  demands = λ list k. W.fields list before c w opening k;
+}
+
+-- what stands where one more property may: the `}`, or a key with its colon
+pub data KeyForm : Type 0 where
+  NoMore : (closing : Position) → KeyForm
+  Keyed : (key : Lexeme) (pos colon : Position) → KeyForm
+
+abbrev pub key_of : Context → Properties → KeyForm → Demands → Demands
+key_of c before (NoMore closing) k = Tok code (item (Sign token.RightBrace) closing) (W.key_due c before) ▸ k
+key_of c before (Keyed key pos colon) k =
+    Shape (is_key (W.next_key c before key)) ▸ Tok code (item key pos) (W.key_due c before) ▸
+    Test (not (has_key (text_of key) before)) (refusal (cause.DuplicatedProperty (text_of key)) pos) ▸
+    W.due_token due.Colon colon (Next (W.value_due c.sizes.map (property_count before)) ▸ k)
+
+abbrev pub key_answer : KeyForm → Option (Text × Position)
+key_answer (NoMore closing) = None
+key_answer (Keyed key pos colon) = Some (text_of key, pos)
+
+abbrev pub next_keys : Context → Properties → Kind KeyForm (Option (Text × Position))
+next_keys c before = record { tree = λ t f. key_answer f; demands = key_of c before }
+
+-- ---- chains
+
+abbrev pub links : Live → LinkSpot → Kind Links (List Link)
+links w q = record { tree = λ t list. q.before ++ link_list list w; demands = λ list k. W.links list q w k }
+
+-- the index in a bracket, and where its `]` stands
+pub record IndexForm : Type 0 where
+  pub index : Run
+  pub closing : Position
+
+abbrev pub index_of : Context → Live → Option Node → IndexForm → Demands → Demands
+index_of c w indexed f k =
+    W.expression f.index c w (W.unfaulted (index_refusal indexed (tree f.index w))
+    (W.due_token due.RightBracket f.closing k))
+
+abbrev pub indices : Context → Live → Option Node → Kind IndexForm Node
+indices c w indexed = record { tree = λ t f. tree f.index w; demands = index_of c w indexed }
+
+-- what stands behind a dot
+pub data MemberForm : Type 0 where
+  AProperty : (name : Text) → Position → MemberForm
+  AMethod : (name : Lexeme) → is_member (member_place name) ≡ true → Position → CallForm → MemberForm
+
+abbrev pub member_of : Context → Live → MemberForm → Demands → Demands
+member_of c w (AProperty name pos) k = Tok code (item (Name name) pos) W.anything ▸ Next W.uncalled_member ▸ k
+member_of c w (AMethod name is pos call) k =
+    Tok code (item name pos) W.anything ▸ Next (W.method_behind name pos) ▸ call_of c w pos call k
+
+abbrev pub member_tree : Live → MemberForm → Node
+member_tree w (AProperty name pos) = property name pos
+member_tree w (AMethod name is pos (By bang args)) =
+    method_tree (text_of name) pos (is_some bang) (argument_trees args w)
+
+abbrev pub members : Context → Live → Kind MemberForm Node
+members c w = record { tree = λ t f. member_tree w f; demands = member_of c w }
+
+abbrev pub wholes : Context → Live → Kind Run Node
+wholes c w = record { tree = λ t f. tree f w; demands = λ f k. W.whole_expression f c w }

@@ -1,0 +1,48 @@
+-- Lists that grow by one at their end.
+use Rattle.std.proofs.Common.{◌≡◌, ◌+◌, List, [], ◌∷◌, ◌++◌, refl, ap, append_assoc}
+use Rattle.rhai_lower.specs.Texts.{Text}
+use Rattle.rhai_lower.specs.Nodes.{Node, Nodes, no_nodes, one_node, with_node, Properties, no_properties, one_property}
+use Rattle.rhai_lower.specs.Nodes.{with_property}
+use Rattle.rhai_lower.specs.declared.position.Position.{Position}
+use Rattle.rhai_grammar.specs.Operators.{joined}
+use Rattle.rhai_grammar.specs.Trees.{node_count}
+
+-- nodes behind those before them
+pub added : (ns : Nodes) (x : Node) (ms : Nodes) → joined (with_node ns x) ms ≡ joined ns (one_node x ms)
+added no_nodes x ms = refl
+added (one_node n ns) x ms = ap (one_node n) (added ns x ms)
+
+pub added_last : (ns : Nodes) (x : Node) → with_node ns x ≡ joined ns (one_node x no_nodes)
+added_last no_nodes x = refl
+added_last (one_node n ns) x = ap (one_node n) (added_last ns x)
+
+pub added_none : (ns : Nodes) → joined ns no_nodes ≡ ns
+added_none no_nodes = refl
+added_none (one_node n ns) = ap (one_node n) (added_none ns)
+
+pub one_more_node : (ns : Nodes) (x : Node) → node_count (with_node ns x) ≡ node_count ns + 1
+one_more_node no_nodes x = refl
+one_more_node (one_node n ns) x = ap (λ count. count + 1) (one_more_node ns x)
+
+-- the properties of one list behind those of another
+abbrev pub joined_properties : Properties → Properties → Properties
+joined_properties no_properties qs = qs
+joined_properties (one_property key pos x ps) qs = one_property key pos x (joined_properties ps qs)
+
+pub added_property : (ps : Properties) (key : Text) (pos : Position) (x : Node) (qs : Properties)
+    → joined_properties (with_property ps key pos x) qs ≡ joined_properties ps (one_property key pos x qs)
+added_property no_properties key pos x qs = refl
+added_property (one_property u p y ps) key pos x qs = ap (one_property u p y) (added_property ps key pos x qs)
+
+pub last_property : (ps : Properties) (key : Text) (pos : Position) (x : Node)
+    → with_property ps key pos x ≡ joined_properties ps (one_property key pos x no_properties)
+last_property no_properties key pos x = refl
+last_property (one_property u p y ps) key pos x = ap (one_property u p y) (last_property ps key pos x)
+
+pub no_property : (ps : Properties) → joined_properties ps no_properties ≡ ps
+no_property no_properties = refl
+no_property (one_property key pos x ps) = ap (one_property key pos x) (no_property ps)
+
+-- what stands behind one more
+pub behind_one_more : {A : Type 0} (xs : List A) (x : A) (ys : List A) → (xs ++ (x ∷ [])) ++ ys ≡ xs ++ (x ∷ ys)
+behind_one_more xs x ys = append_assoc xs (x ∷ []) ys

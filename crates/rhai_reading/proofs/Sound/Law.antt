@@ -1,0 +1,108 @@
+-- What each reader shows.
+use Rattle.std.proofs.Common.{◌≡◌, ℕ, Bool, true, false}
+use Rattle.std.specs.Prelude.{◌&&◌}
+use Rattle.rhai_lower.specs.Lexemes.{Lexeme, Integer}
+use Rattle.rhai_lower.specs.Positions.{nowhere}
+use Rattle.rhai_lower.specs.Nodes.{Node}
+use Rattle.rhai_grammar.specs.Causes.{Refusal}
+use Rattle.rhai_grammar.specs.Delivered.{Point}
+use Rattle.rhai_grammar.specs.Seen.{StandsAtLast}
+use Rattle.rhai_grammar.specs.Contexts.{Context, Live}
+use Rattle.rhai_grammar.specs.Beginnings.{beginning, is_sign, closes, calls, member_place, is_member}
+use Rattle.rhai_grammar.specs.Strengths.{Behind, behind_of, strength}
+use Rattle.rhai_grammar.specs.Forms as form
+use Rattle.rhai_grammar.specs.Forms.{Primary, Base, Links, Operand, Arguments, Items, Elements, Fields, Run, Just}
+use Rattle.rhai_grammar.specs.Forms.{Binary}
+use Rattle.rhai_grammar.specs.Trees.{tree}
+use Rattle.rhai_grammar.specs.Demands.{Demands, Next, Met, Missed}
+use Rattle.rhai_grammar.specs.Written as W
+use Rattle.rhai_grammar.specs.Written.{LinkSpot, Height, Side, Spot, height_after, side_fits, operator_known}
+use Rattle.rhai_reading.specs.Reading as R
+use Rattle.rhai_reading.specs.Reading.{Goal, Val}
+use Rattle.rhai_reading.specs.Histories.{State, Outcome}
+use Rattle.rhai_reading.proofs.Joins.{cursor}
+use Rattle.rhai_reading.proofs.Rules.{at}
+use Rattle.rhai_reading.proofs.Strengths.{next_goes_on}
+use Rattle.rhai_reading.proofs.FormKinds.{runs, operands, primaries, tree_before, bases, expressions, enclosed, items}
+use Rattle.rhai_reading.proofs.FormKinds.{callings, elements, fields, next_keys, links, indices, members}
+use Rattle.rhai_reading.proofs.Looks.{op_at, behind_at, operator_in}
+use Rattle.rhai_reading.proofs.Paths.{Fits, Fails, Way, Lost}
+use Rattle.rhai_reading.proofs.Shows.{Histories, Ensures, Tells, Halts, Answers, Passed}
+
+-- ---- runs
+
+-- the operator at the top doesn't go on with what stands there
+abbrev pub Ended : Run → Behind → Type 0
+Ended (Just x) v = Unit {0}
+Ended (Binary op pos l r) v = next_goes_on (strength (behind_of op)) v ≡ false
+
+-- what goes on with p fits on this side
+abbrev pub Suits : ℕ → Side → Type 0
+Suits p side = (l : Lexeme) → next_goes_on p (behind_of l) ≡ true → side_fits side (behind_of l) ≡ true
+
+-- A run was read as far as s, where it is still to be seen whether a reserved symbol stands.
+pub record Stands (q : Spot) (from : Point) (L : Run) (s : Point) : Type 0 where
+  pub passes : Fits operator_known s → Passed (runs q) L from s
+  pub stops : (e : Refusal) → Fails (Next operator_known) s e → (k : Demands) → Way (W.run L q k) from (Lost e s)
+
+-- A run was read, and nothing goes on with it.
+pub record RunRead (q : Spot) (p : ℕ) (from : Point) (x : Node) (t : Point) : Type 0 where
+  pub form : Run
+  pub is : tree form q.live ≡ x
+  pub passes : Passed (runs q) form from t
+  pub off : next_goes_on p (behind_at t) ≡ false
+  pub known : Fits operator_known t
+
+-- ---- the whole
+
+abbrev pub WholeRead : Context → Live → Point → Node → Point → Type 0
+WholeRead c w s x t = (f : Run) × (tree f w ≡ x) × Met (W.whole_expression f c w) s t
+
+abbrev pub WholeHalts : Context → Live → Point → Refusal → State → Type 0
+WholeHalts c w s e u = (f : Run) × Missed (W.whole_expression f c w) s e u.point × StandsAtLast e (cursor u)
+
+-- ---- the law
+
+abbrev pub Sound : (g : Goal) → Point → Outcome (Val g) → Type 0
+Sound (R.Whole c w) s o = Ensures (WholeRead c w s) (WholeHalts c w s) o
+Sound (R.Expression c w) s o = Answers (expressions c w) s o
+Sound (R.Operand c w ranged) s o = Answers (operands c w ranged) s o
+Sound (R.Primary c w) s o =
+    (ranged : Bool) → (ranged && closes (op_at s)) ≡ false → is_sign (beginning (op_at s)) ≡ false
+    → Answers (primaries c w ranged) s o
+Sound (R.Postfix c w x) s o =
+    (ranged : Bool) (from : Point) (p : Primary) → tree_before w s p ≡ x → Passed (primaries c w ranged) p from s
+    → Answers (bases c w ranged) from o
+Sound (R.Called c w name) s o = calls (op_at s) ≡ true → Answers (callings c w name) s o
+Sound (R.Links w q) s o = Answers (links w q) s o
+Sound (R.Index c w indexed) s o = Answers (indices c w indexed) s o
+Sound (R.Member c w) s o = is_member (member_place (op_at s)) ≡ true → Answers (members c w) s o
+Sound (R.Arguments c w name) s o = Answers (enclosed c w name) s o
+Sound (R.Items c w before) s o = Answers (items c w before) s o
+Sound (R.Elements c w opening before) s o = Answers (elements c w opening before) s o
+Sound (R.Fields c w opening before) s o = Answers (fields c w opening before) s o
+Sound (R.NextKey c before) s o = Answers (next_keys c before) s o
+Sound R.NextOperator s o =
+    Tells (λ v t. (t ≡ s) × (v ≡ operator_in (behind_at s)) × Fits operator_known s)
+    (λ e u. Fails (Next operator_known) s e × (u.point ≡ s) × StandsAtLast e (cursor u)) o
+Sound (R.BinaryOp c w pos p lhs) s o =
+    (q : Spot) (from : Point) (L : Run) → q.live ≡ w → tree L q.live ≡ lhs
+    → height_after q L ≡ record { settings = c; at = pos } → Suits p q.side → Ended L (behind_at s) → Stands q from L s
+    → Tells (RunRead q p from) (Halts (runs q) from) o
+
+pub record AllSound (call : Histories) : Type 0 where
+  pub of : (g : Goal) (s : Point) (b : Bool) → Sound g s (call g (at s b))
+
+-- ---- fillers: what stands behind a missed demand
+
+abbrev pub any_primary : Primary
+any_primary = form.Value (Integer (lib.IntN.pos 0)) nowhere
+
+abbrev pub any_operand : Operand
+any_operand = form.Linked (form.Plain any_primary) form.NoLink
+
+abbrev pub any_run : Run
+any_run = Just any_operand
+
+abbrev pub any_items : Items
+any_items = form.Last any_run nowhere

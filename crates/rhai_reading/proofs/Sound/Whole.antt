@@ -1,0 +1,66 @@
+-- Expressions, and a whole stream.
+use Rattle.std.proofs.Common.{◌≡◌, Bool, true, false, refl}
+use Rattle.rhai_lower.specs.Nodes.{Node}
+use Rattle.rhai_grammar.specs.Delivered.{Point, is_end}
+use Rattle.rhai_grammar.specs.Contexts.{Context, Live, level_up}
+use Rattle.rhai_grammar.specs.Strengths.{Behind, Operator, Unknown, Other}
+use Rattle.rhai_grammar.specs.Forms.{Run, Just}
+use Rattle.rhai_grammar.specs.Trees.{tree}
+use Rattle.rhai_grammar.specs.Demands.{Fine, Nothing}
+use Rattle.rhai_grammar.specs.Written as W
+use Rattle.rhai_grammar.specs.Written.{outermost, run_ends, operator_known}
+use Rattle.rhai_reading.specs.Reading as R
+use Rattle.rhai_reading.specs.Reading.{body}
+use Rattle.rhai_reading.specs.Histories.{exec, Outcome, Done, Refused, Unfinished}
+use Rattle.rhai_reading.proofs.Rules.{at}
+use Rattle.rhai_reading.proofs.Strengths.{Sensible, sensible, next_goes_on, outer}
+use Rattle.rhai_reading.proofs.Looks.{op_at, behind_at, fine as known_fine}
+use Rattle.rhai_reading.proofs.Paths.{Fits, ◌▹◌, here, lost, Way, To, reached}
+use Rattle.rhai_reading.proofs.Shows.{Histories, Ensures, Shows, Halts, Goes, ill, fine, over, ret, look, raise, check}
+use Rattle.rhai_reading.proofs.Shows.{part}
+use Rattle.rhai_reading.proofs.FormKinds.{expressions, wholes}
+use Rattle.rhai_reading.proofs.Sound.Law.{Sound, AllSound, WholeRead, WholeHalts, any_run}
+use Rattle.rhai_reading.proofs.Sound.Runs.{run_part}
+
+ends_fine : (s : Point) → next_goes_on 1 (behind_at s) ≡ false → Fits operator_known s → Fits run_ends s
+ends_fine s off known =
+    let f = known_fine operator_known (op_at s) known.fits in
+    fine f.0 (ends (behind_at s) (sensible (op_at s)) off f.1)
+  where
+    ends : (v : Behind) → Sensible v → next_goes_on 1 v ≡ false → W.known_behind v ≡ Fine → W.ended_behind v ≡ Fine
+    ends (Operator n right) h off k = let w = outer (Operator n right) h refl in absurd cc
+    ends (Unknown t) h off k = absurd cc
+    ends Other h off k = refl
+
+module _ {call : Histories} (ih : AllSound call) (c : Context) (w : Live) (s : Point) where
+  pub expression : (b : Bool) → Goes call (expressions c w) s (body (R.Expression c w)) s b
+  expression b = look (λ m.
+      raise c any_run (λ high k. ill m (rw high)) (λ below.
+      part (ih.of (R.Operand (level_up c) w false) s true) Just (λ x k o r. fine m (rw below) ▹ r _) (λ x t a X.
+      run_part ih (outermost (level_up c) w) s (Just x) refl refl refl (λ l e. refl) tt
+      (record { passes = λ known. over (λ k o r. X.on (known ▹ r)); stops = λ e r k. X.on (lost r) })
+      (λ f. f) (λ f k o r. fine m (rw below) ▹ r _) (λ f u d G off known.
+      ret (record {
+        form = f;
+        is = refl;
+        passes = over
+            (λ k o r. fine m (rw below) ▹ G.on (ends_fine u off known ▹ r));
+      })))))
+
+  whole_by : (b : Bool) → Shows call (λ x t. (f : Run) × (tree f w ≡ x) × Way (W.whole_expression f c w) s (To t))
+      (Halts (wholes c w) s) (body (R.Whole c w)) s b
+  whole_by b =
+      part (ih.of (R.Expression c w) s b) (λ f. f) (λ f k o r. r _) (λ f t a G.
+      look (λ m. check (is_end (op_at t)) f (λ rest k. G.on (ill m (rw rest)))
+      (λ end. ret (f, refl, G.on (fine m (rw end) ▹ here)))))
+
+written : (c : Context) (w : Live) (s : Point) (o : Outcome Node)
+    → Ensures (λ x t. (f : Run) × (tree f w ≡ x) × Way (W.whole_expression f c w) s (To t)) (Halts (wholes c w) s) o
+    → Ensures (WholeRead c w s) (WholeHalts c w s) o
+written c w s (Done x t) h = (h.0, (h.1.0, h.1.1, reached h.1.2))
+written c w s (Refused e t) h = λ z. let r = h z in (r.form, reached (r.stops {k = Nothing}), r.last)
+written c w s Unfinished h = tt
+
+pub whole : {call : Histories} → AllSound call → (c : Context) (w : Live) (s : Point) (b : Bool)
+    → Sound (R.Whole c w) s (exec call (body (R.Whole c w)) (at s b))
+whole ih c w s b = written c w s _ (whole_by ih c w s b).shown
