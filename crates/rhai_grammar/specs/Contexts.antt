@@ -1,29 +1,29 @@
--- What a form stands in: what goes down into it, and what was defined before it.
+-- What the meaning of a form depends on: the settings and limits around it, and what was defined before it.
 use Rattle.std.specs.Prelude.{◌≡◌, ℕ, Bool, true, false, ◌&&◌, not, List, [], nat_lt, refl}
 use Rattle.rhai_lower.specs.Slots.{SlotValue}
 use Rattle.rhai_grammar.specs.Settings as settings
 use Rattle.rhai_grammar.specs.Settings.{Settings}
 
--- the most items that a literal of an array may have, and the most properties that one of an object map may have; 0 is no limit
+-- the greatest number of items in an array literal, and of properties in an object map literal; 0 means no limit
 pub record Sizes : Type 0 where
   pub array : ℕ
   pub map : ℕ
 
--- What goes down into a form, and is the same for all its parts but for the level: the settings, and the engine's limits.
+-- What a form passes on to its parts, with only the level changed: the settings, and the engine's limits.
 pub record Context : Type 0 where
   pub settings : Settings
   pub sizes : Sizes
 
--- What was defined before a form, in written order, and can still be used.
+-- What was defined before a form, in written order, and is still live.
 pub record Live : Type 0 where
   -- the slots of the variables, the oldest first
   pub slots : List SlotValue
 
--- where nothing was defined
+-- nothing was defined
 abbrev pub nothing_live : Live
 nothing_live = record { slots = [] }
 
--- a raise of the level finds room
+-- a raise of the level is possible
 abbrev pub has_room : Context → Bool
 has_room c = settings.has_room c.settings
 
@@ -31,7 +31,7 @@ has_room c = settings.has_room c.settings
 abbrev pub level_up : Context → Context
 level_up c = record c { settings = settings.level_up c.settings }
 
--- A literal that has so many parts has no room for one more.
+-- A literal with this number of parts has no room for one more.
 abbrev pub full : (limit count : ℕ) → Bool
 full limit count = nat_lt 0 limit && not (nat_lt count limit)
 

@@ -1,4 +1,4 @@
--- Tokens that are due where a construct goes on or ends, and what is refused in their place.
+-- Tokens that are required where a construct continues or ends, and the error for another token in their place.
 use Rattle.std.specs.Prelude.{◌≡◌, Bool, true, false, codes, refl}
 use Rattle.rhai_lower.specs.Texts.{Text}
 use Rattle.rhai_lower.specs.Lexemes.{Lexeme, Sign}
@@ -27,15 +27,15 @@ is_due_sign RightBracket token.RightBracket = true
 is_due_sign Colon token.Colon = true
 is_due_sign _ _ = false
 
--- a token is the one that is due
+-- a token is the required one
 abbrev pub is_due : DueToken → Lexeme → Bool
 is_due d (Sign t) = is_due_sign d t
 is_due d _ = false
 
--- why another token is refused there
+-- the error for another token there
 abbrev pub not_due : DueToken → Lexeme → Cause
 not_due d l = missing (text_of_due d) l
 
--- Where `)` is due, `]` is refused, since `)` is missing.
+-- Where `)` is required, `]` is refused as a missing `)`.
 example : (is_due RightParen (Sign token.RightParen) ≡ true) × (is_due RightParen (Sign token.RightBracket) ≡ false) × (not_due RightParen (Sign token.RightBracket) ≡ cause.MissingToken (codes ")"))
 example = (refl, refl, refl)

@@ -1,6 +1,6 @@
-//! Tokens that are due where a construct goes on or ends.
+//! Tokens that are required where a construct continues or ends.
 
-/// A token that is due: where it is missing, the parser refuses whatever else is there.
+/// A required token: any other token in its place is refused.
 #[derive(Clone, Copy, PartialEq, Eq, Debug)]
 pub enum DueToken {
     /// `)`, which ends parentheses.

@@ -1,11 +1,11 @@
-//! How a refusal is printed: the number of its kind, where it stands, the name of its kind and what belongs to it. Notes on
-//! what to write instead are left out. docs/FORMAT.md has the list.
+//! How a refusal is printed: the number of its kind, its position, the name of its kind, and its payload. Notes on what
+//! to write instead are left out. docs/FORMAT.md has the list.
 
 use crate::escape::Escaped;
 use rhai_parser::{InputError, LexError, ParseError, ParseErrorType, Position};
 use std::fmt;
 
-// What belongs to a kind.
+// The payload of a kind.
 #[derive(Drop)]
 enum Payload<'a> {
     Nothing,
@@ -35,7 +35,7 @@ fn write_input_error<W: fmt::Write>(f: &mut fmt::Formatter<W>, error: &InputErro
     }
 }
 
-// With a space before it, unless it is nothing.
+// Printed with a space before it, unless there is no payload.
 impl fmt::Display for Payload<'_> {
     fn fmt<W: fmt::Write>(&self, f: &mut fmt::Formatter<W>) -> fmt::Result {
         match self {
@@ -197,14 +197,14 @@ mod tests {
         format!(in alloc; "{}", Refused(&error))
     }
 
-    // Compares what is printed of a refusal that stands nowhere.
+    // Compares the line printed for a refusal without position.
     fn check(rt: &impl Abort, alloc: Global, kind: Kind, wanted: &str) -> Result<(), Fail> {
         let printed = line(alloc, ParseError(kind, Position::NONE))?;
         assert_eq!(rt; printed.as_str(), wanted);
         Ok(())
     }
 
-    // Compares what is printed of an input that cannot be used.
+    // Compares the line printed for an input that cannot be used.
     fn check_input(
         rt: &impl Abort,
         alloc: Global,

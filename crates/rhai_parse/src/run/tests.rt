@@ -5,7 +5,7 @@ use std::process::Abort;
 use std::str;
 use std::test::Fail;
 
-// Gives its bytes, and then fails in this way.
+// Gives its bytes, and then fails with an error of this kind.
 #[derive(Drop)]
 struct Broken<'a> {
     bytes: &'a [u8],
@@ -21,7 +21,7 @@ impl<'a> Read for Broken<'a> {
     }
 }
 
-// Has room for so many bytes, and then fails.
+// Has room for this many bytes, and then fails.
 #[derive(Drop)]
 struct Full {
     room: usize,
@@ -47,7 +47,7 @@ impl Write for Full {
     }
 }
 
-// Runs the program on words that a blank stands between.
+// Runs the program on words that are separated by spaces.
 fn answer_of<R: Read>(
     alloc: Global,
     words: &str,
@@ -66,7 +66,7 @@ fn answer_of<R: Read>(
     Ok((status, text))
 }
 
-// What the program prints of an unreadable line.
+// What the program prints for an unreadable line.
 fn unreadable(alloc: Global, line: usize) -> Result<(u8, String), AllocError> {
     Ok((2, format!(in alloc; "unreadable line {line}\n")?))
 }
@@ -119,7 +119,7 @@ fn good_arguments(rt: HostRuntime) -> Result<(), Fail> {
     Ok(())
 }
 
-// Whether each list is unreadable at its line.
+// Tests that each list is unreadable at its line.
 fn check_lists(rt: &impl Abort, alloc: Global, lists: &[(&[u8], usize)]) -> Result<(), AllocError> {
     for (list, line) in lists {
         let mut input: &[u8] = list;
@@ -173,7 +173,7 @@ fn unreadable_positions(rt: HostRuntime) -> Result<(), Fail> {
             (b":1 eof", 1),
             (b"1: eof", 1),
             (b"None eof", 1),
-            // These can be read, so what is missing is the end mark.
+            // These lines are readable, so only the end mark is missing.
             (b"none int 1", 2),
             (b"65535:65535 int 1", 2),
             (b"01:0002 int 1", 2),
@@ -257,7 +257,7 @@ fn bytes_that_are_no_text(rt: HostRuntime) -> Result<(), Fail> {
             (b"1:1 int 1\n1:2 eof\n\xff", 3),
             (b"1:1 bad\n\xff", 1),
             (b"1:1 str \xed\xa0\x80\n1:2 eof", 1),
-            // Whole characters beyond ASCII are text.
+            // Characters beyond ASCII are text.
             (b"1:1 str \xc3\xa9\n", 2),
         ],
     )?;
