@@ -1,13 +1,13 @@
-//! Tests of the library: what no contract says, and what no list of tokens reaches.
+//! Tests of the library: what no contract says, and no list of tokens shows.
 #![tactic(auto)]
 
 #[cfg(test)]
-mod growth;
+mod allocation;
 #[cfg(test)]
-mod length;
+mod caller_settings;
+#[cfg(test)]
+mod long_scripts;
 #[cfg(test)]
 mod script;
 #[cfg(test)]
-mod settings;
-#[cfg(test)]
-mod stream;
+mod text_mode;
