@@ -1,14 +1,14 @@
 #!/usr/bin/env bash
-# Runs the table of cases, or those of its files that are named, through the program, and prints each run that fails.
-# cases/README.md says how a case is written. The last line counts the runs; the exit status is 1 if any failed.
+# Runs the table of cases, or only the files named, through the program, and prints each run that fails.
+# cases/README.md describes the format of a case. The last line counts the runs; the exit status is 1 if any failed.
 #
 # usage: tests/cases.sh [PROGRAM] [FILE.txt ..]
 #
-# With no PROGRAM it takes the one in crates/rhai_parse/out, which `rt ci` at the top of the repository or `rt run` in
-# crates/rhai_parse built last, and refuses it if a source has changed since.
+# Without PROGRAM it runs the one in crates/rhai_parse/out, which `rt ci` at the top of the repository or `rt run` in
+# crates/rhai_parse built last. It stops if a source file has changed since.
 set -u
 export LC_ALL=C
-ulimit -t 60 # each run may take so many seconds
+ulimit -t 60 # CPU seconds for each run
 
 root=$(cd "$(dirname "$0")/.." && pwd)
 folder=$(mktemp -d)
@@ -42,12 +42,12 @@ add_to_list() {
     esac >>"$folder/list"
 }
 
-# Runs the program once over the list, with the words $1, and compares what it prints, and its status with $2.
+# Runs the program once over the list with the words $1. Compares its output with the answer, and its status with $2.
 run() {
     local printed status zero_byte=no
     "$program" $1 <"$folder/list" >"$folder/printed"
     status=$?
-    # (it takes the whole file, and succeeds only at a byte 0, which no answer has)
+    # (this reads the whole file, and succeeds only at a zero byte, which no answer has)
     IFS= read -r -d '' printed <"$folder/printed" && zero_byte=yes
     if [ "$printed" = "$answer" ] && [ "$status" = "$2" ] && [ "$zero_byte" = no ]; then
         passed=$((passed + 1))
@@ -56,7 +56,7 @@ run() {
     fi
 }
 
-# Makes the runs that have this answer, once all of it is read.
+# Makes the runs that have this answer. Called once the whole answer was read.
 end_answer() {
     local words status
     case $answer in
@@ -114,7 +114,7 @@ case ${1:-} in
     ;;
 esac
 [ $# = 0 ] || files=("$@")
-set -f # the words of a run are split at blanks, and stand for themselves
+set -f # no globbing: the words of a run are only split at blanks
 
 for file in "${files[@]}"; do read_file; done
 echo "$passed passed, $failed failed"

@@ -1,4 +1,4 @@
--- A tree tells the chain that it nests.
+-- A tree determines the chain that it nests.
 use Rattle.std.proofs.Common.{◌≡◌, Bool, true, false, List, [], ◌∷◌, ◌++◌, append_assoc, refl, ap, ◌∙◌, sym}
 use Rattle.rhai_lower.specs.Nodes.{Node, dot, index}
 use Rattle.rhai_lower.specs.declared.position.Position.{Position}
@@ -17,7 +17,7 @@ alone x = record { root = x; links = [] }
 abbrev link : LinkKind → Bool → Position → Node → Link
 link kind negated at item = record { kind = kind; negated = negated; at = at; item = item }
 
--- A link may be a chain's last one: what stands after a last dot is no chain.
+-- A link may be the last of a chain: the member after a last dot is not itself a chain.
 abbrev EndsIn : Link → Type 0
 EndsIn l = l.kind ≡ Dotted → (chain_of l.item).links ≡ []
 
@@ -35,7 +35,7 @@ last_link : (k : LinkKind) (m : Bool) (p : Position) (i x : Node) → (k ≡ Dot
 last_link Bracket m p i x h = refl
 last_link Dotted m p i x h = ap (λ (c : Chain). record { root = x; links = link Dotted m p c.root ∷ c.links }) (no_links i (h refl))
 
--- a link with others behind it
+-- a link followed by others
 first_link : (k : LinkKind) (m : Bool) (p : Position) (i x y : Node) (ls : List Link) → chain_of y ≡ record { root = i; links = ls } → chain_of (link_node (link k m p i) false x y) ≡ record { root = x; links = link k m p i ∷ ls }
 first_link Bracket m p i x y ls e = ap (λ (c : Chain). record { root = x; links = link Bracket m p c.root ∷ c.links }) e
 first_link Dotted m p i x y ls e = ap (λ (c : Chain). record { root = x; links = link Dotted m p c.root ∷ c.links }) e
@@ -46,19 +46,19 @@ chain_of-nest x (k ∷ a) l h =
     ap (λ b. chain_of (link_node k b x (nest k.item (a ++ l ∷ [])))) (is_last-append a l [])
     ∙ first_link k.kind k.negated k.at k.item x (nest k.item (a ++ l ∷ [])) (a ++ l ∷ []) (chain_of-nest k.item a l h)
 
--- a chain that has a link
+-- a chain with at least one link
 chained-some : (x : Node) (a : List Link) (l : Link) (b : List Link) → chained x (a ++ (l ∷ b)) ≡ nest (chain_of x).root ((chain_of x).links ++ (a ++ (l ∷ b)))
 chained-some x [] l b = refl
 chained-some x (k ∷ a) l b = refl
 
--- a nested chain that goes on
+-- a nested chain that is followed by further links
 nested_goes_on : (x : Node) (a : List Link) (l : Link) (b : List Link) → EndsIn l → chained (nest x (a ++ l ∷ [])) b ≡ nest x (a ++ (l ∷ b))
 nested_goes_on x a l [] h = refl
 nested_goes_on x a l (m ∷ b) h =
     ap (λ (c : Chain). nest c.root (c.links ++ (m ∷ b))) (chain_of-nest x a l h)
     ∙ ap (nest x) (append_assoc a (l ∷ []) (m ∷ b))
 
--- A chain of nodes that goes on.
+-- A chain that is followed by further links.
 joined : (x : Node) (a b : List Link) (l : Link) → EndsIn l → chained (chained x (a ++ l ∷ [])) b ≡ chained x (a ++ (l ∷ b))
 joined x a b l h =
     let r = (chain_of x).root in
@@ -84,7 +84,7 @@ joined_all : (x : Node) (ls b : List Link) → MayEnd ls → chained (chained x 
 joined_all x [] b hs = refl
 joined_all x (l ∷ ls) b hs = joined_more x [] l ls b hs.0 hs.1
 
--- Each member that a form writes is a property or a method, which is no chain.
+-- Each member in a form is a property or a method, which is not a chain.
 written_may_end : (w : Context) (links : Links) → MayEnd (link_list links w)
 written_may_end w form.NoLink = tt
 written_may_end w (form.Bracket opening at f closing rest) = (λ e. absurd cc, written_may_end w rest)

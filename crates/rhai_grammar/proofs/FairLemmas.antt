@@ -1,4 +1,4 @@
--- No token is both due and refused in one place.
+-- No token is both required and refused at one place.
 use Rattle.std.proofs.Common.{◌≡◌, ℕ, ◌+◌, Bool, true, false, ◌&&◌, refl, ap, subst, inl, inr, if◌then◌else◌}
 use Rattle.std.specs.Prelude.{Option, Some, None}
 use Rattle.rhai_lower.specs.Nodes.{Properties, no_properties, position_of, property, with_property}
@@ -46,7 +46,7 @@ range_due : (b : Beginning) → is_range b ≡ true → is_refused (W.due b) ≡
 range_due (B.NoBeginning why) e = absurd cc
 range_due _ e = refl
 
--- where no operand is written
+-- where an operand is omitted
 none_due : (b : Bool) (v : Verdict) → b ≡ true → is_refused (if b then Otherwise else v) ≡ false
 none_due true v e = refl
 none_due false v e = absurd cc
@@ -145,7 +145,7 @@ mutual
 whole : (c : Settings) (w : Context) (f : Run) → IsFair (W.whole_expression f c w)
 whole c w f = run f (outermost (up c) w) _ tt
 
--- ---- fitting or refused
+-- ---- a form that fits is not refused
 
 unrefused : (v : Verdict) (at : Position) (e : Refusal) → is_refused v ≡ false → Refuses v at e → ⊥
 unrefused (Wrong cause) at e h r = absurd cc
@@ -153,7 +153,7 @@ unrefused (Blames d) at e h r = absurd cc
 unrefused Fine at e h r = r
 unrefused Otherwise at e h r = r
 
--- a due token is not refused
+-- a required token is not refused
 stands : (others : Lexeme → Verdict) (i due : Item) (e : Refusal) → is_refused (verdict others due.lexeme) ≡ false → i ≡ due → Refused others i e → ⊥
 stands others i due e h same r = unrefused (verdict others due.lexeme) due.at e h (subst (λ x. Refused others x e) same r)
 

@@ -1,4 +1,4 @@
--- The worked rows, by computing.
+-- The worked rows, by evaluation.
 use Rattle.std.proofs.Common.{refl, inl, inr}
 use Rattle.rhai_grammar.specs.Settings.{one_more}
 use Rattle.rhai_grammar.specs.Slots.{number}

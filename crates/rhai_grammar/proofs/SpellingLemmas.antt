@@ -28,20 +28,20 @@ use Rattle.rhai_grammar.specs.Written.{LinkSpot, behind_operand, behind_bracket,
 use Rattle.rhai_grammar.specs.Laws.{EntriesAreDelivered, FormsAreSpelled, StreamsAreWhole}
 use Rattle.rhai_grammar.proofs.SeenLemmas.{both, leads_on}
 
--- tokens on the way from one point of a stream to another
+-- the tokens taken from one point of a stream to another
 abbrev Way : List Taken → Tokens → Tokens → Type 0
 Way taken s e = Gives taken s × (e ≡ leads taken s)
 
--- a token, and those behind it
+-- a token, and those after it
 first : (l : Lexeme) (at : Position) (taken : List Taken) (s e : Tokens) → ask M.code s ≡ M.item l at → Way taken (later M.code s) e → Way (in_code l at ∷ taken) s e
 first l at taken s e stands way = ((stands, way.0), way.1)
 
--- one way, and another behind it
+-- some tokens, and others after them
 along : (a b : List Taken) (s m e : Tokens) → Way a s m → Way b m e → Way (a ++ b) s e
 along a b s m e v w =
     (both a b s v.0 (subst (λ x. Gives b x) v.1 w.0), w.1 ∙ ap (λ x. leads b x) v.1 ∙ sym (leads_on a b s))
 
--- tokens on the way to a point at which further demands are met
+-- tokens taken up to a point at which further demands are met
 record Spelled (taken : List Taken) (k : Demands) (s t : Point) : Type 0 where
   pub end : Point
   pub met : Met k end t
@@ -51,7 +51,7 @@ raised : (side : Side) (k : Demands) (s t : Point) → Met (raise_behind side k)
 raised Outermost k s t m = m
 raised (RightOf op h) k s t m = m.1
 
--- a key and its colon, and the tokens behind them
+-- a key and its colon, and the tokens after them
 key_spelled : (key : Lexeme) (at colon : Position) (taken : List Taken) (s : Point) (e : Tokens) → next_at M.code s ≡ M.item key at → next_at M.code (past M.code s) ≡ M.item (Sign token.Colon) colon → Way taken (past M.code (past M.code s)).tokens e → Way (in_code key at ∷ in_code (Sign token.Colon) colon ∷ taken) s.tokens e
 key_spelled key at colon taken s e key_stands colon_stands way =
     first key at (in_code (Sign token.Colon) colon ∷ taken) s.tokens e key_stands

@@ -1,8 +1,8 @@
--- What a form stands in, besides its settings.
+-- The context of a form, besides its settings.
 use Rattle.std.specs.Prelude.{◌≡◌, ℕ, Bool, true, false, ◌&&◌, not, List, [], nat_lt, refl}
 use Rattle.rhai_lower.specs.Slots.{SlotValue}
 
--- the most items that a literal of an array may have, and the most properties that one of an object map may have; 0 is no limit
+-- the greatest number of items in an array literal, and of properties in an object map literal; 0 means no limit
 pub record Sizes : Type 0 where
   pub array : ℕ
   pub map : ℕ
@@ -12,15 +12,15 @@ pub record Context : Type 0 where
   -- the slots of the variables that were defined before and are still live, the oldest first
   pub slots : List SlotValue
 
--- where nothing was defined
+-- a context in which nothing was defined
 abbrev pub nothing_live : Sizes → Context
 nothing_live sizes = record { sizes = sizes; slots = [] }
 
--- where nothing was defined, and literals may have any size
+-- a context in which nothing was defined, and literals may have any size
 abbrev pub bare : Context
 bare = nothing_live (record { array = 0; map = 0 })
 
--- A literal that has so many parts has no room for one more.
+-- A literal with this number of parts has no room for one more.
 abbrev pub full : (limit count : ℕ) → Bool
 full limit count = nat_lt 0 limit && not (nat_lt count limit)
 

@@ -13,18 +13,19 @@ use Rattle.rhai_grammar.specs.Beginnings.{missing, Following, AComma, AClose, No
 
 -- ---- arrays
 
--- what stands where an item may begin
+-- what a token is where an item may begin
 pub data ItemPlace : Type 0 where
   -- the `]`
   ItemsEnd : ItemPlace
   AnItem : ItemPlace
-  -- no item, and why that is refused
+  -- no item, and the error for that
   NoItem : Cause → ItemPlace
 
+-- the error for one more item in a full array
 abbrev pub too_many_items : (limit : ℕ) → Cause
 too_many_items limit = cause.LiteralTooLarge (codes "Size of array literal") limit
 
--- where so many items stand already
+-- where there are this many items already
 abbrev pub item_room : (limit count : ℕ) → ItemPlace
 item_room limit count = if full limit count then NoItem (too_many_items limit) else AnItem
 
@@ -33,6 +34,7 @@ sign_item limit count RightBracket = ItemsEnd
 sign_item limit count EOF = NoItem (cause.MissingToken (codes "]"))
 sign_item limit count _ = item_room limit count
 
+-- what a token is where an item may begin, after `count` items
 abbrev pub item_place : (limit count : ℕ) → Lexeme → ItemPlace
 item_place limit count (Sign t) = sign_item limit count t
 item_place limit count _ = item_room limit count
@@ -43,34 +45,37 @@ sign_behind_item RightBracket = AClose
 sign_behind_item EOF = NoFollowing (cause.MissingToken (codes "]"))
 sign_behind_item t = NoFollowing (cause.MissingToken (codes ","))
 
--- what stands behind an item
+-- what comes after an item
 abbrev pub behind_item : Lexeme → Following
 behind_item (Sign t) = sign_behind_item t
 behind_item l = NoFollowing (missing (codes ",") l)
 
 -- ---- object maps
 
+-- the number of properties
 abbrev pub property_count : Properties → ℕ
 property_count no_properties = 0
 property_count (one_property key at value ps) = property_count ps + 1
 
+-- a property has this key
 abbrev pub has_key : Text → Properties → Bool
 has_key t no_properties = false
 has_key t (one_property key at value ps) = same_text key t || has_key t ps
 
--- what stands where a key may
+-- what a token is where a key may begin
 pub data KeyPlace : Type 0 where
   -- the `}`
   FieldsEnd : KeyPlace
   AKey : Text → KeyPlace
-  -- no key, and why that is refused
+  -- no key, and the error for that
   NoKey : Cause → KeyPlace
 
+-- the error for a token where a key is expected after a comma
 abbrev pub no_property : Lexeme → Cause
 no_property (Faulty f) = cause.BadInput (cause.Lexer f)
 no_property l = cause.PropertyExpected
 
--- A token that is no key at all: for the first key the end of the object map is missed, behind a comma the key.
+-- The error for a token that cannot be a key: directly after the `#{` the `}` is missing, after a comma the key.
 abbrev pub no_key : (first : Bool) → Lexeme → Cause
 no_key first l = if first then missing (codes "}") l else no_property l
 
@@ -79,7 +84,7 @@ sign_key first RightBrace = FieldsEnd
 sign_key first EOF = NoKey (cause.MissingToken (codes "}"))
 sign_key first t = NoKey (no_key first (Sign t))
 
--- A key is a string, or a name where keys need no quotes.
+-- A key is a string, or a name unless keys have to be quoted.
 abbrev pub key_place : (quoted first : Bool) → Lexeme → KeyPlace
 key_place quoted first (String t) = AKey t
 key_place quoted first (Name t) = if quoted then NoKey cause.PropertyExpected else AKey t
@@ -96,10 +101,12 @@ abbrev pub sign_colon : Token → Bool
 sign_colon Colon = true
 sign_colon _ = false
 
+-- the `:`
 abbrev pub is_colon : Lexeme → Bool
 is_colon (Sign t) = sign_colon t
 is_colon _ = false
 
+-- the error for one more value in a full object map
 abbrev pub too_many_fields : (limit : ℕ) → Cause
 too_many_fields limit = cause.LiteralTooLarge (codes "Number of properties in object map literal") limit
 
@@ -108,12 +115,13 @@ sign_behind_value Comma = AComma
 sign_behind_value RightBrace = AClose
 sign_behind_value t = NoFollowing (cause.MissingToken (codes "}"))
 
--- what stands behind the value of a property
+-- what comes after the value of a property
 abbrev pub behind_value : Lexeme → Following
 behind_value (Sign t) = sign_behind_value t
 behind_value (Name t) = NoFollowing (cause.MissingToken (codes ","))
 behind_value l = NoFollowing (missing (codes "}") l)
 
--- With a limit of 1, a second item is one too many; `}` ends an object map; `+` is no key, for which the first one misses the end.
+-- With a limit of 1, a second item is one too many; `}` ends an object map; `+` is not a key, and in place of the first
+-- key it is a missing `}`.
 example : (item_place 1 1 (Name (codes "a")) ≡ NoItem (too_many_items 1)) × (item_place 1 1 (Sign RightBracket) ≡ ItemsEnd) × (key_place false true (Sign RightBrace) ≡ FieldsEnd) × (key_place false true (Sign Plus) ≡ NoKey (cause.MissingToken (codes "}"))) × (key_place false false (Sign Plus) ≡ NoKey cause.PropertyExpected)
 example = (refl, refl, refl, refl, refl)

@@ -1,4 +1,4 @@
--- Worked rows of chains: scripts, their written forms, and what the definitions say of them.
+-- Worked rows of chains: scripts, their written forms, and what the definitions say about them.
 use Rattle.std.specs.Prelude.{◌≡◌, ℕ, codes, None, Some, true, false, List, [], ◌∷◌}
 use Rattle.rhai_lower.specs.Texts.{Text}
 use Rattle.rhai_lower.specs.Positions.{place}
@@ -16,13 +16,13 @@ use Rattle.rhai_grammar.specs.Demands.{Missed}
 use Rattle.rhai_grammar.specs.Written.{whole_expression}
 use Rattle.rhai_grammar.specs.Rows.{unread, between, depth, Fits}
 
--- ---- forms and nodes of the first line, each token at its column
+-- ---- forms and nodes on the first line, each token at its column
 
--- a name with links after it
+-- a name followed by links
 abbrev pub linked : Text → ℕ → Links → Run
 linked name column links = Just (Linked (Plain (Named name (place 1 column))) links)
 
--- a run in parentheses with links after it
+-- a run in parentheses, followed by links
 abbrev pub grouped : (opening : ℕ) → Run → (closing : ℕ) → Links → Run
 grouped opening inside closing links = Just (Linked (Plain (Group (place 1 opening) inside (place 1 closing))) links)
 
@@ -35,7 +35,7 @@ bracketed opening name name_at closing rest =
 abbrev pub dotted : (dot : ℕ) → Text → (name_at : ℕ) → Links → Links
 dotted dot name name_at rest = Property (Sign token.Period) (place 1 dot) name (place 1 name_at) rest
 
--- a variable that no slot is known for
+-- a variable for which no slot is known
 abbrev pub variable : Text → ℕ → Node
 variable name column = variable_of None name (place 1 column)
 
@@ -53,7 +53,7 @@ ends_chain = record { negated = false; terminating = true }
 abbrev pub questioned : LinkFlags
 questioned = record { negated = true; terminating = false }
 
--- ---- a chain in parentheses that goes on
+-- ---- a chain in parentheses that is followed by links
 
 -- Index(x, Dot(y, Index(prop_a, Dot(z, prop_b)))), in which no bracket ends the chain, with the columns of the names
 -- and links in written order
@@ -90,7 +90,7 @@ long_form =
     bracketed 2 (codes "y") 3 4 (dotted 5 (codes "prop_a") 6 (
     bracketed 12 (codes "z") 13 14 (dotted 15 (codes "prop_b") 16 NoLink))))
 
--- Both fit, and have one tree but for positions.
+-- Both fit, and their trees are equal up to positions.
 pub record GroupedRow : Type 0 where
   pub tree_is : tree grouped_form bare ≡ long_tree 3 4 5 7 8 16 17 19 20
   pub fits : Fits grouped_form grouped_tokens 26
@@ -124,7 +124,8 @@ brackets_tokens =
 abbrev pub brackets_form : Run
 brackets_form = linked (codes "a") 1 (bracketed 2 (codes "b") 3 4 (bracketed 5 (codes "c") 6 7 NoLink))
 
--- Both fit, and have one tree but for positions: the bracket that ends the chain in parentheses does not end the whole.
+-- Both fit, and their trees are equal up to positions: the bracket that ends the chain in parentheses does not end the
+-- whole chain.
 pub record JoinedRow : Type 0 where
   pub tree_is : tree joined_form bare ≡ brackets_tree no_mark 2 3 4 7 8
   pub fits : Fits joined_form joined_tokens 10
@@ -133,7 +134,7 @@ pub record JoinedRow : Type 0 where
 
 -- ---- marks, and a member that is refused
 
--- `a?[b][c]`: the question mark is the first bracket's, and the second one ends the chain.
+-- `a?[b][c]`: the question mark belongs to the first bracket, and the second one ends the chain.
 abbrev pub questioned_tokens : List (Lexeme × ℕ)
 questioned_tokens =
     (Name (codes "a"), 1) ∷ (Sign token.QuestionBracket, 2) ∷ (Name (codes "b"), 4) ∷ (Sign token.RightBracket, 5)
@@ -149,7 +150,7 @@ pub record QuestionedRow : Type 0 where
   pub tree_is : tree questioned_form bare ≡ brackets_tree questioned 1 2 4 6 7
   pub fits : Fits questioned_form questioned_tokens 9
 
--- `a.f!().b`: a method with `!` is refused at its name, once all to its right was read.
+-- `a.f!().b`: a method with `!` is refused at its name, after all to its right was parsed.
 abbrev pub capture_tokens : List (Lexeme × ℕ)
 capture_tokens =
     (Name (codes "a"), 1) ∷ (Sign token.Period, 2) ∷ (Name (codes "f"), 3) ∷ (Sign token.Bang, 4)

@@ -1,4 +1,4 @@
--- Forms and trees but for positions: each token and each node stands nowhere.
+-- Forms and trees without positions: each token and each node gets the position `nowhere`.
 use Rattle.std.specs.Prelude.{◌≡◌, ℕ, Option, List, [], ◌∷◌, option_map, codes, refl}
 use Rattle.rhai_lower.specs.Texts.{Text}
 use Rattle.rhai_lower.specs.Positions.{nowhere, place}
@@ -156,7 +156,7 @@ abbrev mutual
 abbrev example_name : (column : ℕ) → Run
 example_name column = form.Just (form.Linked (form.Plain (form.Named (codes "a") (place 1 column))) form.NoLink)
 
--- `a` at two places is one form but for positions, and has one tree but for positions.
+-- `a` at two positions has one form and one tree up to positions.
 example :
     (run_shape (example_name 1) ≡ run_shape (example_name 5))
     × (node_shape (tree (example_name 1) bare) ≡ node_shape (tree (example_name 5) bare))

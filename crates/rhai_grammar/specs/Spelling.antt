@@ -1,4 +1,4 @@
--- The tokens that a written form is spelled with, and streams that are spelled so.
+-- The tokens that a written form is spelled with, and streams of such tokens.
 use Rattle.std.specs.Prelude.{◌≡◌, Bool, true, false, Option, Some, None, List, [], ◌∷◌, ◌++◌, pos, codes, refl}
 use Rattle.rhai_lower.specs.Names.{is_identifier}
 use Rattle.rhai_lower.specs.Positions.{place}
@@ -10,14 +10,17 @@ use Rattle.rhai_grammar.specs.Delivered.{code, item, Tokens, Ends, Then, Taken}
 use Rattle.rhai_grammar.specs.Forms as form
 use Rattle.rhai_grammar.specs.Forms.{Primary, Base, Links, Operand, Arguments, Items, Elements, Fields, Run}
 
+-- a token at a position, requested in code mode
 abbrev pub in_code : Lexeme → Position → Taken
 in_code l at = record { mode = code; item = item l at }
 
+-- the `!` of a call, if it has one
 abbrev pub bang_spelling : Option Position → List Taken
 bang_spelling None = []
 bang_spelling (Some at) = in_code (Sign Bang) at ∷ []
 
--- A form's tokens in written order, each with the mode that it is asked for in. The zero and the unit that are not written have none.
+-- A form's tokens in written order, each with the mode in which it is requested. The omitted zero and the omitted unit
+-- have none.
 abbrev mutual
   pub primary_spelling : Primary → List Taken
   primary_spelling (form.Value token at) = in_code token at ∷ []
@@ -68,7 +71,7 @@ abbrev mutual
   spelling (form.Just x) = operand_spelling x
   spelling (form.Binary op at l r) = spelling l ++ (in_code op at ∷ spelling r)
 
--- a token that a tokenizer delivers: an identifier is a valid name, and the end mark stands at the end alone
+-- a token that a tokenizer may deliver: an identifier is a valid name, and the end mark comes only at the end
 abbrev pub is_deliverable : Lexeme → Bool
 is_deliverable (Name t) = is_identifier t
 is_deliverable (Sign EOF) = false

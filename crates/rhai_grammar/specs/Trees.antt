@@ -19,13 +19,15 @@ use Rattle.rhai_grammar.specs.Forms.{Primary, Base, Links, Operand, Arguments, I
 
 -- ---- names and calls
 
+-- a variable without a path
 abbrev pub variable_of : Option ℕ → Text → Position → Node
 variable_of slot name at = variable (record { number = slot; name = name; path = []; module_index = None }) at
 
--- A name that is called is no variable's, and has no number.
+-- A name that is called does not refer to a variable, and has no number.
 abbrev pub name_tree : List SlotValue → (called : Bool) → Text → Position → Node
 name_tree slots called name at = variable_of (if called then None else number name slots) name at
 
+-- the node of a reserved word as an operand
 abbrev pub word_tree : Text → Position → Node
 word_tree word at = if is_this word then this at else variable_of None word at
 
@@ -41,26 +43,29 @@ abbrev pub node_count : Nodes → ℕ
 node_count no_nodes = 0
 node_count (one_node n ns) = node_count ns + 1
 
--- a call that a function of a script may answer as well as a native one
+-- a call that a script function as well as a native function may answer
 abbrev pub function_called : Text → (bang : Bool) → ℕ → Called
 function_called name bang count = record { name = name; path = []; module_index = None; script_args = Some count; native_args = count; captures_scope = bang; op_token = None }
 
--- the call of a name, which stands at the name
+-- the call of a name, at the name's position
 abbrev pub call_tree : Node → (bang : Bool) → Nodes → Node
 call_tree name bang arguments = call (function_called (name_of name) bang (node_count arguments)) arguments (position_of name)
 
 -- ---- links
 
+-- a bracket with this index
 abbrev pub bracket_link : (opening : Lexeme) → Position → Node → Link
 bracket_link opening at x = record { kind = Bracket; negated = is_negated opening; at = at; item = x }
 
+-- a dot with this member
 abbrev pub member_link : (dot : Lexeme) → Position → Node → Link
 member_link dot at x = record { kind = Dotted; negated = is_negated dot; at = at; item = x }
 
--- A method's native function takes the object too.
+-- The native function of a method also takes the object.
 abbrev pub method_called : Text → (bang : Bool) → ℕ → Called
 method_called name bang count = record { name = name; path = []; module_index = None; script_args = Some count; native_args = count + 1; captures_scope = bang; op_token = None }
 
+-- a method call, at its name's position
 abbrev pub method_tree : Text → Position → (bang : Bool) → Nodes → Node
 method_tree name at bang arguments = method_call (method_called name bang (node_count arguments)) arguments at
 

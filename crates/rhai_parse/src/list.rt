@@ -1,4 +1,4 @@
-//! Lists of tokens, one a line.
+//! Lists of tokens, one token per line.
 
 ghost use Rattle.std.specs.Prelude.{All, IfOk, IsTrue};
 ghost use Rattle.rhai_lower.specs.Entries.{may_be_delivered};
@@ -11,7 +11,7 @@ use std::alloc::{AllocError, AllocFailed, Global};
 use std::rc::RcStr;
 use std::str;
 
-/// The tokens of a list, and where its end mark stands.
+/// The tokens of a list, and the position of its end mark.
 #[derive(Drop, Debug)]
 pub struct TokenList {
     pub entries: Vec<Entry>,
@@ -21,7 +21,7 @@ pub struct TokenList {
 /// Why a list cannot be read.
 #[derive(Drop, Debug, PartialEq)]
 pub enum ListError {
-    /// This line is none of a list's, counted from 1.
+    /// This line, counted from 1, is not a valid one.
     Unreadable(usize),
     /// Memory ran out.
     OutOfMemory,
@@ -76,7 +76,7 @@ fn text(alloc: Global, payload: &str) -> Result<RcStr, LineError> {
     unescape(alloc, payload)?.ok_or(LineError::Unreadable)
 }
 
-// What the tokenizer says of an input that it could not read.
+// An error of the tokenizer.
 fn lex_error(alloc: Global, words: &str) -> Result<LexError, LineError> {
     match words {
         "unterminated" => return Ok(LexError::UnterminatedString),
@@ -107,7 +107,7 @@ fn token(alloc: Global, kind: &str, payload: &str) -> Result<Token, LineError> {
     })
 }
 
-// Adds an entry, unless no stream may deliver it.
+// Adds an entry, unless a stream may not deliver it.
 fn add(entries: &mut Vec<Entry>, entry: Entry) -> Result<(), LineError>
     requires { All (λ e. IsTrue (may_be_delivered e)) entries.old.items }
     ensures { All (λ e. IsTrue (may_be_delivered e)) entries.new.items }
@@ -119,7 +119,7 @@ fn add(entries: &mut Vec<Entry>, entry: Entry) -> Result<(), LineError>
     Ok(())
 }
 
-// Reads a line: it adds a token, or gives the end mark's position.
+// Reads a line: adds a token, or returns the end mark's position.
 fn read_line(
     alloc: Global,
     line: &[u8],
@@ -129,7 +129,7 @@ fn read_line(
     ensures { All (λ e. IsTrue (may_be_delivered e)) entries.new.items }
 {
     let line = str::from_utf8(line).ok().ok_or(LineError::Unreadable)?;
-    // A list with other line ends would else have texts with a carriage return too many.
+    // Otherwise a list with other line ends would have an extra carriage return in its texts.
     if line.ends_with('\r') {
         return Err(LineError::Unreadable);
     }
@@ -145,9 +145,9 @@ fn read_line(
     Ok(None)
 }
 
-/// The list of these lines, which a line feed stands between: a token on each, and on the last one the end mark.
-/// docs/FORMAT.md has their form. `Unreadable` names the first line that has another, or stands behind the end mark, and
-/// the one behind the last where there is no end mark.
+/// The list of these lines, which are separated by line feeds: a token on each, and the end mark on the last one.
+/// docs/FORMAT.md describes the format. `Unreadable` names the first line that is not valid or comes after the end
+/// mark; if the end mark is missing, the line after the last one.
 pub fn read_list(alloc: Global, lines: &[u8]) -> Result<TokenList, ListError>
     ensures { IfOk result (λ list. All (λ e. IsTrue (may_be_delivered e)) list.entries.items) }
 {

@@ -1,11 +1,11 @@
-//! How a refusal is printed: the number of its kind, where it stands, the name of its kind and what belongs to it. Notes on
-//! what to write instead are left out. docs/FORMAT.md has the list.
+//! How a refusal is printed: the number of its kind, its position, the name of its kind, and its payload. Notes on what
+//! to write instead are left out. docs/FORMAT.md has the list.
 
 use crate::escape::Escaped;
 use rhai_parser::{InputError, LexError, ParseError, ParseErrorType, Position};
 use std::fmt;
 
-// What belongs to a kind.
+// The payload of a kind.
 #[derive(Drop)]
 enum Payload<'a> {
     Nothing,
@@ -35,7 +35,7 @@ fn write_input_error<W: fmt::Write>(f: &mut fmt::Formatter<W>, error: &InputErro
     }
 }
 
-// With a space before it, unless it is nothing.
+// Printed with a space before it, unless there is no payload.
 impl fmt::Display for Payload<'_> {
     fn fmt<W: fmt::Write>(&self, f: &mut fmt::Formatter<W>) -> fmt::Result {
         match self {

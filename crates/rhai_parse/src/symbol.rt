@@ -140,8 +140,8 @@ fn keyword(text: &str) -> Option<Token>
     })
 }
 
-/// The token without payload that is written so; `u-` and `u+` are the signs before an operand. None where there is no
-/// such token.
+/// The token without payload that is written like this, with `u-` and `u+` for the signs before an operand; `None` if
+/// there is no such token.
 pub fn symbol(text: &str) -> Option<Token>
     ensures { IfSome result (λ token. written_as token ≡ text.now) }
 {

@@ -1,4 +1,4 @@
--- Links by the code's steps.
+-- Links, as the code handles them step by step.
 use Rattle.std.proofs.Common.{◌≡◌, ◌<◌, Bool, true, false, List, [], ◌∷◌, ◌++◌, Option, Some, None, length, append_assoc, refl, ap, ◌∙◌, sym, arith}
 use Rattle.std.specs.Option.{option_or}
 use Rattle.rhai_lower.specs.Nodes.{Node}

@@ -1,4 +1,4 @@
--- What the links of the code stand for, and what is left of a chain that is taken apart.
+-- What the links of the code represent, and what is left of a chain while it is taken apart.
 use Rattle.std.specs.Prelude.{◌≡◌, Bool, true, false, ◌&&◌, ◌||◌, [], ◌∷◌, List, Option, None, Some, if◌then◌else◌, codes, map, refl}
 use Rattle.rhai_lower.specs.Texts.{same_text}
 use Rattle.rhai_lower.specs.Positions.{place}
@@ -16,6 +16,7 @@ abbrev pub link_kind_view : LinkKind → chain.LinkKind
 link_kind_view link_kind.Index = chain.Bracket
 link_kind_view link_kind.Dot = chain.Dotted
 
+-- a link of the code as the definitions see it
 abbrev pub link_view : Link → chain.Link
 link_view l = record { kind = link_kind_view l.kind; negated = l.negated; at = l.pos; item = view l.item }
 
@@ -25,17 +26,18 @@ link_views ls = map link_view ls
 abbrev alone : Node → chain.Chain
 alone x = record { root = x; links = [] }
 
--- the chain behind a bracket or dot, by whether that bracket ends its chain
+-- the chain after a bracket or dot, depending on whether that bracket ends its chain
 abbrev pub chain_behind : (ends : Bool) → Node → chain.Chain
 chain_behind ends x = if ends then alone x else chain.chain_of x
 
 abbrev followed : chain.Link → chain.Chain → List chain.Link
 followed l rest = record { kind = l.kind; negated = l.negated; at = l.at; item = rest.root } ∷ rest.links
 
--- the links from an open one on
+-- an open link and the links after it
 abbrev pub open_links : OpenLink → List chain.Link
 open_links o = followed (link_view o.link) (chain_behind o.ends (view o.link.item))
 
+-- the links from an optional one on
 abbrev pub links_left : Option OpenLink → List chain.Link
 links_left None = []
 links_left (Some o) = open_links o
@@ -44,7 +46,8 @@ links_left (Some o) = open_links o
 abbrev pub with_next : chain.Link → chain.Link → (last : Bool) → chain.Link
 with_next l next last = record { kind = l.kind; negated = l.negated; at = l.at; item = chain.link_node next last l.item next.item }
 
--- The tree of links of which the last has all that stands behind it in its item; `last` is whether that is its own item alone.
+-- The tree of links, the last of which has all later ones in its item; `last` is whether there are none, so that the
+-- item is just its own.
 abbrev pub nest_until : (last : Bool) → Node → List chain.Link → Node
 nest_until last x [] = x
 nest_until last x (l ∷ ls) = chain.link_node l (chain.is_last ls && last) x (nest_until last l.item ls)
@@ -57,7 +60,7 @@ are_none _ = false
 abbrev pub is_no_method : Called → (arguments : Nodes) → Bool
 is_no_method c args = are_none args && (same_text c.name (codes "eval") || same_text c.name (codes "Fn"))
 
--- what a method's call is refused for, behind a dot
+-- the error of a method call after a dot
 abbrev pub method_fault : Called → (arguments : Nodes) → Position → Option Refusal
 method_fault c args p = chain.link_fault (record { kind = chain.Dotted; negated = false; at = p; item = method_call c args p })
 

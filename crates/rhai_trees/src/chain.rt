@@ -1,4 +1,4 @@
-//! Chains: an operand with brackets and dots behind it.
+//! Chains: an operand followed by brackets and dots.
 
 ghost use Rattle.std.specs.Prelude.{◌≡◌, ◌∷◌, None, Some, false, IfErr, IfOk, IsOk};
 ghost use Rattle.rhai_lower.specs.View.{called, view, views};
@@ -12,7 +12,7 @@ use rhai_lower::{BinaryExpr, Expr, FnCallExpr, LinkFlags, Position};
 use std::alloc::{AllocError, Global};
 use std::rc::RcStr;
 
-/// What a link is.
+/// The kind of a link.
 #[derive(Clone, Copy, PartialEq, Eq, Debug)]
 pub enum LinkKind {
     /// `[..]` or `?[..]`
@@ -27,26 +27,26 @@ pub struct Link {
     pub kind: LinkKind,
     /// Whether it begins with a question mark.
     pub negated: bool,
-    /// Where its bracket or dot stands.
+    /// The position of its bracket or dot.
     pub pos: Position,
-    /// The index, or the member behind the dot.
+    /// The index, or the member after the dot.
     pub item: Expr,
 }
 
-/// A link of a tree that is taken apart, with all that stands behind its bracket or dot as its item.
+/// A link of a tree that is taken apart; its item is all that comes after its bracket or dot.
 #[derive(Drop)]
 pub(crate) struct OpenLink {
     pub link: Link,
-    /// Whether it is a bracket that ends its chain, so that all of its item is the index.
+    /// Whether it is a bracket that ends its chain, so that the whole item is the index.
     pub ends: bool,
 }
 
-/// The chain of an operand and the links behind it. Without links it is the operand itself. An operand that is a chain,
-/// as one in parentheses, goes on with the links: the tree is as if there were no parentheses. The tree nests to the
-/// right: each link has what stands before it on its left, and its item with all links behind it on its right. Only a
-/// bracket that is the last link ends its chain.
+/// The chain of an operand and the links after it (docs/GRAMMAR.md, "Chains"). Without links it is the operand itself.
+/// If the operand is a chain, as one in parentheses is, the links extend it: the tree is as if there were no
+/// parentheses. The tree nests to the right: each link has what is before it on its left, and its item with all later
+/// links on its right. Only a bracket that is the last link ends its chain.
 ///
-/// `root` is the operand, `links` are the links in written order. The error is that there is no memory for it.
+/// `root` is the operand, `links` are the links in written order. Returns `AllocError` if memory runs out.
 #[tactic(auto, using(crate::proofs::ChainLemmas::chained_none, crate::proofs::ChainLemmas::chained_some, crate::proofs::ChainLemmas::views_append))]
 pub fn make_chain(alloc: Global, root: Expr, mut links: Vec<Link>) -> Result<Expr, AllocError>
     ensures { IfOk result (λ e. view e ≡ chained (view root) (link_views links.items)) }
@@ -74,7 +74,7 @@ fn take_apart(alloc: Global, tree: Expr) -> Result<(Expr, Vec<Link>), AllocError
     Ok((root, links))
 }
 
-// What stands before the first link of a tree, and that link, if there is one.
+// What is before the first link of a tree, and that link, if there is one.
 #[tactic(auto, using(rhai_lower::proofs::Views::view_dot, rhai_lower::proofs::Views::view_index))]
 fn split(tree: Expr) -> (Expr, Option<OpenLink>)
     ensures root { view result.0 ≡ (chain_of (view tree)).root }
@@ -96,7 +96,7 @@ fn split(tree: Expr) -> (Expr, Option<OpenLink>)
     }
 }
 
-// A link with all that stands behind its bracket or dot as its item; `ends` is whether it ends its chain.
+// A link whose item is all that comes after its bracket or dot; `ends` is whether it ends its chain.
 fn open_link(kind: LinkKind, negated: bool, ends: bool, pos: Position, item: Expr) -> OpenLink
     ensures { result ≡ record { link = record { kind = kind; negated = negated; pos = pos; item = item }; ends = ends } }
 {
@@ -109,7 +109,7 @@ fn open_link(kind: LinkKind, negated: bool, ends: bool, pos: Position, item: Exp
     OpenLink { link, ends }
 }
 
-// A link whose item is taken from what stands behind its bracket or dot, and the next link, if there is one.
+// A link with its own item, and the next link, if there is one.
 fn split_link(first: OpenLink) -> (Link, Option<OpenLink>)
     ensures { open_links first ≡ link_view result.0 ∷ links_left result.1 }
 {
@@ -121,7 +121,7 @@ fn split_link(first: OpenLink) -> (Link, Option<OpenLink>)
     (Link { item, ..link }, next)
 }
 
-// Nests links behind an operand, to the right.
+// Nests links after an operand, to the right.
 #[tactic(auto, using(crate::proofs::ChainLemmas::nest_all, crate::proofs::ChainLemmas::nest_step))]
 fn nest(alloc: Global, root: Expr, mut links: Vec<Link>) -> Result<Expr, AllocError>
     ensures { IfOk result (λ e. view e ≡ nest (view root) (link_views links.items)) }
@@ -137,7 +137,7 @@ fn nest(alloc: Global, root: Expr, mut links: Vec<Link>) -> Result<Expr, AllocEr
     link_node(alloc, next, last, root)
 }
 
-// A link with the next one, and so with all that stands behind that, in its item.
+// A link with the next one, and so with all later ones, in its item.
 fn with_next(alloc: Global, link: Link, next: Link, last: bool) -> Result<Link, AllocError>
     ensures { IfOk result (λ l. link_view l ≡ with_next (link_view link) (link_view next) last) }
 {
@@ -145,7 +145,7 @@ fn with_next(alloc: Global, link: Link, next: Link, last: bool) -> Result<Link, 
     Ok(Link { item, ..link })
 }
 
-// The node of a link, with what stands before it on its left and its item on its right.
+// The node of a link, with what is before it on its left and its item on its right.
 #[tactic(auto, using(rhai_lower::proofs::Views::view_dot, rhai_lower::proofs::Views::view_index))]
 fn link_node(alloc: Global, link: Link, last: bool, before: Expr) -> Result<Expr, AllocError>
     ensures { IfOk result (λ e. view e ≡ link_node (link_view link) last (view before) (view link.item)) }
@@ -170,11 +170,11 @@ fn link_node(alloc: Global, link: Link, last: bool, before: Expr) -> Result<Expr
     }
 }
 
-/// Refuses what may not stand behind a dot: `eval()` and `Fn()` without arguments, and a call with `!`. Of several links
-/// that are refused the last one counts.
+/// Refuses links that are not allowed as methods: `eval()` and `Fn()` without arguments, and a call with `!`. Of
+/// several such links the last one is reported.
 ///
-/// `links` are the links in written order. `eval()` and `Fn()` are `ImproperSymbol`, a call with `!` is
-/// `MalformedCapture`, each where the call stands; want of memory is `OutOfMemory`.
+/// `links` are the links in written order. `eval()` and `Fn()` give `ImproperSymbol`, a call with `!` gives
+/// `MalformedCapture`, each at the position of the call. If memory runs out, the error is `OutOfMemory`.
 #[tactic(auto, using(crate::proofs::ChainLemmas::last_fault_push))]
 pub fn test_links(alloc: Global, links: &[Link]) -> ParseResult<()>
     ensures passes { IsOk result → last_fault (link_views links.now) ≡ None }
@@ -189,7 +189,7 @@ pub fn test_links(alloc: Global, links: &[Link]) -> ParseResult<()>
     Ok(())
 }
 
-// Refuses a link whose member may not stand behind a dot.
+// Refuses a link whose member is not allowed as a method.
 #[tactic(auto, using(rhai_lower::proofs::Views::view_method_call))]
 fn test_link(alloc: Global, link: &Link) -> ParseResult<()>
     ensures passes { IsOk result → link_fault (link_view link.now) ≡ None }
@@ -202,7 +202,7 @@ fn test_link(alloc: Global, link: &Link) -> ParseResult<()>
     }
 }
 
-// Refuses a call that may not stand behind a dot.
+// Refuses a call that is not allowed as a method.
 fn test_method(alloc: Global, call: &FnCallExpr, pos: Position) -> ParseResult<()>
     ensures passes { IsOk result → method_fault (called call.now) (views (out-FnCallExpr call.now).args.items) pos ≡ None }
     ensures refuses { IfErr result (λ e. is_for_memory e ≡ false → method_fault (called call.now) (views (out-FnCallExpr call.now).args.items) pos ≡ Some (refusal_of e)) }
@@ -221,7 +221,7 @@ fn test_method(alloc: Global, call: &FnCallExpr, pos: Position) -> ParseResult<(
     Ok(())
 }
 
-// Whether a call is `eval()` or `Fn()`, which are no methods.
+// Whether a call is `eval()` or `Fn()`, which are not allowed as methods.
 #[tactic(auto, using(crate::proofs::ChainLemmas::none_views, crate::proofs::ChainLemmas::some_views))]
 fn is_no_method(call: &FnCallExpr) -> bool
     ensures { result ≡ is_no_method (called call.now) (views (out-FnCallExpr call.now).args.items) }

@@ -1,4 +1,4 @@
-//! Operations on trees that see no stream: signs, operators and links with their operands, and tests on trees.
+//! Operations on trees that do not use the stream: signs, operators and links with their operands, and tests on trees.
 #![tactic(auto)]
 
 mod call;

@@ -1,4 +1,4 @@
--- The links that are left, with the one that has all others behind it, nest to the same tree.
+-- The links that are left, with the one that contains all later links, nest to the same tree.
 use Rattle.std.proofs.Common.{◌≡◌, ◌∷◌, ◌++◌, [], vec_len}
 use Rattle.rhai_lower.specs.View.{view}
 use Rattle.rhai_grammar.specs.Chains.{nest}

@@ -1,4 +1,4 @@
--- The root stays, and the links taken so far with those that are left are the links of the tree.
+-- The root stays the same, and the links taken so far and those that are left are the links of the tree.
 use Rattle.std.proofs.Common.{◌≡◌, ◌++◌, length}
 use Rattle.rhai_lower.specs.View.{view}
 use Rattle.rhai_grammar.specs.Chains.{chain_of}

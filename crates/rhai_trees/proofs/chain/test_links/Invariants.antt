@@ -1,4 +1,4 @@
--- What is refused of the links that are left is refused of all.
+-- An error of the links that are left is the error of all.
 use Rattle.std.proofs.Common.{◌≡◌, length}
 use Rattle.rhai_grammar.specs.Chains.{last_fault}
 use Rattle.rhai_trees.specs.Chains.{link_views}
