@@ -443,30 +443,14 @@ pub fn accepted(alloc: Global, script: &AST) -> Result<String, AllocError> {
 #[cfg(test)]
 mod tests {
     use super::*;
-    use rhai_parser::Namespace;
     use std::rc::RcStr;
     use std::test::Fail;
 
-    // A call of `name` with an integer argument.
-    fn call(alloc: Global, name: &str, script: Option<usize>) -> Result<FnCallExpr, AllocError> {
-        Ok(FnCallExpr {
-            name: RcStr::from_str(alloc, name)?,
-            namespace: Namespace {
-                path: Vec::new(alloc),
-                index: None,
-            },
-            script_args: script,
-            native_args: 1,
-            args: vec![in alloc; Expr::IntegerConstant(-7, Position::START)]?,
-            capture_parent_scope: script.is_some(),
-            op_token: None,
-        })
-    }
-
-    fn body(alloc: Global, call: FnCallExpr) -> Result<StmtBlock, AllocError> {
-        let call = Expr::FnCall(Box::new(alloc, call)?, Position::START);
+    // The block `{ 7 }`.
+    fn block(alloc: Global) -> Result<StmtBlock, AllocError> {
+        let seven = Expr::IntegerConstant(7, Position::START);
         Ok(StmtBlock {
-            statements: vec![in alloc; Stmt::Expr(Box::new(alloc, call)?)]?,
+            statements: vec![in alloc; Stmt::Expr(Box::new(alloc, seven)?)]?,
             start: Position::START,
             end: Position::NONE,
         })
@@ -476,50 +460,50 @@ mod tests {
         alloc: Global,
         name: &str,
         this_type: Option<RcStr>,
-    ) -> Result<ScriptFuncDef, AllocError> {
-        let private = this_type.is_some();
-        let (first, second) = (RcStr::from_str(alloc, "a")?, RcStr::from_str(alloc, "b")?);
-        Ok(ScriptFuncDef {
+    ) -> Result<Rc<ScriptFuncDef>, AllocError> {
+        let mut params = Vec::new(alloc);
+        for parameter in ["a", "b"] {
+            params.push(RcStr::from_str(alloc, parameter)?)?;
+        }
+        let function = ScriptFuncDef {
+            private: this_type.is_some(),
             this_type,
             name: RcStr::from_str(alloc, name)?,
-            private,
-            params: if private {
-                vec![in alloc; first, second]?
-            } else {
-                Vec::new(alloc)
-            },
-            body: body(alloc, call(alloc, "-", None)?)?,
-        })
+            params,
+            body: block(alloc)?,
+        };
+        Ok(Rc::new(alloc, function)?)
     }
 
     const PRINTED: &str = "accepted
-Expr
-  FnCall 1:1 f\\sg 1 1 !
-    Int 1:1 -7
 functions 2
 private fn my\\stype alpha a b
   Block 1:1 none
     Expr
-      FnCall 1:1 - - 1 -
-        Int 1:1 -7
-fn - zulu
+      Int 1:1 7
+fn - zulu a b
   Block 1:1 none
     Expr
-      FnCall 1:1 - - 1 -
-        Int 1:1 -7
+      Int 1:1 7
 ";
 
+    // No list makes a function yet.
     #[test]
-    fn prints_calls_and_functions(rt: HostRuntime) -> Result<(), Fail> {
+    fn prints_functions(rt: HostRuntime) -> Result<(), Fail> {
         let alloc = rt.alloc();
-        let this_type = Some(RcStr::from_str(alloc, "my type")?);
-        let first = Rc::new(alloc, function(alloc, "alpha", this_type)?)?;
-        let second = Rc::new(alloc, function(alloc, "zulu", None)?)?;
-        let script = AST {
-            statements: body(alloc, call(alloc, "f g", Some(1))?)?.statements,
-            functions: vec![in alloc; first, second]?,
-        };
-        assert_eq!(rt; accepted(alloc, &script)?.as_str(), PRINTED);
+        let mut functions = Vec::new(alloc);
+        let this_type = RcStr::from_str(alloc, "my type")?;
+        functions.push(function(alloc, "alpha", Some(this_type))?)?;
+        functions.push(function(alloc, "zulu", None)?)?;
+        let statements = Vec::new(alloc);
+        let printed = accepted(
+            alloc,
+            &AST {
+                statements,
+                functions,
+            },
+        )?;
+        assert!(rt; printed.as_str() == PRINTED, "{printed}");
         Ok(())
     }
 }
