@@ -127,9 +127,9 @@ mutual
   fields : (x : Fields) (before : Properties) (c : Context) (w : Live) (opening : Position) (k : Demands) → IsFair k → IsFair (W.fields x before c w opening k)
   fields (form.NoField closing) before c w opening k h = (refl, h)
   fields (form.LastField key at colon f closing) before c w opening k h = λ e.
-      (unless (is_memory key) _ (key_due (W.next_key c before key) e), (refl, run f (outermost (level_up (level_up c)) w) _ (refl, h)))
+      (unless (is_memory key) _ (key_due (W.next_key c.settings before key) e), (refl, run f (outermost (level_up (level_up c)) w) _ (refl, h)))
   fields (form.Field key at colon f comma rest) before c w opening k h = λ e. (
-    unless (is_memory key) _ (key_due (W.next_key c before key) e),
+    unless (is_memory key) _ (key_due (W.next_key c.settings before key) e),
     (refl, run f (outermost (level_up (level_up c)) w) _ (refl, fields rest (with_property before (text_of key) at (tree f w)) c w opening k h)),
   )
 

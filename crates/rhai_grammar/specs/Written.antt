@@ -8,7 +8,7 @@ use Rattle.rhai_lower.specs.declared.token.Token.TheVariants.{Unit, LeftParen, R
 use Rattle.rhai_grammar.specs.Causes as cause
 use Rattle.rhai_grammar.specs.Causes.{Cause, Refusal, refusal}
 use Rattle.rhai_grammar.specs.Delivered.{code, item, is_end}
-use Rattle.rhai_grammar.specs.Settings.{in_function, quoted_keys}
+use Rattle.rhai_grammar.specs.Settings.{Settings, in_function, quoted_keys}
 use Rattle.rhai_grammar.specs.DueTokens.{token_of, is_due, not_due}
 use Rattle.rhai_grammar.specs.declared.due.DueToken.{DueToken}
 use Rattle.rhai_grammar.specs.declared.due.DueToken.TheVariants as due
@@ -132,11 +132,11 @@ key_at (NoKey why) = Wrong why
 key_at _ = Otherwise
 
 -- what a token is where one more key may begin, after these properties
-abbrev pub next_key : Context → Properties → Lexeme → KeyPlace
-next_key c before l = key_place (quoted_keys c.settings) (property_count before == 0) l
+abbrev pub next_key : Settings → Properties → Lexeme → KeyPlace
+next_key c before l = key_place (quoted_keys c) (property_count before == 0) l
 
 abbrev pub key_due : Context → Properties → Lexeme → Verdict
-key_due c before l = key_at (next_key c before l)
+key_due c before l = key_at (next_key c.settings before l)
 
 -- after the colon of one more property
 abbrev pub value_due : (limit count : ℕ) → Lexeme → Verdict
@@ -249,7 +249,7 @@ operands_fit op x y k = Next (side_ends op) ▸ Test (boolean_holds op x) (misma
 -- A property up to its value: no earlier property has its key.
 abbrev pub field : (key : Lexeme) (at colon : Position) (before : Properties) → Context → (opening : Position) → Demands → Demands
 field key at colon before c opening k =
-    Shape (is_key (next_key c before key)) ▸ Tok code (item key at) (key_due c before) ▸
+    Shape (is_key (next_key c.settings before key)) ▸ Tok code (item key at) (key_due c before) ▸
     Test (not (has_key (text_of key) before)) (refusal (cause.DuplicatedProperty (text_of key)) at) ▸
     due_token due.Colon colon (Next (value_due c.sizes.map (property_count before)) ▸ raise_at c opening k)
 

@@ -103,7 +103,7 @@ pub data KeyForm : Type 0 where
 abbrev pub key_of : Context → Properties → KeyForm → Demands → Demands
 key_of c before (NoMore closing) k = Tok code (item (Sign token.RightBrace) closing) (W.key_due c before) ▸ k
 key_of c before (Keyed key pos colon) k =
-    Shape (is_key (W.next_key c before key)) ▸ Tok code (item key pos) (W.key_due c before) ▸
+    Shape (is_key (W.next_key c.settings before key)) ▸ Tok code (item key pos) (W.key_due c before) ▸
     Test (not (has_key (text_of key) before)) (refusal (cause.DuplicatedProperty (text_of key)) pos) ▸
     W.due_token due.Colon colon (Next (W.value_due c.sizes.map (property_count before)) ▸ k)
 

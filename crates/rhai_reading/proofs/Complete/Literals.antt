@@ -67,7 +67,7 @@ module _ (c : Context) (w : Live) (opening : Position) (before : Properties) (ke
   next_key : Met (W.field key pos colon before c opening k) s t
       → Reaches (body (R.NextKey c before)) s b (Some (text_of key, pos)) (W.raise_at c opening k) t
   next_key m =
-      let can = readable (λ l. is_key (W.next_key c before l)) (λ f. refl) key m.0 in
+      let can = readable (λ l. is_key (W.next_key c.settings before l)) (λ f. refl) key m.0 in
       peek m.1.0 can (seen (key_is (quoted_keys c.settings) (property_count before == 0) key m.0) (R.key_on c before pos)
       (take m.1.0 can (if_false _ (not_true _ m.1.1.0)
       (due m.1.1.1.0 refl refl (next (W.value_due c.sizes.map (property_count before)) m.1.1.1.1.0

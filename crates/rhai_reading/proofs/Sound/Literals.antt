@@ -56,7 +56,7 @@ module _ {call : Histories} (ih : AllSound call) (c : Context) (w : Live) (openi
   element_list b = look (λ m. element_by (item_place c.sizes.array (node_count before) (op_at s)) refl m)
 
 module _ (call : Histories) (c : Context) (before : Properties) (s : Point) where
-  key_by : (v : KeyPlace) → W.next_key c before (op_at s) ≡ v → is_memory (op_at s) ≡ false
+  key_by : (v : KeyPlace) → W.next_key c.settings before (op_at s) ≡ v → is_memory (op_at s) ≡ false
       → Goes call (next_keys c before) s (R.key_on c before (pos_at s) v) s true
   key_by FieldsEnd e m = take (done (NoMore (pos_at s)) (λ k o r. keyed _ _ s e ▹ r))
   key_by (AKey key) e m =
@@ -74,7 +74,7 @@ module _ (call : Histories) (c : Context) (before : Properties) (s : Point) wher
   key_by (NoKey why) e m = refuse (NoMore nowhere) (λ k. wrong m (rw e))
 
   pub next_key : (b : Bool) → Goes call (next_keys c before) s (body (R.NextKey c before)) s b
-  next_key b = look (λ m. key_by (W.next_key c before (op_at s)) refl m)
+  next_key b = look (λ m. key_by (W.next_key c.settings before (op_at s)) refl m)
 
 -- an object map of which that is missing which comes behind a key
 abbrev with_key : KeyForm → Fields
