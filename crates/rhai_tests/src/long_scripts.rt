@@ -29,6 +29,6 @@ fn a_run_of_100_000_operators(rt: HostRuntime) -> Result<(), Fail> {
 }
 
 #[test]
-fn a_chain_of_10_000_links(rt: HostRuntime) -> Result<(), Fail> {
-    parse_repeated(&rt, rt.alloc(), "a", ". b [ 1 ]", 5_000)
+fn a_chain_of_100_000_links(rt: HostRuntime) -> Result<(), Fail> {
+    parse_repeated(&rt, rt.alloc(), "a", ". b [ 1 ]", 50_000)
 }
