@@ -1,5 +1,5 @@
-//! Scripts of great length: they are parsed, and their trees are dropped, in the stack that any script takes. A recursion
-//! for each operator or link would run out of it.
+//! Long scripts: they are parsed, and their trees are dropped, without a recursion for each operator or link. That
+//! would run out of stack.
 
 use crate::script::{add_line, parse};
 use std::alloc::Global;
