@@ -5,3 +5,4 @@ pub mod AnswerLemmas
 pub mod RunLemmas
 pub mod PromiseLemmas
 pub mod ChainLemmas
+pub mod Readers

@@ -135,13 +135,13 @@ pub record FieldTaken (c d : Settings) (w : Context) (before after : Properties)
   pub shrinks : is_end (asked s3).lexeme ≡ false → left t.tokens + 1 ≤ left s3.tokens
   pub joined : after ≡ with_property before key.0 key.1 x
 
-pub field_short : (c d : Settings) (w : Context) (before after : Properties) (key : Text × Position) (x : Node) (s s1 s2 s3 t : Cursor) → FieldTaken c d w before after key x s s1 s2 s3 t → left t.tokens + 1 ≤ left s.tokens
-field_short c d w before after key x s s1 s2 s3 t h =
+pub field_short : {c d : Settings} {w : Context} {before after : Properties} {key : Text × Position} {x : Node} {s s1 s2 s3 t : Cursor} → FieldTaken c d w before after key x s s1 s2 s3 t → left t.tokens + 1 ≤ left s.tokens
+field_short {c} {d} {w} {before} {after} {key} {x} {s} {s1} {s2} {s3} {t} h =
     let more : is_end (asked s3).lexeme ≡ false = ap (λ (u : Cursor). is_end (asked u).lexeme) h.look ∙ h.more in
     left_after s s1 s2 s3 t h.key_short h.value_short h.look (h.shrinks more)
 
-pub field_goes_on : (c d : Settings) (w : Context) (opening : Position) (before after : Properties) (key : Text × Position) (x : Node) (s s1 s2 s3 t : Cursor) → FieldTaken c d w before after key x s s1 s2 s3 t → run (Fields c w opening before) s ≡ run (Fields c w opening after) t
-field_goes_on c d w opening before after key x s s1 s2 s3 t h =
+pub field_goes_on : {c d : Settings} {w : Context} (opening : Position) {before after : Properties} {key : Text × Position} {x : Node} {s s1 s2 s3 t : Cursor} → FieldTaken c d w before after key x s s1 s2 s3 t → run (Fields c w opening before) s ≡ run (Fields c w opening after) t
+field_goes_on {c} {d} {w} opening {before} {after} {key} {x} {s} {s1} {s2} {s3} {t} h =
     let there : t ≡ taking s2 = h.took ∙ ap taking h.look in
     let taken : TakesField c w before key x s s1 s2 = record {
       key_read = h.key_read;
@@ -150,7 +150,7 @@ field_goes_on c d w opening before after key x s s1 s2 s3 t h =
       readable = h.readable;
       comma = h.comma;
       after_key = h.key_short;
-      after_comma = subst (λ (u : Cursor). left u.tokens + 1 ≤ left s.tokens) there (field_short c d w before after key x s s1 s2 s3 t h);
+      after_comma = subst (λ (u : Cursor). left u.tokens + 1 ≤ left s.tokens) there (field_short h);
     } in
     field_taken c w opening before key x s s1 s2 taken
     ∙ ap (λ ps. run (Fields c w opening ps) (taking s2)) (sym h.joined)

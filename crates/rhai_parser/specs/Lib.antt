@@ -3,5 +3,6 @@ pub mod Engines
 pub mod Frames
 pub mod Literals
 pub mod Tokens
+pub mod Readers
 pub mod Words
 pub mod Chains

@@ -13,7 +13,7 @@ ghost use Rattle.rhai_grammar.specs.Literals.{NoKey, has_key, is_colon, key_plac
 ghost use Rattle.rhai_reading.specs.Reading.{Elements, Fields, NextKey};
 ghost use Rattle.rhai_reading.specs.Running.{Gives, run};
 ghost use Rattle.rhai_base.specs.Settings.{settings_of};
-ghost use Rattle.rhai_parser.specs.Frames.{context_of};
+ghost use Rattle.rhai_parser.specs.Readers.{GoesOn, Reads, elements, fields, properties_of, views_of};
 ghost use Rattle.rhai_parser.specs.Literals.{FollowsItem, FollowsValue, PlacesItem, due_behind_item, due_behind_value, is_interpolated, is_reserved_word, key_found, no_item, refused_key, within};
 
 use crate::engine::Engine;
@@ -28,20 +28,19 @@ use rhai_lower::{Expr, Ident, Position, Token, TokenStream, is_valid_identifier}
 use std::alloc::{AllocError, Global};
 use std::rc::RcStr;
 
+#[tactic(auto, using(crate::proofs::Readers::literals))]
 impl Engine {
     /// Reads the items of an array behind its `[`, where the settings stand, up to the `]`. The level is raised for each
     /// item anew, and a raise is refused at the `[`.
     #[cycle(parser)]
-    #[tactic(auto, using(rhai_reading::proofs::Steps::step_elements, rhai_reading::proofs::Steps::guarded_is, rhai_reading::proofs::Steps::and_then_done, rhai_lower::proofs::Views::views_push, crate::proofs::NameLemmas::count_views))]
     pub(crate) fn parse_array_literal(
         &self,
         shared: &mut Shared<'_>,
         frame: &Frame,
         settings: ParseSettings,
     ) -> ParseResult<Vec<Expr>>
-        ensures same_input { shared.new.input.ghost_name ≡ shared.old.input.ghost_name }
-        ensures gives { Gives (λ items. views items.items) (run (Elements (settings_of settings) (context_of self.now frame.now) settings.pos no_nodes) (cursor_of shared.old.input.now)) result (cursor_of shared.new.input.now) }
-        ensures shorter { left (cursor_of shared.new.input.now).tokens ≤ left (cursor_of shared.old.input.now).tokens }
+        ensures goes_on { GoesOn shared.old shared.new }
+        ensures reads { Reads (elements self.now frame.now settings no_nodes) views_of shared.old result shared.new }
     {
         let limit = self.max_array_size();
         let mut items = Vec::new(self.alloc());
@@ -73,16 +72,14 @@ impl Engine {
     /// Reads the properties of an object map behind its `#{`, where the settings stand, up to the `}`. The level is raised
     /// for each value anew, and a raise is refused at the `#{`.
     #[cycle(parser)]
-    #[tactic(auto, using(crate::proofs::LiteralLemmas::step_fields_within, rhai_reading::proofs::Steps::guarded_is, rhai_reading::proofs::Steps::and_then_done, rhai_lower::proofs::Views::property_views_push))]
     pub(crate) fn parse_map_literal(
         &self,
         shared: &mut Shared<'_>,
         frame: &Frame,
         settings: ParseSettings,
     ) -> ParseResult<Vec<(Ident, Expr)>>
-        ensures same_input { shared.new.input.ghost_name ≡ shared.old.input.ghost_name }
-        ensures gives { Gives (λ properties. property_views properties.items) (run (Fields (settings_of settings) (context_of self.now frame.now) settings.pos no_properties) (cursor_of shared.old.input.now)) result (cursor_of shared.new.input.now) }
-        ensures shorter { left (cursor_of shared.new.input.now).tokens ≤ left (cursor_of shared.old.input.now).tokens }
+        ensures goes_on { GoesOn shared.old shared.new }
+        ensures reads { Reads (fields self.now frame.now settings no_properties) properties_of shared.old result shared.new }
     {
         let limit = self.max_map_size();
         let mut properties = Vec::new(self.alloc());
