@@ -1,10 +1,11 @@
-//! What the readers of the parser share: the settings that they read under, the state that they
-//! work on, the look-ups in it, the library of functions, and the look at the next token.
+//! What the readers of the parser share: the settings that they read under, the state that they work on, the look-ups in
+//! it, the library of functions, the look at the next token, and what they ask of tokens without reading an expression.
 #![tactic(auto)]
 
 pub mod closure_name;
 pub mod counts;
 pub mod cursor;
+pub mod leaves;
 pub mod library;
 pub mod lookup;
 pub mod names;

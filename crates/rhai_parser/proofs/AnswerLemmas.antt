@@ -1,13 +1,15 @@
 -- What the reading program does where the code asks a function outside of the readers.
-use Rattle.std.proofs.Common.{◌≡◌, ℕ, Bool, true, false, ◌&&◌, Result, Ok, Err, IfErr, refl, sym, ap, ◌∙◌, codes, if◌then◌else◌}
+use Rattle.std.proofs.Common.{Option, Some, None, option_map, ◌≡◌, ℕ, Bool, true, false, ◌&&◌, Result, Ok, Err, IfErr, refl, sym, ap, ◌∙◌, codes, if◌then◌else◌}
 use Rattle.rhai_lower.specs.Texts.{Text}
 use Rattle.rhai_lower.specs.Lexemes.{Lexeme}
 use Rattle.rhai_lower.specs.Nodes.{Node}
 use Rattle.rhai_lower.specs.declared.position.Position.{Position}
 use Rattle.rhai_grammar.specs.Answers.{Answers}
-use Rattle.rhai_grammar.specs.Causes.{MemoryIsNowhere, Refusal, refusal}
+use Rattle.rhai_grammar.specs.Causes.{MemoryIsNowhere, Refusal, out_of_memory, refusal}
 use Rattle.rhai_grammar.specs.declared.error.ParseError.{ParseError}
-use Rattle.rhai_grammar.specs.Cursors.{Cursor}
+use Rattle.rhai_grammar.specs.Cursors.{Cursor, asked, looking}
+use Rattle.rhai_grammar.specs.Delivered.{is_memory}
+use Rattle.rhai_grammar.specs.Strengths.{behind_of}
 use Rattle.rhai_grammar.specs.Settings.{Settings}
 use Rattle.rhai_grammar.specs.Contexts.{Context}
 use Rattle.rhai_grammar.specs.Beginnings as begin
@@ -17,10 +19,13 @@ use Rattle.rhai_grammar.specs.Written.{behind_operand}
 use Rattle.rhai_grammar.specs.Chains.{chained}
 use Rattle.rhai_grammar.specs.Signs.{sign_result, sign_holds, signed, malformed}
 use Rattle.rhai_grammar.specs.Operators.{operator_result, operator_tree, boolean_holds, mismatched}
-use Rattle.rhai_reading.specs.Reading.{Prog, Ret, Fail, Take, Call, Primary, Postfix, Links, Operand, BinaryOp, word_at, sign_on, operand_by, bang_at, binary_next, raised}
+use Rattle.rhai_reading.specs.Reading.{Prog, Ret, Fail, Take, Call, Primary, Postfix, Links, Operand, BinaryOp, word_at, sign_on, operand_by, bang_at, binary_next, next_operator_at, NextOperator, raised}
 use Rattle.rhai_reading.specs.Running as R
-use Rattle.rhai_reading.specs.Running.{Caller, Gives, exec}
-use Rattle.rhai_parser.specs.Words.{word_result}
+use Rattle.rhai_reading.specs.Running.{Caller, Gives, exec, guarded, run}
+use Rattle.rhai_reading.proofs.Steps.{step_next_operator}
+use Rattle.rhai_base.specs.Operators.{operator_found}
+use Rattle.rhai_base.specs.declared.leaves.operators.Operator.{Operator}
+use Rattle.rhai_base.specs.Words.{word_result}
 
 -- ---- an operation's answer
 
@@ -82,6 +87,24 @@ bang_refused c w name l at begin.WithList e = absurd cc
 bang_refused c w name l at _ e = refl
 
 -- ---- operators
+
+abbrev pub operator_pair : Operator → ℕ × Bool
+operator_pair o = (o.strength, o.right)
+
+pub found_given : (at : Position) (o : Option Operator) → next_operator_at at (operator_found o) ≡ Ret (option_map operator_pair o)
+found_given at None = refl
+found_given at (Some o) = refl
+
+-- the operator that the code finds
+pub next_done : {s t : Cursor} (o : Option Operator) → is_memory (asked s).lexeme ≡ false → behind_of (asked s).lexeme ≡ operator_found o → t ≡ looking s → run NextOperator s ≡ R.Done (option_map operator_pair o) t
+next_done {s} {t} o readable is look =
+    let call = guarded NextOperator s in
+    let at = (asked s).at in
+    step_next_operator s
+    ∙ ap (λ m. if m then R.Refused out_of_memory (looking s) else exec call (next_operator_at at (behind_of (asked s).lexeme)) (looking s)) readable
+    ∙ ap (λ b. exec call (next_operator_at at b) (looking s)) is
+    ∙ ap (λ p. exec call p (looking s)) (found_given at o)
+    ∙ ap (R.Done (option_map operator_pair o)) (sym look)
 
 abbrev goes_with : (Node → Prog Node) → Result Node Refusal → Prog Node
 goes_with k (Ok x) = k x

@@ -1,5 +1,3 @@
-pub mod OperatorLemmas
-pub mod NameLemmas
 pub mod LiteralLemmas
 pub mod AnswerLemmas
 pub mod RunLemmas

@@ -16,7 +16,7 @@ use Rattle.rhai_reading.specs.Running as R
 use Rattle.rhai_reading.specs.Running.{exec, run, guarded}
 use Rattle.rhai_reading.proofs.Steps.{step_binary_op, step_primary, guarded_is, and_then_done}
 use Rattle.rhai_parser.proofs.AnswerLemmas.{binary_done, binary_refused, outcome, word_outcome}
-use Rattle.rhai_parser.specs.Words.{word_result}
+use Rattle.rhai_base.specs.Words.{word_result}
 
 -- From s an operator of strength n stands behind the left operand, and its right side y ends at t.
 pub record TakesOne (c : Settings) (w : Context) (parent n : ℕ) (right : Bool) (next : Option (ℕ × Bool)) (x y : Node) (s s1 s2 s3 t : Cursor) : Type 0 where

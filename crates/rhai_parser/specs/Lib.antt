@@ -1,8 +1,3 @@
-pub mod Operators
 pub mod Engines
 pub mod Frames
-pub mod Literals
-pub mod Tokens
 pub mod Readers
-pub mod Words
-pub mod Chains

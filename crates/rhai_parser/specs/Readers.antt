@@ -16,6 +16,7 @@ use Rattle.rhai_reading.specs.Running.{Gives, run}
 use Rattle.rhai_trees.specs.Chains.{link_views}
 use Rattle.rhai_trees.specs.declared.chain.Link.{Link}
 use Rattle.rhai_base.specs.Settings.{settings_of}
+use Rattle.rhai_base.specs.declared.leaves.names.Call.{Call}
 use Rattle.rhai_base.specs.declared.settings.ParseSettings.{ParseSettings}
 use Rattle.rhai_parser.specs.Engines.{EngineValue}
 use Rattle.rhai_parser.specs.Frames.{context_of}
@@ -89,6 +90,10 @@ properties_of ps = property_views ps.items
 
 abbrev pub links_of : Vec Link Global → List chain.Link
 links_of ls = link_views ls.items
+
+-- what calls a name: whether it has a `!`, and the arguments
+abbrev pub call_view : Call → Bool × Nodes
+call_view c = (c.bang, views_of c.args)
 
 -- what is left to read
 abbrev pub state_of : Shared → Cursor

@@ -1,28 +1,24 @@
 //! Chains: the brackets and dots behind an operand, and calls.
 
-ghost use Rattle.std.specs.Prelude.{◌≡◌, ◌≤◌, false, option_map};
+ghost use Rattle.std.specs.Prelude.{◌≡◌, false, option_map};
 ghost use Rattle.rhai_lower.specs.View.{view};
-ghost use Rattle.rhai_grammar.specs.Cursors.{asked, cursor_of, left};
+ghost use Rattle.rhai_grammar.specs.Cursors.{asked, cursor_of};
 ghost use Rattle.rhai_grammar.specs.Delivered.{is_end};
-ghost use Rattle.rhai_grammar.specs.Written.{behind_operand};
-ghost use Rattle.rhai_reading.specs.Reading.{Called, Index, Links, Member};
-ghost use Rattle.rhai_reading.specs.Running.{Gives, run};
-ghost use Rattle.rhai_trees.specs.Chains.{link_views};
-ghost use Rattle.rhai_base.specs.Settings.{settings_of};
-ghost use Rattle.rhai_parser.specs.Chains.{call_view};
-ghost use Rattle.rhai_parser.specs.Readers.{GoesOn, Reads, called, index, links, links_of, member};
+ghost use Rattle.rhai_parser.specs.Readers.{GoesOn, Reads, call_view, called, index, links, links_of, member};
 
 use crate::engine::Engine;
 use crate::frame::Frame;
-use crate::links::{Linking, end_index, is_name, make_method, member_due, test_index, what_links};
-use crate::names::{Call, arguments_due};
 use crate::shared::Shared;
-use crate::tokens::{Calling, is_called, what_calls};
 use rhai_base::ParseSettings;
 use rhai_base::cursor::{peek, skip};
-use rhai_grammar::{ParseError, ParseErrorType, ParseResult};
+use rhai_base::leaves::due::{arguments_due, end_index};
+use rhai_base::leaves::links::{Linking, is_name, member_due, what_links};
+use rhai_base::leaves::names::{Call, make_method};
+use rhai_base::leaves::refusals::reserved;
+use rhai_base::leaves::tokens::{Calling, is_called, what_calls};
+use rhai_grammar::ParseResult;
 use rhai_lower::Expr;
-use rhai_trees::{Link, LinkKind, test_links};
+use rhai_trees::{Link, LinkKind, test_index, test_links};
 
 #[tactic(auto, using(crate::proofs::Readers::chains))]
 impl Engine {
@@ -166,6 +162,6 @@ impl Engine {
         if is_name {
             return Ok(Expr::Property(name, pos));
         }
-        Err(ParseError(ParseErrorType::Reserved(name), pos))
+        Err(reserved(name, pos))
     }
 }

@@ -1,26 +1,22 @@
 //! Expressions: operands with their signs and calls, joined by binary operators.
 
-ghost use Rattle.std.specs.Prelude.{◌≡◌, ◌≤◌};
 ghost use Rattle.rhai_lower.specs.Nodes.{no_nodes, position_of};
-ghost use Rattle.rhai_lower.specs.View.{view, views};
-ghost use Rattle.rhai_grammar.specs.Cursors.{cursor_of, left};
-ghost use Rattle.rhai_reading.specs.Reading.{Arguments, BinaryOp, Expression, Items, Operand, Postfix, Primary, Whole};
-ghost use Rattle.rhai_reading.specs.Running.{Gives, run};
-ghost use Rattle.rhai_base.specs.Settings.{settings_of};
+ghost use Rattle.rhai_lower.specs.View.{view};
 ghost use Rattle.rhai_parser.specs.Readers.{GoesOn, Reads, arguments, binary_op, expression, items, operand, postfix, primary, views_of, whole};
 
 use crate::engine::Engine;
 use crate::frame::Frame;
-use crate::names::{as_variable, end_group, make_call, name_node, word_node};
-use crate::operators::next_operator;
-use crate::refusals::{missing, no_operand, not_following, unexpected};
 use crate::shared::Shared;
-use crate::tokens::{
+use rhai_base::ParseSettings;
+use rhai_base::cursor::{peek, skip, take};
+use rhai_base::leaves::due::end_group;
+use rhai_base::leaves::names::{as_variable, make_call, name_node, word_node};
+use rhai_base::leaves::operators::next_operator;
+use rhai_base::leaves::refusals::{missing, no_operand, not_following, unexpected};
+use rhai_base::leaves::tokens::{
     Beginning, Following, closes, is_called, is_close, is_end, is_no_argument, is_range, is_sign,
     what_begins, what_follows,
 };
-use rhai_base::ParseSettings;
-use rhai_base::cursor::{peek, skip, take};
 use rhai_grammar::ParseResult;
 use rhai_lower::Expr;
 use rhai_trees::{make_binary, make_chain, make_unary};
@@ -48,7 +44,7 @@ impl Engine {
             Beginning::Name(name) => {
                 skip(shared.input);
                 let called = is_called(shared.input)?;
-                Ok(name_node(self.alloc(), frame, name, called, pos)?)
+                Ok(name_node(self.alloc(), &frame.stack, name, called, pos)?)
             }
             Beginning::Word(word) => {
                 skip(shared.input);

@@ -1,0 +1,175 @@
+//! The nodes of names, of reserved words, and of calls.
+
+ghost use Rattle.std.specs.Prelude.{◌≡◌, ◌+◌, None, Some, [], IfErr, IfOk, option_map, false};
+ghost use Rattle.std.specs.Int.NonZero.{non_zero_usize_get};
+ghost use Rattle.std.specs.Rc.{rc_str_bytes};
+ghost use Rattle.rhai_lower.specs.View.{called, named, view, views};
+ghost use Rattle.rhai_lower.specs.declared.ast.FnCallExpr.{out-FnCallExpr};
+ghost use Rattle.rhai_lower.specs.Nodes.{variable};
+ghost use Rattle.rhai_grammar.specs.Answers.{Answers};
+ghost use Rattle.rhai_grammar.specs.Beginnings.{is_this, may_be_called};
+ghost use Rattle.rhai_grammar.specs.Causes.{MemoryIsNowhere};
+ghost use Rattle.rhai_grammar.specs.Trees.{call_tree, is_variable, method_tree, name_tree, node_count, variable_of};
+ghost use Rattle.rhai_base.specs.Settings.{settings_of};
+ghost use Rattle.rhai_base.specs.Words.{word_result};
+
+use crate::lookup::place_of;
+use crate::settings::{ParseSettingFlags, ParseSettings};
+use rhai_grammar::{InputError, ParseError, ParseErrorType, ParseResult};
+use rhai_lower::{
+    Expr, FnCallExpr, Namespace, Position, Scope, VariableExpr, is_reserved_keyword_or_symbol,
+};
+use std::alloc::{AllocError, Global};
+use std::num::NonZeroUsize;
+use std::rc::RcStr;
+
+/// What calls a name.
+#[derive(Drop)]
+pub struct Call {
+    /// Whether it has a `!`.
+    pub bang: bool,
+    /// The arguments.
+    pub args: Vec<Expr>,
+}
+
+// The use of a variable. The error is that there is no memory for it.
+#[tactic(auto, using(rhai_lower::proofs::Views::view_variable))]
+fn variable(
+    alloc: Global,
+    index: Option<NonZeroUsize>,
+    name: RcStr,
+    pos: Position,
+) -> Result<Expr, AllocError>
+    ensures { IfOk result (λ e. view e ≡ variable_of (option_map non_zero_usize_get index) (rc_str_bytes name) pos) }
+{
+    let variable = VariableExpr {
+        index,
+        name,
+        namespace: Namespace {
+            path: Vec::new(alloc),
+            index: None,
+        },
+    };
+    Ok(Expr::Variable(Box::new(alloc, variable)?, pos))
+}
+
+/// What a name is among these slots: a variable, or where something calls it the name of a call, which is no variable's.
+/// The error is that there is no memory for it.
+pub fn name_node(
+    alloc: Global,
+    slots: &Scope,
+    name: RcStr,
+    called: bool,
+    pos: Position,
+) -> Result<Expr, AllocError>
+    ensures { IfOk result (λ e. view e ≡ name_tree slots.now called (rc_str_bytes name) pos) }
+{
+    if called {
+        return variable(alloc, None, name, pos);
+    }
+    let index = place_of(slots, &name);
+    variable(alloc, index, name, pos)
+}
+
+// Whether a reserved word may be called.
+fn may_be_called(word: &str) -> bool
+    ensures { result ≡ may_be_called word.now }
+{
+    is_reserved_keyword_or_symbol(word).1
+}
+
+// Whether a reserved word is `this`.
+fn is_this(word: &str) -> bool
+    ensures { result ≡ is_this word.now }
+{
+    word == "this"
+}
+
+/// What a reserved word or symbol is: the name of a call, or `this` in a function. `this` elsewhere is `ImproperSymbol`,
+/// anything else is `Reserved`.
+pub fn word_node(
+    alloc: Global,
+    settings: ParseSettings,
+    word: RcStr,
+    called: bool,
+    pos: Position,
+) -> ParseResult<Expr>
+    ensures answers { Answers view (word_result (settings_of settings) (rc_str_bytes word) called pos) result }
+    ensures nowhere { IfErr result MemoryIsNowhere }
+{
+    if called && may_be_called(&word) {
+        return Ok(variable(alloc, None, word, pos)?);
+    }
+    if !is_this(&word) {
+        return Err(ParseError(ParseErrorType::Reserved(word), pos));
+    }
+    if settings.has_flag(ParseSettingFlags::FN_SCOPE) {
+        return Ok(Expr::ThisPtr(pos));
+    }
+    let note = RcStr::from_str(alloc, "it can only be used in functions")?;
+    let input = InputError::ImproperSymbol(word, note);
+    Err(ParseError(ParseErrorType::BadInput(input), pos))
+}
+
+/// The parts of a variable, or any other operand as it is.
+#[tactic(auto, using(rhai_lower::proofs::Views::view_variable))]
+pub fn as_variable(operand: Expr) -> Result<(Box<VariableExpr>, Position), Expr>
+    ensures variable { IfOk result (λ v. view operand ≡ variable (named v.0.value) v.1) }
+    ensures other { IfErr result (λ e. (view e ≡ view operand) × (is_variable (view operand) ≡ false)) }
+{
+    match operand {
+        Expr::Variable(name, pos) => Ok((name, pos)),
+        other => Err(other),
+    }
+}
+
+// The call of a script's function, which `native_args` arguments of a native function answer too.
+#[tactic(auto, using(crate::proofs::NameLemmas::count_views))]
+fn script_call(alloc: Global, name: RcStr, native_args: usize, call: Call) -> FnCallExpr
+    ensures called { called result ≡ record { name = rc_str_bytes name; path = []; module_index = None; script_args = Some (node_count (views call.args.items)); native_args = native_args; captures_scope = call.bang; op_token = None } }
+    ensures args { views (out-FnCallExpr result).args.items ≡ views call.args.items }
+{
+    FnCallExpr {
+        name,
+        namespace: Namespace {
+            path: Vec::new(alloc),
+            index: None,
+        },
+        script_args: Some(call.args.len()),
+        native_args,
+        args: call.args,
+        capture_parent_scope: call.bang,
+        op_token: None,
+    }
+}
+
+/// The call of a name, which stands at the name. The error is that there is no memory for it.
+#[tactic(auto, using(rhai_lower::proofs::Views::view_call, crate::proofs::NameLemmas::count_views))]
+pub fn make_call(
+    alloc: Global,
+    name: Box<VariableExpr>,
+    pos: Position,
+    call: Call,
+) -> Result<Expr, AllocError>
+    ensures { IfOk result (λ e. view e ≡ call_tree (variable (named name.value) pos) call.bang (views call.args.items)) }
+{
+    let name = Box::into_inner(name).name;
+    let native_args = call.args.len();
+    let call = script_call(alloc, name, native_args, call);
+    Ok(Expr::FnCall(Box::new(alloc, call)?, pos))
+}
+
+/// The call of a method, which stands at its name. The error is that there is no memory for it.
+#[tactic(auto, using(rhai_lower::proofs::Views::view_method_call, crate::proofs::NameLemmas::count_views))]
+pub fn make_method(
+    alloc: Global,
+    name: RcStr,
+    pos: Position,
+    call: Call,
+) -> Result<Expr, AllocError>
+    ensures { IfOk result (λ e. view e ≡ method_tree (rc_str_bytes name) pos call.bang (views call.args.items)) }
+{
+    let native_args = call.args.len() + 1;
+    let method = script_call(alloc, name, native_args, call);
+    Ok(Expr::MethodCall(Box::new(alloc, method)?, pos))
+}
