@@ -1,8 +1,13 @@
+pub mod Chains
 pub mod ClosureNames
 pub mod Counts
 pub mod FlagNames
 pub mod Index
 pub mod Keys
+pub mod Literals
+pub mod Operators
 pub mod Settings
 pub mod Shown
 pub mod States
+pub mod Tokens
+pub mod Words

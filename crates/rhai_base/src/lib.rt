@@ -1,10 +1,11 @@
-//! What the parsing functions share: the settings, the state, look-ups in the state, the library of functions, and
-//! access to the next token.
+//! What the parsing functions share: the settings, the state, look-ups in the state, the library of functions, access to
+//! the next token, and what they ask of tokens without reading an expression (`leaves`).
 #![tactic(auto)]
 
 pub mod closure_name;
 pub mod counts;
 pub mod cursor;
+pub mod leaves;
 pub mod library;
 pub mod lookup;
 pub mod names;

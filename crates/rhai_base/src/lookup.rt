@@ -1,6 +1,7 @@
 //! Look-ups of names among the slots and the imports.
 
 ghost use Rattle.std.specs.Prelude.{◌≡◌, ℕ, option_map, unwrap_or, map};
+ghost use Rattle.std.specs.Int.NonZero.{non_zero_usize_get};
 ghost use Rattle.std.specs.Rc.{rc_str_bytes};
 ghost use Rattle.rhai_grammar.specs.Slots.{number, barrier_before, IsLatest};
 ghost use Rattle.rhai_grammar.specs.Imports.{module_number};
@@ -31,6 +32,19 @@ pub fn find_slot(slots: &Scope, name: &str) -> (usize, bool)
         }
     }
     (0, barrier)
+}
+
+/// The index of the latest slot of the variable `name`, counted from 1 at the latest slot of all; none if no slot has the
+/// name. It does not allocate.
+#[tactic(auto, using(crate::proofs::NameLemmas::no_place, crate::proofs::NameLemmas::slot_place))]
+pub fn place_of(slots: &Scope, name: &str) -> Option<NonZeroUsize>
+    ensures { option_map non_zero_usize_get result ≡ number name.now slots.now }
+{
+    let (place, _) = find_slot(slots, name);
+    if place == 0 {
+        return None;
+    }
+    NonZeroUsize::new(place)
 }
 
 // The index of the latest import of this name, counted from 1 at the latest of all.

@@ -1,11 +1,15 @@
 -- What the reading program does where the code asks a function outside of the readers.
-use Rattle.std.proofs.Common.{◌≡◌, ℕ, Bool, true, false, ◌&&◌, Result, Ok, Err, refl, sym, ap, ◌∙◌, codes, if◌then◌else◌}
+use Rattle.std.proofs.Common.{Option, Some, None, option_map, ◌≡◌, ℕ, Bool, true, false, ◌&&◌, Result, Ok, Err, IfErr, refl, sym, ap, ◌∙◌, codes, if◌then◌else◌}
 use Rattle.rhai_lower.specs.Texts.{Text}
 use Rattle.rhai_lower.specs.Lexemes.{Lexeme}
 use Rattle.rhai_lower.specs.Nodes.{Node}
 use Rattle.rhai_lower.specs.declared.position.Position.{Position}
-use Rattle.rhai_grammar.specs.Causes.{Refusal, refusal}
-use Rattle.rhai_grammar.specs.Cursors.{Cursor}
+use Rattle.rhai_grammar.specs.Answers.{Answers}
+use Rattle.rhai_grammar.specs.Causes.{MemoryIsNowhere, Refusal, out_of_memory, refusal}
+use Rattle.rhai_grammar.specs.declared.error.ParseError.{ParseError}
+use Rattle.rhai_grammar.specs.Cursors.{Cursor, asked, looking}
+use Rattle.rhai_grammar.specs.Delivered.{is_memory}
+use Rattle.rhai_grammar.specs.Strengths.{behind_of}
 use Rattle.rhai_grammar.specs.Settings.{Settings}
 use Rattle.rhai_grammar.specs.Contexts.{Context}
 use Rattle.rhai_grammar.specs.Beginnings as begin
@@ -15,10 +19,25 @@ use Rattle.rhai_grammar.specs.Written.{behind_operand}
 use Rattle.rhai_grammar.specs.Chains.{chained}
 use Rattle.rhai_grammar.specs.Signs.{sign_result, sign_holds, signed, malformed}
 use Rattle.rhai_grammar.specs.Operators.{operator_result, operator_tree, boolean_holds, mismatched}
-use Rattle.rhai_reading.specs.Reading.{Prog, Ret, Fail, Take, Call, Primary, Postfix, Links, Operand, BinaryOp, word_at, sign_on, operand_by, bang_at, binary_next, raised}
+use Rattle.rhai_reading.specs.Reading.{Prog, Ret, Fail, Take, Call, Primary, Postfix, Links, Operand, BinaryOp, word_at, sign_on, operand_by, bang_at, binary_next, next_operator_at, NextOperator, raised}
 use Rattle.rhai_reading.specs.Running as R
-use Rattle.rhai_reading.specs.Running.{Caller, exec}
-use Rattle.rhai_parser.specs.Words.{word_result, no_this}
+use Rattle.rhai_reading.specs.Running.{Caller, Gives, exec, guarded, run}
+use Rattle.rhai_reading.proofs.Steps.{step_next_operator}
+use Rattle.rhai_base.specs.Operators.{operator_found}
+use Rattle.rhai_base.specs.declared.leaves.operators.Operator.{Operator}
+use Rattle.rhai_base.specs.Words.{word_result}
+
+-- ---- an operation's answer
+
+-- what it comes to for a reader, with the cursor that is left
+abbrev pub outcome : Result Node Refusal → Cursor → R.Out Node
+outcome (Ok x) t = R.Done x t
+outcome (Err e) t = R.Refused e t
+
+-- A reader that comes to what is due gives what was answered.
+pub answer_given : {X : Type 0} (view : X → Node) {o : R.Out Node} (due : Result Node Refusal) (t : Cursor) (r : Result X ParseError) → o ≡ outcome due t → Answers view due r → IfErr r MemoryIsNowhere → Gives view o r t
+answer_given view due t (Ok x) same is known = same ∙ ap (λ d. outcome d t) is
+answer_given view due t (Err e) same is known = (λ told. same ∙ ap (λ d. outcome d t) (is told), known)
 
 -- ---- reserved words
 
@@ -36,11 +55,12 @@ word_chosen false false d x y e f = refl
 word_answers : (c : Settings) (word : Text) (at : Position) (l : Lexeme) (p : Position) → word_at c word at l p ≡ answered (word_result c word (calls l) at)
 word_answers c word at l p = word_chosen (may_be_called word && calls l) (is_this word) (in_function c) _ _ _ _
 
-pub word_done : (call : Caller) (c : Settings) (word : Text) (at : Position) (l : Lexeme) (p : Position) (x : Node) (t : Cursor) → word_result c word (calls l) at ≡ Ok x → exec call (word_at c word at l p) t ≡ R.Done x t
-word_done call c word at l p x t e = ap (λ q. exec call q t) (word_answers c word at l p ∙ ap answered e)
+exec_answered : (call : Caller) (r : Result Node Refusal) (t : Cursor) → exec call (answered r) t ≡ outcome r t
+exec_answered call (Ok x) t = refl
+exec_answered call (Err e) t = refl
 
-pub word_refused : (call : Caller) (c : Settings) (word : Text) (at : Position) (l : Lexeme) (p : Position) (x : Refusal) (t : Cursor) → word_result c word (calls l) at ≡ Err x → exec call (word_at c word at l p) t ≡ R.Refused x t
-word_refused call c word at l p x t e = ap (λ q. exec call q t) (word_answers c word at l p ∙ ap answered e)
+pub word_outcome : (call : Caller) (c : Settings) (word : Text) (at : Position) (l : Lexeme) (p : Position) (t : Cursor) → exec call (word_at c word at l p) t ≡ outcome (word_result c word (calls l) at) t
+word_outcome call c word at l p t = ap (λ q. exec call q t) (word_answers c word at l p) ∙ exec_answered call (word_result c word (calls l) at) t
 
 -- ---- signs
 
@@ -56,11 +76,8 @@ sign_chosen : (b : Bool) (x : Node) (e : Refusal) → (if b then Ret x else Fail
 sign_chosen true x e = refl
 sign_chosen false x e = refl
 
-pub sign_done : (call : Caller) (l : Lexeme) (at : Position) (n x : Node) (t : Cursor) → sign_result l at n ≡ Ok x → exec call (sign_on l at n) t ≡ R.Done x t
-sign_done call l at n x t e = ap (λ q. exec call q t) (sign_chosen (sign_holds l n) (signed l at n) (malformed at n) ∙ ap answered e)
-
-pub sign_refused : (call : Caller) (l : Lexeme) (at : Position) (n : Node) (x : Refusal) (t : Cursor) → sign_result l at n ≡ Err x → exec call (sign_on l at n) t ≡ R.Refused x t
-sign_refused call l at n x t e = ap (λ q. exec call q t) (sign_chosen (sign_holds l n) (signed l at n) (malformed at n) ∙ ap answered e)
+pub sign_outcome : (call : Caller) (l : Lexeme) (at : Position) (n : Node) (t : Cursor) → exec call (sign_on l at n) t ≡ outcome (sign_result l at n) t
+sign_outcome call l at n t = ap (λ q. exec call q t) (sign_chosen (sign_holds l n) (signed l at n) (malformed at n)) ∙ exec_answered call (sign_result l at n) t
 
 -- ---- calls
 
@@ -70,6 +87,24 @@ bang_refused c w name l at begin.WithList e = absurd cc
 bang_refused c w name l at _ e = refl
 
 -- ---- operators
+
+abbrev pub operator_pair : Operator → ℕ × Bool
+operator_pair o = (o.strength, o.right)
+
+pub found_given : (at : Position) (o : Option Operator) → next_operator_at at (operator_found o) ≡ Ret (option_map operator_pair o)
+found_given at None = refl
+found_given at (Some o) = refl
+
+-- the operator that the code finds
+pub next_done : {s t : Cursor} (o : Option Operator) → is_memory (asked s).lexeme ≡ false → behind_of (asked s).lexeme ≡ operator_found o → t ≡ looking s → run NextOperator s ≡ R.Done (option_map operator_pair o) t
+next_done {s} {t} o readable is look =
+    let call = guarded NextOperator s in
+    let at = (asked s).at in
+    step_next_operator s
+    ∙ ap (λ m. if m then R.Refused out_of_memory (looking s) else exec call (next_operator_at at (behind_of (asked s).lexeme)) (looking s)) readable
+    ∙ ap (λ b. exec call (next_operator_at at b) (looking s)) is
+    ∙ ap (λ p. exec call p (looking s)) (found_given at o)
+    ∙ ap (R.Done (option_map operator_pair o)) (sym look)
 
 abbrev goes_with : (Node → Prog Node) → Result Node Refusal → Prog Node
 goes_with k (Ok x) = k x

@@ -71,19 +71,19 @@ pub record DotTaken (d : Settings) (w : Context) (q next : LinkSpot) (l : Lexeme
   pub member_short : left t.tokens ≤ left s3.tokens
   pub joined : next ≡ record { settings = d; brackets = d; indexed = None; before = q.before ++ (member_link l at x ∷ []) }
 
-pub dot_short : (d : Settings) (w : Context) (q next : LinkSpot) (l : Lexeme) (at : Position) (x : Node) (s s1 s2 s3 t : Cursor) → DotTaken d w q next l at x s s1 s2 s3 t → (left s2.tokens + 1 ≤ left s.tokens) × (left t.tokens + 1 ≤ left s.tokens)
-dot_short d w q next l at x s s1 s2 s3 t h =
+pub dot_short : {d : Settings} {w : Context} {q next : LinkSpot} {l : Lexeme} {at : Position} {x : Node} {s s1 s2 s3 t : Cursor} → DotTaken d w q next l at x s s1 s2 s3 t → (left s2.tokens + 1 ≤ left s.tokens) × (left t.tokens + 1 ≤ left s.tokens)
+dot_short {d} {w} {q} {next} {l} {at} {x} {s} {s1} {s2} {s3} {t} h =
     let more : is_end (asked s1).lexeme ≡ false = ap (λ (u : Cursor). is_end (asked u).lexeme) h.look ∙ ap (λ (i : Item). is_end i.lexeme) (sym h.token) ∙ h.more in
     let same : left s1.tokens ≡ left s.tokens = ap (λ (u : Cursor). left u.tokens) h.look in
     let same_on : left s3.tokens ≡ left s2.tokens = ap (λ (u : Cursor). left u.tokens) h.look_on in
     let less = h.shrinks more in
     (omega (arith, same, less), omega (arith, same, less, same_on, h.member_short))
 
-pub dot_goes_on : (d : Settings) (w : Context) (q next : LinkSpot) (l : Lexeme) (at : Position) (x : Node) (s s1 s2 s3 t : Cursor) → DotTaken d w q next l at x s s1 s2 s3 t → run (Links w q) s ≡ run (Links w next) t
-dot_goes_on d w q next l at x s s1 s2 s3 t h =
+pub dot_goes_on : {d : Settings} {w : Context} {q next : LinkSpot} {l : Lexeme} {at : Position} {x : Node} {s s1 s2 s3 t : Cursor} → DotTaken d w q next l at x s s1 s2 s3 t → run (Links w q) s ≡ run (Links w next) t
+dot_goes_on {d} {w} {q} {next} {l} {at} {x} {s} {s1} {s2} {s3} {t} h =
     let there : s2 ≡ taking s = h.took ∙ ap taking h.look in
     let looked : s3 ≡ looking (taking s) = h.look_on ∙ ap looking there in
-    let short = dot_short d w q next l at x s s1 s2 s3 t h in
+    let short = dot_short h in
     let taken : TakesDot w q x s t = record {
       readable = h.readable;
       dot = ap (λ (i : Item). linking i.lexeme) (sym h.token) ∙ h.dot;

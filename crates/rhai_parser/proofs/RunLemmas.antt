@@ -15,8 +15,8 @@ use Rattle.rhai_reading.specs.Reading.{Ret, Fail, Peek, Call, NextOperator, Prim
 use Rattle.rhai_reading.specs.Running as R
 use Rattle.rhai_reading.specs.Running.{exec, run, guarded}
 use Rattle.rhai_reading.proofs.Steps.{step_binary_op, step_primary, guarded_is, and_then_done}
-use Rattle.rhai_parser.proofs.AnswerLemmas.{binary_done, binary_refused, word_done, word_refused}
-use Rattle.rhai_parser.specs.Words.{word_result}
+use Rattle.rhai_parser.proofs.AnswerLemmas.{binary_done, binary_refused, outcome, word_outcome}
+use Rattle.rhai_base.specs.Words.{word_result}
 
 -- From s an operator of strength n stands behind the left operand, and its right side y ends at t.
 pub record TakesOne (c : Settings) (w : Context) (parent n : ℕ) (right : Bool) (next : Option (ℕ × Bool)) (x y : Node) (s s1 s2 s3 t : Cursor) : Type 0 where
@@ -91,41 +91,38 @@ left_behind s s1 s2 s3 s4 t look a b on e =
     let second : left s4.tokens ≡ left s3.tokens = ap (λ (u : Cursor). left u.tokens) on in
     (omega (arith, first, a), omega (arith, first, a, b), omega (arith, first, a, b, second), omega (arith, first, a, b, second, e))
 
-walked_takes : (c : Settings) (w : Context) (parent n : ℕ) (right ranged : Bool) (next : Option (ℕ × Bool)) (op : Lexeme) (pos : Position) (x y : Node) (d : Settings) (s s1 s2 s3 s4 t : Cursor) → Walked c w parent n right ranged next op pos x y d s s1 s2 s3 s4 t → TakesOne c w parent n right next x y s s1 s3 s4 t
-walked_takes c w parent n right ranged next op pos x y d s s1 s2 s3 s4 t h =
-    let more : is_end (asked s1).lexeme ≡ false = ap (λ (u : Cursor). is_end (asked u).lexeme) h.look ∙ h.more in
-    let behind = left_behind s s1 s2 s3 s4 t h.look (h.shrinks more) h.operand_short h.look_on h.side_short in
-    let ranged_is : is_range (beginning (asked s1).lexeme) ≡ ranged = ap (λ (i : Item). is_range (beginning i.lexeme)) (sym h.token) ∙ sym h.is_ranged in
-    record {
-      operator = h.operator;
-      goes = h.goes;
-      readable = ap (λ (u : Cursor). is_memory (asked u).lexeme) h.look ∙ h.readable;
-      operand = ap (λ b. run (Operand c w b) (taking s1)) ranged_is ∙ ap (run (Operand c w ranged)) (sym h.took) ∙ h.operand;
-      known = h.known;
-      room = h.room;
-      side = ap (λ e. run (BinaryOp e w (position_of x) n x) s4) (sym h.deeper) ∙ h.side;
-      after_operator = subst (λ (u : Cursor). left u.tokens + 1 ≤ left s.tokens) h.took behind.0;
-      after_operand = behind.1;
-      after_look = behind.2;
-      after_side = behind.3;
-    }
+module _ {c : Settings} {w : Context} {parent n : ℕ} {right ranged : Bool} {next : Option (ℕ × Bool)} {op : Lexeme} {pos : Position} {x y : Node} {d : Settings} {s s1 s2 s3 s4 t : Cursor} (h : Walked c w parent n right ranged next op pos x y d s s1 s2 s3 s4 t) where
+  walked_takes : TakesOne c w parent n right next x y s s1 s3 s4 t
+  walked_takes =
+      let more : is_end (asked s1).lexeme ≡ false = ap (λ (u : Cursor). is_end (asked u).lexeme) h.look ∙ h.more in
+      let behind = left_behind s s1 s2 s3 s4 t h.look (h.shrinks more) h.operand_short h.look_on h.side_short in
+      let ranged_is : is_range (beginning (asked s1).lexeme) ≡ ranged = ap (λ (i : Item). is_range (beginning i.lexeme)) (sym h.token) ∙ sym h.is_ranged in
+      record {
+        operator = h.operator;
+        goes = h.goes;
+        readable = ap (λ (u : Cursor). is_memory (asked u).lexeme) h.look ∙ h.readable;
+        operand = ap (λ b. run (Operand c w b) (taking s1)) ranged_is ∙ ap (run (Operand c w ranged)) (sym h.took) ∙ h.operand;
+        known = h.known;
+        room = h.room;
+        side = ap (λ e. run (BinaryOp e w (position_of x) n x) s4) (sym h.deeper) ∙ h.side;
+        after_operator = subst (λ (u : Cursor). left u.tokens + 1 ≤ left s.tokens) h.took behind.0;
+        after_operand = behind.1;
+        after_look = behind.2;
+        after_side = behind.3;
+      }
 
-pub walked_on : (c : Settings) (w : Context) (at : Position) (parent : ℕ) (lhs : Node) (n : ℕ) (right ranged : Bool) (next : Option (ℕ × Bool)) (op : Lexeme) (pos : Position) (x y z : Node) (d e : Settings) (p : Position) (s s1 s2 s3 s4 t : Cursor) → Walked c w parent n right ranged next op pos x y d s s1 s2 s3 s4 t
-    → operator_result op pos lhs y ≡ Ok z → e ≡ d → p ≡ pos → run (BinaryOp c w at parent lhs) s ≡ run (BinaryOp e w p parent z) t
-walked_on c w at parent lhs n right ranged next op pos x y z d e p s s1 s2 s3 s4 t h joined same there =
-    operator_taken c w at parent lhs n right next x y z s s1 s3 s4 t (walked_takes c w parent n right ranged next op pos x y d s s1 s2 s3 s4 t h) (ap (λ (i : Item). operator_result i.lexeme i.at lhs y) (sym h.token) ∙ joined)
-    ∙ ap (λ (v : Settings). run (BinaryOp v w (asked s1).at parent z) t) (sym (same ∙ h.deeper))
-    ∙ ap (λ q. run (BinaryOp e w q parent z) t) (ap (λ (i : Item). i.at) (sym h.token) ∙ sym there)
+  pub walked_on : (at : Position) (lhs : Node) {p : Position} {z : Node} {e : Settings} → operator_result op pos lhs y ≡ Ok z → e ≡ d → p ≡ pos → run (BinaryOp c w at parent lhs) s ≡ run (BinaryOp e w p parent z) t
+  walked_on at lhs {p} {z} {e} joined same there =
+      operator_taken c w at parent lhs n right next x y z s s1 s3 s4 t walked_takes (ap (λ (i : Item). operator_result i.lexeme i.at lhs y) (sym h.token) ∙ joined)
+      ∙ ap (λ (v : Settings). run (BinaryOp v w (asked s1).at parent z) t) (sym (same ∙ h.deeper))
+      ∙ ap (λ q. run (BinaryOp e w q parent z) t) (ap (λ (i : Item). i.at) (sym h.token) ∙ sym there)
 
-pub walked_refused : (c : Settings) (w : Context) (at : Position) (parent : ℕ) (lhs : Node) (n : ℕ) (right ranged : Bool) (next : Option (ℕ × Bool)) (op : Lexeme) (pos : Position) (x y : Node) (d : Settings) (r : Refusal) (s s1 s2 s3 s4 t : Cursor) → Walked c w parent n right ranged next op pos x y d s s1 s2 s3 s4 t
-    → operator_result op pos lhs y ≡ Err r → run (BinaryOp c w at parent lhs) s ≡ R.Refused r t
-walked_refused c w at parent lhs n right ranged next op pos x y d r s s1 s2 s3 s4 t h refused =
-    operator_refused c w at parent lhs n right next x y r s s1 s3 s4 t (walked_takes c w parent n right ranged next op pos x y d s s1 s2 s3 s4 t h) (ap (λ (i : Item). operator_result i.lexeme i.at lhs y) (sym h.token) ∙ refused)
+  pub walked_refused : (at : Position) (lhs : Node) {r : Refusal} → operator_result op pos lhs y ≡ Err r → run (BinaryOp c w at parent lhs) s ≡ R.Refused r t
+  walked_refused at lhs {r} refused =
+      operator_refused c w at parent lhs n right next x y r s s1 s3 s4 t walked_takes (ap (λ (i : Item). operator_result i.lexeme i.at lhs y) (sym h.token) ∙ refused)
 
-pub walked_short : (c : Settings) (w : Context) (parent n : ℕ) (right ranged : Bool) (next : Option (ℕ × Bool)) (op : Lexeme) (pos : Position) (x y : Node) (d : Settings) (s s1 s2 s3 s4 t entry : Cursor) → Walked c w parent n right ranged next op pos x y d s s1 s2 s3 s4 t → left s.tokens ≤ left entry.tokens → left t.tokens ≤ left entry.tokens
-walked_short c w parent n right ranged next op pos x y d s s1 s2 s3 s4 t entry h short =
-    let behind = (walked_takes c w parent n right ranged next op pos x y d s s1 s2 s3 s4 t h).after_side in
-    omega (arith, behind, short)
+  pub walked_short : left t.tokens + 1 ≤ left s.tokens
+  walked_short = walked_takes.after_side
 
 -- ---- reserved words
 
@@ -155,12 +152,8 @@ worded c w word at called s s1 s2 t h =
     ∙ ap (λ (v : Cursor). exec call (word_at c word at (asked v).lexeme (asked v).at) (looking v)) (sym here)
     ∙ ap (exec call (word_at c word at (asked s2).lexeme (asked s2).at)) (sym h.look_on)
 
-pub worded_done : (c : Settings) (w : Context) (word : Text) (at : Position) (called : Bool) (x : Node) (s s1 s2 t : Cursor) → Worded word at called s s1 s2 t → word_result c word called at ≡ Ok x → run (Primary c w) s ≡ R.Done x t
-worded_done c w word at called x s s1 s2 t h e =
+pub worded_outcome : (c : Settings) (w : Context) {word : Text} {at : Position} {called : Bool} {s s1 s2 t : Cursor} → Worded word at called s s1 s2 t → run (Primary c w) s ≡ outcome (word_result c word called at) t
+worded_outcome c w {word} {at} {called} {s} {s1} {s2} {t} h =
     worded c w word at called s s1 s2 t h
-    ∙ word_done (guarded (Primary c w) s) c word at (asked s2).lexeme (asked s2).at x t (ap (λ b. word_result c word b at) (sym h.is_called) ∙ e)
-
-pub worded_refused : (c : Settings) (w : Context) (word : Text) (at : Position) (called : Bool) (r : Refusal) (s s1 s2 t : Cursor) → Worded word at called s s1 s2 t → word_result c word called at ≡ Err r → run (Primary c w) s ≡ R.Refused r t
-worded_refused c w word at called r s s1 s2 t h e =
-    worded c w word at called s s1 s2 t h
-    ∙ word_refused (guarded (Primary c w) s) c word at (asked s2).lexeme (asked s2).at r t (ap (λ b. word_result c word b at) (sym h.is_called) ∙ e)
+    ∙ word_outcome (guarded (Primary c w) s) c word at (asked s2).lexeme (asked s2).at t
+    ∙ ap (λ b. outcome (word_result c word b at) t) (sym h.is_called)

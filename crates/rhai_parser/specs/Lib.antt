@@ -1,7 +1,3 @@
-pub mod Operators
 pub mod Engines
 pub mod Frames
-pub mod Literals
-pub mod Tokens
-pub mod Words
-pub mod Chains
+pub mod Readers

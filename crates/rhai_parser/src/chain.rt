@@ -1,43 +1,38 @@
 //! Chains: the brackets and dots behind an operand, and calls.
 
-ghost use Rattle.std.specs.Prelude.{◌≡◌, ◌≤◌, false, option_map};
+ghost use Rattle.std.specs.Prelude.{◌≡◌, false, option_map};
 ghost use Rattle.rhai_lower.specs.View.{view};
-ghost use Rattle.rhai_grammar.specs.Cursors.{asked, cursor_of, left};
+ghost use Rattle.rhai_grammar.specs.Cursors.{asked, cursor_of};
 ghost use Rattle.rhai_grammar.specs.Delivered.{is_end};
-ghost use Rattle.rhai_grammar.specs.Written.{behind_operand};
-ghost use Rattle.rhai_reading.specs.Reading.{Called, Index, Links, Member};
-ghost use Rattle.rhai_reading.specs.Running.{Gives, run};
-ghost use Rattle.rhai_trees.specs.Chains.{link_views};
-ghost use Rattle.rhai_base.specs.Settings.{settings_of};
-ghost use Rattle.rhai_parser.specs.Chains.{call_view};
-ghost use Rattle.rhai_parser.specs.Frames.{context_of};
+ghost use Rattle.rhai_parser.specs.Readers.{GoesOn, Reads, call_view, called, index, links, links_of, member};
 
 use crate::engine::Engine;
 use crate::frame::Frame;
-use crate::links::{Linking, end_index, is_name, make_method, member_due, test_index, what_links};
-use crate::names::{Call, arguments_due};
 use crate::shared::Shared;
-use crate::tokens::{Calling, is_called, what_calls};
 use rhai_base::ParseSettings;
 use rhai_base::cursor::{peek, skip};
-use rhai_grammar::{ParseError, ParseErrorType, ParseResult};
+use rhai_base::leaves::due::{arguments_due, end_index};
+use rhai_base::leaves::links::{Linking, is_name, member_due, what_links};
+use rhai_base::leaves::names::{Call, make_method};
+use rhai_base::leaves::refusals::reserved;
+use rhai_base::leaves::tokens::{Calling, is_called, what_calls};
+use rhai_grammar::ParseResult;
 use rhai_lower::Expr;
-use rhai_trees::{Link, LinkKind, test_links};
+use rhai_trees::{Link, LinkKind, test_index, test_links};
 
+#[tactic(auto, using(crate::proofs::Readers::chains))]
 impl Engine {
     /// Reads what calls the name before it; without that, there is no `!` and no argument. A raise of the arguments' level
     /// is refused where the settings stand.
     #[cycle(parser)]
-    #[tactic(auto, using(rhai_reading::proofs::Steps::step_called, rhai_reading::proofs::Steps::guarded_is, crate::proofs::AnswerLemmas::bang_refused))]
     pub(crate) fn parse_call(
         &self,
         shared: &mut Shared<'_>,
         frame: &Frame,
         settings: ParseSettings,
     ) -> ParseResult<Call>
-        ensures same_input { shared.new.input.ghost_name ≡ shared.old.input.ghost_name }
-        ensures gives { Gives call_view (run (Called (settings_of settings) (context_of self.now frame.now) settings.pos) (cursor_of shared.old.input.now)) result (cursor_of shared.new.input.now) }
-        ensures shorter { left (cursor_of shared.new.input.now).tokens ≤ left (cursor_of shared.old.input.now).tokens }
+        ensures goes_on { GoesOn shared.old shared.new }
+        ensures reads { Reads (called self.now frame.now settings) call_view shared.old result shared.new }
     {
         let (token, _) = peek(shared.input)?;
         let mut calling = what_calls(token);
@@ -69,7 +64,6 @@ impl Engine {
     /// Reads the brackets and dots behind the operand `root`, up to what is none. A bracket raises the level, and its
     /// index once more; a dot raises that of all to its right.
     #[cycle(parser)]
-    #[tactic(auto, using(rhai_reading::proofs::Steps::step_links, rhai_reading::proofs::Steps::guarded_is, rhai_reading::proofs::Steps::and_then_done, crate::proofs::ChainLemmas::links_push))]
     pub(crate) fn parse_links(
         &self,
         shared: &mut Shared<'_>,
@@ -77,9 +71,8 @@ impl Engine {
         settings: ParseSettings,
         root: &Expr,
     ) -> ParseResult<Vec<Link>>
-        ensures same_input { shared.new.input.ghost_name ≡ shared.old.input.ghost_name }
-        ensures gives { Gives (λ links. link_views links.items) (run (Links (context_of self.now frame.now) (behind_operand (settings_of settings) (view root.now))) (cursor_of shared.old.input.now)) result (cursor_of shared.new.input.now) }
-        ensures shorter { left (cursor_of shared.new.input.now).tokens ≤ left (cursor_of shared.old.input.now).tokens }
+        ensures goes_on { GoesOn shared.old shared.new }
+        ensures reads { Reads (links self.now frame.now settings (view root.now)) links_of shared.old result shared.new }
     {
         let mut settings = settings;
         let mut brackets = settings;
@@ -129,7 +122,6 @@ impl Engine {
     /// Reads the index in a bracket, up to the `]`. It is tested for the operand that the bracket stands behind, if there is
     /// one.
     #[cycle(parser)]
-    #[tactic(auto, using(rhai_reading::proofs::Steps::step_index, rhai_reading::proofs::Steps::guarded_is))]
     fn parse_index(
         &self,
         shared: &mut Shared<'_>,
@@ -137,9 +129,8 @@ impl Engine {
         settings: ParseSettings,
         indexed: Option<&Expr>,
     ) -> ParseResult<Expr>
-        ensures same_input { shared.new.input.ghost_name ≡ shared.old.input.ghost_name }
-        ensures gives { Gives view (run (Index (settings_of settings) (context_of self.now frame.now) (option_map (λ x. view x.now) indexed.entry)) (cursor_of shared.old.input.now)) result (cursor_of shared.new.input.now) }
-        ensures shorter { left (cursor_of shared.new.input.now).tokens ≤ left (cursor_of shared.old.input.now).tokens }
+        ensures goes_on { GoesOn shared.old shared.new }
+        ensures reads { Reads (index self.now frame.now settings (option_map (λ x. view x.now) indexed.entry)) view shared.old result shared.new }
     {
         let index = self.parse_expr(shared, frame, settings)?;
         test_index(self.alloc(), indexed, &index)?;
@@ -149,7 +140,6 @@ impl Engine {
 
     /// Reads the member behind a dot: a property, or a call of a method. The caller has looked at it.
     #[cycle(parser)]
-    #[tactic(auto, using(rhai_reading::proofs::Steps::step_member, rhai_reading::proofs::Steps::guarded_is, rhai_lower::proofs::Views::view_property))]
     fn parse_member(
         &self,
         shared: &mut Shared<'_>,
@@ -157,9 +147,8 @@ impl Engine {
         settings: ParseSettings,
     ) -> ParseResult<Expr>
         requires { is_end (asked (cursor_of shared.now.input.now)).lexeme ≡ false }
-        ensures same_input { shared.new.input.ghost_name ≡ shared.old.input.ghost_name }
-        ensures gives { Gives view (run (Member (settings_of settings) (context_of self.now frame.now)) (cursor_of shared.old.input.now)) result (cursor_of shared.new.input.now) }
-        ensures shorter { left (cursor_of shared.new.input.now).tokens ≤ left (cursor_of shared.old.input.now).tokens }
+        ensures goes_on { GoesOn shared.old shared.new }
+        ensures reads { Reads (member self.now frame.now settings) view shared.old result shared.new }
     {
         let (token, pos) = peek(shared.input)?;
         let pos = *pos;
@@ -173,6 +162,6 @@ impl Engine {
         if is_name {
             return Ok(Expr::Property(name, pos));
         }
-        Err(ParseError(ParseErrorType::Reserved(name), pos))
+        Err(reserved(name, pos))
     }
 }

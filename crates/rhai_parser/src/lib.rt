@@ -5,13 +5,8 @@ mod chain;
 pub mod engine;
 mod expr;
 mod frame;
-mod links;
 mod literals;
-mod names;
-mod operators;
-mod refusals;
 mod shared;
-mod tokens;
 
 pub use engine::Engine;
 pub use rhai_base::{

@@ -1,12 +1,13 @@
 //! Chains: an operand followed by brackets and dots.
 
-ghost use Rattle.std.specs.Prelude.{◌≡◌, ◌∷◌, None, Some, false, IfErr, IfOk, IsOk};
+ghost use Rattle.std.specs.Prelude.{◌≡◌, ◌∷◌, None, Some, false, IfErr, IfOk, IsOk, OnOk, option_map};
 ghost use Rattle.rhai_lower.specs.View.{called, view, views};
 ghost use Rattle.rhai_lower.specs.declared.ast.FnCallExpr.{out-FnCallExpr};
 ghost use Rattle.rhai_grammar.specs.Causes.{MemoryIsNowhere, is_for_memory, refusal_of};
-ghost use Rattle.rhai_grammar.specs.Chains.{chain_of, chained, last_fault, link_fault, link_node, nest};
+ghost use Rattle.rhai_grammar.specs.Chains.{chain_of, chained, index_refusal, last_fault, link_fault, link_node, nest};
 ghost use Rattle.rhai_trees.specs.Chains.{is_no_method, link_view, link_views, links_left, method_fault, open_links, with_next};
 
+use crate::kind::index_fault;
 use rhai_grammar::{InputError, ParseError, ParseErrorType, ParseResult};
 use rhai_lower::{BinaryExpr, Expr, FnCallExpr, LinkFlags, Position};
 use std::alloc::{AllocError, Global};
@@ -168,6 +169,28 @@ fn link_node(alloc: Global, link: Link, last: bool, before: Expr) -> Result<Expr
             Ok(Expr::Dot(sides, flags, link.pos))
         }
     }
+}
+
+/// Refuses an index that the first bracket after an operand cannot have. `indexed` is that operand; it is none after a link,
+/// where no index is tested.
+///
+/// The error is `MalformedIndexExpr` at the start of the index, or `OutOfMemory`.
+pub fn test_index(alloc: Global, indexed: Option<&Expr>, index: &Expr) -> ParseResult<()>
+    ensures passes { OnOk result (index_refusal (option_map (λ x. view x.now) indexed.entry) (view index.now) ≡ None) }
+    ensures refused { IfErr result (λ e. is_for_memory e ≡ false → index_refusal (option_map (λ x. view x.now) indexed.entry) (view index.now) ≡ Some (refusal_of e)) }
+    ensures nowhere { IfErr result MemoryIsNowhere }
+{
+    let Some(root) = indexed else {
+        return Ok(());
+    };
+    let Some(fault) = index_fault(root, index) else {
+        return Ok(());
+    };
+    let why = RcStr::from_str(alloc, fault)?;
+    Err(ParseError(
+        ParseErrorType::MalformedIndexExpr(why),
+        index.start_position(),
+    ))
 }
 
 /// Refuses links that are not allowed as methods: `eval()` and `Fn()` without arguments, and a call with `!`. Of

@@ -1,5 +1,5 @@
 -- What a token is, as the code's tests tell it.
-use Rattle.std.specs.Prelude.{◌≡◌, true, false, ⊤, codes, if◌then◌else◌}
+use Rattle.std.specs.Prelude.{◌≡◌, Bool, true, false, ⊤, Result, Ok, Err, codes, if◌then◌else◌}
 use Rattle.std.specs.Rc.{rc_str_bytes}
 use Rattle.rhai_lower.specs.Texts.{Text}
 use Rattle.rhai_lower.specs.Lexemes.{Lexeme, Integer, Character, String, Sign}
@@ -7,16 +7,18 @@ use Rattle.rhai_lower.specs.Nodes.{Node, unit, boolean, integer, character, stri
 use Rattle.rhai_lower.specs.View.{view}
 use Rattle.rhai_lower.specs.declared.position.Position.{Position}
 use Rattle.rhai_lower.specs.declared.token.Token.TheVariants.{True, False}
-use Rattle.rhai_grammar.specs.Causes.{Cause, UnexpectedEOF}
-use Rattle.rhai_grammar.specs.Delivered.{is_end}
+use Rattle.rhai_grammar.specs.Causes.{Cause, UnexpectedEOF, is_for_memory, refusal, refusal_of}
+use Rattle.rhai_grammar.specs.Cursors.{Cursor, asked, looking, taking}
+use Rattle.rhai_grammar.specs.Delivered.{is_end, is_memory}
+use Rattle.rhai_grammar.specs.declared.error.ParseError.{ParseError}
 use Rattle.rhai_grammar.specs.Beginnings as begin
-use Rattle.rhai_grammar.specs.Beginnings.{beginning, calling, following, unexpected, missing}
-use Rattle.rhai_parser.specs.declared.tokens.Beginning.{Beginning}
-use Rattle.rhai_parser.specs.declared.tokens.Beginning.TheVariants as operand
-use Rattle.rhai_parser.specs.declared.tokens.Calling.{Calling}
-use Rattle.rhai_parser.specs.declared.tokens.Calling.TheVariants as call
-use Rattle.rhai_parser.specs.declared.tokens.Following.{Following}
-use Rattle.rhai_parser.specs.declared.tokens.Following.TheVariants as behind
+use Rattle.rhai_grammar.specs.Beginnings.{beginning, calling, following, is_close, unexpected, missing}
+use Rattle.rhai_base.specs.declared.leaves.tokens.Beginning.{Beginning}
+use Rattle.rhai_base.specs.declared.leaves.tokens.Beginning.TheVariants as operand
+use Rattle.rhai_base.specs.declared.leaves.tokens.Calling.{Calling}
+use Rattle.rhai_base.specs.declared.leaves.tokens.Calling.TheVariants as call
+use Rattle.rhai_base.specs.declared.leaves.tokens.Following.{Following}
+use Rattle.rhai_base.specs.declared.leaves.tokens.Following.TheVariants as behind
 
 -- the node of a token that is a value
 abbrev pub value_of : Lexeme → Position → Node
@@ -61,8 +63,20 @@ IsListed call.Nothing = ⊥
 abbrev pub due_behind : Lexeme → Text
 due_behind l = if is_end l then codes ")" else codes ","
 
--- what a token is behind an argument
+-- what a token is after an argument
 abbrev pub FollowsAs : Lexeme → Following → Type 0
 FollowsAs l behind.Comma = (following l ≡ begin.AComma) × (is_end l ≡ false)
 FollowsAs l behind.Close = following l ≡ begin.AClose
 FollowsAs l behind.Nothing = following l ≡ begin.NoFollowing (missing (due_behind l) l)
+
+-- ---- due tokens
+
+-- `)`
+abbrev pub closes_group : Lexeme → Bool
+closes_group l = is_close (following l)
+
+-- A token is due that passes this test: it is taken, or another one is refused in its place and stays, unless memory
+-- ran out.
+abbrev pub Passes : (Lexeme → Bool) → (due : Text) → Cursor → Result Unit ParseError → Cursor → Type 0
+Passes is_due due s (Ok done) t = (is_due (asked s).lexeme ≡ true) × (is_memory (asked s).lexeme ≡ false) × (t ≡ taking s)
+Passes is_due due s (Err e) t = is_for_memory e ≡ false → (is_due (asked s).lexeme ≡ false) × (is_memory (asked s).lexeme ≡ false) × (refusal_of e ≡ refusal (missing due (asked s).lexeme) (asked s).at) × (t ≡ looking s)

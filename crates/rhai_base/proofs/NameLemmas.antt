@@ -1,10 +1,10 @@
 -- Places of names, and numbers of arguments.
-use Rattle.std.proofs.Common.{◌≡◌, ℕ, suc, zero, ◌+◌, ◌<◌, List, [], ◌∷◌, Option, None, Some, unwrap_or, length, ap, refl, sym, ◌∙◌, arith, MatchOption, option_map}
+use Rattle.std.proofs.Common.{◌≡◌, ℕ, ◌<◌, List, [], ◌∷◌, Option, None, Some, unwrap_or, length, ap, refl, sym, ◌∙◌, arith, MatchOption, option_map}
 use Rattle.std.specs.Int.NonZero.{non_zero_usize_get}
 use Rattle.std.specs.declared.num.NonZeroUsize.{NonZeroUsize}
 use Rattle.rhai_lower.specs.Texts.{Text}
 use Rattle.rhai_lower.specs.Slots.{SlotValue}
-use Rattle.rhai_lower.specs.View.{view, views}
+use Rattle.rhai_lower.specs.View.{views}
 use Rattle.rhai_lower.specs.declared.ast.Expr.{Expr}
 use Rattle.rhai_grammar.specs.Slots.{number, IsLatest}
 use Rattle.rhai_grammar.specs.Trees.{node_count}

@@ -4,20 +4,23 @@ use Rattle.std.specs.Rc.{rc_str_bytes}
 use Rattle.std.specs.declared.alloc.Global.{Global}
 use Rattle.std.specs.declared.rc.RcStr.{RcStr}
 use Rattle.rhai_lower.specs.Texts.{Text}
+use Rattle.rhai_lower.specs.Nodes.{Properties}
+use Rattle.rhai_lower.specs.declared.ast.Ident.{Ident}
+use Rattle.rhai_lower.specs.declared.position.Position.{Position}
 use Rattle.rhai_lower.specs.Names.{is_identifier}
 use Rattle.rhai_lower.specs.Lexemes.{Lexeme, Interpolated, Name, Reserved}
 use Rattle.rhai_grammar.specs.Causes as cause
-use Rattle.rhai_grammar.specs.Causes.{Cause}
-use Rattle.rhai_grammar.specs.Contexts.{Context, nothing_live}
+use Rattle.rhai_grammar.specs.Causes.{Cause, Refusal, refusal}
+use Rattle.rhai_grammar.specs.Cursors.{Cursor, asked, looking, taking}
 use Rattle.rhai_grammar.specs.Delivered.{is_end}
 use Rattle.rhai_grammar.specs.Beginnings as begin
 use Rattle.rhai_grammar.specs.Beginnings.{missing}
 use Rattle.rhai_grammar.specs.Literals as literal
-use Rattle.rhai_grammar.specs.Literals.{KeyPlace, behind_item, behind_value, item_place, no_key, too_many_items}
-use Rattle.rhai_parser.specs.declared.literals.ItemPlace.{ItemPlace}
-use Rattle.rhai_parser.specs.declared.literals.ItemPlace.TheVariants as place
-use Rattle.rhai_parser.specs.declared.tokens.Following.{Following}
-use Rattle.rhai_parser.specs.declared.tokens.Following.TheVariants as behind
+use Rattle.rhai_grammar.specs.Literals.{KeyPlace, has_key, behind_item, behind_value, item_place, no_key, too_many_items}
+use Rattle.rhai_base.specs.declared.leaves.items.ItemPlace.{ItemPlace}
+use Rattle.rhai_base.specs.declared.leaves.items.ItemPlace.TheVariants as place
+use Rattle.rhai_base.specs.declared.leaves.tokens.Following.{Following}
+use Rattle.rhai_base.specs.declared.leaves.tokens.Following.TheVariants as behind
 
 -- ---- arrays
 
@@ -35,7 +38,7 @@ PlacesItem limit count l place.Nothing = item_place limit count l ≡ literal.No
 abbrev pub due_behind_item : Lexeme → Text
 due_behind_item l = if is_end l then codes "]" else codes ","
 
--- what a token is behind an item
+-- what a token is after an item
 abbrev pub FollowsItem : Lexeme → Following → Type 0
 FollowsItem l behind.Comma = (behind_item l ≡ begin.AComma) × (is_end l ≡ false)
 FollowsItem l behind.Close = behind_item l ≡ begin.AClose
@@ -43,14 +46,22 @@ FollowsItem l behind.Nothing = behind_item l ≡ begin.NoFollowing (missing (due
 
 -- ---- object maps
 
--- Of what an object map stands in, its keys depend on the limit of properties alone.
-abbrev pub within : (limit : ℕ) → Context
-within limit = nothing_live (record { array = 0; map = limit })
-
 -- the key that stands where one may; none where the object map ends
 abbrev pub key_found : Option (RcStr Global) → KeyPlace
 key_found None = literal.FieldsEnd
 key_found (Some t) = literal.AKey (rc_str_bytes t)
+
+-- What stands where a key may, at this position, is this key, which none of the properties has; none where the object
+-- map ends.
+abbrev pub KeyIs : (before : Properties) → Position → KeyPlace → Option Ident → Type 0
+KeyIs before at place None = place ≡ literal.FieldsEnd
+KeyIs before at place (Some key) = (place ≡ literal.AKey (rc_str_bytes key.name)) × (key.pos ≡ at) × (has_key (rc_str_bytes key.name) before ≡ false)
+
+-- What stands where a key may is refused: it is none and stays, or it is the key of one of the properties and was taken.
+abbrev pub KeyRefused : (before : Properties) → Cursor → KeyPlace → Refusal → Cursor → Type 0
+KeyRefused before s literal.FieldsEnd e t = ⊥
+KeyRefused before s (literal.NoKey why) e t = (e ≡ refusal why (asked s).at) × (t ≡ looking s)
+KeyRefused before s (literal.AKey key) e t = (has_key key before ≡ true) × (e ≡ refusal (cause.DuplicatedProperty key) (asked s).at) × (t ≡ taking s)
 
 abbrev pub is_interpolated : Lexeme → Bool
 is_interpolated (Interpolated t) = true
@@ -72,7 +83,7 @@ abbrev pub due_behind_value : Lexeme → Text
 due_behind_value (Name t) = codes ","
 due_behind_value l = codes "}"
 
--- what a token is behind a value
+-- what a token is after a value
 abbrev pub FollowsValue : Lexeme → Following → Type 0
 FollowsValue l behind.Comma = (behind_value l ≡ begin.AComma) × (is_end l ≡ false)
 FollowsValue l behind.Close = behind_value l ≡ begin.AClose

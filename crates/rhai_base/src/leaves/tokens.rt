@@ -1,20 +1,20 @@
-//! What a token is where an operand is due, behind a name, and behind an argument.
+//! What a token is where an operand is due, after a name, and after an argument.
 
 ghost use Rattle.std.specs.Prelude.{◌≡◌, IfOk, IsTrue, OnOk, false};
 ghost use Rattle.rhai_lower.specs.Lexemes.{lexeme};
 ghost use Rattle.rhai_grammar.specs.Delivered.{is_end, is_memory};
 ghost use Rattle.rhai_grammar.specs.Cursors.{asked, cursor_of, looking};
 ghost use Rattle.rhai_grammar.specs.Beginnings.{beginning, calls, closes, following, is_close, is_range, is_sign, no_argument};
-ghost use Rattle.rhai_parser.specs.Tokens.{Begins, CallsAs, FollowsAs};
+ghost use Rattle.rhai_base.specs.Tokens.{Begins, CallsAs, FollowsAs};
 
-use rhai_base::cursor::peek;
+use crate::cursor::peek;
 use rhai_lower::{Expr, Position, Token, TokenStream};
 use std::alloc::AllocError;
 use std::rc::RcStr;
 
 /// What begins where an operand is due.
 #[derive(Drop)]
-pub(crate) enum Beginning {
+pub enum Beginning {
     /// A value, which the token is.
     Value(Expr),
     /// A name.
@@ -37,7 +37,7 @@ pub(crate) enum Beginning {
 
 /// What calls the name before it.
 #[derive(Clone, Copy)]
-pub(crate) enum Calling {
+pub enum Calling {
     /// `()`, as one token.
     Pair,
     /// `(`
@@ -50,7 +50,7 @@ pub(crate) enum Calling {
 
 /// What follows an argument.
 #[derive(Clone, Copy)]
-pub(crate) enum Following {
+pub enum Following {
     /// `,`
     Comma,
     /// `)`
@@ -61,7 +61,7 @@ pub(crate) enum Following {
 
 /// What a token at `pos` begins where an operand is due. The error is that there is no memory for it.
 #[tactic(auto, using(rhai_lower::proofs::Views::view_unit, rhai_lower::proofs::Views::view_boolean, rhai_lower::proofs::Views::view_integer, rhai_lower::proofs::Views::view_character, rhai_lower::proofs::Views::view_string))]
-pub(crate) fn what_begins(token: &Token, pos: Position) -> Result<Beginning, AllocError>
+pub fn what_begins(token: &Token, pos: Position) -> Result<Beginning, AllocError>
     ensures { IfOk result (Begins (lexeme token.now) pos) }
 {
     match token {
@@ -85,7 +85,7 @@ pub(crate) fn what_begins(token: &Token, pos: Position) -> Result<Beginning, All
 }
 
 /// How a token calls the name before it.
-pub(crate) fn what_calls(token: &Token) -> Calling
+pub fn what_calls(token: &Token) -> Calling
     ensures { CallsAs (lexeme token.now) result }
 {
     match token {
@@ -96,8 +96,8 @@ pub(crate) fn what_calls(token: &Token) -> Calling
     }
 }
 
-/// What a token is behind an argument.
-pub(crate) fn what_follows(token: &Token) -> Following
+/// What a token is after an argument.
+pub fn what_follows(token: &Token) -> Following
     ensures { FollowsAs (lexeme token.now) result }
 {
     match token {
@@ -108,14 +108,14 @@ pub(crate) fn what_follows(token: &Token) -> Following
 }
 
 /// Whether a token is the end mark.
-pub(crate) fn is_end(token: &Token) -> bool
+pub fn is_end(token: &Token) -> bool
     ensures { result ≡ is_end (lexeme token.now) }
 {
     matches!(token, Token::EOF)
 }
 
 /// Whether a token is a sign where an operand is due.
-pub(crate) fn is_sign(token: &Token) -> bool
+pub fn is_sign(token: &Token) -> bool
     ensures sign { result ≡ is_sign (beginning (lexeme token.now)) }
     ensures more { IsTrue result → is_end (lexeme token.now) ≡ false }
 {
@@ -126,14 +126,14 @@ pub(crate) fn is_sign(token: &Token) -> bool
 }
 
 /// Whether a token is a range operator.
-pub(crate) fn is_range(token: &Token) -> bool
+pub fn is_range(token: &Token) -> bool
     ensures { result ≡ is_range (beginning (lexeme token.now)) }
 {
     matches!(token, Token::ExclusiveRange | Token::InclusiveRange)
 }
 
 /// Whether a token stands for the right operand of the range operator before it, which is not written then.
-pub(crate) fn closes(token: &Token) -> bool
+pub fn closes(token: &Token) -> bool
     ensures { result ≡ closes (lexeme token.now) }
 {
     matches!(
@@ -148,14 +148,14 @@ pub(crate) fn closes(token: &Token) -> bool
 }
 
 /// Whether a token is `)`.
-pub(crate) fn is_close(token: &Token) -> bool
+pub fn is_close(token: &Token) -> bool
     ensures { result ≡ is_close (following (lexeme token.now)) }
 {
     matches!(token, Token::RightParen)
 }
 
 /// Whether no argument, nor the end of the arguments, may begin with a token.
-pub(crate) fn is_no_argument(token: &Token) -> bool
+pub fn is_no_argument(token: &Token) -> bool
     ensures { result ≡ no_argument (lexeme token.now) }
 {
     matches!(token, Token::LexError(_) | Token::EOF)
@@ -170,7 +170,7 @@ fn calls(token: &Token) -> bool
 
 /// Whether the next token, which stays, calls the name before it. The error comes where the tokenizer ran out of memory
 /// at that token.
-pub(crate) fn is_called(input: &mut TokenStream) -> Result<bool, AllocError>
+pub fn is_called(input: &mut TokenStream) -> Result<bool, AllocError>
     ensures value { IfOk result (λ called. called ≡ calls (asked (cursor_of input.old)).lexeme) }
     ensures after { cursor_of input.new ≡ looking (cursor_of input.old) }
     ensures readable { OnOk result (is_memory (asked (cursor_of input.old)).lexeme ≡ false) }

@@ -1,0 +1,141 @@
+//! Keys of properties.
+
+ghost use Rattle.std.specs.Prelude.{◌≡◌, ◌≤◌, IfErr, IfOk, OnOk, false, option_map};
+ghost use Rattle.rhai_lower.specs.Lexemes.{lexeme};
+ghost use Rattle.rhai_lower.specs.View.{property_views, written};
+ghost use Rattle.rhai_grammar.specs.Causes.{MemoryIsNowhere, cause_of, is_for_memory, refusal_of};
+ghost use Rattle.rhai_grammar.specs.Cursors.{asked, cursor_of, left, taking};
+ghost use Rattle.rhai_grammar.specs.Delivered.{is_memory};
+ghost use Rattle.rhai_grammar.specs.Literals.{NoKey, has_key, key_place, no_property};
+ghost use Rattle.rhai_grammar.specs.Written.{next_key};
+ghost use Rattle.rhai_base.specs.Settings.{settings_of};
+ghost use Rattle.rhai_base.specs.Literals.{KeyIs, KeyRefused, is_interpolated, is_reserved_word, key_found, refused_key};
+
+use crate::cursor::{peek, skip};
+use crate::leaves::refusals::missing_token;
+use crate::leaves::tokens::is_end;
+use crate::settings::{ParseSettingFlags, ParseSettings};
+use rhai_grammar::{InputError, ParseError, ParseErrorType, ParseResult};
+use rhai_lower::{Expr, Ident, Position, Token, TokenStream, is_valid_identifier};
+use std::alloc::{AllocError, Global};
+use std::rc::RcStr;
+
+// Whether a token is an interpolated string.
+fn is_interpolated(token: &Token) -> bool
+    ensures { result ≡ is_interpolated (lexeme token.now) }
+{
+    matches!(token, Token::InterpolatedString(_))
+}
+
+// Whether a token is a reserved word, and no symbol.
+fn is_reserved_word(token: &Token) -> bool
+    ensures { result ≡ is_reserved_word (lexeme token.now) }
+{
+    match token {
+        Token::Reserved(word) => is_valid_identifier(word),
+        _ => false,
+    }
+}
+
+// Why a token is refused where a property is due: the tokenizer's error, if it is one.
+fn no_property(token: &Token) -> Result<ParseErrorType, AllocError>
+    ensures { IfOk result (λ e. cause_of e ≡ no_property (lexeme token.now)) }
+{
+    match token {
+        Token::LexError(error) => {
+            Ok(ParseErrorType::BadInput(InputError::Lexer(error.clone()?)))
+        }
+        _ => Ok(ParseErrorType::PropertyExpected),
+    }
+}
+
+// Why a token is refused that is neither a name nor a string, and does not end the object map. In the place of the first
+// key, the end is due.
+#[tactic(auto, using(crate::proofs::LiteralLemmas::refused_by_tests))]
+fn no_key(alloc: Global, first: bool, token: &Token) -> Result<ParseErrorType, AllocError>
+    ensures { IfOk result (λ e. cause_of e ≡ refused_key first (lexeme token.now)) }
+{
+    if is_interpolated(token) {
+        return Ok(ParseErrorType::PropertyExpected);
+    }
+    if is_reserved_word(token) {
+        return Ok(ParseErrorType::Reserved(token.text(alloc)?));
+    }
+    let note = "to end this object map literal";
+    if is_end(token) {
+        return missing_token(alloc, "}", note, token);
+    }
+    if first {
+        return missing_token(alloc, "}", note, token);
+    }
+    no_property(token)
+}
+
+// The key that a token at `pos` is, or none where it ends the object map. With `quoted`, a name is no key.
+fn key_at(
+    alloc: Global,
+    token: &Token,
+    pos: Position,
+    quoted: bool,
+    first: bool,
+) -> ParseResult<Option<RcStr>>
+    ensures key { IfOk result (λ key. key_place quoted first (lexeme token.now) ≡ key_found key) }
+    ensures refused { IfErr result (λ e. is_for_memory e ≡ false → (key_place quoted first (lexeme token.now) ≡ NoKey (cause_of e.0)) × (e.1 ≡ pos)) }
+    ensures nowhere { IfErr result MemoryIsNowhere }
+{
+    match token {
+        Token::StringConstant(key) => Ok(Some(key.clone()?)),
+        Token::Identifier(key) => {
+            if quoted {
+                return Err(ParseError(ParseErrorType::PropertyExpected, pos));
+            }
+            Ok(Some(key.clone()?))
+        }
+        Token::RightBrace => Ok(None),
+        _ => Err(ParseError(no_key(alloc, first, token)?, pos)),
+    }
+}
+
+// Whether one of these properties has this key.
+fn has_key(key: &str, properties: &[(Ident, Expr)]) -> bool
+    ensures { result ≡ has_key key.now (property_views properties.now) }
+{
+    for property in properties {
+        if property.0.name.as_str() == key {
+            return true;
+        }
+    }
+    false
+}
+
+/// The key of the property after these ones, which is taken; none where the `}` is, which is taken too. A key that one of
+/// these has is `DuplicatedProperty`.
+#[tactic(auto, using(crate::proofs::LiteralLemmas::count_properties))]
+pub fn next_key(
+    alloc: Global,
+    input: &mut TokenStream,
+    settings: ParseSettings,
+    properties: &[(Ident, Expr)],
+) -> ParseResult<Option<Ident>>
+    ensures key { IfOk result (KeyIs (property_views properties.now) (asked (cursor_of input.old)).at (next_key (settings_of settings) (property_views properties.now) (asked (cursor_of input.old)).lexeme)) }
+    ensures passed { OnOk result ((is_memory (asked (cursor_of input.old)).lexeme ≡ false) × (cursor_of input.new ≡ taking (cursor_of input.old))) }
+    ensures refused { IfErr result (λ e. is_for_memory e ≡ false → (is_memory (asked (cursor_of input.old)).lexeme ≡ false) × KeyRefused (property_views properties.now) (cursor_of input.old) (next_key (settings_of settings) (property_views properties.now) (asked (cursor_of input.old)).lexeme) (refusal_of e) (cursor_of input.new)) }
+    ensures nowhere { IfErr result MemoryIsNowhere }
+    ensures shorter { left (cursor_of input.new).tokens ≤ left (cursor_of input.old).tokens }
+{
+    let (token, pos) = peek(input)?;
+    let pos = *pos;
+    let quoted = settings.has_flag(ParseSettingFlags::DISALLOW_UNQUOTED_MAP_PROPERTIES);
+    let key = match key_at(alloc, token, pos, quoted, properties.is_empty()) {
+        Ok(key) => key,
+        Err(error) => return Err(error),
+    };
+    skip(input);
+    let Some(name) = key else {
+        return Ok(None);
+    };
+    if has_key(&name, properties) {
+        return Err(ParseError(ParseErrorType::DuplicatedProperty(name), pos));
+    }
+    Ok(Some(Ident { name, pos }))
+}
