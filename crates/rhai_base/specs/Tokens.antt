@@ -11,8 +11,10 @@ use Rattle.rhai_grammar.specs.Causes.{Cause, UnexpectedEOF, is_for_memory, refus
 use Rattle.rhai_grammar.specs.Cursors.{Cursor, asked, looking, taking}
 use Rattle.rhai_grammar.specs.Delivered.{is_end, is_memory}
 use Rattle.rhai_grammar.specs.declared.error.ParseError.{ParseError}
+use Rattle.rhai_grammar.specs.DueTokens.{is_due, not_due}
+use Rattle.rhai_grammar.specs.declared.due.DueToken.{DueToken}
 use Rattle.rhai_grammar.specs.Beginnings as begin
-use Rattle.rhai_grammar.specs.Beginnings.{beginning, calling, following, is_close, unexpected, missing}
+use Rattle.rhai_grammar.specs.Beginnings.{beginning, calling, following, unexpected, missing}
 use Rattle.rhai_base.specs.declared.leaves.tokens.Beginning.{Beginning}
 use Rattle.rhai_base.specs.declared.leaves.tokens.Beginning.TheVariants as operand
 use Rattle.rhai_base.specs.declared.leaves.tokens.Calling.{Calling}
@@ -71,12 +73,9 @@ FollowsAs l behind.Nothing = following l ≡ begin.NoFollowing (missing (due_beh
 
 -- ---- due tokens
 
--- `)`
-abbrev pub closes_group : Lexeme → Bool
-closes_group l = is_close (following l)
-
--- A token is due that passes this test: it is taken, or another one is refused in its place and stays, unless memory
--- ran out.
-abbrev pub Passes : (Lexeme → Bool) → (due : Text) → Cursor → Result Unit ParseError → Cursor → Type 0
-Passes is_due due s (Ok done) t = (is_due (asked s).lexeme ≡ true) × (is_memory (asked s).lexeme ≡ false) × (t ≡ taking s)
-Passes is_due due s (Err e) t = is_for_memory e ≡ false → (is_due (asked s).lexeme ≡ false) × (is_memory (asked s).lexeme ≡ false) × (refusal_of e ≡ refusal (missing due (asked s).lexeme) (asked s).at) × (t ≡ looking s)
+-- A token is due: it is taken, or another one is refused in its place and stays, unless memory ran out.
+abbrev pub Passes : DueToken → Cursor → Result Unit ParseError → Cursor → Type 0
+Passes due s (Ok done) t = (is_due due (asked s).lexeme ≡ true) × (is_memory (asked s).lexeme ≡ false) × (t ≡ taking s)
+Passes due s (Err e) t =
+    is_for_memory e ≡ false → (is_due due (asked s).lexeme ≡ false) × (is_memory (asked s).lexeme ≡ false)
+    × (refusal_of e ≡ refusal (not_due due (asked s).lexeme) (asked s).at) × (t ≡ looking s)

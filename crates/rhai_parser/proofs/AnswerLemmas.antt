@@ -10,8 +10,7 @@ use Rattle.rhai_grammar.specs.declared.error.ParseError.{ParseError}
 use Rattle.rhai_grammar.specs.Cursors.{Cursor, asked, looking}
 use Rattle.rhai_grammar.specs.Delivered.{is_memory}
 use Rattle.rhai_grammar.specs.Strengths.{behind_of}
-use Rattle.rhai_grammar.specs.Settings.{Settings}
-use Rattle.rhai_grammar.specs.Contexts.{Context}
+use Rattle.rhai_grammar.specs.Contexts.{Context, Live}
 use Rattle.rhai_grammar.specs.Beginnings as begin
 use Rattle.rhai_grammar.specs.Beginnings.{Beginning, Calling, is_sign, is_list, missing, calls, is_this, may_be_called}
 use Rattle.rhai_grammar.specs.Settings.{in_function}
@@ -52,23 +51,23 @@ word_chosen false true true x y e f = refl
 word_chosen false true false x y e f = refl
 word_chosen false false d x y e f = refl
 
-word_answers : (c : Settings) (word : Text) (at : Position) (l : Lexeme) (p : Position) → word_at c word at l p ≡ answered (word_result c word (calls l) at)
-word_answers c word at l p = word_chosen (may_be_called word && calls l) (is_this word) (in_function c) _ _ _ _
+word_answers : (c : Context) (word : Text) (at : Position) (l : Lexeme) (p : Position) → word_at c word at l p ≡ answered (word_result c.settings word (calls l) at)
+word_answers c word at l p = word_chosen (may_be_called word && calls l) (is_this word) (in_function c.settings) _ _ _ _
 
 exec_answered : (call : Caller) (r : Result Node Refusal) (t : Cursor) → exec call (answered r) t ≡ outcome r t
 exec_answered call (Ok x) t = refl
 exec_answered call (Err e) t = refl
 
-pub word_outcome : (call : Caller) (c : Settings) (word : Text) (at : Position) (l : Lexeme) (p : Position) (t : Cursor) → exec call (word_at c word at l p) t ≡ outcome (word_result c word (calls l) at) t
-word_outcome call c word at l p t = ap (λ q. exec call q t) (word_answers c word at l p) ∙ exec_answered call (word_result c word (calls l) at) t
+pub word_outcome : (call : Caller) (c : Context) (word : Text) (at : Position) (l : Lexeme) (p : Position) (t : Cursor) → exec call (word_at c word at l p) t ≡ outcome (word_result c.settings word (calls l) at) t
+word_outcome call c word at l p t = ap (λ q. exec call q t) (word_answers c word at l p) ∙ exec_answered call (word_result c.settings word (calls l) at) t
 
 -- ---- signs
 
-pub operand_sign : (c : Settings) (w : Context) (l : Lexeme) (at : Position) (b : Beginning) → is_sign b ≡ true → operand_by c w l at b ≡ Take (raised c at (λ d. Call (Operand d w false) (sign_on l at)))
+pub operand_sign : (c : Context) (w : Live) (l : Lexeme) (at : Position) (b : Beginning) → is_sign b ≡ true → operand_by c w l at b ≡ Take (raised c at (λ d. Call (Operand d w false) (sign_on l at)))
 operand_sign c w l at begin.ASign e = refl
 operand_sign c w l at _ e = absurd cc
 
-pub operand_other : (c : Settings) (w : Context) (l : Lexeme) (at : Position) (b : Beginning) → is_sign b ≡ false → operand_by c w l at b ≡ Call (Primary c w) (λ x. Call (Postfix c w x) (λ y. Call (Links w (behind_operand c y)) (λ ls. Ret (chained y ls))))
+pub operand_other : (c : Context) (w : Live) (l : Lexeme) (at : Position) (b : Beginning) → is_sign b ≡ false → operand_by c w l at b ≡ Call (Primary c w) (λ x. Call (Postfix c w x) (λ y. Call (Links w (behind_operand c y)) (λ ls. Ret (chained y ls))))
 operand_other c w l at begin.ASign e = absurd cc
 operand_other c w l at _ e = refl
 
@@ -81,7 +80,7 @@ sign_outcome call l at n t = ap (λ q. exec call q t) (sign_chosen (sign_holds l
 
 -- ---- calls
 
-pub bang_refused : (c : Settings) (w : Context) (name : Position) (l : Lexeme) (at : Position) (k : Calling) → is_list k ≡ false → bang_at c w name l at k ≡ Fail (refusal (missing (codes "(") l) at)
+pub bang_refused : (c : Context) (w : Live) (name : Position) (l : Lexeme) (at : Position) (k : Calling) → is_list k ≡ false → bang_at c w name l at k ≡ Fail (refusal (missing (codes "(") l) at)
 bang_refused c w name l at begin.WithPair e = absurd cc
 bang_refused c w name l at begin.WithList e = absurd cc
 bang_refused c w name l at _ e = refl
@@ -96,8 +95,8 @@ found_given at None = refl
 found_given at (Some o) = refl
 
 -- the operator that the code finds
-pub next_done : {s t : Cursor} (o : Option Operator) → is_memory (asked s).lexeme ≡ false → behind_of (asked s).lexeme ≡ operator_found o → t ≡ looking s → run NextOperator s ≡ R.Done (option_map operator_pair o) t
-next_done {s} {t} o readable is look =
+pub next_done : (s t : Cursor) (o : Option Operator) → is_memory (asked s).lexeme ≡ false → behind_of (asked s).lexeme ≡ operator_found o → t ≡ looking s → run NextOperator s ≡ R.Done (option_map operator_pair o) t
+next_done s t o readable is look =
     let call = guarded NextOperator s in
     let at = (asked s).at in
     step_next_operator s
@@ -115,12 +114,12 @@ binary_chosen k true true x e f = refl
 binary_chosen k true false x e f = refl
 binary_chosen k false c x e f = refl
 
-pub binary_done : (call : Caller) (d : Settings) (w : Context) (parent : ℕ) (lhs : Node) (op : Lexeme) (at : Position) (rhs x : Node) (t : Cursor) → operator_result op at lhs rhs ≡ Ok x → exec call (binary_next d w parent lhs op at rhs) t ≡ exec call (Call (BinaryOp d w at parent x) (λ y. Ret y)) t
+pub binary_done : (call : Caller) (d : Context) (w : Live) (parent : ℕ) (lhs : Node) (op : Lexeme) (at : Position) (rhs x : Node) (t : Cursor) → operator_result op at lhs rhs ≡ Ok x → exec call (binary_next d w parent lhs op at rhs) t ≡ exec call (Call (BinaryOp d w at parent x) (λ y. Ret y)) t
 binary_done call d w parent lhs op at rhs x t e =
     let k : Node → Prog Node = λ y. Call (BinaryOp d w at parent y) (λ z. Ret z) in
     ap (λ q. exec call q t) (binary_chosen k (boolean_holds op lhs) (boolean_holds op rhs) (operator_tree op at lhs rhs) (mismatched rhs) (mismatched lhs) ∙ ap (goes_with k) e)
 
-pub binary_refused : (call : Caller) (d : Settings) (w : Context) (parent : ℕ) (lhs : Node) (op : Lexeme) (at : Position) (rhs : Node) (x : Refusal) (t : Cursor) → operator_result op at lhs rhs ≡ Err x → exec call (binary_next d w parent lhs op at rhs) t ≡ R.Refused x t
+pub binary_refused : (call : Caller) (d : Context) (w : Live) (parent : ℕ) (lhs : Node) (op : Lexeme) (at : Position) (rhs : Node) (x : Refusal) (t : Cursor) → operator_result op at lhs rhs ≡ Err x → exec call (binary_next d w parent lhs op at rhs) t ≡ R.Refused x t
 binary_refused call d w parent lhs op at rhs x t e =
     let k : Node → Prog Node = λ y. Call (BinaryOp d w at parent y) (λ z. Ret z) in
     ap (λ q. exec call q t) (binary_chosen k (boolean_holds op lhs) (boolean_holds op rhs) (operator_tree op at lhs rhs) (mismatched rhs) (mismatched lhs) ∙ ap (goes_with k) e)

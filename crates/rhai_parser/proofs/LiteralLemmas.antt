@@ -4,15 +4,15 @@ use Rattle.rhai_lower.specs.Texts.{Text}
 use Rattle.rhai_lower.specs.Nodes.{Node, Properties, with_property}
 use Rattle.rhai_lower.specs.declared.position.Position.{Position}
 use Rattle.rhai_grammar.specs.Beginnings as begin
-use Rattle.rhai_grammar.specs.Beginnings.{missing}
+use Rattle.rhai_grammar.specs.DueTokens.{is_due, not_due}
+use Rattle.rhai_grammar.specs.declared.due.DueToken.TheVariants as due
 use Rattle.rhai_grammar.specs.Causes.{Refusal, DuplicatedProperty, ExprTooDeep, refusal, out_of_memory}
-use Rattle.rhai_grammar.specs.Contexts.{Context, full}
+use Rattle.rhai_grammar.specs.Contexts.{Context, Live, full, has_room, level_up}
 use Rattle.rhai_grammar.specs.Cursors.{Cursor, asked, looking, taking, left}
 use Rattle.rhai_grammar.specs.Delivered.{is_end, is_memory}
-use Rattle.rhai_grammar.specs.Literals.{KeyPlace, FieldsEnd, AKey, NoKey, behind_value, has_key, is_colon, property_count, too_many_fields}
-use Rattle.rhai_grammar.specs.Settings.{Settings, low, up}
+use Rattle.rhai_grammar.specs.Literals.{KeyPlace, FieldsEnd, AKey, NoKey, behind_value, has_key, property_count, too_many_fields}
 use Rattle.rhai_grammar.specs.Written.{next_key}
-use Rattle.rhai_reading.specs.Reading.{Fail, Ret, Take, Peek, Call, Expression, Fields, NextKey, colon_at, field_next, field_on, key_on, room_at, value_on}
+use Rattle.rhai_reading.specs.Reading.{Fail, Ret, Take, Peek, Call, Expression, Fields, NextKey, match_token, field_next, field_on, key_on, room_at, value_on}
 use Rattle.rhai_reading.specs.Running as R
 use Rattle.rhai_reading.specs.Running.{Caller, exec, run, guarded}
 use Rattle.rhai_reading.proofs.Steps.{step_fields, step_next_key, guarded_is, and_then_done}
@@ -21,87 +21,87 @@ use Rattle.rhai_base.specs.Literals.{KeyRefused}
 -- ---- keys
 
 -- A key with its colon, and a look at the value, as the code takes them.
-pub record KeyTaken (c : Settings) (w : Context) (before : Properties) (key : Text) (at : Position) (s s1 s2 t : Cursor) : Type 0 where
+pub record KeyTaken (c : Context) (before : Properties) (key : Text) (at : Position) (s s1 s2 t : Cursor) : Type 0 where
   pub readable : is_memory (asked s).lexeme ≡ false
-  pub key : next_key c before (asked s).lexeme ≡ AKey key
+  pub place : next_key c.settings before (asked s).lexeme ≡ AKey key
   pub stands : at ≡ (asked s).at
   pub fresh : has_key key before ≡ false
   pub took : s1 ≡ taking s
   pub readable_on : is_memory (asked s1).lexeme ≡ false
-  pub colon : is_colon (asked s1).lexeme ≡ true
+  pub colon : is_due due.Colon (asked s1).lexeme ≡ true
   pub passed : s2 ≡ taking s1
   pub readable_value : is_memory (asked s2).lexeme ≡ false
-  pub room : full w.sizes.map (property_count before) ≡ false
+  pub room : full c.sizes.map (property_count before) ≡ false
   pub look : t ≡ looking s2
 
-pub key_read : {c : Settings} {w : Context} {before : Properties} {key : Text} {at : Position} {s s1 s2 t : Cursor} → KeyTaken c w before key at s s1 s2 t → run (NextKey c w before) s ≡ R.Done (Some (key, at)) t
-key_read {c} {w} {before} {key} {at} {s} {s1} {s2} {t} h =
-    let call = guarded (NextKey c w before) s in
+pub key_read : {c : Context} {before : Properties} {key : Text} {at : Position} {s s1 s2 t : Cursor} → KeyTaken c before key at s s1 s2 t → run (NextKey c before) s ≡ R.Done (Some (key, at)) t
+key_read {c} {before} {key} {at} {s} {s1} {s2} {t} h =
+    let call = guarded (NextKey c before) s in
     let p = (asked s).at in
     let u = taking s in
     let v = taking u in
     let there : s2 ≡ v = h.passed ∙ ap taking h.took in
     let readable_on : is_memory (asked u).lexeme ≡ false = ap (λ (r : Cursor). is_memory (asked r).lexeme) (sym h.took) ∙ h.readable_on in
-    let colon : is_colon (asked u).lexeme ≡ true = ap (λ (r : Cursor). is_colon (asked r).lexeme) (sym h.took) ∙ h.colon in
+    let colon : is_due due.Colon (asked u).lexeme ≡ true = ap (λ (r : Cursor). is_due due.Colon (asked r).lexeme) (sym h.took) ∙ h.colon in
     let readable_value : is_memory (asked v).lexeme ≡ false = ap (λ (r : Cursor). is_memory (asked r).lexeme) (sym there) ∙ h.readable_value in
-    step_next_key c w before s
-    ∙ ap (λ m. if m then R.Refused out_of_memory (looking s) else exec call (key_on w before p (next_key c before (asked s).lexeme)) (looking s)) h.readable
-    ∙ ap (λ k. exec call (key_on w before p k) (looking s)) h.key
-    ∙ ap (λ m. if m then R.Refused out_of_memory (looking (looking s)) else exec call (if has_key key before then Fail (refusal (DuplicatedProperty key) p) else Peek (colon_at w before key p)) u) h.readable
-    ∙ ap (λ b. exec call (if b then Fail (refusal (DuplicatedProperty key) p) else Peek (colon_at w before key p)) u) h.fresh
-    ∙ ap (λ m. if m then R.Refused out_of_memory (looking u) else exec call (colon_at w before key p (asked u).lexeme (asked u).at) (looking u)) readable_on
-    ∙ ap (λ b. exec call (if b then Take (Peek (room_at w before key p)) else Fail (refusal (missing (codes ":") (asked u).lexeme) (asked u).at)) (looking u)) colon
-    ∙ ap (λ m. if m then R.Refused out_of_memory (looking (looking u)) else exec call (Peek (room_at w before key p)) v) readable_on
-    ∙ ap (λ m. if m then R.Refused out_of_memory (looking v) else exec call (room_at w before key p (asked v).lexeme (asked v).at) (looking v)) readable_value
-    ∙ ap (λ b. exec call (if b then Fail (refusal (too_many_fields w.sizes.map) (asked v).at) else Ret (Some (key, p))) (looking v)) h.room
+    step_next_key c before s
+    ∙ ap (λ m. if m then R.Refused out_of_memory (looking s) else exec call (key_on c before p (next_key c.settings before (asked s).lexeme)) (looking s)) h.readable
+    ∙ ap (λ k. exec call (key_on c before p k) (looking s)) h.place
+    ∙ ap (λ m. if m then R.Refused out_of_memory (looking (looking s)) else exec call (if has_key key before then Fail (refusal (DuplicatedProperty key) p) else match_token due.Colon (Peek (room_at c before key p))) u) h.readable
+    ∙ ap (λ b. exec call (if b then Fail (refusal (DuplicatedProperty key) p) else match_token due.Colon (Peek (room_at c before key p))) u) h.fresh
+    ∙ ap (λ m. if m then R.Refused out_of_memory (looking u) else exec call (if is_due due.Colon (asked u).lexeme then Take (Peek (room_at c before key p)) else Fail (refusal (not_due due.Colon (asked u).lexeme) (asked u).at)) (looking u)) readable_on
+    ∙ ap (λ b. exec call (if b then Take (Peek (room_at c before key p)) else Fail (refusal (not_due due.Colon (asked u).lexeme) (asked u).at)) (looking u)) colon
+    ∙ ap (λ m. if m then R.Refused out_of_memory (looking (looking u)) else exec call (Peek (room_at c before key p)) v) readable_on
+    ∙ ap (λ m. if m then R.Refused out_of_memory (looking v) else exec call (room_at c before key p (asked v).lexeme (asked v).at) (looking v)) readable_value
+    ∙ ap (λ b. exec call (if b then Fail (refusal (too_many_fields c.sizes.map) (asked v).at) else Ret (Some (key, p))) (looking v)) h.room
     ∙ ap (λ q. R.Done (Some (key, q)) (looking v)) (sym h.stands)
     ∙ ap (R.Done (Some (key, at))) (sym (h.look ∙ ap looking there))
 
-refused_at : (call : Caller) (w : Context) (before : Properties) (s : Cursor) (place : KeyPlace) (e : Refusal) (t : Cursor) → is_memory (asked s).lexeme ≡ false → KeyRefused before s place e t → exec call (key_on w before (asked s).at place) (looking s) ≡ R.Refused e t
-refused_at call w before s FieldsEnd e t readable h = absurd h
-refused_at call w before s (NoKey why) e t readable h = ap (λ d. R.Refused d (looking s)) (sym h.0) ∙ ap (R.Refused e) (sym h.1)
-refused_at call w before s (AKey key) e t readable h =
+refused_at : (call : Caller) (c : Context) (before : Properties) (s : Cursor) (place : KeyPlace) (e : Refusal) (t : Cursor) → is_memory (asked s).lexeme ≡ false → KeyRefused before s place e t → exec call (key_on c before (asked s).at place) (looking s) ≡ R.Refused e t
+refused_at call c before s FieldsEnd e t readable h = absurd h
+refused_at call c before s (NoKey why) e t readable h = ap (λ d. R.Refused d (looking s)) (sym h.0) ∙ ap (R.Refused e) (sym h.1)
+refused_at call c before s (AKey key) e t readable h =
     let p = (asked s).at in
     let duplicated = refusal (DuplicatedProperty key) p in
-    ap (λ m. if m then R.Refused out_of_memory (looking (looking s)) else exec call (if has_key key before then Fail duplicated else Peek (colon_at w before key p)) (taking s)) readable
-    ∙ ap (λ b. exec call (if b then Fail duplicated else Peek (colon_at w before key p)) (taking s)) h.0
+    ap (λ m. if m then R.Refused out_of_memory (looking (looking s)) else exec call (if has_key key before then Fail duplicated else match_token due.Colon (Peek (room_at c before key p))) (taking s)) readable
+    ∙ ap (λ b. exec call (if b then Fail duplicated else match_token due.Colon (Peek (room_at c before key p))) (taking s)) h.0
     ∙ ap (λ d. R.Refused d (taking s)) (sym h.1)
     ∙ ap (R.Refused e) (sym h.2)
 
 -- the properties of an object map, where a key is refused
-pub key_refused : {c : Settings} {w : Context} {opening : Position} {before : Properties} {s t : Cursor} {e : Refusal} → is_memory (asked s).lexeme ≡ false → KeyRefused before s (next_key c before (asked s).lexeme) e t → run (Fields c w opening before) s ≡ R.Refused e t
-key_refused {c} {w} {opening} {before} {s} {t} {e} readable h =
+pub key_refused : (c : Context) (w : Live) (opening : Position) (before : Properties) (s t : Cursor) (e : Refusal) → is_memory (asked s).lexeme ≡ false → KeyRefused before s (next_key c.settings before (asked s).lexeme) e t → run (Fields c w opening before) s ≡ R.Refused e t
+key_refused c w opening before s t e readable h =
     let g = Fields c w opening before in
-    let k = NextKey c w before in
+    let k = NextKey c before in
     let refused : run k s ≡ R.Refused e t =
-    step_next_key c w before s
-    ∙ ap (λ m. if m then R.Refused out_of_memory (looking s) else exec (guarded k s) (key_on w before (asked s).at (next_key c before (asked s).lexeme)) (looking s)) readable
-    ∙ refused_at (guarded k s) w before s (next_key c before (asked s).lexeme) e t readable h in
+    step_next_key c before s
+    ∙ ap (λ m. if m then R.Refused out_of_memory (looking s) else exec (guarded k s) (key_on c before (asked s).at (next_key c.settings before (asked s).lexeme)) (looking s)) readable
+    ∙ refused_at (guarded k s) c before s (next_key c.settings before (asked s).lexeme) e t readable h in
     step_fields c w opening before s
     ∙ ap (λ o. R.and_then o (λ v u. exec (guarded g s) (field_on c w opening before v) u)) (guarded_is g s k s (omega arith) ∙ refused)
 
 -- ---- one more property with the comma after it
 
 -- From s a property with this key and the value x stands, and a comma after it, after which the code is at t.
-pub record TakesField (c : Settings) (w : Context) (before : Properties) (key : Text × Position) (x : Node) (s s1 s2 : Cursor) : Type 0 where
-  pub key_read : run (NextKey c w before) s ≡ R.Done (Some key) s1
-  pub room : low c ≡ true
-  pub value : run (Expression (up c) w) s1 ≡ R.Done x s2
+pub record TakesField (c : Context) (w : Live) (before : Properties) (key : Text × Position) (x : Node) (s s1 s2 : Cursor) : Type 0 where
+  pub key_read : run (NextKey c before) s ≡ R.Done (Some key) s1
+  pub room : has_room c ≡ true
+  pub value : run (Expression (level_up c) w) s1 ≡ R.Done x s2
   pub readable : is_memory (asked s2).lexeme ≡ false
   pub comma : behind_value (asked s2).lexeme ≡ begin.AComma
   pub after_key : left s1.tokens ≤ left s.tokens
   pub after_comma : left (taking s2).tokens + 1 ≤ left s.tokens
 
-pub field_taken : (c : Settings) (w : Context) (opening : Position) (before : Properties) (key : Text × Position) (x : Node) (s s1 s2 : Cursor) → TakesField c w before key x s s1 s2 → run (Fields c w opening before) s ≡ run (Fields c w opening (with_property before key.0 key.1 x)) (taking s2)
+pub field_taken : (c : Context) (w : Live) (opening : Position) (before : Properties) (key : Text × Position) (x : Node) (s s1 s2 : Cursor) → TakesField c w before key x s s1 s2 → run (Fields c w opening before) s ≡ run (Fields c w opening (with_property before key.0 key.1 x)) (taking s2)
 field_taken c w opening before key x s s1 s2 h =
     let g = Fields c w opening before in
     let call = guarded g s in
     let ps = with_property before key.0 key.1 x in
-    let inner = guarded_is g s (Expression (up c) w) s1 (omega (arith, h.after_key)) ∙ h.value in
+    let inner = guarded_is g s (Expression (level_up c) w) s1 (omega (arith, h.after_key)) ∙ h.value in
     let on = Fields c w opening ps in
     step_fields c w opening before s
-    ∙ ap (λ o. R.and_then o (λ v u. exec call (field_on c w opening before v) u)) h.key_read
-    ∙ ap (λ b. exec call (if b then Call (Expression (up c) w) (value_on c w opening before key) else Fail (refusal ExprTooDeep opening)) s1) h.room
+    ∙ ap (λ o. R.and_then o (λ v u. exec call (field_on c w opening before v) u)) (guarded_is g s (NextKey c before) s (omega arith) ∙ h.key_read)
+    ∙ ap (λ b. exec call (if b then Call (Expression (level_up c) w) (value_on c w opening before key) else Fail (refusal ExprTooDeep opening)) s1) h.room
     ∙ ap (λ o. R.and_then o (λ v u. exec call (value_on c w opening before key v) u)) inner
     ∙ ap (λ m. if m then R.Refused out_of_memory (looking s2) else exec call (field_next c w opening ps (asked s2).at (behind_value (asked s2).lexeme)) (looking s2)) h.readable
     ∙ ap (λ b. exec call (field_next c w opening ps (asked s2).at b) (looking s2)) h.comma
@@ -116,11 +116,11 @@ left_after s s1 s2 s3 t a b look d =
     omega (arith, same, a, b, d)
 
 -- The same as the code takes it: each step leaves a cursor, and none leaves more tokens than there were.
-pub record FieldTaken (c d : Settings) (w : Context) (before after : Properties) (key : Text × Position) (x : Node) (s s1 s2 s3 t : Cursor) : Type 0 where
-  pub key_read : run (NextKey c w before) s ≡ R.Done (Some key) s1
+pub record FieldTaken (c d : Context) (w : Live) (before after : Properties) (key : Text × Position) (x : Node) (s s1 s2 s3 t : Cursor) : Type 0 where
+  pub key_read : run (NextKey c before) s ≡ R.Done (Some key) s1
   pub key_short : left s1.tokens ≤ left s.tokens
-  pub room : low c ≡ true
-  pub deeper : d ≡ up c
+  pub room : has_room c ≡ true
+  pub deeper : d ≡ level_up c
   pub value : run (Expression d w) s1 ≡ R.Done x s2
   pub value_short : left s2.tokens ≤ left s1.tokens
   pub readable : is_memory (asked s2).lexeme ≡ false
@@ -131,18 +131,18 @@ pub record FieldTaken (c d : Settings) (w : Context) (before after : Properties)
   pub shrinks : is_end (asked s3).lexeme ≡ false → left t.tokens + 1 ≤ left s3.tokens
   pub joined : after ≡ with_property before key.0 key.1 x
 
-pub field_short : {c d : Settings} {w : Context} {before after : Properties} {key : Text × Position} {x : Node} {s s1 s2 s3 t : Cursor} → FieldTaken c d w before after key x s s1 s2 s3 t → left t.tokens + 1 ≤ left s.tokens
+pub field_short : {c d : Context} {w : Live} {before after : Properties} {key : Text × Position} {x : Node} {s s1 s2 s3 t : Cursor} → FieldTaken c d w before after key x s s1 s2 s3 t → left t.tokens + 1 ≤ left s.tokens
 field_short {c} {d} {w} {before} {after} {key} {x} {s} {s1} {s2} {s3} {t} h =
     let more : is_end (asked s3).lexeme ≡ false = ap (λ (u : Cursor). is_end (asked u).lexeme) h.look ∙ h.more in
     left_after s s1 s2 s3 t h.key_short h.value_short h.look (h.shrinks more)
 
-pub field_goes_on : {c d : Settings} {w : Context} (opening : Position) {before after : Properties} {key : Text × Position} {x : Node} {s s1 s2 s3 t : Cursor} → FieldTaken c d w before after key x s s1 s2 s3 t → run (Fields c w opening before) s ≡ run (Fields c w opening after) t
+pub field_goes_on : {c d : Context} {w : Live} (opening : Position) {before after : Properties} {key : Text × Position} {x : Node} {s s1 s2 s3 t : Cursor} → FieldTaken c d w before after key x s s1 s2 s3 t → run (Fields c w opening before) s ≡ run (Fields c w opening after) t
 field_goes_on {c} {d} {w} opening {before} {after} {key} {x} {s} {s1} {s2} {s3} {t} h =
     let there : t ≡ taking s2 = h.took ∙ ap taking h.look in
     let taken : TakesField c w before key x s s1 s2 = record {
       key_read = h.key_read;
       room = h.room;
-      value = ap (λ (e : Settings). run (Expression e w) s1) (sym h.deeper) ∙ h.value;
+      value = ap (λ (e : Context). run (Expression e w) s1) (sym h.deeper) ∙ h.value;
       readable = h.readable;
       comma = h.comma;
       after_key = h.key_short;

@@ -9,8 +9,7 @@ use Rattle.rhai_grammar.specs.Causes.{Refusal, refusal, ExprTooDeep, out_of_memo
 use Rattle.rhai_grammar.specs.Cursors.{Cursor, asked, looking, taking, left}
 use Rattle.rhai_grammar.specs.Delivered.{Item, item, is_end, is_memory}
 use Rattle.rhai_grammar.specs.Operators.{operator_result}
-use Rattle.rhai_grammar.specs.Settings.{Settings, low, up}
-use Rattle.rhai_grammar.specs.Contexts.{Context}
+use Rattle.rhai_grammar.specs.Contexts.{Context, Live, has_room, level_up}
 use Rattle.rhai_reading.specs.Reading.{Ret, Fail, Peek, Call, NextOperator, Primary, Operand, BinaryOp, primary_at, word_at, goes_on, raised, binary_at, binary_on, binary_right, binary_next}
 use Rattle.rhai_reading.specs.Running as R
 use Rattle.rhai_reading.specs.Running.{exec, run, guarded}
@@ -19,26 +18,26 @@ use Rattle.rhai_parser.proofs.AnswerLemmas.{binary_done, binary_refused, outcome
 use Rattle.rhai_base.specs.Words.{word_result}
 
 -- From s an operator of strength n stands behind the left operand, and its right side y ends at t.
-pub record TakesOne (c : Settings) (w : Context) (parent n : ℕ) (right : Bool) (next : Option (ℕ × Bool)) (x y : Node) (s s1 s2 s3 t : Cursor) : Type 0 where
+pub record TakesOne (c : Context) (w : Live) (parent n : ℕ) (right : Bool) (next : Option (ℕ × Bool)) (x y : Node) (s s1 s2 s3 t : Cursor) : Type 0 where
   pub operator : run NextOperator s ≡ R.Done (Some (n, right)) s1
   pub goes : goes_on parent n right ≡ true
   pub readable : is_memory (asked s1).lexeme ≡ false
   pub operand : run (Operand c w (is_range (beginning (asked s1).lexeme))) (taking s1) ≡ R.Done x s2
   pub known : run NextOperator s2 ≡ R.Done next s3
-  pub room : low c ≡ true
-  pub side : run (BinaryOp (up c) w (position_of x) n x) s3 ≡ R.Done y t
+  pub room : has_room c ≡ true
+  pub side : run (BinaryOp (level_up c) w (position_of x) n x) s3 ≡ R.Done y t
   pub after_operator : left (taking s1).tokens + 1 ≤ left s.tokens
   pub after_operand : left s2.tokens + 1 ≤ left s.tokens
   pub after_look : left s3.tokens + 1 ≤ left s.tokens
   pub after_side : left t.tokens + 1 ≤ left s.tokens
 
-one_operator : (c : Settings) (w : Context) (at : Position) (parent : ℕ) (lhs : Node) (n : ℕ) (right : Bool) (next : Option (ℕ × Bool)) (x y : Node) (s s1 s2 s3 t : Cursor) → TakesOne c w parent n right next x y s s1 s2 s3 t → run (BinaryOp c w at parent lhs) s ≡ exec (guarded (BinaryOp c w at parent lhs) s) (binary_next (up c) w parent lhs (asked s1).lexeme (asked s1).at y) t
+one_operator : (c : Context) (w : Live) (at : Position) (parent : ℕ) (lhs : Node) (n : ℕ) (right : Bool) (next : Option (ℕ × Bool)) (x y : Node) (s s1 s2 s3 t : Cursor) → TakesOne c w parent n right next x y s s1 s2 s3 t → run (BinaryOp c w at parent lhs) s ≡ exec (guarded (BinaryOp c w at parent lhs) s) (binary_next (level_up c) w parent lhs (asked s1).lexeme (asked s1).at y) t
 one_operator c w at parent lhs n right next x y s s1 s2 s3 t h =
     let g = BinaryOp c w at parent lhs in
     let first = guarded_is g s NextOperator s (omega arith) ∙ h.operator in
     let second = guarded_is g s (Operand c w (is_range (beginning (asked s1).lexeme))) (taking s1) (omega (arith, h.after_operator)) ∙ h.operand in
     let third = guarded_is g s NextOperator s2 (omega (arith, h.after_operand)) ∙ h.known in
-    let fourth = guarded_is g s (BinaryOp (up c) w (position_of x) n x) s3 (omega (arith, h.after_look)) ∙ h.side in
+    let fourth = guarded_is g s (BinaryOp (level_up c) w (position_of x) n x) s3 (omega (arith, h.after_look)) ∙ h.side in
     let call = guarded g s in
     let op = (asked s1).lexeme in
     let pos = (asked s1).at in
@@ -48,24 +47,24 @@ one_operator c w at parent lhs n right next x y s s1 s2 s3 t h =
     ∙ ap (λ m. if m then R.Refused out_of_memory (looking s1) else (if m then R.Refused out_of_memory (looking s1) else exec call (Call (Operand c w (is_range (beginning op))) (binary_right c w at parent lhs n op pos)) (taking s1))) h.readable
     ∙ ap (λ o. R.and_then o (λ v u. exec call (binary_right c w at parent lhs n op pos v) u)) second
     ∙ ap (λ o. R.and_then o (λ v u. exec call (raised c at (λ d. Call (BinaryOp d w (position_of x) n x) (binary_next d w parent lhs op pos))) u)) third
-    ∙ ap (λ b. exec call (if b then Call (BinaryOp (up c) w (position_of x) n x) (binary_next (up c) w parent lhs op pos) else Fail (refusal ExprTooDeep at)) s3) h.room
-    ∙ ap (λ o. R.and_then o (λ v u. exec call (binary_next (up c) w parent lhs op pos v) u)) fourth
+    ∙ ap (λ b. exec call (if b then Call (BinaryOp (level_up c) w (position_of x) n x) (binary_next (level_up c) w parent lhs op pos) else Fail (refusal ExprTooDeep at)) s3) h.room
+    ∙ ap (λ o. R.and_then o (λ v u. exec call (binary_next (level_up c) w parent lhs op pos v) u)) fourth
 
-pub operator_taken : (c : Settings) (w : Context) (at : Position) (parent : ℕ) (lhs : Node) (n : ℕ) (right : Bool) (next : Option (ℕ × Bool)) (x y z : Node) (s s1 s2 s3 t : Cursor) → TakesOne c w parent n right next x y s s1 s2 s3 t → operator_result (asked s1).lexeme (asked s1).at lhs y ≡ Ok z → run (BinaryOp c w at parent lhs) s ≡ run (BinaryOp (up c) w (asked s1).at parent z) t
+pub operator_taken : (c : Context) (w : Live) (at : Position) (parent : ℕ) (lhs : Node) (n : ℕ) (right : Bool) (next : Option (ℕ × Bool)) (x y z : Node) (s s1 s2 s3 t : Cursor) → TakesOne c w parent n right next x y s s1 s2 s3 t → operator_result (asked s1).lexeme (asked s1).at lhs y ≡ Ok z → run (BinaryOp c w at parent lhs) s ≡ run (BinaryOp (level_up c) w (asked s1).at parent z) t
 operator_taken c w at parent lhs n right next x y z s s1 s2 s3 t h e =
     let g = BinaryOp c w at parent lhs in
     one_operator c w at parent lhs n right next x y s s1 s2 s3 t h
-    ∙ binary_done (guarded g s) (up c) w parent lhs (asked s1).lexeme (asked s1).at y z t e
-    ∙ and_then_done (guarded g s (BinaryOp (up c) w (asked s1).at parent z) t)
-    ∙ guarded_is g s (BinaryOp (up c) w (asked s1).at parent z) t (omega (arith, h.after_side))
+    ∙ binary_done (guarded g s) (level_up c) w parent lhs (asked s1).lexeme (asked s1).at y z t e
+    ∙ and_then_done (guarded g s (BinaryOp (level_up c) w (asked s1).at parent z) t)
+    ∙ guarded_is g s (BinaryOp (level_up c) w (asked s1).at parent z) t (omega (arith, h.after_side))
 
-pub operator_refused : (c : Settings) (w : Context) (at : Position) (parent : ℕ) (lhs : Node) (n : ℕ) (right : Bool) (next : Option (ℕ × Bool)) (x y : Node) (r : Refusal) (s s1 s2 s3 t : Cursor) → TakesOne c w parent n right next x y s s1 s2 s3 t → operator_result (asked s1).lexeme (asked s1).at lhs y ≡ Err r → run (BinaryOp c w at parent lhs) s ≡ R.Refused r t
+pub operator_refused : (c : Context) (w : Live) (at : Position) (parent : ℕ) (lhs : Node) (n : ℕ) (right : Bool) (next : Option (ℕ × Bool)) (x y : Node) (r : Refusal) (s s1 s2 s3 t : Cursor) → TakesOne c w parent n right next x y s s1 s2 s3 t → operator_result (asked s1).lexeme (asked s1).at lhs y ≡ Err r → run (BinaryOp c w at parent lhs) s ≡ R.Refused r t
 operator_refused c w at parent lhs n right next x y r s s1 s2 s3 t h e =
     one_operator c w at parent lhs n right next x y s s1 s2 s3 t h
-    ∙ binary_refused (guarded (BinaryOp c w at parent lhs) s) (up c) w parent lhs (asked s1).lexeme (asked s1).at y r t e
+    ∙ binary_refused (guarded (BinaryOp c w at parent lhs) s) (level_up c) w parent lhs (asked s1).lexeme (asked s1).at y r t e
 
 -- An operator of a run with its right side, as the code takes it: each step leaves a cursor, and none leaves more tokens than were there.
-pub record Walked (c : Settings) (w : Context) (parent n : ℕ) (right ranged : Bool) (next : Option (ℕ × Bool)) (op : Lexeme) (pos : Position) (x y : Node) (d : Settings) (s s1 s2 s3 s4 t : Cursor) : Type 0 where
+pub record Walked (c : Context) (w : Live) (parent n : ℕ) (right ranged : Bool) (next : Option (ℕ × Bool)) (op : Lexeme) (pos : Position) (x y : Node) (d : Context) (s s1 s2 s3 s4 t : Cursor) : Type 0 where
   pub operator : run NextOperator s ≡ R.Done (Some (n, right)) s1
   pub goes : goes_on parent n right ≡ true
   pub readable : is_memory (asked s).lexeme ≡ false
@@ -79,8 +78,8 @@ pub record Walked (c : Settings) (w : Context) (parent n : ℕ) (right ranged : 
   pub operand_short : left s3.tokens ≤ left s2.tokens
   pub known : run NextOperator s3 ≡ R.Done next s4
   pub look_on : s4 ≡ looking s3
-  pub room : low c ≡ true
-  pub deeper : d ≡ up c
+  pub room : has_room c ≡ true
+  pub deeper : d ≡ level_up c
   pub side : run (BinaryOp d w (position_of x) n x) s4 ≡ R.Done y t
   pub side_short : left t.tokens ≤ left s4.tokens
 
@@ -91,7 +90,7 @@ left_behind s s1 s2 s3 s4 t look a b on e =
     let second : left s4.tokens ≡ left s3.tokens = ap (λ (u : Cursor). left u.tokens) on in
     (omega (arith, first, a), omega (arith, first, a, b), omega (arith, first, a, b, second), omega (arith, first, a, b, second, e))
 
-module _ {c : Settings} {w : Context} {parent n : ℕ} {right ranged : Bool} {next : Option (ℕ × Bool)} {op : Lexeme} {pos : Position} {x y : Node} {d : Settings} {s s1 s2 s3 s4 t : Cursor} (h : Walked c w parent n right ranged next op pos x y d s s1 s2 s3 s4 t) where
+module _ {c : Context} {w : Live} {parent n : ℕ} {right ranged : Bool} {next : Option (ℕ × Bool)} {op : Lexeme} {pos : Position} {x y : Node} {d : Context} {s s1 s2 s3 s4 t : Cursor} (h : Walked c w parent n right ranged next op pos x y d s s1 s2 s3 s4 t) where
   walked_takes : TakesOne c w parent n right next x y s s1 s3 s4 t
   walked_takes =
       let more : is_end (asked s1).lexeme ≡ false = ap (λ (u : Cursor). is_end (asked u).lexeme) h.look ∙ h.more in
@@ -111,10 +110,10 @@ module _ {c : Settings} {w : Context} {parent n : ℕ} {right ranged : Bool} {ne
         after_side = behind.3;
       }
 
-  pub walked_on : (at : Position) (lhs : Node) {p : Position} {z : Node} {e : Settings} → operator_result op pos lhs y ≡ Ok z → e ≡ d → p ≡ pos → run (BinaryOp c w at parent lhs) s ≡ run (BinaryOp e w p parent z) t
+  pub walked_on : (at : Position) (lhs : Node) {p : Position} {z : Node} {e : Context} → operator_result op pos lhs y ≡ Ok z → e ≡ d → p ≡ pos → run (BinaryOp c w at parent lhs) s ≡ run (BinaryOp e w p parent z) t
   walked_on at lhs {p} {z} {e} joined same there =
       operator_taken c w at parent lhs n right next x y z s s1 s3 s4 t walked_takes (ap (λ (i : Item). operator_result i.lexeme i.at lhs y) (sym h.token) ∙ joined)
-      ∙ ap (λ (v : Settings). run (BinaryOp v w (asked s1).at parent z) t) (sym (same ∙ h.deeper))
+      ∙ ap (λ (v : Context). run (BinaryOp v w (asked s1).at parent z) t) (sym (same ∙ h.deeper))
       ∙ ap (λ q. run (BinaryOp e w q parent z) t) (ap (λ (i : Item). i.at) (sym h.token) ∙ sym there)
 
   pub walked_refused : (at : Position) (lhs : Node) {r : Refusal} → operator_result op pos lhs y ≡ Err r → run (BinaryOp c w at parent lhs) s ≡ R.Refused r t
@@ -137,7 +136,7 @@ pub record Worded (word : Text) (at : Position) (called : Bool) (s s1 s2 t : Cur
   pub readable_on : is_memory (asked s2).lexeme ≡ false
   pub look_on : t ≡ looking s2
 
-worded : (c : Settings) (w : Context) (word : Text) (at : Position) (called : Bool) (s s1 s2 t : Cursor) → Worded word at called s s1 s2 t → run (Primary c w) s ≡ exec (guarded (Primary c w) s) (word_at c word at (asked s2).lexeme (asked s2).at) t
+worded : (c : Context) (w : Live) (word : Text) (at : Position) (called : Bool) (s s1 s2 t : Cursor) → Worded word at called s s1 s2 t → run (Primary c w) s ≡ exec (guarded (Primary c w) s) (word_at c word at (asked s2).lexeme (asked s2).at) t
 worded c w word at called s s1 s2 t h =
     let call = guarded (Primary c w) s in
     let u = taking s in
@@ -152,8 +151,8 @@ worded c w word at called s s1 s2 t h =
     ∙ ap (λ (v : Cursor). exec call (word_at c word at (asked v).lexeme (asked v).at) (looking v)) (sym here)
     ∙ ap (exec call (word_at c word at (asked s2).lexeme (asked s2).at)) (sym h.look_on)
 
-pub worded_outcome : (c : Settings) (w : Context) {word : Text} {at : Position} {called : Bool} {s s1 s2 t : Cursor} → Worded word at called s s1 s2 t → run (Primary c w) s ≡ outcome (word_result c word called at) t
+pub worded_outcome : (c : Context) (w : Live) {word : Text} {at : Position} {called : Bool} {s s1 s2 t : Cursor} → Worded word at called s s1 s2 t → run (Primary c w) s ≡ outcome (word_result c.settings word called at) t
 worded_outcome c w {word} {at} {called} {s} {s1} {s2} {t} h =
     worded c w word at called s s1 s2 t h
     ∙ word_outcome (guarded (Primary c w) s) c word at (asked s2).lexeme (asked s2).at t
-    ∙ ap (λ b. outcome (word_result c word b at) t) (sym h.is_called)
+    ∙ ap (λ b. outcome (word_result c.settings word b at) t) (sym h.is_called)

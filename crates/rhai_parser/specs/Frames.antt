@@ -1,8 +1,33 @@
--- What belongs to one function body, as definitions see it.
-use Rattle.rhai_grammar.specs.Contexts.{Context}
+-- What a form stands in where the code reads it.
+use Rattle.std.specs.Prelude.{List, Vec}
+use Rattle.std.specs.declared.alloc.Global.{Global}
+use Rattle.std.specs.declared.rc.RcStr.{RcStr}
+use Rattle.rhai_lower.specs.Slots.{SlotValue}
+use Rattle.rhai_lower.specs.declared.position.Position.{Position}
+use Rattle.rhai_grammar.specs.Contexts.{Context, Live}
+use Rattle.rhai_base.specs.Settings.{settings_of}
+use Rattle.rhai_base.specs.declared.settings.ParseSettings.{ParseSettings}
+use Rattle.rhai_base.specs.declared.state.ParseState.{ParseState}
 use Rattle.rhai_parser.specs.Engines.{EngineValue, sizes_of}
 use Rattle.rhai_parser.specs.declared.frame.Frame.{Frame}
 
--- what a form there stands in, where an engine reads it
-abbrev pub context_of : EngineValue → Frame → Context
-context_of e f = record { sizes = sizes_of e; slots = f.stack }
+-- what goes down into it, where an engine reads it under these settings
+abbrev pub context_of : EngineValue → ParseSettings → Context
+context_of engine settings = record { settings = settings_of settings; sizes = sizes_of engine }
+
+-- what was defined before it
+abbrev pub live_of : Frame → Live
+live_of frame = record { slots = frame.stack }
+
+-- ---- at an entry, in the state that it is given
+
+abbrev pub StateValue : Type 0
+StateValue = ParseState (List SlotValue) (Vec (RcStr Global × Position) Global) (Vec (RcStr Global) Global)
+
+-- what goes down into the whole form, under the settings that the caller chose
+abbrev pub starts_in : EngineValue → StateValue → ParseSettings → Context
+starts_in engine state settings = context_of engine settings
+
+-- what is live before it
+abbrev pub live_in : StateValue → Live
+live_in state = record { slots = state.stack }

@@ -15,11 +15,10 @@ use Rattle.rhai_reading.specs.Reading.{Goal, Val}
 use Rattle.rhai_reading.specs.Running.{Gives, run}
 use Rattle.rhai_trees.specs.Chains.{link_views}
 use Rattle.rhai_trees.specs.declared.chain.Link.{Link}
-use Rattle.rhai_base.specs.Settings.{settings_of}
 use Rattle.rhai_base.specs.declared.leaves.names.Call.{Call}
 use Rattle.rhai_base.specs.declared.settings.ParseSettings.{ParseSettings}
 use Rattle.rhai_parser.specs.Engines.{EngineValue}
-use Rattle.rhai_parser.specs.Frames.{context_of}
+use Rattle.rhai_parser.specs.Frames.{context_of, live_of}
 use Rattle.rhai_parser.specs.declared.frame.Frame.{Frame}
 use Rattle.rhai_parser.specs.declared.shared.Shared.{Shared}
 
@@ -27,57 +26,57 @@ use Rattle.rhai_parser.specs.declared.shared.Shared.{Shared}
 
 -- an expression up to the end mark
 abbrev pub whole : EngineValue → Frame → ParseSettings → Goal
-whole engine frame settings = reading.Whole (settings_of settings) (context_of engine frame)
+whole engine frame settings = reading.Whole (context_of engine settings) (live_of frame)
 
 abbrev pub expression : EngineValue → Frame → ParseSettings → Goal
-expression engine frame settings = reading.Expression (settings_of settings) (context_of engine frame)
+expression engine frame settings = reading.Expression (context_of engine settings) (live_of frame)
 
 -- an operand with its signs and its call; whether it stands directly behind a range operator
 abbrev pub operand : EngineValue → Frame → ParseSettings → (ranged : Bool) → Goal
-operand engine frame settings ranged = reading.Operand (settings_of settings) (context_of engine frame) ranged
+operand engine frame settings ranged = reading.Operand (context_of engine settings) (live_of frame) ranged
 
 abbrev pub primary : EngineValue → Frame → ParseSettings → Goal
-primary engine frame settings = reading.Primary (settings_of settings) (context_of engine frame)
+primary engine frame settings = reading.Primary (context_of engine settings) (live_of frame)
 
 -- what calls an operand, if it is a variable
 abbrev pub postfix : EngineValue → Frame → ParseSettings → (operand : Node) → Goal
-postfix engine frame settings operand = reading.Postfix (settings_of settings) (context_of engine frame) operand
+postfix engine frame settings operand = reading.Postfix (context_of engine settings) (live_of frame) operand
 
 -- what calls a name
 abbrev pub called : EngineValue → Frame → ParseSettings → Goal
-called engine frame settings = reading.Called (settings_of settings) (context_of engine frame) settings.pos
+called engine frame settings = reading.Called (context_of engine settings) (live_of frame) settings.pos
 
 -- the arguments behind a `(`
 abbrev pub arguments : EngineValue → Frame → ParseSettings → Goal
-arguments engine frame settings = reading.Arguments (settings_of settings) (context_of engine frame) settings.pos
+arguments engine frame settings = reading.Arguments (context_of engine settings) (live_of frame) settings.pos
 
 -- an argument, and those that follow, behind these
 abbrev pub items : EngineValue → Frame → ParseSettings → (before : Nodes) → Goal
-items engine frame settings before = reading.Items (settings_of settings) (context_of engine frame) before
+items engine frame settings before = reading.Items (context_of engine settings) (live_of frame) before
 
 -- the items of an array, behind these
 abbrev pub elements : EngineValue → Frame → ParseSettings → (before : Nodes) → Goal
-elements engine frame settings before = reading.Elements (settings_of settings) (context_of engine frame) settings.pos before
+elements engine frame settings before = reading.Elements (context_of engine settings) (live_of frame) settings.pos before
 
 -- the properties of an object map, behind these
 abbrev pub fields : EngineValue → Frame → ParseSettings → (before : Properties) → Goal
-fields engine frame settings before = reading.Fields (settings_of settings) (context_of engine frame) settings.pos before
+fields engine frame settings before = reading.Fields (context_of engine settings) (live_of frame) settings.pos before
 
 -- the links behind an operand
 abbrev pub links : EngineValue → Frame → ParseSettings → (root : Node) → Goal
-links engine frame settings root = reading.Links (context_of engine frame) (behind_operand (settings_of settings) root)
+links engine frame settings root = reading.Links (live_of frame) (behind_operand (context_of engine settings) root)
 
 -- the index in a bracket; whose index it is, if that is tested
 abbrev pub index : EngineValue → Frame → ParseSettings → (indexed : Option Node) → Goal
-index engine frame settings indexed = reading.Index (settings_of settings) (context_of engine frame) indexed
+index engine frame settings indexed = reading.Index (context_of engine settings) (live_of frame) indexed
 
 -- the member behind a dot
 abbrev pub member : EngineValue → Frame → ParseSettings → Goal
-member engine frame settings = reading.Member (settings_of settings) (context_of engine frame)
+member engine frame settings = reading.Member (context_of engine settings) (live_of frame)
 
 -- the operators behind a left operand that go on with a run of this strength
 abbrev pub binary_op : EngineValue → Frame → ParseSettings → (at : Position) (parent : ℕ) (lhs : Node) → Goal
-binary_op engine frame settings at parent lhs = reading.BinaryOp (settings_of settings) (context_of engine frame) at parent lhs
+binary_op engine frame settings at parent lhs = reading.BinaryOp (context_of engine settings) (live_of frame) at parent lhs
 
 -- ---- what comes of it
 

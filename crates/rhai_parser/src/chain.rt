@@ -11,12 +11,12 @@ use crate::frame::Frame;
 use crate::shared::Shared;
 use rhai_base::ParseSettings;
 use rhai_base::cursor::{peek, skip};
-use rhai_base::leaves::due::{arguments_due, end_index};
+use rhai_base::leaves::due::{arguments_due, match_token};
 use rhai_base::leaves::links::{Linking, is_name, member_due, what_links};
 use rhai_base::leaves::names::{Call, make_method};
 use rhai_base::leaves::refusals::reserved;
 use rhai_base::leaves::tokens::{Calling, is_called, what_calls};
-use rhai_grammar::ParseResult;
+use rhai_grammar::{DueToken, ParseResult};
 use rhai_lower::Expr;
 use rhai_trees::{Link, LinkKind, test_index, test_links};
 
@@ -134,7 +134,8 @@ impl Engine {
     {
         let index = self.parse_expr(shared, frame, settings)?;
         test_index(self.alloc(), indexed, &index)?;
-        end_index(self.alloc(), shared.input)?;
+        let note = "to close the index";
+        match_token(self.alloc(), shared.input, DueToken::RightBracket, note)?;
         Ok(index)
     }
 

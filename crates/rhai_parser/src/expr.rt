@@ -9,7 +9,7 @@ use crate::frame::Frame;
 use crate::shared::Shared;
 use rhai_base::ParseSettings;
 use rhai_base::cursor::{peek, skip, take};
-use rhai_base::leaves::due::end_group;
+use rhai_base::leaves::due::match_token;
 use rhai_base::leaves::names::{as_variable, make_call, name_node, word_node};
 use rhai_base::leaves::operators::next_operator;
 use rhai_base::leaves::refusals::{missing, no_operand, not_following, unexpected};
@@ -17,7 +17,7 @@ use rhai_base::leaves::tokens::{
     Beginning, Following, closes, is_called, is_close, is_end, is_no_argument, is_range, is_sign,
     what_begins, what_follows,
 };
-use rhai_grammar::ParseResult;
+use rhai_grammar::{DueToken, ParseResult};
 use rhai_lower::Expr;
 use rhai_trees::{make_binary, make_chain, make_unary};
 
@@ -55,7 +55,8 @@ impl Engine {
                 skip(shared.input);
                 let deeper = settings.at(pos).level_up()?;
                 let inside = self.parse_expr(shared, frame, deeper)?;
-                end_group(self.alloc(), shared.input)?;
+                let note = "to close the parentheses";
+                match_token(self.alloc(), shared.input, DueToken::RightParen, note)?;
                 Ok(inside)
             }
             Beginning::Array => {

@@ -8,14 +8,14 @@ use crate::frame::Frame;
 use crate::shared::Shared;
 use rhai_base::ParseSettings;
 use rhai_base::cursor::{peek, skip};
-use rhai_base::leaves::due::pass_colon;
+use rhai_base::leaves::due::match_token;
 use rhai_base::leaves::items::{
     ItemPlace, item_place, room_for_value, what_follows_item, what_follows_value,
 };
 use rhai_base::leaves::keys::next_key;
 use rhai_base::leaves::refusals::{no_item, not_following_item, not_following_value};
 use rhai_base::leaves::tokens::Following;
-use rhai_grammar::ParseResult;
+use rhai_grammar::{DueToken, ParseResult};
 use rhai_lower::{Expr, Ident};
 
 #[tactic(auto, using(crate::proofs::Readers::literals))]
@@ -81,7 +81,8 @@ impl Engine {
             let Some(key) = next else {
                 return Ok(properties);
             };
-            pass_colon(self.alloc(), shared.input)?;
+            let note = "to follow the key of a property in this object map literal";
+            match_token(self.alloc(), shared.input, DueToken::Colon, note)?;
             room_for_value(self.alloc(), shared.input, limit, properties.len())?;
             let deeper = settings.level_up()?;
             let value = self.parse_expr(shared, frame, deeper)?;

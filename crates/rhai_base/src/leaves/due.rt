@@ -1,34 +1,63 @@
-//! Tokens that are due: the `)` of a group, the `(` after the `!` of a call, the `:` after a key, and the `]` of an index.
+//! Tokens that are due, and the arguments that are due after the `!` of a call.
 
 ghost use Rattle.std.specs.Prelude.{◌≡◌, ◌≤◌, IfErr, IfOk, OnOk, codes, false};
 ghost use Rattle.rhai_lower.specs.Lexemes.{lexeme};
-ghost use Rattle.rhai_grammar.specs.Beginnings.{calling, closes_index, is_list, missing};
+ghost use Rattle.rhai_grammar.specs.Beginnings.{calling, is_list, missing};
 ghost use Rattle.rhai_grammar.specs.Causes.{MemoryIsNowhere, is_for_memory, refusal, refusal_of};
 ghost use Rattle.rhai_grammar.specs.Cursors.{asked, cursor_of, left, looking};
 ghost use Rattle.rhai_grammar.specs.Delivered.{is_memory};
-ghost use Rattle.rhai_grammar.specs.Literals.{is_colon};
-ghost use Rattle.rhai_base.specs.Tokens.{CallsAs, IsListed, Passes, closes_group};
+ghost use Rattle.rhai_grammar.specs.DueTokens.{is_due, text_of_due};
+ghost use Rattle.rhai_base.specs.Tokens.{CallsAs, IsListed, Passes};
 
 use crate::cursor::{peek, skip};
 use crate::leaves::refusals::missing;
-use crate::leaves::tokens::{Calling, is_close, what_calls};
-use rhai_grammar::ParseResult;
+use crate::leaves::tokens::{Calling, what_calls};
+use rhai_grammar::{DueToken, ParseResult};
 use rhai_lower::{Token, TokenStream};
 use std::alloc::Global;
 
-/// Passes the `)` after an expression in parentheses.
-pub fn end_group(alloc: Global, input: &mut TokenStream) -> ParseResult<()>
-    ensures passes { Passes closes_group (codes ")") (cursor_of input.old) result (cursor_of input.new) }
+// How a due token is written.
+fn text_of_due(due: DueToken) -> &'static str
+    ensures { result.now ≡ text_of_due due }
+{
+    match due {
+        DueToken::RightParen => ")",
+        DueToken::RightBracket => "]",
+        DueToken::Colon => ":",
+    }
+}
+
+// Whether a token is the one that is due.
+fn is_due(due: DueToken, token: &Token) -> bool
+    ensures { result ≡ is_due due (lexeme token.now) }
+{
+    match due {
+        DueToken::RightParen => matches!(token, Token::RightParen),
+        DueToken::RightBracket => matches!(token, Token::RightBracket),
+        DueToken::Colon => matches!(token, Token::Colon),
+    }
+}
+
+/// Takes the token that is due. `note` tells people what it is for.
+///
+/// If another token is there, the error is `MissingToken` at that token, or the error of the tokenizer that it is; if
+/// memory runs out, `OutOfMemory`.
+pub fn match_token(
+    alloc: Global,
+    input: &mut TokenStream,
+    due: DueToken,
+    note: &str,
+) -> ParseResult<()>
+    ensures passes { Passes due (cursor_of input.old) result (cursor_of input.new) }
     ensures nowhere { IfErr result MemoryIsNowhere }
     ensures shorter { left (cursor_of input.new).tokens ≤ left (cursor_of input.old).tokens }
 {
     let (token, pos) = peek(input)?;
-    if is_close(token) {
+    if is_due(due, token) {
         skip(input);
         return Ok(());
     }
-    let note = "to close the parentheses";
-    Err(missing(alloc, ")", note, token, *pos))
+    Err(missing(alloc, text_of_due(due), note, token, *pos))
 }
 
 /// Looks at the arguments that are due after the `!` of a call; their token stays.
@@ -47,48 +76,4 @@ pub fn arguments_due(alloc: Global, input: &mut TokenStream) -> ParseResult<Call
             Err(missing(alloc, "(", "to begin the arguments of a call", token, *pos))
         }
     }
-}
-
-// Whether a token is `:`.
-fn is_colon(token: &Token) -> bool
-    ensures { result ≡ is_colon (lexeme token.now) }
-{
-    matches!(token, Token::Colon)
-}
-
-/// Passes the `:` after a key.
-pub fn pass_colon(alloc: Global, input: &mut TokenStream) -> ParseResult<()>
-    ensures passes { Passes is_colon (codes ":") (cursor_of input.old) result (cursor_of input.new) }
-    ensures nowhere { IfErr result MemoryIsNowhere }
-    ensures shorter { left (cursor_of input.new).tokens ≤ left (cursor_of input.old).tokens }
-{
-    let (token, pos) = peek(input)?;
-    if is_colon(token) {
-        skip(input);
-        return Ok(());
-    }
-    let note = "to follow the key of a property in this object map literal";
-    Err(missing(alloc, ":", note, token, *pos))
-}
-
-// Whether a token is `]`.
-fn closes_index(token: &Token) -> bool
-    ensures { result ≡ closes_index (lexeme token.now) }
-{
-    matches!(token, Token::RightBracket)
-}
-
-/// Passes the `]` after an index.
-pub fn end_index(alloc: Global, input: &mut TokenStream) -> ParseResult<()>
-    ensures passes { Passes closes_index (codes "]") (cursor_of input.old) result (cursor_of input.new) }
-    ensures nowhere { IfErr result MemoryIsNowhere }
-    ensures shorter { left (cursor_of input.new).tokens ≤ left (cursor_of input.old).tokens }
-{
-    let (token, pos) = peek(input)?;
-    if closes_index(token) {
-        skip(input);
-        return Ok(());
-    }
-    let note = "to close the index";
-    Err(missing(alloc, "]", note, token, *pos))
 }

@@ -9,8 +9,7 @@ use Rattle.rhai_grammar.specs.Written.{LinkSpot}
 use Rattle.rhai_grammar.specs.Signs.{sign_result}
 use Rattle.rhai_reading.specs.Running.{run}
 use Rattle.rhai_trees.specs.Chains.{link_views}
-use Rattle.rhai_base.specs.Settings.{settings_of}
-use Rattle.rhai_parser.specs.Frames.{context_of}
+use Rattle.rhai_parser.specs.Frames.{context_of, live_of}
 use Rattle.rhai_parser.specs.Readers.{operand, state_of}
 use Rattle.rhai_base.proofs.LiteralLemmas.{count_properties}
 use Rattle.rhai_parser.proofs.AnswerLemmas.{answer_given, outcome}
@@ -22,10 +21,10 @@ use Rattle.rhai_parser.proofs.engine.Engine.+parser.Goals as goal
 use Rattle.rhai_parser.proofs.engine.Engine.+parser.Goals.{parse_binary_op-After-make_binary}
 
 -- an operator of a run with its right side
-walked : (t : _) (c : parse_binary_op-After-make_binary t) → Walked (settings_of c.loop-lhs.settings) (context_of c.args.self.now c.args.frame.now) c.args.parent c.in-Some.operator.strength c.in-Some.operator.right c.is_range.result (option_map operator_pair c.in_ok-next_operator.field-0) (lexeme c.take-op_token.result.0) c.take-op_token.result.1 (view c.in_ok-rhs.rhs) (view c.in_ok-rhs-2.rhs) (settings_of c.in_ok-deeper.deeper)
+walked : (t : _) (c : parse_binary_op-After-make_binary t) → Walked (context_of c.args.self.now c.loop-lhs.settings) (live_of c.args.frame.now) c.args.parent c.in-Some.operator.strength c.in-Some.operator.right c.is_range.result (option_map operator_pair c.in_ok-next_operator.field-0) (lexeme c.take-op_token.result.0) c.take-op_token.result.1 (view c.in_ok-rhs.rhs) (view c.in_ok-rhs-2.rhs) (context_of c.args.self.now c.in_ok-deeper.deeper)
     (state_of c.loop-lhs.shared) (cursor_of c.next_operator.new.input) (cursor_of c.take-op_token.new.input) (state_of c.parse_unary.new.shared) (cursor_of c.next_operator-in-loop-lhs.new.input) (state_of c.parse_binary_op.new.shared)
 walked t c = record {
-  operator = next_done (Some c.in-Some.operator) (search rules) (search rules) (search rules);
+  operator = next_done _ _ (Some c.in-Some.operator) (search rules) (search rules) (search rules);
   goes = search rules;
   readable = search rules;
   more = search rules;
@@ -36,7 +35,7 @@ walked t c = record {
   is_ranged = search rules;
   operand = search rules;
   operand_short = search rules;
-  known = next_done c.in_ok-next_operator.field-0 (search rules) (search rules) (search rules);
+  known = next_done _ _ c.in_ok-next_operator.field-0 (search rules) (search rules) (search rules);
   look_on = search rules;
   room = search rules;
   deeper = search rules;
@@ -83,16 +82,16 @@ parse_unary-returns-in_err-links-clause-reads t c = let p = err_from_is_err_and 
 
 pub parse_map_literal-returns-in-Err-clause-reads : goal.parse_map_literal-returns-in-Err-clause-reads
 parse_map_literal-returns-in-Err-clause-reads t c = (
-  λ told. (let r = c.in-Err.ensures.refused told in c.loop-properties.invariant.same ∙ key_refused r.0 r.1),
+  λ told. (let r = c.in-Err.ensures.refused told in c.loop-next.invariant.same ∙ key_refused _ _ _ _ _ _ _ r.0 r.1),
   c.in-Err.ensures.nowhere,
 )
 
-pub parse_map_literal-loop-properties-preserved : goal.parse_map_literal-loop-properties-preserved
-parse_map_literal-loop-properties-preserved t c =
-    let key : KeyTaken (settings_of c.args.settings) (context_of c.args.self.now c.args.frame.now) (property_views c.loop-properties.properties.items) (rc_str_bytes c.in-Some.key.name) c.in-Some.key.pos
-    (state_of c.loop-properties.shared) (cursor_of c.next_key.new.input) (cursor_of c.pass_colon.new.input) (cursor_of c.room_for_value.new.input) = record {
+pub parse_map_literal-loop-next-preserved : goal.parse_map_literal-loop-next-preserved
+parse_map_literal-loop-next-preserved t c =
+    let key : KeyTaken (context_of c.args.self.now c.args.settings) (property_views c.loop-next.properties.items) (rc_str_bytes c.in-Some.key.name) c.in-Some.key.pos
+    (state_of c.loop-next.shared) (cursor_of c.next_key.new.input) (cursor_of c.match_token.new.input) (cursor_of c.room_for_value.new.input) = record {
       readable = search rules;
-      key = search rules;
+      place = search rules;
       stands = search rules;
       fresh = search rules;
       took = search rules;
@@ -103,8 +102,8 @@ parse_map_literal-loop-properties-preserved t c =
       room = search (rules, count_properties);
       look = search rules;
     } in
-    let taken : FieldTaken (settings_of c.args.settings) (settings_of c.in_ok-deeper.deeper) (context_of c.args.self.now c.args.frame.now) (property_views c.loop-properties.properties.items) (property_views c.push.new.self.items) (rc_str_bytes c.in-Some.key.name, c.in-Some.key.pos) (view c.in_ok-value.value)
-    (state_of c.loop-properties.shared) (cursor_of c.room_for_value.new.input) (state_of c.parse_expr.new.shared) (cursor_of c.peek.follows.lender-at-none) (cursor_of c.skip.new.input) = record {
+    let taken : FieldTaken (context_of c.args.self.now c.args.settings) (context_of c.args.self.now c.in_ok-deeper.deeper) (live_of c.args.frame.now) (property_views c.loop-next.properties.items) (property_views c.push.new.self.items) (rc_str_bytes c.in-Some.key.name, c.in-Some.key.pos) (view c.in_ok-value.value)
+    (state_of c.loop-next.shared) (cursor_of c.room_for_value.new.input) (state_of c.parse_expr.new.shared) (cursor_of c.peek.follows.lender-at-none) (cursor_of c.skip.new.input) = record {
       key_read = key_read key;
       key_short = search rules;
       room = search rules;
@@ -120,15 +119,15 @@ parse_map_literal-loop-properties-preserved t c =
       joined = search (rules, property_views_push);
     } in
     record {
-      same = c.loop-properties.invariant.same ∙ field_goes_on _ taken;
-      goes_on = record { same = search rules; shorter = let less = field_short taken in omega (arith, less, c.loop-properties.invariant.goes_on.shorter) };
+      same = c.loop-next.invariant.same ∙ field_goes_on _ taken;
+      goes_on = record { same = search rules; shorter = let less = field_short taken in omega (arith, less, c.loop-next.invariant.goes_on.shorter) };
     }
 
 pub parse_links-loop-links-preserved : goal.parse_links-loop-links-preserved
 parse_links-loop-links-preserved t c =
-    let spot : LinkSpot = record { settings = settings_of c.loop-links.settings; brackets = settings_of c.loop-links.brackets; indexed = option_map (λ x. view x.now) c.loop-links.indexed; before = link_views c.loop-links.links.items } in
-    let next : LinkSpot = record { settings = settings_of c.in_ok-settings-in-Dot.settings; brackets = settings_of c.in_ok-settings-in-Dot.settings; indexed = None; before = link_views c.push-in-Dot.new.self.items } in
-    let taken : DotTaken (settings_of c.in_ok-settings-in-Dot.settings) (context_of c.args.self.now c.args.frame.now) spot next (lexeme c.in_ok-token.field-0.now.0) c.in_ok-token.field-0.now.1 (view c.in_ok-item-in-Dot.item)
+    let spot : LinkSpot = record { settings = context_of c.args.self.now c.loop-links.settings; brackets = context_of c.args.self.now c.loop-links.brackets; indexed = option_map (λ x. view x.now) c.loop-links.indexed; before = link_views c.loop-links.links.items } in
+    let next : LinkSpot = record { settings = context_of c.args.self.now c.in_ok-settings-in-Dot.settings; brackets = context_of c.args.self.now c.in_ok-settings-in-Dot.settings; indexed = None; before = link_views c.push-in-Dot.new.self.items } in
+    let taken : DotTaken (context_of c.args.self.now c.in_ok-settings-in-Dot.settings) (live_of c.args.frame.now) spot next (lexeme c.in_ok-token.field-0.now.0) c.in_ok-token.field-0.now.1 (view c.in_ok-item-in-Dot.item)
     (state_of c.loop-links.shared) (cursor_of c.peek.follows.lender-at-none) (cursor_of c.skip-in-Dot.new.input) (cursor_of c.member_due.new.input) (state_of c.parse_member.new.shared) = record {
       token = search rules;
       readable = search rules;

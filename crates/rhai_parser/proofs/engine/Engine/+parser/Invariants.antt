@@ -2,10 +2,9 @@ use Rattle.std.proofs.Common.{◌≡◌, option_map}
 use Rattle.rhai_lower.specs.Nodes.{no_nodes, no_properties, position_of}
 use Rattle.rhai_lower.specs.View.{view}
 use Rattle.rhai_grammar.specs.Cursors.{left}
-use Rattle.rhai_base.specs.Settings.{settings_of}
 use Rattle.rhai_reading.specs.Reading.{Links}
 use Rattle.rhai_reading.specs.Running.{need, run}
-use Rattle.rhai_parser.specs.Frames.{context_of}
+use Rattle.rhai_parser.specs.Frames.{context_of, live_of}
 use Rattle.rhai_parser.specs.Readers.{GoesOn, arguments, binary_op, called, elements, expression, fields, index, items, links, links_of, member, operand, postfix, primary, properties_of, state_of, views_of}
 use Rattle.rhai_parser.proofs.engine.Engine.+parser.Given as goal
 
@@ -66,18 +65,18 @@ invariant-parse_array_literal-loop-items l = record {
 abbrev pub decreases-parse_array_literal-loop-items : goal.decreases-parse_array_literal-loop-items
 decreases-parse_array_literal-loop-items l = left (state_of l.shared).tokens
 
-abbrev pub invariant-parse_map_literal-loop-properties : goal.invariant-parse_map_literal-loop-properties
-invariant-parse_map_literal-loop-properties l = record {
+abbrev pub invariant-parse_map_literal-loop-next : goal.invariant-parse_map_literal-loop-next
+invariant-parse_map_literal-loop-next l = record {
   same : run (fields l.fn.self l.fn.frame l.fn.settings no_properties) (state_of l.fn.shared) ≡ run (fields l.self l.frame l.settings (properties_of l.properties)) (state_of l.shared);
   goes_on : GoesOn l.fn.shared l.shared;
 }
 
-abbrev pub decreases-parse_map_literal-loop-properties : goal.decreases-parse_map_literal-loop-properties
-decreases-parse_map_literal-loop-properties l = left (state_of l.shared).tokens
+abbrev pub decreases-parse_map_literal-loop-next : goal.decreases-parse_map_literal-loop-next
+decreases-parse_map_literal-loop-next l = left (state_of l.shared).tokens
 
 abbrev pub invariant-parse_links-loop-links : goal.invariant-parse_links-loop-links
 invariant-parse_links-loop-links l = record {
-  same : run (links l.fn.self l.fn.frame l.fn.settings (view l.fn.root)) (state_of l.fn.shared) ≡ run (Links (context_of l.self l.frame) (record { settings = settings_of l.settings; brackets = settings_of l.brackets; indexed = option_map (λ x. view x.now) l.indexed; before = links_of l.links })) (state_of l.shared);
+  same : run (links l.fn.self l.fn.frame l.fn.settings (view l.fn.root)) (state_of l.fn.shared) ≡ run (Links (live_of l.frame) (record { settings = context_of l.self l.settings; brackets = context_of l.self l.brackets; indexed = option_map (λ x. view x.now) l.indexed; before = links_of l.links })) (state_of l.shared);
   goes_on : GoesOn l.fn.shared l.shared;
 }
 
