@@ -1,15 +1,15 @@
 -- What the reading program does where the code asks a function outside of the readers.
-use Rattle.std.proofs.Common.{Option, Some, None, option_map, ◌≡◌, ℕ, Bool, true, false, ◌&&◌, Result, Ok, Err, IfErr, refl, sym, ap, ◌∙◌, codes, if◌then◌else◌}
+use Rattle.std.proofs.Common.{Option, Some, None, option_map, ◌≡◌, ℕ, Bool, true, false, ◌&&◌, Result, Ok, Err, IfErr, IfOk, OnOk, refl, sym, ap, ◌∙◌, codes, if◌then◌else◌}
 use Rattle.rhai_lower.specs.Texts.{Text}
-use Rattle.rhai_lower.specs.Lexemes.{Lexeme}
+use Rattle.rhai_lower.specs.Lexemes.{Lexeme, text_of}
 use Rattle.rhai_lower.specs.Nodes.{Node}
 use Rattle.rhai_lower.specs.declared.position.Position.{Position}
 use Rattle.rhai_grammar.specs.Answers.{Answers}
-use Rattle.rhai_grammar.specs.Causes.{MemoryIsNowhere, Refusal, out_of_memory, refusal}
+use Rattle.rhai_grammar.specs.Causes.{MemoryIsNowhere, Refusal, UnknownOperator, is_for_memory, out_of_memory, refusal, refusal_of}
 use Rattle.rhai_grammar.specs.declared.error.ParseError.{ParseError}
 use Rattle.rhai_grammar.specs.Cursors.{Cursor, asked, looking}
 use Rattle.rhai_grammar.specs.Delivered.{is_memory}
-use Rattle.rhai_grammar.specs.Strengths.{behind_of}
+use Rattle.rhai_grammar.specs.Strengths.{Unknown, behind_of}
 use Rattle.rhai_grammar.specs.Contexts.{Context, Live}
 use Rattle.rhai_grammar.specs.Beginnings as begin
 use Rattle.rhai_grammar.specs.Beginnings.{Beginning, Calling, is_sign, is_list, missing, calls, is_this, may_be_called}
@@ -23,6 +23,7 @@ use Rattle.rhai_reading.specs.Running as R
 use Rattle.rhai_reading.specs.Running.{Caller, Gives, exec, guarded, run}
 use Rattle.rhai_reading.proofs.Steps.{step_next_operator}
 use Rattle.rhai_base.specs.Operators.{operator_found}
+use Rattle.rhai_parser.specs.Asks.{operator_pair}
 use Rattle.rhai_base.specs.declared.leaves.operators.Operator.{Operator}
 use Rattle.rhai_base.specs.Words.{word_result}
 
@@ -87,15 +88,12 @@ bang_refused c w name l at _ e = refl
 
 -- ---- operators
 
-abbrev pub operator_pair : Operator → ℕ × Bool
-operator_pair o = (o.strength, o.right)
-
-pub found_given : (at : Position) (o : Option Operator) → next_operator_at at (operator_found o) ≡ Ret (option_map operator_pair o)
+found_given : (at : Position) (o : Option Operator) → next_operator_at at (operator_found o) ≡ Ret (option_map operator_pair o)
 found_given at None = refl
 found_given at (Some o) = refl
 
 -- the operator that the code finds
-pub next_done : (s t : Cursor) (o : Option Operator) → is_memory (asked s).lexeme ≡ false → behind_of (asked s).lexeme ≡ operator_found o → t ≡ looking s → run NextOperator s ≡ R.Done (option_map operator_pair o) t
+next_done : (s t : Cursor) (o : Option Operator) → is_memory (asked s).lexeme ≡ false → behind_of (asked s).lexeme ≡ operator_found o → t ≡ looking s → run NextOperator s ≡ R.Done (option_map operator_pair o) t
 next_done s t o readable is look =
     let call = guarded NextOperator s in
     let at = (asked s).at in
@@ -104,6 +102,22 @@ next_done s t o readable is look =
     ∙ ap (λ b. exec call (next_operator_at at b) (looking s)) is
     ∙ ap (λ p. exec call p (looking s)) (found_given at o)
     ∙ ap (R.Done (option_map operator_pair o)) (sym look)
+
+-- what the code answers where it looks for an operator, as the reading program gives it
+pub next_given : (s t : Cursor) (r : Result (Option Operator) ParseError) → IfOk r (λ o. behind_of (asked s).lexeme ≡ operator_found o) → IfErr r (λ e. is_for_memory e ≡ false → (behind_of (asked s).lexeme ≡ Unknown (text_of (asked s).lexeme)) × (is_memory (asked s).lexeme ≡ false) × (refusal_of e ≡ refusal (UnknownOperator (text_of (asked s).lexeme)) (asked s).at)) → IfErr r MemoryIsNowhere → t ≡ looking s → OnOk r (is_memory (asked s).lexeme ≡ false) → Gives (option_map operator_pair) (run NextOperator s) r t
+next_given s t (Ok o) found refused nowhere look readable = next_done s t o readable found look
+next_given s t (Err e) found refused nowhere look readable = (
+  λ told. (
+      let call = guarded NextOperator s in
+      let at = (asked s).at in
+      let h = refused told in
+      step_next_operator s
+      ∙ ap (λ m. if m then R.Refused out_of_memory (looking s) else exec call (next_operator_at at (behind_of (asked s).lexeme)) (looking s)) h.1
+      ∙ ap (λ b. exec call (next_operator_at at b) (looking s)) h.0
+      ∙ ap (λ d. R.Refused d (looking s)) (sym h.2)
+      ∙ ap (R.Refused (refusal_of e)) (sym look)),
+  nowhere,
+)
 
 abbrev goes_with : (Node → Prog Node) → Result Node Refusal → Prog Node
 goes_with k (Ok x) = k x

@@ -1,9 +1,9 @@
 -- Links after an operand: one at a time, and a dot with its member as the code takes them.
-use Rattle.std.proofs.Common.{◌≡◌, ◌+◌, ◌≤◌, Bool, true, false, Option, None, List, [], ◌∷◌, ◌++◌, refl, sym, ap, ◌∙◌, subst, arith, if◌then◌else◌}
+use Rattle.std.proofs.Common.{◌≡◌, ◌+◌, ◌≤◌, true, false, None, List, [], ◌∷◌, ◌++◌, refl, sym, ap, ◌∙◌, subst, arith, if◌then◌else◌}
 use Rattle.rhai_lower.specs.Lexemes.{Lexeme}
 use Rattle.rhai_lower.specs.Nodes.{Node}
 use Rattle.rhai_lower.specs.declared.position.Position.{Position}
-use Rattle.rhai_grammar.specs.Beginnings.{ADot, AMember, Linking, MemberPlace, linking, member_place}
+use Rattle.rhai_grammar.specs.Beginnings.{ADot, AMember, linking, member_place}
 use Rattle.rhai_grammar.specs.Causes.{refusal, ExprTooDeep, out_of_memory}
 use Rattle.rhai_grammar.specs.Contexts.{Context, Live, has_room, level_up}
 use Rattle.rhai_grammar.specs.Cursors.{Cursor, asked, looking, taking, left}

@@ -1,18 +1,19 @@
--- The key of a property, and one more property with the comma after it.
-use Rattle.std.proofs.Common.{◌≡◌, ◌+◌, ◌≤◌, codes, Bool, true, false, Option, Some, None, refl, sym, ap, ◌∙◌, subst, arith, if◌then◌else◌}
+-- What the key of a property depends on, and one more property with the comma after it.
+use Rattle.std.proofs.Common.{◌≡◌, ◌+◌, ◌≤◌, Bool, true, false, Some, refl, sym, ap, ◌∙◌, subst, arith, if◌then◌else◌}
 use Rattle.rhai_lower.specs.Texts.{Text}
+use Rattle.rhai_lower.specs.Lexemes.{Lexeme}
 use Rattle.rhai_lower.specs.Nodes.{Node, Properties, with_property}
 use Rattle.rhai_lower.specs.declared.position.Position.{Position}
 use Rattle.rhai_grammar.specs.Beginnings as begin
-use Rattle.rhai_grammar.specs.DueTokens.{is_due, not_due}
-use Rattle.rhai_grammar.specs.declared.due.DueToken.TheVariants as due
+use Rattle.rhai_grammar.specs.Beginnings.{Following}
 use Rattle.rhai_grammar.specs.Causes.{Refusal, DuplicatedProperty, ExprTooDeep, refusal, out_of_memory}
-use Rattle.rhai_grammar.specs.Contexts.{Context, Live, full, has_room, level_up}
+use Rattle.rhai_grammar.specs.Contexts.{Context, Live, has_room, level_up}
 use Rattle.rhai_grammar.specs.Cursors.{Cursor, asked, looking, taking, left}
 use Rattle.rhai_grammar.specs.Delivered.{is_end, is_memory}
-use Rattle.rhai_grammar.specs.Literals.{KeyPlace, FieldsEnd, AKey, NoKey, behind_value, has_key, property_count, too_many_fields}
+use Rattle.rhai_grammar.specs.declared.due.DueToken.TheVariants as due
+use Rattle.rhai_grammar.specs.Literals.{KeyPlace, FieldsEnd, AKey, NoKey, behind_value, has_key}
 use Rattle.rhai_grammar.specs.Written.{next_key}
-use Rattle.rhai_reading.specs.Reading.{Fail, Ret, Take, Peek, Call, Expression, Fields, NextKey, match_token, field_next, field_on, key_on, room_at, value_on}
+use Rattle.rhai_reading.specs.Reading.{Ret, Fail, Peek, Call, Expression, Fields, NextKey, match_token, field_next, field_on, key_on, room_at, value_on}
 use Rattle.rhai_reading.specs.Running as R
 use Rattle.rhai_reading.specs.Running.{Caller, exec, run, guarded}
 use Rattle.rhai_reading.proofs.Steps.{step_fields, step_next_key, guarded_is, and_then_done}
@@ -20,42 +21,13 @@ use Rattle.rhai_base.specs.Literals.{KeyRefused}
 
 -- ---- keys
 
--- A key with its colon, and a look at the value, as the code takes them.
-pub record KeyTaken (c : Context) (before : Properties) (key : Text) (at : Position) (s s1 s2 t : Cursor) : Type 0 where
-  pub readable : is_memory (asked s).lexeme ≡ false
-  pub place : next_key c.settings before (asked s).lexeme ≡ AKey key
-  pub stands : at ≡ (asked s).at
-  pub fresh : has_key key before ≡ false
-  pub took : s1 ≡ taking s
-  pub readable_on : is_memory (asked s1).lexeme ≡ false
-  pub colon : is_due due.Colon (asked s1).lexeme ≡ true
-  pub passed : s2 ≡ taking s1
-  pub readable_value : is_memory (asked s2).lexeme ≡ false
-  pub room : full c.sizes.map (property_count before) ≡ false
-  pub look : t ≡ looking s2
-
-pub key_read : {c : Context} {before : Properties} {key : Text} {at : Position} {s s1 s2 t : Cursor} → KeyTaken c before key at s s1 s2 t → run (NextKey c before) s ≡ R.Done (Some (key, at)) t
-key_read {c} {before} {key} {at} {s} {s1} {s2} {t} h =
-    let call = guarded (NextKey c before) s in
-    let p = (asked s).at in
-    let u = taking s in
-    let v = taking u in
-    let there : s2 ≡ v = h.passed ∙ ap taking h.took in
-    let readable_on : is_memory (asked u).lexeme ≡ false = ap (λ (r : Cursor). is_memory (asked r).lexeme) (sym h.took) ∙ h.readable_on in
-    let colon : is_due due.Colon (asked u).lexeme ≡ true = ap (λ (r : Cursor). is_due due.Colon (asked r).lexeme) (sym h.took) ∙ h.colon in
-    let readable_value : is_memory (asked v).lexeme ≡ false = ap (λ (r : Cursor). is_memory (asked r).lexeme) (sym there) ∙ h.readable_value in
-    step_next_key c before s
-    ∙ ap (λ m. if m then R.Refused out_of_memory (looking s) else exec call (key_on c before p (next_key c.settings before (asked s).lexeme)) (looking s)) h.readable
-    ∙ ap (λ k. exec call (key_on c before p k) (looking s)) h.place
-    ∙ ap (λ m. if m then R.Refused out_of_memory (looking (looking s)) else exec call (if has_key key before then Fail (refusal (DuplicatedProperty key) p) else match_token due.Colon (Peek (room_at c before key p))) u) h.readable
-    ∙ ap (λ b. exec call (if b then Fail (refusal (DuplicatedProperty key) p) else match_token due.Colon (Peek (room_at c before key p))) u) h.fresh
-    ∙ ap (λ m. if m then R.Refused out_of_memory (looking u) else exec call (if is_due due.Colon (asked u).lexeme then Take (Peek (room_at c before key p)) else Fail (refusal (not_due due.Colon (asked u).lexeme) (asked u).at)) (looking u)) readable_on
-    ∙ ap (λ b. exec call (if b then Take (Peek (room_at c before key p)) else Fail (refusal (not_due due.Colon (asked u).lexeme) (asked u).at)) (looking u)) colon
-    ∙ ap (λ m. if m then R.Refused out_of_memory (looking (looking u)) else exec call (Peek (room_at c before key p)) v) readable_on
-    ∙ ap (λ m. if m then R.Refused out_of_memory (looking v) else exec call (room_at c before key p (asked v).lexeme (asked v).at) (looking v)) readable_value
-    ∙ ap (λ b. exec call (if b then Fail (refusal (too_many_fields c.sizes.map) (asked v).at) else Ret (Some (key, p))) (looking v)) h.room
-    ∙ ap (λ q. R.Done (Some (key, q)) (looking v)) (sym h.stands)
-    ∙ ap (R.Done (Some (key, at))) (sym (h.look ∙ ap looking there))
+-- the equation of the properties of an object map, with the key as the code asks for it
+pub step_fields_key : (c : Context) (w : Live) (at : Position) (before : Properties) (s : Cursor)
+    → run (Fields c w at before) s ≡ R.and_then (run (NextKey c before) s) (λ v t. exec (guarded (Fields c w at before) s) (field_on c w at before v) t)
+step_fields_key c w at before s =
+    let g = Fields c w at before in
+    step_fields c w at before s
+    ∙ ap (λ o. R.and_then o (λ v t. exec (guarded g s) (field_on c w at before v) t)) (guarded_is g s (NextKey c before) s (omega arith))
 
 refused_at : (call : Caller) (c : Context) (before : Properties) (s : Cursor) (place : KeyPlace) (e : Refusal) (t : Cursor) → is_memory (asked s).lexeme ≡ false → KeyRefused before s place e t → exec call (key_on c before (asked s).at place) (looking s) ≡ R.Refused e t
 refused_at call c before s FieldsEnd e t readable h = absurd h
@@ -68,21 +40,17 @@ refused_at call c before s (AKey key) e t readable h =
     ∙ ap (λ d. R.Refused d (taking s)) (sym h.1)
     ∙ ap (R.Refused e) (sym h.2)
 
--- the properties of an object map, where a key is refused
-pub key_refused : (c : Context) (w : Live) (opening : Position) (before : Properties) (s t : Cursor) (e : Refusal) → is_memory (asked s).lexeme ≡ false → KeyRefused before s (next_key c.settings before (asked s).lexeme) e t → run (Fields c w opening before) s ≡ R.Refused e t
-key_refused c w opening before s t e readable h =
-    let g = Fields c w opening before in
+-- a key that is refused
+pub key_refused : (c : Context) (before : Properties) (s t : Cursor) (e : Refusal) → is_memory (asked s).lexeme ≡ false → KeyRefused before s (next_key c.settings before (asked s).lexeme) e t → run (NextKey c before) s ≡ R.Refused e t
+key_refused c before s t e readable h =
     let k = NextKey c before in
-    let refused : run k s ≡ R.Refused e t =
     step_next_key c before s
     ∙ ap (λ m. if m then R.Refused out_of_memory (looking s) else exec (guarded k s) (key_on c before (asked s).at (next_key c.settings before (asked s).lexeme)) (looking s)) readable
-    ∙ refused_at (guarded k s) c before s (next_key c.settings before (asked s).lexeme) e t readable h in
-    step_fields c w opening before s
-    ∙ ap (λ o. R.and_then o (λ v u. exec (guarded g s) (field_on c w opening before v) u)) (guarded_is g s k s (omega arith) ∙ refused)
+    ∙ refused_at (guarded k s) c before s (next_key c.settings before (asked s).lexeme) e t readable h
 
 -- ---- one more property with the comma after it
 
--- From s a property with this key and the value x stands, and a comma after it, after which the code is at t.
+-- From s a property with this key and the value x stands, and a comma behind it, after which the code is at t.
 pub record TakesField (c : Context) (w : Live) (before : Properties) (key : Text × Position) (x : Node) (s s1 s2 : Cursor) : Type 0 where
   pub key_read : run (NextKey c before) s ≡ R.Done (Some key) s1
   pub room : has_room c ≡ true
@@ -99,8 +67,8 @@ field_taken c w opening before key x s s1 s2 h =
     let ps = with_property before key.0 key.1 x in
     let inner = guarded_is g s (Expression (level_up c) w) s1 (omega (arith, h.after_key)) ∙ h.value in
     let on = Fields c w opening ps in
-    step_fields c w opening before s
-    ∙ ap (λ o. R.and_then o (λ v u. exec call (field_on c w opening before v) u)) (guarded_is g s (NextKey c before) s (omega arith) ∙ h.key_read)
+    step_fields_key c w opening before s
+    ∙ ap (λ o. R.and_then o (λ v u. exec call (field_on c w opening before v) u)) h.key_read
     ∙ ap (λ b. exec call (if b then Call (Expression (level_up c) w) (value_on c w opening before key) else Fail (refusal ExprTooDeep opening)) s1) h.room
     ∙ ap (λ o. R.and_then o (λ v u. exec call (value_on c w opening before key v) u)) inner
     ∙ ap (λ m. if m then R.Refused out_of_memory (looking s2) else exec call (field_next c w opening ps (asked s2).at (behind_value (asked s2).lexeme)) (looking s2)) h.readable

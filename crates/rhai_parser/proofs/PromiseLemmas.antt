@@ -1,8 +1,8 @@
 -- From what the reading program gives to what is promised.
-use Rattle.std.proofs.Common.{◌≡◌, Bool, true, false, List, [], refl, sym, ap, ◌∙◌, subst, Result, Ok, Err}
+use Rattle.std.proofs.Common.{◌≡◌, Bool, true, false, List, [], refl, sym, ◌∙◌, subst, Result, Ok, Err}
 use Rattle.rhai_lower.specs.Nodes.{Node}
 use Rattle.rhai_lower.specs.declared.ast.AST.{AST}
-use Rattle.rhai_grammar.specs.Causes.{Cause, cause_of, refusal_of, is_memory_cause, is_memory_kind, is_for_memory}
+use Rattle.rhai_grammar.specs.Causes.{cause_of, refusal_of, is_memory_cause, is_memory_kind, is_for_memory}
 use Rattle.rhai_grammar.specs.Cursors.{Cursor}
 use Rattle.rhai_grammar.specs.Delivered.{code}
 use Rattle.rhai_grammar.specs.Contexts.{Context, Live}

@@ -1,9 +1,9 @@
 -- What the proofs of the readers rest on: for each reader its equation, and what it makes of what it read.
-use Rattle.rhai_reading.proofs.Steps.{guarded_is, and_then_done, step_whole, step_expression, step_operand, step_primary, step_postfix, step_called, step_arguments, step_items, step_elements, step_fields, step_next_key, step_links, step_index, step_member, step_binary_op, step_next_operator}
+use Rattle.rhai_reading.proofs.Steps.{guarded_is, and_then_done, step_whole, step_expression, step_operand, step_primary, step_postfix, step_called, step_arguments, step_items, step_elements, step_links, step_index, step_member, step_binary_op}
 use Rattle.rhai_lower.proofs.Views.{property_views_push, view_array, view_integer, view_map, view_property, view_unit, view_variable, views_push}
 use Rattle.rhai_parser.proofs.AnswerLemmas.{operand_sign, operand_other, sign_outcome, bang_refused}
 use Rattle.rhai_parser.proofs.ChainLemmas.{links_push}
-use Rattle.rhai_base.proofs.LiteralLemmas.{count_properties}
+use Rattle.rhai_parser.proofs.LiteralLemmas.{step_fields_key}
 use Rattle.rhai_base.proofs.NameLemmas.{count_views}
 
 pub ruleset calls_of_readers = (guarded_is, and_then_done)
@@ -14,4 +14,4 @@ pub ruleset expressions = (operands, step_whole, step_expression, step_primary, 
 
 pub ruleset chains = (calls_of_readers, step_called, bang_refused, step_links, links_push, step_index, step_member, view_property)
 
-pub ruleset literals = (calls_of_readers, step_elements, views_push, count_views, step_fields, step_next_key, count_properties, property_views_push)
+pub ruleset literals = (calls_of_readers, step_elements, views_push, count_views, step_fields_key, property_views_push)

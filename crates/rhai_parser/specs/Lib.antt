@@ -1,3 +1,4 @@
+pub mod Asks
 pub mod Engines
 pub mod Frames
 pub mod Readers

@@ -1,7 +1,7 @@
 -- How the contracts of the readers speak of what they read and what they leave.
 use Rattle.std.specs.Prelude.{◌≡◌, ◌≤◌, ℕ, Bool, List, Option, Result, Vec}
 use Rattle.std.specs.declared.alloc.Global.{Global}
-use Rattle.rhai_lower.specs.Nodes.{Node, Nodes, Properties, position_of}
+use Rattle.rhai_lower.specs.Nodes.{Node, Nodes, Properties}
 use Rattle.rhai_lower.specs.View.{property_views, views}
 use Rattle.rhai_lower.specs.declared.ast.Expr.{Expr}
 use Rattle.rhai_lower.specs.declared.ast.Ident.{Ident}

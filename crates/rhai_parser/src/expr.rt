@@ -4,6 +4,7 @@ ghost use Rattle.rhai_lower.specs.Nodes.{no_nodes, position_of};
 ghost use Rattle.rhai_lower.specs.View.{view};
 ghost use Rattle.rhai_parser.specs.Readers.{GoesOn, Reads, arguments, binary_op, expression, items, operand, postfix, primary, views_of, whole};
 
+use crate::asks::next_operator;
 use crate::engine::Engine;
 use crate::frame::Frame;
 use crate::shared::Shared;
@@ -11,7 +12,6 @@ use rhai_base::ParseSettings;
 use rhai_base::cursor::{peek, skip, take};
 use rhai_base::leaves::due::match_token;
 use rhai_base::leaves::names::{as_variable, make_call, name_node, word_node};
-use rhai_base::leaves::operators::next_operator;
 use rhai_base::leaves::refusals::{missing, no_operand, not_following, unexpected};
 use rhai_base::leaves::tokens::{
     Beginning, Following, closes, is_called, is_close, is_end, is_no_argument, is_range, is_sign,

@@ -1,6 +1,7 @@
 //! The parser: from a stream of tokens to the tree of a script.
 #![tactic(auto)]
 
+mod asks;
 mod chain;
 pub mod engine;
 mod expr;

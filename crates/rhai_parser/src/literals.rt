@@ -3,19 +3,16 @@
 ghost use Rattle.rhai_lower.specs.Nodes.{no_nodes, no_properties};
 ghost use Rattle.rhai_parser.specs.Readers.{GoesOn, Reads, elements, fields, properties_of, views_of};
 
+use crate::asks::next_key;
 use crate::engine::Engine;
 use crate::frame::Frame;
 use crate::shared::Shared;
 use rhai_base::ParseSettings;
 use rhai_base::cursor::{peek, skip};
-use rhai_base::leaves::due::match_token;
-use rhai_base::leaves::items::{
-    ItemPlace, item_place, room_for_value, what_follows_item, what_follows_value,
-};
-use rhai_base::leaves::keys::next_key;
+use rhai_base::leaves::items::{ItemPlace, item_place, what_follows_item, what_follows_value};
 use rhai_base::leaves::refusals::{no_item, not_following_item, not_following_value};
 use rhai_base::leaves::tokens::Following;
-use rhai_grammar::{DueToken, ParseResult};
+use rhai_grammar::ParseResult;
 use rhai_lower::{Expr, Ident};
 
 #[tactic(auto, using(crate::proofs::Readers::literals))]
@@ -71,19 +68,12 @@ impl Engine {
         ensures goes_on { GoesOn shared.old shared.new }
         ensures reads { Reads (fields self.now frame.now settings no_properties) properties_of shared.old result shared.new }
     {
-        let limit = self.max_map_size();
         let mut properties = Vec::new(self.alloc());
         loop {
-            let next = match next_key(self.alloc(), shared.input, settings, &properties) {
-                Ok(next) => next,
-                Err(error) => return Err(error),
-            };
+            let next = next_key(self, shared.input, settings, &properties)?;
             let Some(key) = next else {
                 return Ok(properties);
             };
-            let note = "to follow the key of a property in this object map literal";
-            match_token(self.alloc(), shared.input, DueToken::Colon, note)?;
-            room_for_value(self.alloc(), shared.input, limit, properties.len())?;
             let deeper = settings.level_up()?;
             let value = self.parse_expr(shared, frame, deeper)?;
             properties.push((key, value))?;

@@ -1,4 +1,4 @@
-use Rattle.std.proofs.Common.{rules, arith, ◌≡◌, ◌∙◌, None, Some, option_map}
+use Rattle.std.proofs.Common.{rules, arith, ◌≡◌, ◌∙◌, None, option_map}
 use Rattle.std.proofs.lemmas.Result.{err_from_is_err_and}
 use Rattle.std.specs.Rc.{rc_str_bytes}
 use Rattle.rhai_lower.specs.Lexemes.{lexeme}
@@ -10,11 +10,11 @@ use Rattle.rhai_grammar.specs.Signs.{sign_result}
 use Rattle.rhai_reading.specs.Running.{run}
 use Rattle.rhai_trees.specs.Chains.{link_views}
 use Rattle.rhai_parser.specs.Frames.{context_of, live_of}
+use Rattle.rhai_parser.specs.Asks.{operator_pair}
 use Rattle.rhai_parser.specs.Readers.{operand, state_of}
-use Rattle.rhai_base.proofs.LiteralLemmas.{count_properties}
 use Rattle.rhai_parser.proofs.AnswerLemmas.{answer_given, outcome}
 use Rattle.rhai_parser.proofs.ChainLemmas.{DotTaken, dot_goes_on, dot_short, links_push}
-use Rattle.rhai_parser.proofs.LiteralLemmas.{FieldTaken, KeyTaken, field_goes_on, field_short, key_read, key_refused}
+use Rattle.rhai_parser.proofs.LiteralLemmas.{FieldTaken, field_goes_on, field_short}
 use Rattle.rhai_parser.proofs.Readers.{operands}
 use Rattle.rhai_parser.proofs.RunLemmas.{Walked, Worded, walked_on, walked_refused, walked_short, worded_outcome}
 use Rattle.rhai_parser.proofs.engine.Engine.+parser.Goals as goal
@@ -24,7 +24,7 @@ use Rattle.rhai_parser.proofs.engine.Engine.+parser.Goals.{parse_binary_op-After
 walked : (t : _) (c : parse_binary_op-After-make_binary t) → Walked (context_of c.args.self.now c.loop-lhs.settings) (live_of c.args.frame.now) c.args.parent c.in-Some.operator.strength c.in-Some.operator.right c.is_range.result (option_map operator_pair c.in_ok-next_operator.field-0) (lexeme c.take-op_token.result.0) c.take-op_token.result.1 (view c.in_ok-rhs.rhs) (view c.in_ok-rhs-2.rhs) (context_of c.args.self.now c.in_ok-deeper.deeper)
     (state_of c.loop-lhs.shared) (cursor_of c.next_operator.new.input) (cursor_of c.take-op_token.new.input) (state_of c.parse_unary.new.shared) (cursor_of c.next_operator-in-loop-lhs.new.input) (state_of c.parse_binary_op.new.shared)
 walked t c = record {
-  operator = next_done _ _ (Some c.in-Some.operator) (search rules) (search rules) (search rules);
+  operator = search rules;
   goes = search rules;
   readable = search rules;
   more = search rules;
@@ -35,7 +35,7 @@ walked t c = record {
   is_ranged = search rules;
   operand = search rules;
   operand_short = search rules;
-  known = next_done _ _ c.in_ok-next_operator.field-0 (search rules) (search rules) (search rules);
+  known = search rules;
   look_on = search rules;
   room = search rules;
   deeper = search rules;
@@ -80,31 +80,11 @@ parse_unary-returns-then-is_sign-clause-reads t c =
 pub parse_unary-returns-in_err-links-clause-reads : goal.parse_unary-returns-in_err-links-clause-reads
 parse_unary-returns-in_err-links-clause-reads t c = let p = err_from_is_err_and c.from_residual-in_err-links.result c.from_residual-in_err-links.ensures.1 in rw (p.1, p.2) (grind (arith, operands))
 
-pub parse_map_literal-returns-in-Err-clause-reads : goal.parse_map_literal-returns-in-Err-clause-reads
-parse_map_literal-returns-in-Err-clause-reads t c = (
-  λ told. (let r = c.in-Err.ensures.refused told in c.loop-next.invariant.same ∙ key_refused _ _ _ _ _ _ _ r.0 r.1),
-  c.in-Err.ensures.nowhere,
-)
-
-pub parse_map_literal-loop-next-preserved : goal.parse_map_literal-loop-next-preserved
-parse_map_literal-loop-next-preserved t c =
-    let key : KeyTaken (context_of c.args.self.now c.args.settings) (property_views c.loop-next.properties.items) (rc_str_bytes c.in-Some.key.name) c.in-Some.key.pos
-    (state_of c.loop-next.shared) (cursor_of c.next_key.new.input) (cursor_of c.match_token.new.input) (cursor_of c.room_for_value.new.input) = record {
-      readable = search rules;
-      place = search rules;
-      stands = search rules;
-      fresh = search rules;
-      took = search rules;
-      readable_on = search rules;
-      colon = search rules;
-      passed = search rules;
-      readable_value = search rules;
-      room = search (rules, count_properties);
-      look = search rules;
-    } in
-    let taken : FieldTaken (context_of c.args.self.now c.args.settings) (context_of c.args.self.now c.in_ok-deeper.deeper) (live_of c.args.frame.now) (property_views c.loop-next.properties.items) (property_views c.push.new.self.items) (rc_str_bytes c.in-Some.key.name, c.in-Some.key.pos) (view c.in_ok-value.value)
-    (state_of c.loop-next.shared) (cursor_of c.room_for_value.new.input) (state_of c.parse_expr.new.shared) (cursor_of c.peek.follows.lender-at-none) (cursor_of c.skip.new.input) = record {
-      key_read = key_read key;
+pub parse_map_literal-loop-properties-preserved : goal.parse_map_literal-loop-properties-preserved
+parse_map_literal-loop-properties-preserved t c =
+    let taken : FieldTaken (context_of c.args.self.now c.args.settings) (context_of c.args.self.now c.in_ok-deeper.deeper) (live_of c.args.frame.now) (property_views c.loop-properties.properties.items) (property_views c.push.new.self.items) (rc_str_bytes c.in-Some.key.name, c.in-Some.key.pos) (view c.in_ok-value.value)
+    (state_of c.loop-properties.shared) (cursor_of c.next_key.new.input) (state_of c.parse_expr.new.shared) (cursor_of c.peek.follows.lender-at-none) (cursor_of c.skip.new.input) = record {
+      key_read = search rules;
       key_short = search rules;
       room = search rules;
       deeper = search rules;
@@ -119,8 +99,8 @@ parse_map_literal-loop-next-preserved t c =
       joined = search (rules, property_views_push);
     } in
     record {
-      same = c.loop-next.invariant.same ∙ field_goes_on _ taken;
-      goes_on = record { same = search rules; shorter = let less = field_short taken in omega (arith, less, c.loop-next.invariant.goes_on.shorter) };
+      same = c.loop-properties.invariant.same ∙ field_goes_on _ taken;
+      goes_on = record { same = search rules; shorter = let less = field_short taken in omega (arith, less, c.loop-properties.invariant.goes_on.shorter) };
     }
 
 pub parse_links-loop-links-preserved : goal.parse_links-loop-links-preserved

@@ -65,14 +65,14 @@ invariant-parse_array_literal-loop-items l = record {
 abbrev pub decreases-parse_array_literal-loop-items : goal.decreases-parse_array_literal-loop-items
 decreases-parse_array_literal-loop-items l = left (state_of l.shared).tokens
 
-abbrev pub invariant-parse_map_literal-loop-next : goal.invariant-parse_map_literal-loop-next
-invariant-parse_map_literal-loop-next l = record {
+abbrev pub invariant-parse_map_literal-loop-properties : goal.invariant-parse_map_literal-loop-properties
+invariant-parse_map_literal-loop-properties l = record {
   same : run (fields l.fn.self l.fn.frame l.fn.settings no_properties) (state_of l.fn.shared) ≡ run (fields l.self l.frame l.settings (properties_of l.properties)) (state_of l.shared);
   goes_on : GoesOn l.fn.shared l.shared;
 }
 
-abbrev pub decreases-parse_map_literal-loop-next : goal.decreases-parse_map_literal-loop-next
-decreases-parse_map_literal-loop-next l = left (state_of l.shared).tokens
+abbrev pub decreases-parse_map_literal-loop-properties : goal.decreases-parse_map_literal-loop-properties
+decreases-parse_map_literal-loop-properties l = left (state_of l.shared).tokens
 
 abbrev pub invariant-parse_links-loop-links : goal.invariant-parse_links-loop-links
 invariant-parse_links-loop-links l = record {
