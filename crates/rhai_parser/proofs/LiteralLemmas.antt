@@ -50,7 +50,7 @@ key_refused c before s t e readable h =
 
 -- ---- one more property with the comma after it
 
--- From s a property with this key and the value x stands, and a comma behind it, after which the code is at t.
+-- From s a property with this key and the value x stands, and a comma after it, after which the code is at t.
 pub record TakesField (c : Context) (w : Live) (before : Properties) (key : Text × Position) (x : Node) (s s1 s2 : Cursor) : Type 0 where
   pub key_read : run (NextKey c before) s ≡ R.Done (Some key) s1
   pub room : has_room c ≡ true

@@ -27,7 +27,7 @@ memory_kind : (k : ParseErrorType) → is_memory_cause (cause_of k) ≡ is_memor
 memory_kind OutOfMemory = refl
 memory_kind _ = refl
 
--- an error, of the reading program or for want of memory
+-- an error, of the reading program or if memory ran out
 pub reads_fails : {F : Type 0} (library : List F) (c : Context) (live : Live) (s left : Cursor) (e : ParseError) → s.mode ≡ code → Fails (run (Whole c live) s) e left → ReadsExpression library c live s left (Err e)
 reads_fails library c live s left e mode fails = record {
   accepted = λ empty. tt;

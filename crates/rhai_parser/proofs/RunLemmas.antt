@@ -10,6 +10,11 @@ use Rattle.rhai_grammar.specs.Cursors.{Cursor, asked, looking, taking, left}
 use Rattle.rhai_grammar.specs.Delivered.{Item, item, is_end, is_memory}
 use Rattle.rhai_grammar.specs.Operators.{operator_result}
 use Rattle.rhai_grammar.specs.Contexts.{Context, Live, has_room, level_up}
+use Rattle.rhai_grammar.specs.Settings.{Settings}
+use Rattle.rhai_base.specs.Settings.{settings_of}
+use Rattle.rhai_base.specs.declared.settings.ParseSettings.{ParseSettings}
+use Rattle.rhai_parser.specs.Engines.{EngineValue, sizes_of}
+use Rattle.rhai_parser.specs.Frames.{context_of}
 use Rattle.rhai_reading.specs.Reading.{Ret, Fail, Peek, Call, NextOperator, Primary, Operand, BinaryOp, primary_at, word_at, goes_on, raised, binary_at, binary_on, binary_right, binary_next}
 use Rattle.rhai_reading.specs.Running as R
 use Rattle.rhai_reading.specs.Running.{exec, run, guarded}
@@ -17,7 +22,7 @@ use Rattle.rhai_reading.proofs.Steps.{step_binary_op, step_primary, guarded_is, 
 use Rattle.rhai_parser.proofs.AnswerLemmas.{binary_done, binary_refused, outcome, word_outcome}
 use Rattle.rhai_base.specs.Words.{word_result}
 
--- From s an operator of strength n stands behind the left operand, and its right side y ends at t.
+-- From s an operator of strength n stands after the left operand, and its right side y ends at t.
 pub record TakesOne (c : Context) (w : Live) (parent n : ℕ) (right : Bool) (next : Option (ℕ × Bool)) (x y : Node) (s s1 s2 s3 t : Cursor) : Type 0 where
   pub operator : run NextOperator s ≡ R.Done (Some (n, right)) s1
   pub goes : goes_on parent n right ≡ true
@@ -125,7 +130,7 @@ module _ {c : Context} {w : Live} {parent n : ℕ} {right ranged : Bool} {next :
 
 -- ---- reserved words
 
--- a reserved word that was taken, with a look behind it
+-- a reserved word that was taken, with a look after it
 pub record Worded (word : Text) (at : Position) (called : Bool) (s s1 s2 t : Cursor) : Type 0 where
   pub begins : beginning (asked s).lexeme ≡ AWord word
   pub readable : is_memory (asked s).lexeme ≡ false
@@ -156,3 +161,12 @@ worded_outcome c w {word} {at} {called} {s} {s1} {s2} {t} h =
     worded c w word at called s s1 s2 t h
     ∙ word_outcome (guarded (Primary c w) s) c word at (asked s2).lexeme (asked s2).at t
     ∙ ap (λ b. outcome (word_result c.settings word b at) t) (sym h.is_called)
+
+-- ---- what a form stands in
+
+abbrev under : EngineValue → Settings → Context
+under engine c = record { settings = c; sizes = sizes_of engine }
+
+-- Settings that differ in their position alone make one context.
+pub same_context : (engine : EngineValue) (c d : ParseSettings) → settings_of c ≡ settings_of d → context_of engine c ≡ context_of engine d
+same_context engine c d e = ap (under engine) e

@@ -31,7 +31,7 @@ whole engine frame settings = reading.Whole (context_of engine settings) (live_o
 abbrev pub expression : EngineValue → Frame → ParseSettings → Goal
 expression engine frame settings = reading.Expression (context_of engine settings) (live_of frame)
 
--- an operand with its signs and its call; whether it stands directly behind a range operator
+-- an operand with its signs and its call; whether it stands directly after a range operator
 abbrev pub operand : EngineValue → Frame → ParseSettings → (ranged : Bool) → Goal
 operand engine frame settings ranged = reading.Operand (context_of engine settings) (live_of frame) ranged
 
@@ -46,23 +46,23 @@ postfix engine frame settings operand = reading.Postfix (context_of engine setti
 abbrev pub called : EngineValue → Frame → ParseSettings → Goal
 called engine frame settings = reading.Called (context_of engine settings) (live_of frame) settings.pos
 
--- the arguments behind a `(`
+-- the arguments after a `(`
 abbrev pub arguments : EngineValue → Frame → ParseSettings → Goal
 arguments engine frame settings = reading.Arguments (context_of engine settings) (live_of frame) settings.pos
 
--- an argument, and those that follow, behind these
+-- an argument, and those that follow, after these
 abbrev pub items : EngineValue → Frame → ParseSettings → (before : Nodes) → Goal
 items engine frame settings before = reading.Items (context_of engine settings) (live_of frame) before
 
--- the items of an array, behind these
+-- the items of an array, after these
 abbrev pub elements : EngineValue → Frame → ParseSettings → (before : Nodes) → Goal
 elements engine frame settings before = reading.Elements (context_of engine settings) (live_of frame) settings.pos before
 
--- the properties of an object map, behind these
+-- the properties of an object map, after these
 abbrev pub fields : EngineValue → Frame → ParseSettings → (before : Properties) → Goal
 fields engine frame settings before = reading.Fields (context_of engine settings) (live_of frame) settings.pos before
 
--- the links behind an operand
+-- the links after an operand
 abbrev pub links : EngineValue → Frame → ParseSettings → (root : Node) → Goal
 links engine frame settings root = reading.Links (live_of frame) (behind_operand (context_of engine settings) root)
 
@@ -70,11 +70,11 @@ links engine frame settings root = reading.Links (live_of frame) (behind_operand
 abbrev pub index : EngineValue → Frame → ParseSettings → (indexed : Option Node) → Goal
 index engine frame settings indexed = reading.Index (context_of engine settings) (live_of frame) indexed
 
--- the member behind a dot
+-- the member after a dot
 abbrev pub member : EngineValue → Frame → ParseSettings → Goal
 member engine frame settings = reading.Member (context_of engine settings) (live_of frame)
 
--- the operators behind a left operand that go on with a run of this strength
+-- the operators after a left operand that go on with a run of this strength
 abbrev pub binary_op : EngineValue → Frame → ParseSettings → (at : Position) (parent : ℕ) (lhs : Node) → Goal
 binary_op engine frame settings at parent lhs = reading.BinaryOp (context_of engine settings) (live_of frame) at parent lhs
 

@@ -1,4 +1,4 @@
-//! Chains: the brackets and dots behind an operand, and calls.
+//! Chains: the brackets and dots after an operand, and calls.
 
 ghost use Rattle.std.specs.Prelude.{◌≡◌, false, option_map};
 ghost use Rattle.rhai_lower.specs.View.{view};
@@ -61,7 +61,7 @@ impl Engine {
         }
     }
 
-    /// Reads the brackets and dots behind the operand `root`, up to what is none. A bracket raises the level, and its
+    /// Reads the brackets and dots after the operand `root`, up to what is none. A bracket raises the level, and its
     /// index once more; a dot raises that of all to its right.
     #[cycle(parser)]
     pub(crate) fn parse_links(
@@ -119,7 +119,7 @@ impl Engine {
         }
     }
 
-    /// Reads the index in a bracket, up to the `]`. It is tested for the operand that the bracket stands behind, if there is
+    /// Reads the index in a bracket, up to the `]`. It is tested for the operand that the bracket stands after, if there is
     /// one.
     #[cycle(parser)]
     fn parse_index(
@@ -139,7 +139,7 @@ impl Engine {
         Ok(index)
     }
 
-    /// Reads the member behind a dot: a property, or a call of a method. The caller has looked at it.
+    /// Reads the member after a dot: a property, or a call of a method. The caller has looked at it.
     #[cycle(parser)]
     fn parse_member(
         &self,

@@ -62,7 +62,7 @@ impl Model for Engine {
 
 impl Engine {
     /// An engine with all options but `STRICT_VAR`, the depths 64 for a script and 32 for a function, any number of functions,
-    /// no limits on literals, and no modules. It takes no memory; `alloc` is what its parsers take memory from.
+    /// no limits on literals, and no modules. It does not allocate; `alloc` is where its parsers allocate.
     pub fn new(alloc: Global) -> Self
         ensures { result ≡ fresh_engine }
     {
@@ -203,7 +203,7 @@ impl Engine {
         self.max_map_size = size;
     }
 
-    /// Whether scripts find a module of this name without importing it. It takes no memory.
+    /// Whether scripts find a module of this name without importing it. It does not allocate.
     pub fn has_sub_module(&self, name: &str) -> bool
         ensures { result ≡ has_module name.now self.now.sub_modules }
     {

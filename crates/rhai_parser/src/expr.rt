@@ -99,7 +99,7 @@ impl Engine {
         Ok(make_call(self.alloc(), name, pos, call)?)
     }
 
-    /// Reads the arguments behind the `(` of a call. A raise of their level is refused where the settings stand.
+    /// Reads the arguments after the `(` of a call. A raise of their level is refused where the settings stand.
     #[cycle(parser)]
     pub(crate) fn parse_fn_call_args(
         &self,
@@ -155,7 +155,7 @@ impl Engine {
         }
     }
 
-    /// Reads an operand with its signs and its call. Directly behind a range operator (`ranged`) it may be missing.
+    /// Reads an operand with its signs and its call. Directly after a range operator (`ranged`) it may be missing.
     #[cycle(parser)]
     fn parse_unary(
         &self,
@@ -183,7 +183,7 @@ impl Engine {
         Ok(make_chain(self.alloc(), operand, links)?)
     }
 
-    /// Reads the operators and operands behind `lhs` that go on with a run on the right of an operator of strength
+    /// Reads the operators and operands after `lhs` that go on with a run on the right of an operator of strength
     /// `parent`. A raise of the level is refused at `lhs`, and from the first operator on at the one before.
     #[cycle(parser)]
     fn parse_binary_op(
@@ -208,7 +208,7 @@ impl Engine {
             }
             let (op_token, pos) = take(shared.input);
             let rhs = self.parse_unary(shared, frame, settings, is_range(&op_token))?;
-            // A reserved symbol behind the operand is refused before the level is raised.
+            // A reserved symbol after the operand is refused before the level is raised.
             next_operator(self.alloc(), shared.input)?;
             let deeper = settings.level_up()?;
             let rhs = self.parse_binary_op(shared, frame, deeper, operator.strength, rhs)?;

@@ -17,7 +17,7 @@ use rhai_lower::{Expr, Ident};
 
 #[tactic(auto, using(crate::proofs::Readers::literals))]
 impl Engine {
-    /// Reads the items of an array behind its `[`, where the settings stand, up to the `]`. The level is raised for each
+    /// Reads the items of an array after its `[`, where the settings stand, up to the `]`. The level is raised for each
     /// item anew, and a raise is refused at the `[`.
     #[cycle(parser)]
     pub(crate) fn parse_array_literal(
@@ -56,7 +56,7 @@ impl Engine {
         }
     }
 
-    /// Reads the properties of an object map behind its `#{`, where the settings stand, up to the `}`. The level is raised
+    /// Reads the properties of an object map after its `#{`, where the settings stand, up to the `}`. The level is raised
     /// for each value anew, and a raise is refused at the `#{`.
     #[cycle(parser)]
     pub(crate) fn parse_map_literal(

@@ -27,32 +27,32 @@ pub data Goal : Type 0 where
   -- an expression up to the end mark
   Whole : Context → Live → Goal
   Expression : Context → Live → Goal
-  -- an operand with its signs and its call; whether it stands directly behind a range operator
+  -- an operand with its signs and its call; whether it stands directly after a range operator
   Operand : Context → Live → (ranged : Bool) → Goal
   Primary : Context → Live → Goal
   -- what calls a name: whether it has a `!`, and the arguments; at is where the raise of their level is refused
   Called : Context → Live → (at : Position) → Goal
-  -- the links behind an operand, up to what is no link
+  -- the links after an operand, up to what is no link
   Links : Live → LinkSpot → Goal
   -- the index in a bracket up to the `]`; whose index it is, if that is tested
   Index : Context → Live → (indexed : Option Node) → Goal
-  -- the member behind a dot
+  -- the member after a dot
   Member : Context → Live → Goal
   -- what calls an operand, if it is a variable
   Postfix : Context → Live → (operand : Node) → Goal
-  -- the arguments behind a `(`; at is where the raise of their level is refused
+  -- the arguments after a `(`; at is where the raise of their level is refused
   Arguments : Context → Live → (at : Position) → Goal
-  -- an argument, and those that follow, behind these
+  -- an argument, and those that follow, after these
   Items : Context → Live → (before : Nodes) → Goal
-  -- the items of an array, behind these, up to the `]`; at is where the raise of each level is refused
+  -- the items of an array, after these, up to the `]`; at is where the raise of each level is refused
   Elements : Context → Live → (at : Position) (before : Nodes) → Goal
-  -- the properties of an object map, behind these, up to the `}`
+  -- the properties of an object map, after these, up to the `}`
   Fields : Context → Live → (at : Position) (before : Properties) → Goal
   -- the key of one more property, with its colon; none where the `}` is
   NextKey : Context → (before : Properties) → Goal
-  -- what stands behind an operand: an operator's strength, and whether equal ones group to the right
+  -- what stands after an operand: an operator's strength, and whether equal ones group to the right
   NextOperator : Goal
-  -- the operators behind a left operand that go on with a run of this strength; at is where the next raise is refused
+  -- the operators after a left operand that go on with a run of this strength; at is where the next raise is refused
   BinaryOp : Context → Live → (at : Position) (parent : ℕ) (lhs : Node) → Goal
 
 -- what it gives
@@ -99,11 +99,11 @@ whole_at e l at = if is_end l then Ret e else Fail (refusal (unexpected l) at)
 
 -- ---- operands
 
--- behind a name, which is no variable's where something calls it
+-- after a name, which is no variable's where something calls it
 abbrev pub name_at : Live → Text → Position → Lexeme → Position → Prog Node
 name_at w name at l pos = Ret (name_tree w.slots (calls l) name at)
 
--- behind a reserved word
+-- after a reserved word
 abbrev pub word_at : Context → Text → Position → Lexeme → Position → Prog Node
 word_at c word at l pos =
     if may_be_called word && calls l then Ret (variable_of None word at) else
@@ -121,7 +121,7 @@ primary_at c w l at begin.ASign = Fail (refusal (unexpected l) at)
 primary_at c w l at begin.ARange = Ret (integer (lib.IntN.pos 0) at)
 primary_at c w l at (begin.NoBeginning why) = Fail (refusal why at)
 
--- behind the operand of a sign
+-- after the operand of a sign
 abbrev pub sign_on : Lexeme → Position → Node → Prog Node
 sign_on sign at x = if sign_holds sign x then Ret (signed sign at x) else Fail (malformed at x)
 
@@ -134,11 +134,11 @@ operand_at c w ranged l at = if ranged && closes l then Ret (unit at) else opera
 
 -- ---- calls
 
--- behind the `(` of a call
+-- after the `(` of a call
 abbrev pub list_on : Context → Live → Position → (bang : Bool) → Prog (Bool × Nodes)
 list_on c w name bang = Take (Call (Arguments c w name) (λ ns. Ret (bang, ns)))
 
--- behind the `!` of a call
+-- after the `!` of a call
 abbrev pub bang_at : Context → Live → Position → Lexeme → Position → Calling → Prog (Bool × Nodes)
 bang_at c w name l at begin.WithPair = Take (Ret (true, no_nodes))
 bang_at c w name l at begin.WithList = list_on c w name true
@@ -159,11 +159,11 @@ arguments_at c w name l at =
     if is_close (following l) then Take (Ret no_nodes) else
     raised c name (λ d. Call (Items d w no_nodes) Ret)
 
--- behind the comma of an argument
+-- after the comma of an argument
 abbrev pub comma_at : Context → Live → Nodes → Lexeme → Position → Prog Nodes
 comma_at c w ns l at = if is_close (following l) then Take (Ret ns) else Call (Items c w ns) Ret
 
--- behind an argument
+-- after an argument
 abbrev pub items_at : Context → Live → Nodes → Position → Following → Prog Nodes
 items_at c w ns at begin.AComma = Take (Peek (comma_at c w ns))
 items_at c w ns at begin.AClose = Take (Ret ns)
@@ -174,7 +174,7 @@ item_on c w before x = Peek (λ l at. items_at c w (with_node before x) at (foll
 
 -- ---- arrays and object maps
 
--- behind an item
+-- after an item
 abbrev pub element_next : Context → Live → (opening : Position) → Nodes → Position → Following → Prog Nodes
 element_next c w opening ns at begin.AComma = Take (Call (Elements c w opening ns) Ret)
 element_next c w opening ns at begin.AClose = Take (Ret ns)
@@ -189,7 +189,7 @@ element_at c w opening before at ItemsEnd = Take (Ret before)
 element_at c w opening before at AnItem = raised c opening (λ d. Call (Expression d w) (element_on c w opening before))
 element_at c w opening before at (NoItem why) = Fail (refusal why at)
 
--- behind the colon of one more property
+-- after the colon of one more property
 abbrev pub room_at : Context → Properties → Text → Position → Lexeme → Position → Prog (Option (Text × Position))
 room_at c before key at l pos =
     if full c.sizes.map (property_count before) then Fail (refusal (too_many_fields c.sizes.map) pos) else Ret (Some (key, at))
@@ -200,7 +200,7 @@ key_on c before at (AKey key) =
     Take (if has_key key before then Fail (refusal (cause.DuplicatedProperty key) at) else match_token due.Colon (Peek (room_at c before key at)))
 key_on c before at (NoKey why) = Fail (refusal why at)
 
--- behind a value
+-- after a value
 abbrev pub field_next : Context → Live → (opening : Position) → Properties → Position → Following → Prog Properties
 field_next c w opening ps at begin.AComma = Take (Call (Fields c w opening ps) Ret)
 field_next c w opening ps at begin.AClose = Take (Ret ps)
@@ -220,19 +220,19 @@ abbrev pub index_on : Node → Option Refusal → Prog Node
 index_on x None = match_token due.RightBracket (Ret x)
 index_on x (Some e) = Fail e
 
--- behind a member's name
+-- after a member's name
 abbrev pub member_on : Context → Live → (name : Lexeme) → Position → Lexeme → Position → Prog Node
 member_on c w name name_at l at =
     if calls l then Call (Called c w name_at) (λ a. Ret (method_tree (text_of name) name_at a.0 a.1)) else
     if is_name name then Ret (property (text_of name) name_at) else
     Fail (refusal (cause.Reserved (text_of name)) name_at)
 
--- behind a dot
+-- after a dot
 abbrev pub dot_at : Live → LinkSpot → (dot : Lexeme) → Position → Position → MemberPlace → Prog (List Link)
 dot_at w q dot at pos AMember = raised q.settings at (λ d. Call (Member d w) (λ x. Call (Links w (behind_dot q (member_link dot at x))) Ret))
 dot_at w q dot at pos (NoMember why) = Fail (refusal why pos)
 
--- behind the last link
+-- after the last link
 abbrev pub links_end : List Link → Option Refusal → Prog (List Link)
 links_end ls None = Ret ls
 links_end ls (Some e) = Fail e
@@ -249,25 +249,25 @@ links_at w q l at NoLinking = links_end q.before (last_fault q.before)
 abbrev pub goes_on : (parent strength : ℕ) → (right : Bool) → Bool
 goes_on parent strength right = nat_lt parent strength || (parent == strength && right)
 
--- a reserved symbol behind an operand is refused
+-- a reserved symbol after an operand is refused
 abbrev pub next_operator_at : Position → Behind → Prog (Option (ℕ × Bool))
 next_operator_at at (Operator n right) = Ret (Some (n, right))
 next_operator_at at (Unknown t) = Fail (refusal (cause.UnknownOperator t) at)
 next_operator_at at Other = Ret None
 
--- behind an operator's right side
+-- after an operator's right side
 abbrev pub binary_next : Context → Live → ℕ → Node → Lexeme → Position → Node → Prog Node
 binary_next d w parent lhs op pos rhs =
     if boolean_holds op lhs then
     (if boolean_holds op rhs then Call (BinaryOp d w pos parent (operator_tree op pos lhs rhs)) Ret else Fail (mismatched rhs))
     else Fail (mismatched lhs)
 
--- behind an operator's right operand: the tighter run that begins there, if one does
+-- after an operator's right operand: the tighter run that begins there, if one does
 abbrev pub binary_right : Context → Live → Position → ℕ → Node → ℕ → Lexeme → Position → Node → Prog Node
 binary_right c w at parent lhs strength op pos rhs =
     Call NextOperator (λ next. raised c at (λ d. Call (BinaryOp d w (position_of rhs) strength rhs) (binary_next d w parent lhs op pos)))
 
--- behind an operator
+-- after an operator
 abbrev pub binary_on : Context → Live → Position → ℕ → Node → ℕ → Lexeme → Position → Prog Node
 binary_on c w at parent lhs strength op pos = Take (Call (Operand c w (is_range (beginning op))) (binary_right c w at parent lhs strength op pos))
 

@@ -16,7 +16,7 @@ use Rattle.rhai_parser.proofs.AnswerLemmas.{answer_given, outcome}
 use Rattle.rhai_parser.proofs.ChainLemmas.{DotTaken, dot_goes_on, dot_short, links_push}
 use Rattle.rhai_parser.proofs.LiteralLemmas.{FieldTaken, field_goes_on, field_short}
 use Rattle.rhai_parser.proofs.Readers.{operands}
-use Rattle.rhai_parser.proofs.RunLemmas.{Walked, Worded, walked_on, walked_refused, walked_short, worded_outcome}
+use Rattle.rhai_parser.proofs.RunLemmas.{Walked, Worded, same_context, walked_on, walked_refused, walked_short, worded_outcome}
 use Rattle.rhai_parser.proofs.engine.Engine.+parser.Goals as goal
 use Rattle.rhai_parser.proofs.engine.Engine.+parser.Goals.{parse_binary_op-After-make_binary}
 
@@ -52,7 +52,7 @@ pub parse_binary_op-loop-lhs-preserved : goal.parse_binary_op-loop-lhs-preserved
 parse_binary_op-loop-lhs-preserved t c =
     let h = walked t (goal.at.parse_binary_op-loop-lhs-preserved t c).After-make_binary in
     record {
-      same = c.loop-lhs.invariant.same ∙ walked_on h _ _ c.in-Ok.ensures.answers c.at-settings-in-loop-lhs.ensures.settings c.at-settings-in-loop-lhs.ensures.position;
+      same = c.loop-lhs.invariant.same ∙ walked_on h _ _ c.in-Ok.ensures.answers (same_context c.args.self.now c.at-settings-in-loop-lhs.result c.in_ok-deeper.deeper c.at-settings-in-loop-lhs.ensures.settings) c.at-settings-in-loop-lhs.ensures.position;
       goes_on = record { same = search rules; shorter = let less = walked_short h in omega (arith, less, c.loop-lhs.invariant.goes_on.shorter) };
     }
 
