@@ -1,5 +1,5 @@
-//! Scripts of great length: they are parsed, and their trees are dropped, in the stack that any script takes. A recursion
-//! for each operator or link would run out of it.
+//! Long scripts: they are parsed, and their trees are dropped, without a recursion for each operator or link. That
+//! would run out of stack.
 
 use crate::script::{add_line, parse};
 use std::alloc::Global;
@@ -29,6 +29,6 @@ fn a_run_of_100_000_operators(rt: HostRuntime) -> Result<(), Fail> {
 }
 
 #[test]
-fn a_chain_of_10_000_links(rt: HostRuntime) -> Result<(), Fail> {
-    parse_repeated(&rt, rt.alloc(), "a", ". b [ 1 ]", 5_000)
+fn a_chain_of_100_000_links(rt: HostRuntime) -> Result<(), Fail> {
+    parse_repeated(&rt, rt.alloc(), "a", ". b [ 1 ]", 50_000)
 }

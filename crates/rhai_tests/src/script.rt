@@ -71,8 +71,8 @@ pub(crate) fn stream_of(rt: &impl Abort, entries: Vec<Entry>) -> TokenStream
     TokenStream::new(entries, Position::NONE)
 }
 
-/// What the parser answers to these tokens, without a limit of depth. If `quoted`, the caller's closure asks for strings as
-/// keys of object maps.
+/// What the parser answers to these tokens, without a limit of depth. If `quoted`, the caller's closure asks for
+/// strings as keys of object maps.
 pub(crate) fn parse(
     rt: &impl Abort,
     alloc: Global,

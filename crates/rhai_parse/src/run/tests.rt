@@ -1,12 +1,12 @@
-//! Tests of the program over readers and writers in memory that move one byte at a time, and over some that fail. What it
-//! prints of which list is in the table of cases.
+//! Tests of the program over readers and writers in memory that move one byte at a time, and over some that fail. What
+//! it prints of which list is in the table of cases.
 
 use super::*;
 use std::process::Abort;
 use std::str;
 use std::test::Fail;
 
-// Gives one byte at a time, and behind the last one fails in this way, if there is one.
+// Gives one byte at a time. After the last one it fails, if `failure` says how, and else ends.
 #[derive(Drop)]
 struct Reader<'a> {
     bytes: &'a [u8],
