@@ -1,83 +1,121 @@
 #!/usr/bin/env bash
-# Runs the cases of cases.txt, which says how a case is written, and compares what the program prints and its status with
-# what the case wants. The last line counts the cases; the exit status is 1 if any failed.
+# Runs the table of cases, or only the files named, through the program, and prints each run that fails.
+# cases/README.md describes the format of a case. The last line counts the runs; the exit status is 1 if any failed.
 #
-# usage: tests/cases.sh [PROGRAM]      with no PROGRAM the crate rhai_parse is built for the run (by rt try)
+# usage: tests/cases.sh [PROGRAM] [FILE.txt ..]
+#
+# Without PROGRAM it runs the one in crates/rhai_parse/out, which `rt ci` at the top of the repository or `rt run` in
+# crates/rhai_parse built last. It stops if a source file has changed since.
 set -u
 export LC_ALL=C
+ulimit -t 60 # CPU seconds for each run
 
 root=$(cd "$(dirname "$0")/.." && pwd)
-program=${1:-}
 folder=$(mktemp -d)
 trap 'rm -rf "$folder"' EXIT
-mkdir "$folder/cases"
-
-number=0
-titles=()
-statuses=()
 passed=0
 failed=0
 
-# Each case becomes the files that `rt try --cases` reads: the list NAME, the words NAME.args and the output NAME.stdout.
-begin() {
-    number=$((number + 1))
-    name=$(printf 'case%04d' "$number")
-    titles[number]=$1
-    : >"$folder/cases/$name"
-    : >"$folder/cases/$name.args"
-    : >"$folder/cases/$name.stdout"
+stop() {
+    echo "$1"
+    echo "0 passed, 1 failed"
+    exit 1
 }
 
-while IFS= read -r line; do
-    case $line in
-    '' | '#'*) ;;
-    '== '*) begin "${line#== }" ;;
-    '$') ;;
-    '$ '*) tr ' ' '\n' <<<"${line#\$ }" >"$folder/cases/$name.args" ;;
-    '<- '*) printf '%s' "${line#<- }" >>"$folder/cases/$name" ;;
-    '<% '*) printf "${line#<% }\n" >>"$folder/cases/$name" ;;
-    '<') echo >>"$folder/cases/$name" ;;
-    '< '*) printf '%s\n' "${line#< }" >>"$folder/cases/$name" ;;
-    '> '*) printf '%s\n' "${line#> }" >>"$folder/cases/$name.stdout" ;;
-    '= '*) statuses[number]=${line#= } ;;
-    *)
-        echo "no line of a case: $line"
-        failed=$((failed + 1))
-        ;;
-    esac
-done <"$root/tests/cases.txt"
-
-# For each case a line: its name, its exit status, and whether it printed what is wanted.
-run_program() {
-    local i name status words printed
-    for i in $(seq 1 "$number"); do
-        name=$(printf 'case%04d' "$i")
-        mapfile -t words <"$folder/cases/$name.args"
-        printed=expected
-        timeout 60 "$program" ${words[@]+"${words[@]}"} <"$folder/cases/$name" >"$folder/printed"
-        status=$?
-        cmp -s "$folder/printed" "$folder/cases/$name.stdout" || printed=differs
-        echo "$name $status $printed"
-    done
+take_built_program() {
+    local changed
+    program=$root/crates/rhai_parse/out/rhai_parse
+    [ -x "$program" ] || stop "no program is built: run \`rt run\` in crates/rhai_parse, or name one"
+    changed=$(find "$root"/crates/*/src -name '*.rt' ! -path '*/rhai_tests/*' -newer "$program" -print -quit)
+    [ -z "$changed" ] || stop "the program is older than $changed: run \`rt run\` in crates/rhai_parse, or name one"
 }
 
-run_crate() {
-    (cd "$root/crates/rhai_parse" && rt try --cases "$folder/cases" 2>&1) | tee "$folder/notes" |
-        sed -n 's/^case=\([^ ]*\) run=ended status=\([0-9]*\) .*output=\([a-z]*\) .*/\1 \2 \3/p'
+fail() {
+    failed=$((failed + 1))
+    printf 'failed: %s: %s\n%s\n' "${file##*/}" "$title" "$1"
 }
 
-if [ -n "$program" ]; then run_program; else run_crate; fi >"$folder/answers"
+add_to_list() {
+    case $1 in
+    '% '*) printf '%b' "${1#% }" ;;
+    *) printf '%s\n' "${1//  /$'\n'}" ;;
+    esac >>"$folder/list"
+}
 
-for i in $(seq 1 "$number"); do
-    name=$(printf 'case%04d' "$i")
-    answer=$(grep "^$name " "$folder/answers")
-    if [ "$answer" = "$name ${statuses[i]} expected" ]; then
+# Runs the program once over the list with the words $1. Compares its output with the answer, and its status with $2.
+run() {
+    local printed status zero_byte=no
+    "$program" $1 <"$folder/list" >"$folder/printed"
+    status=$?
+    # (this reads the whole file, and succeeds only at a zero byte, which no answer has)
+    IFS= read -r -d '' printed <"$folder/printed" && zero_byte=yes
+    if [ "$printed" = "$answer" ] && [ "$status" = "$2" ] && [ "$zero_byte" = no ]; then
         passed=$((passed + 1))
     else
-        failed=$((failed + 1))
-        echo "failed: ${titles[i]}: status ${statuses[i]} wanted, got: ${answer:-no answer}"
+        fail "\$$1"$'\n'"wanted, with status $2:"$'\n'"${answer}printed, with status $status:"$'\n'"$printed"
     fi
-done
-if [ "$failed" != 0 ] && [ -f "$folder/notes" ]; then tail -n 40 "$folder/notes"; fi
+}
+
+# Makes the runs that have this answer. Called once the whole answer was read.
+end_answer() {
+    local words status
+    case $answer in
+    accepted*) status=0 ;;
+    refused*) status=1 ;;
+    unreadable*) status=2 ;;
+    *) status= ;;
+    esac
+    if [ -z "$status" ] || [ "${#runs[@]}" = 0 ]; then
+        fail "a run and its answer are missing"
+    else
+        for words in "${runs[@]}"; do run "$words" "$status"; done
+    fi
+    runs=()
+    answer=
+}
+
+read_file() {
+    local line part=none
+    title= runs=() answer=
+    while IFS= read -r line || [ -n "$line" ]; do
+        case $line in
+        '' | '#'*) ;;
+        '== '*)
+            [ "$part" = none ] || end_answer
+            title=${line#== }
+            part=list
+            : >"$folder/list"
+            ;;
+        '$'*)
+            [ "$part" != answer ] || end_answer
+            part=words
+            runs+=("${line#?}")
+            ;;
+        *)
+            if [ "$part" = list ]; then
+                add_to_list "$line"
+            else
+                part=answer
+                answer+=$line$'\n'
+            fi
+            ;;
+        esac
+    done <"$file"
+    end_answer
+}
+
+files=("$root"/tests/cases/*.txt)
+case ${1:-} in
+'' | *.txt) take_built_program ;;
+*)
+    program=$(realpath "$1")
+    [ -x "$program" ] || stop "$1 is no program"
+    shift
+    ;;
+esac
+[ $# = 0 ] || files=("$@")
+set -f # no globbing: the words of a run are only split at blanks
+
+for file in "${files[@]}"; do read_file; done
 echo "$passed passed, $failed failed"
 [ "$failed" = 0 ]

@@ -1,8 +1,9 @@
 #!/usr/bin/env bash
-# Makes each allocation of the program fail in turn, on the list of examples/sum.tokens. A run that meets the refusal has to
-# print the refusal for want of memory and nothing else, and a run whose number is beyond its last allocation the answer.
-# It takes some 20 seconds a run. Nothing tells the two kinds of runs apart but what they print, so that the first answer is followed by some more runs: were
-# a refusal swallowed, one of these would meet the next.
+# Makes each allocation of the program fail in turn, on the list of examples/sum.tokens. A run in which an allocation
+# fails must print the refusal `OutOfMemory` and nothing else. A run whose number is greater than that of the last
+# allocation must print the answer. Only their output tells the two kinds of runs apart, so the first answer is followed
+# by some more runs: if a failed allocation went unreported, the next one would show in one of these.
+# Each run takes about 20 seconds.
 #
 # usage: tests/fail_alloc.sh
 set -u

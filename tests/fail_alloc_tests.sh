@@ -1,9 +1,9 @@
 #!/usr/bin/env bash
-# Runs the tests of crates/rhai_tests with each allocation refused in turn: the first of each test, then the second, and so
-# on. A test whose name ends in `_refused` has to pass in every run. Its partner, whose name ends in `_with_ample_memory`,
-# does the same and wants to come to its end, so that it fails in each run in which a refusal is met. The runs end once no
-# partner fails any more, and two further runs then find none either. Other tests may fail for want of memory.
-# It takes up to a minute a run.
+# Runs the tests of crates/rhai_tests with each allocation failing in turn: the first of each test, then the second, and
+# so on. A test whose name ends in `_refused` has to pass in every run. Its partner, whose name ends in
+# `_with_ample_memory`, does the same but has to complete, so it fails in each run in which an allocation of it fails.
+# The runs end after three in which no partner failed. Other tests may fail because memory ran out.
+# Each run takes up to a minute.
 #
 # usage: tests/fail_alloc_tests.sh
 set -u
@@ -15,7 +15,7 @@ printed=$(mktemp)
 trap 'rm -f "$printed"' EXIT
 cd "$root/crates/rhai_tests" || exit 2
 
-# How many tests of this kind ended so.
+# The number of tests whose name ends in $1 and whose result is $2.
 count() {
     grep -c "^test .*$1 \.\.\. $2\$" "$printed"
 }

@@ -1,4 +1,4 @@
--- What a look from the latest slot or import down has found so far.
+-- What a search from the latest slot or import has found so far.
 use Rattle.std.proofs.Common.{◌≡◌, ℕ, suc, zero, ◌+◌, ◌-◌, ◌<◌, ◌≤◌, ◌∙◌, Bool, true, false, not, ◌&&◌, ◌||◌, ◌⊎◌, inl, inr, cond, List, [], ◌∷◌, Option, None, Some, unwrap_or, length, map, get_or, drop, ap, sym, refl, arith}
 use Rattle.std.proofs.Math.Seq.{drop-cons}
 use Rattle.std.proofs.Common.{MatchOption, option_map}
@@ -13,7 +13,7 @@ use Rattle.rhai_lower.specs.Slots.{SlotValue, slot_at, fresh_slot}
 use Rattle.rhai_grammar.specs.Slots.{number, is_named, is_barrier, later_than, barrier_before, slot_from_latest, IsLatest}
 use Rattle.rhai_grammar.specs.Imports.{module_number}
 
--- the slots from an index on: the one there, and those behind it
+-- the slots from an index on: the one there, and those after it
 pub drop-slot : (slots : List SlotValue) (i k : ℕ) → k ≡ suc i → i < length slots → drop i slots ≡ slot_at slots i ∷ drop k slots
 drop-slot slots i k e l = rw e (drop-cons slots i (fresh_slot [] false) l)
 
@@ -25,7 +25,7 @@ number-other name slots i k e l other none =
     ∙ ap (λ o. option_or o (cond (is_named name (slot_at slots i)) (Some (length (drop k slots) + 1)) None)) none
     ∙ ap (λ b. cond b (Some (length (drop k slots) + 1)) None) other
 
--- A slot of the name is the latest, where none behind it has the name.
+-- A slot of the name is the latest if none after it has the name.
 pub number-here : (name : Text) (slots : List SlotValue) (i : ℕ) → i < length slots → is_named name (slot_at slots i) ≡ true → number name (drop (suc i) slots) ≡ None → number name slots ≡ Some (length slots - i)
 unfolding number
 number-here name [] i l here none = absurd (omega arith)
@@ -39,14 +39,14 @@ number-here name (s ∷ later) (suc i) l here none =
     ap (λ o. option_or o (cond (is_named name s) (Some (length later + 1)) None)) (number-here name later i (omega arith) here none)
     ∙ ap Some e
 
--- a barrier from an index on: there, or behind it
+-- a barrier from an index on: there, or after it
 pub barrier-there : (slots : List SlotValue) (i k : ℕ) → k ≡ suc i → i < length slots → is_barrier (slot_at slots i) ≡ true → true ≡ list_any is_barrier (drop i slots)
 barrier-there slots i k e l h = sym (ap (list_any is_barrier) (drop-slot slots i k e l) ∙ ap (λ b. b || list_any is_barrier (drop k slots)) h)
 
 pub barrier-behind : (slots : List SlotValue) (i k : ℕ) → k ≡ suc i → i < length slots → is_barrier (slot_at slots i) ≡ false → list_any is_barrier (drop k slots) ≡ list_any is_barrier (drop i slots)
 barrier-behind slots i k e l h = sym (ap (list_any is_barrier) (drop-slot slots i k e l) ∙ ap (λ b. b || list_any is_barrier (drop k slots)) h)
 
--- what is answered where the slot of the name is reached
+-- the result when the slot of the name is reached
 pub found-here : (name : Text) (slots : List SlotValue) (len i k : ℕ) (b : Bool) → k ≡ suc i → i < length slots → len ≡ length slots → is_named name (slot_at slots i) ≡ true → number name (drop k slots) ≡ None → b ≡ list_any is_barrier (drop k slots) → ◌≡◌ {A = ℕ × Bool} (len - i, b) (unwrap_or (number name slots) 0, barrier_before name slots)
 found-here name slots len i k b e l s here none barrier =
     let none' : number name (drop (suc i) slots) ≡ None = ap (λ j. number name (drop j slots)) (sym e) ∙ none in
@@ -57,7 +57,7 @@ found-here name slots len i k b e l s here none barrier =
     let at : Bool → ℕ × Bool = λ c. (len - i, c) in
     ap at below ∙ ap both found
 
--- what the texts of a slot say of it
+-- what the texts of a slot say about it
 pub and-false : (b : Bool) → (b && false) ≡ false
 and-false true = refl
 and-false false = refl
@@ -75,7 +75,7 @@ pub number-empty : (name : Text) → number name [] ≡ None
 unfolding number
 number-empty name = refl
 
--- The number of a name points at the latest slot of it.
+-- The number of a name refers to its latest slot.
 lower-place : (s : SlotValue) (later : List SlotValue) (place : ℕ) → place ≤ length later → slot_from_latest (s ∷ later) place ≡ slot_from_latest later place
 lower-place s later place l =
     let e : suc (length later) - place ≡ suc (length later - place) = omega arith in

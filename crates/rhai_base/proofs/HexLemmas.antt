@@ -1,20 +1,20 @@
--- What `{:016x}` writes is the last sixteen digits.
+-- `{:016x}` writes the last sixteen digits.
 use Rattle.std.proofs.Common.{◌≡◌, ℕ, suc, zero, ◌+◌, ◌-◌, ◌/◌, ◌%◌, ◌^◌, ◌<◌, ◌∙◌, ◌==◌, Bool, true, false, cond, List, [], ◌∷◌, ◌++◌, length, replicate, ap, sym, refl, arith, append_assoc, append-nil, eqb-true, eq-eqb, pow-suc}
 use Rattle.std.specs.Fmt.{digits, digits_onto, padded_integral, format_spec, char_count}
 use Rattle.std.proofs.lemmas.List.{replicate_more}
 use Rattle.rhai_base.specs.ClosureNames.{hex_digit, last_hex_digits}
 
--- of 0 the digits are zeros
+-- the digits of 0 are zeros
 last-of-zero : (count : ℕ) → last_hex_digits count 0 ≡ replicate count 48
 unfolding last_hex_digits
 last-of-zero zero = refl
 last-of-zero (suc count) = ap (λ front. front ++ 48 ∷ []) (last-of-zero count) ∙ replicate_more count 48 ∙ ap (λ n. replicate n 48) {x = count + 1} {y = suc count} (omega arith)
 
--- digits with so many zeros before them that they make up the count, besides those that stand behind
+-- digits with as many zeros before them as the count needs, not counting those of `acc` after them
 abbrev with-zeros : ℕ → List ℕ → List ℕ → List ℕ
 with-zeros count acc ds = replicate (count + length acc - length ds) 48 ++ ds
 
--- one digit more is written, and perhaps it is the first
+-- one more digit is written, and it may be the first
 one-digit : (k n : ℕ) (acc : List ℕ) (b : Bool) → (n / 16 == 0) ≡ b → digits_onto (suc k) 16 false n acc ≡ cond b (hex_digit (n % 16) ∷ acc) (digits_onto k 16 false (n / 16) (hex_digit (n % 16) ∷ acc))
 one-digit k n acc b e = ap (λ t. cond t (hex_digit (n % 16) ∷ acc) (digits_onto k 16 false (n / 16) (hex_digit (n % 16) ∷ acc))) e
 
@@ -50,7 +50,7 @@ padded-digits (suc count) (suc k) n acc small l =
         ∙ more_digits
         ∙ sym (append_assoc (last_hex_digits (suc count) (n / 16)) (hex_digit (n % 16) ∷ []) acc)
 
--- sixteen places, filled with zeros
+-- sixteen columns, filled with zeros
 sixteen-places : (ds : List ℕ) → padded_integral (format_spec 32 0 4 16 (2 ^ 64 - 1)) false [] ds ≡ with-zeros 16 [] ds
 unfolding padded_integral char_count
 sixteen-places ds =
@@ -61,7 +61,7 @@ all-digits : (n : ℕ) → digits 16 false n ≡ digits_onto 64 16 false n []
 unfolding digits
 all-digits n = refl
 
--- what `{:016x}` writes of a number
+-- what `{:016x}` writes for a number
 pub padded_hex : (n : ℕ) → n < 2 ^ 64 → padded_integral (format_spec 32 0 4 16 (2 ^ 64 - 1)) false [] (digits 16 false n) ≡ last_hex_digits 16 n
 padded_hex n small =
     sixteen-places (digits 16 false n)

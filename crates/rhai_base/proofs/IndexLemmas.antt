@@ -35,7 +35,7 @@ same-refl : (t : Text) → same_text t t ≡ true
 same-refl [] = refl
 same-refl (b ∷ bs) = ap (λ x. x && same_text bs bs) (eq-eqb b b refl) ∙ same-refl bs
 
--- a name that is there already
+-- a name that is listed already
 present : (name : Text) (names : List (RcStr Global)) (k : RcStr Global) → list_any (same_name k) names ≡ true → same_text (rc_str_bytes k) name ≡ true → listed name names ≡ true
 present name [] k h e = cc
 present name (n ∷ names) k h e = by (same_name k n) refl (present name names k)
@@ -50,7 +50,7 @@ present name (n ∷ names) k h e = by (same_name k n) refl (present name names k
         ap (λ x. x || listed name names) (ap (λ x. same_text x name) same ∙ same-refl name)
     by false t rest = ap (λ x. same_text (rc_str_bytes n) name || x) (rest (sym (ap (λ x. x || list_any (same_name k) names) t) ∙ h) e) ∙ or-true (same_text (rc_str_bytes n) name)
 
--- once a name is inserted, it is listed too
+-- after a name is inserted, it is listed too
 pub inserted : (name : Text) (names : List (RcStr Global)) (k : RcStr Global) → listed name (insert_key same_name names k) ≡ (listed name names || same_text (rc_str_bytes k) name)
 inserted name names k = by (list_any (same_name k) names) refl
   where
@@ -69,7 +69,7 @@ closures-more keys k = sum_by-append (λ x. cond (is_closure x) 1 0) keys (k ∷
 pub closures-within : {V : Type 0} (entries : List (FnKey × V)) → closures (keys_of entries) ≤ length entries
 closures-within entries = let a = count_by-le-length is_closure (keys_of entries) in let b = length-map entries (λ e. key_of e.0) in omega arith
 
--- a function's name is inserted, and its key stands behind the others
+-- a function's name is inserted, and its key is appended
 pub names-more : (name : Text) (old new : List (RcStr Global)) (k : RcStr Global) (keys : List Key) (key : Key) → new ≡ insert_key same_name old k → rc_str_bytes k ≡ key.name → listed name old ≡ has_name name keys → listed name new ≡ has_name name (keys ++ key ∷ [])
 names-more name old new k keys key e t h =
     ap (listed name) e

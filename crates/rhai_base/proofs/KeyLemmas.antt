@@ -1,4 +1,4 @@
--- Keys of the code and what they stand for.
+-- Keys of the code and what they represent.
 use Rattle.std.proofs.Common.{◌≡◌, Bool, true, false, ◌&&◌, ◌||◌, cond, nat_eq, List, [], ◌∷◌, Option, None, Some, option_map, is_some, map, ap, sym, refl, ◌∙◌}
 use Rattle.std.specs.Map.{lookup}
 use Rattle.std.specs.Rc.{rc_str_bytes}
@@ -8,7 +8,7 @@ use Rattle.rhai_lower.specs.Texts.{same_text}
 use Rattle.rhai_grammar.specs.declared.key.FnKey.{FnKey}
 use Rattle.rhai_base.specs.Keys.{key_of, keys_of, same_type, same_key, has_key}
 
--- equality of keys as it is derived
+-- the derived equality of keys
 abbrev pub equal_types : Option (RcStr Global) → Option (RcStr Global) → Bool
 equal_types None None = true
 equal_types (Some a) (Some b) = same_text (rc_str_bytes a) (rc_str_bytes b)
@@ -26,7 +26,7 @@ equal-types (Some a) (Some b) = refl
 pub equal-keys : (a b : FnKey) → equal_keys a b ≡ same_key (key_of a) (key_of b)
 equal-keys a b = ap (λ t. t && (same_text (rc_str_bytes a.name) (rc_str_bytes b.name) && nat_eq a.params b.params)) (equal-types a.this_type b.this_type)
 
--- a look-up finds a key that is there
+-- a look-up finds a key that is in the library
 pub found-key : {V : Type 0} (k : FnKey) (entries : List (FnKey × V)) → is_some (lookup (equal_keys k) entries) ≡ has_key (key_of k) (keys_of entries)
 found-key k [] = refl
 found-key k (e ∷ es) = by (equal_keys k e.0) refl (found-key k es)
@@ -39,7 +39,7 @@ pub absent : {V : Type 0} (o : Option V) → is_some o ≡ false → o ≡ None
 absent None h = refl
 absent (Some x) h = cc
 
--- the keys of the code in their order, as they are iterated
+-- the keys of the code in order, as they are iterated
 pub keys-shown : {V : Type 0} (entries : List (FnKey × V)) → keys_of entries ≡ map key_of (map (λ e. e.0) entries)
 keys-shown [] = refl
 keys-shown (e ∷ es) = ap (λ ks. key_of e.0 ∷ ks) (keys-shown es)

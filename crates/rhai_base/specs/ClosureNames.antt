@@ -1,4 +1,4 @@
--- What closures are named.
+-- The names of closures.
 use Rattle.std.specs.Prelude.{◌≡◌, ℕ, zero, suc, ◌+◌, ◌/◌, ◌%◌, ◌^◌, ◌-◌, [], ◌∷◌, ◌++◌, nat_lt, if◌then◌else◌, codes, refl}
 use Rattle.rhai_lower.specs.Texts.{Text}
 
@@ -6,16 +6,16 @@ use Rattle.rhai_lower.specs.Texts.{Text}
 abbrev pub hex_digit : ℕ → ℕ
 hex_digit d = if nat_lt d 10 then 48 + d else 87 + d
 
--- the last so many hexadecimal digits of a number
+-- the last hexadecimal digits of a number, as many as `count` (the first argument)
 unfoldable pub last_hex_digits : ℕ → ℕ → Text
 last_hex_digits zero n = []
 last_hex_digits (suc count) n = last_hex_digits count (n / 16) ++ hex_digit (n % 16) ∷ []
 
--- the name of the closure of this number
+-- the name of the closure with this number
 abbrev pub closure_name : ℕ → Text
 closure_name n = codes "anon$" ++ last_hex_digits 16 n
 
--- The first closure's name, that of number 3054, and the last that there can be.
+-- The first closure's name, that of number 3054, and the last possible one.
 example :
     (closure_name 0 ≡ codes "anon$0000000000000000")
     × (closure_name 3054 ≡ codes "anon$0000000000000bee")

@@ -1,8 +1,10 @@
--- How many functions and closures were begun, how many grammar functions are active, and the most that were so at once.
+-- How many functions and closures have begun, how many grammar functions are active, and the greatest number active at
+-- once.
 use Rattle.std.specs.Prelude.{◌≡◌, ℕ, ◌-◌, ◌^◌, max, refl}
 use Rattle.rhai_grammar.specs.Settings.{one_more}
 use Rattle.rhai_base.specs.declared.counts.ParseCounts.{ParseCounts}
 
+-- functions and closures begun, grammar functions active, and the greatest number active at once
 pub record Counts : Type 0 where
   pub begun : ℕ
   pub active : ℕ
@@ -12,30 +14,31 @@ pub record Counts : Type 0 where
 abbrev pub counts_of : ParseCounts → Counts
 counts_of c = record { begun = c.begun; active = c.active; peak = c.peak }
 
+-- the counts before anything is parsed
 abbrev pub none_yet : Counts
 none_yet = record { begun = 0; active = 0; peak = 0 }
 
--- a function or closure more; the greatest number stays
+-- one more function or closure; saturates
 abbrev pub with_begun : Counts → Counts
 with_begun c = record c { begun = one_more c.begun }
 
--- a function or closure less; 0 stays
+-- one function or closure less; saturates at 0
 abbrev pub with_ended : Counts → Counts
 with_ended c = record c { begun = c.begun - 1 }
 
--- a grammar function more is active, and the peak follows up
+-- one more grammar function is active; saturates, and the peak follows
 abbrev pub with_entered : Counts → Counts
 with_entered c = record c { active = one_more c.active; peak = max c.peak (one_more c.active) }
 
--- a grammar function less is active; the peak stays
+-- one grammar function less is active; saturates at 0, and the peak stays
 abbrev pub with_left : Counts → Counts
 with_left c = record c { active = c.active - 1 }
 
 abbrev counted : ℕ → ℕ → ℕ → Counts
 counted begun active peak = record { begun = begun; active = active; peak = peak }
 
--- Two enter and one leaves, and another enters: two are active, and at no time more were. At 0 and at the greatest number
--- each count stays.
+-- Two enter, one leaves, and another enters: two are active, and never were more. At 0 and at the greatest `usize` each
+-- count saturates.
 example :
     (with_entered (with_left (with_entered (with_entered none_yet))) ≡ counted 0 2 2)
     × (with_left (with_entered (with_entered none_yet)) ≡ counted 0 1 2)

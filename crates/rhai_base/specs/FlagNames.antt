@@ -2,6 +2,7 @@
 use Rattle.std.specs.Prelude.{◌≡◌, List, [], ◌∷◌, Some, codes, refl}
 use Rattle.bitflags.specs.Sets.{Row, known_bits, known_from, find_name, find_row}
 
+-- the flags, with their bits
 abbrev pub flag_names : List Row
 flag_names =
     (codes "GLOBAL_LEVEL", 1)
@@ -12,6 +13,7 @@ flag_names =
     ∷ (codes "DISALLOW_UNQUOTED_MAP_PROPERTIES", 32)
     ∷ []
 
+-- the options, with their bits
 abbrev pub option_names : List Row
 option_names =
     (codes "IF_EXPR", 1)
@@ -24,7 +26,7 @@ option_names =
     ∷ (codes "SHADOWING", 128)
     ∷ []
 
--- Six bits are flags and all eight are options, and `LOOPING` is the bit of 32.
+-- Six bits are flags, all eight are options, and `LOOPING` is bit 32.
 example :
     (known_bits flag_names ≡ 63)
     × (known_bits option_names ≡ 255)

@@ -16,11 +16,11 @@ listed name names = list_any (λ n. same_text (rc_str_bytes n) name) names
 abbrev pub is_listed : Text → FnNames → Bool
 is_listed name index = listed name index.names.keys
 
--- how many closures an index counts
+-- the number of closures in an index
 abbrev pub counted : FnNames → ℕ
 counted index = index.closures
 
--- An index agrees with the keys of a library: it has the names of the functions, and counts the closures.
+-- An index agrees with the keys of a library: it has the names of the functions, and the number of closures.
 pub record Agrees (index : FnNames) (keys : List Key) : Type 0 where
   pub names : (name : Text) → is_listed name index ≡ has_name name keys
   pub closures : counted index ≡ closures keys

@@ -1,4 +1,4 @@
--- The settings of the code as definitions see them, and what a raise of the level makes of them.
+-- The settings of the code as the definitions see them, and what a raise of the level makes of them.
 use Rattle.std.specs.Prelude.{◌≡◌, ℕ, true, false, Result, Ok, Err, refl}
 use Rattle.rhai_lower.specs.Positions.{place}
 use Rattle.rhai_lower.specs.declared.position.Position.{Position}
@@ -7,16 +7,16 @@ use Rattle.rhai_grammar.specs.declared.error.ParseError.{ParseError}
 use Rattle.rhai_grammar.specs.Settings.{Settings, low, up, one_more}
 use Rattle.rhai_base.specs.declared.settings.ParseSettings.{ParseSettings}
 
--- all but the position
+-- everything except the position
 abbrev pub settings_of : ParseSettings → Settings
 settings_of c = record { flags = c.flags.0; options = c.options.0; level = c.level; limit = c.max_expr_depth }
 
--- the refusal of a raise
+-- the error of a refused raise
 abbrev pub too_deep : Position → ParseError
 too_deep at = record { 0 = error.ExprTooDeep; 1 = at }
 
--- A raise finds room and gives the settings one level deeper, at this position, or it finds none and is refused at the
--- old one.
+-- A raise is possible and gives the settings one level deeper, at this position; or it is not possible and is refused
+-- at the old position.
 abbrev pub Raises : ParseSettings → Position → Result ParseSettings ParseError → Type 0
 Raises c at (Ok d) = (low (settings_of c) ≡ true) × (settings_of d ≡ up (settings_of c)) × (d.pos ≡ at)
 Raises c at (Err e) = (low (settings_of c) ≡ false) × (e ≡ too_deep c.pos)
@@ -37,7 +37,7 @@ raises_below_the_limit = Raises (bare 1 2 (place 1 1)) (place 1 5) (Ok (bare 2 2
 abbrev is_refused_at_the_limit : Type 0
 is_refused_at_the_limit = Raises (bare 2 2 (place 1 1)) (place 1 5) (Err (too_deep (place 1 1)))
 
--- Under a limit of 2, level 1 is raised to 2 and level 2 is refused where it stands.
+-- Under a limit of 2, level 1 is raised to 2, and level 2 is refused at its position.
 example : raises_below_the_limit × is_refused_at_the_limit
 unfolding one_more
 example = ((refl, refl, refl), (refl, refl))

@@ -1,4 +1,4 @@
--- The state in which nothing was read yet.
+-- The state before anything is parsed.
 use Rattle.std.specs.Prelude.{◌≡◌, true, false, List, [], Vec}
 use Rattle.std.specs.declared.alloc.Global.{Global}
 use Rattle.std.specs.declared.rc.RcStr.{RcStr}
@@ -8,8 +8,8 @@ use Rattle.rhai_grammar.specs.declared.filter.ExprFilter.TheVariants.{All}
 use Rattle.rhai_base.specs.Counts.{counts_of, none_yet}
 use Rattle.rhai_base.specs.declared.state.ParseState.{ParseState}
 
--- The next token is asked for in code mode, every token may stand in an expression, there is no slot, no captured name and
--- no import, and all counts are 0. The library is not spoken of: it may hold functions.
+-- The next token is requested in code mode, every token is allowed in an expression, there is no slot, no captured name
+-- and no import, and all counts are 0. Nothing is said about the library: it may hold functions.
 pub record IsFresh (s : ParseState (List SlotValue) (Vec (RcStr Global × Position) Global) (Vec (RcStr Global) Global)) : Type 0 where
   pub mode : s.input.now.in_text ≡ false
   pub filter : s.expr_filter ≡ All

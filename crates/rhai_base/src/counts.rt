@@ -1,21 +1,21 @@
-//! How much was begun and how deep it is nested.
+//! How many functions have begun, and how deeply grammar functions are nested.
 
 ghost use Rattle.std.specs.Prelude.{◌≡◌};
 ghost use Rattle.rhai_base.specs.Counts.{counts_of, none_yet, with_begun, with_ended, with_entered, with_left};
 
-/// How many functions and closures were begun, and how many grammar functions are active.
+/// How many functions and closures have begun, and how many grammar functions are active.
 #[derive(Clone, Copy, PartialEq, Eq, Hash, Debug)]
 pub struct ParseCounts {
-    // Functions and closures begun.
+    // Functions and closures that have begun.
     begun: usize,
-    // Grammar functions active.
+    // Grammar functions that are active.
     active: usize,
-    // The most that were active at once.
+    // The greatest number that was active at once.
     peak: usize,
 }
 
 impl ParseCounts {
-    /// Nothing was begun, and no grammar function is active. It takes no memory.
+    /// No function has begun, and no grammar function is active. Does not allocate.
     pub fn new() -> Self
         ensures { counts_of result ≡ none_yet }
     {
@@ -26,14 +26,14 @@ impl ParseCounts {
         }
     }
 
-    /// How many functions and closures were begun. It takes no memory.
+    /// The number of functions and closures that have begun. Does not allocate.
     pub fn fn_begun(&self) -> usize
         ensures { result ≡ (counts_of self.now).begun }
     {
         self.begun
     }
 
-    /// Counts one more function or closure; the greatest number stays. It takes no memory.
+    /// Counts one more function or closure; saturates. Does not allocate.
     #[tactic(auto, unfolding(rhai_grammar::specs::Settings::one_more))]
     pub fn fn_begin(&mut self)
         ensures { counts_of self.new ≡ with_begun (counts_of self.old) }
@@ -41,14 +41,14 @@ impl ParseCounts {
         self.begun = self.begun.saturating_add(1);
     }
 
-    /// Counts one function or closure less; 0 stays. It takes no memory.
+    /// Counts one function or closure less; saturates at 0. Does not allocate.
     pub fn fn_end(&mut self)
         ensures { counts_of self.new ≡ with_ended (counts_of self.old) }
     {
         self.begun = self.begun.saturating_sub(1);
     }
 
-    /// Counts one more active grammar function; the greatest number stays. The peak follows. It takes no memory.
+    /// Counts one more active grammar function; saturates. The peak follows. Does not allocate.
     #[tactic(auto, unfolding(rhai_grammar::specs::Settings::one_more))]
     pub fn nest_enter(&mut self)
         ensures { counts_of self.new ≡ with_entered (counts_of self.old) }
@@ -57,14 +57,14 @@ impl ParseCounts {
         self.peak = self.peak.max(self.active);
     }
 
-    /// Counts one active grammar function less; 0 stays, and so does the peak. It takes no memory.
+    /// Counts one active grammar function less; saturates at 0. The peak stays. Does not allocate.
     pub fn nest_leave(&mut self)
         ensures { counts_of self.new ≡ with_left (counts_of self.old) }
     {
         self.active = self.active.saturating_sub(1);
     }
 
-    /// The greatest number of grammar functions that were active at once. It takes no memory.
+    /// The greatest number of grammar functions that were active at once. Does not allocate.
     pub fn nest_peak(&self) -> usize
         ensures { result ≡ (counts_of self.now).peak }
     {

@@ -1,4 +1,4 @@
-//! Looking at the tokens and taking them.
+//! Peeking at tokens and taking them.
 
 ghost use Rattle.std.specs.Prelude.{◌≡◌, ◌+◌, ◌≤◌, false};
 ghost use Rattle.std.specs.Borrow.{sem};
@@ -12,7 +12,7 @@ ghost use Rattle.rhai_base.specs.Shown.{Shows};
 use rhai_lower::{LexError, Position, Token, TokenStream};
 use std::alloc::AllocError;
 
-/// Whether the tokenizer ran out of memory at a token.
+/// Whether a token says that the tokenizer ran out of memory.
 fn is_memory(token: &Token) -> bool
     ensures { result ≡ is_memory (lexeme token.now) }
 {
@@ -22,8 +22,8 @@ fn is_memory(token: &Token) -> bool
     }
 }
 
-/// The next token with its position, which stays. The error, which `?` makes an `OutOfMemory` of, comes where the
-/// tokenizer ran out of memory at that token; it stays too. It takes no memory.
+/// The next token with its position, without taking it. Returns `AllocError` if the tokenizer ran out of memory at that
+/// token, which is not taken either; `?` turns the error into `OutOfMemory`. Does not allocate.
 #[tactic(auto, using(rhai_grammar::proofs::CursorLemmas::asked_item))]
 pub fn peek(input: &mut TokenStream) -> Result<&(Token, Position), AllocError>
     ensures shown { Shows (asked (cursor_of input.old)) result }
@@ -36,7 +36,7 @@ pub fn peek(input: &mut TokenStream) -> Result<&(Token, Position), AllocError>
     Ok(next)
 }
 
-/// Takes the next token, with its position. It takes no memory.
+/// Takes the next token with its position. Does not allocate.
 #[tactic(auto, using(rhai_grammar::proofs::CursorLemmas::asked_item, rhai_grammar::proofs::CursorLemmas::later_tokens, rhai_grammar::proofs::CursorLemmas::left_rest, rhai_grammar::proofs::CursorLemmas::left_taken))]
 pub fn take(input: &mut TokenStream) -> (Token, Position)
     ensures value { item_of result ≡ asked (cursor_of input.old) }
@@ -47,7 +47,7 @@ pub fn take(input: &mut TokenStream) -> (Token, Position)
     input.next()
 }
 
-/// Passes the next token. It takes no memory.
+/// Takes the next token and drops it. Does not allocate.
 #[tactic(auto, using(rhai_grammar::proofs::CursorLemmas::later_tokens, rhai_grammar::proofs::CursorLemmas::left_rest, rhai_grammar::proofs::CursorLemmas::left_taken))]
 pub fn skip(input: &mut TokenStream)
     ensures after { cursor_of input.new ≡ taking (cursor_of input.old) }

@@ -1,5 +1,5 @@
-//! What the readers of the parser share: the settings that they read under, the state that they
-//! work on, the look-ups in it, the library of functions, and the look at the next token.
+//! What the parsing functions share: the settings, the state, look-ups in the state, the library of functions, and
+//! access to the next token.
 #![tactic(auto)]
 
 pub mod closure_name;

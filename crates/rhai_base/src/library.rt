@@ -14,8 +14,8 @@ use std::rc::Rc;
 /// A script's functions and closures by their keys, in the order in which they end.
 pub type FnLib = IndexMap<FnKey, Rc<ScriptFuncDef>>;
 
-/// Whether two keys name one function: they have the same receiver type, name and number of parameters. Such keys have
-/// equal hashes. It takes no memory.
+/// Whether two keys are of the same function: they have the same receiver type, name and number of parameters. Such
+/// keys have equal hashes. Does not allocate.
 pub fn is_same_key(left: &FnKey, right: &FnKey) -> bool
     ensures value { result ≡ same_key (key_of left.now) (key_of right.now) }
     ensures parts { IsTrue result ↔ (key_of left.now ≡ key_of right.now) }
@@ -31,15 +31,15 @@ pub fn hash_key<H: Hasher>(key: &FnKey, state: &mut H)
     key.hash(state);
 }
 
-/// Whether a function has this key. It takes no memory.
+/// Whether a function has this key. Does not allocate.
 pub fn has_function(lib: &FnLib, key: &FnKey) -> bool
     ensures { result ≡ has_key (key_of key.now) (keys_of lib.now.entries) }
 {
     lib.contains_key(key)
 }
 
-/// Adds a function, whose key no other has, behind all others. The error is that there is no memory for it; then nothing
-/// changes.
+/// Appends a function. The caller has to prove that no function has its key yet. Returns `AllocError` if memory runs
+/// out; then nothing changes.
 pub fn add_function(
     lib: &mut FnLib,
     key: FnKey,
@@ -53,7 +53,7 @@ pub fn add_function(
     Ok(())
 }
 
-/// All functions, in the order in which they ended. The error is that there is no memory for the list.
+/// All functions, in the order in which they ended. Returns `AllocError` if memory runs out.
 pub fn functions(alloc: Global, lib: &FnLib) -> Result<Vec<Rc<ScriptFuncDef>>, AllocError>
     ensures { IfOk result (λ all. map (λ f. f.value) all.items ≡ map (λ f. f.value) (values lib.now)) }
 {
@@ -64,7 +64,7 @@ pub fn functions(alloc: Global, lib: &FnLib) -> Result<Vec<Rc<ScriptFuncDef>>, A
     Ok(all)
 }
 
-/// Whether a function or closure has this name. It takes no memory, and time for each function.
+/// Whether a function or closure has this name. Does not allocate. Takes time linear in the number of functions.
 pub fn is_function_name(lib: &FnLib, name: &str) -> bool
     ensures { result ≡ has_name name.now (keys_of lib.now.entries) }
 {
@@ -76,8 +76,8 @@ pub fn is_function_name(lib: &FnLib, name: &str) -> bool
     false
 }
 
-/// How many closures there are, which are the functions whose names begin with `anon$`. It takes no memory, and time for
-/// each function.
+/// The number of closures, which are the functions whose names begin with `anon$`. Does not allocate. Takes time linear
+/// in the number of functions.
 pub fn closure_count(lib: &FnLib) -> usize
     ensures { result ≡ closures (keys_of lib.now.entries) }
 {

@@ -1,4 +1,4 @@
-//! Where names lie among the slots and the imports.
+//! Look-ups of names among the slots and the imports.
 
 ghost use Rattle.std.specs.Prelude.{◌≡◌, ℕ, option_map, unwrap_or, map};
 ghost use Rattle.std.specs.Rc.{rc_str_bytes};
@@ -13,9 +13,10 @@ use std::rc::RcStr;
 /// The name of a barrier's slot.
 const BARRIER: &str = "$ BARRIER $";
 
-/// Where the variable `name` lies among slots: the place of its latest slot, counted from 1 at the latest of all, or 0 if
-/// no slot has the name; and whether a barrier, a slot of the name `$ BARRIER $`, lies before it, or anywhere if no slot
-/// has the name. A barrier does not stop the search, and is itself never found. It takes no memory.
+/// Looks up the variable `name`, from the latest slot to the oldest. The first result is the index of its latest slot,
+/// counted from 1 at the latest of all slots, or 0 if no slot has the name. The second is whether the search met a
+/// barrier before it ended, which is a slot named `$ BARRIER $`. A barrier does not stop the search, and is never found
+/// itself. Does not allocate.
 pub fn find_slot(slots: &Scope, name: &str) -> (usize, bool)
     ensures value { result ≡ (unwrap_or (number name.now slots.now) 0, barrier_before name.now slots.now) }
 {
@@ -32,7 +33,7 @@ pub fn find_slot(slots: &Scope, name: &str) -> (usize, bool)
     (0, barrier)
 }
 
-// The place of the latest import of this name.
+// The index of the latest import of this name, counted from 1 at the latest of all.
 fn find_import(imports: &[RcStr], name: &str) -> Option<NonZeroUsize>
     ensures { option_map (λ place. place.value) result ≡ module_number name.now (map rc_str_bytes imports.now) }
 {
@@ -45,9 +46,9 @@ fn find_import(imports: &[RcStr], name: &str) -> Option<NonZeroUsize>
 }
 
 impl<'a, 't, 'f> ParseState<'a, 't, 'f> {
-    /// Where the variable `name` lies: the place of its latest slot, counted from 1 at the latest of all slots, or 0 if no
-    /// slot has the name; and whether a barrier, a slot of the name `$ BARRIER $`, lies before it, or anywhere if no slot
-    /// has the name. A barrier does not stop the search, and is itself never found. It takes no memory.
+    /// Looks up the variable `name` in the state's slots, as [`find_slot`] does: the index of its latest slot, counted
+    /// from 1 at the latest of all slots, or 0 if no slot has the name; and whether the search met a barrier. Does not
+    /// allocate.
     pub fn find_var(&self, name: &str) -> (usize, bool)
         ensures value { result ≡ (unwrap_or (number name.now self.now.stack) 0, barrier_before name.now self.now.stack) }
         ensures latest { IsLatest name.now self.now.stack (number name.now self.now.stack) }
@@ -55,8 +56,8 @@ impl<'a, 't, 'f> ParseState<'a, 't, 'f> {
         find_slot(&self.stack, name)
     }
 
-    /// Where the module `name` lies: the place of its latest live import, counted from 1 at the latest of all imports. It
-    /// takes no memory.
+    /// The index of the latest live import of the module `name`, counted from 1 at the latest of all imports; `None` if
+    /// there is none. Does not allocate.
     pub fn find_module(&self, name: &str) -> Option<NonZeroUsize>
         ensures { option_map (λ place. place.value) result ≡ module_number name.now (map rc_str_bytes self.now.imports.items) }
     {

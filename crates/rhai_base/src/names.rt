@@ -20,7 +20,7 @@ pub struct FnNames {
 }
 
 impl FnNames {
-    /// The index of a library. The error is that there is no memory for it.
+    /// The index of a library. Returns `AllocError` if memory runs out.
     pub fn new(alloc: Global, lib: &FnLib) -> Result<Self, AllocError>
         ensures { IfOk result (λ index. Agrees index (keys_of lib.now.entries)) }
     {
@@ -35,22 +35,23 @@ impl FnNames {
         Ok(FnNames { names, closures })
     }
 
-    /// Whether a function or closure has this name. It takes no memory, and time that does not grow with the library.
+    /// Whether a function or closure has this name. Does not allocate. The time does not grow with the library.
     pub fn contains(&self, name: &str) -> bool
         ensures { result ≡ is_listed name.now self.now }
     {
         self.names.contains(name)
     }
 
-    /// How many closures there are. It takes no memory, and the same time always.
+    /// The number of closures. Does not allocate, and takes constant time.
     pub fn closure_count(&self) -> usize
         ensures { result ≡ counted self.now }
     {
         self.closures
     }
 
-    /// Adds a function, whose key no other has, behind all others of the library that this is the index of, and keeps
-    /// the index. The error is that there is no memory for it; then the library is unchanged, and this still its index.
+    /// Appends a function to `lib`, and updates this index. The caller has to prove that this is the index of `lib`,
+    /// and that no function has the key yet. Returns `AllocError` if memory runs out; then the library is unchanged,
+    /// and this is still its index.
     pub fn add_function(
         &mut self,
         lib: &mut FnLib,
@@ -66,7 +67,7 @@ impl FnNames {
         let closure = is_closure_key(&key);
         let name = key.name.clone()?;
         let more = self.closures_with(closure, lib);
-        // With room for the name nothing can fail once the function is in the library.
+        // With room reserved for the name, nothing can fail once the function is in the library.
         self.names.reserve(1)?;
         lib.insert(key, function)?;
         self.names.insert(name)?;
@@ -74,12 +75,12 @@ impl FnNames {
         Ok(())
     }
 
-    // The number of closures once one function more is there.
+    // The number of closures with one more function.
     fn closures_with(&self, closure: bool, lib: &FnLib) -> usize
         requires { Agrees self.now (keys_of lib.now.entries) }
         ensures { result ≡ (if closure then counted self.now + 1 else counted self.now) }
     {
-        // A library's length leaves room for one more.
+        // The length of a library shows that one more does not overflow.
         let _functions = lib.len();
         if closure {
             self.closures + 1

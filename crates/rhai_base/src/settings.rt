@@ -1,4 +1,4 @@
-//! The settings that a construct is read under.
+//! The settings under which a construct is parsed.
 
 ghost use Rattle.std.specs.Prelude.{⊤, ◌≡◌, ◌==◌};
 ghost use Rattle.std.specs.Int.RustNames.{bit_and, bit_or, bit_xor};
@@ -13,7 +13,7 @@ use std::ops::{
     BitAnd, BitAndAssign, BitOr, BitOrAssign, BitXor, BitXorAssign, Not, Sub, SubAssign,
 };
 
-/// Where a construct stands, and what it may not hold.
+/// The place of a construct, and what it must not contain.
 #[derive(Clone, Copy, PartialEq, Eq, PartialOrd, Ord, Hash, Debug)]
 pub struct ParseSettingFlags(u8);
 
@@ -30,13 +30,13 @@ impl ParseSettingFlags {
     /// In a loop, which `break` and `continue` can leave.
     pub const BREAKABLE: ParseSettingFlags = ParseSettingFlags(8);
 
-    /// A block holds one expression or assignment and nothing else.
+    /// A block consists of one expression or assignment.
     pub const DISALLOW_STATEMENTS_IN_BLOCKS: ParseSettingFlags = ParseSettingFlags(16);
 
-    /// The properties of an object map are strings.
+    /// The keys of an object map have to be strings.
     pub const DISALLOW_UNQUOTED_MAP_PROPERTIES: ParseSettingFlags = ParseSettingFlags(32);
 
-    /// Each of them with its name.
+    /// All flags, with their names.
     pub const FLAGS: &'static [Flag<ParseSettingFlags>] = &[
         Flag {
             name: "GLOBAL_LEVEL",
@@ -162,7 +162,7 @@ impl SubAssign for ParseSettingFlags {
 impl Not for ParseSettingFlags {
     type Output = ParseSettingFlags;
 
-    // Those of the named ones that are not set.
+    // The named flags that are not set.
     ghost not_gives = { λ a r. r.0 ≡ without 8 63 a.0 };
 
     fn not(self) -> ParseSettingFlags {
@@ -175,31 +175,31 @@ impl Not for ParseSettingFlags {
 pub struct LangOptions(u8);
 
 impl LangOptions {
-    /// `if` is an expression.
+    /// `if` is allowed as an expression.
     pub const IF_EXPR: LangOptions = LangOptions(1);
 
-    /// `switch` is an expression.
+    /// `switch` is allowed as an expression.
     pub const SWITCH_EXPR: LangOptions = LangOptions(2);
 
-    /// Loops are expressions.
+    /// Loops are allowed as expressions.
     pub const LOOP_EXPR: LangOptions = LangOptions(4);
 
-    /// A block is an expression.
+    /// Blocks are allowed as expressions.
     pub const STMT_EXPR: LangOptions = LangOptions(8);
 
-    /// There are closures.
+    /// Closures are allowed.
     pub const ANON_FN: LangOptions = LangOptions(16);
 
-    /// There are loops.
+    /// Loops are allowed.
     pub const LOOPING: LangOptions = LangOptions(32);
 
-    /// Each variable and module that is used is defined.
+    /// Each variable and module that is used has to be defined.
     pub const STRICT_VAR: LangOptions = LangOptions(64);
 
-    /// A variable may have the name of another.
+    /// A variable may shadow another one.
     pub const SHADOWING: LangOptions = LangOptions(128);
 
-    /// Each of them with its name.
+    /// All options, with their names.
     pub const FLAGS: &'static [Flag<LangOptions>] = &[
         Flag {
             name: "IF_EXPR",
@@ -333,7 +333,7 @@ impl SubAssign for LangOptions {
 impl Not for LangOptions {
     type Output = LangOptions;
 
-    // Those of the named ones that are not set.
+    // The named options that are not set.
     ghost not_gives = { λ a r. r.0 ≡ without 8 255 a.0 };
 
     fn not(self) -> LangOptions {
@@ -341,46 +341,46 @@ impl Not for LangOptions {
     }
 }
 
-/// The settings that a construct is read under.
+/// The settings under which a construct is parsed.
 #[derive(Debug, Clone, Copy, PartialEq, Eq, Hash)]
 pub struct ParseSettings {
-    /// Where the construct stands, and what it may not hold.
+    /// The place of the construct, and what it must not contain.
     pub flags: ParseSettingFlags,
     /// The parts of the language that it may use.
     pub options: LangOptions,
-    /// How deep it is nested, from 0.
+    /// How deeply it is nested, from 0.
     pub level: usize,
-    /// Where it begins.
+    /// The position where it begins.
     pub pos: Position,
-    /// The level that nothing is nested beyond; with 0 there is no limit.
+    /// The greatest level; 0 means no limit.
     pub max_expr_depth: usize,
 }
 
 impl ParseSettings {
-    /// Whether all of these flags are set. It takes no memory.
+    /// Whether all of these flags are set. Does not allocate.
     pub fn has_flag(&self, flags: ParseSettingFlags) -> bool
         ensures { result ≡ (bit_and self.now.flags.0 flags.0 == flags.0) }
     {
         self.flags.contains(flags)
     }
 
-    /// Whether all of these options are set. It takes no memory.
+    /// Whether all of these options are set. Does not allocate.
     pub fn has_option(&self, options: LangOptions) -> bool
         ensures { result ≡ (bit_and self.now.options.0 options.0 == options.0) }
     {
         self.options.contains(options)
     }
 
-    /// The settings one level deeper; the greatest level stays. Where there is a limit and the level has reached it, the
-    /// error is `ExprTooDeep` at the settings' position. It takes no memory.
+    /// The settings one level deeper; the level saturates at the greatest `usize`. If there is a limit and the level
+    /// has reached it, the error is `ExprTooDeep` at the settings' position. Does not allocate.
     pub fn level_up(&self) -> ParseResult<Self>
         ensures { Raises self.now self.now.pos result }
     {
         self.level_up_with_position(self.pos)
     }
 
-    /// The settings one level deeper, as `level_up` makes them, at position `pos`. An error stands at the old
-    /// position. It takes no memory.
+    /// The settings one level deeper, as from `level_up`, at position `pos`. An error has the old position. Does not
+    /// allocate.
     #[tactic(auto, unfolding(rhai_grammar::specs::Settings::one_more))]
     pub fn level_up_with_position(&self, pos: Position) -> ParseResult<Self>
         ensures { Raises self.now pos result }
@@ -395,7 +395,7 @@ impl ParseSettings {
         })
     }
 
-    /// The same settings at position `pos`. It takes no memory.
+    /// The same settings at position `pos`. Does not allocate.
     pub fn at(&self, pos: Position) -> Self
         ensures settings { settings_of result ≡ settings_of self.now }
         ensures position { result.pos ≡ pos }

@@ -1,4 +1,4 @@
-//! The state that the readers work on.
+//! The state of a parse.
 
 ghost use Rattle.std.specs.Prelude.{◌≡◌, [], true};
 ghost use Rattle.rhai_grammar.specs.declared.filter.ExprFilter.TheVariants.{All};
@@ -11,12 +11,13 @@ use rhai_lower::{Position, Scope, TokenStream};
 use std::alloc::Global;
 use std::rc::RcStr;
 
-/// What steers the tokenizer. The parser hands it on and reads nothing from it.
+/// Controls the tokenizer. The parser keeps it and does not read it.
 #[derive(Clone, Copy, PartialEq, Eq, Hash, Debug)]
 pub struct TokenizerControl;
 
-/// What a parser works on. It is written `ParseState<'a, 't, 'f>`: the types of the owned fields are parameters so that
-/// the contract of a call that takes a state by value can tell what the call leaves behind the two references.
+/// The state of a parse. It is written `ParseState<'a, 't, 'f>`: the types of the owned fields are parameters so that
+/// the contract of a call that takes a state by value can say what the call leaves in the stream and in the library,
+/// which the state borrows.
 #[derive(Drop)]
 pub struct ParseState<
     'a,
@@ -30,11 +31,11 @@ pub struct ParseState<
     pub input: &'t mut TokenStream,
     /// The functions and closures that have ended.
     pub lib: &'f mut FnLib,
-    /// How many functions and closures were begun, and how many grammar functions are active.
+    /// How many functions and closures have begun, and how many grammar functions are active.
     pub counts: ParseCounts,
-    /// What steers the tokenizer.
+    /// Controls the tokenizer.
     pub tokenizer_control: TokenizerControl,
-    /// Which tokens an expression may hold.
+    /// Which tokens an expression may contain.
     pub expr_filter: ExprFilter,
     /// Variables from outside the script.
     pub external_constants: Option<&'a Scope>,
@@ -42,19 +43,19 @@ pub struct ParseState<
     pub stack: Slots,
     /// The number of slots below the current block.
     pub frame_pointer: usize,
-    /// The names that a closure captures, each at its first use.
+    /// The names that a closure captures, each with the position of its first use.
     pub external_vars: Captures,
     /// Whether a name without a slot is captured.
     pub allow_capture: bool,
     /// The names of the live imports, from the oldest to the latest.
     pub imports: Names,
-    /// The names of the imports of the scripts and functions around.
+    /// The names of the imports of the enclosing scripts and functions.
     pub global_imports: Names,
 }
 
 impl<'a, 't, 'f> ParseState<'a, 't, 'f> {
-    /// The state in which nothing was read yet: every token may stand in an expression, there is no slot, import or
-    /// captured name, names may be captured, and all counts are 0. It takes no memory.
+    /// The state before anything is parsed: every token is allowed in an expression, there is no slot, import or
+    /// captured name, names may be captured, and all counts are 0. Does not allocate.
     pub fn new(
         alloc: Global,
         external_constants: Option<&'a Scope>,
@@ -94,7 +95,7 @@ impl<'a, 't, 'f> ParseState<'a, 't, 'f> {
     }
 }
 
-/// The greatest number of grammar functions that were active at once so far. It takes no memory.
+/// The greatest number of grammar functions that were active at once so far. Does not allocate.
 pub fn nest_peak(state: &ParseState<'_, '_, '_>) -> usize
     ensures { result ≡ (counts_of state.now.counts).peak }
 {

@@ -1,4 +1,4 @@
--- What asking a stream leaves.
+-- What a request leaves of a stream.
 use Rattle.std.proofs.Common.{◌≡◌, ◌+◌, ◌≤◌, Bool, true, false, List, [], ◌∷◌, refl, arith}
 use Rattle.rhai_lower.specs.Streams as S
 use Rattle.rhai_lower.specs.Streams.{Ask}
@@ -6,7 +6,7 @@ use Rattle.rhai_lower.specs.declared.position.Position.{Position}
 use Rattle.rhai_grammar.specs.Delivered.{ask, later, is_end}
 use Rattle.rhai_grammar.specs.Cursors.{item_of, delivered, mode_by, left}
 
--- the token that the code's stream gives is that of the delivered one
+-- the token that the code's stream gives is that of the delivered stream
 pub asked_item : (asks : List Ask) (end : Position) (m : Bool) → ask (mode_by m) (delivered asks end) ≡ item_of (S.first_of_asks asks end m)
 asked_item [] end m = refl
 asked_item (a ∷ more) end true = refl

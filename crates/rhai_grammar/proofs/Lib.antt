@@ -2,3 +2,6 @@ pub mod CursorLemmas
 pub mod SeenLemmas
 pub mod SpellingLemmas
 pub mod RowLemmas
+pub mod ChainLemmas
+pub mod FairLemmas
+pub mod ShapeLemmas

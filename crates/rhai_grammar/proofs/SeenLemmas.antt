@@ -1,4 +1,4 @@
--- What is given and left by tokens one after the other.
+-- What tokens taken one after the other give and leave.
 use Rattle.std.proofs.Common.{◌≡◌, List, [], ◌∷◌, ◌++◌, refl}
 use Rattle.rhai_grammar.specs.Delivered.{Tokens, Taken, later}
 use Rattle.rhai_grammar.specs.Seen.{Gives, leads, latest_first}

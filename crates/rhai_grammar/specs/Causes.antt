@@ -1,4 +1,4 @@
--- Why a script is refused, as definitions see it: texts are their bytes, and notes for people are left out.
+-- Why a script is refused, as the definitions see it: texts are bytes, and notes for people are left out.
 use Rattle.std.specs.Prelude.{◌≡◌, ℕ, Bool, true, false, refl}
 use Rattle.std.specs.Rc.{rc_str_bytes}
 use Rattle.rhai_lower.specs.Texts.{Text}
@@ -18,6 +18,7 @@ pub data InputCause : Type 0 where
   MalformedNumber : Text → InputCause
   ImproperSymbol : Text → InputCause
 
+-- why a script is refused: the kinds of error, with texts as bytes
 pub data Cause : Type 0 where
   UnexpectedEOF : Cause
   BadInput : InputCause → Cause
@@ -59,6 +60,7 @@ input_cause (input.Lexer e) = Lexer (fault e)
 input_cause (input.MalformedNumber t) = MalformedNumber (rc_str_bytes t)
 input_cause (input.ImproperSymbol t note) = ImproperSymbol (rc_str_bytes t)
 
+-- the cause of an error kind of the code
 abbrev pub cause_of : ParseErrorType → Cause
 cause_of error.UnexpectedEOF = UnexpectedEOF
 cause_of (error.BadInput e) = BadInput (input_cause e)
@@ -94,7 +96,7 @@ cause_of error.ExprTooDeep = ExprTooDeep
 cause_of error.TooManyFunctions = TooManyFunctions
 cause_of error.OutOfMemory = OutOfMemory
 
--- why, and where
+-- an error: its cause and its position
 pub record Refusal : Type 0 where
   pub cause : Cause
   pub at : Position
@@ -102,10 +104,11 @@ pub record Refusal : Type 0 where
 abbrev pub refusal : Cause → Position → Refusal
 refusal cause at = record { cause = cause; at = at }
 
+-- the refusal of an error of the code
 abbrev pub refusal_of : ParseError → Refusal
 refusal_of e = refusal (cause_of e.0) e.1
 
--- memory ran out, which stands nowhere
+-- the error when memory ran out, which has no position
 abbrev pub no_memory : ParseError
 no_memory = record { 0 = error.OutOfMemory; 1 = nowhere }
 
@@ -117,17 +120,19 @@ abbrev pub is_memory_kind : ParseErrorType → Bool
 is_memory_kind error.OutOfMemory = true
 is_memory_kind _ = false
 
+-- the error says that memory ran out
 abbrev pub is_for_memory : ParseError → Bool
 is_for_memory e = is_memory_kind e.0
 
--- If memory ran out, the error stands nowhere.
+-- If memory ran out, the error has no position.
 abbrev pub MemoryIsNowhere : ParseError → Type 0
 MemoryIsNowhere e = is_for_memory e ≡ true → e ≡ no_memory
 
--- The error says that a script is refused so, unless memory ran out for saying it, which stands nowhere.
+-- The error reports this refusal, unless memory ran out while it was made; then it has no position.
 abbrev pub Says : Refusal → ParseError → Type 0
 Says r e = (is_for_memory e ≡ false → refusal_of e ≡ r) × MemoryIsNowhere e
 
+-- the refusal when memory ran out, without a position
 abbrev pub out_of_memory : Refusal
 out_of_memory = refusal OutOfMemory nowhere
 

@@ -8,43 +8,47 @@ use Rattle.rhai_lower.specs.declared.token.Token.{Token}
 use Rattle.rhai_lower.specs.declared.token.Token.TheVariants.{Plus}
 use Rattle.rhai_grammar.specs.Delivered.{Mode, code, text, Item, item, Tokens, Ends, Then, ask, later}
 
+-- a token of the code with its position, as the definitions see it
 abbrev pub item_of : Token × Position → Item
 item_of t = item (lexeme t.0) t.1
 
+-- the tokens that these requests deliver, up to the end mark at this position
 abbrev pub delivered : List Ask → Position → Tokens
 delivered [] end = Ends end
 delivered (a ∷ more) end = let rest = delivered more end in Then (item_of a.code) (item_of a.text) rest rest
 
--- what a stream still delivers
+-- the tokens that a stream will still deliver
 abbrev pub tokens_of : Stream → Tokens
 tokens_of s = delivered s.asks s.end
 
+-- the mode of a request; the flag says whether it is text mode
 abbrev pub mode_by : Bool → Mode
 mode_by true = text
 mode_by false = code
 
--- what is left of a stream, the mode of the next ask, and whether its token is peeked
+-- what is left of a stream, the mode of the next request, and whether its token is peeked
 pub record Cursor : Type 0 where
   pub tokens : Tokens
   pub mode : Mode
   pub peeked : Bool
 
+-- the stream of the code as a cursor
 abbrev pub cursor_of : Stream → Cursor
 cursor_of s = record { tokens = tokens_of s; mode = mode_by s.in_text; peeked = s.peeked }
 
--- the token that the next ask gives
+-- the token that the next request gives
 abbrev pub asked : Cursor → Item
 asked s = ask s.mode s.tokens
 
--- where that token was peeked
+-- the cursor after that token was peeked
 abbrev pub looking : Cursor → Cursor
 looking s = record s { peeked = true }
 
--- where it was taken
+-- the cursor after that token was taken
 abbrev pub taking : Cursor → Cursor
 taking s = record { tokens = later s.mode s.tokens; mode = code; peeked = false }
 
--- how many tokens are left at most
+-- the greatest number of tokens that may be left
 unfoldable pub left : Tokens → ℕ
 left (Ends p) = 0
 left (Then a b s t) = max (left s) (left t) + 1

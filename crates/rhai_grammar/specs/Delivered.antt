@@ -1,47 +1,50 @@
--- The delivered stream, and what is seen of it.
+-- The delivered stream, and what was taken of it.
 use Rattle.std.specs.Prelude.{◌≡◌, Bool, true, false, List, ◌∷◌, refl}
 use Rattle.rhai_lower.specs.Positions.{place}
 use Rattle.rhai_lower.specs.Lexemes.{Lexeme, Faulty, Sign, NoMemory}
 use Rattle.rhai_lower.specs.declared.position.Position.{Position}
 use Rattle.rhai_lower.specs.declared.token.Token.TheVariants.{EOF, Plus}
 
--- The mode in which a token is asked for: text mode behind a block of an interpolated string, else code mode.
+-- The mode in which a token is requested: text mode after a block of an interpolated string, otherwise code mode.
 pub data Mode : Type 0 where
   code : Mode
   text : Mode
 
--- a token and where it stands
+-- a token and its position
 pub record Item : Type 0 where
   pub lexeme : Lexeme
   pub at : Position
 
+-- this token at this position
 abbrev pub item : Lexeme → Position → Item
 item l p = record { lexeme = l; at = p }
 
--- At each place a token for each mode, and what is left once it was asked for in that mode; at last the end mark, for good.
+-- A token for each mode, and what is left after it was requested in that mode; at the end, the end mark forever.
 pub data Tokens : Type 0 where
   Ends : (at : Position) → Tokens
   Then : (in_code in_text : Item) (after_code after_text : Tokens) → Tokens
 
+-- the first value in code mode, the second in text mode
 abbrev pub by_mode : {A : Type 0} → Mode → A → A → A
 by_mode code in_code in_text = in_code
 by_mode text in_code in_text = in_text
 
--- the token asked for in a mode
+-- the token requested in a mode
 abbrev pub ask : Mode → Tokens → Item
 ask m (Ends p) = item (Sign EOF) p
 ask m (Then a b s t) = by_mode m a b
 
--- what is left once it was taken
+-- what is left after it was taken
 abbrev pub later : Mode → Tokens → Tokens
 later m (Ends p) = Ends p
 later m (Then a b s t) = by_mode m s t
 
+-- the end mark
 abbrev pub is_end : Lexeme → Bool
 is_end (Sign EOF) = true
 is_end _ = false
 
--- the tokenizer found no memory
+-- the tokenizer ran out of memory
 abbrev pub is_memory : Lexeme → Bool
 is_memory (Faulty NoMemory) = true
 is_memory _ = false
@@ -51,21 +54,22 @@ pub record Taken : Type 0 where
   pub mode : Mode
   pub item : Item
 
--- what is left of a stream, and what was taken of it, the latest first
+-- what is left of a stream, and what was taken of it, the latest token first
 pub record Point : Type 0 where
   pub tokens : Tokens
   pub taken : List Taken
 
+-- the next token at a point, requested in a mode
 abbrev pub next_at : Mode → Point → Item
 next_at m s = ask m s.tokens
 
--- one token further
+-- the point after one more token
 abbrev pub past : Mode → Point → Point
 past m s = record { tokens = later m s.tokens; taken = record { mode = m; item = ask m s.tokens } ∷ s.taken }
 
 abbrev example_tokens : Tokens
 example_tokens = Then (item (Sign Plus) (place 1 1)) (item (Sign Plus) (place 1 1)) (Ends (place 1 2)) (Ends (place 1 2))
 
--- Behind the only token stands the end mark, however often it is asked for.
+-- After the only token comes the end mark, however often it is requested.
 example : (ask code example_tokens ≡ item (Sign Plus) (place 1 1)) × (ask text (later code (later code example_tokens)) ≡ item (Sign EOF) (place 1 2))
 example = (refl, refl)

@@ -1,32 +1,33 @@
--- What may be demanded of a stream, when demands are met along it, and when the next one is missed.
+-- What a form may demand of a stream, when the demands are met along the stream, and when the next one is missed.
 use Rattle.std.specs.Prelude.{◌≡◌, ◌⊎◌, Bool, true, false, if◌then◌else◌}
 use Rattle.rhai_lower.specs.Lexemes.{Lexeme}
 use Rattle.rhai_lower.specs.declared.position.Position.{Position}
 use Rattle.rhai_grammar.specs.Causes.{Cause, Refusal, refusal}
 use Rattle.rhai_grammar.specs.Delivered.{Mode, code, Item, Point, next_at, past, is_memory}
 
--- what a token says that stands where another is due
+-- what follows from a token in place of a required one
 pub data Verdict : Type 0 where
-  -- it may stand here
+  -- it is allowed here
   Fine : Verdict
-  -- it is refused, for this cause and at its position
+  -- it is refused, with this cause and at its position
   Wrong : Cause → Verdict
-  -- something before it is refused so
+  -- something before it is refused, with this error
   Blames : Refusal → Verdict
-  -- another form goes on so
+  -- no error: another form continues with it
   Otherwise : Verdict
 
 infixr 5 ◌▸◌
+-- what a form demands at one point of a stream
 pub data Demand : Type 0 where
-  -- this token stands here, asked for in this mode; of other tokens some are refused
+  -- this token comes next, requested in this mode, and is taken; some other tokens are refused
   Tok : Mode → Item → (others : Lexeme → Verdict) → Demand
-  -- this token comes next, and is not taken; of other tokens some are refused
+  -- this token comes next, and is not taken; some other tokens are refused
   Ahead : Item → (others : Lexeme → Verdict) → Demand
-  -- a test of the token that comes next, which is not taken
+  -- a test of the next token, which is not taken
   Next : (Lexeme → Verdict) → Demand
-  -- a test of what was read, and what is refused where it fails
+  -- a test of what was parsed, and the error if it fails
   Test : Bool → Refusal → Demand
-  -- a bound on what may be written so, which refuses nothing
+  -- a condition on the form; no error belongs to it
   Shape : Bool → Demand
 
 -- demands in written order
@@ -34,7 +35,8 @@ pub data Demands : Type 0 where
   Nothing : Demands
   ◌▸◌ : Demand → Demands → Demands
 
--- Where the tokenizer found no memory no form goes on, and the parser refuses for want of memory, whatever is due.
+-- No form continues over a token for which the tokenizer ran out of memory: the parser refuses with `OutOfMemory`
+-- there, whatever is expected.
 abbrev pub verdict : (Lexeme → Verdict) → Lexeme → Verdict
 verdict v l = if is_memory l then Otherwise else v l
 
@@ -47,18 +49,18 @@ Met (Next v ▸ ds) s t = (verdict v (next_at code s).lexeme ≡ Fine) × Met ds
 Met (Test holds e ▸ ds) s t = (holds ≡ true) × Met ds s t
 Met (Shape holds ▸ ds) s t = (holds ≡ true) × Met ds s t
 
--- what a verdict on a token at this position refuses
+-- the error that follows from a verdict on a token at this position
 abbrev pub Refuses : Verdict → Position → Refusal → Type 0
 Refuses (Wrong cause) at e = e ≡ refusal cause at
 Refuses (Blames d) at e = e ≡ d
 Refuses Fine at e = ⊥
 Refuses Otherwise at e = ⊥
 
--- A verdict on the tokens that may stand at a point refuses the one that does.
+-- The verdict on the token at a point is this error.
 abbrev pub Refused : (Lexeme → Verdict) → Item → Refusal → Type 0
 Refused v i e = Refuses (verdict v i.lexeme) i.at e
 
--- Some demands are met from one point to another, and there the next one is missed, which names the refusal.
+-- The demands are met from one point up to another, and there the next one is missed, with this error.
 abbrev pub Missed : Demands → Point → Refusal → Point → Type 0
 Missed Nothing s e u = ⊥
 Missed (Tok m i others ▸ ds) s e u = (Refused others (next_at m s) e × (u ≡ s)) ⊎ ((next_at m s ≡ i) × Missed ds (past m s) e u)

@@ -5,7 +5,7 @@ use Rattle.rhai_lower.specs.Lexemes.{Lexeme}
 use Rattle.rhai_lower.specs.declared.position.Position.{Position}
 
 mutual
-  -- an operand without its sign, and without what calls it
+  -- an operand without signs, call and links
   pub data Primary : Type 0 where
     -- a value of one token
     Value : (token : Lexeme) (at : Position) → Primary
@@ -15,16 +15,34 @@ mutual
     Word : (word : Text) (at : Position) → Primary
     -- an expression in parentheses
     Group : (opening : Position) (inside : Run) (closing : Position) → Primary
-    -- the zero before a range operator that nothing is written before; the operator, which is none of this form's tokens
+    -- an array, from its `[`
+    Array : (opening : Position) (elements : Elements) → Primary
+    -- an object map, from its `#{`
+    Map : (opening : Position) (fields : Fields) → Primary
+    -- the omitted zero before a range operator; it names the operator, which is not one of this form's tokens
     Zero : (range : Lexeme) (at : Position) → Primary
 
-  -- what stands between operators
+  -- an operand without signs and links
+  pub data Base : Type 0 where
+    Plain : Primary → Base
+    -- a call, with or without `!`
+    Call : (called : Primary) (bang : Option Position) (arguments : Arguments) → Base
+
+  -- the brackets and dots after an operand, with their contents
+  pub data Links : Type 0 where
+    NoLink : Links
+    -- `[` index `]` or `?[` index `]`
+    Bracket : (opening : Lexeme) (at : Position) (index : Run) (closing : Position) → Links → Links
+    -- a property after `.` or `?.`
+    Property : (dot : Lexeme) (at : Position) (name : Text) (name_at : Position) → Links → Links
+    -- a method call after `.` or `?.`
+    Method : (dot : Lexeme) (at : Position) (name : Lexeme) (name_at : Position) (bang : Option Position) (arguments : Arguments) → Links → Links
+
+  -- an operand of an operator
   pub data Operand : Type 0 where
-    Plain : Primary → Operand
-    -- a call, with `!` or without
-    Call : (called : Primary) (bang : Option Position) (arguments : Arguments) → Operand
+    Linked : Base → Links → Operand
     Signed : (sign : Lexeme) (at : Position) (operand : Operand) → Operand
-    -- the unit behind a range operator that nothing is written behind; the token there, which is none of this form's tokens
+    -- the omitted unit after a range operator; it names the token there, which is not one of this form's tokens
     NoOperand : (token : Lexeme) (at : Position) → Operand
 
   pub data Arguments : Type 0 where
@@ -37,9 +55,23 @@ mutual
   -- arguments up to the `)`
   pub data Items : Type 0 where
     Last : Run → (closing : Position) → Items
-    -- the last one, with a comma behind it
+    -- the last one, with a trailing comma
     Trailing : Run → (comma closing : Position) → Items
     More : Run → (comma : Position) → Items → Items
+
+  -- the items of an array up to its `]`
+  pub data Elements : Type 0 where
+    -- no further item, after the `[` or a comma
+    NoElement : (closing : Position) → Elements
+    LastElement : Run → (closing : Position) → Elements
+    Element : Run → (comma : Position) → Elements → Elements
+
+  -- the properties of an object map up to its `}`; each key is a name or a string
+  pub data Fields : Type 0 where
+    -- no further property, after the `#{` or a comma
+    NoField : (closing : Position) → Fields
+    LastField : (key : Lexeme) (at colon : Position) (value : Run) (closing : Position) → Fields
+    Field : (key : Lexeme) (at colon : Position) (value : Run) (comma : Position) → Fields → Fields
 
   -- operands joined by binary operators: one operand, or an operator between two runs
   pub data Run : Type 0 where

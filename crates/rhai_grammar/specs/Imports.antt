@@ -1,9 +1,10 @@
--- Where a module's import lies. Imports stand from the oldest to the latest, and places are counted from 1 at the latest.
+-- Which import a module name refers to. Imports are listed from the oldest to the latest; an import's number counts
+-- from 1 at the latest.
 use Rattle.std.specs.Prelude.{◌≡◌, ℕ, ◌+◌, List, [], ◌∷◌, Option, None, Some, length, if◌then◌else◌, codes, refl}
 use Rattle.std.specs.Option.{option_or}
 use Rattle.rhai_lower.specs.Texts.{Text, same_text}
 
--- The place of the latest import of this name, if there is one: a later import is nearer.
+-- The number of the latest import of this name, if there is one: a later import takes precedence.
 unfoldable pub module_number : Text → List Text → Option ℕ
 module_number name [] = None
 module_number name (imported ∷ later) = option_or (module_number name later) (if same_text imported name then Some (length later + 1) else None)
@@ -11,7 +12,7 @@ module_number name (imported ∷ later) = option_or (module_number name later) (
 abbrev example_imports : List Text
 example_imports = codes "m" ∷ codes "n" ∷ codes "m" ∷ []
 
--- Of the two imports of `m` the latest counts, `n` lies before it, and there is no `k`.
+-- Of the two imports of `m` the latest counts, `n` is before it, and there is no `k`.
 example : (module_number (codes "m") example_imports ≡ Some 1) × (module_number (codes "n") example_imports ≡ Some 2) × (module_number (codes "k") example_imports ≡ None)
 unfolding module_number
 example = (refl, refl, refl)

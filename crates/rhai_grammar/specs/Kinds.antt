@@ -1,4 +1,4 @@
--- Tests on trees: what a node can not be, whatever its value, and what is a constant.
+-- Tests on trees: what the value of a node can never be, and what is a constant.
 use Rattle.std.specs.Prelude.{◌≡◌, pos, Bool, true, false, ◌&&◌, ◌++◌, Option, Some, None, codes, refl}
 use Rattle.rhai_lower.specs.Texts.{Text}
 use Rattle.rhai_lower.specs.Positions.{place}
@@ -18,7 +18,7 @@ not_boolean (array ns p) = Some (codes "an array")
 not_boolean (object_map ps p) = Some (codes "an object map")
 not_boolean _ = None
 
--- The kind of a node that cannot be gone over by `for`.
+-- The kind of a node that `for` cannot iterate over.
 abbrev pub not_iterable : Node → Option Text
 not_iterable (unit p) = Some (codes "()")
 not_iterable (boolean b p) = Some (codes "a boolean")
@@ -27,14 +27,16 @@ not_iterable (character c p) = Some (codes "a character")
 not_iterable (object_map ps p) = Some (codes "an object map")
 not_iterable _ = None
 
--- ---- which index fits in the first bracket behind an operand
+-- ---- which index is allowed in the first bracket after an operand
 
--- what an operand takes: an object map strings, what is counted numbers, and of anything else it is not known
+-- which index an operand takes: an object map takes strings; an array, a string or an integer takes numbers; for
+-- anything else it is unknown
 pub data Indexed : Type 0 where
   Keyed : Indexed
   Counted : Indexed
   Unknown : Indexed
 
+-- which index the value of a node takes
 abbrev pub indexed : Node → Indexed
 indexed (object_map ps p) = Keyed
 indexed (integer n p) = Counted
@@ -43,13 +45,14 @@ indexed (string t p) = Counted
 indexed (interpolated ns p) = Counted
 indexed _ = Unknown
 
--- what an index is: a number, a string, of another kind with this name, or of a kind that is not known
+-- what an index is: a number, a string, of another kind with this name, or of unknown kind
 pub data IndexKind : Type 0 where
   Number : IndexKind
   Words : IndexKind
   Never : Text → IndexKind
   Anything : IndexKind
 
+-- the kind of a node as an index
 abbrev pub index_kind : Node → IndexKind
 index_kind (integer n p) = Number
 index_kind (string t p) = Words
@@ -61,6 +64,7 @@ index_kind (conjunction ns p) = Never (codes "a boolean")
 index_kind (disjunction ns p) = Never (codes "a boolean")
 index_kind _ = Anything
 
+-- why an operand does not take an index of this kind; none if it does
 abbrev pub kind_fault : Indexed → IndexKind → Option Text
 kind_fault Keyed Number = Some (codes "Object map expects string index, not a number")
 kind_fault Keyed Words = None
@@ -72,7 +76,7 @@ kind_fault Counted (Never kind) = Some (codes "Array, string or bit-field expect
 kind_fault Counted Anything = None
 kind_fault Unknown kind = None
 
--- Why an index cannot stand in the first bracket behind an operand.
+-- Why an index is not allowed in the first bracket after an operand.
 abbrev pub index_fault : (root key : Node) → Option Text
 index_fault root key = kind_fault (indexed root) (index_kind key)
 
@@ -105,7 +109,7 @@ makes_range (Some (Sign ExclusiveRange)) = true
 makes_range (Some (Sign InclusiveRange)) = true
 makes_range _ = false
 
--- an integer, and as an end also unit, which stands for no end
+-- The start of a range is an integer. So is its end, which may also be unit, for an open range.
 abbrev pub is_range_start : Node → Bool
 is_range_start (integer n p) = true
 is_range_start _ = false
@@ -119,7 +123,7 @@ abbrev pub are_bounds : Nodes → Bool
 are_bounds (one_node first (one_node last no_nodes)) = is_range_start first && is_range_end last
 are_bounds _ = false
 
--- A value of a `switch` case: as a constant, and ranges of integers beside.
+-- A value of a `switch` case: a constant, or a range of integers.
 abbrev mutual
   pub is_literal_value : Node → Bool
   is_literal_value (unit p) = true

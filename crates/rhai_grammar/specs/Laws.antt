@@ -1,32 +1,82 @@
 -- Laws of the definitions that users rely on.
-use Rattle.std.specs.Prelude.{◌≡◌, List, map, All, IsTrue}
+use Rattle.std.specs.Prelude.{◌≡◌, Bool, true, false, List, map, All, IsTrue}
 use Rattle.rhai_lower.specs.Entries.{ask_of, may_be_delivered}
 use Rattle.rhai_lower.specs.declared.position.Position.{Position}
 use Rattle.rhai_lower.specs.declared.stream.Entry.{Entry}
+use Rattle.rhai_grammar.specs.Causes.{Refusal}
 use Rattle.rhai_grammar.specs.Delivered.{Point, Ends}
 use Rattle.rhai_grammar.specs.Cursors.{Cursor, delivered}
 use Rattle.rhai_grammar.specs.Seen.{Gives, leads}
 use Rattle.rhai_grammar.specs.Settings.{Settings}
-use Rattle.rhai_grammar.specs.Walks.{Walk}
-use Rattle.rhai_grammar.specs.Forms.{Run}
+use Rattle.rhai_grammar.specs.Contexts.{Context}
+use Rattle.rhai_grammar.specs.Forms.{Base, Links, NoLink, Bracket, Property, Method, Run, Group, Plain, Linked, Just}
 use Rattle.rhai_grammar.specs.Trees.{tree}
+use Rattle.rhai_grammar.specs.Shapes.{run_shape, node_shape}
 use Rattle.rhai_grammar.specs.Spelling.{spelling, IsDelivered}
-use Rattle.rhai_grammar.specs.Demands.{Met}
+use Rattle.rhai_grammar.specs.Demands.{Verdict, Wrong, Blames, Demands, Nothing, Tok, Ahead, Next, Test, Shape, ◌▸◌, verdict, Met, Missed}
 use Rattle.rhai_grammar.specs.Written.{whole_expression}
 use Rattle.rhai_grammar.specs.Promises.{IsWritten}
 
--- A form whose demands are met is spelled by the tokens on the way.
+-- A form whose demands are met is spelled by the tokens that were taken.
 abbrev pub FormsAreSpelled : Type 0
-FormsAreSpelled = (c : Settings) (w : Walk) (f : Run) (s t : Point) → Met (whole_expression f c w) s t → Gives (spelling f) s.tokens × (t.tokens ≡ leads (spelling f) s.tokens)
+FormsAreSpelled = (c : Settings) (w : Context) (f : Run) (s t : Point) → Met (whole_expression f c w) s t → Gives (spelling f) s.tokens × (t.tokens ≡ leads (spelling f) s.tokens)
 
--- Behind a form that fits and spells a delivered stream, the stream is at its end.
+-- After a form that fits and spells a delivered stream, the stream is at its end.
 abbrev pub StreamsAreWhole : Type 0
-StreamsAreWhole = (c : Settings) (w : Walk) (f : Run) (s t : Point) → IsDelivered s.tokens → Met (whole_expression f c w) s t → (end : Position) × (t.tokens ≡ Ends end)
+StreamsAreWhole = (c : Settings) (w : Context) (f : Run) (s t : Point) → IsDelivered s.tokens → Met (whole_expression f c w) s t → (end : Position) × (t.tokens ≡ Ends end)
 
 -- Entries that may be delivered make a delivered stream.
 abbrev pub EntriesAreDelivered : Type 0
 EntriesAreDelivered = (entries : List Entry) (end : Position) → All (λ e. IsTrue (may_be_delivered e)) entries → IsDelivered (delivered (map ask_of entries) end)
 
--- Two forms that fit and spell the same stream have one tree.
+-- Two forms that fit and spell the same stream have the same tree.
 abbrev pub FormsHaveOneTree : Type 0
-FormsHaveOneTree = (c : Settings) (w : Walk) (s : Cursor) (f g : Run) → IsWritten c w f s → IsWritten c w g s → tree f w ≡ tree g w
+FormsHaveOneTree = (c : Settings) (w : Context) (s : Cursor) (f g : Run) → IsWritten c w f s → IsWritten c w g s → tree f w ≡ tree g w
+
+-- a verdict that is an error
+abbrev pub is_refused : Verdict → Bool
+is_refused (Wrong cause) = true
+is_refused (Blames e) = true
+is_refused _ = false
+
+-- No token is both required and refused at one place, as long as the conditions on the form before it hold.
+abbrev pub IsFair : Demands → Type 0
+IsFair Nothing = Unit {0}
+IsFair (Tok m i others ▸ ds) = (is_refused (verdict others i.lexeme) ≡ false) × IsFair ds
+IsFair (Ahead i others ▸ ds) = (is_refused (verdict others i.lexeme) ≡ false) × IsFair ds
+IsFair (Next v ▸ ds) = IsFair ds
+IsFair (Test holds e ▸ ds) = IsFair ds
+IsFair (Shape holds ▸ ds) = holds ≡ true → IsFair ds
+
+-- In no form is a token both required and refused at one place. So if a form fits along a stream, it gives no error
+-- there.
+pub record FormsAreFair : Type 0 where
+  pub fair : (c : Settings) (w : Context) (f : Run) → IsFair (whole_expression f c w)
+  pub apart : (c : Settings) (w : Context) (f : Run) (s t u : Point) (e : Refusal) →
+      Met (whole_expression f c w) s t → Missed (whole_expression f c w) s e u → ⊥
+
+-- Forms that are equal up to positions have trees that are equal up to positions.
+abbrev pub TreesKeepShape : Type 0
+TreesKeepShape = (w : Context) (f g : Run) → run_shape f ≡ run_shape g → node_shape (tree f w) ≡ node_shape (tree g w)
+
+-- links, and others after them
+abbrev pub followed : Links → Links → Links
+followed NoLink more = more
+followed (Bracket opening at index closing rest) more = Bracket opening at index closing (followed rest more)
+followed (Property dot at name name_at rest) more = Property dot at name name_at (followed rest more)
+followed (Method dot at name name_at bang arguments rest) more =
+    Method dot at name name_at bang arguments (followed rest more)
+
+-- a chain in parentheses, with links after it
+abbrev pub grouped_chain : (opening : Position) → Base → Links → (closing : Position) → (more : Links) → Run
+grouped_chain opening x links closing more = Just (Linked (Plain (Group opening (Just (Linked x links)) closing)) more)
+
+-- A chain in parentheses that is followed by links has the tree of the chain written without the parentheses, whether
+-- the two forms fit or not. If the other tokens keep their positions, the trees are equal: the parentheses leave no
+-- trace. Otherwise, as in two scripts, the trees are equal up to positions.
+pub record ChainsAreJoined : Type 0 where
+  pub equal : (w : Context) (opening closing : Position) (x : Base) (links more : Links) →
+      tree (grouped_chain opening x links closing more) w ≡ tree (Just (Linked x (followed links more))) w
+  pub same_shape : (w : Context) (opening closing : Position) (x : Base) (links more : Links) (f : Run) →
+      run_shape f ≡ run_shape (Just (Linked x (followed links more))) →
+      node_shape (tree (grouped_chain opening x links closing more) w) ≡ node_shape (tree f w)

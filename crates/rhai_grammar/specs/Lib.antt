@@ -11,12 +11,16 @@ pub mod Signs
 pub mod Operators
 pub mod Answers
 pub mod Slots
-pub mod Walks
+pub mod Contexts
+pub mod Literals
+pub mod Chains
 pub mod Trees
 pub mod Demands
 pub mod Written
 pub mod Promises
 pub mod Spelling
+pub mod Shapes
 pub mod Laws
 pub mod Rows
+pub mod RowsOfChains
 pub mod Imports

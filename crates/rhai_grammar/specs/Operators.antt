@@ -9,61 +9,66 @@ use Rattle.rhai_grammar.specs.Causes.{Refusal, refusal, MismatchedType}
 use Rattle.rhai_grammar.specs.Kinds.{not_boolean}
 use Rattle.rhai_grammar.specs.Signs.{sign_call}
 
--- a call that only a native function of two arguments can answer, named by the operator that is written
+-- a native-only call of two arguments, with the written operator as its name
 abbrev pub operator_called : Lexeme → Called
 operator_called op = record { name = text_of op; path = []; module_index = None; script_args = None; native_args = 2; captures_scope = false; op_token = Some op }
 
--- an operator's call, which stands at the operator
+-- the call of an operator, at the operator's position
 abbrev pub operator_call : Lexeme → Position → Node → Node → Node
 operator_call op at left right = call (operator_called op) (one_node left (one_node right no_nodes)) at
 
 -- ---- `in`
 
--- Membership calls `contains`, which a script may define, of what is looked into and what is looked for.
+-- Membership is a call of `contains`, which a script may define; the first argument is the container (the right
+-- operand), the second the element.
 abbrev pub contains_called : Option Lexeme → Called
 contains_called op = record { name = codes "contains"; path = []; module_index = None; script_args = Some 2; native_args = 2; captures_scope = false; op_token = op }
 
+-- the call of `contains` for `left in right`, at the operator's position
 abbrev pub contains_call : Option Lexeme → Position → Node → Node → Node
 contains_call op at left right = call (contains_called op) (one_node right (one_node left no_nodes)) at
 
--- `!in` is `!` of a membership that remembers how it was written
+-- `!in` is `!` of a membership that records how it was written
 abbrev pub no_membership : Lexeme → Position → Node → Node → Node
 no_membership op at left right = sign_call (Sign Bang) at (contains_call (Some op) at left right)
 
 -- ---- `&&`, `||` and `??`
 
--- lists of two and more operands
+-- lists of two or more operands
 pub data ListKind : Type 0 where
   Conjunction : ListKind
   Disjunction : ListKind
   Coalescing : ListKind
 
+-- the list of these operands, at this position
 abbrev pub list_tree : ListKind → Nodes → Position → Node
 list_tree Conjunction ns at = conjunction ns at
 list_tree Disjunction ns at = disjunction ns at
 list_tree Coalescing ns at = coalescing ns at
 
--- an operand of such an operator: a list of its own kind, or one item
+-- an operand of such an operator: a list of the same kind, or one item
 pub data Part : Type 0 where
   Items : Nodes → Position → Part
   Item : Node → Part
 
+-- an operand, as part of a list of this kind
 abbrev pub part : ListKind → Node → Part
 part Conjunction (conjunction ns p) = Items ns p
 part Disjunction (disjunction ns p) = Items ns p
 part Coalescing (coalescing ns p) = Items ns p
 part kind n = Item n
 
--- the items of one list behind those of another
+-- the items of one list, then those of another
 abbrev pub joined : Nodes → Nodes → Nodes
 joined no_nodes ms = ms
 joined (one_node n ns) ms = one_node n (joined ns ms)
 
+-- the items that a part adds to a list
 abbrev pub items : Part → Nodes
 items (Items ns p) = ns
 items (Item n) = one_node n no_nodes
 
--- A list on the left keeps its position; otherwise the list stands at the operator.
+-- If the left operand is a list, the result keeps its position; otherwise it has the operator's position.
 abbrev pub list_position : Position → Part → Position
 list_position at (Items ns p) = p
 list_position at (Item n) = at
@@ -71,6 +76,7 @@ list_position at (Item n) = at
 abbrev pub list_of_parts : ListKind → Position → Part → Part → Node
 list_of_parts kind at left right = list_tree kind (joined (items left) (items right)) (list_position at left)
 
+-- the list of two operands
 abbrev pub list_of : ListKind → Position → Node → Node → Node
 list_of kind at left right = list_of_parts kind at (part kind left) (part kind right)
 
@@ -83,6 +89,7 @@ pub data Joining : Type 0 where
   NoMembership : Joining
   Calls : Joining
 
+-- how this operator joins its operands
 abbrev pub joining : Lexeme → Joining
 joining (Sign And) = Lists Conjunction
 joining (Sign Or) = Lists Disjunction
@@ -97,30 +104,32 @@ joined_tree Membership op at left right = contains_call None at left right
 joined_tree NoMembership op at left right = no_membership op at left right
 joined_tree Calls op at left right = operator_call op at left right
 
+-- the tree of an operator at a position with its operands
 abbrev pub operator_tree : Lexeme → Position → Node → Node → Node
 operator_tree op at left right = joined_tree (joining op) op at left right
 
--- `&&` and `||` take what can be a boolean
+-- the operands of `&&` and `||` must be possible booleans
 abbrev pub takes_booleans : Joining → Bool
 takes_booleans (Lists Conjunction) = true
 takes_booleans (Lists Disjunction) = true
 takes_booleans _ = false
 
+-- the operator takes this operand, which must be a possible boolean for `&&` and `||`
 abbrev pub boolean_holds : Lexeme → Node → Bool
 boolean_holds op n = if takes_booleans (joining op) then is_none (not_boolean n) else true
 
--- an operand that cannot be a boolean: its kind is named where it starts
+-- the error for an operand that cannot be a boolean: its kind, where it starts
 abbrev pub mismatched : Node → Refusal
 mismatched n = refusal (MismatchedType (codes "a boolean expression") (unwrap_or (not_boolean n) [])) (start_of n)
 
--- what an operator, its position and its operands give; the left operand is tested first
+-- the result of an operator at a position with its operands; the left operand is tested first
 abbrev pub operator_result : Lexeme → Position → Node → Node → Result Node Refusal
 operator_result op at left right =
     if boolean_holds op left
     then (if boolean_holds op right then Ok (operator_tree op at left right) else Err (mismatched right))
     else Err (mismatched left)
 
--- `(a && b) && c` is one list, which stands at the first `&&`; `1 && a` is refused at the 1.
+-- `(a && b) && c` is one list at the first `&&`; `1 && a` is refused at the 1.
 abbrev example_true : Node
 example_true = boolean true (place 1 1)
 

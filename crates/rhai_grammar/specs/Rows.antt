@@ -1,21 +1,22 @@
--- Worked rows: scripts, their written forms, and what the definitions say of them.
-use Rattle.std.specs.Prelude.{◌≡◌, ℕ, pos, codes, None, false, List, [], ◌∷◌, reverse}
+-- Worked rows: scripts, their written forms, and what the definitions say about them.
+use Rattle.std.specs.Prelude.{◌≡◌, ℕ, pos, codes, None, false, List, [], ◌∷◌, ◌++◌, reverse}
 use Rattle.rhai_lower.specs.Positions.{place}
 use Rattle.rhai_lower.specs.Lexemes.{Lexeme, Integer, Name, Sign}
-use Rattle.rhai_lower.specs.Nodes.{Node, integer, call, no_nodes, one_node}
-use Rattle.rhai_lower.specs.declared.token.Token.TheVariants.{Plus, Multiply, Minus, ExclusiveRange, LeftParen, RightParen}
+use Rattle.rhai_lower.specs.Nodes.{Node, unit, integer, array, call, no_nodes, one_node}
+use Rattle.rhai_lower.specs.declared.token.Token.TheVariants.{Plus, Multiply, Minus, ExclusiveRange, LeftParen, RightParen, LeftBracket, RightBracket, Comma}
 use Rattle.rhai_grammar.specs.Causes as cause
 use Rattle.rhai_grammar.specs.Causes.{Refusal, refusal}
 use Rattle.rhai_grammar.specs.Delivered.{code, item, Tokens, Ends, Then, Taken, Point}
 use Rattle.rhai_grammar.specs.Settings.{Settings}
-use Rattle.rhai_grammar.specs.Walks.{nothing_live}
+use Rattle.rhai_grammar.specs.Contexts.{Context, nothing_live, bare}
 use Rattle.rhai_grammar.specs.Operators.{operator_call}
-use Rattle.rhai_grammar.specs.Forms.{Run, Just, Binary, Plain, Value, Named, Zero, Call, Signed, Listed, Last}
+use Rattle.rhai_grammar.specs.Forms.{Primary, Operand, Run, Just, Binary, Linked, NoLink, Plain, Value, Named, Zero, Array, Call, Signed, NoOperand, Listed, Last, Element, LastElement}
+use Rattle.rhai_grammar.specs.Literals.{too_many_items}
 use Rattle.rhai_grammar.specs.Trees.{function_called, tree}
 use Rattle.rhai_grammar.specs.Demands.{Met, Missed}
 use Rattle.rhai_grammar.specs.Written.{whole_expression}
 
--- tokens of the first line, each at its column, the same in both modes, and the end mark at a column
+-- tokens on the first line, each at its column and the same in both modes, and the end mark at a column
 abbrev pub line : List (Lexeme × ℕ) → ℕ → Tokens
 line [] end = Ends (place 1 end)
 line (t ∷ ts) end = let rest = line ts end in let i = item t.0 (place 1 t.1) in Then i i rest rest
@@ -27,16 +28,24 @@ abbrev pub taken_from : List (Lexeme × ℕ) → List Taken
 taken_from [] = []
 taken_from (t ∷ ts) = record { mode = code; item = item t.0 (place 1 t.1) } ∷ taken_from ts
 
--- where the first of these tokens were taken, and the second are left
+-- the point at which the first of these tokens were taken, and the second are left
 abbrev pub between : List (Lexeme × ℕ) → List (Lexeme × ℕ) → ℕ → Point
 between ts us end = record { tokens = line us end; taken = reverse (taken_from ts) }
 
--- settings at level 0 with a depth limit, and no flag or option
+-- settings at level 0 with a depth limit, without flags and options
 abbrev pub depth : ℕ → Settings
 depth limit = record { flags = 0; options = 0; level = 0; limit = limit }
 
+-- an operand without links
+abbrev pub plain : Primary → Operand
+plain x = Linked (Plain x) NoLink
+
 abbrev pub number : ℕ → ℕ → Run
-number n column = Just (Plain (Value (Integer (pos n)) (place 1 column)))
+number n column = Just (plain (Value (Integer (pos n)) (place 1 column)))
+
+-- A form fits under the engine's default depth limit, with nothing defined, and spells these tokens.
+abbrev pub Fits : Run → List (Lexeme × ℕ) → (end : ℕ) → Type 0
+Fits f tokens end = Met (whole_expression f (depth 64) bare) (unread tokens end) (between tokens [] end)
 
 -- `1 + 2 * 3`: the product is the sum's right operand.
 abbrev pub sum_tokens : List (Lexeme × ℕ)
@@ -48,14 +57,14 @@ sum_form = Binary (Sign Plus) (place 1 3) (number 1 1) (Binary (Sign Multiply) (
 abbrev pub sum_tree : Node
 sum_tree = operator_call (Sign Plus) (place 1 3) (integer (pos 1) (place 1 1)) (operator_call (Sign Multiply) (place 1 7) (integer (pos 2) (place 1 5)) (integer (pos 3) (place 1 9)))
 
--- The sum fits under the depth limit 3, and has its tree. Under the limit 2 it misses the raise for `*`, which is refused at the 2 before it;
--- by then `*` and the 3 were taken.
+-- The sum fits under the depth limit 3, and has its tree. Under the limit 2 it misses the raise for `*`, which is
+-- refused at the 2 before it; by then `*` and the 3 were taken.
 pub record SumRow : Type 0 where
-  pub tree_is : tree sum_form nothing_live ≡ sum_tree
-  pub fits : Met (whole_expression sum_form (depth 3) nothing_live) (unread sum_tokens 10) (between sum_tokens [] 10)
-  pub deep : Missed (whole_expression sum_form (depth 2) nothing_live) (unread sum_tokens 10) (refusal cause.ExprTooDeep (place 1 5)) (between sum_tokens [] 10)
+  pub tree_is : tree sum_form bare ≡ sum_tree
+  pub fits : Met (whole_expression sum_form (depth 3) bare) (unread sum_tokens 10) (between sum_tokens [] 10)
+  pub deep : Missed (whole_expression sum_form (depth 2) bare) (unread sum_tokens 10) (refusal cause.ExprTooDeep (place 1 5)) (between sum_tokens [] 10)
 
--- `1 + 2` fits under the depth limit 2. Under the limit 1 it misses the raise behind the 2, which is refused at the 1.
+-- `1 + 2` fits under the depth limit 2. Under the limit 1 it misses the raise after the 2, which is refused at the 1.
 abbrev pub pair_tokens : List (Lexeme × ℕ)
 pair_tokens = (Integer (pos 1), 1) ∷ (Sign Plus, 3) ∷ (Integer (pos 2), 5) ∷ []
 
@@ -63,11 +72,12 @@ abbrev pub pair_form : Run
 pair_form = Binary (Sign Plus) (place 1 3) (number 1 1) (number 2 5)
 
 pub record PairRow : Type 0 where
-  pub tree_is : tree pair_form nothing_live ≡ operator_call (Sign Plus) (place 1 3) (integer (pos 1) (place 1 1)) (integer (pos 2) (place 1 5))
-  pub fits : Met (whole_expression pair_form (depth 2) nothing_live) (unread pair_tokens 6) (between pair_tokens [] 6)
-  pub deep : Missed (whole_expression pair_form (depth 1) nothing_live) (unread pair_tokens 6) (refusal cause.ExprTooDeep (place 1 1)) (between pair_tokens [] 6)
+  pub tree_is : tree pair_form bare ≡ operator_call (Sign Plus) (place 1 3) (integer (pos 1) (place 1 1)) (integer (pos 2) (place 1 5))
+  pub fits : Met (whole_expression pair_form (depth 2) bare) (unread pair_tokens 6) (between pair_tokens [] 6)
+  pub deep : Missed (whole_expression pair_form (depth 1) bare) (unread pair_tokens 6) (refusal cause.ExprTooDeep (place 1 1)) (between pair_tokens [] 6)
 
--- `1 + 2 + 3` is too deep under the limit 2: each operator raises the level, and the second raise is refused at the first operator.
+-- `1 + 2 + 3` is too deep under the limit 2: each operator raises the level, and the second raise is refused at the
+-- first operator.
 abbrev pub flat_tokens : List (Lexeme × ℕ)
 flat_tokens = (Integer (pos 1), 1) ∷ (Sign Plus, 3) ∷ (Integer (pos 2), 5) ∷ (Sign Plus, 7) ∷ (Integer (pos 3), 9) ∷ []
 
@@ -75,36 +85,36 @@ abbrev pub flat_form : Run
 flat_form = Binary (Sign Plus) (place 1 7) pair_form (number 3 9)
 
 pub record FlatRow : Type 0 where
-  pub tree_is : tree flat_form nothing_live ≡ operator_call (Sign Plus) (place 1 7) (tree pair_form nothing_live) (integer (pos 3) (place 1 9))
-  pub deep : Missed (whole_expression flat_form (depth 2) nothing_live) (unread flat_tokens 10) (refusal cause.ExprTooDeep (place 1 3)) (between flat_tokens [] 10)
+  pub tree_is : tree flat_form bare ≡ operator_call (Sign Plus) (place 1 7) (tree pair_form bare) (integer (pos 3) (place 1 9))
+  pub deep : Missed (whole_expression flat_form (depth 2) bare) (unread flat_tokens 10) (refusal cause.ExprTooDeep (place 1 3)) (between flat_tokens [] 10)
 
--- a range from an unwritten zero up to 5, both at these columns
+-- a range from an omitted zero to 5, both at these columns
 abbrev pub range_tree : (left range right : ℕ) → Node
 range_tree left range right = operator_call (Sign ExclusiveRange) (place 1 range) (integer (pos 0) (place 1 left)) (integer (pos 5) (place 1 right))
 
--- `..5`: nothing is written before the range operator.
+-- `..5`: the left operand of the range operator is omitted.
 abbrev pub open_tokens : List (Lexeme × ℕ)
 open_tokens = (Sign ExclusiveRange, 1) ∷ (Integer (pos 5), 3) ∷ []
 
 abbrev pub open_form : Run
-open_form = Binary (Sign ExclusiveRange) (place 1 1) (Just (Plain (Zero (Sign ExclusiveRange) (place 1 1)))) (number 5 3)
+open_form = Binary (Sign ExclusiveRange) (place 1 1) (Just (plain (Zero (Sign ExclusiveRange) (place 1 1)))) (number 5 3)
 
 pub record OpenRow : Type 0 where
-  pub tree_is : tree open_form nothing_live ≡ range_tree 1 1 3
-  pub fits : Met (whole_expression open_form (depth 0) nothing_live) (unread open_tokens 4) (between open_tokens [] 4)
+  pub tree_is : tree open_form bare ≡ range_tree 1 1 3
+  pub fits : Met (whole_expression open_form (depth 0) bare) (unread open_tokens 4) (between open_tokens [] 4)
 
--- `-..5`: the sign stands before the unwritten zero, which is 0 at the sign.
+-- `-..5`: the sign is before the omitted zero, which is 0 at the sign.
 abbrev pub minus_tokens : List (Lexeme × ℕ)
 minus_tokens = (Sign Minus, 1) ∷ (Sign ExclusiveRange, 2) ∷ (Integer (pos 5), 4) ∷ []
 
 abbrev pub minus_form : Run
-minus_form = Binary (Sign ExclusiveRange) (place 1 2) (Just (Signed (Sign Minus) (place 1 1) (Plain (Zero (Sign ExclusiveRange) (place 1 2))))) (number 5 4)
+minus_form = Binary (Sign ExclusiveRange) (place 1 2) (Just (Signed (Sign Minus) (place 1 1) (plain (Zero (Sign ExclusiveRange) (place 1 2))))) (number 5 4)
 
 pub record MinusRow : Type 0 where
-  pub tree_is : tree minus_form nothing_live ≡ range_tree 1 2 4
-  pub fits : Met (whole_expression minus_form (depth 0) nothing_live) (unread minus_tokens 5) (between minus_tokens [] 5)
+  pub tree_is : tree minus_form bare ≡ range_tree 1 2 4
+  pub fits : Met (whole_expression minus_form (depth 0) bare) (unread minus_tokens 5) (between minus_tokens [] 5)
 
--- `5..`: before the end mark an operand is due behind the range operator.
+-- `5..`: after the range operator an operand is expected, not the end mark.
 abbrev pub ended_tokens : List (Lexeme × ℕ)
 ended_tokens = (Integer (pos 5), 1) ∷ (Sign ExclusiveRange, 2) ∷ []
 
@@ -112,14 +122,15 @@ abbrev pub ended_form : Run
 ended_form = Binary (Sign ExclusiveRange) (place 1 2) (number 5 1) (number 0 1)
 
 pub record EndedRow : Type 0 where
-  pub missed : Missed (whole_expression ended_form (depth 0) nothing_live) (unread ended_tokens 4) (refusal cause.UnexpectedEOF (place 1 4)) (between ended_tokens [] 4)
+  pub missed : Missed (whole_expression ended_form (depth 0) bare) (unread ended_tokens 4) (refusal cause.UnexpectedEOF (place 1 4)) (between ended_tokens [] 4)
 
--- `f(1)` fits under the depth limit 3. Under the limit 2 the argument is too deep, and under the limit 1 the list of arguments at its name.
+-- `f(1)` fits under the depth limit 3. Under the limit 2 the argument is too deep, and under the limit 1 the list of
+-- arguments, at its name.
 abbrev pub call_tokens : List (Lexeme × ℕ)
 call_tokens = (Name (codes "f"), 1) ∷ (Sign LeftParen, 2) ∷ (Integer (pos 1), 3) ∷ (Sign RightParen, 4) ∷ []
 
 abbrev pub call_form : Run
-call_form = Just (Call (Named (codes "f") (place 1 1)) None (Listed (place 1 2) (Last (number 1 3) (place 1 4))))
+call_form = Just (Linked (Call (Named (codes "f") (place 1 1)) None (Listed (place 1 2) (Last (number 1 3) (place 1 4)))) NoLink)
 
 abbrev pub call_begun : List (Lexeme × ℕ)
 call_begun = (Name (codes "f"), 1) ∷ (Sign LeftParen, 2) ∷ []
@@ -128,7 +139,49 @@ abbrev pub call_rest : List (Lexeme × ℕ)
 call_rest = (Integer (pos 1), 3) ∷ (Sign RightParen, 4) ∷ []
 
 pub record CallRow : Type 0 where
-  pub tree_is : tree call_form nothing_live ≡ call (function_called (codes "f") false 1) (one_node (integer (pos 1) (place 1 3)) no_nodes) (place 1 1)
-  pub fits : Met (whole_expression call_form (depth 3) nothing_live) (unread call_tokens 5) (between call_tokens [] 5)
-  pub argument_deep : Missed (whole_expression call_form (depth 2) nothing_live) (unread call_tokens 5) (refusal cause.ExprTooDeep (place 1 3)) (between call_begun call_rest 5)
-  pub list_deep : Missed (whole_expression call_form (depth 1) nothing_live) (unread call_tokens 5) (refusal cause.ExprTooDeep (place 1 1)) (between call_begun call_rest 5)
+  pub tree_is : tree call_form bare ≡ call (function_called (codes "f") false 1) (one_node (integer (pos 1) (place 1 3)) no_nodes) (place 1 1)
+  pub fits : Met (whole_expression call_form (depth 3) bare) (unread call_tokens 5) (between call_tokens [] 5)
+  pub argument_deep : Missed (whole_expression call_form (depth 2) bare) (unread call_tokens 5) (refusal cause.ExprTooDeep (place 1 3)) (between call_begun call_rest 5)
+  pub list_deep : Missed (whole_expression call_form (depth 1) bare) (unread call_tokens 5) (refusal cause.ExprTooDeep (place 1 1)) (between call_begun call_rest 5)
+
+-- `[5..]`: the unit after the range operator is omitted, and has the position of the `]`.
+abbrev pub ranged_tokens : List (Lexeme × ℕ)
+ranged_tokens = (Sign LeftBracket, 1) ∷ (Integer (pos 5), 2) ∷ (Sign ExclusiveRange, 3) ∷ (Sign RightBracket, 5) ∷ []
+
+abbrev pub ranged_item : Run
+ranged_item = Binary (Sign ExclusiveRange) (place 1 3) (number 5 2) (Just (NoOperand (Sign RightBracket) (place 1 5)))
+
+abbrev pub ranged_form : Run
+ranged_form = Just (plain (Array (place 1 1) (LastElement ranged_item (place 1 5))))
+
+abbrev pub ranged_tree : Node
+ranged_tree = operator_call (Sign ExclusiveRange) (place 1 3) (integer (pos 5) (place 1 2)) (unit (place 1 5))
+
+pub record RangedRow : Type 0 where
+  pub tree_is : tree ranged_form bare ≡ array (one_node ranged_tree no_nodes) (place 1 1)
+  pub fits : Fits ranged_form ranged_tokens 6
+
+-- `[1, 2, 3]`: where an array has at most two items, the third is one too many.
+abbrev pub sized_begun : List (Lexeme × ℕ)
+sized_begun = (Sign LeftBracket, 1) ∷ (Integer (pos 1), 2) ∷ (Sign Comma, 3) ∷ (Integer (pos 2), 5) ∷ (Sign Comma, 6) ∷ []
+
+abbrev pub sized_rest : List (Lexeme × ℕ)
+sized_rest = (Integer (pos 3), 8) ∷ (Sign RightBracket, 9) ∷ []
+
+abbrev pub sized_form : Run
+sized_form =
+    Just (plain (Array (place 1 1) (
+    Element (number 1 2) (place 1 3) (Element (number 2 5) (place 1 6) (LastElement (number 3 8) (place 1 9))))))
+
+abbrev pub two_items : Context
+two_items = nothing_live (record { array = 2; map = 0 })
+
+abbrev pub sized_tokens : List (Lexeme × ℕ)
+sized_tokens = sized_begun ++ sized_rest
+
+abbrev pub sized_refused : Refusal
+sized_refused = refusal (too_many_items 2) (place 1 8)
+
+pub record SizedRow : Type 0 where
+  pub missed : Missed (whole_expression sized_form (depth 64) two_items) (unread sized_tokens 10)
+      sized_refused (between sized_begun sized_rest 10)

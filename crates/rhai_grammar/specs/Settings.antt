@@ -1,5 +1,5 @@
--- The settings that a construct is read under, as plain numbers: the bits of the flags and of the options, the level, and
--- the limit that it stays within (0: none). Where they stand is no part of them.
+-- The settings under which a construct is parsed, as plain numbers: the bits of the flags and of the options, the
+-- level, and its limit (0 means none). Their position is left out.
 use Rattle.std.specs.Prelude.{◌≡◌, ℕ, ◌+◌, ◌-◌, ◌^◌, ◌==◌, ◌||◌, Bool, true, false, nat_lt, min, refl}
 use Rattle.std.specs.Int.RustNames.{bit_and}
 
@@ -9,15 +9,19 @@ pub record Settings : Type 0 where
   pub level : ℕ
   pub limit : ℕ
 
--- the bit of the flags that tells a function's body
+-- the bit of the flags that says that a function's body is parsed
 abbrev pub in_function : Settings → Bool
 in_function c = bit_and c.flags 2 == 2
 
--- a raise finds room
+-- the bit of the flags that requires strings as keys of object maps
+abbrev pub quoted_keys : Settings → Bool
+quoted_keys c = bit_and c.flags 32 == 32
+
+-- a raise is possible
 abbrev pub low : Settings → Bool
 low c = (c.limit == 0) || nat_lt c.level c.limit
 
--- one level more; at the greatest it stays
+-- one level more; saturates at the greatest `usize`
 unfoldable pub one_more : ℕ → ℕ
 one_more n = min (n + 1) (2 ^ 64 - 1)
 
@@ -28,7 +32,7 @@ up c = record c { level = one_more c.level }
 abbrev at_level : ℕ → ℕ → Settings
 at_level limit level = record { flags = 0; options = 0; level = level; limit = limit }
 
--- Under a limit of 2 the level may be raised twice, without a limit it always may, and the greatest level stays.
+-- Under a limit of 2 the level may be raised twice, without a limit always, and the greatest level stays.
 example : (up (at_level 2 0) ≡ at_level 2 1) × (low (at_level 2 1) ≡ true) × (low (at_level 2 2) ≡ false) × (low (at_level 0 2) ≡ true) × (up (at_level 0 (2 ^ 64 - 1)) ≡ at_level 0 (2 ^ 64 - 1))
 unfolding one_more
 example = (refl, refl, refl, refl, refl)

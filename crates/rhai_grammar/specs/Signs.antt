@@ -16,12 +16,13 @@ plain_sign (Sign UnaryMinus) = Sign Minus
 plain_sign (Sign UnaryPlus) = Sign Plus
 plain_sign op = op
 
--- what a sign does to an integer constant: it negates it, keeps it, or calls a function of it as of anything else
+-- what a sign does to an integer constant: it negates it, keeps it, or makes a call, as for anything else
 pub data Effect : Type 0 where
   Negates : Effect
   Keeps : Effect
   Calls : Effect
 
+-- what this sign does to an integer constant
 abbrev pub effect : Lexeme → Effect
 effect (Sign Minus) = Negates
 effect (Sign UnaryMinus) = Negates
@@ -29,22 +30,25 @@ effect (Sign Plus) = Keeps
 effect (Sign UnaryPlus) = Keeps
 effect _ = Calls
 
--- a call that only a native function of one argument can answer, named by the sign
+-- a native-only call of one argument, with the sign as its name
 abbrev pub sign_called : Lexeme → Called
 sign_called op = record { name = text_of op; path = []; module_index = None; script_args = None; native_args = 1; captures_scope = false; op_token = Some op }
 
+-- the call of a sign, at the sign's position
 abbrev pub sign_call : Lexeme → Position → Node → Node
 sign_call op at n = call (sign_called op) (one_node n no_nodes) at
 
--- A negated integer stands at the sign, and one that is kept where it stood.
+-- A negated integer has the sign's position, and one that is kept has its own.
 abbrev pub affected : Effect → Lexeme → Position → Node → Node
 affected Negates op at (integer n p) = integer (neg_ℤ n) at
 affected Keeps op at (integer n p) = integer n p
 affected e op at n = sign_call op at n
 
+-- the tree of a sign at a position with its operand
 abbrev pub signed : Lexeme → Position → Node → Node
 signed op at n = affected (effect op) (plain_sign op) at n
 
+-- the least integer
 abbrev pub least : ℤ
 least = negsuc (2 ^ 63 - 1)
 
@@ -53,6 +57,7 @@ abbrev pub effect_holds : Effect → Node → Bool
 effect_holds Negates (integer n p) = not (int_eq n least)
 effect_holds e n = true
 
+-- the sign may be applied to this operand, as any but minus on the least integer may
 abbrev pub sign_holds : Lexeme → Node → Bool
 sign_holds op n = effect_holds (effect op) n
 
@@ -61,15 +66,15 @@ abbrev pub number_text : Node → Text
 number_text (integer n p) = signed_decimal n
 number_text _ = []
 
--- minus before the least integer: its text is `-` and that integer, with its own sign
+-- the error for minus before the least integer: the text is `-` and that integer, with its own sign
 abbrev pub malformed : Position → Node → Refusal
 malformed at n = refusal (BadInput (MalformedNumber (codes "-" ++ number_text n))) at
 
--- what a sign, its position and its operand give
+-- the result of a sign at a position with its operand
 abbrev pub sign_result : Lexeme → Position → Node → Result Node Refusal
 sign_result op at n = if sign_holds op n then Ok (signed op at n) else Err (malformed at n)
 
--- `-5` is one integer, `+5` the 5 alone, `!5` a call, and the least integer has no negation.
+-- `-5` is one integer, `+5` is just the 5, `!5` is a call, and the least integer has no negation.
 abbrev example_five : Node
 example_five = integer (pos 5) (place 1 2)
 

@@ -1,34 +1,49 @@
--- The tokens that a written form is spelled with, and streams that are spelled so.
+-- The tokens that a written form is spelled with, and streams of such tokens.
 use Rattle.std.specs.Prelude.{◌≡◌, Bool, true, false, Option, Some, None, List, [], ◌∷◌, ◌++◌, pos, codes, refl}
 use Rattle.rhai_lower.specs.Names.{is_identifier}
 use Rattle.rhai_lower.specs.Positions.{place}
 use Rattle.rhai_lower.specs.Lexemes.{Lexeme, Integer, Name, Reserved, Sign}
 use Rattle.rhai_lower.specs.declared.position.Position.{Position}
-use Rattle.rhai_lower.specs.declared.token.Token.TheVariants.{EOF, LeftParen, RightParen, Comma, Bang}
+use Rattle.rhai_lower.specs.declared.token.Token.TheVariants.{EOF, LeftParen, RightParen, LeftBracket, RightBracket, MapStart, RightBrace, Colon, Comma, Bang}
 use Rattle.rhai_lower.specs.declared.token.Token.TheVariants as token
 use Rattle.rhai_grammar.specs.Delivered.{code, item, Tokens, Ends, Then, Taken}
 use Rattle.rhai_grammar.specs.Forms as form
-use Rattle.rhai_grammar.specs.Forms.{Primary, Operand, Arguments, Items, Run}
+use Rattle.rhai_grammar.specs.Forms.{Primary, Base, Links, Operand, Arguments, Items, Elements, Fields, Run}
 
+-- a token at a position, requested in code mode
 abbrev pub in_code : Lexeme → Position → Taken
 in_code l at = record { mode = code; item = item l at }
 
+-- the `!` of a call, if it has one
 abbrev pub bang_spelling : Option Position → List Taken
 bang_spelling None = []
 bang_spelling (Some at) = in_code (Sign Bang) at ∷ []
 
--- A form's tokens in written order, each with the mode that it is asked for in. The zero and the unit that are not written have none.
+-- A form's tokens in written order, each with the mode in which it is requested. The omitted zero and the omitted unit
+-- have none.
 abbrev mutual
   pub primary_spelling : Primary → List Taken
   primary_spelling (form.Value token at) = in_code token at ∷ []
   primary_spelling (form.Named name at) = in_code (Name name) at ∷ []
   primary_spelling (form.Word word at) = in_code (Reserved word) at ∷ []
   primary_spelling (form.Group opening inside closing) = in_code (Sign LeftParen) opening ∷ (spelling inside ++ (in_code (Sign RightParen) closing ∷ []))
+  primary_spelling (form.Array opening elements) = in_code (Sign LeftBracket) opening ∷ element_spelling elements
+  primary_spelling (form.Map opening fields) = in_code (Sign MapStart) opening ∷ field_spelling fields
   primary_spelling (form.Zero range at) = []
 
+  pub base_spelling : Base → List Taken
+  base_spelling (form.Plain x) = primary_spelling x
+  base_spelling (form.Call x bang args) = primary_spelling x ++ (bang_spelling bang ++ argument_spelling args)
+
+  pub link_spelling : Links → List Taken
+  link_spelling form.NoLink = []
+  link_spelling (form.Bracket opening at f closing rest) = in_code opening at ∷ (spelling f ++ (in_code (Sign RightBracket) closing ∷ link_spelling rest))
+  link_spelling (form.Property dot at name name_at rest) = in_code dot at ∷ in_code (Name name) name_at ∷ link_spelling rest
+  link_spelling (form.Method dot at name name_at bang args rest) =
+      in_code dot at ∷ in_code name name_at ∷ (bang_spelling bang ++ (argument_spelling args ++ link_spelling rest))
+
   pub operand_spelling : Operand → List Taken
-  operand_spelling (form.Plain x) = primary_spelling x
-  operand_spelling (form.Call x bang args) = primary_spelling x ++ (bang_spelling bang ++ argument_spelling args)
+  operand_spelling (form.Linked x links) = base_spelling x ++ link_spelling links
   operand_spelling (form.Signed sign at x) = in_code sign at ∷ operand_spelling x
   operand_spelling (form.NoOperand token at) = []
 
@@ -42,11 +57,21 @@ abbrev mutual
   item_spelling (form.Trailing f comma closing) = spelling f ++ (in_code (Sign Comma) comma ∷ in_code (Sign RightParen) closing ∷ [])
   item_spelling (form.More f comma rest) = spelling f ++ (in_code (Sign Comma) comma ∷ item_spelling rest)
 
+  pub element_spelling : Elements → List Taken
+  element_spelling (form.NoElement closing) = in_code (Sign RightBracket) closing ∷ []
+  element_spelling (form.LastElement f closing) = spelling f ++ (in_code (Sign RightBracket) closing ∷ [])
+  element_spelling (form.Element f comma rest) = spelling f ++ (in_code (Sign Comma) comma ∷ element_spelling rest)
+
+  pub field_spelling : Fields → List Taken
+  field_spelling (form.NoField closing) = in_code (Sign RightBrace) closing ∷ []
+  field_spelling (form.LastField key at colon f closing) = in_code key at ∷ in_code (Sign Colon) colon ∷ (spelling f ++ (in_code (Sign RightBrace) closing ∷ []))
+  field_spelling (form.Field key at colon f comma rest) = in_code key at ∷ in_code (Sign Colon) colon ∷ (spelling f ++ (in_code (Sign Comma) comma ∷ field_spelling rest))
+
   pub spelling : Run → List Taken
   spelling (form.Just x) = operand_spelling x
   spelling (form.Binary op at l r) = spelling l ++ (in_code op at ∷ spelling r)
 
--- a token that a tokenizer delivers: an identifier is a valid name, and the end mark stands at the end alone
+-- a token that a tokenizer may deliver: an identifier is a valid name, and the end mark comes only at the end
 abbrev pub is_deliverable : Lexeme → Bool
 is_deliverable (Name t) = is_identifier t
 is_deliverable (Sign EOF) = false
@@ -58,5 +83,5 @@ IsDelivered (Ends p) = Unit {0}
 IsDelivered (Then a b s t) = ((is_deliverable a.lexeme ≡ true) × (is_deliverable b.lexeme ≡ true)) × (IsDelivered s × IsDelivered t)
 
 -- `f(1)`
-example : spelling (form.Just (form.Call (form.Named (codes "f") (place 1 1)) None (form.Listed (place 1 2) (form.Last (form.Just (form.Plain (form.Value (Integer (pos 1)) (place 1 3)))) (place 1 4))))) ≡ in_code (Name (codes "f")) (place 1 1) ∷ in_code (Sign LeftParen) (place 1 2) ∷ in_code (Integer (pos 1)) (place 1 3) ∷ in_code (Sign RightParen) (place 1 4) ∷ []
+example : spelling (form.Just (form.Linked (form.Call (form.Named (codes "f") (place 1 1)) None (form.Listed (place 1 2) (form.Last (form.Just (form.Linked (form.Plain (form.Value (Integer (pos 1)) (place 1 3))) form.NoLink)) (place 1 4)))) form.NoLink)) ≡ in_code (Name (codes "f")) (place 1 1) ∷ in_code (Sign LeftParen) (place 1 2) ∷ in_code (Integer (pos 1)) (place 1 3) ∷ in_code (Sign RightParen) (place 1 4) ∷ []
 example = refl

@@ -1,4 +1,4 @@
--- What may stand behind an operand, and how strongly operators bind.
+-- What may come after an operand, and how strongly operators bind.
 use Rattle.std.specs.Prelude.{◌≡◌, ℕ, Bool, true, false, Option, Some, None, nat_lt, not, if◌then◌else◌, refl}
 use Rattle.rhai_lower.specs.Texts.{Text}
 use Rattle.rhai_lower.specs.Names.{is_identifier}
@@ -6,11 +6,11 @@ use Rattle.rhai_lower.specs.Tokens.{strength_of, binds_right}
 use Rattle.rhai_lower.specs.Lexemes.{Lexeme, Reserved, Sign}
 use Rattle.rhai_lower.specs.declared.token.Token.TheVariants.{Plus, Multiply, PowerOf}
 
--- what stands behind an operand
+-- what comes after an operand
 pub data Behind : Type 0 where
-  -- a binary operator of this strength; whether equal ones group to the right
+  -- a binary operator of this strength (its precedence), and whether it is right-associative
   Operator : (strength : ℕ) (right : Bool) → Behind
-  -- a reserved symbol, which is no operator
+  -- a reserved symbol, which is not an operator
   Unknown : Text → Behind
   -- anything else, which ends the run
   Other : Behind
@@ -23,32 +23,39 @@ abbrev pub behind_word : Bool → Text → Behind
 behind_word true t = Other
 behind_word false t = Unknown t
 
+-- what this token is after an operand
 abbrev pub behind_of : Lexeme → Behind
 behind_of (Sign t) = behind_sign (strength_of t) (binds_right t)
 behind_of (Reserved t) = behind_word (is_identifier t) t
 behind_of _ = Other
 
+-- a binary operator
 abbrev pub is_operator : Behind → Bool
 is_operator (Operator n right) = true
 is_operator _ = false
 
+-- the strength of an operator, 0 for anything else
 abbrev pub strength : Behind → ℕ
 strength (Operator n right) = n
 strength _ = 0
 
+-- a right-associative operator
 abbrev pub is_right : Behind → Bool
 is_right (Operator n right) = right
 is_right _ = false
 
--- Left of an operator stands none that is looser, and left of one that groups to the right none that is equally strong.
+-- The left side of an operator has no weaker operator at its top, and that of a right-associative one none that is
+-- equally strong.
 abbrev pub left_of : Behind → Behind → Bool
 left_of op inner = if is_right op then nat_lt (strength op) (strength inner) else not (nat_lt (strength inner) (strength op))
 
--- Right of an operator stands none that is looser, and right of one that groups to the left none that is equally strong.
+-- The right side of an operator has no weaker operator at its top, and that of a left-associative one none that is
+-- equally strong.
 abbrev pub right_of : Behind → Behind → Bool
 right_of op inner = if is_right op then not (nat_lt (strength inner) (strength op)) else nat_lt (strength op) (strength inner)
 
--- `*` may stand on either side of `+`; `+` may stand left of `+`, and `**` right of `**`, and not the other way round.
+-- `*` may be on either side of `+`; `+` may be on the left of `+`, and `**` on the right of `**`, but not the other way
+-- round.
 abbrev example_plus : Behind
 example_plus = behind_of (Sign Plus)
 

@@ -1,29 +1,33 @@
 -- The tree of a written form.
-use Rattle.std.specs.Prelude.{◌≡◌, ℕ, ◌+◌, pos, negsuc, Bool, true, false, Option, Some, None, [], if◌then◌else◌, refl}
+use Rattle.std.specs.Prelude.{◌≡◌, ℕ, ◌+◌, ◌∷◌, pos, negsuc, Bool, true, false, Option, Some, None, List, [], if◌then◌else◌, refl}
 use Rattle.std.specs.Option.{is_some}
 use Rattle.rhai_lower.specs.Texts.{Text}
 use Rattle.rhai_lower.specs.Positions.{place}
-use Rattle.rhai_lower.specs.Lexemes.{Integer, Sign}
-use Rattle.rhai_lower.specs.Nodes.{Called, Node, Nodes, unit, integer, variable, this, call, no_nodes, one_node, position_of}
+use Rattle.rhai_lower.specs.Slots.{SlotValue}
+use Rattle.rhai_lower.specs.Lexemes.{Lexeme, Integer, Sign, text_of}
+use Rattle.rhai_lower.specs.Nodes.{Called, Node, Nodes, Properties, unit, integer, array, object_map, variable, this, call, method_call, property, no_nodes, one_node, no_properties, one_property, position_of}
 use Rattle.rhai_lower.specs.declared.position.Position.{Position}
 use Rattle.rhai_lower.specs.declared.token.Token.TheVariants.{Plus, UnaryMinus}
-use Rattle.rhai_grammar.specs.Beginnings.{beginning, value_at, is_this}
+use Rattle.rhai_grammar.specs.Beginnings.{beginning, value_at, is_this, is_negated}
+use Rattle.rhai_grammar.specs.Chains.{Link, Bracket, Dotted, chained}
 use Rattle.rhai_grammar.specs.Signs.{signed}
 use Rattle.rhai_grammar.specs.Operators.{operator_tree, operator_call}
 use Rattle.rhai_grammar.specs.Slots.{number}
-use Rattle.rhai_grammar.specs.Walks.{Walk, nothing_live}
+use Rattle.rhai_grammar.specs.Contexts.{Context, bare}
 use Rattle.rhai_grammar.specs.Forms as form
-use Rattle.rhai_grammar.specs.Forms.{Primary, Operand, Arguments, Items, Run}
+use Rattle.rhai_grammar.specs.Forms.{Primary, Base, Links, Operand, Arguments, Items, Elements, Fields, Run}
 
 -- ---- names and calls
 
+-- a variable without a path
 abbrev pub variable_of : Option ℕ → Text → Position → Node
 variable_of slot name at = variable (record { number = slot; name = name; path = []; module_index = None }) at
 
--- A name that is called is no variable's, and has no number.
-abbrev pub name_tree : Walk → (called : Bool) → Text → Position → Node
-name_tree w called name at = variable_of (if called then None else number name w.slots) name at
+-- A name that is called does not refer to a variable, and has no number.
+abbrev pub name_tree : List SlotValue → (called : Bool) → Text → Position → Node
+name_tree slots called name at = variable_of (if called then None else number name slots) name at
 
+-- the node of a reserved word as an operand
 abbrev pub word_tree : Text → Position → Node
 word_tree word at = if is_this word then this at else variable_of None word at
 
@@ -39,47 +43,87 @@ abbrev pub node_count : Nodes → ℕ
 node_count no_nodes = 0
 node_count (one_node n ns) = node_count ns + 1
 
--- a call that a function of a script may answer as well as a native one
+-- a call that a script function as well as a native function may answer
 abbrev pub function_called : Text → (bang : Bool) → ℕ → Called
 function_called name bang count = record { name = name; path = []; module_index = None; script_args = Some count; native_args = count; captures_scope = bang; op_token = None }
 
--- the call of a name, which stands at the name
+-- the call of a name, at the name's position
 abbrev pub call_tree : Node → (bang : Bool) → Nodes → Node
 call_tree name bang arguments = call (function_called (name_of name) bang (node_count arguments)) arguments (position_of name)
+
+-- ---- links
+
+-- a bracket with this index
+abbrev pub bracket_link : (opening : Lexeme) → Position → Node → Link
+bracket_link opening at x = record { kind = Bracket; negated = is_negated opening; at = at; item = x }
+
+-- a dot with this member
+abbrev pub member_link : (dot : Lexeme) → Position → Node → Link
+member_link dot at x = record { kind = Dotted; negated = is_negated dot; at = at; item = x }
+
+-- The native function of a method also takes the object.
+abbrev pub method_called : Text → (bang : Bool) → ℕ → Called
+method_called name bang count = record { name = name; path = []; module_index = None; script_args = Some count; native_args = count + 1; captures_scope = bang; op_token = None }
+
+-- a method call, at its name's position
+abbrev pub method_tree : Text → Position → (bang : Bool) → Nodes → Node
+method_tree name at bang arguments = method_call (method_called name bang (node_count arguments)) arguments at
 
 -- ---- forms
 
 abbrev mutual
-  pub primary_tree : Primary → Walk → (called : Bool) → Node
+  pub primary_tree : Primary → Context → (called : Bool) → Node
   primary_tree (form.Value token at) w called = value_at at (beginning token)
-  primary_tree (form.Named name at) w called = name_tree w called name at
+  primary_tree (form.Named name at) w called = name_tree w.slots called name at
   primary_tree (form.Word word at) w called = word_tree word at
   primary_tree (form.Group opening inside closing) w called = tree inside w
+  primary_tree (form.Array opening elements) w called = array (element_trees elements w) opening
+  primary_tree (form.Map opening fields) w called = object_map (field_trees fields w) opening
   primary_tree (form.Zero range at) w called = integer (pos 0) at
 
-  pub operand_tree : Operand → Walk → Node
-  operand_tree (form.Plain x) w = primary_tree x w false
-  operand_tree (form.Call x bang arguments) w = call_tree (primary_tree x w true) (is_some bang) (argument_trees arguments w)
+  pub base_tree : Base → Context → Node
+  base_tree (form.Plain x) w = primary_tree x w false
+  base_tree (form.Call x bang arguments) w = call_tree (primary_tree x w true) (is_some bang) (argument_trees arguments w)
+
+  pub link_list : Links → Context → List Link
+  link_list form.NoLink w = []
+  link_list (form.Bracket opening at f closing rest) w = bracket_link opening at (tree f w) ∷ link_list rest w
+  link_list (form.Property dot at name name_at rest) w = member_link dot at (property name name_at) ∷ link_list rest w
+  link_list (form.Method dot at name name_at bang arguments rest) w =
+      member_link dot at (method_tree (text_of name) name_at (is_some bang) (argument_trees arguments w)) ∷ link_list rest w
+
+  pub operand_tree : Operand → Context → Node
+  operand_tree (form.Linked x links) w = chained (base_tree x w) (link_list links w)
   operand_tree (form.Signed sign at x) w = signed sign at (operand_tree x w)
   operand_tree (form.NoOperand token at) w = unit at
 
-  pub argument_trees : Arguments → Walk → Nodes
+  pub argument_trees : Arguments → Context → Nodes
   argument_trees (form.EmptyPair at) w = no_nodes
   argument_trees (form.Empty opening closing) w = no_nodes
   argument_trees (form.Listed opening items) w = item_trees items w
 
-  pub item_trees : Items → Walk → Nodes
+  pub item_trees : Items → Context → Nodes
   item_trees (form.Last f closing) w = one_node (tree f w) no_nodes
   item_trees (form.Trailing f comma closing) w = one_node (tree f w) no_nodes
   item_trees (form.More f comma items) w = one_node (tree f w) (item_trees items w)
 
-  pub tree : Run → Walk → Node
+  pub element_trees : Elements → Context → Nodes
+  element_trees (form.NoElement closing) w = no_nodes
+  element_trees (form.LastElement f closing) w = one_node (tree f w) no_nodes
+  element_trees (form.Element f comma elements) w = one_node (tree f w) (element_trees elements w)
+
+  pub field_trees : Fields → Context → Properties
+  field_trees (form.NoField closing) w = no_properties
+  field_trees (form.LastField key at colon f closing) w = one_property (text_of key) at (tree f w) no_properties
+  field_trees (form.Field key at colon f comma fields) w = one_property (text_of key) at (tree f w) (field_trees fields w)
+
+  pub tree : Run → Context → Node
   tree (form.Just x) w = operand_tree x w
   tree (form.Binary op at l r) w = operator_tree op at (tree l w) (tree r w)
 
 abbrev example_one : (column : ℕ) → Run
-example_one column = form.Just (form.Plain (form.Value (Integer (pos 1)) (place 1 column)))
+example_one column = form.Just (form.Linked (form.Plain (form.Value (Integer (pos 1)) (place 1 column))) form.NoLink)
 
 -- `-1 + 1`
-example : tree (form.Binary (Sign Plus) (place 1 4) (form.Just (form.Signed (Sign UnaryMinus) (place 1 1) (form.Plain (form.Value (Integer (pos 1)) (place 1 2))))) (example_one 6)) nothing_live ≡ operator_call (Sign Plus) (place 1 4) (integer (negsuc 0) (place 1 1)) (integer (pos 1) (place 1 6))
+example : tree (form.Binary (Sign Plus) (place 1 4) (form.Just (form.Signed (Sign UnaryMinus) (place 1 1) (form.Linked (form.Plain (form.Value (Integer (pos 1)) (place 1 2))) form.NoLink))) (example_one 6)) bare ≡ operator_call (Sign Plus) (place 1 4) (integer (negsuc 0) (place 1 1)) (integer (pos 1) (place 1 6))
 example = refl

@@ -1,28 +1,30 @@
--- What each written form demands of the stream, before what stands behind it does.
-use Rattle.std.specs.Prelude.{Bool, true, false, Some, None, ◌&&◌, codes, if◌then◌else◌}
+-- What each written form demands of the stream, followed by what comes after it demands (the last argument, `k`).
+use Rattle.std.specs.Prelude.{ℕ, ◌+◌, ◌==◌, Bool, true, false, not, Option, Some, None, List, [], ◌∷◌, ◌++◌, ◌&&◌, codes, if◌then◌else◌}
 use Rattle.rhai_lower.specs.Texts.{Text}
-use Rattle.rhai_lower.specs.Lexemes.{Lexeme, Name, Reserved, Sign}
-use Rattle.rhai_lower.specs.Nodes.{Node, position_of}
+use Rattle.rhai_lower.specs.Lexemes.{Lexeme, Name, Reserved, Sign, text_of}
+use Rattle.rhai_lower.specs.Nodes.{Node, Properties, no_properties, with_property, property, position_of}
 use Rattle.rhai_lower.specs.declared.position.Position.{Position}
-use Rattle.rhai_lower.specs.declared.token.Token.TheVariants.{Unit, LeftParen, RightParen, Comma, Bang}
+use Rattle.rhai_lower.specs.declared.token.Token.TheVariants.{Unit, LeftParen, RightParen, LeftBracket, RightBracket, MapStart, RightBrace, Colon, Comma, Bang}
 use Rattle.rhai_grammar.specs.Causes as cause
 use Rattle.rhai_grammar.specs.Causes.{Cause, Refusal, refusal}
 use Rattle.rhai_grammar.specs.Delivered.{code, item, is_end}
-use Rattle.rhai_grammar.specs.Settings.{Settings, low, up, in_function}
-use Rattle.rhai_grammar.specs.Walks.{Walk}
+use Rattle.rhai_grammar.specs.Settings.{Settings, low, up, in_function, quoted_keys}
+use Rattle.rhai_grammar.specs.Contexts.{Context, full}
 use Rattle.rhai_grammar.specs.Beginnings as begin
-use Rattle.rhai_grammar.specs.Beginnings.{Beginning, beginning, unexpected, missing, is_value, is_sign, is_range, closes, calling, calls, is_list, may_be_called, is_this, Following, following, no_argument}
+use Rattle.rhai_grammar.specs.Beginnings.{Beginning, beginning, unexpected, missing, is_value, is_sign, is_range, closes, calling, calls, is_list, may_be_called, is_this, Following, following, no_argument, linking, is_bracket, is_dot, is_link, closes_index, MemberPlace, AMember, NoMember, member_place, is_member}
+use Rattle.rhai_grammar.specs.Literals.{ItemPlace, ItemsEnd, AnItem, NoItem, item_place, behind_item, KeyPlace, NoKey, key_place, is_key, has_key, property_count, is_colon, too_many_fields, behind_value}
 use Rattle.rhai_grammar.specs.Signs.{sign_holds, malformed}
 use Rattle.rhai_grammar.specs.Operators.{boolean_holds, mismatched}
 use Rattle.rhai_grammar.specs.Strengths.{Behind, Operator, Unknown, Other, behind_of, is_operator, left_of, right_of}
 use Rattle.rhai_grammar.specs.Forms as form
-use Rattle.rhai_grammar.specs.Forms.{Primary, Operand, Arguments, Items, Run}
-use Rattle.rhai_grammar.specs.Trees.{is_variable, primary_tree, operand_tree, tree}
+use Rattle.rhai_grammar.specs.Forms.{Primary, Base, Links, Operand, Arguments, Items, Elements, Fields, Run}
+use Rattle.rhai_grammar.specs.Trees.{is_variable, bracket_link, member_link, method_tree, primary_tree, base_tree, argument_trees, operand_tree, tree}
+use Rattle.rhai_grammar.specs.Chains.{Link, index_refusal, last_fault}
 use Rattle.rhai_grammar.specs.Demands.{Verdict, Fine, Wrong, Blames, Otherwise, Demands, Nothing, Tok, Ahead, Next, Test, Shape, ◌▸◌}
 
--- ---- which tokens are refused where one is due
+-- ---- which tokens are refused in place of a required one
 
--- where an operand is due; behind a range operator, some tokens say that none is written
+-- where an operand is expected; after a range operator, some tokens say that it is omitted
 abbrev pub due : Beginning → Verdict
 due (begin.NoBeginning why) = Wrong why
 due _ = Otherwise
@@ -33,7 +35,7 @@ operand_due ranged l = if ranged && closes l then Otherwise else due (beginning 
 abbrev pub anything : Lexeme → Verdict
 anything l = Otherwise
 
--- Behind a reserved word: what calls it, if it may be called. In a function `this` may stand with anything behind it.
+-- After a reserved word: what calls it, if it may be called. In a function `this` may be followed by anything.
 abbrev pub word_use : Settings → Text → Position → (called : Bool) → Verdict
 word_use c word at called =
     if may_be_called word && called then Fine else
@@ -43,22 +45,50 @@ word_use c word at called =
 abbrev pub word_behind : Settings → Text → Position → Lexeme → Verdict
 word_behind c word at l = word_use c word at (calls l)
 
--- behind an operand that is not called: nothing that calls a variable
+-- after an operand that is not called: nothing that calls a variable
 abbrev pub uncalled : Node → Lexeme → Verdict
 uncalled x l = if is_variable x && calls l then Otherwise else Fine
 
--- behind the `!` of a call
+-- after an operand with its links: no further link
+abbrev pub unlinked : Lexeme → Verdict
+unlinked l = if is_link (linking l) then Otherwise else Fine
+
+-- after the index in a bracket
+abbrev pub index_closes : Lexeme → Verdict
+index_closes l = if closes_index l then Otherwise else Wrong (missing (codes "]") l)
+
+-- after a dot
+abbrev pub member_at : MemberPlace → Verdict
+member_at AMember = Fine
+member_at (NoMember why) = Wrong why
+
+abbrev pub member_due : Lexeme → Verdict
+member_due l = member_at (member_place l)
+
+-- after a property's name: nothing that calls it
+abbrev pub uncalled_member : Lexeme → Verdict
+uncalled_member l = if calls l then Otherwise else Fine
+
+-- After a method's name: what calls it. A reserved word cannot be a property.
+abbrev pub no_method : Lexeme → Position → Verdict
+no_method (Reserved t) at = Blames (refusal (cause.Reserved t) at)
+no_method _ at = Otherwise
+
+abbrev pub method_behind : (name : Lexeme) → Position → Lexeme → Verdict
+method_behind name at l = if calls l then Fine else no_method name at
+
+-- after the `!` of a call
 abbrev pub list_due : Lexeme → Verdict
 list_due l = if is_list (calling l) then Otherwise else Wrong (missing (codes "(") l)
 
--- behind the `(` of a call: no end mark and no error of the tokenizer
+-- after the `(` of a call: neither the end mark nor an error of the tokenizer
 abbrev pub close_or_argument : Lexeme → Verdict
 close_or_argument l = if no_argument l then Wrong (missing (codes ")") l) else Otherwise
 
 abbrev pub argument_due : Lexeme → Verdict
 argument_due l = if no_argument l then Wrong (missing (codes ")") l) else if begin.is_close (following l) then Otherwise else Fine
 
--- behind an argument
+-- after an argument
 abbrev pub follows : Following → Verdict
 follows (begin.NoFollowing why) = Wrong why
 follows _ = Otherwise
@@ -66,15 +96,57 @@ follows _ = Otherwise
 abbrev pub comma_or_close : Lexeme → Verdict
 comma_or_close l = follows (following l)
 
--- behind the comma of an argument that another one follows
+-- after the comma of an argument that is followed by another one
 abbrev pub goes_on : Lexeme → Verdict
 goes_on l = if begin.is_close (following l) then Otherwise else Fine
 
--- behind an expression in parentheses
+-- after an expression in parentheses
 abbrev pub close_due : Lexeme → Verdict
 close_due l = if begin.is_close (following l) then Otherwise else Wrong (missing (codes ")") l)
 
--- behind an operand: a reserved symbol is no operator
+-- where an item of an array may begin: an item, or the end
+abbrev pub item_at : ItemPlace → Verdict
+item_at AnItem = Fine
+item_at ItemsEnd = Otherwise
+item_at (NoItem why) = Wrong why
+
+abbrev pub item_due : (limit count : ℕ) → Lexeme → Verdict
+item_due limit count l = item_at (item_place limit count l)
+
+abbrev pub no_item_at : ItemPlace → Verdict
+no_item_at AnItem = Otherwise
+no_item_at ItemsEnd = Otherwise
+no_item_at (NoItem why) = Wrong why
+
+abbrev pub no_item_due : (limit count : ℕ) → Lexeme → Verdict
+no_item_due limit count l = no_item_at (item_place limit count l)
+
+abbrev pub item_follows : Lexeme → Verdict
+item_follows l = follows (behind_item l)
+
+-- where a key of an object map may begin: a key, or the end
+abbrev pub key_at : KeyPlace → Verdict
+key_at (NoKey why) = Wrong why
+key_at _ = Otherwise
+
+-- what a token is where one more key may begin, after these properties
+abbrev pub next_key : Settings → Properties → Lexeme → KeyPlace
+next_key c before l = key_place (quoted_keys c) (property_count before == 0) l
+
+abbrev pub key_due : Settings → Properties → Lexeme → Verdict
+key_due c before l = key_at (next_key c before l)
+
+abbrev pub colon_due : Lexeme → Verdict
+colon_due l = if is_colon l then Otherwise else Wrong (missing (codes ":") l)
+
+-- after the colon of one more property
+abbrev pub value_due : (limit count : ℕ) → Lexeme → Verdict
+value_due limit count l = if full limit count then Wrong (too_many_fields limit) else Fine
+
+abbrev pub value_follows : Lexeme → Verdict
+value_follows l = follows (behind_value l)
+
+-- after an operand: no reserved symbol, since that is not an operator
 abbrev pub known_behind : Behind → Verdict
 known_behind (Unknown t) = Wrong (cause.UnknownOperator t)
 known_behind (Operator n right) = Fine
@@ -83,7 +155,7 @@ known_behind Other = Fine
 abbrev pub operator_known : Lexeme → Verdict
 operator_known l = known_behind (behind_of l)
 
--- behind a run: no operator, which would go on with it
+-- after a run: no operator, which would continue it
 abbrev pub ended_behind : Behind → Verdict
 ended_behind (Operator n right) = Otherwise
 ended_behind (Unknown t) = Otherwise
@@ -92,65 +164,66 @@ ended_behind Other = Fine
 abbrev pub run_ends : Lexeme → Verdict
 run_ends l = ended_behind (behind_of l)
 
--- behind an operator's right side: no operator that would go on with it
+-- after an operator's right side: no operator that would continue it
 abbrev pub ended_side : Behind → Behind → Verdict
 ended_side op inner = if is_operator inner && right_of op inner then Otherwise else Fine
 
 abbrev pub side_ends : Lexeme → Lexeme → Verdict
 side_ends op l = ended_side (behind_of op) (behind_of l)
 
--- where a level is raised at the token that comes next
+-- where a level is raised at the next token
 abbrev pub room_due : Settings → Lexeme → Verdict
 room_due c l = if low c then Fine else Wrong cause.ExprTooDeep
 
--- behind a whole expression
+-- after a whole expression
 abbrev pub end_due : Lexeme → Verdict
 end_due l = if is_end l then Fine else Wrong (unexpected l)
 
 -- ---- levels
 
--- settings, and where the next raise of their level is refused
+-- settings, and the position at which the next raise of their level is refused
 pub record Height : Type 0 where
   pub settings : Settings
   pub at : Position
 
--- the level is raised, or the refusal of that
+-- the level is raised, or that is refused
 abbrev pub raise : Height → Demands → Demands
 raise h k = Test (low h.settings) (refusal cause.ExprTooDeep h.at) ▸ k
 
 abbrev pub raise_at : Settings → Position → Demands → Demands
 raise_at c at k = Test (low c) (refusal cause.ExprTooDeep at) ▸ k
 
--- where a run stands
+-- the place of a run
 pub data Side : Type 0 where
   Outermost : Side
-  -- on the right of an operator, whose own level is raised behind the first operand
+  -- on the right of an operator, whose level is raised after the first operand
   RightOf : (op : Lexeme) (height : Height) → Side
 
--- A run's first operand is read under the first settings, and its operators begin under the second; what is live there.
+-- A run's first operand is parsed under the settings `first`, and its operators begin under `begins`; `walk` is the
+-- context.
 pub record Spot : Type 0 where
   pub first : Settings
   pub begins : Settings
   pub side : Side
-  pub walk : Walk
+  pub walk : Context
 
-abbrev pub outermost : Settings → Walk → Spot
+abbrev pub outermost : Settings → Context → Spot
 outermost c w = record { first = c; begins = c; side = Outermost; walk = w }
 
-abbrev pub right_side : Lexeme → Height → Walk → Spot
+abbrev pub right_side : Lexeme → Height → Context → Spot
 right_side op h w = record { first = h.settings; begins = up h.settings; side = RightOf op h; walk = w }
 
--- The height behind a run: that of its first operand, and one level more for each operator on its left side.
+-- The height after a run: that of its first operand, and one level more for each operator on its left side.
 abbrev pub height_after : Spot → Run → Height
 height_after q (form.Just x) = record { settings = q.begins; at = position_of (operand_tree x q.walk) }
 height_after q (form.Binary op at l r) = record { settings = up (height_after q l).settings; at = at }
 
--- Behind an operator's right operand its level is raised: for the tighter run that begins there, and for what follows.
+-- After an operator's right operand its level is raised: for the nested run that begins there, and for what follows.
 abbrev pub raise_behind : Side → Demands → Demands
 raise_behind Outermost k = k
 raise_behind (RightOf op h) k = raise h k
 
--- an operand stands directly behind a range operator
+-- an operand directly after a range operator
 abbrev pub is_ranged : Side → Bool
 is_ranged Outermost = false
 is_ranged (RightOf op h) = is_range (beginning op)
@@ -170,44 +243,113 @@ begun c k = Next (room_due c) ▸ k
 abbrev pub ended : Demands → Demands
 ended k = Next run_ends ▸ k
 
--- Behind its whole right side an operator joins its operands: `&&` and `||` those that can be boolean.
+-- After its whole right side an operator joins its operands: for `&&` and `||` both have to be possible booleans.
 abbrev pub operands_fit : Lexeme → Node → Node → Demands → Demands
 operands_fit op x y k = Next (side_ends op) ▸ Test (boolean_holds op x) (mismatched x) ▸ Test (boolean_holds op y) (mismatched y) ▸ k
+
+-- A property up to its value: no earlier property has its key.
+abbrev pub field : (key : Lexeme) (at colon : Position) (before : Properties) → Settings → Context → (opening : Position) → Demands → Demands
+field key at colon before c w opening k =
+    Shape (is_key (next_key c before key)) ▸ Tok code (item key at) (key_due c before) ▸
+    Test (not (has_key (text_of key) before)) (refusal (cause.DuplicatedProperty (text_of key)) at) ▸
+    Tok code (item (Sign Colon) colon) colon_due ▸ Next (value_due w.sizes.map (property_count before)) ▸
+    raise_at c opening k
+
+-- ---- links
+
+-- The place of a link: the settings of the operand that it continues, those of the brackets directly before it, the
+-- operand against which the index of a bracket is tested, if it is, and the links before.
+pub record LinkSpot : Type 0 where
+  pub settings : Settings
+  pub brackets : Settings
+  pub indexed : Option Node
+  pub before : List Link
+
+abbrev pub behind_operand : Settings → Node → LinkSpot
+behind_operand c x = record { settings = c; brackets = c; indexed = Some x; before = [] }
+
+abbrev pub behind_bracket : LinkSpot → Link → LinkSpot
+behind_bracket q l = record { settings = q.settings; brackets = up q.brackets; indexed = None; before = q.before ++ (l ∷ []) }
+
+-- Everything to the right of a dot is one level deeper.
+abbrev pub behind_dot : LinkSpot → Link → LinkSpot
+behind_dot q l = record { settings = up q.settings; brackets = up q.settings; indexed = None; before = q.before ++ (l ∷ []) }
+
+-- the error, if there is one
+abbrev pub unfaulted : Option Refusal → Demands → Demands
+unfaulted None k = k
+unfaulted (Some e) k = Test false e ▸ k
+
+-- a dot with the name of a method
+abbrev pub method : (dot : Lexeme) (at : Position) (name : Lexeme) (name_at : Position) → LinkSpot → Demands → Demands
+method dot at name name_at q k =
+    Shape (is_dot (linking dot)) ▸ Shape (is_member (member_place name)) ▸ Tok code (item dot at) anything ▸ Next member_due ▸
+    raise_at q.settings at (Tok code (item name name_at) anything ▸ Next (method_behind name name_at) ▸ k)
 
 -- ---- the forms
 
 abbrev mutual
-  pub primary : Primary → Settings → Walk → (ranged : Bool) → Demands → Demands
+  pub primary : Primary → Settings → Context → (ranged : Bool) → Demands → Demands
   primary (form.Value token at) c w ranged k = Shape (is_value (beginning token)) ▸ Tok code (item token at) (operand_due ranged) ▸ k
   primary (form.Named name at) c w ranged k = Tok code (item (Name name) at) (operand_due ranged) ▸ k
   primary (form.Word word at) c w ranged k = Tok code (item (Reserved word) at) (operand_due ranged) ▸ Next (word_behind c word at) ▸ k
   primary (form.Group opening inside closing) c w ranged k =
       Tok code (item (Sign LeftParen) opening) (operand_due ranged) ▸ raise_at c opening (
       begun (up c) (run inside (outermost (up (up c)) w) (ended (Tok code (item (Sign RightParen) closing) close_due ▸ k))))
+  primary (form.Array opening list) c w ranged k =
+      Tok code (item (Sign LeftBracket) opening) (operand_due ranged) ▸ raise_at c opening (elements list 0 (up c) w opening k)
+  primary (form.Map opening list) c w ranged k =
+      Tok code (item (Sign MapStart) opening) (operand_due ranged) ▸ raise_at c opening (fields list no_properties (up c) w opening k)
   primary (form.Zero range at) c w ranged k = Shape (is_range (beginning range)) ▸ Ahead (item range at) (operand_due ranged) ▸ k
 
-  -- A variable that something calls is the name of a call. What calls it is all that may follow a reserved word other than `this`.
-  pub operand : Operand → Settings → Walk → (ranged : Bool) → Demands → Demands
-  operand (form.Plain x) c w ranged k = primary x c w ranged (Next (uncalled (primary_tree x w false)) ▸ k)
-  operand (form.Call x None args) c w ranged k =
+  -- A variable that is called is the name of a call. Only what calls it may follow a reserved word other than `this`.
+  pub base : Base → Settings → Context → (ranged : Bool) → Demands → Demands
+  base (form.Plain x) c w ranged k = primary x c w ranged (Next (uncalled (primary_tree x w false)) ▸ k)
+  base (form.Call x None args) c w ranged k =
       primary x c w ranged (Shape (is_variable (primary_tree x w true)) ▸ arguments args anything c w (position_of (primary_tree x w true)) k)
-  operand (form.Call x (Some bang) args) c w ranged k =
+  base (form.Call x (Some bang) args) c w ranged k =
       primary x c w ranged (Shape (is_variable (primary_tree x w true)) ▸
       Tok code (item (Sign Bang) bang) anything ▸ arguments args list_due c w (position_of (primary_tree x w true)) k)
+
+  -- A bracket raises the level, and its index once more; a dot raises that of the operand, for everything to its right.
+  -- After the links the members are tested: some are not allowed as methods.
+  pub links : Links → LinkSpot → Context → Demands → Demands
+  links form.NoLink q w k = Next unlinked ▸ unfaulted (last_fault q.before) k
+  links (form.Bracket opening at f closing rest) q w k =
+      Shape (is_bracket (linking opening)) ▸ Tok code (item opening at) anything ▸
+      raise_at q.brackets at (raise_at (up q.brackets) at (
+      begun (up (up q.brackets)) (run f (outermost (up (up (up q.brackets))) w) (ended (
+      unfaulted (index_refusal q.indexed (tree f w)) (
+      Tok code (item (Sign RightBracket) closing) index_closes ▸ links rest (behind_bracket q (bracket_link opening at (tree f w))) w k))))))
+  links (form.Property dot at name name_at rest) q w k =
+      Shape (is_dot (linking dot)) ▸ Tok code (item dot at) anything ▸ Next member_due ▸ raise_at q.settings at (
+      Tok code (item (Name name) name_at) anything ▸ Next uncalled_member ▸
+      links rest (behind_dot q (member_link dot at (property name name_at))) w k)
+  links (form.Method dot at name name_at None args rest) q w k =
+      method dot at name name_at q (
+      arguments args anything (up q.settings) w name_at (
+      links rest (behind_dot q (member_link dot at (method_tree (text_of name) name_at false (argument_trees args w)))) w k))
+  links (form.Method dot at name name_at (Some bang) args rest) q w k =
+      method dot at name name_at q (
+      Tok code (item (Sign Bang) bang) anything ▸ arguments args list_due (up q.settings) w name_at (
+      links rest (behind_dot q (member_link dot at (method_tree (text_of name) name_at true (argument_trees args w)))) w k))
+
+  pub operand : Operand → Settings → Context → (ranged : Bool) → Demands → Demands
+  operand (form.Linked x list) c w ranged k = base x c w ranged (links list (behind_operand c (base_tree x w)) w k)
   operand (form.Signed sign at x) c w ranged k =
       Shape (is_sign (beginning sign)) ▸ Tok code (item sign at) (operand_due ranged) ▸ raise_at c at (
       operand x (up c) w false (Test (sign_holds sign (operand_tree x w)) (malformed at (operand_tree x w)) ▸ k))
   operand (form.NoOperand token at) c w ranged k = Shape (ranged && closes token) ▸ Ahead (item token at) (operand_due ranged) ▸ k
 
-  -- The level of arguments is raised once for all, and refused at the name that is called.
-  pub arguments : Arguments → (others : Lexeme → Verdict) → Settings → Walk → Position → Demands → Demands
+  -- The level of arguments is raised once for all of them; the refusal has the position of the name that is called.
+  pub arguments : Arguments → (others : Lexeme → Verdict) → Settings → Context → Position → Demands → Demands
   arguments (form.EmptyPair at) others c w name k = Tok code (item (Sign Unit) at) others ▸ k
   arguments (form.Empty opening closing) others c w name k =
       Tok code (item (Sign LeftParen) opening) others ▸ Tok code (item (Sign RightParen) closing) close_or_argument ▸ k
   arguments (form.Listed opening list) others c w name k =
       Tok code (item (Sign LeftParen) opening) others ▸ Next argument_due ▸ raise_at c name (items list (up c) w k)
 
-  pub items : Items → Settings → Walk → Demands → Demands
+  pub items : Items → Settings → Context → Demands → Demands
   items (form.Last f closing) c w k = begun c (run f (outermost (up c) w) (ended (Tok code (item (Sign RightParen) closing) comma_or_close ▸ k)))
   items (form.Trailing f comma closing) c w k =
       begun c (run f (outermost (up c) w) (ended (
@@ -216,8 +358,29 @@ abbrev mutual
       begun c (run f (outermost (up c) w) (ended (
       Tok code (item (Sign Comma) comma) comma_or_close ▸ Next goes_on ▸ items rest c w k)))
 
-  -- Behind each operand stands no reserved symbol. An operator stands between a left run and a right one, each of which has
-  -- operators that bind as the strengths say.
+  -- The level is raised again for each item; the refusal is at the `[`. `count` is the number of items before.
+  pub elements : Elements → (count : ℕ) → Settings → Context → (opening : Position) → Demands → Demands
+  elements (form.NoElement closing) count c w opening k = Tok code (item (Sign RightBracket) closing) (no_item_due w.sizes.array count) ▸ k
+  elements (form.LastElement f closing) count c w opening k =
+      Next (item_due w.sizes.array count) ▸ raise_at c opening (
+      begun (up c) (run f (outermost (up (up c)) w) (ended (Tok code (item (Sign RightBracket) closing) item_follows ▸ k))))
+  elements (form.Element f comma rest) count c w opening k =
+      Next (item_due w.sizes.array count) ▸ raise_at c opening (
+      begun (up c) (run f (outermost (up (up c)) w) (ended (Tok code (item (Sign Comma) comma) item_follows ▸ elements rest (count + 1) c w opening k))))
+
+  -- The level is raised again for each value; the refusal is at the `#{`. `before` are the properties before.
+  pub fields : Fields → (before : Properties) → Settings → Context → (opening : Position) → Demands → Demands
+  fields (form.NoField closing) before c w opening k = Tok code (item (Sign RightBrace) closing) (key_due c before) ▸ k
+  fields (form.LastField key at colon f closing) before c w opening k =
+      field key at colon before c w opening (
+      begun (up c) (run f (outermost (up (up c)) w) (ended (Tok code (item (Sign RightBrace) closing) value_follows ▸ k))))
+  fields (form.Field key at colon f comma rest) before c w opening k =
+      field key at colon before c w opening (
+      begun (up c) (run f (outermost (up (up c)) w) (ended (
+      Tok code (item (Sign Comma) comma) value_follows ▸ fields rest (with_property before (text_of key) at (tree f w)) c w opening k))))
+
+  -- No operand is followed by a reserved symbol. An operator is between a left run and a right one, whose own operators
+  -- bind as the strengths say.
   pub run : Run → Spot → Demands → Demands
   run (form.Just x) q k = operand x q.first q.walk (is_ranged q.side) (Next operator_known ▸ raise_behind q.side k)
   run (form.Binary op at l r) q k =
@@ -226,10 +389,10 @@ abbrev mutual
       Tok code (item op at) anything ▸
       run r (right_side op (height_after q l) q.walk) (operands_fit op (tree l q.walk) (tree r q.walk) k))
 
--- An expression raises the level at its first token, and ends where no operator goes on with it.
-abbrev pub expression : Run → Settings → Walk → Demands → Demands
+-- An expression raises the level at its first token, and ends where no operator continues it.
+abbrev pub expression : Run → Settings → Context → Demands → Demands
 expression f c w k = begun c (run f (outermost (up c) w) (ended k))
 
 -- a whole stream that is one expression
-abbrev pub whole_expression : Run → Settings → Walk → Demands
+abbrev pub whole_expression : Run → Settings → Context → Demands
 whole_expression f c w = expression f c w (Next end_due ▸ Nothing)

@@ -10,78 +10,78 @@ use std::rc::RcStr;
 /// An input that the parser cannot use, or that the tokenizer could not read.
 #[derive(Clone, PartialEq, Debug, Drop)]
 pub enum InputError {
-    /// A token that has no place here; its text.
+    /// An unexpected token, by its text.
     UnexpectedInput(RcStr),
-    /// What the tokenizer says of the input.
+    /// An error of the tokenizer.
     Lexer(LexError),
-    /// The least integer with a minus before it, which no integer is; its text.
+    /// Minus before the least integer, which has no negation; the text is `-` and that integer.
     MalformedNumber(RcStr),
-    /// A symbol or word that is not allowed here, and a note on what to write in its place.
+    /// A symbol or word that is not allowed here, and a note on what to write instead.
     ImproperSymbol(RcStr, RcStr),
 }
 
-/// Why a script is refused. Which error comes when is in docs/GRAMMAR.md, "Errors".
+/// Why a script is refused. docs/GRAMMAR.md, "Errors", says which error occurs when.
 #[derive(Clone, PartialEq, Debug, Drop)]
 pub enum ParseErrorType {
-    /// The script ends where an operand, or the statement of a `switch` arm, is due.
+    /// The script ends where an operand, or the statement of a `switch` arm, is expected.
     UnexpectedEOF,
     /// An input that the parser or the tokenizer cannot use.
     BadInput(InputError),
-    /// A reserved symbol where a binary operator may stand.
+    /// A reserved symbol, by its text, where a binary operator may follow.
     UnknownOperator(RcStr),
-    /// This token is due, and another stands there; a note says what for.
+    /// Another token in place of this one; the second text is a note on what it is for.
     MissingToken(RcStr, RcStr),
-    /// An expression of this kind is due.
+    /// An expression of this kind is expected.
     ExprExpected(RcStr),
-    /// A value of the first kind is due, and one of the second stands there.
+    /// A value of the first kind is expected, and one of the second kind was found.
     MismatchedType(RcStr, RcStr),
-    /// An index of a kind that the indexed value does not take.
+    /// An index of a kind that the indexed value does not take; the text says which.
     MalformedIndexExpr(RcStr),
-    /// A method call with `!`.
+    /// A method call with `!`, and a note.
     MalformedCapture(RcStr),
-    /// No name of a property.
+    /// The name of a property is missing.
     PropertyExpected,
-    /// No name of a variable.
+    /// The name of a variable is missing.
     VariableExpected,
-    /// A reserved word where it may not stand.
+    /// A reserved word where it is not allowed.
     Reserved(RcStr),
-    /// A property that an object map has twice.
+    /// A property that an object map has twice, by its name.
     DuplicatedProperty(RcStr),
-    /// A loop's variable and counter of one name.
+    /// A loop's variable and counter with the same name.
     DuplicatedVariable(RcStr),
-    /// A variable that is there already, where shadowing is off.
+    /// A variable that exists already, where shadowing is off.
     VariableExists(RcStr),
-    /// A variable that nobody defines, where variables are strict.
+    /// A variable that is not defined, where variables are strict.
     VariableUndefined(RcStr),
-    /// A module that nobody imports, where variables are strict.
+    /// A module that is not imported, where variables are strict.
     ModuleUndefined(RcStr),
-    /// A `switch` arm behind the default one.
+    /// A `switch` arm after the default one.
     WrongSwitchDefaultCase,
     /// A condition on the default arm of a `switch`.
     WrongSwitchCaseCondition,
-    /// An integer case behind a range.
+    /// An integer case after a range in a `switch`.
     WrongSwitchIntegerCase,
     /// A function below the global level.
     WrongFnDefinition,
     /// A function without a name.
     FnMissingName,
-    /// A function of this name without parameters.
+    /// A function of this name without a parameter list.
     FnMissingParams(RcStr),
     /// A function of this name without a body.
     FnMissingBody(RcStr),
-    /// A parameter that a function (empty for a closure) has twice.
+    /// A function (empty for a closure) that has this parameter twice.
     FnDuplicatedParam(RcStr, RcStr),
-    /// A function of this name and number of parameters that is there already.
+    /// A function of this name and number of parameters exists already.
     FnDuplicatedDefinition(RcStr, usize),
     /// An export below the global level.
     WrongExport,
-    /// A constant of this name, or an unnamed one, is assigned to.
+    /// An assignment to a constant of this name; the name is empty for an unnamed one.
     AssignmentToConstant(RcStr),
-    /// Something is assigned to that cannot be.
+    /// An assignment to something that cannot be assigned to.
     AssignmentToInvalidLHS(RcStr),
     /// `break` or `continue` outside a loop.
     LoopBreak,
-    /// A literal of this kind has more items than this limit.
+    /// A literal of this kind with more items than this limit.
     LiteralTooLarge(RcStr, usize),
     /// The script nests more deeply than the limit allows.
     ExprTooDeep,
@@ -91,11 +91,11 @@ pub enum ParseErrorType {
     OutOfMemory,
 }
 
-/// Why a script is refused, and where; without a position where memory ran out.
+/// Why a script is refused, and where; the position is none if memory ran out.
 #[derive(Clone, PartialEq, Debug, Drop)]
 pub struct ParseError(pub ParseErrorType, pub Position);
 
-/// What a reader of the parser answers.
+/// The result of a parsing function.
 pub type ParseResult<T> = Result<T, ParseError>;
 
 impl From<AllocError> for ParseError {

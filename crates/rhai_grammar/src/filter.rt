@@ -1,10 +1,10 @@
-//! Which tokens may stand in an expression.
+//! Which tokens are allowed in an expression.
 
-/// Which tokens an expression may hold.
+/// Which tokens an expression may contain.
 #[derive(Clone, Copy, PartialEq, Eq, Hash, Debug)]
 pub enum ExprFilter {
     /// Every token.
     All,
-    /// Every token but `|`, which separates the cases of a `switch`.
+    /// Every token except `|`, which separates the cases of a `switch`.
     AllButPipe,
 }

@@ -1,5 +1,5 @@
-//! What the language is: the definitions that the parser's promises are stated in (specs/), and the plain types that
-//! they name.
+//! The language: the definitions in which the parser's promises are stated (specs/), and the plain types that they
+//! name.
 #![tactic(auto)]
 
 pub mod error;

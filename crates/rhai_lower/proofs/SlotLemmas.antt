@@ -1,4 +1,4 @@
--- Lists of slots of the code, and what they stand for.
+-- Lists of slots of the code, and what they represent.
 use Rattle.std.proofs.Common.{◌≡◌, ◌∙◌, ℕ, zero, suc, ◌<◌, List, [], ◌∷◌, map, length, get_or, set, take, ap, sym, refl, arith}
 use Rattle.std.proofs.lemmas.List.{map-set}
 use Rattle.rhai_lower.specs.SlotView.{slot_of}
@@ -11,7 +11,7 @@ slot_at-map [] i slot below is = absurd (omega arith)
 slot_at-map (s ∷ ss) zero slot below is = ap slot_of (sym is)
 slot_at-map (s ∷ ss) (suc i) slot below is = slot_at-map ss i slot (omega arith) is
 
--- a write to the slot at an index, of which the change is known as one of its value
+-- a write to the slot at an index, as a change of its value
 pub slots-set : (slots : List Slot) (i : ℕ) (slot later : Slot) (change : SlotValue → SlotValue) → i < length slots → slot ≡ get_or slots i slot → slot_of later ≡ change (slot_of slot) → map slot_of (set slots i later) ≡ set (map slot_of slots) i (change (slot_at (map slot_of slots) i))
 slots-set slots i slot later change below is changed =
     map-set slot_of slots i later

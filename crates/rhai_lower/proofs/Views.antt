@@ -1,4 +1,4 @@
--- What each node of the code stands for.
+-- What each node of the code represents.
 use Rattle.std.proofs.Common.{◌≡◌, ℕ, ℤ, Bool, List, [], ◌∷◌, ◌++◌, ap, refl, rules}
 use Rattle.std.specs.Int.NonZero.{non_zero_usize_get}
 use Rattle.std.specs.Prelude.{Box, Option, None, Some, Vec, box_value, option_map}
@@ -146,7 +146,7 @@ view_export t a p = search (rules, the_lemmas)
 pub view_share : (v : Vec (Ident × Option NonZeroUsize) Global) (p : Position) → statement_view (stmt.Share v p) ≡ share (shared_of v.items) p
 view_share v p = search (rules, the_lemmas)
 
--- lists with one item more
+-- lists with one more item
 pub views_push : (es : List Expr) (e : Expr) → views (es ++ e ∷ []) ≡ with_node (views es) (view e)
 views_push [] e = refl
 views_push (x ∷ es) e = ap (λ rest. one_node (view x) rest) (views_push es e)

@@ -11,33 +11,36 @@ use Rattle.rhai_lower.specs.declared.token.Token.{Token}
 use Rattle.rhai_lower.specs.declared.token.Token.TheVariants as token
 use Rattle.rhai_lower.specs.declared.token.LexError.TheVariants.{UnexpectedInput}
 
--- an identifier is a valid name, and the end mark is no entry
+-- an identifier is a valid name, and the end mark is not an entry
 abbrev pub token_may_be_delivered : Token → Bool
 token_may_be_delivered (token.Identifier name) = is_identifier (rc_str_bytes name)
 token_may_be_delivered token.EOF = false
 token_may_be_delivered t = true
 
+-- a stream may deliver the entry
 abbrev pub may_be_delivered : Entry → Bool
 may_be_delivered e = token_may_be_delivered e.token
 
--- a token that is marked as text, as code mode delivers it
+-- a token that is marked as text, as it is delivered in code mode
 abbrev pub in_code : Token → Token
 in_code (token.StringConstant s) = token.LexError (UnexpectedInput s)
 in_code (token.InterpolatedString s) = token.LexError (UnexpectedInput s)
 in_code t = t
 
--- a text of code mode back in text mode
+-- the text from which such a token was made
 abbrev pub back_in_text : Bool → Token → Token
 back_in_text interpolated (token.LexError (UnexpectedInput s)) = if interpolated then token.InterpolatedString s else token.StringConstant s
 back_in_text interpolated t = t
 
+-- what a request for a token gives in each mode; the flag is whether it is marked as text
 abbrev pub ask_of_token : Token → Position → Bool → Ask
 ask_of_token t p marked = record { code = (if marked then in_code t else t, p); text = (t, p) }
 
--- what an entry answers
+-- what a request for an entry gives
 abbrev pub ask_of : Entry → Ask
 ask_of e = ask_of_token e.token e.pos e.text
 
+-- the request of the token that is peeked, if one is
 abbrev pub head_asks : Head → List Ask
 head_asks (head.Unasked t) = []
 head_asks (head.End t) = []
@@ -45,6 +48,7 @@ head_asks (head.Same t p) = record { code = p; text = p } ∷ []
 head_asks (head.Text p) = record { code = (in_code p.0, p.1); text = p } ∷ []
 head_asks (head.Code p i) = record { code = p; text = (back_in_text i p.0, p.1) } ∷ []
 
+-- the next request is in text mode
 abbrev pub head_text : Head → Bool
 head_text (head.Unasked t) = t
 head_text (head.End t) = t
@@ -52,11 +56,12 @@ head_text (head.Same t p) = t
 head_text (head.Text p) = true
 head_text (head.Code p i) = false
 
+-- the next token is peeked
 abbrev pub head_peeked : Head → Bool
 head_peeked (head.Unasked t) = false
 head_peeked _ = true
 
--- where the end mark is peeked, no entry is left
+-- if the end mark is peeked, no entry is left
 abbrev pub EndsWith : Head → List Entry → Type 0
 EndsWith (head.End t) entries = entries ≡ []
 EndsWith _ entries = Unit {0}

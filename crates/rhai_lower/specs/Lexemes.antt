@@ -1,4 +1,4 @@
--- Tokens as definitions see them: texts are their bytes.
+-- Tokens as the definitions see them: texts are bytes.
 use Rattle.std.specs.Prelude.{◌≡◌, ℕ, ℤ, [], codes, refl}
 use Rattle.std.specs.Fmt.{signed_decimal}
 use Rattle.std.specs.Rc.{rc_str_bytes}
@@ -19,6 +19,7 @@ pub data Fault : Type 0 where
   UnexpectedInput : Text → Fault
   NoMemory : Fault
 
+-- an error of the tokenizer as the definitions see it
 abbrev pub fault : LexError → Fault
 fault error.UnterminatedString = UnterminatedString
 fault (error.StringTooLong n) = StringTooLong n
@@ -27,7 +28,7 @@ fault (error.ImproperSymbol t note) = ImproperSymbol (rc_str_bytes t) (rc_str_by
 fault (error.UnexpectedInput t) = UnexpectedInput (rc_str_bytes t)
 fault error.OutOfMemory = NoMemory
 
--- a token: one with payload, or one that is always written in one way
+-- a token: one with a payload, or one that is always written the same
 pub data Lexeme : Type 0 where
   Integer : ℤ → Lexeme
   Character : ℕ → Lexeme
@@ -39,6 +40,7 @@ pub data Lexeme : Type 0 where
   Comment : Text → Lexeme
   Sign : Token → Lexeme
 
+-- a token of the code as the definitions see it
 abbrev pub lexeme : Token → Lexeme
 lexeme (token.IntegerConstant n) = Integer n
 lexeme (token.CharConstant c) = Character c
@@ -62,6 +64,6 @@ text_of (Faulty f) = []
 text_of (Comment t) = t
 text_of (Sign t) = literal_of t
 
--- The token `+` is a sign that is written so.
+-- The token `+` is a sign, and its text is `+`.
 example : (lexeme token.Plus ≡ Sign token.Plus) × (text_of (Sign token.Plus) ≡ codes "+")
 example = (refl, refl)

@@ -1,4 +1,4 @@
--- Names, and the words that the language keeps for itself.
+-- Names, and the words that the language reserves.
 use Rattle.std.specs.Prelude.{◌≡◌, ℕ, Bool, true, false, Option, Some, None, List, [], ◌∷◌, ◌&&◌, ◌||◌, ◌==◌, not, find, codes, if◌then◌else◌, refl}
 use Rattle.std.specs.Char.{is_ascii_alphabetic, is_ascii_alphanumeric}
 use Rattle.std.specs.List.{list_all, list_any}
@@ -8,6 +8,7 @@ use Rattle.rhai_lower.specs.Texts.{Text, same_text}
 abbrev pub is_word : ℕ → Bool
 is_word b = is_ascii_alphanumeric b || b == 95
 
+-- the first byte other than an underscore
 abbrev pub first_but_underscore : Text → Option ℕ
 first_but_underscore t = find (λ b. not (b == 95)) t
 
@@ -15,7 +16,7 @@ abbrev pub begins_with_letter : Option ℕ → Bool
 begins_with_letter None = false
 begins_with_letter (Some b) = is_ascii_alphabetic b
 
--- a name: the first byte that is no underscore is a letter
+-- a name: the first byte other than an underscore is a letter
 abbrev pub is_identifier : Text → Bool
 is_identifier t = list_all is_word t && begins_with_letter (first_but_underscore t)
 
@@ -37,6 +38,7 @@ reserved_as t =
     if is_one_of called_words t then (true, true, false) else
     if same_text t (codes "this") then (true, false, false) else (false, false, false)
 
+-- a text on the list of reserved words
 abbrev pub is_reserved : Text → Bool
 is_reserved t = (reserved_as t).0
 
@@ -44,6 +46,6 @@ is_reserved t = (reserved_as t).0
 abbrev pub is_function_name : Text → Bool
 is_function_name t = is_identifier t && not (is_reserved t)
 
--- `_a1` is a name, `1a` and `_` are none, and `print` may be called, but not as a method.
+-- `_a1` is a name, `1a` and `_` are not, and `print` may be called, but not as a method.
 example : (is_identifier (codes "_a1") ≡ true) × (is_identifier (codes "1a") ≡ false) × (is_identifier (codes "_") ≡ false) × (reserved_as (codes "print") ≡ (true, true, false))
 example = (refl, refl, refl, refl)

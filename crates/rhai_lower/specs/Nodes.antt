@@ -1,4 +1,4 @@
--- The tree as plain data: texts are their bytes, and nothing tells where a node lies in memory.
+-- The tree as plain data: texts are bytes, and there are no addresses.
 use Rattle.std.specs.Prelude.{◌≡◌, ℕ, ℤ, pos, Bool, true, false, Option, None, List, [], codes, refl}
 use Rattle.rhai_lower.specs.Texts.{Text}
 use Rattle.rhai_lower.specs.Lexemes.{Lexeme}
@@ -7,8 +7,9 @@ use Rattle.rhai_lower.specs.declared.ast.LinkFlags.{LinkFlags}
 use Rattle.rhai_lower.specs.declared.ast.RangeCase.{RangeCase}
 use Rattle.rhai_lower.specs.declared.position.Position.{Position}
 
--- What a call names: the function or operator, the path before it with the offset of its import from the latest, how many
--- arguments a script's and a native function take that are called so, whether it has a `!`, and the operator's token.
+-- What a call names: the function or operator, the path before it with the offset of its import (counted from 1 at the
+-- latest), the number of arguments for a script function and for a native function, whether it has a `!`, and the
+-- operator's token.
 pub record Called : Type 0 where
   pub name : Text
   pub path : List (Text × Position)
@@ -18,7 +19,8 @@ pub record Called : Type 0 where
   pub captures_scope : Bool
   pub op_token : Option Lexeme
 
--- a variable's name, the offset of its slot from the latest, and the path before it with the offset of its import
+-- a variable's name, the offset of its slot (counted from 1 at the latest), and the path before it with the offset of
+-- its import
 pub record Named : Type 0 where
   pub number : Option ℕ
   pub name : Text
@@ -52,7 +54,7 @@ mutual
     no_nodes : Nodes
     one_node : Node → Nodes → Nodes
 
-  -- a node that may be absent
+  -- an optional node
   pub data Optional : Type 0 where
     absent : Optional
     present : Node → Optional
@@ -84,7 +86,7 @@ mutual
     no_statements : Statements
     one_statement : Statement → Statements → Statements
 
-  -- statements, with where they start and end
+  -- statements, with their start and end
   pub data Block : Type 0 where
     braces : Statements → (start end : Position) → Block
 
@@ -98,7 +100,7 @@ mutual
     no_cases : Cases
     one_case : (value : Node) → (arms : List ℕ) → Cases → Cases
 
--- lists with one item more
+-- lists with one more item
 abbrev pub with_node : Nodes → Node → Nodes
 with_node no_nodes n = one_node n no_nodes
 with_node (one_node m ns) n = one_node m (with_node ns n)
@@ -130,7 +132,7 @@ pub record Function : Type 0 where
 abbrev pub block_start : Block → Position
 block_start (braces ss p q) = p
 
--- where a node stands
+-- the position of a node
 abbrev pub position_of : Node → Position
 position_of (unit p) = p
 position_of (boolean b p) = p
@@ -153,8 +155,8 @@ position_of (disjunction ns p) = p
 position_of (coalescing ns p) = p
 position_of (block_value b) = block_start b
 
--- Where a node starts: a chain where what stands before its first link starts, and the operands of `&&`, `||` and `??`
--- where the first of them starts. A call starts at its name or operator.
+-- The start of a node: a chain starts where its left child starts, and a list of `&&`, `||` or `??` where its first
+-- operand starts. A call starts at its name or operator.
 abbrev mutual
   pub start_of : Node → Position
   start_of (unit p) = p
@@ -182,7 +184,7 @@ abbrev mutual
   first_start no_nodes p = p
   first_start (one_node n ns) p = start_of n
 
--- where a statement stands
+-- the position of a statement
 abbrev pub statement_position : Statement → Position
 statement_position (noop p) = p
 statement_position (if_statement g b e p) = p
@@ -201,17 +203,17 @@ statement_position (import_statement n t p) = p
 statement_position (export_statement t a p) = p
 statement_position (share ss p) = p
 
--- a block of one statement, which starts where that stands and has no end
+-- a block of one statement, which starts at the statement's position and has no end
 abbrev pub block_of_one : Statement → Block
 block_of_one s = braces (one_statement s no_statements) (statement_position s) nowhere
 
--- A statement as a block: a block is itself, no statement is an empty block.
+-- A statement as a block: a block is itself, an empty statement is an empty block.
 abbrev pub made_block : Statement → Block
 made_block (block_statement b) = b
 made_block (noop p) = braces no_statements p nowhere
 made_block s = block_of_one s
 
--- `a[0]` stands at its bracket and starts at `a`.
+-- `a[0]` has the position of its bracket and starts at `a`.
 abbrev example_index : Node
 example_index = index (variable (record { number = None; name = codes "a"; path = []; module_index = None }) (place 1 1)) (integer (pos 0) (place 1 3)) (record { negated = false; terminating = true }) (place 1 2)
 

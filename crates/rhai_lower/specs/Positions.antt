@@ -1,4 +1,4 @@
--- Positions: a line and a column from 1, or none.
+-- Positions: a line and a column, each counted from 1, or none.
 use Rattle.std.specs.Prelude.{◌≡◌, ℕ, zero, suc, Option, Some, None, refl}
 use Rattle.rhai_lower.specs.declared.position.Position.{Position}
 
@@ -10,14 +10,16 @@ place line column = record { line = line; column = column }
 abbrev pub nowhere : Position
 nowhere = place 0 0
 
--- a number from 1, where 0 is none
+-- a number from 1; 0 is none
 abbrev pub from_one : ℕ → Option ℕ
 from_one zero = None
 from_one (suc n) = Some (suc n)
 
+-- the line of a position, counted from 1; none without a position
 abbrev pub line_of : Position → Option ℕ
 line_of p = from_one p.line
 
+-- the column of a position, counted from 1; none without a position
 abbrev pub column_of : Position → Option ℕ
 column_of p = from_one p.column
 

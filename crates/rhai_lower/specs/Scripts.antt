@@ -1,4 +1,4 @@
--- What the stand-in for the optimizer makes.
+-- What the stand-in for the optimizer returns.
 use Rattle.std.specs.Prelude.{Vec}
 use Rattle.std.specs.declared.alloc.Global.{Global}
 use Rattle.std.specs.declared.rc.Rc.{Rc}

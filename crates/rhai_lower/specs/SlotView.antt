@@ -1,4 +1,4 @@
--- What a slot of the code stands for.
+-- What a slot of the code represents.
 use Rattle.std.specs.Prelude.{map}
 use Rattle.std.specs.Rc.{rc_str_bytes}
 use Rattle.rhai_lower.specs.Slots.{SlotValue}

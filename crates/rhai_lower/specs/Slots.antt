@@ -9,15 +9,15 @@ pub record SlotValue : Type 0 where
   pub constant : Bool
   pub aliases : List Text
 
--- a slot of which nothing is exported
+-- a slot that is not exported
 abbrev pub fresh_slot : Text → Bool → SlotValue
 fresh_slot name constant = record { name = name; constant = constant; aliases = [] }
 
--- the slots with a further one
+-- the slots with one more
 abbrev pub with_slot : List SlotValue → Text → Bool → List SlotValue
 with_slot slots name constant = slots ++ fresh_slot name constant ∷ []
 
--- the slot at an index, which is below the length
+-- the slot at an index, which is less than the length
 abbrev pub slot_at : List SlotValue → ℕ → SlotValue
 slot_at slots index = slice_index_or slots index (fresh_slot [] false)
 
@@ -25,7 +25,7 @@ slot_at slots index = slice_index_or slots index (fresh_slot [] false)
 abbrev pub with_constant : List SlotValue → ℕ → Bool → List SlotValue
 with_constant slots index constant = slice_set slots index (record (slot_at slots index) { constant = constant })
 
--- the slots with one of them exported under a further name
+-- the slots with one of them exported under one more name
 abbrev pub with_alias : List SlotValue → ℕ → Text → List SlotValue
 with_alias slots index alias = slice_set slots index (record (slot_at slots index) { aliases = (slot_at slots index).aliases ++ alias ∷ [] })
 
@@ -33,7 +33,7 @@ with_alias slots index alias = slice_set slots index (record (slot_at slots inde
 abbrev pub is_declared : Text → List SlotValue → Bool
 is_declared name slots = list_any (λ s. same_text s.name name) slots
 
--- A variable `a` and a constant `b`, which is then exported as `c`; a rewind to one slot forgets it.
+-- A variable `a` and a constant `b`, which is then exported as `c`; a rewind to one slot drops it.
 abbrev example_slots : List SlotValue
 example_slots = with_alias (with_slot (with_slot [] (codes "a") false) (codes "b") true) 1 (codes "c")
 

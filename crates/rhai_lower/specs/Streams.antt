@@ -5,19 +5,19 @@ use Rattle.rhai_lower.specs.declared.position.Position.{Position}
 use Rattle.rhai_lower.specs.declared.token.Token.{Token}
 use Rattle.rhai_lower.specs.declared.token.Token.TheVariants.{EOF, Plus}
 
--- what an ask gives in each mode
+-- what a request gives in each mode
 pub record Ask : Type 0 where
   pub code : Token × Position
   pub text : Token × Position
 
--- what is still to come, the end mark's position, the mode of the next ask, and whether its token is peeked
+-- the requests still to come, the end mark's position, the mode of the next request, and whether its token is peeked
 pub record Stream : Type 0 where
   pub asks : List Ask
   pub end : Position
   pub in_text : Bool
   pub peeked : Bool
 
--- a stream of which nothing was asked
+-- a stream of which no token was requested
 abbrev pub stream_of : List Ask → Position → Stream
 stream_of asks end = record { asks = asks; end = end; in_text = false; peeked = false }
 
@@ -28,7 +28,7 @@ abbrev pub first_of_asks : List Ask → Position → Bool → Token × Position
 first_of_asks [] end text = (EOF, end)
 first_of_asks (a ∷ more) end text = in_mode text a
 
--- the token that the next ask gives
+-- the token that the next request gives
 abbrev pub asked : Stream → Token × Position
 asked s = first_of_asks s.asks s.end s.in_text
 
@@ -36,7 +36,7 @@ abbrev pub rest_of_asks : List Ask → List Ask
 rest_of_asks [] = []
 rest_of_asks (a ∷ more) = more
 
--- the stream that the ask leaves
+-- the stream after the next token was taken
 abbrev pub later : Stream → Stream
 later s = stream_of (rest_of_asks s.asks) s.end
 
@@ -44,11 +44,11 @@ later s = stream_of (rest_of_asks s.asks) s.end
 abbrev pub peeking : Stream → Stream
 peeking s = record s { peeked = true }
 
--- the stream whose next ask is in text mode
+-- the stream whose next request is in text mode
 abbrev pub in_text_next : Stream → Stream
 in_text_next s = record s { in_text = true }
 
--- One token, and then the end mark for good.
+-- One token, and then the end mark forever.
 abbrev example_stream : Stream
 example_stream = stream_of (record { code = (Plus, place 1 1); text = (Plus, place 1 1) } ∷ []) (place 1 2)
 

@@ -1,10 +1,10 @@
--- Tokens of the code: how strongly they bind, and how those without payload are written.
+-- Tokens of the code: their strengths as operators, and how those without payload are written.
 use Rattle.std.specs.Prelude.{◌≡◌, ℕ, Bool, true, false, [], Option, None, Some, codes, refl}
 use Rattle.rhai_lower.specs.Texts.{Text}
 use Rattle.rhai_lower.specs.declared.token.Token.{Token}
 use Rattle.rhai_lower.specs.declared.token.Token.TheVariants.{Unit, LeftBrace, RightBrace, LeftParen, RightParen, LeftBracket, RightBracket, QuestionBracket, MapStart, Period, Elvis, DoubleColon, Colon, Comma, SemiColon, DoubleArrow, Equals, Pipe, Or, Bang, Underscore, XOr, And, Ampersand, EqualsTo, NotEqualsTo, In, NotIn, LessThan, LessThanEqualsTo, GreaterThan, GreaterThanEqualsTo, DoubleQuestion, ExclusiveRange, InclusiveRange, Plus, Minus, Multiply, Divide, Modulo, PowerOf, LeftShift, RightShift, UnaryPlus, UnaryMinus, PlusAssign, MinusAssign, MultiplyAssign, DivideAssign, ModuloAssign, PowerOfAssign, LeftShiftAssign, RightShiftAssign, AndAssign, OrAssign, XOrAssign, True, False, Let, Const, If, Else, Switch, While, Loop, Do, Until, For, Break, Continue, Return, Throw, Try, Catch, Import, Export, As, Fn, Private, EOF}
 
--- the strength of a binary operator
+-- the strength (precedence) of a binary operator
 abbrev pub strength_of : Token → Option ℕ
 strength_of Or = Some 30
 strength_of XOr = Some 30
@@ -32,7 +32,7 @@ strength_of LeftShift = Some 210
 strength_of RightShift = Some 210
 strength_of _ = None
 
--- equal operators group to the right
+-- right-associative operators
 abbrev pub binds_right : Token → Bool
 binds_right PowerOf = true
 binds_right _ = false
@@ -136,6 +136,6 @@ literal_of Private = codes "private"
 literal_of EOF = codes "{EOF}"
 literal_of _ = []
 
--- `*` binds more strongly than `+`, and only `**` groups to the right.
+-- `*` binds more strongly than `+`, and only `**` is right-associative.
 example : (strength_of Plus ≡ Some 150) × (strength_of Multiply ≡ Some 180) × (binds_right Multiply ≡ false) × (binds_right PowerOf ≡ true)
 example = (refl, refl, refl, refl)

@@ -1,4 +1,4 @@
--- What the tree of the code stands for.
+-- What the tree of the code represents.
 use Rattle.std.specs.Prelude.{ℕ, Option, Some, None, List, [], ◌∷◌, Box, map, option_map, box_value}
 use Rattle.std.specs.Int.NonZero.{non_zero_usize_get}
 use Rattle.std.specs.Rc.{rc_str_bytes}
@@ -39,7 +39,7 @@ named v = record { number = option_map non_zero_usize_get v.index; name = rc_str
 abbrev pub shared_of : List (Ident × Option NonZeroUsize) → List (Text × Position × Option ℕ)
 shared_of vs = map (λ v. (rc_str_bytes v.0.name, v.0.pos, option_map non_zero_usize_get v.1)) vs
 
--- lists of which each item is already seen
+-- lists whose items are views already
 abbrev pub nodes_of : List Node → Nodes
 nodes_of [] = no_nodes
 nodes_of (n ∷ ns) = one_node n (nodes_of ns)
@@ -64,8 +64,8 @@ abbrev pub optional_of : Option (Box Node Global) → Optional
 optional_of None = absent
 optional_of (Some n) = present (box_value n)
 
--- What the structs between expressions and statements are once their parts are seen: two expressions, a guard with two
--- blocks, a call, the parts of `for`, a guard with a block, a case, and all cases of a `switch`.
+-- The views of the structs between expressions and statements, given those of their parts: two expressions, a guard
+-- with two blocks, a call, the parts of `for`, a guard with a block, a case, and all cases of a `switch`.
 abbrev pub Pair : Type 0
 Pair = Node × Node
 
@@ -162,12 +162,15 @@ statement_step (Stmt-F.Import n t p) = Nodes.import_statement (box_value n) (rc_
 statement_step (Stmt-F.Export t a p) = Nodes.export_statement (rc_str_bytes t) (rc_str_bytes a) p
 statement_step (Stmt-F.Share v p) = Nodes.share (shared_of v.items) p
 
+-- an expression of the code as plain data
 abbrev pub view : Expr → Node
 view = fold-Expr Node Statement Pair Flow Seen Rounds Guarded Block Case Choice expr_step statement_step pair_step flow_step call_step rounds_step guarded_step block_step case_step choice_step
 
+-- a statement of the code as plain data
 abbrev pub statement_view : Stmt → Statement
 statement_view = fold-Stmt Node Statement Pair Flow Seen Rounds Guarded Block Case Choice expr_step statement_step pair_step flow_step call_step rounds_step guarded_step block_step case_step choice_step
 
+-- a block of the code as plain data
 abbrev pub block_view : StmtBlock → Block
 block_view = fold-StmtBlock Node Statement Pair Flow Seen Rounds Guarded Block Case Choice expr_step statement_step pair_step flow_step call_step rounds_step guarded_step block_step case_step choice_step
 

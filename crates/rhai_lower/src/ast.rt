@@ -1,7 +1,8 @@
-//! The tree that the parser makes.
+//! The tree that the parser builds.
 
 ghost use Rattle.std.specs.Prelude.{◌≡◌, IfOk};
 ghost use Rattle.rhai_lower.specs.Nodes.{position_of, start_of, first_start, statement_position, block_of_one, made_block};
+ghost use Rattle.rhai_lower.specs.declared.ast.BinaryExpr.{out-BinaryExpr};
 ghost use Rattle.rhai_lower.specs.View.{block_view, statement_view, view, views};
 
 use crate::position::Position;
@@ -10,26 +11,26 @@ use std::alloc::{AllocError, Global};
 use std::num::NonZeroUsize;
 use std::rc::{Rc, RcStr};
 
-/// A name, and where it is written.
+/// A name and its position.
 #[derive(PartialEq, Debug, Drop)]
 pub struct Ident {
     pub name: RcStr,
     pub pos: Position,
 }
 
-/// The path before a qualified name, as `a::b` before `a::b::f`; empty for a plain name.
+/// The path before a qualified name, such as `a::b` before `a::b::f`; empty for a plain name.
 #[derive(PartialEq, Debug, Drop)]
 pub struct Namespace {
     /// The names of the path, from the root.
     pub path: Vec<Ident>,
-    /// The offset of the root's import from the latest one, counted from 1, where the root is an import.
+    /// The offset of the root's import, counted from 1 at the latest import, if the root is an import.
     pub index: Option<NonZeroUsize>,
 }
 
 /// A use of a variable.
 #[derive(PartialEq, Debug, Drop)]
 pub struct VariableExpr {
-    /// The offset of its slot from the latest one, counted from 1; none where its slot is not known.
+    /// The offset of its slot, counted from 1 at the latest slot; `None` if its slot is not known.
     pub index: Option<NonZeroUsize>,
     pub name: RcStr,
     /// The path before the name.
@@ -39,13 +40,13 @@ pub struct VariableExpr {
 /// Marks of a link of a chain.
 #[derive(Clone, Copy, PartialEq, Eq, Debug)]
 pub struct LinkFlags {
-    /// Whether it is written `?.` or `?[`, and so gives unit where its object is unit.
+    /// Whether it is written `?.` or `?[`, so that it gives unit if its object is unit.
     pub negated: bool,
     /// Whether it is a bracket that ends its chain.
     pub terminating: bool,
 }
 
-/// A call of a function, or an operator's.
+/// A call of a function or of an operator.
 #[cycle(ast)]
 #[derive(PartialEq, Debug)]
 pub struct FnCallExpr {
@@ -53,27 +54,27 @@ pub struct FnCallExpr {
     pub name: RcStr,
     /// The path before the name.
     pub namespace: Namespace,
-    /// How many arguments a script's function takes that is called so; none where only a native one can be.
+    /// The number of arguments of a script function that may be called; `None` if only a native function can be.
     pub script_args: Option<usize>,
-    /// How many arguments a native function takes that is called so, with a method's object.
+    /// The number of arguments of a native function that may be called; for a method this includes the object.
     pub native_args: usize,
     /// The arguments, in written order.
     pub args: Vec<Expr>,
-    /// Whether the call has a `!` and so sees the caller's scope.
+    /// Whether the call has a `!`, so that it sees the caller's scope.
     pub capture_parent_scope: bool,
-    /// The operator's token, where an operator was written.
+    /// The operator's token, if an operator was written.
     pub op_token: Option<Token>,
 }
 
 /// Two expressions that belong together.
 #[cycle(ast)]
-#[derive(PartialEq, Debug, Drop)]
+#[derive(PartialEq, Debug)]
 pub struct BinaryExpr {
     pub lhs: Expr,
     pub rhs: Expr,
 }
 
-/// An expression. Each has its position.
+/// An expression. Each variant has a position; a block has that of its start.
 #[cycle(ast)]
 #[derive(PartialEq, Debug, Drop)]
 pub enum Expr {
@@ -93,22 +94,23 @@ pub enum Expr {
     Array(Vec<Expr>, Position),
     /// An object map of these properties, in written order.
     Map(Vec<(Ident, Expr)>, Position),
-    /// A pointer to a closure: the closure's name, and how many parameters it has.
+    /// A pointer to a closure: the closure's name, and the number of its parameters.
     FnPointer(RcStr, usize, Position),
-    /// A variable, which stands at its name behind the path.
+    /// A variable, at the position of its name (after the path).
     Variable(Box<VariableExpr>, Position),
     /// `this`
     ThisPtr(Position),
-    /// A property's name, behind a dot.
+    /// A property's name, after a dot.
     Property(RcStr, Position),
-    /// A call, which stands at its name or operator.
+    /// A call, at the position of its name or operator.
     FnCall(Box<FnCallExpr>, Position),
-    /// A call behind a dot, which stands at its name.
+    /// A method call after a dot, at the position of its name.
     MethodCall(Box<FnCallExpr>, Position),
-    /// `.` or `?.`: what stands before the dot, and all links behind it. It stands at the dot.
+    /// `.` or `?.`, at the position of the dot. The left expression is what is before the dot, the right one the member
+    /// with all later links.
     Dot(Box<BinaryExpr>, LinkFlags, Position),
-    /// `[..]` or `?[..]`: what stands before the bracket, and the index with all links behind the bracket. It stands at
-    /// the bracket.
+    /// `[..]` or `?[..]`, at the position of the bracket. The left expression is what is before the bracket, the right
+    /// one the index with all later links.
     Index(Box<BinaryExpr>, LinkFlags, Position),
     /// The operands of `&&`.
     And(Vec<Expr>, Position),
@@ -116,11 +118,11 @@ pub enum Expr {
     Or(Vec<Expr>, Position),
     /// The operands of `??`.
     Coalesce(Vec<Expr>, Position),
-    /// A block as a value, which stands where the block starts.
+    /// A block as a value, at the position where the block starts.
     Stmt(Box<StmtBlock>),
 }
 
-/// Statements in braces, with the positions of these; no position stands for a brace that was not written.
+/// Statements in braces, with the positions of the braces, which are none if they were not written.
 #[cycle(ast)]
 #[derive(PartialEq, Debug, Drop)]
 pub struct StmtBlock {
@@ -129,36 +131,36 @@ pub struct StmtBlock {
     pub end: Position,
 }
 
-/// What `if` and `try` consist of.
+/// The parts of `if` and `try`.
 #[cycle(ast)]
 #[derive(PartialEq, Debug, Drop)]
 pub struct FlowControl {
-    /// The guard of an `if`. Of a `try` the variable of its `catch`, or unit at no position.
+    /// The guard of an `if`; the variable of the `catch` of a `try`, or unit without position if there is none.
     pub expr: Expr,
-    /// What is run first.
+    /// The block that is run first.
     pub body: StmtBlock,
-    /// The block of `else` or `catch`; an absent `else` is an empty block at no position.
+    /// The block of `else` or `catch`; an absent `else` is an empty block without position.
     pub branch: StmtBlock,
 }
 
-/// What a loop without a variable consists of.
+/// The parts of a loop without a variable.
 #[cycle(ast)]
 #[derive(PartialEq, Debug, Drop)]
 pub struct LoopControl {
-    /// The guard; that of `loop` is unit at no position.
+    /// The guard; that of `loop` is unit without position.
     pub expr: Expr,
     pub body: StmtBlock,
 }
 
-/// What `for` consists of.
+/// The parts of `for`.
 #[cycle(ast)]
 #[derive(PartialEq, Debug, Drop)]
 pub struct ForLoop {
     /// The loop's variable.
     pub name: RcStr,
-    /// The variable that counts the rounds.
+    /// The variable that counts the iterations.
     pub counter: Option<RcStr>,
-    /// What is gone over.
+    /// The value that is iterated.
     pub expr: Expr,
     pub body: StmtBlock,
 }
@@ -169,7 +171,7 @@ pub struct ForLoop {
 pub struct SwitchCase {
     /// A literal value.
     pub value: Expr,
-    /// Indices of arms, from 0, in the order in which their guards are tried.
+    /// Indexes of arms, from 0, in the order in which their guards are tried.
     pub indices: Vec<usize>,
 }
 
@@ -178,27 +180,27 @@ pub struct SwitchCase {
 pub struct RangeCase {
     pub first: i64,
     pub last: i64,
-    /// Whether the last one belongs to it.
+    /// Whether `last` belongs to the range.
     pub is_inclusive: bool,
     /// The arm's index, from 0.
     pub index: usize,
 }
 
-/// The arms of a `switch`, and what leads to them.
+/// The arms of a `switch`, and the values that lead to them.
 #[cycle(ast)]
 #[derive(PartialEq, Debug, Drop)]
 pub struct SwitchCasesCollection {
-    /// The arms: the guard, which is `true` at no position where there is none, and the action.
+    /// The arms: a guard, which is `true` without position if none was written, and an action.
     pub expressions: Vec<BinaryExpr>,
-    /// The cases by value, in the order in which they first came.
+    /// The cases by value, in the order of their first occurrence.
     pub cases: Vec<SwitchCase>,
-    /// The ranges that are not empty.
+    /// The ranges, except empty ones.
     pub ranges: Vec<RangeCase>,
     /// The index of the default arm, from 0.
     pub def_case: Option<usize>,
 }
 
-/// A statement. It stands at its first token, where nothing else is said.
+/// A statement. Its position is that of its first token, unless something else is said.
 #[cycle(ast)]
 #[derive(PartialEq, Debug, Drop)]
 pub enum Stmt {
@@ -214,7 +216,7 @@ pub enum Stmt {
     },
     /// `while` or `loop`
     While(Box<LoopControl>, Position),
-    /// `do`; negated where it ends by `until`.
+    /// `do`; negated if it ends with `until`.
     Do {
         control: Box<LoopControl>,
         negated: bool,
@@ -222,8 +224,8 @@ pub enum Stmt {
     },
     /// `for`
     For(Box<ForLoop>, Position),
-    /// `let` or `const`, which it stands at. Without `=` the value is unit at no position. The index is the offset of
-    /// the slot that is used again, counted from 1; none where a slot is made.
+    /// `let` or `const`, at its position. Without `=` the value is unit without position. `index` is the offset of the
+    /// slot that is reused, counted from 1 at the latest; `None` if a new slot is made.
     Var {
         name: RcStr,
         value: Box<Expr>,
@@ -232,15 +234,15 @@ pub enum Stmt {
         exported: bool,
         pos: Position,
     },
-    /// `=`, or an operator that assigns, which it stands at.
+    /// `=` or an op-assignment, at the operator's position.
     Assignment {
         op: Option<Token>,
         operands: Box<BinaryExpr>,
         pos: Position,
     },
-    /// An expression, which it stands at.
+    /// An expression, at its position.
     Expr(Box<Expr>),
-    /// A block, which it starts with.
+    /// A block, at the position of its start.
     Block(Box<StmtBlock>),
     /// `try`
     TryCatch(Box<FlowControl>, Position),
@@ -256,20 +258,20 @@ pub enum Stmt {
         throws: bool,
         pos: Position,
     },
-    /// `import`; the name is empty where none is given.
+    /// `import`; the name is empty if none is given.
     Import {
         path: Box<Expr>,
         name: RcStr,
         pos: Position,
     },
-    /// `export` of a variable; the alias is empty where none is given.
+    /// `export` of a variable; the alias is empty if none is given.
     Export {
         name: RcStr,
         alias: RcStr,
         pos: Position,
     },
-    /// The variables that a closure captures come to be shared. Each has the offset of its slot from the latest one,
-    /// counted from 1, where its slot is known.
+    /// Makes the variables that a closure captures shared. Each has the offset of its slot, counted from 1 at the
+    /// latest, if its slot is known.
     Share(Vec<(Ident, Option<NonZeroUsize>)>, Position),
 }
 
@@ -281,7 +283,7 @@ pub type StmtBlockContainer = Vec<Stmt>;
 pub struct ScriptFuncDef {
     /// The type of the object that it is a method of, if there is one.
     pub this_type: Option<RcStr>,
-    /// Its name; a closure's is made.
+    /// Its name; a closure's name is generated.
     pub name: RcStr,
     /// Whether only the script itself may call it.
     pub private: bool,
@@ -290,7 +292,7 @@ pub struct ScriptFuncDef {
     pub body: StmtBlock,
 }
 
-/// A script that was read.
+/// A parsed script.
 #[derive(PartialEq, Debug, Drop)]
 pub struct AST {
     /// The statements of the global level.
@@ -300,8 +302,8 @@ pub struct AST {
 }
 
 impl Drop for FnCallExpr {
-    // A run of operators that bind left nests in its first operands, as deep as it is long: a loop goes down these, where
-    // the drop that is derived would run out of stack.
+    // A run of left-associative operators nests in the first operands, as deep as it is long. A loop goes down these;
+    // the derived drop would overflow the stack.
     #[cycle(drop)]
     fn drop(mut self) {
         loop {
@@ -325,9 +327,36 @@ impl Drop for FnCallExpr {
     }
 }
 
+impl BinaryExpr {
+    /// The two expressions, the left one first. Does not allocate.
+    pub fn into_parts(self) -> (Expr, Expr)
+        ensures left { result.0 ≡ (out-BinaryExpr self).lhs }
+        ensures right { result.1 ≡ (out-BinaryExpr self).rhs }
+    {
+        let BinaryExpr { lhs, rhs } = self;
+        (lhs, rhs)
+    }
+}
+
+impl Drop for BinaryExpr {
+    // A chain nests to the right, as deep as it has links. A loop goes down the links; the derived drop would overflow
+    // the stack.
+    #[cycle(drop)]
+    fn drop(mut self) {
+        loop {
+            let BinaryExpr { lhs: _, rhs } = self;
+            match rhs {
+                Expr::Dot(rest, _, _) => self = Box::into_inner(rest),
+                Expr::Index(rest, _, _) => self = Box::into_inner(rest),
+                _ => return,
+            }
+        }
+    }
+}
+
 impl Expr {
-    /// Where the node stands: a call at its name or operator, a chain at its dot or bracket, a block at its start, any
-    /// other node at its own position. It takes no memory.
+    /// The position of the node: for a call that of its name or operator, for a chain that of its dot or bracket, for a
+    /// block its start. Does not allocate.
     pub fn position(&self) -> Position
         ensures { result ≡ position_of (view self.now) }
     {
@@ -355,8 +384,8 @@ impl Expr {
         }
     }
 
-    /// Where the node starts: a chain where what stands before its first link starts, the operands of `&&`, `||` and
-    /// `??` where the first of them starts, any other node where it stands. It takes no memory.
+    /// The start of the node: a chain starts where its left expression starts, a list of `&&`, `||` or `??` where its
+    /// first operand starts, any other node at its position. Does not allocate.
     #[cycle(start)]
     pub fn start_position(&self) -> Position
         ensures { result ≡ start_of (view self.now) }
@@ -386,7 +415,7 @@ impl Expr {
     }
 }
 
-// Where the first of some operands starts; `pos` if there is none.
+// The start of the first operand; `pos` if there is none.
 #[cycle(start)]
 fn first_start(operands: &[Expr], pos: Position) -> Position
     ensures { result ≡ first_start (views operands.now) pos }
@@ -398,8 +427,8 @@ fn first_start(operands: &[Expr], pos: Position) -> Position
 }
 
 impl Stmt {
-    /// Where the statement stands: an assignment at its operator, an expression where that stands, a block at its start,
-    /// any other at its first token. It takes no memory.
+    /// The position of the statement: for an assignment that of its operator, for an expression that of its node, for a
+    /// block its start, otherwise that of its first token. Does not allocate.
     pub fn position(&self) -> Position
         ensures { result ≡ statement_position (statement_view self.now) }
     {
@@ -425,9 +454,9 @@ impl Stmt {
 }
 
 impl StmtBlock {
-    /// A statement as a block: a block is itself, no statement is an empty block where it stands, and any other becomes
-    /// a block of one, which starts where the statement stands. A made block ends nowhere. The error is that there is
-    /// no memory for it.
+    /// A statement as a block: a block is itself, an empty statement becomes an empty block at its position, and any
+    /// other a block of one statement, which starts at the statement's position. A block that is made has no end.
+    /// Returns `AllocError` if memory runs out.
     pub fn from_stmt(alloc: Global, statement: Stmt) -> Result<StmtBlock, AllocError>
         ensures { IfOk result (λ b. block_view b ≡ made_block (statement_view statement)) }
     {

@@ -1,4 +1,4 @@
-//! What the parser stands on: tokens and the stream that delivers them, positions, the scope, the tree, and a stand-in
+//! What the parser builds on: tokens and the stream that delivers them, positions, the scope, the tree, and a stand-in
 //! for the optimizer.
 #![tactic(auto)]
 

@@ -1,4 +1,4 @@
-//! Which texts are names, and which words the language keeps for itself.
+//! Which texts are names, and which words the language reserves.
 
 ghost use Rattle.std.specs.Prelude.{◌≡◌};
 ghost use Rattle.std.specs.List.{list_all};
@@ -31,23 +31,23 @@ fn begins_with_letter(bytes: &[u8]) -> bool
     }
 }
 
-/// Whether a text is a valid name: ASCII letters, digits and underscores, of which the first that is no
-/// underscore is a letter.
+/// Whether a text is a valid identifier: ASCII letters, digits and underscores, of which the first other than an
+/// underscore is a letter (docs/GRAMMAR.md, "Identifiers").
 pub fn is_valid_identifier(name: &str) -> bool
     ensures { result ≡ is_identifier name.now }
 {
     are_words(name.as_bytes()) && begins_with_letter(name.as_bytes())
 }
 
-/// Whether a text may name a function: a valid name that is not reserved.
+/// Whether a text is a valid function name: a valid identifier that is not on the list of reserved words.
 pub fn is_valid_function_name(name: &str) -> bool
     ensures { result ≡ is_function_name name.now }
 {
     is_valid_identifier(name) && !is_reserved_keyword_or_symbol(name).0
 }
 
-/// Whether a text is a reserved word of the language's list, and if so whether it may be called and
-/// whether it may be called as a method. The list is in docs/GRAMMAR.md, "Reserved words".
+/// Whether a text is on the list of reserved words, whether it may be called, and whether it may be called as a method.
+/// All three are false for a text that is not on the list (docs/GRAMMAR.md, "Reserved words").
 pub fn is_reserved_keyword_or_symbol(text: &str) -> (bool, bool, bool)
     ensures { result ≡ reserved_as text.now }
 {

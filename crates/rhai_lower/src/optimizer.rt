@@ -8,19 +8,19 @@ use crate::scope::Scope;
 use std::alloc::{AllocError, Global};
 use std::rc::Rc;
 
-/// How much of a script may be worked out before it runs.
+/// How much of a script may be evaluated before it runs.
 #[derive(Clone, Copy, PartialEq, Eq, Hash, Debug)]
 pub enum OptimizationLevel {
     /// Nothing.
     None,
-    /// What changes no effect.
+    /// Only what does not change the script's effects.
     Simple,
-    /// All that can be known.
+    /// Everything that can be known.
     Full,
 }
 
-/// The script of these statements and functions, which stand in it as they were given, whatever the constants and the
-/// level. It takes no memory and never fails.
+/// The script of these statements and functions, unchanged, whatever the constants and the level are. Does not allocate
+/// and never fails.
 pub fn optimize_into_ast(
     _alloc: Global,
     _constants: Option<&Scope>,

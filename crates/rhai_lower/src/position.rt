@@ -1,4 +1,4 @@
-//! Where a token or a node stands in a script.
+//! Positions of tokens and nodes in a script.
 
 ghost use Rattle.std.specs.Prelude.{◌≡◌, ◌<◌, ◌↔◌, IsSome, IfSome, IsTrue};
 ghost use Rattle.rhai_lower.specs.Positions.{place, line_of, column_of, nowhere};
@@ -8,7 +8,7 @@ use std::fmt;
 /// A line and a column, both counted from 1, or no position.
 #[derive(Clone, Copy, PartialEq, Eq, Hash, Debug)]
 pub struct Position {
-    // Both are 0 where there is no position.
+    // Both are 0 if there is no position.
     line: u16,
     column: u16,
 }
@@ -17,10 +17,10 @@ impl Position {
     /// No position.
     pub const NONE: Position = Position { line: 0, column: 0 };
 
-    /// Where a script starts: line 1, column 1.
+    /// The start of a script: line 1, column 1.
     pub const START: Position = Position { line: 1, column: 1 };
 
-    /// The position at a line and a column, both from 1 to 65535. There is none where one of them is 0.
+    /// The position at a line and a column, both counted from 1; `None` if one of them is 0.
     pub fn new(line: u16, column: u16) -> Option<Position>
         ensures some { IsSome result ↔ ((0 < line) × (0 < column)) }
         ensures value { IfSome result (λ p. p ≡ place line column) }
@@ -31,7 +31,7 @@ impl Position {
         Some(Position { line, column })
     }
 
-    /// The line, from 1, unless there is no position.
+    /// The line, counted from 1; `None` if there is no position.
     pub fn line(&self) -> Option<u16>
         ensures { result ≡ line_of self.now }
     {
@@ -42,7 +42,7 @@ impl Position {
         }
     }
 
-    /// The column, from 1, unless there is no position.
+    /// The column, counted from 1; `None` if there is no position.
     pub fn column(&self) -> Option<u16>
         ensures { result ≡ column_of self.now }
     {

@@ -17,7 +17,8 @@ struct Slot {
     aliases: Vec<RcStr>,
 }
 
-/// Slots of variables, from the oldest to the latest.
+/// Slots of variables, from the oldest to the latest. An `index` counts from 0 at the oldest slot; a caller has to
+/// prove that it is less than `len()`.
 #[derive(Drop, Debug)]
 pub struct Scope {
     slots: Vec<Slot>,
@@ -34,7 +35,7 @@ impl Model for Scope {
 }
 
 impl Scope {
-    /// A scope with no slot. It takes no memory.
+    /// A scope without slots. Does not allocate.
     pub fn new(alloc: Global) -> Self
         ensures { result ≡ [] }
     {
@@ -43,7 +44,7 @@ impl Scope {
         }
     }
 
-    /// How many slots there are.
+    /// The number of slots.
     pub fn len(&self) -> usize
         ensures { result ≡ length self.now }
     {
@@ -57,8 +58,8 @@ impl Scope {
         self.slots.is_empty()
     }
 
-    /// Adds a slot for a variable or a constant, of which nothing is exported yet. The error is that there is no memory
-    /// for it; then nothing changes.
+    /// Adds a slot for a variable or a constant, which is not exported yet. Returns `AllocError` if memory runs out;
+    /// then nothing changes.
     pub fn push(&mut self, name: RcStr, constant: bool) -> Result<(), AllocError>
         ensures ok { OnOk result (self.new ≡ with_slot self.old (rc_str_bytes name) constant) }
         ensures err { OnErr result (self.new ≡ self.old) }
@@ -72,7 +73,7 @@ impl Scope {
         Ok(())
     }
 
-    /// The name of a slot; the oldest slot has index 0.
+    /// The name of the slot at `index`.
     pub fn name(&self, index: usize) -> &RcStr
         requires { index < length self.now }
         ensures { rc_str_bytes result.now ≡ (slot_at self.now index).name }
@@ -80,7 +81,7 @@ impl Scope {
         &self.slots[index].name
     }
 
-    /// Whether a slot is constant.
+    /// Whether the slot at `index` is constant.
     pub fn is_constant(&self, index: usize) -> bool
         requires { index < length self.now }
         ensures { result ≡ (slot_at self.now index).constant }
@@ -88,7 +89,7 @@ impl Scope {
         self.slots[index].constant
     }
 
-    /// The names under which a slot is exported, in the order in which they came.
+    /// The names under which the slot at `index` is exported, in the order in which they were added.
     pub fn aliases(&self, index: usize) -> &[RcStr]
         requires { index < length self.now }
         ensures { map rc_str_bytes result.now ≡ (slot_at self.now index).aliases }
@@ -96,7 +97,7 @@ impl Scope {
         self.slots[index].aliases.as_slice()
     }
 
-    /// Makes a slot constant or variable. It takes no memory.
+    /// Makes the slot at `index` constant or variable. Does not allocate.
     pub fn set_constant(&mut self, index: usize, constant: bool)
         requires { index < length self.old }
         ensures { self.new ≡ with_constant self.old index constant }
@@ -104,7 +105,7 @@ impl Scope {
         self.slots[index].constant = constant;
     }
 
-    /// Exports a slot under a further name. The error is that there is no memory for it; then nothing changes.
+    /// Exports the slot at `index` under one more name. Returns `AllocError` if memory runs out; then nothing changes.
     pub fn add_alias_by_index(&mut self, index: usize, alias: RcStr) -> Result<(), AllocError>
         requires { index < length self.old }
         ensures ok { OnOk result (self.new ≡ with_alias self.old index (rc_str_bytes alias)) }
@@ -114,7 +115,7 @@ impl Scope {
         Ok(())
     }
 
-    /// Forgets all slots but the oldest `len`, of which there are so many at least. It takes no memory.
+    /// Drops all slots except the oldest `len`, which is at most the number of slots. Does not allocate.
     pub fn rewind(&mut self, len: usize)
         requires { len ≤ length self.old }
         ensures { self.new ≡ take len self.old }

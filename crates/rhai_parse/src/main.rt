@@ -1,5 +1,5 @@
-//! Reads a list of tokens, and prints the tree that the parser makes of it or why it is refused. docs/FORMAT.md has the
-//! command line and both formats.
+//! Reads a list of tokens, and prints the tree that the parser builds, or why the list is refused. docs/FORMAT.md
+//! describes the command line and both formats.
 #![tactic(auto)]
 
 mod escape;
@@ -16,7 +16,7 @@ mod words;
 use std::process::ExitCode;
 use std::{env, io};
 
-// The words behind the program's name.
+// The command-line words after the program's name.
 fn command_line(rt: &HostRuntime) -> io::Result<Vec<String>> {
     let mut words = Vec::new(rt.alloc());
     for word in env::args(rt)?.skip(1) {

@@ -1,7 +1,7 @@
-//! Numbers as they are written.
+//! Numbers in decimal.
 
-/// The number that decimal digits stand for, where it is at most that of a `usize`. Leading zeros are allowed; a sign, a
-/// blank or no digit at all is not.
+/// The number with these decimal digits; `None` if it does not fit into a `usize`, or the text is empty or has anything
+/// but digits, even a sign or a space. Leading zeros are allowed.
 pub fn decimal(text: &str) -> Option<usize> {
     if !text.bytes().all(|byte| byte.is_ascii_digit()) {
         return None;
@@ -9,7 +9,8 @@ pub fn decimal(text: &str) -> Option<usize> {
     text.parse::<usize>().ok()
 }
 
-/// The integer that decimal digits stand for, with a `-` before them if it is negative, where it is one of an `i64`.
+/// The integer with these decimal digits, after a `-` if it is negative; `None` if it does not fit into an `i64`, or
+/// the text has another form.
 pub fn integer(text: &str) -> Option<i64> {
     let digits = text.strip_prefix('-').unwrap_or(text);
     if !digits.bytes().all(|byte| byte.is_ascii_digit()) {

@@ -1,5 +1,5 @@
-//! How an accepted script is printed: a node a line, two spaces deeper than the node that it belongs to. docs/FORMAT.md
-//! has the line of each node.
+//! How an accepted script is printed: one node per line, indented two spaces deeper than its parent. docs/FORMAT.md has
+//! the line of each node.
 
 use crate::escape::Escaped;
 use crate::literal::print_literal;
@@ -13,7 +13,7 @@ use std::fmt;
 use std::num::NonZeroUsize;
 use std::rc::Rc;
 
-// A field that may be absent, which prints `-`.
+// An optional field, printed as `-` if it is absent.
 #[derive(Drop)]
 struct Optional<T>(Option<T>);
 
@@ -56,7 +56,7 @@ fn print_char(text: &mut String, value: char, pos: Position) -> Result<(), Alloc
     writeln!(text, "Char {pos} {number}")
 }
 
-// A name with its position, behind a space.
+// A name with its position, after a space.
 fn print_ident(text: &mut String, ident: &Ident) -> Result<(), AllocError> {
     let name = Escaped(&ident.name);
     let pos = ident.pos;
@@ -75,7 +75,7 @@ fn print_keys(
     text.push_str("\n")
 }
 
-// An offset that may be absent.
+// An optional offset.
 fn offset(index: Option<NonZeroUsize>) -> Optional<usize> {
     Optional(index.map(|number| number.get()))
 }
@@ -95,7 +95,7 @@ fn print_variable(
     writeln!(text, " {module}")
 }
 
-// A mark by its name, where it is set.
+// The name of a mark, if it is set.
 fn mark(name: &'static str, is_set: bool) -> &'static str {
     if is_set { name } else { "-" }
 }
@@ -145,7 +145,7 @@ fn print_expr(text: &mut String, depth: usize, expr: &Expr) -> Result<(), AllocE
     print_parts(text, depth.saturating_add(1), expr)
 }
 
-// What an expression consists of.
+// The children of an expression.
 #[cycle(print)]
 fn print_parts(text: &mut String, depth: usize, expr: &Expr) -> Result<(), AllocError> {
     match expr {
@@ -234,7 +234,7 @@ fn var_marks(constant: bool, exported: bool) -> (&'static str, &'static str) {
     (mark("CONSTANT", constant), mark("EXPORTED", exported))
 }
 
-// The line of a statement. An empty one has none, and a block writes its own.
+// The line of a statement. An empty statement has none, and a block prints its own.
 fn print_statement_line(text: &mut String, statement: &Stmt) -> Result<(), AllocError> {
     match statement {
         Stmt::Noop(_) | Stmt::Block(_) => Ok(()),
@@ -290,7 +290,7 @@ fn print_statement(text: &mut String, depth: usize, statement: &Stmt) -> Result<
     }
 }
 
-// What a statement consists of.
+// The children of a statement.
 #[cycle(print)]
 fn print_statement_parts(
     text: &mut String,
@@ -345,7 +345,7 @@ fn print_loop(text: &mut String, depth: usize, control: &LoopControl) -> Result<
     print_block(text, depth, &control.body)
 }
 
-// The arms of a `switch`, and what leads to them.
+// The arms of a `switch`, and the values that lead to them.
 #[cycle(print)]
 fn print_switch(
     text: &mut String,
@@ -431,8 +431,8 @@ fn print_functions(text: &mut String, list: &[Rc<ScriptFuncDef>]) -> Result<(), 
     Ok(())
 }
 
-/// What the program prints of an accepted script: the word `accepted`, its statements, and its functions in the order in
-/// which they end. The error is that there is no memory for the text.
+/// The output for an accepted script: the word `accepted`, its statements, and its functions in the order in which they
+/// end. Returns `AllocError` if memory runs out.
 pub fn accepted(alloc: Global, script: &AST) -> Result<String, AllocError> {
     let mut text = String::from_str(alloc, "accepted\n")?;
     print_statements(&mut text, 0, &script.statements)?;
@@ -443,30 +443,14 @@ pub fn accepted(alloc: Global, script: &AST) -> Result<String, AllocError> {
 #[cfg(test)]
 mod tests {
     use super::*;
-    use rhai_parser::Namespace;
     use std::rc::RcStr;
     use std::test::Fail;
 
-    // A call of `name` with an integer.
-    fn call(alloc: Global, name: &str, script: Option<usize>) -> Result<FnCallExpr, AllocError> {
-        Ok(FnCallExpr {
-            name: RcStr::from_str(alloc, name)?,
-            namespace: Namespace {
-                path: Vec::new(alloc),
-                index: None,
-            },
-            script_args: script,
-            native_args: 1,
-            args: vec![in alloc; Expr::IntegerConstant(-7, Position::START)]?,
-            capture_parent_scope: script.is_some(),
-            op_token: None,
-        })
-    }
-
-    fn body(alloc: Global, call: FnCallExpr) -> Result<StmtBlock, AllocError> {
-        let call = Expr::FnCall(Box::new(alloc, call)?, Position::START);
+    // The block `{ 7 }`.
+    fn block(alloc: Global) -> Result<StmtBlock, AllocError> {
+        let seven = Expr::IntegerConstant(7, Position::START);
         Ok(StmtBlock {
-            statements: vec![in alloc; Stmt::Expr(Box::new(alloc, call)?)]?,
+            statements: vec![in alloc; Stmt::Expr(Box::new(alloc, seven)?)]?,
             start: Position::START,
             end: Position::NONE,
         })
@@ -476,50 +460,50 @@ mod tests {
         alloc: Global,
         name: &str,
         this_type: Option<RcStr>,
-    ) -> Result<ScriptFuncDef, AllocError> {
-        let private = this_type.is_some();
-        let (first, second) = (RcStr::from_str(alloc, "a")?, RcStr::from_str(alloc, "b")?);
-        Ok(ScriptFuncDef {
+    ) -> Result<Rc<ScriptFuncDef>, AllocError> {
+        let mut params = Vec::new(alloc);
+        for parameter in ["a", "b"] {
+            params.push(RcStr::from_str(alloc, parameter)?)?;
+        }
+        let function = ScriptFuncDef {
+            private: this_type.is_some(),
             this_type,
             name: RcStr::from_str(alloc, name)?,
-            private,
-            params: if private {
-                vec![in alloc; first, second]?
-            } else {
-                Vec::new(alloc)
-            },
-            body: body(alloc, call(alloc, "-", None)?)?,
-        })
+            params,
+            body: block(alloc)?,
+        };
+        Ok(Rc::new(alloc, function)?)
     }
 
     const PRINTED: &str = "accepted
-Expr
-  FnCall 1:1 f\\sg 1 1 !
-    Int 1:1 -7
 functions 2
 private fn my\\stype alpha a b
   Block 1:1 none
     Expr
-      FnCall 1:1 - - 1 -
-        Int 1:1 -7
-fn - zulu
+      Int 1:1 7
+fn - zulu a b
   Block 1:1 none
     Expr
-      FnCall 1:1 - - 1 -
-        Int 1:1 -7
+      Int 1:1 7
 ";
 
+    // No list makes a function yet.
     #[test]
-    fn prints_calls_and_functions(rt: HostRuntime) -> Result<(), Fail> {
+    fn prints_functions(rt: HostRuntime) -> Result<(), Fail> {
         let alloc = rt.alloc();
-        let this_type = Some(RcStr::from_str(alloc, "my type")?);
-        let first = Rc::new(alloc, function(alloc, "alpha", this_type)?)?;
-        let second = Rc::new(alloc, function(alloc, "zulu", None)?)?;
-        let script = AST {
-            statements: body(alloc, call(alloc, "f g", Some(1))?)?.statements,
-            functions: vec![in alloc; first, second]?,
-        };
-        assert_eq!(rt; accepted(alloc, &script)?.as_str(), PRINTED);
+        let mut functions = Vec::new(alloc);
+        let this_type = RcStr::from_str(alloc, "my type")?;
+        functions.push(function(alloc, "alpha", Some(this_type))?)?;
+        functions.push(function(alloc, "zulu", None)?)?;
+        let statements = Vec::new(alloc);
+        let printed = accepted(
+            alloc,
+            &AST {
+                statements,
+                functions,
+            },
+        )?;
+        assert!(rt; printed.as_str() == PRINTED, "{printed}");
         Ok(())
     }
 }

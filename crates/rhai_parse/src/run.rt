@@ -1,4 +1,4 @@
-//! The program over any reader and writer.
+//! The program, over any reader and writer.
 
 ghost use Rattle.std.specs.Prelude.{All, IsTrue};
 ghost use Rattle.rhai_lower.specs.Entries.{may_be_delivered};
@@ -19,7 +19,7 @@ use std::io::{self, ErrorKind, Read, Write};
 // Why there is no tree.
 #[derive(Drop, Debug)]
 enum Failure {
-    // This line of the input cannot be read, counted from 1, or with 0 the command line.
+    // This line of the input, counted from 1, cannot be read; 0 for the command line.
     Unreadable(usize),
     Refused(ParseError),
 }
@@ -86,7 +86,7 @@ fn answer<R: Read>(alloc: Global, words: &[String], input: &mut R) -> Result<Str
     Ok(accepted(alloc, &script)?)
 }
 
-// Prints why there is no tree, and gives the exit status.
+// Prints why there is no tree, and returns the exit status.
 fn print_failure<W: Write>(output: &mut W, failure: &Failure) -> io::Result<u8> {
     match failure {
         Failure::Unreadable(line) => {
@@ -101,7 +101,7 @@ fn print_failure<W: Write>(output: &mut W, failure: &Failure) -> io::Result<u8> 
     }
 }
 
-// Prints the answer, and gives the exit status.
+// Prints the answer, and returns the exit status.
 fn print<W: Write>(output: &mut W, answer: &Result<String, Failure>) -> io::Result<u8> {
     let status = match answer {
         Ok(text) => {
@@ -114,10 +114,10 @@ fn print<W: Write>(output: &mut W, answer: &Result<String, Failure>) -> io::Resu
     Ok(status)
 }
 
-/// Runs the program on the words of its command line without its name, and gives its exit status. It reads the whole input
-/// before it prints anything, and prints everything to `output`, in the formats of docs/FORMAT.md: 0 with the tree of an
-/// accepted list, 1 with one line on a refused list or on want of memory, and 2 with one line on a list that cannot be
-/// read or a bad command line, and where `output` fails.
+/// Runs the program on the words of its command line, without its name, and returns its exit status. It reads the whole
+/// input before it prints anything, and prints everything to `output`, in the formats of docs/FORMAT.md. The status is
+/// 0 with the tree of an accepted list; 1 with one line for a refused list, or if memory runs out; and 2 with one line
+/// for an unreadable list or bad arguments. It is also 2 if `output` fails.
 pub fn run<R: Read, W: Write>(
     alloc: Global,
     words: &[String],
@@ -128,8 +128,8 @@ pub fn run<R: Read, W: Write>(
     print(output, &answer).unwrap_or(2)
 }
 
-/// What [`run`] does where the words of the command line cannot be had: there is no memory for them, or one of them is
-/// no text.
+/// Runs the program if the words of the command line could not be read, because memory ran out or because one of them
+/// is not UTF-8, and returns its exit status.
 pub fn refuse_words<W: Write>(error: &io::Error, output: &mut W) -> u8 {
     let failure = match error.kind() {
         ErrorKind::OutOfMemory => Failure::from(AllocError),

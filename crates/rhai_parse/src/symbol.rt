@@ -140,8 +140,8 @@ fn keyword(text: &str) -> Option<Token>
     })
 }
 
-/// The token without payload that is written so; `u-` and `u+` are the signs before an operand. None where there is no
-/// such token.
+/// The token without payload that is written like this, with `u-` and `u+` for the signs before an operand; `None` if
+/// there is no such token.
 pub fn symbol(text: &str) -> Option<Token>
     ensures { IfSome result (λ token. written_as token ≡ text.now) }
 {
@@ -152,32 +152,4 @@ pub fn symbol(text: &str) -> Option<Token>
         .or_else(|| assignment(text))
         .or_else(|| control(text))
         .or_else(|| keyword(text))
-}
-
-#[cfg(test)]
-mod tests {
-    use super::*;
-    use std::test::Fail;
-
-    const SYMBOLS: &str = "() { } ( ) [ ] ?[ #{ . ?. :: : , ; => = | || ! _ \
-        ^ && & == != in !in < <= > >= ?? .. ..= + - * / % ** << >> \
-        += -= *= /= %= **= <<= >>= &= |= ^= \
-        true false let const if else switch while loop do until for break continue return throw try catch \
-        import export as fn private";
-
-    #[test]
-    fn each_symbol_is_written_so(rt: HostRuntime) -> Result<(), Fail> {
-        let mut count = 0u32;
-        for text in SYMBOLS.split(' ').filter(|text| !text.is_empty()) {
-            let token = symbol(text).ok_or("a symbol")?;
-            assert_eq!(rt; token.literal_syntax(), text);
-            count = count.saturating_add(1);
-        }
-        assert_eq!(rt; count, 77);
-        assert_eq!(rt; symbol("u-"), Some(Token::UnaryMinus));
-        assert_eq!(rt; symbol("u+"), Some(Token::UnaryPlus));
-        assert_eq!(rt; symbol("-"), Some(Token::Minus));
-        assert_eq!(rt; symbol("+"), Some(Token::Plus));
-        Ok(())
-    }
 }

@@ -4,20 +4,20 @@ ghost use Rattle.std.specs.Prelude.{◌≡◌, ◌↔◌, IsSome, IsNone};
 
 use crate::number::decimal;
 
-/// What the words ask of the engine; its own value stands where they name none.
+/// The settings of the engine that the words name; `None` keeps the engine's default.
 #[derive(Clone, Copy, PartialEq, Debug)]
 pub struct Limits {
-    /// How deeply the script may nest; 0 is no limit.
+    /// How deeply the script may nest; 0 means no limit.
     pub expr_depth: Option<usize>,
-    /// How deeply a function's body may nest; 0 is no limit.
+    /// How deeply a function's body may nest; 0 means no limit.
     pub fn_depth: Option<usize>,
-    /// How many functions and closures the script may have; 0 is none.
+    /// How many functions and closures the script may have; 0 allows none.
     pub functions: Option<usize>,
-    /// How many items an array literal may have; 0 is no limit.
+    /// How many items an array literal may have; 0 means no limit.
     pub array: Option<usize>,
-    /// How many properties a map literal may have; 0 is no limit.
+    /// How many properties an object map literal may have; 0 means no limit.
     pub map: Option<usize>,
-    /// The bits of the language's options.
+    /// The bits of the language options.
     pub options: Option<u8>,
 }
 
@@ -32,7 +32,7 @@ impl Limits {
     };
 }
 
-// Sets what is not set yet; none where the value is none, or the word came before.
+// Sets a value that is not set yet; `None` if it is set already, or there is no value.
 fn set<T: Copy>(place: &mut Option<T>, value: Option<T>) -> Option<()>
     ensures once { IsSome result ↔ (IsNone place.old × IsSome value) }
     ensures value { IsSome result → place.new ≡ value }
@@ -48,7 +48,7 @@ fn byte(text: &str) -> Option<u8> {
     u8::try_from(decimal(text)?).ok()
 }
 
-// Reads a word `name=number`; none where it is bad.
+// Reads a word `name=number`; `None` if it is bad.
 fn read_word(limits: &mut Limits, word: &str) -> Option<()> {
     let (name, value) = word.split_once('=')?;
     match name {
@@ -62,9 +62,9 @@ fn read_word(limits: &mut Limits, word: &str) -> Option<()> {
     }
 }
 
-/// What the words ask for: `expr`, and then any of `expr_depth`, `fn_depth`, `functions`, `array`, `map` and `options`,
-/// each at most once, with `=` and decimal digits behind it, for `options` at most 255. None where a word is bad or the
-/// first is missing.
+/// Reads the words: `expr`, and then any of `expr_depth`, `fn_depth`, `functions`, `array`, `map` and `options`, each
+/// at most once, followed by `=` and decimal digits, for `options` at most 255. `None` if a word is bad or the first
+/// one is missing.
 pub fn read_words(words: &[String]) -> Option<Limits> {
     let (first, rest) = words.split_first()?;
     if first.as_str() != "expr" {

@@ -7,13 +7,15 @@ use Rattle.rhai_lower.specs.declared.position.Position.{Position}
 use Rattle.rhai_grammar.specs.Causes.{Refusal, refusal}
 use Rattle.rhai_grammar.specs.Cursors.{Cursor}
 use Rattle.rhai_grammar.specs.Settings.{Settings}
-use Rattle.rhai_grammar.specs.Walks.{Walk}
+use Rattle.rhai_grammar.specs.Contexts.{Context}
 use Rattle.rhai_grammar.specs.Beginnings as begin
 use Rattle.rhai_grammar.specs.Beginnings.{Beginning, Calling, is_sign, is_list, missing, calls, is_this, may_be_called}
 use Rattle.rhai_grammar.specs.Settings.{in_function}
+use Rattle.rhai_grammar.specs.Written.{behind_operand}
+use Rattle.rhai_grammar.specs.Chains.{chained}
 use Rattle.rhai_grammar.specs.Signs.{sign_result, sign_holds, signed, malformed}
 use Rattle.rhai_grammar.specs.Operators.{operator_result, operator_tree, boolean_holds, mismatched}
-use Rattle.rhai_reading.specs.Reading.{Prog, Ret, Fail, Take, Call, Primary, Postfix, Operand, BinaryOp, word_at, sign_on, operand_by, bang_at, binary_next, raised}
+use Rattle.rhai_reading.specs.Reading.{Prog, Ret, Fail, Take, Call, Primary, Postfix, Links, Operand, BinaryOp, word_at, sign_on, operand_by, bang_at, binary_next, raised}
 use Rattle.rhai_reading.specs.Running as R
 use Rattle.rhai_reading.specs.Running.{Caller, exec}
 use Rattle.rhai_parser.specs.Words.{word_result, no_this}
@@ -42,11 +44,11 @@ word_refused call c word at l p x t e = ap (λ q. exec call q t) (word_answers c
 
 -- ---- signs
 
-pub operand_sign : (c : Settings) (w : Walk) (l : Lexeme) (at : Position) (b : Beginning) → is_sign b ≡ true → operand_by c w l at b ≡ Take (raised c at (λ d. Call (Operand d w false) (sign_on l at)))
+pub operand_sign : (c : Settings) (w : Context) (l : Lexeme) (at : Position) (b : Beginning) → is_sign b ≡ true → operand_by c w l at b ≡ Take (raised c at (λ d. Call (Operand d w false) (sign_on l at)))
 operand_sign c w l at begin.ASign e = refl
 operand_sign c w l at _ e = absurd cc
 
-pub operand_other : (c : Settings) (w : Walk) (l : Lexeme) (at : Position) (b : Beginning) → is_sign b ≡ false → operand_by c w l at b ≡ Call (Primary c w) (λ x. Call (Postfix c w x) (λ y. Ret y))
+pub operand_other : (c : Settings) (w : Context) (l : Lexeme) (at : Position) (b : Beginning) → is_sign b ≡ false → operand_by c w l at b ≡ Call (Primary c w) (λ x. Call (Postfix c w x) (λ y. Call (Links w (behind_operand c y)) (λ ls. Ret (chained y ls))))
 operand_other c w l at begin.ASign e = absurd cc
 operand_other c w l at _ e = refl
 
@@ -62,10 +64,10 @@ sign_refused call l at n x t e = ap (λ q. exec call q t) (sign_chosen (sign_hol
 
 -- ---- calls
 
-pub bang_refused : (c : Settings) (w : Walk) (x : Node) (l : Lexeme) (at : Position) (k : Calling) → is_list k ≡ false → bang_at c w x l at k ≡ Fail (refusal (missing (codes "(") l) at)
-bang_refused c w x l at begin.WithPair e = absurd cc
-bang_refused c w x l at begin.WithList e = absurd cc
-bang_refused c w x l at _ e = refl
+pub bang_refused : (c : Settings) (w : Context) (name : Position) (l : Lexeme) (at : Position) (k : Calling) → is_list k ≡ false → bang_at c w name l at k ≡ Fail (refusal (missing (codes "(") l) at)
+bang_refused c w name l at begin.WithPair e = absurd cc
+bang_refused c w name l at begin.WithList e = absurd cc
+bang_refused c w name l at _ e = refl
 
 -- ---- operators
 
@@ -78,12 +80,12 @@ binary_chosen k true true x e f = refl
 binary_chosen k true false x e f = refl
 binary_chosen k false c x e f = refl
 
-pub binary_done : (call : Caller) (d : Settings) (w : Walk) (parent : ℕ) (lhs : Node) (op : Lexeme) (at : Position) (rhs x : Node) (t : Cursor) → operator_result op at lhs rhs ≡ Ok x → exec call (binary_next d w parent lhs op at rhs) t ≡ exec call (Call (BinaryOp d w at parent x) (λ y. Ret y)) t
+pub binary_done : (call : Caller) (d : Settings) (w : Context) (parent : ℕ) (lhs : Node) (op : Lexeme) (at : Position) (rhs x : Node) (t : Cursor) → operator_result op at lhs rhs ≡ Ok x → exec call (binary_next d w parent lhs op at rhs) t ≡ exec call (Call (BinaryOp d w at parent x) (λ y. Ret y)) t
 binary_done call d w parent lhs op at rhs x t e =
     let k : Node → Prog Node = λ y. Call (BinaryOp d w at parent y) (λ z. Ret z) in
     ap (λ q. exec call q t) (binary_chosen k (boolean_holds op lhs) (boolean_holds op rhs) (operator_tree op at lhs rhs) (mismatched rhs) (mismatched lhs) ∙ ap (goes_with k) e)
 
-pub binary_refused : (call : Caller) (d : Settings) (w : Walk) (parent : ℕ) (lhs : Node) (op : Lexeme) (at : Position) (rhs : Node) (x : Refusal) (t : Cursor) → operator_result op at lhs rhs ≡ Err x → exec call (binary_next d w parent lhs op at rhs) t ≡ R.Refused x t
+pub binary_refused : (call : Caller) (d : Settings) (w : Context) (parent : ℕ) (lhs : Node) (op : Lexeme) (at : Position) (rhs : Node) (x : Refusal) (t : Cursor) → operator_result op at lhs rhs ≡ Err x → exec call (binary_next d w parent lhs op at rhs) t ≡ R.Refused x t
 binary_refused call d w parent lhs op at rhs x t e =
     let k : Node → Prog Node = λ y. Call (BinaryOp d w at parent y) (λ z. Ret z) in
     ap (λ q. exec call q t) (binary_chosen k (boolean_holds op lhs) (boolean_holds op rhs) (operator_tree op at lhs rhs) (mismatched rhs) (mismatched lhs) ∙ ap (goes_with k) e)

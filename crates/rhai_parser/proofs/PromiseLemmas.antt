@@ -7,7 +7,7 @@ use Rattle.rhai_grammar.specs.Causes.{Cause, cause_of, refusal_of, is_memory_cau
 use Rattle.rhai_grammar.specs.Cursors.{Cursor}
 use Rattle.rhai_grammar.specs.Delivered.{code}
 use Rattle.rhai_grammar.specs.Settings.{Settings}
-use Rattle.rhai_grammar.specs.Walks.{Walk, nothing_live}
+use Rattle.rhai_grammar.specs.Contexts.{Context, Sizes, nothing_live}
 use Rattle.rhai_grammar.specs.Promises.{Accepts, IsScriptOf, HasRead, UnlessMemory, ReadsExpression}
 use Rattle.rhai_grammar.specs.declared.error.ParseError.{ParseError}
 use Rattle.rhai_grammar.specs.declared.error.ParseErrorType.{ParseErrorType}
@@ -17,7 +17,7 @@ use Rattle.rhai_reading.specs.Running.{Done, Fails, run}
 use Rattle.rhai_reading.proofs.Main as M
 
 -- an expression that was read, and what is made of it
-pub reads_done : {F : Type 0} (library : List F) (c : Settings) (live : Walk) (s left : Cursor) (x : Node) (result : Result AST ParseError) → s.mode ≡ code → run (Whole c live) s ≡ Done x left → Accepts x result → ReadsExpression library c live s left result
+pub reads_done : {F : Type 0} (library : List F) (c : Settings) (live : Context) (s left : Cursor) (x : Node) (result : Result AST ParseError) → s.mode ≡ code → run (Whole c live) s ≡ Done x left → Accepts x result → ReadsExpression library c live s left result
 reads_done library c live s left x (Ok script) mode e is = record {
   accepted = λ empty. (let w = M.accepted c live s left x mode e in (w.0, w.2, subst (λ y. IsScriptOf y script) (sym w.1) is));
   only = λ empty f written. subst (λ y. IsScriptOf y script) (M.accepted_only c live s left x mode e f written) is;
@@ -30,7 +30,7 @@ memory_kind OutOfMemory = refl
 memory_kind _ = refl
 
 -- an error, of the reading program or for want of memory
-pub reads_fails : {F : Type 0} (library : List F) (c : Settings) (live : Walk) (s left : Cursor) (e : ParseError) → s.mode ≡ code → Fails (run (Whole c live) s) e left → ReadsExpression library c live s left (Err e)
+pub reads_fails : {F : Type 0} (library : List F) (c : Settings) (live : Context) (s left : Cursor) (e : ParseError) → s.mode ≡ code → Fails (run (Whole c live) s) e left → ReadsExpression library c live s left (Err e)
 reads_fails library c live s left e mode fails = record {
   accepted = λ empty. tt;
   only = λ empty f written. by_memory (is_for_memory e) refl (λ no. M.refused_none c live s left (refusal_of e) mode (fails.0 no) f written);
@@ -42,14 +42,14 @@ reads_fails library c live s left e mode fails = record {
     by_memory false is h = absurd (h is)
 
 -- the frame of a fresh state, in which nothing is live
-pub reads_fresh : {F : Type 0} (library : List F) (c : Settings) (slots : List SlotValue) (s left : Cursor) (result : Result AST ParseError) → slots ≡ [] → ReadsExpression library c (record { slots = slots }) s left result → ReadsExpression library c nothing_live s left result
-reads_fresh library c slots s left result e reads = subst (λ v. ReadsExpression library c (record { slots = v }) s left result) e reads
+pub reads_fresh : {F : Type 0} (library : List F) (c : Settings) (sizes : Sizes) (slots : List SlotValue) (s left : Cursor) (result : Result AST ParseError) → slots ≡ [] → ReadsExpression library c (record { sizes = sizes; slots = slots }) s left result → ReadsExpression library c (nothing_live sizes) s left result
+reads_fresh library c sizes slots s left result e reads = subst (λ v. ReadsExpression library c (record { sizes = sizes; slots = v }) s left result) e reads
 
 -- ---- what was seen
 
-pub has_read_done : (c : Settings) (live : Walk) (s left : Cursor) (x : Node) (result : Result AST ParseError) → run (Whole c live) s ≡ Done x left → UnlessMemory (HasRead s left) result
+pub has_read_done : (c : Settings) (live : Context) (s left : Cursor) (x : Node) (result : Result AST ParseError) → run (Whole c live) s ≡ Done x left → UnlessMemory (HasRead s left) result
 has_read_done c live s left x (Ok script) e = M.done_read c live s left x e
 has_read_done c live s left x (Err d) e = λ other. M.done_read c live s left x e
 
-pub has_read_fails : (c : Settings) (live : Walk) (s left : Cursor) (e : ParseError) → Fails (run (Whole c live) s) e left → is_for_memory e ≡ false → HasRead s left
+pub has_read_fails : (c : Settings) (live : Context) (s left : Cursor) (e : ParseError) → Fails (run (Whole c live) s) e left → is_for_memory e ≡ false → HasRead s left
 has_read_fails c live s left e fails other = M.refused_read c live s left (refusal_of e) (fails.0 other) (memory_kind e.0 ∙ other)

@@ -10,7 +10,7 @@ use Rattle.rhai_grammar.specs.Cursors.{Cursor, asked, looking, taking, left}
 use Rattle.rhai_grammar.specs.Delivered.{Item, item, is_end, is_memory}
 use Rattle.rhai_grammar.specs.Operators.{operator_result}
 use Rattle.rhai_grammar.specs.Settings.{Settings, low, up}
-use Rattle.rhai_grammar.specs.Walks.{Walk}
+use Rattle.rhai_grammar.specs.Contexts.{Context}
 use Rattle.rhai_reading.specs.Reading.{Ret, Fail, Peek, Call, NextOperator, Primary, Operand, BinaryOp, primary_at, word_at, goes_on, raised, binary_at, binary_on, binary_right, binary_next}
 use Rattle.rhai_reading.specs.Running as R
 use Rattle.rhai_reading.specs.Running.{exec, run, guarded}
@@ -19,7 +19,7 @@ use Rattle.rhai_parser.proofs.AnswerLemmas.{binary_done, binary_refused, word_do
 use Rattle.rhai_parser.specs.Words.{word_result}
 
 -- From s an operator of strength n stands behind the left operand, and its right side y ends at t.
-pub record TakesOne (c : Settings) (w : Walk) (parent n : ℕ) (right : Bool) (next : Option (ℕ × Bool)) (x y : Node) (s s1 s2 s3 t : Cursor) : Type 0 where
+pub record TakesOne (c : Settings) (w : Context) (parent n : ℕ) (right : Bool) (next : Option (ℕ × Bool)) (x y : Node) (s s1 s2 s3 t : Cursor) : Type 0 where
   pub operator : run NextOperator s ≡ R.Done (Some (n, right)) s1
   pub goes : goes_on parent n right ≡ true
   pub readable : is_memory (asked s1).lexeme ≡ false
@@ -32,7 +32,7 @@ pub record TakesOne (c : Settings) (w : Walk) (parent n : ℕ) (right : Bool) (n
   pub after_look : left s3.tokens + 1 ≤ left s.tokens
   pub after_side : left t.tokens + 1 ≤ left s.tokens
 
-one_operator : (c : Settings) (w : Walk) (at : Position) (parent : ℕ) (lhs : Node) (n : ℕ) (right : Bool) (next : Option (ℕ × Bool)) (x y : Node) (s s1 s2 s3 t : Cursor) → TakesOne c w parent n right next x y s s1 s2 s3 t → run (BinaryOp c w at parent lhs) s ≡ exec (guarded (BinaryOp c w at parent lhs) s) (binary_next (up c) w parent lhs (asked s1).lexeme (asked s1).at y) t
+one_operator : (c : Settings) (w : Context) (at : Position) (parent : ℕ) (lhs : Node) (n : ℕ) (right : Bool) (next : Option (ℕ × Bool)) (x y : Node) (s s1 s2 s3 t : Cursor) → TakesOne c w parent n right next x y s s1 s2 s3 t → run (BinaryOp c w at parent lhs) s ≡ exec (guarded (BinaryOp c w at parent lhs) s) (binary_next (up c) w parent lhs (asked s1).lexeme (asked s1).at y) t
 one_operator c w at parent lhs n right next x y s s1 s2 s3 t h =
     let g = BinaryOp c w at parent lhs in
     let first = guarded_is g s NextOperator s (omega arith) ∙ h.operator in
@@ -51,7 +51,7 @@ one_operator c w at parent lhs n right next x y s s1 s2 s3 t h =
     ∙ ap (λ b. exec call (if b then Call (BinaryOp (up c) w (position_of x) n x) (binary_next (up c) w parent lhs op pos) else Fail (refusal ExprTooDeep at)) s3) h.room
     ∙ ap (λ o. R.and_then o (λ v u. exec call (binary_next (up c) w parent lhs op pos v) u)) fourth
 
-pub operator_taken : (c : Settings) (w : Walk) (at : Position) (parent : ℕ) (lhs : Node) (n : ℕ) (right : Bool) (next : Option (ℕ × Bool)) (x y z : Node) (s s1 s2 s3 t : Cursor) → TakesOne c w parent n right next x y s s1 s2 s3 t → operator_result (asked s1).lexeme (asked s1).at lhs y ≡ Ok z → run (BinaryOp c w at parent lhs) s ≡ run (BinaryOp (up c) w (asked s1).at parent z) t
+pub operator_taken : (c : Settings) (w : Context) (at : Position) (parent : ℕ) (lhs : Node) (n : ℕ) (right : Bool) (next : Option (ℕ × Bool)) (x y z : Node) (s s1 s2 s3 t : Cursor) → TakesOne c w parent n right next x y s s1 s2 s3 t → operator_result (asked s1).lexeme (asked s1).at lhs y ≡ Ok z → run (BinaryOp c w at parent lhs) s ≡ run (BinaryOp (up c) w (asked s1).at parent z) t
 operator_taken c w at parent lhs n right next x y z s s1 s2 s3 t h e =
     let g = BinaryOp c w at parent lhs in
     one_operator c w at parent lhs n right next x y s s1 s2 s3 t h
@@ -59,13 +59,13 @@ operator_taken c w at parent lhs n right next x y z s s1 s2 s3 t h e =
     ∙ and_then_done (guarded g s (BinaryOp (up c) w (asked s1).at parent z) t)
     ∙ guarded_is g s (BinaryOp (up c) w (asked s1).at parent z) t (omega (arith, h.after_side))
 
-pub operator_refused : (c : Settings) (w : Walk) (at : Position) (parent : ℕ) (lhs : Node) (n : ℕ) (right : Bool) (next : Option (ℕ × Bool)) (x y : Node) (r : Refusal) (s s1 s2 s3 t : Cursor) → TakesOne c w parent n right next x y s s1 s2 s3 t → operator_result (asked s1).lexeme (asked s1).at lhs y ≡ Err r → run (BinaryOp c w at parent lhs) s ≡ R.Refused r t
+pub operator_refused : (c : Settings) (w : Context) (at : Position) (parent : ℕ) (lhs : Node) (n : ℕ) (right : Bool) (next : Option (ℕ × Bool)) (x y : Node) (r : Refusal) (s s1 s2 s3 t : Cursor) → TakesOne c w parent n right next x y s s1 s2 s3 t → operator_result (asked s1).lexeme (asked s1).at lhs y ≡ Err r → run (BinaryOp c w at parent lhs) s ≡ R.Refused r t
 operator_refused c w at parent lhs n right next x y r s s1 s2 s3 t h e =
     one_operator c w at parent lhs n right next x y s s1 s2 s3 t h
     ∙ binary_refused (guarded (BinaryOp c w at parent lhs) s) (up c) w parent lhs (asked s1).lexeme (asked s1).at y r t e
 
 -- An operator of a run with its right side, as the code takes it: each step leaves a cursor, and none leaves more tokens than were there.
-pub record Walked (c : Settings) (w : Walk) (parent n : ℕ) (right ranged : Bool) (next : Option (ℕ × Bool)) (op : Lexeme) (pos : Position) (x y : Node) (d : Settings) (s s1 s2 s3 s4 t : Cursor) : Type 0 where
+pub record Walked (c : Settings) (w : Context) (parent n : ℕ) (right ranged : Bool) (next : Option (ℕ × Bool)) (op : Lexeme) (pos : Position) (x y : Node) (d : Settings) (s s1 s2 s3 s4 t : Cursor) : Type 0 where
   pub operator : run NextOperator s ≡ R.Done (Some (n, right)) s1
   pub goes : goes_on parent n right ≡ true
   pub readable : is_memory (asked s).lexeme ≡ false
@@ -91,7 +91,7 @@ left_behind s s1 s2 s3 s4 t look a b on e =
     let second : left s4.tokens ≡ left s3.tokens = ap (λ (u : Cursor). left u.tokens) on in
     (omega (arith, first, a), omega (arith, first, a, b), omega (arith, first, a, b, second), omega (arith, first, a, b, second, e))
 
-walked_takes : (c : Settings) (w : Walk) (parent n : ℕ) (right ranged : Bool) (next : Option (ℕ × Bool)) (op : Lexeme) (pos : Position) (x y : Node) (d : Settings) (s s1 s2 s3 s4 t : Cursor) → Walked c w parent n right ranged next op pos x y d s s1 s2 s3 s4 t → TakesOne c w parent n right next x y s s1 s3 s4 t
+walked_takes : (c : Settings) (w : Context) (parent n : ℕ) (right ranged : Bool) (next : Option (ℕ × Bool)) (op : Lexeme) (pos : Position) (x y : Node) (d : Settings) (s s1 s2 s3 s4 t : Cursor) → Walked c w parent n right ranged next op pos x y d s s1 s2 s3 s4 t → TakesOne c w parent n right next x y s s1 s3 s4 t
 walked_takes c w parent n right ranged next op pos x y d s s1 s2 s3 s4 t h =
     let more : is_end (asked s1).lexeme ≡ false = ap (λ (u : Cursor). is_end (asked u).lexeme) h.look ∙ h.more in
     let behind = left_behind s s1 s2 s3 s4 t h.look (h.shrinks more) h.operand_short h.look_on h.side_short in
@@ -110,19 +110,19 @@ walked_takes c w parent n right ranged next op pos x y d s s1 s2 s3 s4 t h =
       after_side = behind.3;
     }
 
-pub walked_on : (c : Settings) (w : Walk) (at : Position) (parent : ℕ) (lhs : Node) (n : ℕ) (right ranged : Bool) (next : Option (ℕ × Bool)) (op : Lexeme) (pos : Position) (x y z : Node) (d e : Settings) (p : Position) (s s1 s2 s3 s4 t : Cursor) → Walked c w parent n right ranged next op pos x y d s s1 s2 s3 s4 t
+pub walked_on : (c : Settings) (w : Context) (at : Position) (parent : ℕ) (lhs : Node) (n : ℕ) (right ranged : Bool) (next : Option (ℕ × Bool)) (op : Lexeme) (pos : Position) (x y z : Node) (d e : Settings) (p : Position) (s s1 s2 s3 s4 t : Cursor) → Walked c w parent n right ranged next op pos x y d s s1 s2 s3 s4 t
     → operator_result op pos lhs y ≡ Ok z → e ≡ d → p ≡ pos → run (BinaryOp c w at parent lhs) s ≡ run (BinaryOp e w p parent z) t
 walked_on c w at parent lhs n right ranged next op pos x y z d e p s s1 s2 s3 s4 t h joined same there =
     operator_taken c w at parent lhs n right next x y z s s1 s3 s4 t (walked_takes c w parent n right ranged next op pos x y d s s1 s2 s3 s4 t h) (ap (λ (i : Item). operator_result i.lexeme i.at lhs y) (sym h.token) ∙ joined)
     ∙ ap (λ (v : Settings). run (BinaryOp v w (asked s1).at parent z) t) (sym (same ∙ h.deeper))
     ∙ ap (λ q. run (BinaryOp e w q parent z) t) (ap (λ (i : Item). i.at) (sym h.token) ∙ sym there)
 
-pub walked_refused : (c : Settings) (w : Walk) (at : Position) (parent : ℕ) (lhs : Node) (n : ℕ) (right ranged : Bool) (next : Option (ℕ × Bool)) (op : Lexeme) (pos : Position) (x y : Node) (d : Settings) (r : Refusal) (s s1 s2 s3 s4 t : Cursor) → Walked c w parent n right ranged next op pos x y d s s1 s2 s3 s4 t
+pub walked_refused : (c : Settings) (w : Context) (at : Position) (parent : ℕ) (lhs : Node) (n : ℕ) (right ranged : Bool) (next : Option (ℕ × Bool)) (op : Lexeme) (pos : Position) (x y : Node) (d : Settings) (r : Refusal) (s s1 s2 s3 s4 t : Cursor) → Walked c w parent n right ranged next op pos x y d s s1 s2 s3 s4 t
     → operator_result op pos lhs y ≡ Err r → run (BinaryOp c w at parent lhs) s ≡ R.Refused r t
 walked_refused c w at parent lhs n right ranged next op pos x y d r s s1 s2 s3 s4 t h refused =
     operator_refused c w at parent lhs n right next x y r s s1 s3 s4 t (walked_takes c w parent n right ranged next op pos x y d s s1 s2 s3 s4 t h) (ap (λ (i : Item). operator_result i.lexeme i.at lhs y) (sym h.token) ∙ refused)
 
-pub walked_short : (c : Settings) (w : Walk) (parent n : ℕ) (right ranged : Bool) (next : Option (ℕ × Bool)) (op : Lexeme) (pos : Position) (x y : Node) (d : Settings) (s s1 s2 s3 s4 t entry : Cursor) → Walked c w parent n right ranged next op pos x y d s s1 s2 s3 s4 t → left s.tokens ≤ left entry.tokens → left t.tokens ≤ left entry.tokens
+pub walked_short : (c : Settings) (w : Context) (parent n : ℕ) (right ranged : Bool) (next : Option (ℕ × Bool)) (op : Lexeme) (pos : Position) (x y : Node) (d : Settings) (s s1 s2 s3 s4 t entry : Cursor) → Walked c w parent n right ranged next op pos x y d s s1 s2 s3 s4 t → left s.tokens ≤ left entry.tokens → left t.tokens ≤ left entry.tokens
 walked_short c w parent n right ranged next op pos x y d s s1 s2 s3 s4 t entry h short =
     let behind = (walked_takes c w parent n right ranged next op pos x y d s s1 s2 s3 s4 t h).after_side in
     omega (arith, behind, short)
@@ -140,7 +140,7 @@ pub record Worded (word : Text) (at : Position) (called : Bool) (s s1 s2 t : Cur
   pub readable_on : is_memory (asked s2).lexeme ≡ false
   pub look_on : t ≡ looking s2
 
-worded : (c : Settings) (w : Walk) (word : Text) (at : Position) (called : Bool) (s s1 s2 t : Cursor) → Worded word at called s s1 s2 t → run (Primary c w) s ≡ exec (guarded (Primary c w) s) (word_at c word at (asked s2).lexeme (asked s2).at) t
+worded : (c : Settings) (w : Context) (word : Text) (at : Position) (called : Bool) (s s1 s2 t : Cursor) → Worded word at called s s1 s2 t → run (Primary c w) s ≡ exec (guarded (Primary c w) s) (word_at c word at (asked s2).lexeme (asked s2).at) t
 worded c w word at called s s1 s2 t h =
     let call = guarded (Primary c w) s in
     let u = taking s in
@@ -155,12 +155,12 @@ worded c w word at called s s1 s2 t h =
     ∙ ap (λ (v : Cursor). exec call (word_at c word at (asked v).lexeme (asked v).at) (looking v)) (sym here)
     ∙ ap (exec call (word_at c word at (asked s2).lexeme (asked s2).at)) (sym h.look_on)
 
-pub worded_done : (c : Settings) (w : Walk) (word : Text) (at : Position) (called : Bool) (x : Node) (s s1 s2 t : Cursor) → Worded word at called s s1 s2 t → word_result c word called at ≡ Ok x → run (Primary c w) s ≡ R.Done x t
+pub worded_done : (c : Settings) (w : Context) (word : Text) (at : Position) (called : Bool) (x : Node) (s s1 s2 t : Cursor) → Worded word at called s s1 s2 t → word_result c word called at ≡ Ok x → run (Primary c w) s ≡ R.Done x t
 worded_done c w word at called x s s1 s2 t h e =
     worded c w word at called s s1 s2 t h
     ∙ word_done (guarded (Primary c w) s) c word at (asked s2).lexeme (asked s2).at x t (ap (λ b. word_result c word b at) (sym h.is_called) ∙ e)
 
-pub worded_refused : (c : Settings) (w : Walk) (word : Text) (at : Position) (called : Bool) (r : Refusal) (s s1 s2 t : Cursor) → Worded word at called s s1 s2 t → word_result c word called at ≡ Err r → run (Primary c w) s ≡ R.Refused r t
+pub worded_refused : (c : Settings) (w : Context) (word : Text) (at : Position) (called : Bool) (r : Refusal) (s s1 s2 t : Cursor) → Worded word at called s s1 s2 t → word_result c word called at ≡ Err r → run (Primary c w) s ≡ R.Refused r t
 worded_refused c w word at called r s s1 s2 t h e =
     worded c w word at called s s1 s2 t h
     ∙ word_refused (guarded (Primary c w) s) c word at (asked s2).lexeme (asked s2).at r t (ap (λ b. word_result c word b at) (sym h.is_called) ∙ e)

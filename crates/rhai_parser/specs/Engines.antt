@@ -5,6 +5,7 @@ use Rattle.bitflags.specs.Sets.{without}
 use Rattle.std.specs.List.{list_any}
 use Rattle.rhai_lower.specs.Texts.{Text, same_text}
 use Rattle.rhai_lower.specs.Positions.{place}
+use Rattle.rhai_grammar.specs.Contexts.{Sizes}
 use Rattle.rhai_base.specs.declared.settings.ParseSettings.{ParseSettings}
 
 -- the bits of its options, its limits, and the names of its modules
@@ -20,6 +21,10 @@ pub record EngineValue : Type 0 where
 -- a new engine: all options but STRICT_VAR
 abbrev pub fresh_engine : EngineValue
 fresh_engine = record { options = 191; max_expr_depth = 64; max_function_expr_depth = 32; max_functions = 2 ^ 64 - 1; max_array_size = 0; max_map_size = 0; sub_modules = [] }
+
+-- how large the literals of arrays and of object maps may be
+abbrev pub sizes_of : EngineValue → Sizes
+sizes_of e = record { array = e.max_array_size; map = e.max_map_size }
 
 -- a set of bits with some set or not
 abbrev pub with_bits : ℕ → ℕ → Bool → ℕ

@@ -11,12 +11,12 @@ ghost use Rattle.rhai_grammar.specs.Causes.{MemoryIsNowhere};
 ghost use Rattle.rhai_grammar.specs.Cursors.{cursor_of};
 ghost use Rattle.rhai_grammar.specs.Delivered.{code};
 ghost use Rattle.rhai_grammar.specs.declared.key.FnKey.{FnKey};
+ghost use Rattle.rhai_grammar.specs.Contexts.{nothing_live};
 ghost use Rattle.rhai_grammar.specs.Promises.{Accepts, HasRead, ReadsExpression, UnlessMemory};
-ghost use Rattle.rhai_grammar.specs.Walks.{nothing_live};
 ghost use Rattle.rhai_base.specs.Settings.{settings_of};
 ghost use Rattle.rhai_base.specs.States.{IsFresh};
-ghost use Rattle.rhai_parser.specs.Frames.{walk_of};
-ghost use Rattle.rhai_parser.specs.Engines.{fresh_engine, with_bits, expr_settings, has_module};
+ghost use Rattle.rhai_parser.specs.Frames.{context_of};
+ghost use Rattle.rhai_parser.specs.Engines.{fresh_engine, sizes_of, with_bits, expr_settings, has_module};
 
 use crate::frame::Frame;
 use crate::shared::Shared;
@@ -47,7 +47,6 @@ pub struct Engine {
 impl Model for Engine {
     ghost use Rattle.std.specs.Prelude.{map};
     ghost use Rattle.std.specs.Rc.{rc_str_bytes};
-    ghost use Rattle.rhai_parser.specs.Frames.{walk_of};
     ghost use Rattle.rhai_parser.specs.Engines.{EngineValue};
 
     ghost Value = { EngineValue };
@@ -269,7 +268,7 @@ impl Engine {
         constants: Option<&Scope>,
         level: OptimizationLevel,
     ) -> ParseResult<AST>
-        ensures reads { (library : List (FnKey × Rc ScriptFuncDef Global)) → (cursor_of input.old).mode ≡ code → ReadsExpression library (settings_of settings) (walk_of frame.now) (cursor_of input.old) (cursor_of input.new) result }
+        ensures reads { (library : List (FnKey × Rc ScriptFuncDef Global)) → (cursor_of input.old).mode ≡ code → ReadsExpression library (settings_of settings) (context_of self.now frame.now) (cursor_of input.old) (cursor_of input.new) result }
         ensures memory { UnlessMemory (HasRead (cursor_of input.old) (cursor_of input.new)) result }
         ensures nowhere { IfErr result MemoryIsNowhere }
     {
@@ -296,7 +295,7 @@ impl Engine {
         level: OptimizationLevel,
     ) -> ParseResult<AST>
         requires { FnOnceTakesAtMut F.FnOnce settings (expr_settings self.now) }
-        ensures reads { IsFresh state.entry → (chosen : _) × FnOnceReturnsAtMut F.FnOnce settings (expr_settings self.now) tt chosen × ReadsExpression state.entry.lib.now.entries (settings_of chosen) nothing_live (cursor_of state.entry.input.now) (cursor_of state.exit.0.now) result }
+        ensures reads { IsFresh state.entry → (chosen : _) × FnOnceReturnsAtMut F.FnOnce settings (expr_settings self.now) tt chosen × ReadsExpression state.entry.lib.now.entries (settings_of chosen) (nothing_live (sizes_of self.now)) (cursor_of state.entry.input.now) (cursor_of state.exit.0.now) result }
         ensures memory { UnlessMemory (HasRead (cursor_of state.entry.input.now) (cursor_of state.exit.0.now)) result }
         ensures nowhere { IfErr result MemoryIsNowhere }
         ensures library { state.exit.1.0.now ≡ state.entry.lib.now }

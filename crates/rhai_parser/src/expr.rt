@@ -7,28 +7,28 @@ ghost use Rattle.rhai_grammar.specs.Cursors.{cursor_of, left};
 ghost use Rattle.rhai_reading.specs.Reading.{Arguments, BinaryOp, Expression, Items, Operand, Postfix, Primary, Whole};
 ghost use Rattle.rhai_reading.specs.Running.{Gives, run};
 ghost use Rattle.rhai_base.specs.Settings.{settings_of};
-ghost use Rattle.rhai_parser.specs.Frames.{walk_of};
+ghost use Rattle.rhai_parser.specs.Frames.{context_of};
 
 use crate::engine::Engine;
 use crate::frame::Frame;
-use crate::names::{arguments_due, as_variable, end_group, make_call, name_node, word_node};
+use crate::names::{as_variable, end_group, make_call, name_node, word_node};
 use crate::operators::next_operator;
 use crate::refusals::{missing, no_operand, not_following, unexpected};
 use crate::shared::Shared;
 use crate::tokens::{
-    Beginning, Calling, Following, closes, is_called, is_close, is_end, is_no_argument, is_range,
-    is_sign, what_begins, what_calls, what_follows,
+    Beginning, Following, closes, is_called, is_close, is_end, is_no_argument, is_range, is_sign,
+    what_begins, what_follows,
 };
 use rhai_base::ParseSettings;
 use rhai_base::cursor::{peek, skip, take};
 use rhai_grammar::ParseResult;
 use rhai_lower::Expr;
-use rhai_trees::{make_binary, make_unary};
+use rhai_trees::{make_binary, make_chain, make_unary};
 
 impl Engine {
     /// Reads an operand without its sign, and without what calls it.
     #[cycle(parser)]
-    #[tactic(auto, using(rhai_reading::proofs::Steps::step_primary, rhai_reading::proofs::Steps::guarded_is, crate::proofs::AnswerLemmas::word_done, crate::proofs::AnswerLemmas::word_refused, rhai_lower::proofs::Views::view_integer))]
+    #[tactic(auto, using(rhai_reading::proofs::Steps::step_primary, rhai_reading::proofs::Steps::guarded_is, crate::proofs::AnswerLemmas::word_done, crate::proofs::AnswerLemmas::word_refused, rhai_lower::proofs::Views::view_integer, rhai_lower::proofs::Views::view_array, rhai_lower::proofs::Views::view_map))]
     fn parse_primary(
         &self,
         shared: &mut Shared<'_>,
@@ -36,7 +36,7 @@ impl Engine {
         settings: ParseSettings,
     ) -> ParseResult<Expr>
         ensures same_input { shared.new.input.ghost_name ≡ shared.old.input.ghost_name }
-        ensures gives { Gives view (run (Primary (settings_of settings) (walk_of frame.now)) (cursor_of shared.old.input.now)) result (cursor_of shared.new.input.now) }
+        ensures gives { Gives view (run (Primary (settings_of settings) (context_of self.now frame.now)) (cursor_of shared.old.input.now)) result (cursor_of shared.new.input.now) }
         ensures shorter { left (cursor_of shared.new.input.now).tokens ≤ left (cursor_of shared.old.input.now).tokens }
     {
         let (token, pos) = peek(shared.input)?;
@@ -66,6 +66,18 @@ impl Engine {
                 end_group(self.alloc(), shared.input)?;
                 Ok(inside)
             }
+            Beginning::Array => {
+                skip(shared.input);
+                let deeper = settings.at(pos).level_up()?;
+                let items = self.parse_array_literal(shared, frame, deeper)?;
+                Ok(Expr::Array(items, pos))
+            }
+            Beginning::Map => {
+                skip(shared.input);
+                let deeper = settings.at(pos).level_up()?;
+                let properties = self.parse_map_literal(shared, frame, deeper)?;
+                Ok(Expr::Map(properties, pos))
+            }
             Beginning::Range => Ok(Expr::IntegerConstant(0, pos)),
             Beginning::Sign | Beginning::Nothing => Err(no_operand(self.alloc(), token, pos)),
         }
@@ -82,48 +94,33 @@ impl Engine {
         operand: Expr,
     ) -> ParseResult<Expr>
         ensures same_input { shared.new.input.ghost_name ≡ shared.old.input.ghost_name }
-        ensures gives { Gives view (run (Postfix (settings_of settings) (walk_of frame.now) (view operand)) (cursor_of shared.old.input.now)) result (cursor_of shared.new.input.now) }
+        ensures gives { Gives view (run (Postfix (settings_of settings) (context_of self.now frame.now) (view operand)) (cursor_of shared.old.input.now)) result (cursor_of shared.new.input.now) }
         ensures shorter { left (cursor_of shared.new.input.now).tokens ≤ left (cursor_of shared.old.input.now).tokens }
     {
-        let (token, _) = peek(shared.input)?;
-        let mut calling = what_calls(token);
+        if !is_called(shared.input)? {
+            return Ok(operand);
+        }
         let (name, pos) = match as_variable(operand) {
             Ok(variable) => variable,
             Err(other) => return Ok(other),
         };
-        let bang = matches!(calling, Calling::Bang);
-        if bang {
-            skip(shared.input);
-            calling = arguments_due(self.alloc(), shared.input)?;
+        match self.parse_call(shared, frame, settings.at(pos)) {
+            Ok(call) => Ok(make_call(self.alloc(), name, pos, call)?),
+            Err(error) => Err(error),
         }
-        let args = match calling {
-            Calling::Pair => {
-                skip(shared.input);
-                Vec::new(self.alloc())
-            }
-            Calling::List => {
-                skip(shared.input);
-                match self.parse_fn_call_args(shared, frame, settings.at(pos)) {
-                    Ok(args) => args,
-                    Err(error) => return Err(error),
-                }
-            }
-            Calling::Bang | Calling::Nothing => return Ok(Expr::Variable(name, pos)),
-        };
-        Ok(make_call(self.alloc(), name, pos, bang, args)?)
     }
 
     /// Reads the arguments behind the `(` of a call. A raise of their level is refused where the settings stand.
     #[cycle(parser)]
     #[tactic(auto, using(rhai_reading::proofs::Steps::step_arguments, rhai_reading::proofs::Steps::guarded_is, rhai_reading::proofs::Steps::and_then_done))]
-    fn parse_fn_call_args(
+    pub(crate) fn parse_fn_call_args(
         &self,
         shared: &mut Shared<'_>,
         frame: &Frame,
         settings: ParseSettings,
     ) -> ParseResult<Vec<Expr>>
         ensures same_input { shared.new.input.ghost_name ≡ shared.old.input.ghost_name }
-        ensures gives { Gives (λ args. views args.items) (run (Arguments (settings_of settings) (walk_of frame.now) settings.pos) (cursor_of shared.old.input.now)) result (cursor_of shared.new.input.now) }
+        ensures gives { Gives (λ args. views args.items) (run (Arguments (settings_of settings) (context_of self.now frame.now) settings.pos) (cursor_of shared.old.input.now)) result (cursor_of shared.new.input.now) }
         ensures shorter { left (cursor_of shared.new.input.now).tokens ≤ left (cursor_of shared.old.input.now).tokens }
     {
         let (token, pos) = peek(shared.input)?;
@@ -149,7 +146,7 @@ impl Engine {
         settings: ParseSettings,
     ) -> ParseResult<Vec<Expr>>
         ensures same_input { shared.new.input.ghost_name ≡ shared.old.input.ghost_name }
-        ensures gives { Gives (λ args. views args.items) (run (Items (settings_of settings) (walk_of frame.now) no_nodes) (cursor_of shared.old.input.now)) result (cursor_of shared.new.input.now) }
+        ensures gives { Gives (λ args. views args.items) (run (Items (settings_of settings) (context_of self.now frame.now) no_nodes) (cursor_of shared.old.input.now)) result (cursor_of shared.new.input.now) }
         ensures shorter { left (cursor_of shared.new.input.now).tokens ≤ left (cursor_of shared.old.input.now).tokens }
     {
         let mut items = Vec::new(self.alloc());
@@ -184,7 +181,7 @@ impl Engine {
         ranged: bool,
     ) -> ParseResult<Expr>
         ensures same_input { shared.new.input.ghost_name ≡ shared.old.input.ghost_name }
-        ensures gives { Gives view (run (Operand (settings_of settings) (walk_of frame.now) ranged) (cursor_of shared.old.input.now)) result (cursor_of shared.new.input.now) }
+        ensures gives { Gives view (run (Operand (settings_of settings) (context_of self.now frame.now) ranged) (cursor_of shared.old.input.now)) result (cursor_of shared.new.input.now) }
         ensures shorter { left (cursor_of shared.new.input.now).tokens ≤ left (cursor_of shared.old.input.now).tokens }
     {
         let (token, pos) = peek(shared.input)?;
@@ -200,8 +197,16 @@ impl Engine {
                 Err(error) => Err(error),
             };
         }
-        let operand = self.parse_primary(shared, frame, settings)?;
-        self.parse_postfix(shared, frame, settings, operand)
+        let primary = self.parse_primary(shared, frame, settings)?;
+        let operand = match self.parse_postfix(shared, frame, settings, primary) {
+            Ok(operand) => operand,
+            Err(error) => return Err(error),
+        };
+        let links = match self.parse_links(shared, frame, settings, &operand) {
+            Ok(links) => links,
+            Err(error) => return Err(error),
+        };
+        Ok(make_chain(self.alloc(), operand, links)?)
     }
 
     /// Reads the operators and operands behind `lhs` that go on with a run on the right of an operator of strength
@@ -217,7 +222,7 @@ impl Engine {
         lhs: Expr,
     ) -> ParseResult<Expr>
         ensures same_input { shared.new.input.ghost_name ≡ shared.old.input.ghost_name }
-        ensures gives { Gives view (run (BinaryOp (settings_of settings) (walk_of frame.now) (position_of (view lhs)) parent (view lhs)) (cursor_of shared.old.input.now)) result (cursor_of shared.new.input.now) }
+        ensures gives { Gives view (run (BinaryOp (settings_of settings) (context_of self.now frame.now) (position_of (view lhs)) parent (view lhs)) (cursor_of shared.old.input.now)) result (cursor_of shared.new.input.now) }
         ensures shorter { left (cursor_of shared.new.input.now).tokens ≤ left (cursor_of shared.old.input.now).tokens }
     {
         let mut settings = settings.at(lhs.position());
@@ -246,14 +251,14 @@ impl Engine {
     /// Reads an expression. The level is raised at its first token.
     #[cycle(parser)]
     #[tactic(auto, using(rhai_reading::proofs::Steps::step_expression, rhai_reading::proofs::Steps::guarded_is, rhai_reading::proofs::Steps::and_then_done))]
-    fn parse_expr(
+    pub(crate) fn parse_expr(
         &self,
         shared: &mut Shared<'_>,
         frame: &Frame,
         settings: ParseSettings,
     ) -> ParseResult<Expr>
         ensures same_input { shared.new.input.ghost_name ≡ shared.old.input.ghost_name }
-        ensures gives { Gives view (run (Expression (settings_of settings) (walk_of frame.now)) (cursor_of shared.old.input.now)) result (cursor_of shared.new.input.now) }
+        ensures gives { Gives view (run (Expression (settings_of settings) (context_of self.now frame.now)) (cursor_of shared.old.input.now)) result (cursor_of shared.new.input.now) }
         ensures shorter { left (cursor_of shared.new.input.now).tokens ≤ left (cursor_of shared.old.input.now).tokens }
     {
         let (_, pos) = peek(shared.input)?;
@@ -271,7 +276,7 @@ impl Engine {
         settings: ParseSettings,
     ) -> ParseResult<Expr>
         ensures same_input { shared.new.input.ghost_name ≡ shared.old.input.ghost_name }
-        ensures gives { Gives view (run (Whole (settings_of settings) (walk_of frame.now)) (cursor_of shared.old.input.now)) result (cursor_of shared.new.input.now) }
+        ensures gives { Gives view (run (Whole (settings_of settings) (context_of self.now frame.now)) (cursor_of shared.old.input.now)) result (cursor_of shared.new.input.now) }
     {
         let expr = self.parse_expr(shared, frame, settings)?;
         let (token, pos) = peek(shared.input)?;

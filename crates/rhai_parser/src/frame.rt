@@ -3,7 +3,6 @@
 ghost use Rattle.std.specs.Prelude.{◌≡◌, option_map};
 ghost use Rattle.std.specs.Int.NonZero.{non_zero_usize_get};
 ghost use Rattle.rhai_grammar.specs.Slots.{number};
-ghost use Rattle.rhai_parser.specs.Frames.{walk_of};
 
 use rhai_base::lookup::find_slot;
 use rhai_lower::Scope;
@@ -21,7 +20,7 @@ impl Frame {
     /// has the name. It takes no memory.
     #[tactic(auto, using(crate::proofs::NameLemmas::no_place, crate::proofs::NameLemmas::slot_place))]
     pub(crate) fn place_of(&self, name: &str) -> Option<NonZeroUsize>
-        ensures { option_map non_zero_usize_get result ≡ number name.now (walk_of self.now).slots }
+        ensures { option_map non_zero_usize_get result ≡ number name.now self.now.stack }
     {
         let (place, _) = find_slot(&self.stack, name);
         if place == 0 {

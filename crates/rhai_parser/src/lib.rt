@@ -1,9 +1,12 @@
 //! The parser: from a stream of tokens to the tree of a script.
 #![tactic(auto)]
 
+mod chain;
 pub mod engine;
 mod expr;
 mod frame;
+mod links;
+mod literals;
 mod names;
 mod operators;
 mod refusals;

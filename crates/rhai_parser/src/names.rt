@@ -1,18 +1,18 @@
 //! Names, reserved words, and calls of them.
 
-ghost use Rattle.std.specs.Prelude.{◌≡◌, ◌≤◌, IfErr, IfOk, OnOk, codes, false, option_map, true};
+ghost use Rattle.std.specs.Prelude.{◌≡◌, ◌≤◌, None, Some, [], IfErr, IfOk, OnOk, codes, false, option_map, true};
 ghost use Rattle.std.specs.Int.NonZero.{non_zero_usize_get};
 ghost use Rattle.std.specs.Rc.{rc_str_bytes};
-ghost use Rattle.rhai_lower.specs.View.{named, view, views};
+ghost use Rattle.rhai_lower.specs.View.{called, named, view, views};
+ghost use Rattle.rhai_lower.specs.declared.ast.FnCallExpr.{out-FnCallExpr};
 ghost use Rattle.rhai_lower.specs.Nodes.{variable};
 ghost use Rattle.rhai_grammar.specs.Answers.{Answers};
 ghost use Rattle.rhai_grammar.specs.Beginnings.{calling, following, is_close, is_list, is_this, may_be_called, missing};
 ghost use Rattle.rhai_grammar.specs.Causes.{MemoryIsNowhere, is_for_memory, refusal, refusal_of};
 ghost use Rattle.rhai_grammar.specs.Cursors.{asked, cursor_of, left, looking, taking};
 ghost use Rattle.rhai_grammar.specs.Delivered.{is_memory};
-ghost use Rattle.rhai_grammar.specs.Trees.{call_tree, is_variable, name_tree, variable_of};
+ghost use Rattle.rhai_grammar.specs.Trees.{call_tree, is_variable, name_tree, node_count, variable_of};
 ghost use Rattle.rhai_base.specs.Settings.{settings_of};
-ghost use Rattle.rhai_parser.specs.Frames.{walk_of};
 ghost use Rattle.rhai_parser.specs.Tokens.{CallsAs, IsListed};
 ghost use Rattle.rhai_parser.specs.Words.{word_result};
 
@@ -28,6 +28,15 @@ use rhai_lower::{
 use std::alloc::{AllocError, Global};
 use std::num::NonZeroUsize;
 use std::rc::RcStr;
+
+/// What calls a name.
+#[derive(Drop)]
+pub(crate) struct Call {
+    /// Whether it has a `!`.
+    pub(crate) bang: bool,
+    /// The arguments.
+    pub(crate) args: Vec<Expr>,
+}
 
 // The use of a variable. The error is that there is no memory for it.
 #[tactic(auto, using(rhai_lower::proofs::Views::view_variable))]
@@ -59,7 +68,7 @@ pub(crate) fn name_node(
     called: bool,
     pos: Position,
 ) -> Result<Expr, AllocError>
-    ensures { IfOk result (λ e. view e ≡ name_tree (walk_of frame.now) called (rc_str_bytes name) pos) }
+    ensures { IfOk result (λ e. view e ≡ name_tree frame.now.stack called (rc_str_bytes name) pos) }
 {
     if called {
         return variable(alloc, None, name, pos);
@@ -153,29 +162,38 @@ pub(crate) fn as_variable(operand: Expr) -> Result<(Box<VariableExpr>, Position)
     }
 }
 
+/// The call of a script's function, which `native_args` arguments of a native function answer too.
+#[tactic(auto, using(crate::proofs::NameLemmas::count_views))]
+pub(crate) fn script_call(alloc: Global, name: RcStr, native_args: usize, call: Call) -> FnCallExpr
+    ensures called { called result ≡ record { name = rc_str_bytes name; path = []; module_index = None; script_args = Some (node_count (views call.args.items)); native_args = native_args; captures_scope = call.bang; op_token = None } }
+    ensures args { views (out-FnCallExpr result).args.items ≡ views call.args.items }
+{
+    FnCallExpr {
+        name,
+        namespace: Namespace {
+            path: Vec::new(alloc),
+            index: None,
+        },
+        script_args: Some(call.args.len()),
+        native_args,
+        args: call.args,
+        capture_parent_scope: call.bang,
+        op_token: None,
+    }
+}
+
 /// The call of a name, which stands at the name. The error is that there is no memory for it.
 #[tactic(auto, using(rhai_lower::proofs::Views::view_call, crate::proofs::NameLemmas::count_views))]
 pub(crate) fn make_call(
     alloc: Global,
     name: Box<VariableExpr>,
     pos: Position,
-    bang: bool,
-    args: Vec<Expr>,
+    call: Call,
 ) -> Result<Expr, AllocError>
-    ensures { IfOk result (λ e. view e ≡ call_tree (variable (named name.value) pos) bang (views args.items)) }
+    ensures { IfOk result (λ e. view e ≡ call_tree (variable (named name.value) pos) call.bang (views call.args.items)) }
 {
     let name = Box::into_inner(name).name;
-    let call = FnCallExpr {
-        name,
-        namespace: Namespace {
-            path: Vec::new(alloc),
-            index: None,
-        },
-        script_args: Some(args.len()),
-        native_args: args.len(),
-        args,
-        capture_parent_scope: bang,
-        op_token: None,
-    };
+    let native_args = call.args.len();
+    let call = script_call(alloc, name, native_args, call);
     Ok(Expr::FnCall(Box::new(alloc, call)?, pos))
 }

@@ -48,7 +48,8 @@ pub(crate) fn missing(
     }
 }
 
-fn missing_token(
+/// Why a token is refused that stands where another one is due, as `missing` says.
+pub(crate) fn missing_token(
     alloc: Global,
     due: &str,
     note: &str,

@@ -23,6 +23,10 @@ pub(crate) enum Beginning {
     Word(RcStr),
     /// An expression in parentheses.
     Group,
+    /// An array.
+    Array,
+    /// An object map.
+    Map,
     /// A sign before an operand.
     Sign,
     /// A range operator, whose left operand is not written.
@@ -70,6 +74,8 @@ pub(crate) fn what_begins(token: &Token, pos: Position) -> Result<Beginning, All
         Token::Identifier(name) => Ok(Beginning::Name(name.clone()?)),
         Token::Reserved(word) => Ok(Beginning::Word(word.clone()?)),
         Token::LeftParen => Ok(Beginning::Group),
+        Token::LeftBracket => Ok(Beginning::Array),
+        Token::MapStart => Ok(Beginning::Map),
         Token::Minus | Token::UnaryMinus | Token::Plus | Token::UnaryPlus | Token::Bang => {
             Ok(Beginning::Sign)
         }

@@ -1,32 +1,38 @@
 -- What is written so is read so.
-use Rattle.std.proofs.Common.{◌≡◌, ℕ, Bool, true, false, Some, None, refl, sym, ap, ◌∙◌, subst, if◌then◌else◌}
-use Rattle.std.specs.Prelude.{◌&&◌}
-use Rattle.rhai_lower.specs.Lexemes.{Lexeme, Name, Reserved, Sign}
-use Rattle.rhai_lower.specs.Nodes.{Node, Nodes, integer, this, no_nodes, one_node, with_node, position_of}
+use Rattle.std.proofs.Common.{◌≡◌, ℕ, Bool, true, false, Option, Some, None, List, [], ◌∷◌, ◌++◌, refl, sym, ap, ◌∙◌, subst, if◌then◌else◌}
+use Rattle.std.specs.Prelude.{◌&&◌, ◌==◌}
+use Rattle.std.proofs.lemmas.Bool.{and_from}
+use Rattle.std.proofs.lemmas.List.{append-nil}
+use Rattle.rhai_lower.specs.Texts.{Text}
+use Rattle.rhai_lower.specs.Lexemes.{Lexeme, Name, Reserved, Sign, text_of}
+use Rattle.rhai_lower.specs.Nodes.{Node, Nodes, Properties, integer, array, object_map, property, this, no_nodes, one_node, with_node, no_properties, one_property, with_property, position_of}
 use Rattle.rhai_lower.specs.declared.position.Position.{Position}
 use Rattle.rhai_lower.specs.declared.token.Token.TheVariants as mark
-use Rattle.rhai_lower.specs.declared.token.Token.TheVariants.{LeftParen, RightParen, Comma, Bang}
+use Rattle.rhai_lower.specs.declared.token.Token.TheVariants.{LeftParen, RightParen, LeftBracket, RightBracket, MapStart, RightBrace, Colon, Comma, Bang}
 use Rattle.rhai_grammar.specs.Causes as cause
 use Rattle.rhai_grammar.specs.Causes.{Cause, Refusal, refusal}
 use Rattle.rhai_grammar.specs.Delivered.{code, Item, item, Point, next_at, past, is_memory, is_end}
-use Rattle.rhai_grammar.specs.Settings.{Settings, low, up, in_function}
-use Rattle.rhai_grammar.specs.Walks.{Walk}
+use Rattle.rhai_grammar.specs.Settings.{Settings, low, up, in_function, quoted_keys}
+use Rattle.rhai_grammar.specs.Contexts.{Context, full}
+use Rattle.rhai_grammar.specs.Literals.{item_place, property_count}
 use Rattle.rhai_grammar.specs.Beginnings as begin
-use Rattle.rhai_grammar.specs.Beginnings.{Beginning, beginning, is_value, value_at, is_sign, is_range, closes, Calling, calling, calls, is_call, is_list, may_be_called, is_this, following, is_close, no_argument}
+use Rattle.rhai_grammar.specs.Beginnings.{Beginning, beginning, is_value, value_at, is_sign, is_range, closes, Calling, calling, calls, is_list, may_be_called, is_this, following, is_close, no_argument, linking, is_bracket, is_dot, is_link, member_place, is_member}
+use Rattle.rhai_grammar.specs.Chains.{Link, chained, index_refusal, last_fault}
 use Rattle.rhai_grammar.specs.Operators.{operator_tree, joined}
 use Rattle.rhai_grammar.specs.Strengths.{Behind, Operator, Unknown, Other, behind_of, is_operator, strength, is_right}
 use Rattle.rhai_grammar.specs.Forms as form
-use Rattle.rhai_grammar.specs.Forms.{Primary, Operand, Arguments, Items, Run, Just, Binary}
-use Rattle.rhai_grammar.specs.Trees.{variable_of, name_tree, is_variable, call_tree, primary_tree, operand_tree, argument_trees, item_trees, tree}
-use Rattle.rhai_grammar.specs.Demands.{Verdict, Fine, Wrong, Blames, Otherwise, Demands, verdict, Met}
+use Rattle.rhai_grammar.specs.Forms.{Primary, Base, Links, Operand, Arguments, Items, Elements, Fields, Run, Just, Binary}
+use Rattle.rhai_grammar.specs.Trees.{variable_of, name_tree, is_variable, call_tree, bracket_link, member_link, method_tree, primary_tree, base_tree, link_list, operand_tree, argument_trees, item_trees, element_trees, field_trees, node_count, tree}
+use Rattle.rhai_grammar.specs.Demands.{Verdict, Fine, Wrong, Blames, Otherwise, Demands, Tok, ◌▸◌, verdict, Met}
 use Rattle.rhai_grammar.specs.Written as W
-use Rattle.rhai_grammar.specs.Written.{Height, Side, Outermost, RightOf, Spot, outermost, right_side, height_after, is_ranged, raise_behind, side_fits, left_fits, operands_fit, run_ends, operator_known, room_due, end_due, begun, ended}
+use Rattle.rhai_grammar.specs.Written.{LinkSpot, behind_operand, behind_bracket, behind_dot, Height, Side, Outermost, RightOf, Spot, outermost, right_side, height_after, is_ranged, raise_behind, side_fits, left_fits, operands_fit, run_ends, operator_known, room_due, end_due, begun, ended}
 use Rattle.rhai_reading.specs.Reading as R
-use Rattle.rhai_reading.specs.Reading.{Goal, Whole, Expression, NextOperator, BinaryOp, Prog, Ret, Fail, Take, Call, goes_on, next_operator_at, operand_by, primary_at, list_on, call_at, bang_at, binary_at, binary_on, binary_next, body}
+use Rattle.rhai_reading.specs.Reading.{Goal, Whole, Expression, NextOperator, BinaryOp, Prog, Ret, Fail, Take, Call, goes_on, next_operator_at, operand_by, primary_at, list_on, called_at, bang_at, binary_at, binary_on, binary_next, body}
 use Rattle.rhai_reading.specs.Histories.{State, Outcome, Done, Runs}
 use Rattle.rhai_reading.proofs.Rules.{at, runs_ret, runs_peek, runs_look, runs_take, runs_call, runs_tail, runs_then, runs_else}
 use Rattle.rhai_reading.proofs.Looks.{behind_at, operator_in, climb, fine}
 use Rattle.rhai_reading.proofs.Strengths.{sensible, next_goes_on, right_is, left_is, left_down, outer, not_true}
+use Rattle.rhai_reading.proofs.Places.{one_more_node, joined_none, joined_properties, properties_none, added_property, last_property, item_begins, not_full, key_is, key_readable, behind_one_more, bracket_is, dot_is, no_link, bracket_readable, dot_readable, member_is, member_readable, unrefused}
 use Rattle.rhai_reading.proofs.Tokens.{is_primary, value_primary, range_primary, primary_begun, sign_begun, list_call, begun_readable, call_readable, operator_readable, written, unwritten_readable, called_no_this}
 
 -- A reader gives x, and leaves a point at which the demands k are met.
@@ -91,12 +97,12 @@ entering (RightOf op h) k s t m = m
 abbrev pub begins : Spot → Node → Height
 begins q x = record { settings = q.begins; at = position_of x }
 
-stops : (c : Settings) (w : Walk) (pos : Position) (p : ℕ) (x : Node) (s : Point) (v : Behind) → next_goes_on p v ≡ false → Runs (binary_at c w pos p x (operator_in v)) (at s true) (Done x (at s true))
+stops : (c : Settings) (w : Context) (pos : Position) (p : ℕ) (x : Node) (s : Point) (v : Behind) → next_goes_on p v ≡ false → Runs (binary_at c w pos p x (operator_in v)) (at s true) (Done x (at s true))
 stops c w pos p x s (Operator n right) e = runs_else _ e (runs_ret x (at s true))
 stops c w pos p x s (Unknown t) e = runs_ret x (at s true)
 stops c w pos p x s Other e = runs_ret x (at s true)
 
-climb_stops : (w : Walk) (h : Height) (p : ℕ) (x : Node) (s : Point) (b : Bool) → verdict operator_known (next_at code s).lexeme ≡ Fine → next_goes_on p (behind_at s) ≡ false → Runs (body (climb h w p x)) (at s b) (Done x (at s true))
+climb_stops : (w : Context) (h : Height) (p : ℕ) (x : Node) (s : Point) (b : Bool) → verdict operator_known (next_at code s).lexeme ≡ Fine → next_goes_on p (behind_at s) ≡ false → Runs (body (climb h w p x)) (at s b) (Done x (at s true))
 climb_stops w h p x s b known e = runs_call NextOperator (binary_at h.settings w h.at p x) (next_operator s b known) (stops h.settings w h.at p x s (behind_at s) e)
 
 -- The first operand is read, and from there on the reader is where it is once it has the whole run.
@@ -142,7 +148,7 @@ known_at : (op : Lexeme) (pos : Position) (s : Point) → StandsAt op pos s → 
 known_at op pos s at e = subst (λ (i : Item). verdict operator_known i.lexeme ≡ Fine) (sym at) (is_known op e)
 
 -- an operator that goes on
-goes : (w : Walk) (h : Height) (p : ℕ) (x : Node) (op : Lexeme) (pos : Position) (s : Point) (o : Outcome Node) → StandsAt op pos s → is_operator (behind_of op) ≡ true → next_goes_on p (behind_of op) ≡ true → Runs (binary_on h.settings w h.at p x (strength (behind_of op)) op pos) (at s true) o → (b : Bool) → Runs (body (climb h w p x)) (at s b) o
+goes : (w : Context) (h : Height) (p : ℕ) (x : Node) (op : Lexeme) (pos : Position) (s : Point) (o : Outcome Node) → StandsAt op pos s → is_operator (behind_of op) ≡ true → next_goes_on p (behind_of op) ≡ true → Runs (binary_on h.settings w h.at p x (strength (behind_of op)) op pos) (at s true) o → (b : Bool) → Runs (body (climb h w p x)) (at s b) o
 goes w h p x op pos s o stands is on r b =
     let v = behind_of op in
     let some : operator_in (behind_at s) ≡ Some (strength v, is_right v) = ap (λ (i : Item). operator_in (behind_of i.lexeme)) stands ∙ in_operator v is in
@@ -188,7 +194,7 @@ abbrev pub Usable : Node → (called : Bool) → Point → Type 0
 Usable x called s = (is_memory (next_at code s).lexeme ≡ false) × (is_variable x ≡ true → calls (next_at code s).lexeme ≡ called)
 
 -- What is written without sign and call is read, where what follows is not in the way.
-pub record Opened (p : Primary) (c : Settings) (w : Walk) (called : Bool) (k : Demands) (s t : Point) : Type 0 where
+pub record Opened (p : Primary) (c : Settings) (w : Context) (called : Bool) (k : Demands) (s t : Point) : Type 0 where
   pub begins_here : is_primary (beginning (next_at code s).lexeme) ≡ true
   pub end : Point
   pub met : Met k end t
@@ -198,11 +204,11 @@ pub record Opened (p : Primary) (c : Settings) (w : Walk) (called : Bool) (k : D
 standing_here : (l : Lexeme) (pos : Position) (s : Point) → StandsAt l pos s → is_primary (beginning l) ≡ true → is_primary (beginning (next_at code s).lexeme) ≡ true
 standing_here l pos s stands e = subst (λ (i : Item). is_primary (beginning i.lexeme) ≡ true) (sym stands) e
 
-value_runs : (c : Settings) (w : Walk) (l : Lexeme) (pos : Position) (v : Beginning) (s : State) (o : Outcome Node) → is_value v ≡ true → Runs (Take (Ret (value_at pos v))) s o → Runs (primary_at c w l pos v) s o
+value_runs : (c : Settings) (w : Context) (l : Lexeme) (pos : Position) (v : Beginning) (s : State) (o : Outcome Node) → is_value v ≡ true → Runs (Take (Ret (value_at pos v))) s o → Runs (primary_at c w l pos v) s o
 value_runs c w l pos (begin.Single node) s o e r = r
 value_runs c w l pos _ s o e r = absurd cc
 
-range_runs : (c : Settings) (w : Walk) (l : Lexeme) (pos : Position) (v : Beginning) (s : State) (o : Outcome Node) → is_range v ≡ true → Runs (Ret (integer (lib.IntN.pos 0) pos)) s o → Runs (primary_at c w l pos v) s o
+range_runs : (c : Settings) (w : Context) (l : Lexeme) (pos : Position) (v : Beginning) (s : State) (o : Outcome Node) → is_range v ≡ true → Runs (Ret (integer (lib.IntN.pos 0) pos)) s o → Runs (primary_at c w l pos v) s o
 range_runs c w l pos begin.ARange s o e r = r
 range_runs c w l pos _ s o e r = absurd cc
 
@@ -216,9 +222,13 @@ word_by false true true x y d e s h fine = runs_ret y s
 word_by false true false x y d e s h fine = absurd cc
 word_by false false function x y d e s h fine = absurd cc
 
+-- the links behind an operand
+abbrev pub links_on : Settings → Context → Node → Prog Node
+links_on c w y = Call (R.Links w (behind_operand c y)) (λ ls. Ret (chained y ls))
+
 -- an operand that no sign stands before, and that is written
-opened : (c : Settings) (w : Walk) (ranged : Bool) (s : Point) (o : Outcome Node) → is_primary (beginning (next_at code s).lexeme) ≡ true
-    → Runs (Call (R.Primary c w) (λ x. Call (R.Postfix c w x) Ret)) (at s true) o → (b : Bool) → Runs (body (R.Operand c w ranged)) (at s b) o
+opened : (c : Settings) (w : Context) (ranged : Bool) (s : Point) (o : Outcome Node) → is_primary (beginning (next_at code s).lexeme) ≡ true
+    → Runs (Call (R.Primary c w) (λ x. Call (R.Postfix c w x) (links_on c w))) (at s true) o → (b : Bool) → Runs (body (R.Operand c w ranged)) (at s b) o
 opened c w ranged s o e r b =
     let l = (next_at code s).lexeme in
     let g = primary_begun (beginning l) e in
@@ -229,7 +239,7 @@ opened c w ranged s o e r b =
     plain (begin.NoBeginning why) e = absurd cc
     plain _ e = r
 
-sign_runs : (c : Settings) (w : Walk) (l : Lexeme) (pos : Position) (v : Beginning) (s : State) (o : Outcome Node) → is_sign v ≡ true
+sign_runs : (c : Settings) (w : Context) (l : Lexeme) (pos : Position) (v : Beginning) (s : State) (o : Outcome Node) → is_sign v ≡ true
     → Runs (Take (R.raised c pos (λ d. Call (R.Operand d w false) (R.sign_on l pos)))) s o → Runs (operand_by c w l pos v) s o
 sign_runs c w l pos begin.ASign s o e r = r
 sign_runs c w l pos _ s o e r = absurd cc
@@ -242,42 +252,92 @@ uncalled_by true true e h = absurd cc
 uncalled_by true false e h = refl
 uncalled_by false b e h = absurd cc
 
-postfix_stops : (c : Settings) (w : Walk) (x : Node) (s : Point) (b : Bool) → Usable x false s → Runs (body (R.Postfix c w x)) (at s b) (Done x (at s true))
-postfix_stops c w x s b u = runs_look u.0 (stays (is_variable x) (calling (next_at code s).lexeme) u.1)
+postfix_stops : (c : Settings) (w : Context) (x : Node) (s : Point) (b : Bool) → Usable x false s → Runs (body (R.Postfix c w x)) (at s b) (Done x (at s true))
+postfix_stops c w x s b u = runs_look u.0 (runs_else _ (no_call (is_variable x) (calls (next_at code s).lexeme) u.1) (runs_ret x (at s true)))
   where
-    stays : (a : Bool) (v : Calling) → (a ≡ true → is_call v ≡ false) → Runs (if a then call_at c w x v else Ret x) (at s true) (Done x (at s true))
-    stays false v h = runs_ret x (at s true)
-    stays true begin.NoCall h = runs_ret x (at s true)
-    stays true _ h = let e = h refl in absurd cc
+    no_call : (a b : Bool) → (a ≡ true → b ≡ false) → (a && b) ≡ false
+    no_call false b h = refl
+    no_call true b h = h refl
 
 -- the arguments of a call, from the token that they begin with
-abbrev pub list_at : Settings → Walk → Node → (bang : Bool) → Calling → Prog Node
-list_at c w x bang begin.WithPair = Take (Ret (call_tree x bang no_nodes))
-list_at c w x bang begin.WithList = list_on c w x bang
-list_at c w x bang _ = Ret x
+abbrev pub list_at : Settings → Context → Position → (bang : Bool) → Calling → Prog (Bool × Nodes)
+list_at c w name bang begin.WithPair = Take (Ret (bang, no_nodes))
+list_at c w name bang begin.WithList = list_on c w name bang
+list_at c w name bang _ = Ret (bang, no_nodes)
 
-pub record Listed (args : Arguments) (c : Settings) (w : Walk) (x : Node) (k : Demands) (s t : Point) : Type 0 where
+pub record Listed (args : Arguments) (c : Settings) (w : Context) (name : Position) (k : Demands) (s t : Point) : Type 0 where
   pub first : Item
   pub stands : next_at code s ≡ first
   pub lists : is_list (calling first.lexeme) ≡ true
   pub end : Point
   pub met : Met k end t
-  pub runs : (bang b : Bool) → Runs (list_at c w x bang (calling first.lexeme)) (at s b) (Done (call_tree x bang (argument_trees args w)) (at end false))
+  pub runs : (bang b : Bool) → Runs (list_at c w name bang (calling first.lexeme)) (at s b) (Done (bang, argument_trees args w) (at end false))
 
 list_readable : (l : Lexeme) → is_list (calling l) ≡ true → is_memory l ≡ false
 list_readable l e = call_readable l (list_call (calling l) e)
 
-call_lists : (c : Settings) (w : Walk) (x : Node) (v : Calling) (s : State) (o : Outcome Node) → is_list v ≡ true → Runs (list_at c w x false v) s o → Runs (call_at c w x v) s o
-call_lists c w x begin.WithPair s o e r = r
-call_lists c w x begin.WithList s o e r = r
-call_lists c w x begin.WithBang s o e r = absurd cc
-call_lists c w x begin.NoCall s o e r = absurd cc
+call_lists : (c : Settings) (w : Context) (name : Position) (v : Calling) (s : State) (o : Outcome (Bool × Nodes)) → is_list v ≡ true → Runs (list_at c w name false v) s o → Runs (called_at c w name v) s o
+call_lists c w name begin.WithPair s o e r = r
+call_lists c w name begin.WithList s o e r = r
+call_lists c w name begin.WithBang s o e r = absurd cc
+call_lists c w name begin.NoCall s o e r = absurd cc
 
-bang_lists : (c : Settings) (w : Walk) (x : Node) (l : Lexeme) (pos : Position) (v : Calling) (s : State) (o : Outcome Node) → is_list v ≡ true → Runs (list_at c w x true v) s o → Runs (bang_at c w x l pos v) s o
-bang_lists c w x l pos begin.WithPair s o e r = r
-bang_lists c w x l pos begin.WithList s o e r = r
-bang_lists c w x l pos begin.WithBang s o e r = absurd cc
-bang_lists c w x l pos begin.NoCall s o e r = absurd cc
+bang_lists : (c : Settings) (w : Context) (name : Position) (l : Lexeme) (pos : Position) (v : Calling) (s : State) (o : Outcome (Bool × Nodes)) → is_list v ≡ true → Runs (list_at c w name true v) s o → Runs (bang_at c w name l pos v) s o
+bang_lists c w name l pos begin.WithPair s o e r = r
+bang_lists c w name l pos begin.WithList s o e r = r
+bang_lists c w name l pos begin.WithBang s o e r = absurd cc
+bang_lists c w name l pos begin.NoCall s o e r = absurd cc
+
+-- What calls a name is read, from its `!` if it has one.
+pub record Invoked (bang : Bool) (args : Arguments) (c : Settings) (w : Context) (name : Position) (k : Demands) (s t : Point) : Type 0 where
+  pub readable : is_memory (next_at code s).lexeme ≡ false
+  pub calls_here : calls (next_at code s).lexeme ≡ true
+  pub end : Point
+  pub met : Met k end t
+  pub runs : (b : Bool) → Runs (body (R.Called c w name)) (at s b) (Done (bang, argument_trees args w) (at end false))
+
+without_bang : (args : Arguments) (c : Settings) (w : Context) (name : Position) (k : Demands) (s t : Point) → Listed args c w name k s t → Invoked false args c w name k s t
+without_bang args c w name k s t a =
+    let l = a.first.lexeme in
+    let can = list_readable l a.lists in
+    record {
+      readable = ap (λ (i : Item). is_memory i.lexeme) a.stands ∙ can;
+      calls_here = ap (λ (i : Item). calls i.lexeme) a.stands ∙ list_call (calling l) a.lists;
+      end = a.end;
+      met = a.met;
+      runs = λ b. runs_peek a.first a.stands can (call_lists c w name (calling l) _ _ a.lists (a.runs false true));
+    }
+
+with_bang : (bang : Position) (args : Arguments) (c : Settings) (w : Context) (name : Position) (k : Demands) (s t : Point) → StandsAt (Sign Bang) bang s → Listed args c w name k (past code s) t → Invoked true args c w name k s t
+with_bang bang args c w name k s t stands a =
+    let l = a.first.lexeme in
+    record {
+      readable = ap (λ (i : Item). is_memory i.lexeme) stands;
+      calls_here = ap (λ (i : Item). calls i.lexeme) stands;
+      end = a.end;
+      met = a.met;
+      runs = λ b. runs_peek (item (Sign Bang) bang) stands refl (runs_take (item (Sign Bang) bang) stands refl
+          (runs_peek a.first a.stands (list_readable l a.lists) (bang_lists c w name l a.first.at (calling l) _ _ a.lists (a.runs true true))));
+    }
+
+-- An operand without its links is read, and what goes on with it.
+pub record Based (x : Base) (c : Settings) (w : Context) (k : Demands) (s t : Point) : Type 0 where
+  pub begins_here : is_primary (beginning (next_at code s).lexeme) ≡ true
+  pub end : Point
+  pub met : Met k end t
+  pub looked : Bool
+  pub runs : (rest : Node → Prog Node) (o : Outcome Node) → Runs (rest (base_tree x w)) (at end looked) o → Runs (Call (R.Primary c w) (λ n. Call (R.Postfix c w n) rest)) (at s true) o
+
+-- a name with what calls it
+called_base : (x : Primary) (bang : Bool) (args : Arguments) (c : Settings) (w : Context) (k : Demands) (s u t : Point) (y : Bool) → is_variable (primary_tree x w true) ≡ true
+    → Runs (body (R.Primary c w)) (at s true) (Done (primary_tree x w true) (at u y)) → (a : Invoked bang args c w (position_of (primary_tree x w true)) k u t)
+    → (rest : Node → Prog Node) (o : Outcome Node) → Runs (rest (call_tree (primary_tree x w true) bang (argument_trees args w))) (at a.end false) o
+    → Runs (Call (R.Primary c w) (λ n. Call (R.Postfix c w n) rest)) (at s true) o
+called_base x bang args c w k s u t y named p a rest o r =
+    let n = primary_tree x w true in
+    let both = and_from (is_variable n) (calls (next_at code u).lexeme) named a.calls_here in
+    runs_call (R.Primary c w) _ p (runs_call (R.Postfix c w n) rest
+    (runs_look a.readable (runs_then _ both (runs_call (R.Called c w (position_of n)) _ (a.runs true) (runs_ret _ _)))) r)
 
 argument_by : (a b : Bool) (c : Cause) → (if a then Wrong c else if b then Otherwise else Fine) ≡ Fine → (a ≡ false) × (b ≡ false)
 argument_by true b c e = absurd cc
@@ -298,13 +358,148 @@ added_last no_nodes x = refl
 added_last (one_node n ns) x = ap (one_node n) (added_last ns x)
 
 -- arguments are read up to their end, behind those before them
-pub record Ended (c : Settings) (w : Walk) (before all : Nodes) (k : Demands) (s t : Point) : Type 0 where
+pub record Ended (c : Settings) (w : Context) (before all : Nodes) (k : Demands) (s t : Point) : Type 0 where
   pub end : Point
   pub met : Met k end t
   pub runs : (b : Bool) → Runs (body (R.Items c w before)) (at s b) (Done all (at end false))
 
 gives_last : (before : Nodes) (x : Node) (s : State) → Runs (Ret (with_node before x)) s (Done (joined before (one_node x no_nodes)) s)
 gives_last before x s = subst (λ ns. Runs (Ret (with_node before x)) s (Done ns s)) (added_last before x) (runs_ret (with_node before x) s)
+
+-- ---- arrays
+
+-- an item, up to what stands behind it
+element_runs : (c : Settings) (w : Context) (opening : Position) (before : Nodes) (x : Node) (s : Point) (b : Bool) (t : State) (o : Outcome Nodes) → verdict (W.item_due w.sizes.array (node_count before)) (next_at code s).lexeme ≡ Fine → low c ≡ true
+    → Runs (body (Expression (up c) w)) (at s true) (Done x t) → Runs (R.element_on c w opening before x) t o → Runs (body (R.Elements c w opening before)) (at s b) o
+element_runs c w opening before x s b t o m room e r =
+    let l = (next_at code s).lexeme in
+    let due = fine (W.item_due w.sizes.array (node_count before)) l m in
+    runs_look due.0 (subst (λ v. Runs (R.element_at c w opening before (next_at code s).at v) (at s true) o) (sym (item_begins (item_place w.sizes.array (node_count before) l) due.1))
+    (runs_then _ room (runs_call (Expression (up c) w) (R.element_on c w opening before) e r)))
+
+element_last : (c : Settings) (w : Context) (opening : Position) (before : Nodes) (x : Node) (closing : Position) (s : Point) (b : Bool) → StandsAt (Sign RightBracket) closing s
+    → Runs (R.element_on c w opening before x) (at s b) (Done (joined before (one_node x no_nodes)) (at (past code s) false))
+element_last c w opening before x closing s b e =
+    runs_peek (item (Sign RightBracket) closing) e refl (runs_take (item (Sign RightBracket) closing) e refl (gives_last before x _))
+
+element_more : (c : Settings) (w : Context) (opening : Position) (before : Nodes) (x : Node) (comma : Position) (s : Point) (b : Bool) (o : Outcome Nodes) → StandsAt (Sign Comma) comma s
+    → Runs (body (R.Elements c w opening (with_node before x))) (at (past code s) false) o → Runs (R.element_on c w opening before x) (at s b) o
+element_more c w opening before x comma s b o e r =
+    runs_peek (item (Sign Comma) comma) e refl (runs_take (item (Sign Comma) comma) e refl (runs_tail (R.Elements c w opening (with_node before x)) r))
+
+-- ---- object maps
+
+-- a property up to its colon
+keyed : (key : Lexeme) (pos colon : Position) (before : Properties) (c : Settings) (w : Context) (opening : Position) (k : Demands) (s t : Point)
+    → Met (W.field key pos colon before c w opening k) s t → Goes (body (R.NextKey c w before)) s (Some (text_of key, pos)) (W.raise_at c opening k) t
+keyed key pos colon before c w opening k s t m =
+    let named = key_is (quoted_keys c) (property_count before == 0) key m.0 in
+    let can = key_readable (quoted_keys c) (property_count before == 0) key m.0 in
+    let room = fine (W.value_due w.sizes.map (property_count before)) (next_at code (past code (past code s))).lexeme m.1.1.1.1.0 in
+    record {
+      end = past code (past code s);
+      met = m.1.1.1.1.1;
+      looked = true;
+      runs = λ b. runs_peek (item key pos) m.1.0 can (subst (λ v. Runs (R.key_on w before pos v) (at s true) (Done (Some (text_of key, pos)) (at (past code (past code s)) true))) (sym named) (runs_take (item key pos) m.1.0 can (runs_else _ (not_true _ m.1.1.0)
+          (runs_peek (item (Sign Colon) colon) m.1.1.1.0 refl (runs_take (item (Sign Colon) colon) m.1.1.1.0 refl
+          (runs_look room.0 (runs_else _ (not_full (full w.sizes.map (property_count before)) _ room.1) (runs_ret _ _))))))));
+    }
+
+-- a property, up to what stands behind its value
+property_runs : (c : Settings) (w : Context) (opening : Position) (before : Properties) (key : Text × Position) (x : Node) (s v t : State) (o : Outcome Properties) → low c ≡ true
+    → Runs (body (R.NextKey c w before)) s (Done (Some key) v) → Runs (body (Expression (up c) w)) v (Done x t) → Runs (R.value_on c w opening before key x) t o → Runs (body (R.Fields c w opening before)) s o
+property_runs c w opening before key x s v t o room n e r =
+    runs_call (R.NextKey c w before) (R.field_on c w opening before) n (runs_then _ room (runs_call (Expression (up c) w) (R.value_on c w opening before key) e r))
+
+gives_property : (before : Properties) (key : Text × Position) (x : Node) (s : State) → Runs (Ret (with_property before key.0 key.1 x)) s (Done (joined_properties before (one_property key.0 key.1 x no_properties)) s)
+gives_property before key x s =
+    let ps = with_property before key.0 key.1 x in
+    subst (λ all. Runs (Ret ps) s (Done all s)) (last_property before key.0 key.1 x) (runs_ret ps s)
+
+property_last : (c : Settings) (w : Context) (opening : Position) (before : Properties) (key : Text × Position) (x : Node) (closing : Position) (s : Point) (b : Bool) → StandsAt (Sign RightBrace) closing s
+    → Runs (R.value_on c w opening before key x) (at s b) (Done (joined_properties before (one_property key.0 key.1 x no_properties)) (at (past code s) false))
+property_last c w opening before key x closing s b e =
+    runs_peek (item (Sign RightBrace) closing) e refl (runs_take (item (Sign RightBrace) closing) e refl (gives_property before key x _))
+
+property_more : (c : Settings) (w : Context) (opening : Position) (before : Properties) (key : Text × Position) (x : Node) (comma : Position) (s : Point) (b : Bool) (o : Outcome Properties) → StandsAt (Sign Comma) comma s
+    → Runs (body (R.Fields c w opening (with_property before key.0 key.1 x))) (at (past code s) false) o → Runs (R.value_on c w opening before key x) (at s b) o
+property_more c w opening before key x comma s b o e r =
+    runs_peek (item (Sign Comma) comma) e refl (runs_take (item (Sign Comma) comma) e refl (runs_tail (R.Fields c w opening (with_property before key.0 key.1 x)) r))
+
+-- ---- links
+
+-- an index, up to its `]`
+index_runs : (c : Settings) (w : Context) (indexed : Option Node) (x : Node) (closing : Position) (s : State) (u : Point) (b : Bool) → Runs (body (Expression c w)) s (Done x (at u b)) → index_refusal indexed x ≡ None → StandsAt (Sign RightBracket) closing u
+    → Runs (body (R.Index c w indexed)) s (Done x (at (past code u) false))
+index_runs c w indexed x closing s u b r none stands =
+    runs_call (Expression c w) _ r (subst (λ v. Runs (R.index_on x v) (at u b) (Done x (at (past code u) false))) (sym none)
+    (runs_peek (item (Sign RightBracket) closing) stands refl (runs_take (item (Sign RightBracket) closing) stands refl (runs_ret x _))))
+
+-- a bracket, and the links behind it
+bracket_runs : (w : Context) (q : LinkSpot) (opening : Lexeme) (pos : Position) (x : Node) (s : Point) (t : State) → is_bracket (linking opening) ≡ true → StandsAt opening pos s → low q.brackets ≡ true → low (up q.brackets) ≡ true
+    → Runs (body (R.Index (up (up q.brackets)) w q.indexed)) (at (past code s) false) (Done x t) → (b : Bool) (o : Outcome (List Link)) → Runs (body (R.Links w (behind_bracket q (bracket_link opening pos x)))) t o → Runs (body (R.Links w q)) (at s b) o
+bracket_runs w q opening pos x s t is stands room more e b o r =
+    let can = bracket_readable opening is in
+    runs_peek (item opening pos) stands can (subst (λ v. Runs (R.links_at w q opening pos v) (at s true) o) (sym (bracket_is (linking opening) is))
+    (runs_take (item opening pos) stands can (runs_then _ room (runs_then _ more
+    (runs_call (R.Index (up (up q.brackets)) w q.indexed) _ e (runs_tail (R.Links w (behind_bracket q (bracket_link opening pos x))) r))))))
+
+-- a dot with a member, and the links behind it
+dot_runs : (w : Context) (q : LinkSpot) (dot : Lexeme) (pos : Position) (name : Lexeme) (name_at : Position) (x : Node) (s : Point) (t : State) → is_dot (linking dot) ≡ true → StandsAt dot pos s → is_member (member_place name) ≡ true → StandsAt name name_at (past code s) → low q.settings ≡ true
+    → Runs (body (R.Member (up q.settings) w)) (at (past code s) true) (Done x t) → (b : Bool) (o : Outcome (List Link)) → Runs (body (R.Links w (behind_dot q (member_link dot pos x)))) t o → Runs (body (R.Links w q)) (at s b) o
+dot_runs w q dot pos name name_at x s t is stands member named room e b o r =
+    let can = dot_readable dot is in
+    runs_peek (item dot pos) stands can (subst (λ v. Runs (R.links_at w q dot pos v) (at s true) o) (sym (dot_is (linking dot) is))
+    (runs_take (item dot pos) stands can (runs_peek (item name name_at) named (member_readable name member)
+    (subst (λ v. Runs (R.dot_at w q dot pos name_at v) (at (past code s) true) o) (sym (member_is (member_place name) member))
+    (runs_then _ room (runs_call (R.Member (up q.settings) w) _ e (runs_tail (R.Links w (behind_dot q (member_link dot pos x))) r)))))))
+
+-- a property's name
+property_name : (c : Settings) (w : Context) (name : Text) (pos : Position) (s : Point) → StandsAt (Name name) pos s → verdict W.uncalled_member (next_at code (past code s)).lexeme ≡ Fine
+    → Runs (body (R.Member c w)) (at s true) (Done (property name pos) (at (past code s) true))
+property_name c w name pos s stands m =
+    let l = (next_at code (past code s)).lexeme in
+    let free = fine W.uncalled_member l m in
+    runs_peek (item (Name name) pos) stands refl (runs_take (item (Name name) pos) stands refl (runs_look free.0 (runs_else _ (goes_by (calls l) free.1) (runs_ret _ _))))
+
+-- a method with its arguments
+method_runs : (bang : Bool) (args : Arguments) (c : Settings) (w : Context) (name : Lexeme) (pos : Position) (k : Demands) (s t : Point) → is_memory name ≡ false → StandsAt name pos s → (a : Invoked bang args c w pos k (past code s) t)
+    → Runs (body (R.Member c w)) (at s true) (Done (method_tree (text_of name) pos bang (argument_trees args w)) (at a.end false))
+method_runs bang args c w name pos k s t can stands a =
+    runs_peek (item name pos) stands can (runs_take (item name pos) stands can (runs_look a.readable (runs_then _ a.calls_here
+    (runs_call (R.Called c w pos) _ (a.runs true) (runs_ret _ _)))))
+
+-- behind the last link
+links_stop : (w : Context) (q : LinkSpot) (s : Point) (b : Bool) → verdict W.unlinked (next_at code s).lexeme ≡ Fine → last_fault q.before ≡ None → Runs (body (R.Links w q)) (at s b) (Done (q.before ++ []) (at s true))
+links_stop w q s b m none =
+    let l = (next_at code s).lexeme in
+    let free = fine W.unlinked l m in
+    runs_look free.0 (subst (λ v. Runs (R.links_at w q l (next_at code s).at v) (at s true) (Done (q.before ++ []) (at s true))) (sym (no_link (linking l) (goes_by (is_link (linking l)) free.1)))
+    (subst (λ v. Runs (R.links_end q.before v) (at s true) (Done (q.before ++ []) (at s true))) (sym none)
+    (subst (λ ls. Runs (Ret q.before) (at s true) (Done ls (at s true))) (sym (append-nil q.before)) (runs_ret q.before _))))
+
+-- a link that is read, and those behind it
+link_goes : (w : Context) (q d : LinkSpot) (l : Link) (ls : List Link) (k : Demands) (s u t : Point) (c : Bool) → d.before ≡ q.before ++ (l ∷ []) → ((b : Bool) (o : Outcome (List Link)) → Runs (body (R.Links w d)) (at u c) o → Runs (body (R.Links w q)) (at s b) o)
+    → Goes (body (R.Links w d)) u (d.before ++ ls) k t → Goes (body (R.Links w q)) s (q.before ++ (l ∷ ls)) k t
+link_goes w q d l ls k s u t c one more g =
+    let all = ap (λ xs. xs ++ ls) one ∙ behind_one_more q.before l ls in
+    record {
+      end = g.end;
+      met = g.met;
+      looked = g.looked;
+      runs = λ b. more b _ (subst (λ xs. Runs (body (R.Links w d)) (at u c) (Done xs (at g.end g.looked))) all (g.runs c));
+    }
+
+-- an operand with its links
+linked : (x : Base) (ls : List Link) (c : Settings) (w : Context) (ranged : Bool) (j k : Demands) (s t : Point) → (p : Based x c w j s t) → Goes (body (R.Links w (behind_operand c (base_tree x w)))) p.end ls k t → Goes (body (R.Operand c w ranged)) s (chained (base_tree x w) ls) k t
+linked x ls c w ranged j k s t p g =
+    let y = base_tree x w in
+    record {
+      end = g.end;
+      met = g.met;
+      looked = g.looked;
+      runs = opened c w ranged s _ p.begins_here (p.runs (links_on c w) _ (runs_call (R.Links w (behind_operand c y)) (λ zs. Ret (chained y zs)) (g.runs p.looked) (runs_ret _ _)));
+    }
 
 -- ---- expressions
 
@@ -314,7 +509,7 @@ no_operator (Unknown t) e = absurd cc
 no_operator Other e = refl
 
 -- a run with the two ends of an expression
-expressed : (f : Run) (c : Settings) (w : Walk) (k : Demands) (s t : Point) → verdict (room_due c) (next_at code s).lexeme ≡ Fine → Reads f (outermost (up c) w) (ended k) s t → Goes (body (Expression c w)) s (tree f w) k t
+expressed : (f : Run) (c : Settings) (w : Context) (k : Demands) (s t : Point) → verdict (room_due c) (next_at code s).lexeme ≡ Fine → Reads f (outermost (up c) w) (ended k) s t → Goes (body (Expression c w)) s (tree f w) k t
 expressed f c w k s t m reads =
     let q = outermost (up c) w in
     let room = fine (room_due c) (next_at code s).lexeme m in
@@ -333,7 +528,7 @@ expressed f c w k s t m reads =
 -- ---- forms
 
 mutual
-  pub primary : (x : Primary) (c : Settings) (w : Walk) (ranged called : Bool) (k : Demands) (s t : Point) → Met (W.primary x c w ranged k) s t → Opened x c w called k s t
+  pub primary : (x : Primary) (c : Settings) (w : Context) (ranged called : Bool) (k : Demands) (s t : Point) → Met (W.primary x c w ranged k) s t → Opened x c w called k s t
   primary (form.Value token pos) c w ranged called k s t m = record {
     begins_here = standing_here token pos s m.1.0 (value_primary (beginning token) m.0);
     end = past code s;
@@ -348,7 +543,7 @@ mutual
     met = m.1;
     looked = true;
     runs = λ u b. runs_peek (item (Name name) pos) m.0 refl (runs_take (item (Name name) pos) m.0 refl (runs_look u.0
-        (subst (λ v. Runs (Ret (name_tree w v name pos)) (at (past code s) true) (Done (name_tree w called name pos) (at (past code s) true))) (sym (u.1 refl)) (runs_ret _ _))));
+        (subst (λ v. Runs (Ret (name_tree w.slots v name pos)) (at (past code s) true) (Done (name_tree w.slots called name pos) (at (past code s) true))) (sym (u.1 refl)) (runs_ret _ _))));
   }
   primary (form.Word word pos) c w ranged called k s t m = record {
     begins_here = standing_here (Reserved word) pos s m.0 refl;
@@ -371,6 +566,26 @@ mutual
         runs = λ u b. runs_peek (item (Sign LeftParen) opening) m.0 refl (runs_take (item (Sign LeftParen) opening) m.0 refl (runs_then _ m.1.0
             (runs_call (Expression d w) _ (e.runs false) (runs_peek (item (Sign RightParen) closing) e.met.0 refl (runs_take (item (Sign RightParen) closing) e.met.0 refl (runs_ret _ _))))));
       }
+  primary (form.Array opening list) c w ranged called k s t m =
+      let e = elements list (up c) w opening no_nodes k (past code s) t m.1.1 in
+      record {
+        begins_here = standing_here (Sign LeftBracket) opening s m.0 refl;
+        end = e.end;
+        met = e.met;
+        looked = e.looked;
+        runs = λ u b. runs_peek (item (Sign LeftBracket) opening) m.0 refl (runs_take (item (Sign LeftBracket) opening) m.0 refl (runs_then _ m.1.0
+            (runs_call (R.Elements (up c) w opening no_nodes) (λ ns. Ret (array ns opening)) (e.runs false) (runs_ret _ _))));
+      }
+  primary (form.Map opening list) c w ranged called k s t m =
+      let e = fields list (up c) w opening no_properties k (past code s) t m.1.1 in
+      record {
+        begins_here = standing_here (Sign MapStart) opening s m.0 refl;
+        end = e.end;
+        met = e.met;
+        looked = e.looked;
+        runs = λ u b. runs_peek (item (Sign MapStart) opening) m.0 refl (runs_take (item (Sign MapStart) opening) m.0 refl (runs_then _ m.1.0
+            (runs_call (R.Fields (up c) w opening no_properties) (λ ps. Ret (object_map ps opening)) (e.runs false) (runs_ret _ _))));
+      }
   primary (form.Zero range pos) c w ranged called k s t m = record {
     begins_here = standing_here range pos s m.1.0 (range_primary (beginning range) m.0);
     end = s;
@@ -379,48 +594,91 @@ mutual
     runs = λ u b. runs_peek (item range pos) m.1.0 (begun_readable range (primary_begun _ (range_primary (beginning range) m.0))) (range_runs c w range pos (beginning range) _ _ m.0 (runs_ret _ _));
   }
 
-  pub operand : (x : Operand) (c : Settings) (w : Walk) (ranged : Bool) (k : Demands) (s t : Point) → Met (W.operand x c w ranged k) s t → Goes (body (R.Operand c w ranged)) s (operand_tree x w) k t
-  operand (form.Plain x) c w ranged k s t m =
+  pub base : (x : Base) (c : Settings) (w : Context) (ranged : Bool) (k : Demands) (s t : Point) → Met (W.base x c w ranged k) s t → Based x c w k s t
+  base (form.Plain x) c w ranged k s t m =
       let p = primary x c w ranged false _ s t m in
       let n = primary_tree x w false in
       let l = (next_at code p.end).lexeme in
       let free = fine (W.uncalled n) l p.met.0 in
       let usable : Usable n false p.end = (free.0, uncalled_by (is_variable n) (calls l) free.1) in
       record {
+        begins_here = p.begins_here;
         end = p.end;
         met = p.met.1;
         looked = true;
-        runs = opened c w ranged s _ p.begins_here (runs_call (R.Primary c w) _ (p.runs usable true) (runs_tail (R.Postfix c w n) (postfix_stops c w n p.end p.looked usable)));
+        runs = λ rest o r. runs_call (R.Primary c w) _ (p.runs usable true) (runs_call (R.Postfix c w n) rest (postfix_stops c w n p.end p.looked usable) r);
       }
-  operand (form.Call x None args) c w ranged k s t m =
+  base (form.Call x None args) c w ranged k s t m =
       let p = primary x c w ranged true _ s t m in
-      let n = primary_tree x w true in
-      let a = arguments args W.anything c w n k p.end t p.met.1 in
-      let l = a.first.lexeme in
-      let can = list_readable l a.lists in
-      let usable : Usable n true p.end = subst (λ (i : Item). (is_memory i.lexeme ≡ false) × (is_variable n ≡ true → calls i.lexeme ≡ true)) (sym a.stands) (can, λ e. list_call (calling l) a.lists) in
+      let name = position_of (primary_tree x w true) in
+      let a = without_bang args c w name k p.end t (arguments args W.anything c w name k p.end t p.met.1) in
       record {
+        begins_here = p.begins_here;
         end = a.end;
         met = a.met;
         looked = false;
-        runs = opened c w ranged s _ p.begins_here (runs_call (R.Primary c w) _ (p.runs usable true) (runs_tail (R.Postfix c w n)
-            (runs_peek a.first a.stands can (runs_then _ p.met.0 (call_lists c w n (calling l) _ _ a.lists (a.runs false true))))));
+        runs = called_base x false args c w k s p.end t p.looked p.met.0 (p.runs (a.readable, λ e. a.calls_here) true) a;
       }
-  operand (form.Call x (Some bang) args) c w ranged k s t m =
+  base (form.Call x (Some bang) args) c w ranged k s t m =
       let p = primary x c w ranged true _ s t m in
-      let n = primary_tree x w true in
-      let stands = p.met.1.0 in
-      let a = arguments args W.list_due c w n k (past code p.end) t p.met.1.1 in
-      let l = a.first.lexeme in
-      let usable : Usable n true p.end = subst (λ (i : Item). (is_memory i.lexeme ≡ false) × (is_variable n ≡ true → calls i.lexeme ≡ true)) (sym stands) (refl, λ e. refl) in
+      let name = position_of (primary_tree x w true) in
+      let a = with_bang bang args c w name k p.end t p.met.1.0 (arguments args W.list_due c w name k (past code p.end) t p.met.1.1) in
       record {
+        begins_here = p.begins_here;
         end = a.end;
         met = a.met;
         looked = false;
-        runs = opened c w ranged s _ p.begins_here (runs_call (R.Primary c w) _ (p.runs usable true) (runs_tail (R.Postfix c w n)
-            (runs_peek (item (Sign Bang) bang) stands refl (runs_then _ p.met.0 (runs_take (item (Sign Bang) bang) stands refl
-            (runs_peek a.first a.stands (list_readable l a.lists) (bang_lists c w n l a.first.at (calling l) _ _ a.lists (a.runs true true))))))));
+        runs = called_base x true args c w k s p.end t p.looked p.met.0 (p.runs (a.readable, λ e. a.calls_here) true) a;
       }
+
+  pub links : (x : Links) (q : LinkSpot) (w : Context) (k : Demands) (s t : Point) → Met (W.links x q w k) s t → Goes (body (R.Links w q)) s (q.before ++ link_list x w) k t
+  links form.NoLink q w k s t m =
+      let free = unrefused (last_fault q.before) k s t m.1 in
+      record { end = s; met = free.1; looked = true; runs = λ b. links_stop w q s b m.0 free.0 }
+  links (form.Bracket opening pos f closing rest) q w k s t m =
+      let d = up (up q.brackets) in
+      let x = tree f w in
+      let e = expressed f d w _ (past code s) t m.1.1.1.1.0 (run f (outermost (up d) w) _ (past code s) t m.1.1.1.1.1) in
+      let i = unrefused (index_refusal q.indexed x) _ e.end t e.met in
+      let l = bracket_link opening pos x in
+      let u = past code e.end in
+      link_goes w q (behind_bracket q l) l (link_list rest w) k s u t false refl
+      (bracket_runs w q opening pos x s (at u false) m.0 m.1.0 m.1.1.0 m.1.1.1.0 (index_runs d w q.indexed x closing (at (past code s) false) e.end e.looked (e.runs false) i.0 i.1.0))
+      (links rest (behind_bracket q l) w k u t i.1.1)
+  links (form.Property dot pos name name_at rest) q w k s t m =
+      let x = property name name_at in
+      let l = member_link dot pos x in
+      let p = past code s in
+      let u = past code p in
+      let h = m.1.1.1 in
+      link_goes w q (behind_dot q l) l (link_list rest w) k s u t true refl
+      (dot_runs w q dot pos (Name name) name_at x s (at u true) m.0 m.1.0 refl h.1.0 h.0 (property_name (up q.settings) w name name_at p h.1.0 h.1.1.0))
+      (links rest (behind_dot q l) w k u t h.1.1.1)
+  links (form.Method dot pos name name_at None args rest) q w k s t m =
+      let c = up q.settings in
+      let x = method_tree (text_of name) name_at false (argument_trees args w) in
+      let l = member_link dot pos x in
+      let p = past code s in
+      let h = m.1.1.1.1 in
+      let a = without_bang args c w name_at _ (past code p) t (arguments args W.anything c w name_at _ (past code p) t h.1.1.1) in
+      link_goes w q (behind_dot q l) l (link_list rest w) k s a.end t false refl
+      (dot_runs w q dot pos name name_at x s (at a.end false) m.0 m.1.1.0 m.1.0 h.1.0 h.0 (method_runs false args c w name name_at _ p t (member_readable name m.1.0) h.1.0 a))
+      (links rest (behind_dot q l) w k a.end t a.met)
+  links (form.Method dot pos name name_at (Some bang) args rest) q w k s t m =
+      let c = up q.settings in
+      let x = method_tree (text_of name) name_at true (argument_trees args w) in
+      let l = member_link dot pos x in
+      let p = past code s in
+      let h = m.1.1.1.1 in
+      let a = with_bang bang args c w name_at _ (past code p) t h.1.1.1.0 (arguments args W.list_due c w name_at _ (past code (past code p)) t h.1.1.1.1) in
+      link_goes w q (behind_dot q l) l (link_list rest w) k s a.end t false refl
+      (dot_runs w q dot pos name name_at x s (at a.end false) m.0 m.1.1.0 m.1.0 h.1.0 h.0 (method_runs true args c w name name_at _ p t (member_readable name m.1.0) h.1.0 a))
+      (links rest (behind_dot q l) w k a.end t a.met)
+
+  pub operand : (x : Operand) (c : Settings) (w : Context) (ranged : Bool) (k : Demands) (s t : Point) → Met (W.operand x c w ranged k) s t → Goes (body (R.Operand c w ranged)) s (operand_tree x w) k t
+  operand (form.Linked x list) c w ranged k s t m =
+      let p = base x c w ranged _ s t m in
+      linked x (link_list list w) c w ranged _ k s t p (links list (behind_operand c (base_tree x w)) w k p.end t p.met)
   operand (form.Signed sign pos x) c w ranged k s t m =
       let e = operand x (up c) w false _ (past code s) t m.1.1.1 in
       let can = sign_begun (beginning sign) m.0 in
@@ -439,8 +697,8 @@ mutual
     runs = λ b. runs_peek (item token pos) m.1.0 (unwritten_readable ranged token m.0) (runs_then _ m.0 (runs_ret _ _));
   }
 
-  pub arguments : (x : Arguments) (others : Lexeme → Verdict) (c : Settings) (w : Walk) (n : Node) (k : Demands) (s t : Point) → Met (W.arguments x others c w (position_of n) k) s t → Listed x c w n k s t
-  arguments (form.EmptyPair pos) others c w n k s t m = record {
+  pub arguments : (x : Arguments) (others : Lexeme → Verdict) (c : Settings) (w : Context) (name : Position) (k : Demands) (s t : Point) → Met (W.arguments x others c w name k) s t → Listed x c w name k s t
+  arguments (form.EmptyPair pos) others c w name k s t m = record {
     first = item (Sign mark.Unit) pos;
     stands = m.0;
     lists = refl;
@@ -448,16 +706,16 @@ mutual
     met = m.1;
     runs = λ bang b. runs_take (item (Sign mark.Unit) pos) m.0 refl (runs_ret _ _);
   }
-  arguments (form.Empty opening closing) others c w n k s t m = record {
+  arguments (form.Empty opening closing) others c w name k s t m = record {
     first = item (Sign LeftParen) opening;
     stands = m.0;
     lists = refl;
     end = past code (past code s);
     met = m.1.1;
-    runs = λ bang b. runs_take (item (Sign LeftParen) opening) m.0 refl (runs_call (R.Arguments c w (position_of n)) _
+    runs = λ bang b. runs_take (item (Sign LeftParen) opening) m.0 refl (runs_call (R.Arguments c w name) _
         (runs_peek (item (Sign RightParen) closing) m.1.0 refl (runs_take (item (Sign RightParen) closing) m.1.0 refl (runs_ret _ _))) (runs_ret _ _));
   }
-  arguments (form.Listed opening list) others c w n k s t m =
+  arguments (form.Listed opening list) others c w name k s t m =
       let l = (next_at code (past code s)).lexeme in
       let e = items list (up c) w no_nodes k (past code s) t m.1.1.1 in
       let argument = fine W.argument_due l m.1.0 in
@@ -468,11 +726,11 @@ mutual
         lists = refl;
         end = e.end;
         met = e.met;
-        runs = λ bang b. runs_take (item (Sign LeftParen) opening) m.0 refl (runs_call (R.Arguments c w (position_of n)) _
+        runs = λ bang b. runs_take (item (Sign LeftParen) opening) m.0 refl (runs_call (R.Arguments c w name) _
             (runs_look argument.0 (runs_else _ tests.0 (runs_else _ tests.1 (runs_then _ m.1.1.0 (runs_tail (R.Items (up c) w no_nodes) (e.runs true)))))) (runs_ret _ _));
       }
 
-  pub items : (x : Items) (c : Settings) (w : Walk) (before : Nodes) (k : Demands) (s t : Point) → Met (W.items x c w k) s t → Ended c w before (joined before (item_trees x w)) k s t
+  pub items : (x : Items) (c : Settings) (w : Context) (before : Nodes) (k : Demands) (s t : Point) → Met (W.items x c w k) s t → Ended c w before (joined before (item_trees x w)) k s t
   items (form.Last f closing) c w before k s t m =
       let e = expressed f c w _ s t m.0 (run f (outermost (up c) w) _ s t m.1) in
       record {
@@ -501,6 +759,70 @@ mutual
         runs = λ b. runs_call (Expression c w) _ (e.runs b) (runs_peek (item (Sign Comma) comma) e.met.0 refl (runs_take (item (Sign Comma) comma) e.met.0 refl
             (runs_look on.0 (runs_else _ (goes_by (is_close (following l)) on.1) (runs_tail (R.Items c w before_rest)
             (subst (λ ns. Runs (body (R.Items c w before_rest)) (at (past code e.end) true) (Done ns (at g.end false))) (added before (tree f w) (item_trees rest w)) (g.runs true)))))));
+      }
+
+  pub elements : (x : Elements) (c : Settings) (w : Context) (opening : Position) (before : Nodes) (k : Demands) (s t : Point) → Met (W.elements x (node_count before) c w opening k) s t → Goes (body (R.Elements c w opening before)) s (joined before (element_trees x w)) k t
+  elements (form.NoElement closing) c w opening before k s t m = record {
+    end = past code s;
+    met = m.1;
+    looked = false;
+    runs = λ b. runs_peek (item (Sign RightBracket) closing) m.0 refl (runs_take (item (Sign RightBracket) closing) m.0 refl
+        (subst (λ ns. Runs (Ret before) (at (past code s) false) (Done ns (at (past code s) false))) (sym (joined_none before)) (runs_ret before _)));
+  }
+  elements (form.LastElement f closing) c w opening before k s t m =
+      let d = up c in
+      let e = expressed f d w _ s t m.1.1.0 (run f (outermost (up d) w) _ s t m.1.1.1) in
+      record {
+        end = past code e.end;
+        met = e.met.1;
+        looked = false;
+        runs = λ b. element_runs c w opening before (tree f w) s b _ _ m.0 m.1.0 (e.runs true) (element_last c w opening before (tree f w) closing e.end e.looked e.met.0);
+      }
+  elements (form.Element f comma rest) c w opening before k s t m =
+      let d = up c in
+      let x = tree f w in
+      let before_rest = with_node before x in
+      let e = expressed f d w _ s t m.1.1.0 (run f (outermost (up d) w) _ s t m.1.1.1) in
+      let g = elements rest c w opening before_rest k (past code e.end) t (subst (λ count. Met (W.elements rest count c w opening k) (past code e.end) t) (sym (one_more_node before x)) e.met.1) in
+      record {
+        end = g.end;
+        met = g.met;
+        looked = g.looked;
+        runs = λ b. element_runs c w opening before x s b _ _ m.0 m.1.0 (e.runs true) (element_more c w opening before x comma e.end e.looked _ e.met.0
+            (subst (λ ns. Runs (body (R.Elements c w opening before_rest)) (at (past code e.end) false) (Done ns (at g.end g.looked))) (added before x (element_trees rest w)) (g.runs false)));
+      }
+
+  pub fields : (x : Fields) (c : Settings) (w : Context) (opening : Position) (before : Properties) (k : Demands) (s t : Point) → Met (W.fields x before c w opening k) s t → Goes (body (R.Fields c w opening before)) s (joined_properties before (field_trees x w)) k t
+  fields (form.NoField closing) c w opening before k s t m = record {
+    end = past code s;
+    met = m.1;
+    looked = false;
+    runs = λ b. runs_call (R.NextKey c w before) (R.field_on c w opening before) (runs_peek (item (Sign RightBrace) closing) m.0 refl (runs_take (item (Sign RightBrace) closing) m.0 refl (runs_ret None _)))
+        (subst (λ ps. Runs (Ret before) (at (past code s) false) (Done ps (at (past code s) false))) (sym (properties_none before)) (runs_ret before _));
+  }
+  fields (form.LastField key pos colon f closing) c w opening before k s t m =
+      let d = up c in
+      let n = keyed key pos colon before c w opening (W.expression f d w (Tok code (item (Sign RightBrace) closing) W.value_follows ▸ k)) s t m in
+      let e = expressed f d w _ n.end t n.met.1.0 (run f (outermost (up d) w) _ n.end t n.met.1.1) in
+      record {
+        end = past code e.end;
+        met = e.met.1;
+        looked = false;
+        runs = λ b. property_runs c w opening before (text_of key, pos) (tree f w) _ _ _ _ n.met.0 (n.runs b) (e.runs n.looked) (property_last c w opening before (text_of key, pos) (tree f w) closing e.end e.looked e.met.0);
+      }
+  fields (form.Field key pos colon f comma rest) c w opening before k s t m =
+      let d = up c in
+      let x = tree f w in
+      let before_rest = with_property before (text_of key) pos x in
+      let n = keyed key pos colon before c w opening (W.expression f d w (Tok code (item (Sign Comma) comma) W.value_follows ▸ W.fields rest before_rest c w opening k)) s t m in
+      let e = expressed f d w _ n.end t n.met.1.0 (run f (outermost (up d) w) _ n.end t n.met.1.1) in
+      let g = fields rest c w opening before_rest k (past code e.end) t e.met.1 in
+      record {
+        end = g.end;
+        met = g.met;
+        looked = g.looked;
+        runs = λ b. property_runs c w opening before (text_of key, pos) x _ _ _ _ n.met.0 (n.runs b) (e.runs n.looked) (property_more c w opening before (text_of key, pos) x comma e.end e.looked _ e.met.0
+            (subst (λ ps. Runs (body (R.Fields c w opening before_rest)) (at (past code e.end) false) (Done ps (at g.end g.looked))) (added_property before (text_of key) pos x (field_trees rest w)) (g.runs false)));
       }
 
   pub run : (f : Run) (q : Spot) (k : Demands) (s t : Point) → Met (W.run f q k) s t → Reads f q k s t
@@ -545,11 +867,11 @@ mutual
         climbs = λ h p a o next. left.climbs (subst (λ (i : Item). Shut l (behind_of i.lexeme)) (sym stands) (left.shut op is fits)) p a o (step q op pos l r k p left.end t o is (a op is side) stands right h.1 h.0 next);
       }
 
-pub expression : (f : Run) (c : Settings) (w : Walk) (k : Demands) (s t : Point) → Met (W.expression f c w k) s t → Goes (body (Expression c w)) s (tree f w) k t
+pub expression : (f : Run) (c : Settings) (w : Context) (k : Demands) (s t : Point) → Met (W.expression f c w k) s t → Goes (body (Expression c w)) s (tree f w) k t
 expression f c w k s t m = expressed f c w k s t m.0 (run f (outermost (up c) w) (ended k) s t m.1)
 
 -- what is written so is read so
-pub complete : (c : Settings) (w : Walk) (f : Run) (s t : Point) (b : Bool) → Met (W.whole_expression f c w) s t → Runs (body (Whole c w)) (at s b) (Done (tree f w) (at t true))
+pub complete : (c : Settings) (w : Context) (f : Run) (s t : Point) (b : Bool) → Met (W.whole_expression f c w) s t → Runs (body (Whole c w)) (at s b) (Done (tree f w) (at t true))
 complete c w f s t b m =
     let e = expression f c w _ s t m in
     let end = fine end_due (next_at code e.end).lexeme e.met.0 in

@@ -4,7 +4,9 @@ pub mod Strengths
 pub mod Rules
 pub mod Beginnings
 pub mod Tokens
+pub mod Places
 pub mod Looks
+pub mod Rooms
 pub mod Complete
 pub mod Local
 pub mod Readable

@@ -4,7 +4,7 @@ use Rattle.rhai_lower.specs.Lexemes.{Lexeme}
 use Rattle.rhai_lower.specs.Nodes.{Node}
 use Rattle.rhai_lower.specs.declared.position.Position.{Position}
 use Rattle.rhai_grammar.specs.Delivered.{code, Point, next_at, is_memory}
-use Rattle.rhai_grammar.specs.Walks.{Walk}
+use Rattle.rhai_grammar.specs.Contexts.{Context}
 use Rattle.rhai_grammar.specs.Strengths.{Behind, Operator, Unknown, Other, behind_of}
 use Rattle.rhai_grammar.specs.Demands.{Verdict, Fine, Otherwise, verdict}
 use Rattle.rhai_grammar.specs.Written.{Height}
@@ -24,7 +24,7 @@ operator_in (Operator n right) = Some (n, right)
 operator_in (Unknown t) = None
 operator_in Other = None
 
-abbrev pub climb : Height → Walk → ℕ → Node → Goal
+abbrev pub climb : Height → Context → ℕ → Node → Goal
 climb h w p x = BinaryOp h.settings w h.at p x
 
 verdict_by : (m : Bool) (v : Verdict) → (if m then Otherwise else v) ≡ Fine → (m ≡ false) × (v ≡ Fine)

@@ -1,39 +1,56 @@
 -- The reader as a program that asks a stream. It stands between the code and the definitions: no public promise speaks of it.
-use Rattle.std.specs.Prelude.{ℕ, Bool, true, false, Option, Some, None, ◌==◌, ◌||◌, ◌&&◌, nat_lt, codes, if◌then◌else◌}
+use Rattle.std.specs.Prelude.{ℕ, Bool, true, false, Option, Some, None, List, ◌==◌, ◌||◌, ◌&&◌, nat_lt, codes, if◌then◌else◌}
 use Rattle.rhai_lower.specs.Texts.{Text}
-use Rattle.rhai_lower.specs.Lexemes.{Lexeme}
-use Rattle.rhai_lower.specs.Nodes.{Node, Nodes, unit, integer, this, no_nodes, with_node, position_of}
+use Rattle.rhai_lower.specs.Lexemes.{Lexeme, text_of}
+use Rattle.rhai_lower.specs.Nodes.{Node, Nodes, Properties, unit, integer, array, object_map, property, this, no_nodes, with_node, no_properties, with_property, position_of}
 use Rattle.rhai_lower.specs.declared.position.Position.{Position}
 use Rattle.rhai_grammar.specs.Causes as cause
 use Rattle.rhai_grammar.specs.Causes.{Refusal, refusal}
 use Rattle.rhai_grammar.specs.Delivered.{is_end}
 use Rattle.rhai_grammar.specs.Settings.{Settings, low, up, in_function}
-use Rattle.rhai_grammar.specs.Walks.{Walk}
+use Rattle.rhai_grammar.specs.Contexts.{Context, full}
+use Rattle.rhai_grammar.specs.Literals.{ItemPlace, ItemsEnd, AnItem, NoItem, item_place, behind_item, KeyPlace, FieldsEnd, AKey, NoKey, has_key, property_count, is_colon, too_many_fields, behind_value}
+use Rattle.rhai_grammar.specs.Written.{next_key, LinkSpot, behind_operand, behind_bracket, behind_dot}
+use Rattle.rhai_grammar.specs.Chains.{Link, chained, index_refusal, last_fault}
 use Rattle.rhai_grammar.specs.Beginnings as begin
-use Rattle.rhai_grammar.specs.Beginnings.{Beginning, beginning, unexpected, missing, is_range, closes, Calling, calling, calls, may_be_called, is_this, Following, following, no_argument, is_close}
+use Rattle.rhai_grammar.specs.Beginnings.{Beginning, beginning, unexpected, missing, is_range, closes, Calling, calling, calls, may_be_called, is_this, Following, following, no_argument, is_close, Linking, ABracket, ADot, NoLinking, linking, closes_index, is_name, MemberPlace, AMember, NoMember, member_place}
 use Rattle.rhai_grammar.specs.Signs.{signed, sign_holds, malformed}
 use Rattle.rhai_grammar.specs.Operators.{operator_tree, boolean_holds, mismatched}
 use Rattle.rhai_grammar.specs.Strengths.{Behind, Operator, Unknown, Other, behind_of}
-use Rattle.rhai_grammar.specs.Trees.{name_tree, variable_of, is_variable, call_tree}
+use Rattle.rhai_grammar.specs.Trees.{name_tree, variable_of, is_variable, node_count, call_tree, bracket_link, member_link, method_tree}
 
 -- What is read by a call: a constructor for each reader of the code, with what it is given.
 pub data Goal : Type 0 where
   -- an expression up to the end mark
-  Whole : Settings → Walk → Goal
-  Expression : Settings → Walk → Goal
+  Whole : Settings → Context → Goal
+  Expression : Settings → Context → Goal
   -- an operand with its signs and its call; whether it stands directly behind a range operator
-  Operand : Settings → Walk → (ranged : Bool) → Goal
-  Primary : Settings → Walk → Goal
+  Operand : Settings → Context → (ranged : Bool) → Goal
+  Primary : Settings → Context → Goal
+  -- what calls a name: whether it has a `!`, and the arguments; at is where the raise of their level is refused
+  Called : Settings → Context → (at : Position) → Goal
+  -- the links behind an operand, up to what is no link
+  Links : Context → LinkSpot → Goal
+  -- the index in a bracket up to the `]`; whose index it is, if that is tested
+  Index : Settings → Context → (indexed : Option Node) → Goal
+  -- the member behind a dot
+  Member : Settings → Context → Goal
   -- what calls an operand, if it is a variable
-  Postfix : Settings → Walk → (operand : Node) → Goal
+  Postfix : Settings → Context → (operand : Node) → Goal
   -- the arguments behind a `(`; at is where the raise of their level is refused
-  Arguments : Settings → Walk → (at : Position) → Goal
+  Arguments : Settings → Context → (at : Position) → Goal
   -- an argument, and those that follow, behind these
-  Items : Settings → Walk → (before : Nodes) → Goal
+  Items : Settings → Context → (before : Nodes) → Goal
+  -- the items of an array, behind these, up to the `]`; at is where the raise of each level is refused
+  Elements : Settings → Context → (at : Position) (before : Nodes) → Goal
+  -- the properties of an object map, behind these, up to the `}`
+  Fields : Settings → Context → (at : Position) (before : Properties) → Goal
+  -- the key of one more property, with its colon; none where the `}` is
+  NextKey : Settings → Context → (before : Properties) → Goal
   -- what stands behind an operand: an operator's strength, and whether equal ones group to the right
   NextOperator : Goal
   -- the operators behind a left operand that go on with a run of this strength; at is where the next raise is refused
-  BinaryOp : Settings → Walk → (at : Position) (parent : ℕ) (lhs : Node) → Goal
+  BinaryOp : Settings → Context → (at : Position) (parent : ℕ) (lhs : Node) → Goal
 
 -- what it gives
 abbrev pub Val : Goal → Type 0
@@ -41,9 +58,16 @@ Val (Whole c w) = Node
 Val (Expression c w) = Node
 Val (Operand c w ranged) = Node
 Val (Primary c w) = Node
+Val (Called c w at) = Bool × Nodes
+Val (Links w q) = List Link
+Val (Index c w indexed) = Node
+Val (Member c w) = Node
 Val (Postfix c w x) = Node
 Val (Arguments c w at) = Nodes
 Val (Items c w before) = Nodes
+Val (Elements c w at before) = Nodes
+Val (Fields c w at before) = Properties
+Val (NextKey c w before) = Option (Text × Position)
 Val NextOperator = Option (ℕ × Bool)
 Val (BinaryOp c w at parent lhs) = Node
 
@@ -69,8 +93,8 @@ whole_at e l at = if is_end l then Ret e else Fail (refusal (unexpected l) at)
 -- ---- operands
 
 -- behind a name, which is no variable's where something calls it
-abbrev pub name_at : Walk → Text → Position → Lexeme → Position → Prog Node
-name_at w name at l pos = Ret (name_tree w (calls l) name at)
+abbrev pub name_at : Context → Text → Position → Lexeme → Position → Prog Node
+name_at w name at l pos = Ret (name_tree w.slots (calls l) name at)
 
 -- behind a reserved word
 abbrev pub word_at : Settings → Text → Position → Lexeme → Position → Prog Node
@@ -83,11 +107,13 @@ word_at c word at l pos =
 abbrev pub group_at : Node → Lexeme → Position → Prog Node
 group_at x l pos = if is_close (following l) then Take (Ret x) else Fail (refusal (missing (codes ")") l) pos)
 
-abbrev pub primary_at : Settings → Walk → Lexeme → Position → Beginning → Prog Node
+abbrev pub primary_at : Settings → Context → Lexeme → Position → Beginning → Prog Node
 primary_at c w l at (begin.Single node) = Take (Ret (node at))
 primary_at c w l at (begin.AName name) = Take (Peek (name_at w name at))
 primary_at c w l at (begin.AWord word) = Take (Peek (word_at c word at))
 primary_at c w l at begin.AGroup = Take (raised c at (λ d. Call (Expression d w) (λ x. Peek (group_at x))))
+primary_at c w l at begin.AnArray = Take (raised c at (λ d. Call (Elements d w at no_nodes) (λ ns. Ret (array ns at))))
+primary_at c w l at begin.AMap = Take (raised c at (λ d. Call (Fields d w at no_properties) (λ ps. Ret (object_map ps at))))
 primary_at c w l at begin.ASign = Fail (refusal (unexpected l) at)
 primary_at c w l at begin.ARange = Ret (integer (lib.IntN.pos 0) at)
 primary_at c w l at (begin.NoBeginning why) = Fail (refusal why at)
@@ -96,52 +122,131 @@ primary_at c w l at (begin.NoBeginning why) = Fail (refusal why at)
 abbrev pub sign_on : Lexeme → Position → Node → Prog Node
 sign_on sign at x = if sign_holds sign x then Ret (signed sign at x) else Fail (malformed at x)
 
-abbrev pub operand_by : Settings → Walk → Lexeme → Position → Beginning → Prog Node
+abbrev pub operand_by : Settings → Context → Lexeme → Position → Beginning → Prog Node
 operand_by c w l at begin.ASign = Take (raised c at (λ d. Call (Operand d w false) (sign_on l at)))
-operand_by c w l at _ = Call (Primary c w) (λ x. Call (Postfix c w x) Ret)
+operand_by c w l at _ = Call (Primary c w) (λ x. Call (Postfix c w x) (λ y. Call (Links w (behind_operand c y)) (λ ls. Ret (chained y ls))))
 
-abbrev pub operand_at : Settings → Walk → (ranged : Bool) → Lexeme → Position → Prog Node
+abbrev pub operand_at : Settings → Context → (ranged : Bool) → Lexeme → Position → Prog Node
 operand_at c w ranged l at = if ranged && closes l then Ret (unit at) else operand_by c w l at (beginning l)
 
 -- ---- calls
 
 -- behind the `(` of a call
-abbrev pub list_on : Settings → Walk → Node → (bang : Bool) → Prog Node
-list_on c w x bang = Take (Call (Arguments c w (position_of x)) (λ ns. Ret (call_tree x bang ns)))
+abbrev pub list_on : Settings → Context → Position → (bang : Bool) → Prog (Bool × Nodes)
+list_on c w name bang = Take (Call (Arguments c w name) (λ ns. Ret (bang, ns)))
 
 -- behind the `!` of a call
-abbrev pub bang_at : Settings → Walk → Node → Lexeme → Position → Calling → Prog Node
-bang_at c w x l at begin.WithPair = Take (Ret (call_tree x true no_nodes))
-bang_at c w x l at begin.WithList = list_on c w x true
-bang_at c w x l at _ = Fail (refusal (missing (codes "(") l) at)
+abbrev pub bang_at : Settings → Context → Position → Lexeme → Position → Calling → Prog (Bool × Nodes)
+bang_at c w name l at begin.WithPair = Take (Ret (true, no_nodes))
+bang_at c w name l at begin.WithList = list_on c w name true
+bang_at c w name l at _ = Fail (refusal (missing (codes "(") l) at)
 
-abbrev pub call_at : Settings → Walk → Node → Calling → Prog Node
-call_at c w x begin.WithPair = Take (Ret (call_tree x false no_nodes))
-call_at c w x begin.WithList = list_on c w x false
-call_at c w x begin.WithBang = Take (Peek (λ l at. bang_at c w x l at (calling l)))
-call_at c w x begin.NoCall = Ret x
+abbrev pub called_at : Settings → Context → Position → Calling → Prog (Bool × Nodes)
+called_at c w name begin.WithPair = Take (Ret (false, no_nodes))
+called_at c w name begin.WithList = list_on c w name false
+called_at c w name begin.WithBang = Take (Peek (λ l at. bang_at c w name l at (calling l)))
+called_at c w name begin.NoCall = Ret (false, no_nodes)
 
-abbrev pub postfix_at : Settings → Walk → Node → Lexeme → Position → Prog Node
-postfix_at c w x l at = if is_variable x then call_at c w x (calling l) else Ret x
+abbrev pub postfix_at : Settings → Context → Node → Lexeme → Position → Prog Node
+postfix_at c w x l at = if is_variable x && calls l then Call (Called c w (position_of x)) (λ a. Ret (call_tree x a.0 a.1)) else Ret x
 
-abbrev pub arguments_at : Settings → Walk → Position → Lexeme → Position → Prog Nodes
+abbrev pub arguments_at : Settings → Context → Position → Lexeme → Position → Prog Nodes
 arguments_at c w name l at =
     if no_argument l then Fail (refusal (missing (codes ")") l) at) else
     if is_close (following l) then Take (Ret no_nodes) else
     raised c name (λ d. Call (Items d w no_nodes) Ret)
 
 -- behind the comma of an argument
-abbrev pub comma_at : Settings → Walk → Nodes → Lexeme → Position → Prog Nodes
+abbrev pub comma_at : Settings → Context → Nodes → Lexeme → Position → Prog Nodes
 comma_at c w ns l at = if is_close (following l) then Take (Ret ns) else Call (Items c w ns) Ret
 
 -- behind an argument
-abbrev pub items_at : Settings → Walk → Nodes → Position → Following → Prog Nodes
+abbrev pub items_at : Settings → Context → Nodes → Position → Following → Prog Nodes
 items_at c w ns at begin.AComma = Take (Peek (comma_at c w ns))
 items_at c w ns at begin.AClose = Take (Ret ns)
 items_at c w ns at (begin.NoFollowing why) = Fail (refusal why at)
 
-abbrev pub item_on : Settings → Walk → Nodes → Node → Prog Nodes
+abbrev pub item_on : Settings → Context → Nodes → Node → Prog Nodes
 item_on c w before x = Peek (λ l at. items_at c w (with_node before x) at (following l))
+
+-- ---- arrays and object maps
+
+-- behind an item
+abbrev pub element_next : Settings → Context → (opening : Position) → Nodes → Position → Following → Prog Nodes
+element_next c w opening ns at begin.AComma = Take (Call (Elements c w opening ns) Ret)
+element_next c w opening ns at begin.AClose = Take (Ret ns)
+element_next c w opening ns at (begin.NoFollowing why) = Fail (refusal why at)
+
+abbrev pub element_on : Settings → Context → (opening : Position) → Nodes → Node → Prog Nodes
+element_on c w opening before x = Peek (λ l at. element_next c w opening (with_node before x) at (behind_item l))
+
+-- where an item may begin
+abbrev pub element_at : Settings → Context → (opening : Position) → Nodes → Position → ItemPlace → Prog Nodes
+element_at c w opening before at ItemsEnd = Take (Ret before)
+element_at c w opening before at AnItem = raised c opening (λ d. Call (Expression d w) (element_on c w opening before))
+element_at c w opening before at (NoItem why) = Fail (refusal why at)
+
+-- behind the colon of one more property
+abbrev pub room_at : Context → Properties → Text → Position → Lexeme → Position → Prog (Option (Text × Position))
+room_at w before key at l pos =
+    if full w.sizes.map (property_count before) then Fail (refusal (too_many_fields w.sizes.map) pos) else Ret (Some (key, at))
+
+-- behind a key
+abbrev pub colon_at : Context → Properties → Text → Position → Lexeme → Position → Prog (Option (Text × Position))
+colon_at w before key at l pos =
+    if is_colon l then Take (Peek (room_at w before key at)) else Fail (refusal (missing (codes ":") l) pos)
+
+abbrev pub key_on : Context → Properties → Position → KeyPlace → Prog (Option (Text × Position))
+key_on w before at FieldsEnd = Take (Ret None)
+key_on w before at (AKey key) =
+    Take (if has_key key before then Fail (refusal (cause.DuplicatedProperty key) at) else Peek (colon_at w before key at))
+key_on w before at (NoKey why) = Fail (refusal why at)
+
+-- behind a value
+abbrev pub field_next : Settings → Context → (opening : Position) → Properties → Position → Following → Prog Properties
+field_next c w opening ps at begin.AComma = Take (Call (Fields c w opening ps) Ret)
+field_next c w opening ps at begin.AClose = Take (Ret ps)
+field_next c w opening ps at (begin.NoFollowing why) = Fail (refusal why at)
+
+abbrev pub value_on : Settings → Context → (opening : Position) → Properties → Text × Position → Node → Prog Properties
+value_on c w opening before key x = Peek (λ l at. field_next c w opening (with_property before key.0 key.1 x) at (behind_value l))
+
+abbrev pub field_on : Settings → Context → (opening : Position) → Properties → Option (Text × Position) → Prog Properties
+field_on c w opening before None = Ret before
+field_on c w opening before (Some key) = raised c opening (λ d. Call (Expression d w) (value_on c w opening before key))
+
+-- ---- chains
+
+-- behind an index, which may be refused
+abbrev pub index_at : Node → Lexeme → Position → Prog Node
+index_at x l at = if closes_index l then Take (Ret x) else Fail (refusal (missing (codes "]") l) at)
+
+abbrev pub index_on : Node → Option Refusal → Prog Node
+index_on x None = Peek (index_at x)
+index_on x (Some e) = Fail e
+
+-- behind a member's name
+abbrev pub member_on : Settings → Context → (name : Lexeme) → Position → Lexeme → Position → Prog Node
+member_on c w name name_at l at =
+    if calls l then Call (Called c w name_at) (λ a. Ret (method_tree (text_of name) name_at a.0 a.1)) else
+    if is_name name then Ret (property (text_of name) name_at) else
+    Fail (refusal (cause.Reserved (text_of name)) name_at)
+
+-- behind a dot
+abbrev pub dot_at : Context → LinkSpot → (dot : Lexeme) → Position → Position → MemberPlace → Prog (List Link)
+dot_at w q dot at pos AMember = raised q.settings at (λ d. Call (Member d w) (λ x. Call (Links w (behind_dot q (member_link dot at x))) Ret))
+dot_at w q dot at pos (NoMember why) = Fail (refusal why pos)
+
+-- behind the last link
+abbrev pub links_end : List Link → Option Refusal → Prog (List Link)
+links_end ls None = Ret ls
+links_end ls (Some e) = Fail e
+
+abbrev pub links_at : Context → LinkSpot → Lexeme → Position → Linking → Prog (List Link)
+links_at w q l at ABracket =
+    Take (raised q.brackets at (λ d. raised d at (λ e. Call (Index e w q.indexed) (λ x. Call (Links w (behind_bracket q (bracket_link l at x))) Ret))))
+links_at w q l at ADot = Take (Peek (λ m pos. dot_at w q l at pos (member_place m)))
+links_at w q l at NoLinking = links_end q.before (last_fault q.before)
 
 -- ---- operators
 
@@ -156,22 +261,22 @@ next_operator_at at (Unknown t) = Fail (refusal (cause.UnknownOperator t) at)
 next_operator_at at Other = Ret None
 
 -- behind an operator's right side
-abbrev pub binary_next : Settings → Walk → ℕ → Node → Lexeme → Position → Node → Prog Node
+abbrev pub binary_next : Settings → Context → ℕ → Node → Lexeme → Position → Node → Prog Node
 binary_next d w parent lhs op pos rhs =
     if boolean_holds op lhs then
     (if boolean_holds op rhs then Call (BinaryOp d w pos parent (operator_tree op pos lhs rhs)) Ret else Fail (mismatched rhs))
     else Fail (mismatched lhs)
 
 -- behind an operator's right operand: the tighter run that begins there, if one does
-abbrev pub binary_right : Settings → Walk → Position → ℕ → Node → ℕ → Lexeme → Position → Node → Prog Node
+abbrev pub binary_right : Settings → Context → Position → ℕ → Node → ℕ → Lexeme → Position → Node → Prog Node
 binary_right c w at parent lhs strength op pos rhs =
     Call NextOperator (λ next. raised c at (λ d. Call (BinaryOp d w (position_of rhs) strength rhs) (binary_next d w parent lhs op pos)))
 
 -- behind an operator
-abbrev pub binary_on : Settings → Walk → Position → ℕ → Node → ℕ → Lexeme → Position → Prog Node
+abbrev pub binary_on : Settings → Context → Position → ℕ → Node → ℕ → Lexeme → Position → Prog Node
 binary_on c w at parent lhs strength op pos = Take (Call (Operand c w (is_range (beginning op))) (binary_right c w at parent lhs strength op pos))
 
-abbrev pub binary_at : Settings → Walk → Position → ℕ → Node → Option (ℕ × Bool) → Prog Node
+abbrev pub binary_at : Settings → Context → Position → ℕ → Node → Option (ℕ × Bool) → Prog Node
 binary_at c w at parent lhs None = Ret lhs
 binary_at c w at parent lhs (Some op) = if goes_on parent op.0 op.1 then Peek (binary_on c w at parent lhs op.0) else Ret lhs
 
@@ -180,8 +285,15 @@ body (Whole c w) = Call (Expression c w) (λ e. Peek (whole_at e))
 body (Expression c w) = Peek (λ l at. raised c at (λ d. Call (Operand d w false) (λ lhs. Call (BinaryOp d w (position_of lhs) 1 lhs) Ret)))
 body (Operand c w ranged) = Peek (operand_at c w ranged)
 body (Primary c w) = Peek (λ l at. primary_at c w l at (beginning l))
+body (Called c w name) = Peek (λ l at. called_at c w name (calling l))
+body (Links w q) = Peek (λ l at. links_at w q l at (linking l))
+body (Index c w indexed) = Call (Expression c w) (λ x. index_on x (index_refusal indexed x))
+body (Member c w) = Peek (λ name at. Take (Peek (member_on c w name at)))
 body (Postfix c w x) = Peek (postfix_at c w x)
 body (Arguments c w at) = Peek (arguments_at c w at)
 body (Items c w before) = Call (Expression c w) (item_on c w before)
+body (Elements c w opening before) = Peek (λ l at. element_at c w opening before at (item_place w.sizes.array (node_count before) l))
+body (Fields c w opening before) = Call (NextKey c w before) (field_on c w opening before)
+body (NextKey c w before) = Peek (λ l at. key_on w before at (next_key c before l))
 body NextOperator = Peek (λ l at. next_operator_at at (behind_of l))
 body (BinaryOp c w at parent lhs) = Call NextOperator (binary_at c w at parent lhs)

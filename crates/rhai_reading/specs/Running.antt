@@ -4,7 +4,7 @@ use Rattle.rhai_grammar.specs.Causes.{Refusal, refusal_of, is_for_memory, Memory
 use Rattle.rhai_grammar.specs.Delivered.{is_memory}
 use Rattle.rhai_grammar.specs.Cursors.{Cursor, asked, looking, taking, left}
 use Rattle.rhai_grammar.specs.declared.error.ParseError.{ParseError}
-use Rattle.rhai_reading.specs.Reading.{Goal, Whole, Expression, Operand, Primary, Postfix, Arguments, Items, NextOperator, BinaryOp, Val, Prog, Ret, Fail, Peek, Take, Call, body}
+use Rattle.rhai_reading.specs.Reading.{Goal, Whole, Expression, Operand, Primary, Postfix, Arguments, Items, Elements, Fields, NextKey, Called, Links, Index, Member, NextOperator, BinaryOp, Val, Prog, Ret, Fail, Peek, Take, Call, body}
 
 -- what came of a reader, with the cursor that it left
 pub data Out (A : Type 0) : Type 0 where
@@ -37,6 +37,13 @@ rank (Primary c w) = 1
 rank (Postfix c w x) = 1
 rank (Arguments c w at) = 5
 rank (Items c w before) = 4
+rank (Elements c w at before) = 4
+rank (Fields c w at before) = 4
+rank (NextKey c w before) = 0
+rank (Called c w at) = 0
+rank (Links w q) = 1
+rank (Index c w indexed) = 4
+rank (Member c w) = 0
 rank NextOperator = 0
 rank (BinaryOp c w at parent lhs) = 1
 

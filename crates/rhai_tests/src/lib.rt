@@ -1,39 +1,13 @@
-//! Tests of the library: worked rows of docs/GRAMMAR.md, each public call once, and what no contract says.
+//! Tests of the library: what no contract says, and no list of tokens shows.
 #![tactic(auto)]
 
 #[cfg(test)]
-mod engine;
+mod allocation;
 #[cfg(test)]
-mod expressions;
+mod caller_settings;
 #[cfg(test)]
-mod flags;
-#[cfg(test)]
-mod growth;
-#[cfg(test)]
-mod levels;
-#[cfg(test)]
-mod lookup;
-#[cfg(test)]
-mod memory;
-#[cfg(test)]
-mod names;
-#[cfg(test)]
-mod position;
-#[cfg(test)]
-mod refusals;
-#[cfg(test)]
-mod sample;
+mod long_scripts;
 #[cfg(test)]
 mod script;
 #[cfg(test)]
-mod settings;
-#[cfg(test)]
-mod shape;
-#[cfg(test)]
-mod state;
-#[cfg(test)]
-mod stream;
-#[cfg(test)]
-mod token;
-#[cfg(test)]
-mod tree;
+mod text_mode;

@@ -1,4 +1,4 @@
--- Lists of operands, by the code's tests.
+-- Lists of operands, as the code tests them.
 use Rattle.std.proofs.Common.{◌≡◌, ◌<◌, ◌≤◌, false, List, [], ◌∷◌, length, refl, arith}
 use Rattle.rhai_lower.specs.View.{views}
 use Rattle.rhai_lower.specs.declared.ast.Expr.{Expr}

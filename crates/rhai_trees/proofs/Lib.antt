@@ -1,3 +1,4 @@
 pub mod SignLemmas
 pub mod OperatorLemmas
 pub mod KindLemmas
+pub mod ChainLemmas

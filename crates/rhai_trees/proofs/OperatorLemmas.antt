@@ -1,4 +1,4 @@
--- What a binary operator makes of its operands, by the code's tests.
+-- What a binary operator makes of its operands, as the code tests them.
 use Rattle.std.proofs.Common.{◌≡◌, Bool, true, false, List, [], ◌∷◌, ◌++◌, Option, Some, None, Result, Ok, Err, refl, ap}
 use Rattle.std.specs.Prelude.{codes, if◌then◌else◌, is_none, unwrap_or}
 use Rattle.rhai_lower.specs.Texts.{Text}
@@ -12,7 +12,7 @@ use Rattle.rhai_grammar.specs.Kinds.{not_boolean}
 use Rattle.rhai_grammar.specs.Operators.{Conjunction, Disjunction, Lists, boolean_holds, joined, joining, mismatched, operator_result, operator_tree, takes_booleans}
 use Rattle.rhai_trees.specs.Views.{operand_fault}
 
--- lists one behind the other
+-- one list after the other
 pub views_append : (es fs : List Expr) → views (es ++ fs) ≡ joined (views es) (views fs)
 views_append [] fs = refl
 views_append (e ∷ es) fs = ap (λ rest. one_node (view e) rest) (views_append es fs)
@@ -34,7 +34,7 @@ holds_others l n e = ap (λ b. if b then is_none (not_boolean n) else true) e
 pub mismatched_kind : (n : Node) (kind : Text) → not_boolean n ≡ Some kind → mismatched n ≡ refusal (MismatchedType (codes "a boolean expression") kind) (start_of n)
 mismatched_kind n kind e = ap (λ o. refusal (MismatchedType (codes "a boolean expression") (unwrap_or o [])) (start_of n)) e
 
--- ---- what is answered
+-- ---- the result
 
 pub fault_left : (l : Lexeme) (n m : Node) → boolean_holds l n ≡ false → operand_fault l n m ≡ Some (mismatched n)
 fault_left l n m e = rw e refl

@@ -1,4 +1,4 @@
--- What a sign gives, by the code's tests.
+-- What a sign gives, as the code tests its operand.
 use Rattle.std.proofs.Common.{◌≡◌, ℕ, zero, suc, ℤ, pos, negsuc, ◌<◌, ◌^◌, ◌-◌, Bool, true, false, Some, None, Result, Ok, Err, refl, ap, ◌∙◌, subst, arith}
 use Rattle.std.specs.Prelude.{neg_ℤ, FitsSigned, if◌then◌else◌, not}
 use Rattle.std.specs.Ordering.{int_eq}

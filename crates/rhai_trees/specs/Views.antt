@@ -1,4 +1,4 @@
--- What the types of this crate's code stand for, and parts of what its helpers answer.
+-- What the types of this crate's code represent, and parts of what its helpers return.
 use Rattle.std.specs.Prelude.{◌≡◌, ℕ, ℤ, pos, false, [], Option, Some, None, Result, Ok, Err, not, if◌then◌else◌, refl, neg_ℤ}
 use Rattle.std.specs.Ordering.{int_eq}
 use Rattle.rhai_lower.specs.Positions.{nowhere}
@@ -24,7 +24,7 @@ use Rattle.rhai_trees.specs.declared.sign.Effect.{Effect}
 use Rattle.rhai_trees.specs.declared.sign.Effect.TheVariants as effect
 use Rattle.std.specs.Prelude.{codes}
 
--- a call that only a native function of so many arguments can answer, named by the operator that is written
+-- a native-only call with this number of arguments, with the written operator as its name
 abbrev pub native_called : Lexeme → ℕ → Called
 native_called op n = record { name = text_of op; path = []; module_index = None; script_args = None; native_args = n; captures_scope = false; op_token = Some op }
 
@@ -33,7 +33,7 @@ effect_view effect.Negates = sign.Negates
 effect_view effect.Keeps = sign.Keeps
 effect_view effect.Calls = sign.Calls
 
--- an integer constant's value
+-- the value of an integer constant
 abbrev pub integer_value : Node → Option ℤ
 integer_value (integer n p) = Some n
 integer_value _ = None
@@ -53,7 +53,7 @@ joining_view joining.Membership = operator.Membership
 joining_view joining.NoMembership = operator.NoMembership
 joining_view joining.Call = operator.Calls
 
--- the refusal of the first operand that an operator does not take
+-- the error for the first operand that an operator does not take
 abbrev pub operand_fault : Lexeme → Node → Node → Option Refusal
 operand_fault op left right =
     if operator.boolean_holds op left

@@ -11,8 +11,7 @@ use rhai_lower::{Expr, FnCallExpr, Namespace, Position, Token};
 use std::alloc::{AllocError, Global};
 use std::rc::RcStr;
 
-/// The call of an operator or sign, which only a native function can answer; it stands at `pos`. The error is that there
-/// is no memory for it.
+/// The native-only call of an operator or sign, at position `pos`. Returns `AllocError` if memory runs out.
 #[tactic(auto, using(rhai_lower::proofs::Views::view_call))]
 pub(crate) fn native_call(
     alloc: Global,
@@ -37,8 +36,8 @@ pub(crate) fn native_call(
     Ok(Expr::FnCall(Box::new(alloc, call)?, pos))
 }
 
-/// The call of `contains` that `lhs in rhs` is; `op_token` is the token that it remembers. The error is that there is no
-/// memory for it.
+/// The call of `contains` for `lhs in rhs`; `op_token` is the token that it records. Returns `AllocError` if memory
+/// runs out.
 #[tactic(auto, using(rhai_lower::proofs::Views::view_call))]
 pub(crate) fn contains_call(
     alloc: Global,

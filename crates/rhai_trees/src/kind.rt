@@ -1,4 +1,4 @@
-//! Tests on trees: what a node cannot be, whatever its value, and what is a constant.
+//! Tests on trees: what the value of a node can never be, and what is a constant.
 
 ghost use Rattle.std.specs.Prelude.{◌≡◌, option_map};
 ghost use Rattle.rhai_lower.specs.Lexemes.{lexeme};
@@ -13,13 +13,13 @@ use rhai_lower::{Expr, Ident, Token};
 pub(crate) enum Indexed {
     /// A string, as an object map does.
     Keyed,
-    /// A number, as a literal does that is counted.
+    /// A number, as an array, a string or an integer does.
     Counted,
-    /// It is not known.
+    /// Unknown.
     Unknown,
 }
 
-/// What an index is.
+/// The kind of an index.
 #[derive(Clone, Copy)]
 pub(crate) enum IndexKind {
     /// A number.
@@ -32,11 +32,11 @@ pub(crate) enum IndexKind {
     Unit,
     /// A boolean.
     Boolean,
-    /// It is not known.
+    /// Unknown.
     Anything,
 }
 
-/// The kind of an expression that cannot be a boolean, as errors name it; none if it can. It takes no memory.
+/// The kind of an expression that cannot be a boolean, as errors name it; `None` if it can be one. Does not allocate.
 pub fn not_boolean(expr: &Expr) -> Option<&'static str>
     ensures { option_map (λ t. t.now) result ≡ not_boolean (view expr.now) }
 {
@@ -63,7 +63,7 @@ pub fn not_boolean(expr: &Expr) -> Option<&'static str>
     }
 }
 
-/// The kind of an expression that `for` cannot go over, as errors name it; none if it can. It takes no memory.
+/// The kind of an expression that `for` cannot iterate over, as errors name it; `None` if it can. Does not allocate.
 pub fn not_iterable(expr: &Expr) -> Option<&'static str>
     ensures { option_map (λ t. t.now) result ≡ not_iterable (view expr.now) }
 {
@@ -91,8 +91,8 @@ pub fn not_iterable(expr: &Expr) -> Option<&'static str>
     }
 }
 
-/// Why an index cannot stand in the first bracket behind an operand, as the error says it; none if it can. It takes no
-/// memory.
+/// Why an index is not allowed in the first bracket after an operand, as the error says it; `None` if it is allowed
+/// (docs/GRAMMAR.md, "Chains"). Does not allocate.
 pub fn index_fault(root: &Expr, index: &Expr) -> Option<&'static str>
     ensures { option_map (λ t. t.now) result ≡ index_fault (view root.now) (view index.now) }
 {
@@ -103,7 +103,7 @@ pub fn index_fault(root: &Expr, index: &Expr) -> Option<&'static str>
     }
 }
 
-// Why an index of this kind is none of an object map.
+// Why an object map does not take an index of this kind.
 fn key_fault(index: IndexKind) -> Option<&'static str>
     ensures { option_map (λ t. t.now) result ≡ kind_fault Keyed (index_kind_view index) }
 {
@@ -116,7 +116,7 @@ fn key_fault(index: IndexKind) -> Option<&'static str>
     }
 }
 
-// Why an index of this kind is none of a literal that is counted.
+// Why an array, a string or an integer does not take an index of this kind.
 fn count_fault(index: IndexKind) -> Option<&'static str>
     ensures { option_map (λ t. t.now) result ≡ kind_fault Counted (index_kind_view index) }
 {
@@ -163,7 +163,7 @@ fn index_due(root: &Expr) -> Indexed
     }
 }
 
-// What an index is.
+// The kind of an index.
 fn index_kind(index: &Expr) -> IndexKind
     ensures { index_kind_view result ≡ index_kind (view index.now) }
 {
@@ -188,8 +188,8 @@ fn index_kind(index: &Expr) -> IndexKind
     }
 }
 
-/// Whether an expression is a constant: a literal without parts, or an array or object map of constants. It takes no
-/// memory.
+/// Whether an expression is a constant: a literal without parts, or an array or object map of constants. Does not
+/// allocate.
 #[cycle(constants)]
 #[tactic(auto, using(rhai_lower::proofs::Views::view_map))]
 pub fn is_constant(expr: &Expr) -> bool
@@ -243,8 +243,8 @@ fn have_constants(properties: &[(Ident, Expr)]) -> bool
     true
 }
 
-/// Whether an expression is a value that a `switch` case may have: as a constant, and ranges of integers beside. It takes
-/// no memory.
+/// Whether an expression is a value that a `switch` case may have: a constant, or a range of integers. Does not
+/// allocate.
 #[cycle(literals)]
 #[tactic(auto, using(rhai_lower::proofs::Views::view_map))]
 pub fn is_literal_value(expr: &Expr) -> bool
@@ -308,7 +308,7 @@ fn makes_range(op_token: &Option<Token>) -> bool
     }
 }
 
-// Whether a range may have these ends.
+// Whether these may be the ends of a range.
 #[tactic(auto, using(crate::proofs::KindLemmas::few_bounds, crate::proofs::KindLemmas::many_bounds))]
 fn are_bounds(bounds: &[Expr]) -> bool
     ensures { result ≡ are_bounds (views bounds.now) }

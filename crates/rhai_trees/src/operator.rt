@@ -30,31 +30,31 @@ pub(crate) enum ListKind {
 /// How an operator joins its operands.
 #[derive(Clone, Copy)]
 pub(crate) enum Joining {
-    /// To a list.
+    /// Into a list.
     List(ListKind),
-    /// To a call of `contains`.
+    /// Into a call of `contains`.
     Membership,
-    /// To the negation of such a call.
+    /// Into the negation of such a call.
     NoMembership,
-    /// To a call named by the operator.
+    /// Into a call with the operator as its name.
     Call,
 }
 
 /// An operand of an operator that makes lists.
 #[derive(Drop)]
 pub(crate) enum Part {
-    /// A list of the operator's own kind, and where it stands.
+    /// A list of the operator's own kind, and its position.
     Items(Vec<Expr>, Position),
     /// Anything else, which is one item.
     Item(Expr),
 }
 
-/// What a binary operator makes of its operands. `&&`, `||` and `??` make lists, and go on with those that stand on
-/// either side; a list on the left keeps its position. `in` calls `contains`, and `!in` negates such a call. Any other
-/// operator is a call, at the operator, which only a native function can answer.
+/// What a binary operator makes of its operands (docs/GRAMMAR.md, "Strengths" to "Membership"). `&&`, `||` and `??`
+/// make lists, and extend those on either side; a list on the left keeps its position. `in` calls `contains`, and `!in`
+/// negates such a call. Any other operator is a native-only call at the operator's position.
 ///
-/// `op_token` is the operator, `pos` where it stands. An operand of `&&` or `||` that cannot be a boolean is
-/// `MismatchedType`, where it starts, the left one first; want of memory is `OutOfMemory`.
+/// `op_token` is the operator, `pos` its position. An operand of `&&` or `||` that cannot be a boolean gives
+/// `MismatchedType` at its start, the left one first. If memory runs out, the error is `OutOfMemory`.
 #[tactic(auto, using(crate::proofs::OperatorLemmas::result_taken, crate::proofs::OperatorLemmas::result_refused))]
 pub fn make_binary(
     alloc: Global,
@@ -72,7 +72,7 @@ pub fn make_binary(
     }
 }
 
-// Refuses the first operand that cannot be a boolean, where one is due.
+// Refuses the first operand that cannot be a boolean, if the operator needs booleans.
 #[tactic(auto, using(crate::proofs::OperatorLemmas::fault_left, crate::proofs::OperatorLemmas::fault_right, crate::proofs::OperatorLemmas::fault_none))]
 fn test_operands(alloc: Global, op_token: &Token, lhs: &Expr, rhs: &Expr) -> ParseResult<()>
     ensures passes { IsOk result → operand_fault (lexeme op_token.now) (view lhs.now) (view rhs.now) ≡ None }
@@ -83,7 +83,7 @@ fn test_operands(alloc: Global, op_token: &Token, lhs: &Expr, rhs: &Expr) -> Par
     test_operand(alloc, op_token, rhs)
 }
 
-// Refuses an operand that cannot be a boolean, where one is due.
+// Refuses an operand that cannot be a boolean, if the operator needs booleans.
 #[tactic(auto, using(crate::proofs::OperatorLemmas::holds_and, crate::proofs::OperatorLemmas::holds_or, crate::proofs::OperatorLemmas::holds_others))]
 fn test_operand(alloc: Global, op_token: &Token, operand: &Expr) -> ParseResult<()>
     ensures passes { IsOk result → boolean_holds (lexeme op_token.now) (view operand.now) ≡ true }
@@ -131,7 +131,7 @@ fn joining_of(op_token: &Token) -> Joining
     }
 }
 
-// What an operator makes of operands that it takes. The error is that there is no memory for it.
+// What an operator makes of operands that it takes. Returns `AllocError` if memory runs out.
 fn join_operands(
     alloc: Global,
     op_token: Token,
@@ -164,7 +164,7 @@ fn no_membership(
     native_call(alloc, Token::Bang, pos, vec![in alloc; call]?)
 }
 
-// The list of two operands, which goes on with a list of this kind on either side.
+// The list of two operands, which extends a list of this kind on either side.
 #[tactic(auto, using(crate::proofs::OperatorLemmas::views_append))]
 fn join_list(
     alloc: Global,
@@ -184,7 +184,7 @@ fn join_list(
     Ok(list(kind, items, at))
 }
 
-// The items that the left operand brings, and where the list stands.
+// The items of the left operand, and the position of the list.
 fn begin_list(alloc: Global, left: Part, pos: Position) -> Result<(Vec<Expr>, Position), AllocError>
     ensures { IfOk result (λ l. (views l.0.items ≡ items (part_view left)) × (l.1 ≡ list_position pos (part_view left))) }
 {

@@ -21,15 +21,16 @@ pub(crate) enum Effect {
     Negates,
     /// It gives the integer itself.
     Keeps,
-    /// It calls a function, as of any other operand.
+    /// It is a call, as for any other operand.
     Calls,
 }
 
-/// What a sign gives before an operand. Minus on an integer constant is the negated integer, at the sign; plus on one is
-/// that constant as it is; otherwise a sign is a call, at the sign, which only a native function can answer.
+/// What a sign makes of its operand (docs/GRAMMAR.md, "Signs"). Minus on an integer constant gives the negated integer,
+/// at the sign; plus on one gives that constant unchanged; otherwise a sign is a native-only call at the sign's
+/// position.
 ///
-/// `op_token` is the sign, `pos` where it stands. Minus on the least integer is `MalformedNumber`, at the sign; want of
-/// memory is `OutOfMemory`.
+/// `op_token` is the sign, `pos` its position. Minus on the least integer gives `MalformedNumber` at the sign. If
+/// memory runs out, the error is `OutOfMemory`.
 #[tactic(auto, using(crate::proofs::SignLemmas::result_negates, crate::proofs::SignLemmas::result_keeps, crate::proofs::SignLemmas::result_calls, crate::proofs::SignLemmas::result_others))]
 pub fn make_unary(alloc: Global, op_token: Token, pos: Position, operand: Expr) -> ParseResult<Expr>
     ensures answers { Answers view (sign_result (lexeme op_token) pos (view operand)) result }
@@ -110,7 +111,7 @@ fn negated(alloc: Global, number: i64, pos: Position) -> ParseResult<Expr>
     }
 }
 
-// The call that a sign is before any other operand.
+// The call of a sign on any other operand.
 fn sign_call(
     alloc: Global,
     op_token: Token,

@@ -1,4 +1,4 @@
--- What the loop over the lines keeps: the lines left can be had, and the entries so far may be delivered.
+-- The invariant of the loop over the lines: the iterator can go on, and all entries so far may be delivered.
 use Rattle.std.proofs.Common.{All, IsTrue}
 use Rattle.rhai_lower.specs.Entries.{may_be_delivered}
 use Rattle.rhai_parse.proofs.list.read_list.Given as goal

@@ -1,4 +1,4 @@
--- The items from the index on decide.
+-- The result depends on the items from the index on.
 use Rattle.std.proofs.Common.{◌≡◌, drop}
 use Rattle.rhai_lower.specs.View.{property_views, views}
 use Rattle.rhai_grammar.specs.Kinds.{are_constant, have_constants}

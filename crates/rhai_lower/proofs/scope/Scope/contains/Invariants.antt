@@ -1,4 +1,4 @@
--- The slots from the index on decide.
+-- The result depends on the slots from the index on.
 use Rattle.std.proofs.Common.{◌≡◌, map, drop}
 use Rattle.rhai_lower.specs.SlotView.{slot_of}
 use Rattle.rhai_lower.specs.Slots.{is_declared}

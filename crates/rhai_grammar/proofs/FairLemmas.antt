@@ -1,0 +1,178 @@
+-- No token is both required and refused at one place.
+use Rattle.std.proofs.Common.{◌≡◌, ℕ, ◌+◌, Bool, true, false, ◌&&◌, refl, ap, subst, inl, inr, if◌then◌else◌}
+use Rattle.std.specs.Prelude.{Option, Some, None}
+use Rattle.rhai_lower.specs.Nodes.{Properties, no_properties, position_of, property, with_property}
+use Rattle.rhai_lower.specs.Lexemes.{Lexeme, Name, Reserved, Sign, text_of}
+use Rattle.rhai_lower.specs.declared.position.Position.{Position}
+use Rattle.rhai_lower.specs.declared.token.Token.TheVariants as token
+use Rattle.rhai_grammar.specs.Beginnings as B
+use Rattle.rhai_grammar.specs.Beginnings.{Beginning, beginning, closes, is_range, is_sign, is_value}
+use Rattle.rhai_grammar.specs.Causes.{Refusal}
+use Rattle.rhai_grammar.specs.Chains.{index_refusal, last_fault}
+use Rattle.rhai_grammar.specs.Contexts.{Context}
+use Rattle.rhai_grammar.specs.Delivered as M
+use Rattle.rhai_grammar.specs.Delivered.{Item, Point, is_memory, next_at, past}
+use Rattle.rhai_grammar.specs.Demands.{◌▸◌, Ahead, Blames, Demands, Fine, Met, Missed, Next, Nothing, Otherwise, Refused, Refuses, Shape, Test, Tok, Verdict, Wrong, verdict}
+use Rattle.rhai_grammar.specs.Forms as form
+use Rattle.rhai_grammar.specs.Forms.{Arguments, Base, Elements, Fields, Items, Links, Operand, Primary, Run}
+use Rattle.rhai_grammar.specs.Laws.{FormsAreFair, IsFair, is_refused}
+use Rattle.rhai_grammar.specs.Literals.{KeyPlace, NoKey, is_key}
+use Rattle.rhai_grammar.specs.Settings.{Settings, up}
+use Rattle.rhai_grammar.specs.Trees.{argument_trees, base_tree, bracket_link, member_link, method_tree, primary_tree, tree}
+use Rattle.rhai_grammar.specs.Written as W
+use Rattle.rhai_grammar.specs.Written.{LinkSpot, Outermost, RightOf, Side, Spot, behind_bracket, behind_dot, behind_operand, height_after, is_ranged, operands_fit, outermost, right_side}
+
+-- ---- one token
+
+unless : (b : Bool) (v : Verdict) → is_refused v ≡ false → is_refused (if b then Otherwise else v) ≡ false
+unless true v e = refl
+unless false v e = e
+
+anything : (l : Lexeme) → is_refused (verdict W.anything l) ≡ false
+anything l = unless (is_memory l) Otherwise refl
+
+operand_due : (ranged : Bool) (l : Lexeme) → is_refused (W.due (beginning l)) ≡ false → is_refused (verdict (W.operand_due ranged) l) ≡ false
+operand_due ranged l e = unless (is_memory l) (W.operand_due ranged l) (unless (ranged && closes l) (W.due (beginning l)) e)
+
+value_due : (b : Beginning) → is_value b ≡ true → is_refused (W.due b) ≡ false
+value_due (B.NoBeginning why) e = absurd cc
+value_due _ e = refl
+
+sign_due : (b : Beginning) → is_sign b ≡ true → is_refused (W.due b) ≡ false
+sign_due (B.NoBeginning why) e = absurd cc
+sign_due _ e = refl
+
+range_due : (b : Beginning) → is_range b ≡ true → is_refused (W.due b) ≡ false
+range_due (B.NoBeginning why) e = absurd cc
+range_due _ e = refl
+
+-- where an operand is omitted
+none_due : (b : Bool) (v : Verdict) → b ≡ true → is_refused (if b then Otherwise else v) ≡ false
+none_due true v e = refl
+none_due false v e = absurd cc
+
+key_due : (k : KeyPlace) → is_key k ≡ true → is_refused (W.key_at k) ≡ false
+key_due (NoKey why) e = absurd cc
+key_due _ e = refl
+
+-- ---- all forms
+
+unfaulted : (r : Option Refusal) (k : Demands) → IsFair k → IsFair (W.unfaulted r k)
+unfaulted None k h = h
+unfaulted (Some e) k h = h
+
+raised : (side : Side) (k : Demands) → IsFair k → IsFair (W.raise_behind side k)
+raised Outermost k h = h
+raised (RightOf op height) k h = h
+
+mutual
+  primary : (x : Primary) (c : Settings) (w : Context) (ranged : Bool) (k : Demands) → IsFair k → IsFair (W.primary x c w ranged k)
+  primary (form.Value token at) c w ranged k h = λ e. (operand_due ranged token (value_due (beginning token) e), h)
+  primary (form.Named name at) c w ranged k h = (operand_due ranged (Name name) refl, h)
+  primary (form.Word word at) c w ranged k h = (operand_due ranged (Reserved word) refl, h)
+  primary (form.Group opening inside closing) c w ranged k h =
+      (operand_due ranged (Sign token.LeftParen) refl, run inside (outermost (up (up c)) w) _ (refl, h))
+  primary (form.Array opening list) c w ranged k h =
+      (operand_due ranged (Sign token.LeftBracket) refl, elements list 0 (up c) w opening k h)
+  primary (form.Map opening list) c w ranged k h =
+      (operand_due ranged (Sign token.MapStart) refl, fields list no_properties (up c) w opening k h)
+  primary (form.Zero range at) c w ranged k h = λ e. (operand_due ranged range (range_due (beginning range) e), h)
+
+  base : (x : Base) (c : Settings) (w : Context) (ranged : Bool) (k : Demands) → IsFair k → IsFair (W.base x c w ranged k)
+  base (form.Plain x) c w ranged k h = primary x c w ranged _ h
+  base (form.Call x None args) c w ranged k h =
+      primary x c w ranged _ (λ e. arguments args W.anything refl refl c w (position_of (primary_tree x w true)) k h)
+  base (form.Call x (Some bang) args) c w ranged k h =
+      primary x c w ranged _ (λ e. (refl, arguments args W.list_due refl refl c w (position_of (primary_tree x w true)) k h))
+
+  links : (x : Links) (q : LinkSpot) (w : Context) (k : Demands) → IsFair k → IsFair (W.links x q w k)
+  links form.NoLink q w k h = unfaulted (last_fault q.before) k h
+  links (form.Bracket opening at f closing rest) q w k h = λ e. (
+    anything opening,
+    run f (outermost (up (up (up q.brackets))) w) _
+        (unfaulted (index_refusal q.indexed (tree f w)) _
+        (refl, links rest (behind_bracket q (bracket_link opening at (tree f w))) w k h)),
+  )
+  links (form.Property dot at name name_at rest) q w k h = λ e.
+      (anything dot, (refl, links rest (behind_dot q (member_link dot at (property name name_at))) w k h))
+  links (form.Method dot at name name_at None args rest) q w k h = λ d e.
+      let l = member_link dot at (method_tree (text_of name) name_at false (argument_trees args w)) in
+      (anything dot, (anything name, arguments args W.anything refl refl (up q.settings) w name_at _ (links rest (behind_dot q l) w k h)))
+  links (form.Method dot at name name_at (Some bang) args rest) q w k h = λ d e.
+      let l = member_link dot at (method_tree (text_of name) name_at true (argument_trees args w)) in
+      (anything dot, (anything name, (refl, arguments args W.list_due refl refl (up q.settings) w name_at _ (links rest (behind_dot q l) w k h))))
+
+  operand : (x : Operand) (c : Settings) (w : Context) (ranged : Bool) (k : Demands) → IsFair k → IsFair (W.operand x c w ranged k)
+  operand (form.Linked x list) c w ranged k h = base x c w ranged _ (links list (behind_operand c (base_tree x w)) w k h)
+  operand (form.Signed sign at x) c w ranged k h = λ e.
+      (operand_due ranged sign (sign_due (beginning sign) e), operand x (up c) w false _ h)
+  operand (form.NoOperand token at) c w ranged k h = λ e.
+      (unless (is_memory token) (W.operand_due ranged token) (none_due (ranged && closes token) (W.due (beginning token)) e), h)
+
+  arguments : (x : Arguments) (others : Lexeme → Verdict) → is_refused (verdict others (Sign token.Unit)) ≡ false → is_refused (verdict others (Sign token.LeftParen)) ≡ false → (c : Settings) (w : Context) (name : Position) (k : Demands) → IsFair k → IsFair (W.arguments x others c w name k)
+  arguments (form.EmptyPair at) others pair list c w name k h = (pair, h)
+  arguments (form.Empty opening closing) others pair list c w name k h = (list, (refl, h))
+  arguments (form.Listed opening rest) others pair list c w name k h = (list, items rest (up c) w k h)
+
+  items : (x : Items) (c : Settings) (w : Context) (k : Demands) → IsFair k → IsFair (W.items x c w k)
+  items (form.Last f closing) c w k h = run f (outermost (up c) w) _ (refl, h)
+  items (form.Trailing f comma closing) c w k h = run f (outermost (up c) w) _ (refl, (refl, h))
+  items (form.More f comma rest) c w k h = run f (outermost (up c) w) _ (refl, items rest c w k h)
+
+  elements : (x : Elements) (count : ℕ) (c : Settings) (w : Context) (opening : Position) (k : Demands) → IsFair k → IsFair (W.elements x count c w opening k)
+  elements (form.NoElement closing) count c w opening k h = (refl, h)
+  elements (form.LastElement f closing) count c w opening k h = run f (outermost (up (up c)) w) _ (refl, h)
+  elements (form.Element f comma rest) count c w opening k h =
+      run f (outermost (up (up c)) w) _ (refl, elements rest (count + 1) c w opening k h)
+
+  fields : (x : Fields) (before : Properties) (c : Settings) (w : Context) (opening : Position) (k : Demands) → IsFair k → IsFair (W.fields x before c w opening k)
+  fields (form.NoField closing) before c w opening k h = (refl, h)
+  fields (form.LastField key at colon f closing) before c w opening k h = λ e.
+      (unless (is_memory key) _ (key_due (W.next_key c before key) e), (refl, run f (outermost (up (up c)) w) _ (refl, h)))
+  fields (form.Field key at colon f comma rest) before c w opening k h = λ e. (
+    unless (is_memory key) _ (key_due (W.next_key c before key) e),
+    (refl, run f (outermost (up (up c)) w) _ (refl, fields rest (with_property before (text_of key) at (tree f w)) c w opening k h)),
+  )
+
+  run : (f : Run) (q : Spot) (k : Demands) → IsFair k → IsFair (W.run f q k)
+  run (form.Just x) q k h = operand x q.first q.walk (is_ranged q.side) _ (raised q.side k h)
+  run (form.Binary op at l r) q k h =
+      run l q _ (λ a b d. (
+        anything op,
+        run r (right_side op (height_after q l) q.walk) (operands_fit op (tree l q.walk) (tree r q.walk) k) h,
+      ))
+
+whole : (c : Settings) (w : Context) (f : Run) → IsFair (W.whole_expression f c w)
+whole c w f = run f (outermost (up c) w) _ tt
+
+-- ---- a form that fits is not refused
+
+unrefused : (v : Verdict) (at : Position) (e : Refusal) → is_refused v ≡ false → Refuses v at e → ⊥
+unrefused (Wrong cause) at e h r = absurd cc
+unrefused (Blames d) at e h r = absurd cc
+unrefused Fine at e h r = r
+unrefused Otherwise at e h r = r
+
+-- a required token is not refused
+stands : (others : Lexeme → Verdict) (i due : Item) (e : Refusal) → is_refused (verdict others due.lexeme) ≡ false → i ≡ due → Refused others i e → ⊥
+stands others i due e h same r = unrefused (verdict others due.lexeme) due.at e h (subst (λ x. Refused others x e) same r)
+
+met_or_missed : (ds : Demands) (s t u : Point) (e : Refusal) → IsFair ds → Met ds s t → Missed ds s e u → ⊥
+met_or_missed Nothing s t u e h m n = n
+met_or_missed (Tok mode i others ▸ ds) s t u e h m (inl r) = stands others (next_at mode s) i e h.0 m.0 r.0
+met_or_missed (Tok mode i others ▸ ds) s t u e h m (inr n) = met_or_missed ds (past mode s) t u e h.1 m.1 n.1
+met_or_missed (Ahead i others ▸ ds) s t u e h m (inl r) = stands others (next_at M.code s) i e h.0 m.0 r.0
+met_or_missed (Ahead i others ▸ ds) s t u e h m (inr n) = met_or_missed ds s t u e h.1 m.1 n.1
+met_or_missed (Next v ▸ ds) s t u e h m (inl r) =
+    let i = next_at M.code s in
+    unrefused (verdict v i.lexeme) i.at e (ap is_refused m.0) r.0
+met_or_missed (Next v ▸ ds) s t u e h m (inr n) = met_or_missed ds s t u e h m.1 n.1
+met_or_missed (Test holds d ▸ ds) s t u e h m (inl r) = let a = m.0 in let b = r.0 in absurd cc
+met_or_missed (Test holds d ▸ ds) s t u e h m (inr n) = met_or_missed ds s t u e h m.1 n.1
+met_or_missed (Shape holds ▸ ds) s t u e h m n = met_or_missed ds s t u e (h m.0) m.1 n.1
+
+pub forms_are_fair : FormsAreFair
+forms_are_fair = record {
+  fair = whole;
+  apart = λ c w f s t u e m n. met_or_missed (W.whole_expression f c w) s t u e (whole c w f) m n;
+}

@@ -1,0 +1,236 @@
+-- Trees are equal up to positions if their forms are.
+use Rattle.std.proofs.Common.{◌≡◌, Bool, true, false, List, [], ◌∷◌, ◌++◌, refl, sym, ap, ◌∙◌, if◌then◌else◌}
+use Rattle.std.specs.Prelude.{Option, Some, None}
+use Rattle.std.specs.Option.{is_some}
+use Rattle.rhai_lower.specs.Texts.{Text}
+use Rattle.rhai_lower.specs.Positions.{nowhere}
+use Rattle.rhai_lower.specs.Lexemes.{Lexeme, Sign, text_of}
+use Rattle.rhai_lower.specs.Nodes as node
+use Rattle.rhai_lower.specs.Nodes.{Node, Nodes, position_of}
+use Rattle.rhai_lower.specs.declared.position.Position.{Position}
+use Rattle.rhai_lower.specs.declared.token.Token.{Token}
+use Rattle.rhai_lower.specs.declared.token.Token.TheVariants as token
+use Rattle.rhai_grammar.specs.Beginnings.{beginning, is_this, sign_beginning, value_at}
+use Rattle.rhai_grammar.specs.Chains.{Bracket, Chain, Dotted, Link, LinkKind, chain_of, chained, is_last, link_node, nest}
+use Rattle.rhai_grammar.specs.Contexts.{Context}
+use Rattle.rhai_grammar.specs.Forms as form
+use Rattle.rhai_grammar.specs.Forms.{Arguments, Base, Elements, Fields, Items, Links, Operand, Primary, Run}
+use Rattle.rhai_grammar.specs.Laws.{TreesKeepShape}
+use Rattle.rhai_grammar.specs.Operators as O
+use Rattle.rhai_grammar.specs.Operators.{Joining, ListKind, Part, joined, joined_tree, joining, list_of_parts, operator_tree, part}
+use Rattle.rhai_grammar.specs.Shapes as shape
+use Rattle.rhai_grammar.specs.Shapes.{bang_shape, node_shape, nodes_shape}
+use Rattle.rhai_grammar.specs.Signs.{Effect, Keeps, Negates, affected, effect, plain_sign, signed}
+use Rattle.rhai_grammar.specs.Trees as T
+use Rattle.rhai_grammar.specs.Trees.{argument_trees, base_tree, call_tree, link_list, method_tree, name_of, node_count, operand_tree, primary_tree, tree, word_tree}
+
+-- ---- operands
+
+sign_value : (t : Token) (p : Position) → node_shape (value_at p (sign_beginning t)) ≡ value_at nowhere (sign_beginning t)
+sign_value token.Unit p = refl
+sign_value _ p = refl
+
+value : (l : Lexeme) (p : Position) → node_shape (value_at p (beginning l)) ≡ value_at nowhere (beginning l)
+value (Sign t) p = sign_value t p
+value _ p = refl
+
+word : (t : Text) (b : Bool) (p : Position) → node_shape (if b then node.this p else T.variable_of None t p) ≡ (if b then node.this nowhere else T.variable_of None t nowhere)
+word t true p = refl
+word t false p = refl
+
+name : (n : Node) → name_of (node_shape n) ≡ name_of n
+name (node.unit p) = refl
+name _ = refl
+
+stands : (n : Node) → position_of (node_shape n) ≡ nowhere
+stands (node.block_value (node.braces ss p q)) = refl
+stands _ = refl
+
+count : (ns : Nodes) → node_count (nodes_shape ns) ≡ node_count ns
+count node.no_nodes = refl
+count (node.one_node n ns) = let e = count ns in cc
+
+bang : (b : Option Position) → is_some (bang_shape b) ≡ is_some b
+bang None = refl
+bang (Some p) = refl
+
+call : (n : Node) (b : Bool) (ns : Nodes) → node_shape (call_tree n b ns) ≡ call_tree (node_shape n) b (nodes_shape ns)
+call n b ns = let e = name n in let f = stands n in let g = count ns in cc
+
+method : (t : Text) (p : Position) (b : Bool) (ns : Nodes) → node_shape (method_tree t p b ns) ≡ method_tree t nowhere b (nodes_shape ns)
+method t p b ns = let g = count ns in cc
+
+-- ---- signs and operators
+
+sign_effect : (e : Effect) (op : Lexeme) (p : Position) (n : Node) → node_shape (affected e op p n) ≡ affected e op nowhere (node_shape n)
+sign_effect Negates op p (node.integer n q) = refl
+sign_effect Keeps op p (node.integer n q) = refl
+sign_effect _ op p n = refl
+
+join : (a b : Nodes) → nodes_shape (joined a b) ≡ joined (nodes_shape a) (nodes_shape b)
+join node.no_nodes b = refl
+join (node.one_node n a) b = let e = join a b in cc
+
+abbrev part_shape : Part → Part
+part_shape (O.Items ns p) = O.Items (nodes_shape ns) nowhere
+part_shape (O.Item n) = O.Item (node_shape n)
+
+operand_part : (k : ListKind) (n : Node) → part k (node_shape n) ≡ part_shape (part k n)
+operand_part O.Conjunction (node.conjunction ns p) = refl
+operand_part O.Disjunction (node.disjunction ns p) = refl
+operand_part O.Coalescing (node.coalescing ns p) = refl
+operand_part _ n = refl
+
+part_items : (a : Part) → O.items (part_shape a) ≡ nodes_shape (O.items a)
+part_items (O.Items ns p) = refl
+part_items (O.Item n) = refl
+
+part_stands : (a : Part) → O.list_position nowhere (part_shape a) ≡ nowhere
+part_stands (O.Items ns p) = refl
+part_stands (O.Item n) = refl
+
+list : (k : ListKind) (ns : Nodes) (p : Position) → node_shape (O.list_tree k ns p) ≡ O.list_tree k (nodes_shape ns) nowhere
+list O.Conjunction ns p = refl
+list O.Disjunction ns p = refl
+list O.Coalescing ns p = refl
+
+parts : (k : ListKind) (p : Position) (a b : Part) → node_shape (list_of_parts k p a b) ≡ list_of_parts k nowhere (part_shape a) (part_shape b)
+parts k p a b =
+    let e = list k (joined (O.items a) (O.items b)) (O.list_position p a) in
+    let f = join (O.items a) (O.items b) in
+    let g = part_items a in
+    let h = part_items b in
+    let i = part_stands a in
+    cc
+
+join_tree : (j : Joining) (op : Lexeme) (p : Position) (a b : Node) → node_shape (joined_tree j op p a b) ≡ joined_tree j op nowhere (node_shape a) (node_shape b)
+join_tree (O.Lists k) op p a b =
+    parts k p (part k a) (part k b)
+    ∙ ap (λ x. list_of_parts k nowhere x (part_shape (part k b))) (sym (operand_part k a))
+    ∙ ap (λ x. list_of_parts k nowhere (part k (node_shape a)) x) (sym (operand_part k b))
+join_tree O.Membership op p a b = refl
+join_tree O.NoMembership op p a b = refl
+join_tree O.Calls op p a b = refl
+
+-- ---- chains
+
+abbrev link_shape : Link → Link
+link_shape l = record { kind = l.kind; negated = l.negated; at = nowhere; item = node_shape l.item }
+
+abbrev link_shapes : List Link → List Link
+link_shapes [] = []
+link_shapes (l ∷ ls) = link_shape l ∷ link_shapes ls
+
+append : (a b : List Link) → link_shapes (a ++ b) ≡ link_shapes a ++ link_shapes b
+append [] b = refl
+append (l ∷ a) b = let e = append a b in cc
+
+last : (ls : List Link) → is_last (link_shapes ls) ≡ is_last ls
+last [] = refl
+last (l ∷ ls) = refl
+
+one_link : (k : LinkKind) (m : Bool) (p : Position) (i : Node) (b : Bool) (x y : Node) → node_shape (link_node (record { kind = k; negated = m; at = p; item = i }) b x y) ≡ link_node (record { kind = k; negated = m; at = nowhere; item = node_shape i }) b (node_shape x) (node_shape y)
+one_link Bracket m p i b x y = refl
+one_link Dotted m p i b x y = refl
+
+nested : (x : Node) (ls : List Link) → node_shape (nest x ls) ≡ nest (node_shape x) (link_shapes ls)
+nested x [] = refl
+nested x (l ∷ ls) =
+    one_link l.kind l.negated l.at l.item (is_last ls) x (nest l.item ls)
+    ∙ ap (λ y. link_node (link_shape l) (is_last ls) (node_shape x) y) (nested l.item ls)
+    ∙ ap (λ b. link_node (link_shape l) b (node_shape x) (nest (node_shape l.item) (link_shapes ls))) (sym (last ls))
+
+abbrev chain_shape : Chain → Chain
+chain_shape c = record { root = node_shape c.root; links = link_shapes c.links }
+
+abbrev alone : Node → Chain
+alone x = record { root = x; links = [] }
+
+behind_bracket : (ends : Bool) (y : Node) → chain_of (node_shape y) ≡ chain_shape (chain_of y) → (if ends then alone (node_shape y) else chain_of (node_shape y)) ≡ chain_shape (if ends then alone y else chain_of y)
+behind_bracket true y e = refl
+behind_bracket false y e = e
+
+abbrev first_link : LinkKind → Bool → Node → Chain → Chain
+first_link k m x c = record { root = node_shape x; links = record { kind = k; negated = m; at = nowhere; item = c.root } ∷ c.links }
+
+chain : (x : Node) → chain_of (node_shape x) ≡ chain_shape (chain_of x)
+chain (node.dot x y m p) = ap (first_link Dotted m.negated x) (chain y)
+chain (node.index x y m p) = ap (first_link Bracket m.negated x) (behind_bracket m.terminating y (chain y))
+chain _ = refl
+
+chains : (x : Node) (ls : List Link) → node_shape (chained x ls) ≡ chained (node_shape x) (link_shapes ls)
+chains x [] = refl
+chains x (l ∷ ls) =
+    let c = chain_of x in
+    nested c.root (c.links ++ (l ∷ ls))
+    ∙ ap (nest (node_shape c.root)) (append c.links (l ∷ ls))
+    ∙ ap (λ (d : Chain). nest d.root (d.links ++ (link_shape l ∷ link_shapes ls))) (sym (chain x))
+
+-- ---- forms
+
+mutual
+  primary : (x : Primary) (w : Context) (called : Bool) → node_shape (primary_tree x w called) ≡ primary_tree (shape.primary_shape x) w called
+  primary (form.Value token at) w called = value token at
+  primary (form.Named name at) w called = refl
+  primary (form.Word text at) w called = word text (is_this text) at
+  primary (form.Group opening inside closing) w called = run inside w
+  primary (form.Array opening list) w called = let e = elements list w in cc
+  primary (form.Map opening list) w called = let e = fields list w in cc
+  primary (form.Zero range at) w called = refl
+
+  base : (x : Base) (w : Context) → node_shape (base_tree x w) ≡ base_tree (shape.base_shape x) w
+  base (form.Plain x) w = primary x w false
+  base (form.Call x mark args) w =
+      let e = primary x w true in
+      let f = arguments args w in
+      let g = bang mark in
+      call (primary_tree x w true) (is_some mark) (argument_trees args w) ∙ (cc)
+
+  links : (x : Links) (w : Context) → link_shapes (link_list x w) ≡ link_list (shape.links_shape x) w
+  links form.NoLink w = refl
+  links (form.Bracket opening at f closing rest) w = let e = run f w in let g = links rest w in cc
+  links (form.Property sign at text text_at rest) w = let g = links rest w in cc
+  links (form.Method sign at text text_at mark args rest) w =
+      let e = arguments args w in
+      let f = bang mark in
+      let g = links rest w in
+      let h = method (text_of text) text_at (is_some mark) (argument_trees args w) in
+      cc
+
+  operand : (x : Operand) (w : Context) → node_shape (operand_tree x w) ≡ operand_tree (shape.operand_shape x) w
+  operand (form.Linked x list) w =
+      let e = base x w in
+      let f = links list w in
+      chains (base_tree x w) (link_list list w) ∙ (cc)
+  operand (form.Signed sign at x) w = sign_effect (effect sign) (plain_sign sign) at (operand_tree x w) ∙ ap (λ n. signed sign nowhere n) (operand x w)
+  operand (form.NoOperand token at) w = refl
+
+  arguments : (x : Arguments) (w : Context) → nodes_shape (argument_trees x w) ≡ argument_trees (shape.arguments_shape x) w
+  arguments (form.EmptyPair at) w = refl
+  arguments (form.Empty opening closing) w = refl
+  arguments (form.Listed opening list) w = items list w
+
+  items : (x : Items) (w : Context) → nodes_shape (T.item_trees x w) ≡ T.item_trees (shape.items_shape x) w
+  items (form.Last f closing) w = let e = run f w in cc
+  items (form.Trailing f comma closing) w = let e = run f w in cc
+  items (form.More f comma rest) w = let e = run f w in let g = items rest w in cc
+
+  elements : (x : Elements) (w : Context) → nodes_shape (T.element_trees x w) ≡ T.element_trees (shape.elements_shape x) w
+  elements (form.NoElement closing) w = refl
+  elements (form.LastElement f closing) w = let e = run f w in cc
+  elements (form.Element f comma rest) w = let e = run f w in let g = elements rest w in cc
+
+  fields : (x : Fields) (w : Context) → shape.properties_shape (T.field_trees x w) ≡ T.field_trees (shape.fields_shape x) w
+  fields (form.NoField closing) w = refl
+  fields (form.LastField key at colon f closing) w = let e = run f w in cc
+  fields (form.Field key at colon f comma rest) w = let e = run f w in let g = fields rest w in cc
+
+  run : (f : Run) (w : Context) → node_shape (tree f w) ≡ tree (shape.run_shape f) w
+  run (form.Just x) w = operand x w
+  run (form.Binary op at l r) w =
+      let e = run l w in
+      let f = run r w in
+      join_tree (joining op) op at (tree l w) (tree r w) ∙ (cc)
+
+pub trees_keep_shape : TreesKeepShape
+trees_keep_shape w f g e = run f w ∙ ap (λ x. tree x w) e ∙ sym (run g w)

@@ -1,0 +1,127 @@
+-- What a token does in the literal of an array or of an object map.
+use Rattle.std.specs.Prelude.{◌≡◌, ℕ, ◌+◌, Bool, true, false, ◌||◌, codes, if◌then◌else◌, refl}
+use Rattle.rhai_lower.specs.Texts.{Text, same_text}
+use Rattle.rhai_lower.specs.Names.{is_identifier}
+use Rattle.rhai_lower.specs.Lexemes.{Lexeme, Faulty, Interpolated, Name, Reserved, Sign, String}
+use Rattle.rhai_lower.specs.Nodes.{Properties, no_properties, one_property}
+use Rattle.rhai_lower.specs.declared.token.Token.{Token}
+use Rattle.rhai_lower.specs.declared.token.Token.TheVariants.{Colon, Comma, EOF, RightBrace, RightBracket, Plus}
+use Rattle.rhai_grammar.specs.Causes as cause
+use Rattle.rhai_grammar.specs.Causes.{Cause}
+use Rattle.rhai_grammar.specs.Contexts.{full}
+use Rattle.rhai_grammar.specs.Beginnings.{missing, Following, AComma, AClose, NoFollowing}
+
+-- ---- arrays
+
+-- what a token is where an item may begin
+pub data ItemPlace : Type 0 where
+  -- the `]`
+  ItemsEnd : ItemPlace
+  AnItem : ItemPlace
+  -- no item, and the error for that
+  NoItem : Cause → ItemPlace
+
+-- the error for one more item in a full array
+abbrev pub too_many_items : (limit : ℕ) → Cause
+too_many_items limit = cause.LiteralTooLarge (codes "Size of array literal") limit
+
+-- where there are this many items already
+abbrev pub item_room : (limit count : ℕ) → ItemPlace
+item_room limit count = if full limit count then NoItem (too_many_items limit) else AnItem
+
+abbrev pub sign_item : (limit count : ℕ) → Token → ItemPlace
+sign_item limit count RightBracket = ItemsEnd
+sign_item limit count EOF = NoItem (cause.MissingToken (codes "]"))
+sign_item limit count _ = item_room limit count
+
+-- what a token is where an item may begin, after `count` items
+abbrev pub item_place : (limit count : ℕ) → Lexeme → ItemPlace
+item_place limit count (Sign t) = sign_item limit count t
+item_place limit count _ = item_room limit count
+
+abbrev pub sign_behind_item : Token → Following
+sign_behind_item Comma = AComma
+sign_behind_item RightBracket = AClose
+sign_behind_item EOF = NoFollowing (cause.MissingToken (codes "]"))
+sign_behind_item t = NoFollowing (cause.MissingToken (codes ","))
+
+-- what comes after an item
+abbrev pub behind_item : Lexeme → Following
+behind_item (Sign t) = sign_behind_item t
+behind_item l = NoFollowing (missing (codes ",") l)
+
+-- ---- object maps
+
+-- the number of properties
+abbrev pub property_count : Properties → ℕ
+property_count no_properties = 0
+property_count (one_property key at value ps) = property_count ps + 1
+
+-- a property has this key
+abbrev pub has_key : Text → Properties → Bool
+has_key t no_properties = false
+has_key t (one_property key at value ps) = same_text key t || has_key t ps
+
+-- what a token is where a key may begin
+pub data KeyPlace : Type 0 where
+  -- the `}`
+  FieldsEnd : KeyPlace
+  AKey : Text → KeyPlace
+  -- no key, and the error for that
+  NoKey : Cause → KeyPlace
+
+-- the error for a token where a key is expected after a comma
+abbrev pub no_property : Lexeme → Cause
+no_property (Faulty f) = cause.BadInput (cause.Lexer f)
+no_property l = cause.PropertyExpected
+
+-- The error for a token that cannot be a key: directly after the `#{` the `}` is missing, after a comma the key.
+abbrev pub no_key : (first : Bool) → Lexeme → Cause
+no_key first l = if first then missing (codes "}") l else no_property l
+
+abbrev pub sign_key : (first : Bool) → Token → KeyPlace
+sign_key first RightBrace = FieldsEnd
+sign_key first EOF = NoKey (cause.MissingToken (codes "}"))
+sign_key first t = NoKey (no_key first (Sign t))
+
+-- A key is a string, or a name unless keys have to be quoted.
+abbrev pub key_place : (quoted first : Bool) → Lexeme → KeyPlace
+key_place quoted first (String t) = AKey t
+key_place quoted first (Name t) = if quoted then NoKey cause.PropertyExpected else AKey t
+key_place quoted first (Interpolated t) = NoKey cause.PropertyExpected
+key_place quoted first (Reserved t) = NoKey (if is_identifier t then cause.Reserved t else no_key first (Reserved t))
+key_place quoted first (Sign t) = sign_key first t
+key_place quoted first l = NoKey (no_key first l)
+
+abbrev pub is_key : KeyPlace → Bool
+is_key (AKey t) = true
+is_key _ = false
+
+abbrev pub sign_colon : Token → Bool
+sign_colon Colon = true
+sign_colon _ = false
+
+-- the `:`
+abbrev pub is_colon : Lexeme → Bool
+is_colon (Sign t) = sign_colon t
+is_colon _ = false
+
+-- the error for one more value in a full object map
+abbrev pub too_many_fields : (limit : ℕ) → Cause
+too_many_fields limit = cause.LiteralTooLarge (codes "Number of properties in object map literal") limit
+
+abbrev pub sign_behind_value : Token → Following
+sign_behind_value Comma = AComma
+sign_behind_value RightBrace = AClose
+sign_behind_value t = NoFollowing (cause.MissingToken (codes "}"))
+
+-- what comes after the value of a property
+abbrev pub behind_value : Lexeme → Following
+behind_value (Sign t) = sign_behind_value t
+behind_value (Name t) = NoFollowing (cause.MissingToken (codes ","))
+behind_value l = NoFollowing (missing (codes "}") l)
+
+-- With a limit of 1, a second item is one too many; `}` ends an object map; `+` is not a key, and in place of the first
+-- key it is a missing `}`.
+example : (item_place 1 1 (Name (codes "a")) ≡ NoItem (too_many_items 1)) × (item_place 1 1 (Sign RightBracket) ≡ ItemsEnd) × (key_place false true (Sign RightBrace) ≡ FieldsEnd) × (key_place false true (Sign Plus) ≡ NoKey (cause.MissingToken (codes "}"))) × (key_place false false (Sign Plus) ≡ NoKey cause.PropertyExpected)
+example = (refl, refl, refl, refl, refl)

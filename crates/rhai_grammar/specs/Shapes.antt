@@ -1,0 +1,164 @@
+-- Forms and trees without positions: each token and each node gets the position `nowhere`.
+use Rattle.std.specs.Prelude.{◌≡◌, ℕ, Option, List, [], ◌∷◌, option_map, codes, refl}
+use Rattle.rhai_lower.specs.Texts.{Text}
+use Rattle.rhai_lower.specs.Positions.{nowhere, place}
+use Rattle.rhai_lower.specs.Nodes as node
+use Rattle.rhai_lower.specs.Nodes.{Arms, Block, Called, Cases, Named, Node, Nodes, Optional, Properties, Statement, Statements}
+use Rattle.rhai_lower.specs.declared.position.Position.{Position}
+use Rattle.rhai_grammar.specs.Contexts.{bare}
+use Rattle.rhai_grammar.specs.Slots.{number}
+use Rattle.rhai_grammar.specs.Trees.{tree}
+use Rattle.rhai_grammar.specs.Forms as form
+use Rattle.rhai_grammar.specs.Forms.{Arguments, Base, Elements, Fields, Items, Links, Operand, Primary, Run}
+
+-- ---- trees
+
+abbrev path_shape : List (Text × Position) → List (Text × Position)
+path_shape [] = []
+path_shape (part ∷ parts) = (part.0, nowhere) ∷ path_shape parts
+
+abbrev shared_shape : List (Text × Position × Option ℕ) → List (Text × Position × Option ℕ)
+shared_shape [] = []
+shared_shape (name ∷ names) = (name.0, nowhere, name.2) ∷ shared_shape names
+
+abbrev pub called_shape : Called → Called
+called_shape c = record c { path = path_shape c.path }
+
+abbrev pub named_shape : Named → Named
+named_shape v = record v { path = path_shape v.path }
+
+abbrev mutual
+  pub node_shape : Node → Node
+  node_shape (node.unit p) = node.unit nowhere
+  node_shape (node.boolean b p) = node.boolean b nowhere
+  node_shape (node.integer n p) = node.integer n nowhere
+  node_shape (node.character c p) = node.character c nowhere
+  node_shape (node.string t p) = node.string t nowhere
+  node_shape (node.interpolated ns p) = node.interpolated (nodes_shape ns) nowhere
+  node_shape (node.array ns p) = node.array (nodes_shape ns) nowhere
+  node_shape (node.object_map ps p) = node.object_map (properties_shape ps) nowhere
+  node_shape (node.pointer name parameters p) = node.pointer name parameters nowhere
+  node_shape (node.variable v p) = node.variable (named_shape v) nowhere
+  node_shape (node.this p) = node.this nowhere
+  node_shape (node.property t p) = node.property t nowhere
+  node_shape (node.call c ns p) = node.call (called_shape c) (nodes_shape ns) nowhere
+  node_shape (node.method_call c ns p) = node.method_call (called_shape c) (nodes_shape ns) nowhere
+  node_shape (node.dot l r m p) = node.dot (node_shape l) (node_shape r) m nowhere
+  node_shape (node.index l r m p) = node.index (node_shape l) (node_shape r) m nowhere
+  node_shape (node.conjunction ns p) = node.conjunction (nodes_shape ns) nowhere
+  node_shape (node.disjunction ns p) = node.disjunction (nodes_shape ns) nowhere
+  node_shape (node.coalescing ns p) = node.coalescing (nodes_shape ns) nowhere
+  node_shape (node.block_value b) = node.block_value (block_shape b)
+
+  pub nodes_shape : Nodes → Nodes
+  nodes_shape node.no_nodes = node.no_nodes
+  nodes_shape (node.one_node n ns) = node.one_node (node_shape n) (nodes_shape ns)
+
+  pub optional_shape : Optional → Optional
+  optional_shape node.absent = node.absent
+  optional_shape (node.present n) = node.present (node_shape n)
+
+  pub properties_shape : Properties → Properties
+  properties_shape node.no_properties = node.no_properties
+  properties_shape (node.one_property t p n ps) = node.one_property t nowhere (node_shape n) (properties_shape ps)
+
+  pub statement_shape : Statement → Statement
+  statement_shape (node.noop p) = node.noop nowhere
+  statement_shape (node.if_statement g b e p) = node.if_statement (node_shape g) (block_shape b) (block_shape e) nowhere
+  statement_shape (node.switch_statement i arms cases ranges d p) =
+      node.switch_statement (node_shape i) (arms_shape arms) (cases_shape cases) ranges d nowhere
+  statement_shape (node.while_statement g b p) = node.while_statement (node_shape g) (block_shape b) nowhere
+  statement_shape (node.do_statement g b m p) = node.do_statement (node_shape g) (block_shape b) m nowhere
+  statement_shape (node.for_statement t c n b p) = node.for_statement t c (node_shape n) (block_shape b) nowhere
+  statement_shape (node.var_statement t n i c e p) = node.var_statement t (node_shape n) i c e nowhere
+  statement_shape (node.assignment op t v p) = node.assignment op (node_shape t) (node_shape v) nowhere
+  statement_shape (node.expression n) = node.expression (node_shape n)
+  statement_shape (node.block_statement b) = node.block_statement (block_shape b)
+  statement_shape (node.try_catch b n e p) = node.try_catch (block_shape b) (node_shape n) (block_shape e) nowhere
+  statement_shape (node.break_loop v m p) = node.break_loop (optional_shape v) m nowhere
+  statement_shape (node.return_statement v m p) = node.return_statement (optional_shape v) m nowhere
+  statement_shape (node.import_statement n t p) = node.import_statement (node_shape n) t nowhere
+  statement_shape (node.export_statement t a p) = node.export_statement t a nowhere
+  statement_shape (node.share names p) = node.share (shared_shape names) nowhere
+
+  pub statements_shape : Statements → Statements
+  statements_shape node.no_statements = node.no_statements
+  statements_shape (node.one_statement s ss) = node.one_statement (statement_shape s) (statements_shape ss)
+
+  pub block_shape : Block → Block
+  block_shape (node.braces ss start end) = node.braces (statements_shape ss) nowhere nowhere
+
+  pub arms_shape : Arms → Arms
+  arms_shape node.no_arms = node.no_arms
+  arms_shape (node.one_arm g a arms) = node.one_arm (node_shape g) (node_shape a) (arms_shape arms)
+
+  pub cases_shape : Cases → Cases
+  cases_shape node.no_cases = node.no_cases
+  cases_shape (node.one_case v arms cases) = node.one_case (node_shape v) arms (cases_shape cases)
+
+-- ---- forms
+
+abbrev pub bang_shape : Option Position → Option Position
+bang_shape bang = option_map (λ at. nowhere) bang
+
+abbrev mutual
+  pub primary_shape : Primary → Primary
+  primary_shape (form.Value token at) = form.Value token nowhere
+  primary_shape (form.Named name at) = form.Named name nowhere
+  primary_shape (form.Word word at) = form.Word word nowhere
+  primary_shape (form.Group opening inside closing) = form.Group nowhere (run_shape inside) nowhere
+  primary_shape (form.Array opening elements) = form.Array nowhere (elements_shape elements)
+  primary_shape (form.Map opening fields) = form.Map nowhere (fields_shape fields)
+  primary_shape (form.Zero range at) = form.Zero range nowhere
+
+  pub base_shape : Base → Base
+  base_shape (form.Plain x) = form.Plain (primary_shape x)
+  base_shape (form.Call x bang arguments) = form.Call (primary_shape x) (bang_shape bang) (arguments_shape arguments)
+
+  pub links_shape : Links → Links
+  links_shape form.NoLink = form.NoLink
+  links_shape (form.Bracket opening at f closing rest) =
+      form.Bracket opening nowhere (run_shape f) nowhere (links_shape rest)
+  links_shape (form.Property dot at name name_at rest) = form.Property dot nowhere name nowhere (links_shape rest)
+  links_shape (form.Method dot at name name_at bang arguments rest) =
+      form.Method dot nowhere name nowhere (bang_shape bang) (arguments_shape arguments) (links_shape rest)
+
+  pub operand_shape : Operand → Operand
+  operand_shape (form.Linked x links) = form.Linked (base_shape x) (links_shape links)
+  operand_shape (form.Signed sign at x) = form.Signed sign nowhere (operand_shape x)
+  operand_shape (form.NoOperand token at) = form.NoOperand token nowhere
+
+  pub arguments_shape : Arguments → Arguments
+  arguments_shape (form.EmptyPair at) = form.EmptyPair nowhere
+  arguments_shape (form.Empty opening closing) = form.Empty nowhere nowhere
+  arguments_shape (form.Listed opening items) = form.Listed nowhere (items_shape items)
+
+  pub items_shape : Items → Items
+  items_shape (form.Last f closing) = form.Last (run_shape f) nowhere
+  items_shape (form.Trailing f comma closing) = form.Trailing (run_shape f) nowhere nowhere
+  items_shape (form.More f comma items) = form.More (run_shape f) nowhere (items_shape items)
+
+  pub elements_shape : Elements → Elements
+  elements_shape (form.NoElement closing) = form.NoElement nowhere
+  elements_shape (form.LastElement f closing) = form.LastElement (run_shape f) nowhere
+  elements_shape (form.Element f comma elements) = form.Element (run_shape f) nowhere (elements_shape elements)
+
+  pub fields_shape : Fields → Fields
+  fields_shape (form.NoField closing) = form.NoField nowhere
+  fields_shape (form.LastField key at colon f closing) = form.LastField key nowhere nowhere (run_shape f) nowhere
+  fields_shape (form.Field key at colon f comma fields) =
+      form.Field key nowhere nowhere (run_shape f) nowhere (fields_shape fields)
+
+  pub run_shape : Run → Run
+  run_shape (form.Just x) = form.Just (operand_shape x)
+  run_shape (form.Binary op at l r) = form.Binary op nowhere (run_shape l) (run_shape r)
+
+abbrev example_name : (column : ℕ) → Run
+example_name column = form.Just (form.Linked (form.Plain (form.Named (codes "a") (place 1 column))) form.NoLink)
+
+-- `a` at two positions has one form and one tree up to positions.
+example :
+    (run_shape (example_name 1) ≡ run_shape (example_name 5))
+    × (node_shape (tree (example_name 1) bare) ≡ node_shape (tree (example_name 5) bare))
+unfolding number
+example = (refl, refl)

@@ -1,0 +1,79 @@
+-- What a token is in the literal of an array or of an object map, as the code's tests tell it.
+use Rattle.std.specs.Prelude.{◌≡◌, ℕ, Bool, true, false, Option, Some, None, codes, if◌then◌else◌}
+use Rattle.std.specs.Rc.{rc_str_bytes}
+use Rattle.std.specs.declared.alloc.Global.{Global}
+use Rattle.std.specs.declared.rc.RcStr.{RcStr}
+use Rattle.rhai_lower.specs.Texts.{Text}
+use Rattle.rhai_lower.specs.Names.{is_identifier}
+use Rattle.rhai_lower.specs.Lexemes.{Lexeme, Interpolated, Name, Reserved}
+use Rattle.rhai_grammar.specs.Causes as cause
+use Rattle.rhai_grammar.specs.Causes.{Cause}
+use Rattle.rhai_grammar.specs.Contexts.{Context, nothing_live}
+use Rattle.rhai_grammar.specs.Delivered.{is_end}
+use Rattle.rhai_grammar.specs.Beginnings as begin
+use Rattle.rhai_grammar.specs.Beginnings.{missing}
+use Rattle.rhai_grammar.specs.Literals as literal
+use Rattle.rhai_grammar.specs.Literals.{KeyPlace, behind_item, behind_value, item_place, no_key, too_many_items}
+use Rattle.rhai_parser.specs.declared.literals.ItemPlace.{ItemPlace}
+use Rattle.rhai_parser.specs.declared.literals.ItemPlace.TheVariants as place
+use Rattle.rhai_parser.specs.declared.tokens.Following.{Following}
+use Rattle.rhai_parser.specs.declared.tokens.Following.TheVariants as behind
+
+-- ---- arrays
+
+-- why a token is refused that is no item, with so many items before it
+abbrev pub no_item : (limit : ℕ) → Lexeme → Cause
+no_item limit l = if is_end l then missing (codes "]") l else too_many_items limit
+
+-- what a token is where an item may begin
+abbrev pub PlacesItem : (limit count : ℕ) → Lexeme → ItemPlace → Type 0
+PlacesItem limit count l place.End = item_place limit count l ≡ literal.ItemsEnd
+PlacesItem limit count l place.Item = item_place limit count l ≡ literal.AnItem
+PlacesItem limit count l place.Nothing = item_place limit count l ≡ literal.NoItem (no_item limit l)
+
+-- what is due where a token stands that may not follow an item
+abbrev pub due_behind_item : Lexeme → Text
+due_behind_item l = if is_end l then codes "]" else codes ","
+
+-- what a token is behind an item
+abbrev pub FollowsItem : Lexeme → Following → Type 0
+FollowsItem l behind.Comma = (behind_item l ≡ begin.AComma) × (is_end l ≡ false)
+FollowsItem l behind.Close = behind_item l ≡ begin.AClose
+FollowsItem l behind.Nothing = behind_item l ≡ begin.NoFollowing (missing (due_behind_item l) l)
+
+-- ---- object maps
+
+-- Of what an object map stands in, its keys depend on the limit of properties alone.
+abbrev pub within : (limit : ℕ) → Context
+within limit = nothing_live (record { array = 0; map = limit })
+
+-- the key that stands where one may; none where the object map ends
+abbrev pub key_found : Option (RcStr Global) → KeyPlace
+key_found None = literal.FieldsEnd
+key_found (Some t) = literal.AKey (rc_str_bytes t)
+
+abbrev pub is_interpolated : Lexeme → Bool
+is_interpolated (Interpolated t) = true
+is_interpolated _ = false
+
+-- a reserved word, and no symbol
+abbrev pub is_reserved_word : Lexeme → Bool
+is_reserved_word (Reserved t) = is_identifier t
+is_reserved_word _ = false
+
+-- why a token is refused that is neither a name nor a string, and does not end the object map
+abbrev pub refused_key : (first : Bool) → Lexeme → Cause
+refused_key first (Interpolated t) = cause.PropertyExpected
+refused_key first (Reserved t) = if is_identifier t then cause.Reserved t else no_key first (Reserved t)
+refused_key first l = if is_end l then missing (codes "}") l else no_key first l
+
+-- what is due where a token stands that may not follow a value
+abbrev pub due_behind_value : Lexeme → Text
+due_behind_value (Name t) = codes ","
+due_behind_value l = codes "}"
+
+-- what a token is behind a value
+abbrev pub FollowsValue : Lexeme → Following → Type 0
+FollowsValue l behind.Comma = (behind_value l ≡ begin.AComma) × (is_end l ≡ false)
+FollowsValue l behind.Close = behind_value l ≡ begin.AClose
+FollowsValue l behind.Nothing = behind_value l ≡ begin.NoFollowing (missing (due_behind_value l) l)

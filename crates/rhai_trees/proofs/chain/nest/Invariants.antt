@@ -1,0 +1,12 @@
+-- The links that are left, with the one that contains all later links, nest to the same tree.
+use Rattle.std.proofs.Common.{◌≡◌, ◌∷◌, ◌++◌, [], vec_len}
+use Rattle.rhai_lower.specs.View.{view}
+use Rattle.rhai_grammar.specs.Chains.{nest}
+use Rattle.rhai_trees.specs.Chains.{link_views, nest_until}
+use Rattle.rhai_trees.proofs.chain.nest.Given as goal
+
+abbrev pub invariant-loop-link : goal.invariant-loop-link
+invariant-loop-link l = nest_until l.last (view l.root) (link_views (l.links.items ++ l.next ∷ [])) ≡ nest (view l.fn.root) (link_views l.fn.links.items)
+
+abbrev pub decreases-loop-link : goal.decreases-loop-link
+decreases-loop-link l = vec_len l.links

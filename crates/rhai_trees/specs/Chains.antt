@@ -1,0 +1,72 @@
+-- What the links of the code represent, and what is left of a chain while it is taken apart.
+use Rattle.std.specs.Prelude.{◌≡◌, Bool, true, false, ◌&&◌, ◌||◌, [], ◌∷◌, List, Option, None, Some, if◌then◌else◌, codes, map, refl}
+use Rattle.rhai_lower.specs.Texts.{same_text}
+use Rattle.rhai_lower.specs.Positions.{place}
+use Rattle.rhai_lower.specs.Nodes.{Called, Node, Nodes, method_call, no_nodes, property}
+use Rattle.rhai_lower.specs.View.{view}
+use Rattle.rhai_lower.specs.declared.position.Position.{Position}
+use Rattle.rhai_grammar.specs.Causes.{Refusal}
+use Rattle.rhai_grammar.specs.Chains as chain
+use Rattle.rhai_trees.specs.declared.chain.Link.{Link}
+use Rattle.rhai_trees.specs.declared.chain.LinkKind.{LinkKind}
+use Rattle.rhai_trees.specs.declared.chain.LinkKind.TheVariants as link_kind
+use Rattle.rhai_trees.specs.declared.chain.OpenLink.{OpenLink}
+
+abbrev pub link_kind_view : LinkKind → chain.LinkKind
+link_kind_view link_kind.Index = chain.Bracket
+link_kind_view link_kind.Dot = chain.Dotted
+
+-- a link of the code as the definitions see it
+abbrev pub link_view : Link → chain.Link
+link_view l = record { kind = link_kind_view l.kind; negated = l.negated; at = l.pos; item = view l.item }
+
+abbrev pub link_views : List Link → List chain.Link
+link_views ls = map link_view ls
+
+abbrev alone : Node → chain.Chain
+alone x = record { root = x; links = [] }
+
+-- the chain after a bracket or dot, depending on whether that bracket ends its chain
+abbrev pub chain_behind : (ends : Bool) → Node → chain.Chain
+chain_behind ends x = if ends then alone x else chain.chain_of x
+
+abbrev followed : chain.Link → chain.Chain → List chain.Link
+followed l rest = record { kind = l.kind; negated = l.negated; at = l.at; item = rest.root } ∷ rest.links
+
+-- an open link and the links after it
+abbrev pub open_links : OpenLink → List chain.Link
+open_links o = followed (link_view o.link) (chain_behind o.ends (view o.link.item))
+
+-- the links from an optional one on
+abbrev pub links_left : Option OpenLink → List chain.Link
+links_left None = []
+links_left (Some o) = open_links o
+
+-- a link with the next one in its item
+abbrev pub with_next : chain.Link → chain.Link → (last : Bool) → chain.Link
+with_next l next last = record { kind = l.kind; negated = l.negated; at = l.at; item = chain.link_node next last l.item next.item }
+
+-- The tree of links, the last of which has all later ones in its item; `last` is whether there are none, so that the
+-- item is just its own.
+abbrev pub nest_until : (last : Bool) → Node → List chain.Link → Node
+nest_until last x [] = x
+nest_until last x (l ∷ ls) = chain.link_node l (chain.is_last ls && last) x (nest_until last l.item ls)
+
+abbrev pub are_none : Nodes → Bool
+are_none no_nodes = true
+are_none _ = false
+
+-- `eval()` and `Fn()`
+abbrev pub is_no_method : Called → (arguments : Nodes) → Bool
+is_no_method c args = are_none args && (same_text c.name (codes "eval") || same_text c.name (codes "Fn"))
+
+-- the error of a method call after a dot
+abbrev pub method_fault : Called → (arguments : Nodes) → Position → Option Refusal
+method_fault c args p = chain.link_fault (record { kind = chain.Dotted; negated = false; at = p; item = method_call c args p })
+
+-- `.b`, as in `a.b`
+abbrev example_dot : chain.Link
+example_dot = record { kind = chain.Dotted; negated = false; at = place 1 2; item = property (codes "b") (place 1 3) }
+
+example : (nest_until true (property (codes "a") (place 1 1)) (example_dot ∷ []) ≡ chain.nest (property (codes "a") (place 1 1)) (example_dot ∷ [])) × (chain_behind true example_dot.item ≡ alone example_dot.item)
+example = (refl, refl)
