@@ -55,13 +55,15 @@ key_found (Some t) = literal.AKey (rc_str_bytes t)
 -- map ends.
 abbrev pub KeyIs : (before : Properties) → Position → KeyPlace → Option Ident → Type 0
 KeyIs before at place None = place ≡ literal.FieldsEnd
-KeyIs before at place (Some key) = (place ≡ literal.AKey (rc_str_bytes key.name)) × (key.pos ≡ at) × (has_key (rc_str_bytes key.name) before ≡ false)
+KeyIs before at place (Some key) =
+    (place ≡ literal.AKey (rc_str_bytes key.name)) × (key.pos ≡ at) × (has_key (rc_str_bytes key.name) before ≡ false)
 
 -- What stands where a key may is refused: it is none and stays, or it is the key of one of the properties and was taken.
 abbrev pub KeyRefused : (before : Properties) → Cursor → KeyPlace → Refusal → Cursor → Type 0
 KeyRefused before s literal.FieldsEnd e t = ⊥
 KeyRefused before s (literal.NoKey why) e t = (e ≡ refusal why (asked s).at) × (t ≡ looking s)
-KeyRefused before s (literal.AKey key) e t = (has_key key before ≡ true) × (e ≡ refusal (cause.DuplicatedProperty key) (asked s).at) × (t ≡ taking s)
+KeyRefused before s (literal.AKey key) e t =
+    (has_key key before ≡ true) × (e ≡ refusal (cause.DuplicatedProperty key) (asked s).at) × (t ≡ taking s)
 
 abbrev pub is_interpolated : Lexeme → Bool
 is_interpolated (Interpolated t) = true

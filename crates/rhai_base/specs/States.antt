@@ -10,7 +10,8 @@ use Rattle.rhai_base.specs.declared.state.ParseState.{ParseState}
 
 -- The next token is requested in code mode, every token is allowed in an expression, there is no slot, no captured name
 -- and no import, and all counts are 0. Nothing is said about the library: it may hold functions.
-pub record IsFresh (s : ParseState (List SlotValue) (Vec (RcStr Global × Position) Global) (Vec (RcStr Global) Global)) : Type 0 where
+pub record IsFresh (s : ParseState (List SlotValue) (Vec (RcStr Global
+    × Position) Global) (Vec (RcStr Global) Global)) : Type 0 where
   pub mode : s.input.now.in_text ≡ false
   pub filter : s.expr_filter ≡ All
   pub stack : s.stack ≡ []

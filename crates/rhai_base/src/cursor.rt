@@ -42,7 +42,8 @@ pub fn take(input: &mut TokenStream) -> (Token, Position)
     ensures value { item_of result ≡ asked (cursor_of input.old) }
     ensures after { cursor_of input.new ≡ taking (cursor_of input.old) }
     ensures shorter { left (cursor_of input.new).tokens ≤ left (cursor_of input.old).tokens }
-    ensures shrinks { is_end (asked (cursor_of input.old)).lexeme ≡ false → left (cursor_of input.new).tokens + 1 ≤ left (cursor_of input.old).tokens }
+    ensures shrinks { is_end (asked (cursor_of input.old)).lexeme ≡ false
+        → left (cursor_of input.new).tokens + 1 ≤ left (cursor_of input.old).tokens }
 {
     input.next()
 }
@@ -52,7 +53,8 @@ pub fn take(input: &mut TokenStream) -> (Token, Position)
 pub fn skip(input: &mut TokenStream)
     ensures after { cursor_of input.new ≡ taking (cursor_of input.old) }
     ensures shorter { left (cursor_of input.new).tokens ≤ left (cursor_of input.old).tokens }
-    ensures shrinks { is_end (asked (cursor_of input.old)).lexeme ≡ false → left (cursor_of input.new).tokens + 1 ≤ left (cursor_of input.old).tokens }
+    ensures shrinks { is_end (asked (cursor_of input.old)).lexeme ≡ false
+        → left (cursor_of input.new).tokens + 1 ≤ left (cursor_of input.old).tokens }
 {
     input.skip();
 }

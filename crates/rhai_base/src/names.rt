@@ -92,7 +92,8 @@ impl FnNames {
 
 // Adds the name of a function.
 fn add_name(names: &mut IndexSet<RcStr>, key: &FnKey) -> Result<(), AllocError>
-    ensures { OnOk result ((name : Text) → listed name names.new.keys ≡ (listed name names.old.keys || same_text (key_of key.now).name name)) }
+    ensures { OnOk result ((name : Text) → listed name names.new.keys
+        ≡ (listed name names.old.keys || same_text (key_of key.now).name name)) }
 {
     names.insert(key.name.clone()?)?;
     Ok(())

@@ -233,5 +233,7 @@ no_argument (Sign EOF) = true
 no_argument _ = false
 
 -- `(` begins a group where an operand is expected, and calls the name before it; `print` may be called, `this` may not.
-example : (beginning (Sign LeftParen) ≡ AGroup) × (calling (Sign LeftParen) ≡ WithList) × (may_be_called (codes "print") ≡ true) × (may_be_called (codes "this") ≡ false) × (following (Sign EOF) ≡ NoFollowing (cause.MissingToken (codes ")")))
+example : (beginning (Sign LeftParen) ≡ AGroup) × (calling (Sign LeftParen) ≡ WithList)
+    × (may_be_called (codes "print") ≡ true) × (may_be_called (codes "this") ≡ false)
+    × (following (Sign EOF) ≡ NoFollowing (cause.MissingToken (codes ")")))
 example = (refl, refl, refl, refl, refl)

@@ -49,10 +49,12 @@ nest x [] = x
 nest x (l ∷ ls) = link_node l (is_last ls) x (nest l.item ls)
 
 abbrev bracket : LinkFlags → Position → Node → Chain → Chain
-bracket m p x rest = record { root = x; links = record { kind = Bracket; negated = m.negated; at = p; item = rest.root } ∷ rest.links }
+bracket m p x rest =
+    record { root = x; links = record { kind = Bracket; negated = m.negated; at = p; item = rest.root } ∷ rest.links }
 
 abbrev dotted : LinkFlags → Position → Node → Chain → Chain
-dotted m p x rest = record { root = x; links = record { kind = Dotted; negated = m.negated; at = p; item = rest.root } ∷ rest.links }
+dotted m p x rest =
+    record { root = x; links = record { kind = Dotted; negated = m.negated; at = p; item = rest.root } ∷ rest.links }
 
 abbrev alone : Node → Chain
 alone x = record { root = x; links = [] }
@@ -96,7 +98,8 @@ link_fault l = by_kind l.kind
 -- The error for the index of the first bracket after an operand; without an operand there is nothing to test.
 abbrev pub index_refusal : Option Node → Node → Option Refusal
 index_refusal None key = None
-index_refusal (Some x) key = option_map (λ why. refusal (cause.MalformedIndexExpr why) (start_of key)) (index_fault x key)
+index_refusal (Some x) key =
+    option_map (λ why. refusal (cause.MalformedIndexExpr why) (start_of key)) (index_fault x key)
 
 -- of the links that are refused, the error of the last one
 abbrev pub last_fault : List Link → Option Refusal

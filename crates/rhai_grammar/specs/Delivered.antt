@@ -68,8 +68,10 @@ abbrev pub past : Mode → Point → Point
 past m s = record { tokens = later m s.tokens; taken = record { mode = m; item = ask m s.tokens } ∷ s.taken }
 
 abbrev example_tokens : Tokens
-example_tokens = Then (item (Sign Plus) (place 1 1)) (item (Sign Plus) (place 1 1)) (Ends (place 1 2)) (Ends (place 1 2))
+example_tokens =
+    Then (item (Sign Plus) (place 1 1)) (item (Sign Plus) (place 1 1)) (Ends (place 1 2)) (Ends (place 1 2))
 
 -- After the only token comes the end mark, however often it is requested.
-example : (ask code example_tokens ≡ item (Sign Plus) (place 1 1)) × (ask text (later code (later code example_tokens)) ≡ item (Sign EOF) (place 1 2))
+example : (ask code example_tokens ≡ item (Sign Plus) (place 1 1))
+    × (ask text (later code (later code example_tokens)) ≡ item (Sign EOF) (place 1 2))
 example = (refl, refl)

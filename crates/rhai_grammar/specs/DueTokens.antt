@@ -37,5 +37,6 @@ abbrev pub not_due : DueToken → Lexeme → Cause
 not_due d l = missing (text_of_due d) l
 
 -- Where `)` is required, `]` is refused as a missing `)`.
-example : (is_due RightParen (Sign token.RightParen) ≡ true) × (is_due RightParen (Sign token.RightBracket) ≡ false) × (not_due RightParen (Sign token.RightBracket) ≡ cause.MissingToken (codes ")"))
+example : (is_due RightParen (Sign token.RightParen) ≡ true) × (is_due RightParen (Sign token.RightBracket) ≡ false)
+    × (not_due RightParen (Sign token.RightBracket) ≡ cause.MissingToken (codes ")"))
 example = (refl, refl, refl)

@@ -152,5 +152,8 @@ example_five = integer (pos 5) (place 1 1)
 abbrev example_array : Node
 example_array = array (one_node (string (codes "a") (place 1 2)) no_nodes) (place 1 1)
 
-example : (not_boolean example_array ≡ Some (codes "an array")) × (not_iterable example_array ≡ None) × (index_fault example_array example_five ≡ None) × (index_fault example_five example_array ≡ None) × (index_fault example_array (unit (place 1 1)) ≡ Some (codes "Array, string or bit-field expects integer index, not ()")) × (is_constant example_array ≡ true)
+example : (not_boolean example_array ≡ Some (codes "an array")) × (not_iterable example_array ≡ None)
+    × (index_fault example_array example_five ≡ None) × (index_fault example_five example_array ≡ None)
+    × (index_fault example_array (unit (place 1 1))
+    ≡ Some (codes "Array, string or bit-field expects integer index, not ()")) × (is_constant example_array ≡ true)
 example = (refl, refl, refl, refl, refl, refl)

@@ -18,19 +18,26 @@ use Rattle.rhai_grammar.specs.Promises.{IsWritten}
 
 -- A form whose demands are met is spelled by the tokens that were taken.
 abbrev pub FormsAreSpelled : Type 0
-FormsAreSpelled = (c : Context) (w : Live) (f : Run) (s t : Point) → Met (whole_expression f c w) s t → Gives (spelling f) s.tokens × (t.tokens ≡ leads (spelling f) s.tokens)
+FormsAreSpelled =
+    (c : Context) (w : Live) (f : Run) (s t : Point) → Met (whole_expression f c w) s t
+    → Gives (spelling f) s.tokens × (t.tokens ≡ leads (spelling f) s.tokens)
 
 -- After a form that fits and spells a delivered stream, the stream is at its end.
 abbrev pub StreamsAreWhole : Type 0
-StreamsAreWhole = (c : Context) (w : Live) (f : Run) (s t : Point) → IsDelivered s.tokens → Met (whole_expression f c w) s t → (end : Position) × (t.tokens ≡ Ends end)
+StreamsAreWhole =
+    (c : Context) (w : Live) (f : Run) (s t : Point) → IsDelivered s.tokens → Met (whole_expression f c w) s t
+    → (end : Position) × (t.tokens ≡ Ends end)
 
 -- Entries that may be delivered make a delivered stream.
 abbrev pub EntriesAreDelivered : Type 0
-EntriesAreDelivered = (entries : List Entry) (end : Position) → All (λ e. IsTrue (may_be_delivered e)) entries → IsDelivered (delivered (map ask_of entries) end)
+EntriesAreDelivered =
+    (entries : List Entry) (end : Position) → All (λ e. IsTrue (may_be_delivered e)) entries
+    → IsDelivered (delivered (map ask_of entries) end)
 
 -- Two forms that fit and spell the same stream have the same tree.
 abbrev pub FormsHaveOneTree : Type 0
-FormsHaveOneTree = (c : Context) (w : Live) (s : Cursor) (f g : Run) → IsWritten c w f s → IsWritten c w g s → tree f w ≡ tree g w
+FormsHaveOneTree =
+    (c : Context) (w : Live) (s : Cursor) (f g : Run) → IsWritten c w f s → IsWritten c w g s → tree f w ≡ tree g w
 
 -- a verdict that is an error
 abbrev pub is_refused : Verdict → Bool

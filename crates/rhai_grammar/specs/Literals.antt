@@ -108,5 +108,8 @@ behind_value l = NoFollowing (missing (codes "}") l)
 
 -- With a limit of 1, a second item is one too many; `}` ends an object map; `+` is not a key, and in place of the first
 -- key it is a missing `}`.
-example : (item_place 1 1 (Name (codes "a")) ≡ NoItem (too_many_items 1)) × (item_place 1 1 (Sign RightBracket) ≡ ItemsEnd) × (key_place false true (Sign RightBrace) ≡ FieldsEnd) × (key_place false true (Sign Plus) ≡ NoKey (cause.MissingToken (codes "}"))) × (key_place false false (Sign Plus) ≡ NoKey cause.PropertyExpected)
+example : (item_place 1 1 (Name (codes "a")) ≡ NoItem (too_many_items 1))
+    × (item_place 1 1 (Sign RightBracket) ≡ ItemsEnd) × (key_place false true (Sign RightBrace) ≡ FieldsEnd)
+    × (key_place false true (Sign Plus) ≡ NoKey (cause.MissingToken (codes "}")))
+    × (key_place false false (Sign Plus) ≡ NoKey cause.PropertyExpected)
 example = (refl, refl, refl, refl, refl)

@@ -89,4 +89,5 @@ pub record IsRefused (c : Context) (w : Live) (taken : List Taken) (start left :
 pub record ReadsExpression {F : Type 0} (library : List F) (c : Context) (w : Live) (start left : Cursor) (result : Result AST ParseError) : Type 0 where
   pub accepted : library ≡ [] → IfOk result (λ script. (f : Run) × IsWritten c w f start × IsScriptOf (tree f w) script)
   pub only : library ≡ [] → (f : Run) → IsWritten c w f start → Accepts (tree f w) result
-  pub refused : IfErr result (λ e. is_for_memory e ≡ false → (taken : List Taken) × IsRefused c w taken start left (refusal_of e))
+  pub refused : IfErr result (λ e. is_for_memory e ≡ false
+      → (taken : List Taken) × IsRefused c w taken start left (refusal_of e))

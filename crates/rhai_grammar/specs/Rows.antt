@@ -51,7 +51,8 @@ Fits f tokens end = Met (whole_expression f (depth 64) nothing_live) (unread tok
 
 -- `1 + 2 * 3`: the product is the sum's right operand.
 abbrev pub sum_tokens : List (Lexeme × ℕ)
-sum_tokens = (Integer (pos 1), 1) ∷ (Sign Plus, 3) ∷ (Integer (pos 2), 5) ∷ (Sign Multiply, 7) ∷ (Integer (pos 3), 9) ∷ []
+sum_tokens =
+    (Integer (pos 1), 1) ∷ (Sign Plus, 3) ∷ (Integer (pos 2), 5) ∷ (Sign Multiply, 7) ∷ (Integer (pos 3), 9) ∷ []
 
 abbrev pub sum_form : Run
 sum_form = Binary (Sign Plus) (place 1 3) (number 1 1) (Binary (Sign Multiply) (place 1 7) (number 2 5) (number 3 9))
@@ -74,7 +75,8 @@ abbrev pub pair_form : Run
 pair_form = Binary (Sign Plus) (place 1 3) (number 1 1) (number 2 5)
 
 pub record PairRow : Type 0 where
-  pub tree_is : tree pair_form nothing_live ≡ operator_call (Sign Plus) (place 1 3) (integer (pos 1) (place 1 1)) (integer (pos 2) (place 1 5))
+  pub tree_is : tree pair_form nothing_live
+      ≡ operator_call (Sign Plus) (place 1 3) (integer (pos 1) (place 1 1)) (integer (pos 2) (place 1 5))
   pub fits : Met (whole_expression pair_form (depth 2) nothing_live) (unread pair_tokens 6) (between pair_tokens [] 6)
   pub deep : Missed (whole_expression pair_form (depth 1) nothing_live) (unread pair_tokens 6) (refusal cause.ExprTooDeep (place 1 1)) (between pair_tokens [] 6)
 
@@ -87,7 +89,8 @@ abbrev pub flat_form : Run
 flat_form = Binary (Sign Plus) (place 1 7) pair_form (number 3 9)
 
 pub record FlatRow : Type 0 where
-  pub tree_is : tree flat_form nothing_live ≡ operator_call (Sign Plus) (place 1 7) (tree pair_form nothing_live) (integer (pos 3) (place 1 9))
+  pub tree_is : tree flat_form nothing_live
+      ≡ operator_call (Sign Plus) (place 1 7) (tree pair_form nothing_live) (integer (pos 3) (place 1 9))
   pub deep : Missed (whole_expression flat_form (depth 2) nothing_live) (unread flat_tokens 10) (refusal cause.ExprTooDeep (place 1 3)) (between flat_tokens [] 10)
 
 -- a range from an omitted zero to 5, both at these columns
@@ -99,7 +102,8 @@ abbrev pub open_tokens : List (Lexeme × ℕ)
 open_tokens = (Sign ExclusiveRange, 1) ∷ (Integer (pos 5), 3) ∷ []
 
 abbrev pub open_form : Run
-open_form = Binary (Sign ExclusiveRange) (place 1 1) (Just (plain (Zero (Sign ExclusiveRange) (place 1 1)))) (number 5 3)
+open_form =
+    Binary (Sign ExclusiveRange) (place 1 1) (Just (plain (Zero (Sign ExclusiveRange) (place 1 1)))) (number 5 3)
 
 pub record OpenRow : Type 0 where
   pub tree_is : tree open_form nothing_live ≡ range_tree 1 1 3
@@ -141,7 +145,8 @@ abbrev pub call_rest : List (Lexeme × ℕ)
 call_rest = (Integer (pos 1), 3) ∷ (Sign RightParen, 4) ∷ []
 
 pub record CallRow : Type 0 where
-  pub tree_is : tree call_form nothing_live ≡ call (function_called (codes "f") false 1) (one_node (integer (pos 1) (place 1 3)) no_nodes) (place 1 1)
+  pub tree_is : tree call_form nothing_live
+      ≡ call (function_called (codes "f") false 1) (one_node (integer (pos 1) (place 1 3)) no_nodes) (place 1 1)
   pub fits : Met (whole_expression call_form (depth 3) nothing_live) (unread call_tokens 5) (between call_tokens [] 5)
   pub argument_deep : Missed (whole_expression call_form (depth 2) nothing_live) (unread call_tokens 5) (refusal cause.ExprTooDeep (place 1 3)) (between call_begun call_rest 5)
   pub list_deep : Missed (whole_expression call_form (depth 1) nothing_live) (unread call_tokens 5) (refusal cause.ExprTooDeep (place 1 1)) (between call_begun call_rest 5)
@@ -165,7 +170,8 @@ pub record RangedRow : Type 0 where
 
 -- `[1, 2, 3]`: where an array has at most two items, the third is one too many.
 abbrev pub sized_begun : List (Lexeme × ℕ)
-sized_begun = (Sign LeftBracket, 1) ∷ (Integer (pos 1), 2) ∷ (Sign Comma, 3) ∷ (Integer (pos 2), 5) ∷ (Sign Comma, 6) ∷ []
+sized_begun =
+    (Sign LeftBracket, 1) ∷ (Integer (pos 1), 2) ∷ (Sign Comma, 3) ∷ (Integer (pos 2), 5) ∷ (Sign Comma, 6) ∷ []
 
 abbrev pub sized_rest : List (Lexeme × ℕ)
 sized_rest = (Integer (pos 3), 8) ∷ (Sign RightBracket, 9) ∷ []

@@ -33,6 +33,8 @@ abbrev at_level : ℕ → ℕ → Settings
 at_level limit level = record { flags = 0; options = 0; level = level; limit = limit }
 
 -- Under a limit of 2 the level may be raised twice, without a limit always, and the greatest level stays.
-example : (level_up (at_level 2 0) ≡ at_level 2 1) × (has_room (at_level 2 1) ≡ true) × (has_room (at_level 2 2) ≡ false) × (has_room (at_level 0 2) ≡ true) × (level_up (at_level 0 (2 ^ 64 - 1)) ≡ at_level 0 (2 ^ 64 - 1))
+example : (level_up (at_level 2 0) ≡ at_level 2 1) × (has_room (at_level 2 1) ≡ true)
+    × (has_room (at_level 2 2) ≡ false) × (has_room (at_level 0 2) ≡ true)
+    × (level_up (at_level 0 (2 ^ 64 - 1)) ≡ at_level 0 (2 ^ 64 - 1))
 unfolding one_more
 example = (refl, refl, refl, refl, refl)

@@ -81,5 +81,8 @@ example_five = integer (pos 5) (place 1 2)
 abbrev example_least : Node
 example_least = integer least (place 1 2)
 
-example : (signed (Sign UnaryMinus) (place 1 1) example_five ≡ integer (negsuc 4) (place 1 1)) × (signed (Sign Plus) (place 1 1) example_five ≡ example_five) × (signed (Sign Bang) (place 1 1) example_five ≡ sign_call (Sign Bang) (place 1 1) example_five) × (sign_result (Sign Minus) (place 1 1) example_least ≡ Err (malformed (place 1 1) example_least))
+example : (signed (Sign UnaryMinus) (place 1 1) example_five ≡ integer (negsuc 4) (place 1 1))
+    × (signed (Sign Plus) (place 1 1) example_five ≡ example_five)
+    × (signed (Sign Bang) (place 1 1) example_five ≡ sign_call (Sign Bang) (place 1 1) example_five)
+    × (sign_result (Sign Minus) (place 1 1) example_least ≡ Err (malformed (place 1 1) example_least))
 example = (refl, refl, refl, refl)

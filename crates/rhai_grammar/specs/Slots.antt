@@ -17,7 +17,8 @@ is_named name slot = same_text slot.name name && not (is_barrier slot)
 -- The number of the latest slot of this name, if there is one: a later slot takes precedence.
 unfoldable pub number : Text → List SlotValue → Option ℕ
 number name [] = None
-number name (slot ∷ later) = option_or (number name later) (if is_named name slot then Some (length later + 1) else None)
+number name (slot ∷ later) =
+    option_or (number name later) (if is_named name slot then Some (length later + 1) else None)
 
 -- the slots that are later than the one with this number; all of them if there is none
 abbrev pub later_than : Option ℕ → List SlotValue → List SlotValue
@@ -34,7 +35,8 @@ slot_from_latest slots place = slot_at slots (length slots - place)
 
 -- The slot with this number has this name, and no later slot has it; without a number, no slot has the name.
 abbrev pub IsLatest : Text → List SlotValue → Option ℕ → Type 0
-IsLatest name slots None = (place : ℕ) → 0 < place → place ≤ length slots → is_named name (slot_from_latest slots place) ≡ false
+IsLatest name slots None =
+    (place : ℕ) → 0 < place → place ≤ length slots → is_named name (slot_from_latest slots place) ≡ false
 IsLatest name slots (Some place) =
     (0 < place)
     × (place ≤ length slots)
@@ -43,7 +45,8 @@ IsLatest name slots (Some place) =
 
 -- `a`, a barrier, and then `b`
 abbrev example_slots : List SlotValue
-example_slots = fresh_slot (codes "a") false ∷ fresh_slot (codes "$ BARRIER $") false ∷ fresh_slot (codes "b") false ∷ []
+example_slots =
+    fresh_slot (codes "a") false ∷ fresh_slot (codes "$ BARRIER $") false ∷ fresh_slot (codes "b") false ∷ []
 
 -- The number of a name's slot, and whether a search from the latest slot meets a barrier before it.
 abbrev found : Text → Option ℕ × Bool
@@ -51,6 +54,7 @@ found name = (number name example_slots, barrier_before name example_slots)
 
 -- From the latest slot, there is no barrier before `b`, there is one before `a`, there is no `c`, and the barrier has
 -- no number.
-example : (found (codes "b") ≡ (Some 1, false)) × (found (codes "a") ≡ (Some 3, true)) × (found (codes "c") ≡ (None, true)) × (found (codes "$ BARRIER $") ≡ (None, true))
+example : (found (codes "b") ≡ (Some 1, false)) × (found (codes "a") ≡ (Some 3, true))
+    × (found (codes "c") ≡ (None, true)) × (found (codes "$ BARRIER $") ≡ (None, true))
 unfolding number
 example = (refl, refl, refl, refl)

@@ -26,7 +26,8 @@ abbrev mutual
   primary_spelling (form.Value token at) = in_code token at ∷ []
   primary_spelling (form.Named name at) = in_code (Name name) at ∷ []
   primary_spelling (form.Word word at) = in_code (Reserved word) at ∷ []
-  primary_spelling (form.Group opening inside closing) = in_code (Sign LeftParen) opening ∷ (spelling inside ++ (in_code (Sign RightParen) closing ∷ []))
+  primary_spelling (form.Group opening inside closing) =
+      in_code (Sign LeftParen) opening ∷ (spelling inside ++ (in_code (Sign RightParen) closing ∷ []))
   primary_spelling (form.Array opening elements) = in_code (Sign LeftBracket) opening ∷ element_spelling elements
   primary_spelling (form.Map opening fields) = in_code (Sign MapStart) opening ∷ field_spelling fields
   primary_spelling (form.Zero range at) = []
@@ -37,8 +38,10 @@ abbrev mutual
 
   pub link_spelling : Links → List Taken
   link_spelling form.NoLink = []
-  link_spelling (form.Bracket opening at f closing rest) = in_code opening at ∷ (spelling f ++ (in_code (Sign RightBracket) closing ∷ link_spelling rest))
-  link_spelling (form.Property dot at name name_at rest) = in_code dot at ∷ in_code (Name name) name_at ∷ link_spelling rest
+  link_spelling (form.Bracket opening at f closing rest) =
+      in_code opening at ∷ (spelling f ++ (in_code (Sign RightBracket) closing ∷ link_spelling rest))
+  link_spelling (form.Property dot at name name_at rest) =
+      in_code dot at ∷ in_code (Name name) name_at ∷ link_spelling rest
   link_spelling (form.Method dot at name name_at bang args rest) =
       in_code dot at ∷ in_code name name_at ∷ (bang_spelling bang ++ (argument_spelling args ++ link_spelling rest))
 
@@ -49,12 +52,14 @@ abbrev mutual
 
   pub argument_spelling : Arguments → List Taken
   argument_spelling (form.EmptyPair at) = in_code (Sign token.Unit) at ∷ []
-  argument_spelling (form.Empty opening closing) = in_code (Sign LeftParen) opening ∷ in_code (Sign RightParen) closing ∷ []
+  argument_spelling (form.Empty opening closing) =
+      in_code (Sign LeftParen) opening ∷ in_code (Sign RightParen) closing ∷ []
   argument_spelling (form.Listed opening list) = in_code (Sign LeftParen) opening ∷ item_spelling list
 
   pub item_spelling : Items → List Taken
   item_spelling (form.Last f closing) = spelling f ++ (in_code (Sign RightParen) closing ∷ [])
-  item_spelling (form.Trailing f comma closing) = spelling f ++ (in_code (Sign Comma) comma ∷ in_code (Sign RightParen) closing ∷ [])
+  item_spelling (form.Trailing f comma closing) =
+      spelling f ++ (in_code (Sign Comma) comma ∷ in_code (Sign RightParen) closing ∷ [])
   item_spelling (form.More f comma rest) = spelling f ++ (in_code (Sign Comma) comma ∷ item_spelling rest)
 
   pub element_spelling : Elements → List Taken
@@ -64,8 +69,10 @@ abbrev mutual
 
   pub field_spelling : Fields → List Taken
   field_spelling (form.NoField closing) = in_code (Sign RightBrace) closing ∷ []
-  field_spelling (form.LastField key at colon f closing) = in_code key at ∷ in_code (Sign Colon) colon ∷ (spelling f ++ (in_code (Sign RightBrace) closing ∷ []))
-  field_spelling (form.Field key at colon f comma rest) = in_code key at ∷ in_code (Sign Colon) colon ∷ (spelling f ++ (in_code (Sign Comma) comma ∷ field_spelling rest))
+  field_spelling (form.LastField key at colon f closing) =
+      in_code key at ∷ in_code (Sign Colon) colon ∷ (spelling f ++ (in_code (Sign RightBrace) closing ∷ []))
+  field_spelling (form.Field key at colon f comma rest) =
+      in_code key at ∷ in_code (Sign Colon) colon ∷ (spelling f ++ (in_code (Sign Comma) comma ∷ field_spelling rest))
 
   pub spelling : Run → List Taken
   spelling (form.Just x) = operand_spelling x
@@ -80,7 +87,8 @@ is_deliverable _ = true
 -- a stream of such tokens
 abbrev pub IsDelivered : Tokens → Type 0
 IsDelivered (Ends p) = Unit {0}
-IsDelivered (Then a b s t) = ((is_deliverable a.lexeme ≡ true) × (is_deliverable b.lexeme ≡ true)) × (IsDelivered s × IsDelivered t)
+IsDelivered (Then a b s t) =
+    ((is_deliverable a.lexeme ≡ true) × (is_deliverable b.lexeme ≡ true)) × (IsDelivered s × IsDelivered t)
 
 -- `f(1)`
 example : spelling (form.Just (form.Linked (form.Call (form.Named (codes "f") (place 1 1)) None (form.Listed (place 1 2) (form.Last (form.Just (form.Linked (form.Plain (form.Value (Integer (pos 1)) (place 1 3))) form.NoLink)) (place 1 4)))) form.NoLink)) ≡ in_code (Name (codes "f")) (place 1 1) ∷ in_code (Sign LeftParen) (place 1 2) ∷ in_code (Integer (pos 1)) (place 1 3) ∷ in_code (Sign RightParen) (place 1 4) ∷ []

@@ -47,12 +47,14 @@ is_right _ = false
 -- The left side of an operator has no weaker operator at its top, and that of a right-associative one none that is
 -- equally strong.
 abbrev pub left_of : Behind → Behind → Bool
-left_of op inner = if is_right op then nat_lt (strength op) (strength inner) else not (nat_lt (strength inner) (strength op))
+left_of op inner =
+    if is_right op then nat_lt (strength op) (strength inner) else not (nat_lt (strength inner) (strength op))
 
 -- The right side of an operator has no weaker operator at its top, and that of a left-associative one none that is
 -- equally strong.
 abbrev pub right_of : Behind → Behind → Bool
-right_of op inner = if is_right op then not (nat_lt (strength inner) (strength op)) else nat_lt (strength op) (strength inner)
+right_of op inner =
+    if is_right op then not (nat_lt (strength inner) (strength op)) else nat_lt (strength op) (strength inner)
 
 -- `*` may be on either side of `+`; `+` may be on the left of `+`, and `**` on the right of `**`, but not the other way
 -- round.
@@ -62,5 +64,8 @@ example_plus = behind_of (Sign Plus)
 abbrev example_power : Behind
 example_power = behind_of (Sign PowerOf)
 
-example : (left_of example_plus (behind_of (Sign Multiply)) ≡ true) × (right_of example_plus (behind_of (Sign Multiply)) ≡ true) × (left_of example_plus example_plus ≡ true) × (right_of example_plus example_plus ≡ false) × (left_of example_power example_power ≡ false) × (right_of example_power example_power ≡ true)
+example : (left_of example_plus (behind_of (Sign Multiply)) ≡ true)
+    × (right_of example_plus (behind_of (Sign Multiply)) ≡ true) × (left_of example_plus example_plus ≡ true)
+    × (right_of example_plus example_plus ≡ false) × (left_of example_power example_power ≡ false)
+    × (right_of example_power example_power ≡ true)
 example = (refl, refl, refl, refl, refl, refl)

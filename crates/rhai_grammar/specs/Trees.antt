@@ -49,7 +49,8 @@ function_called name bang count = record { name = name; path = []; module_index 
 
 -- the call of a name, at the name's position
 abbrev pub call_tree : Node → (bang : Bool) → Nodes → Node
-call_tree name bang arguments = call (function_called (name_of name) bang (node_count arguments)) arguments (position_of name)
+call_tree name bang arguments =
+    call (function_called (name_of name) bang (node_count arguments)) arguments (position_of name)
 
 -- ---- links
 
@@ -83,7 +84,8 @@ abbrev mutual
 
   pub base_tree : Base → Live → Node
   base_tree (form.Plain x) w = primary_tree x w false
-  base_tree (form.Call x bang arguments) w = call_tree (primary_tree x w true) (is_some bang) (argument_trees arguments w)
+  base_tree (form.Call x bang arguments) w =
+      call_tree (primary_tree x w true) (is_some bang) (argument_trees arguments w)
 
   pub link_list : Links → Live → List Link
   link_list form.NoLink w = []
@@ -115,7 +117,8 @@ abbrev mutual
   pub field_trees : Fields → Live → Properties
   field_trees (form.NoField closing) w = no_properties
   field_trees (form.LastField key at colon f closing) w = one_property (text_of key) at (tree f w) no_properties
-  field_trees (form.Field key at colon f comma fields) w = one_property (text_of key) at (tree f w) (field_trees fields w)
+  field_trees (form.Field key at colon f comma fields) w =
+      one_property (text_of key) at (tree f w) (field_trees fields w)
 
   pub tree : Run → Live → Node
   tree (form.Just x) w = operand_tree x w

@@ -92,7 +92,8 @@ abbrev pub close_or_argument : Lexeme → Verdict
 close_or_argument l = if no_argument l then Wrong (missing (codes ")") l) else Otherwise
 
 abbrev pub argument_due : Lexeme → Verdict
-argument_due l = if no_argument l then Wrong (missing (codes ")") l) else if begin.is_close (following l) then Otherwise else Fine
+argument_due l =
+    if no_argument l then Wrong (missing (codes ")") l) else if begin.is_close (following l) then Otherwise else Fine
 
 -- after an argument
 abbrev pub follows : Following → Verdict
@@ -244,10 +245,12 @@ ended k = Next run_ends ▸ k
 
 -- After its whole right side an operator joins its operands: for `&&` and `||` both have to be possible booleans.
 abbrev pub operands_fit : Lexeme → Node → Node → Demands → Demands
-operands_fit op x y k = Next (side_ends op) ▸ Test (boolean_holds op x) (mismatched x) ▸ Test (boolean_holds op y) (mismatched y) ▸ k
+operands_fit op x y k =
+    Next (side_ends op) ▸ Test (boolean_holds op x) (mismatched x) ▸ Test (boolean_holds op y) (mismatched y) ▸ k
 
 -- A property up to its value: no earlier property has its key.
-abbrev pub field : (key : Lexeme) (at colon : Position) (before : Properties) → Context → (opening : Position) → Demands → Demands
+abbrev pub field : (key : Lexeme) (at colon : Position) (before : Properties) → Context → (opening : Position)
+    → Demands → Demands
 field key at colon before c opening k =
     Shape (is_key (next_key c.settings before key)) ▸ Tok code (item key at) (key_due c before) ▸
     Test (not (has_key (text_of key) before)) (refusal (cause.DuplicatedProperty (text_of key)) at) ▸
@@ -267,7 +270,8 @@ abbrev pub behind_operand : Context → Node → LinkSpot
 behind_operand c x = record { settings = c; brackets = c; indexed = Some x; before = [] }
 
 abbrev pub behind_bracket : LinkSpot → Link → LinkSpot
-behind_bracket q l = record { settings = q.settings; brackets = level_up q.brackets; indexed = None; before = q.before ++ (l ∷ []) }
+behind_bracket q l =
+    record { settings = q.settings; brackets = level_up q.brackets; indexed = None; before = q.before ++ (l ∷ []) }
 
 -- Everything to the right of a dot is one level deeper.
 abbrev pub behind_dot : LinkSpot → Link → LinkSpot
@@ -288,9 +292,11 @@ method dot at name name_at q k =
 
 abbrev mutual
   pub primary : Primary → Context → Live → (ranged : Bool) → Demands → Demands
-  primary (form.Value token at) c w ranged k = Shape (is_value (beginning token)) ▸ Tok code (item token at) (operand_due ranged) ▸ k
+  primary (form.Value token at) c w ranged k =
+      Shape (is_value (beginning token)) ▸ Tok code (item token at) (operand_due ranged) ▸ k
   primary (form.Named name at) c w ranged k = Tok code (item (Name name) at) (operand_due ranged) ▸ k
-  primary (form.Word word at) c w ranged k = Tok code (item (Reserved word) at) (operand_due ranged) ▸ Next (word_behind c word at) ▸ k
+  primary (form.Word word at) c w ranged k =
+      Tok code (item (Reserved word) at) (operand_due ranged) ▸ Next (word_behind c word at) ▸ k
   primary (form.Group opening inside closing) c w ranged k =
       Tok code (item (Sign LeftParen) opening) (operand_due ranged) ▸ raise_at c opening (
       begun (level_up c) (run inside (outermost (level_up (level_up c)) w) (ended (due_token due.RightParen closing k))))
@@ -298,7 +304,8 @@ abbrev mutual
       Tok code (item (Sign LeftBracket) opening) (operand_due ranged) ▸ raise_at c opening (elements list 0 (level_up c) w opening k)
   primary (form.Map opening list) c w ranged k =
       Tok code (item (Sign MapStart) opening) (operand_due ranged) ▸ raise_at c opening (fields list no_properties (level_up c) w opening k)
-  primary (form.Zero range at) c w ranged k = Shape (is_range (beginning range)) ▸ Ahead (item range at) (operand_due ranged) ▸ k
+  primary (form.Zero range at) c w ranged k =
+      Shape (is_range (beginning range)) ▸ Ahead (item range at) (operand_due ranged) ▸ k
 
   -- A variable that is called is the name of a call. Only what calls it may follow a reserved word other than `this`.
   pub base : Base → Context → Live → (ranged : Bool) → Demands → Demands
@@ -337,7 +344,8 @@ abbrev mutual
   operand (form.Signed sign at x) c w ranged k =
       Shape (is_sign (beginning sign)) ▸ Tok code (item sign at) (operand_due ranged) ▸ raise_at c at (
       operand x (level_up c) w false (Test (sign_holds sign (operand_tree x w)) (malformed at (operand_tree x w)) ▸ k))
-  operand (form.NoOperand token at) c w ranged k = Shape (ranged && closes token) ▸ Ahead (item token at) (operand_due ranged) ▸ k
+  operand (form.NoOperand token at) c w ranged k =
+      Shape (ranged && closes token) ▸ Ahead (item token at) (operand_due ranged) ▸ k
 
   -- The level of arguments is raised once for all of them; the refusal has the position of the name that is called.
   pub arguments : Arguments → (others : Lexeme → Verdict) → Context → Live → Position → Demands → Demands
@@ -348,7 +356,8 @@ abbrev mutual
       Tok code (item (Sign LeftParen) opening) others ▸ Next argument_due ▸ raise_at c name (items list (level_up c) w k)
 
   pub items : Items → Context → Live → Demands → Demands
-  items (form.Last f closing) c w k = begun c (run f (outermost (level_up c) w) (ended (Tok code (item (Sign RightParen) closing) comma_or_close ▸ k)))
+  items (form.Last f closing) c w k =
+      begun c (run f (outermost (level_up c) w) (ended (Tok code (item (Sign RightParen) closing) comma_or_close ▸ k)))
   items (form.Trailing f comma closing) c w k =
       begun c (run f (outermost (level_up c) w) (ended (
       Tok code (item (Sign Comma) comma) comma_or_close ▸ Tok code (item (Sign RightParen) closing) anything ▸ k)))
@@ -358,7 +367,8 @@ abbrev mutual
 
   -- The level is raised again for each item; the refusal is at the `[`. `count` is the number of items before.
   pub elements : Elements → (count : ℕ) → Context → Live → (opening : Position) → Demands → Demands
-  elements (form.NoElement closing) count c w opening k = Tok code (item (Sign RightBracket) closing) (no_item_due c.sizes.array count) ▸ k
+  elements (form.NoElement closing) count c w opening k =
+      Tok code (item (Sign RightBracket) closing) (no_item_due c.sizes.array count) ▸ k
   elements (form.LastElement f closing) count c w opening k =
       Next (item_due c.sizes.array count) ▸ raise_at c opening (
       begun (level_up c) (run f (outermost (level_up (level_up c)) w) (ended (Tok code (item (Sign RightBracket) closing) item_follows ▸ k))))

@@ -29,7 +29,8 @@ in_code t = t
 
 -- the text from which such a token was made
 abbrev pub back_in_text : Bool → Token → Token
-back_in_text interpolated (token.LexError (UnexpectedInput s)) = if interpolated then token.InterpolatedString s else token.StringConstant s
+back_in_text interpolated (token.LexError (UnexpectedInput s)) =
+    if interpolated then token.InterpolatedString s else token.StringConstant s
 back_in_text interpolated t = t
 
 -- what a request for a token gives in each mode; the flag is whether it is marked as text

@@ -47,5 +47,6 @@ abbrev pub is_function_name : Text → Bool
 is_function_name t = is_identifier t && not (is_reserved t)
 
 -- `_a1` is a name, `1a` and `_` are not, and `print` may be called, but not as a method.
-example : (is_identifier (codes "_a1") ≡ true) × (is_identifier (codes "1a") ≡ false) × (is_identifier (codes "_") ≡ false) × (reserved_as (codes "print") ≡ (true, true, false))
+example : (is_identifier (codes "_a1") ≡ true) × (is_identifier (codes "1a") ≡ false)
+    × (is_identifier (codes "_") ≡ false) × (reserved_as (codes "print") ≡ (true, true, false))
 example = (refl, refl, refl, refl)

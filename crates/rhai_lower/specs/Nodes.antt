@@ -71,7 +71,8 @@ mutual
     while_statement : (guard : Node) → (body : Block) → Position → Statement
     do_statement : (guard : Node) → (body : Block) → (negated : Bool) → Position → Statement
     for_statement : (name : Text) → (counter : Option Text) → (over : Node) → (body : Block) → Position → Statement
-    var_statement : (name : Text) → (value : Node) → (number : Option ℕ) → (constant exported : Bool) → Position → Statement
+    var_statement : (name : Text) → (value : Node) → (number : Option ℕ) → (constant exported : Bool) → Position
+        → Statement
     assignment : Option Lexeme → (target value : Node) → Position → Statement
     expression : Node → Statement
     block_statement : Block → Statement
@@ -217,5 +218,7 @@ made_block s = block_of_one s
 abbrev example_index : Node
 example_index = index (variable (record { number = None; name = codes "a"; path = []; module_index = None }) (place 1 1)) (integer (pos 0) (place 1 3)) (record { negated = false; terminating = true }) (place 1 2)
 
-example : (position_of example_index ≡ place 1 2) × (start_of example_index ≡ place 1 1) × (made_block (expression example_index) ≡ braces (one_statement (expression example_index) no_statements) (place 1 2) nowhere)
+example : (position_of example_index ≡ place 1 2) × (start_of example_index ≡ place 1 1)
+    × (made_block (expression example_index)
+    ≡ braces (one_statement (expression example_index) no_statements) (place 1 2) nowhere)
 example = (refl, refl, refl)

@@ -27,7 +27,8 @@ with_constant slots index constant = slice_set slots index (record (slot_at slot
 
 -- the slots with one of them exported under one more name
 abbrev pub with_alias : List SlotValue → ℕ → Text → List SlotValue
-with_alias slots index alias = slice_set slots index (record (slot_at slots index) { aliases = (slot_at slots index).aliases ++ alias ∷ [] })
+with_alias slots index alias =
+    slice_set slots index (record (slot_at slots index) { aliases = (slot_at slots index).aliases ++ alias ∷ [] })
 
 -- whether a slot has this name
 abbrev pub is_declared : Text → List SlotValue → Bool
@@ -37,5 +38,7 @@ is_declared name slots = list_any (λ s. same_text s.name name) slots
 abbrev example_slots : List SlotValue
 example_slots = with_alias (with_slot (with_slot [] (codes "a") false) (codes "b") true) 1 (codes "c")
 
-example : (slot_at example_slots 0 ≡ fresh_slot (codes "a") false) × ((slot_at example_slots 1).aliases ≡ codes "c" ∷ []) × (is_declared (codes "b") example_slots ≡ true) × (is_declared (codes "b") (take 1 example_slots) ≡ false)
+example : (slot_at example_slots 0 ≡ fresh_slot (codes "a") false)
+    × ((slot_at example_slots 1).aliases ≡ codes "c" ∷ []) × (is_declared (codes "b") example_slots ≡ true)
+    × (is_declared (codes "b") (take 1 example_slots) ≡ false)
 example = (refl, refl, refl, refl)

@@ -52,5 +52,6 @@ in_text_next s = record s { in_text = true }
 abbrev example_stream : Stream
 example_stream = stream_of (record { code = (Plus, place 1 1); text = (Plus, place 1 1) } ∷ []) (place 1 2)
 
-example : (asked example_stream ≡ (Plus, place 1 1)) × (asked (later example_stream) ≡ (EOF, place 1 2)) × (asked (later (later example_stream)) ≡ (EOF, place 1 2))
+example : (asked example_stream ≡ (Plus, place 1 1)) × (asked (later example_stream) ≡ (EOF, place 1 2))
+    × (asked (later (later example_stream)) ≡ (EOF, place 1 2))
 example = (refl, refl, refl)

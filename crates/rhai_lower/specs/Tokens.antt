@@ -137,5 +137,6 @@ literal_of EOF = codes "{EOF}"
 literal_of _ = []
 
 -- `*` binds more strongly than `+`, and only `**` is right-associative.
-example : (strength_of Plus ≡ Some 150) × (strength_of Multiply ≡ Some 180) × (binds_right Multiply ≡ false) × (binds_right PowerOf ≡ true)
+example : (strength_of Plus ≡ Some 150) × (strength_of Multiply ≡ Some 180) × (binds_right Multiply ≡ false)
+    × (binds_right PowerOf ≡ true)
 example = (refl, refl, refl, refl)

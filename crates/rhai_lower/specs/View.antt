@@ -147,11 +147,13 @@ expr_step (Expr-F.Stmt b) = Nodes.block_value (box_value b)
 abbrev pub statement_step : Stmt-F Node Statement Pair Flow Seen Rounds Guarded Block Case Choice → Statement
 statement_step (Stmt-F.Noop p) = Nodes.noop p
 statement_step (Stmt-F.If b p) = Nodes.if_statement (box_value b).0 (box_value b).1 (box_value b).2 p
-statement_step (Stmt-F.Switch n c p) = Nodes.switch_statement (box_value n) (box_value c).0 (box_value c).1 (box_value c).2 (box_value c).3 p
+statement_step (Stmt-F.Switch n c p) =
+    Nodes.switch_statement (box_value n) (box_value c).0 (box_value c).1 (box_value c).2 (box_value c).3 p
 statement_step (Stmt-F.While b p) = Nodes.while_statement (box_value b).0 (box_value b).1 p
 statement_step (Stmt-F.Do b m p) = Nodes.do_statement (box_value b).0 (box_value b).1 m p
 statement_step (Stmt-F.For b p) = Nodes.for_statement (box_value b).0 (box_value b).1 (box_value b).2 (box_value b).3 p
-statement_step (Stmt-F.Var t n i c e p) = Nodes.var_statement (rc_str_bytes t) (box_value n) (option_map non_zero_usize_get i) c e p
+statement_step (Stmt-F.Var t n i c e p) =
+    Nodes.var_statement (rc_str_bytes t) (box_value n) (option_map non_zero_usize_get i) c e p
 statement_step (Stmt-F.Assignment op b p) = Nodes.assignment (option_map lexeme op) (box_value b).0 (box_value b).1 p
 statement_step (Stmt-F.Expr n) = Nodes.expression (box_value n)
 statement_step (Stmt-F.Block b) = Nodes.block_statement (box_value b)

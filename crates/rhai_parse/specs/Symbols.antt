@@ -12,5 +12,6 @@ written_as UnaryPlus = codes "u+"
 written_as t = literal_of t
 
 -- The minus of a difference is `-`, that of a negative number is `u-`.
-example : (written_as Minus ≡ codes "-") × (written_as UnaryMinus ≡ codes "u-") × (written_as LeftShiftAssign ≡ codes "<<=")
+example : (written_as Minus ≡ codes "-") × (written_as UnaryMinus ≡ codes "u-")
+    × (written_as LeftShiftAssign ≡ codes "<<=")
 example = (refl, refl, refl)

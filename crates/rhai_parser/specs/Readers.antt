@@ -56,7 +56,8 @@ items engine frame settings before = reading.Items (context_of engine settings) 
 
 -- the items of an array, after these
 abbrev pub elements : EngineValue → Frame → ParseSettings → (before : Nodes) → Goal
-elements engine frame settings before = reading.Elements (context_of engine settings) (live_of frame) settings.pos before
+elements engine frame settings before =
+    reading.Elements (context_of engine settings) (live_of frame) settings.pos before
 
 -- the properties of an object map, after these
 abbrev pub fields : EngineValue → Frame → ParseSettings → (before : Properties) → Goal
@@ -76,7 +77,8 @@ member engine frame settings = reading.Member (context_of engine settings) (live
 
 -- the operators after a left operand that go on with a run of this strength
 abbrev pub binary_op : EngineValue → Frame → ParseSettings → (at : Position) (parent : ℕ) (lhs : Node) → Goal
-binary_op engine frame settings at parent lhs = reading.BinaryOp (context_of engine settings) (live_of frame) at parent lhs
+binary_op engine frame settings at parent lhs =
+    reading.BinaryOp (context_of engine settings) (live_of frame) at parent lhs
 
 -- ---- what comes of it
 

@@ -114,9 +114,11 @@ abbrev pub primary_at : Context → Live → Lexeme → Position → Beginning �
 primary_at c w l at (begin.Single node) = Take (Ret (node at))
 primary_at c w l at (begin.AName name) = Take (Peek (name_at w name at))
 primary_at c w l at (begin.AWord word) = Take (Peek (word_at c word at))
-primary_at c w l at begin.AGroup = Take (raised c at (λ d. Call (Expression d w) (λ x. match_token due.RightParen (Ret x))))
+primary_at c w l at begin.AGroup =
+    Take (raised c at (λ d. Call (Expression d w) (λ x. match_token due.RightParen (Ret x))))
 primary_at c w l at begin.AnArray = Take (raised c at (λ d. Call (Elements d w at no_nodes) (λ ns. Ret (array ns at))))
-primary_at c w l at begin.AMap = Take (raised c at (λ d. Call (Fields d w at no_properties) (λ ps. Ret (object_map ps at))))
+primary_at c w l at begin.AMap =
+    Take (raised c at (λ d. Call (Fields d w at no_properties) (λ ps. Ret (object_map ps at))))
 primary_at c w l at begin.ASign = Fail (refusal (unexpected l) at)
 primary_at c w l at begin.ARange = Ret (integer (lib.IntN.pos 0) at)
 primary_at c w l at (begin.NoBeginning why) = Fail (refusal why at)
@@ -127,7 +129,8 @@ sign_on sign at x = if sign_holds sign x then Ret (signed sign at x) else Fail (
 
 abbrev pub operand_by : Context → Live → Lexeme → Position → Beginning → Prog Node
 operand_by c w l at begin.ASign = Take (raised c at (λ d. Call (Operand d w false) (sign_on l at)))
-operand_by c w l at _ = Call (Primary c w) (λ x. Call (Postfix c w x) (λ y. Call (Links w (behind_operand c y)) (λ ls. Ret (chained y ls))))
+operand_by c w l at _ =
+    Call (Primary c w) (λ x. Call (Postfix c w x) (λ y. Call (Links w (behind_operand c y)) (λ ls. Ret (chained y ls))))
 
 abbrev pub operand_at : Context → Live → (ranged : Bool) → Lexeme → Position → Prog Node
 operand_at c w ranged l at = if ranged && closes l then Ret (unit at) else operand_by c w l at (beginning l)
@@ -151,7 +154,8 @@ called_at c w name begin.WithBang = Take (Peek (λ l at. bang_at c w name l at (
 called_at c w name begin.NoCall = Ret (false, no_nodes)
 
 abbrev pub postfix_at : Context → Live → Node → Lexeme → Position → Prog Node
-postfix_at c w x l at = if is_variable x && calls l then Call (Called c w (position_of x)) (λ a. Ret (call_tree x a.0 a.1)) else Ret x
+postfix_at c w x l at =
+    if is_variable x && calls l then Call (Called c w (position_of x)) (λ a. Ret (call_tree x a.0 a.1)) else Ret x
 
 abbrev pub arguments_at : Context → Live → Position → Lexeme → Position → Prog Nodes
 arguments_at c w name l at =
@@ -207,7 +211,8 @@ field_next c w opening ps at begin.AClose = Take (Ret ps)
 field_next c w opening ps at (begin.NoFollowing why) = Fail (refusal why at)
 
 abbrev pub value_on : Context → Live → (opening : Position) → Properties → Text × Position → Node → Prog Properties
-value_on c w opening before key x = Peek (λ l at. field_next c w opening (with_property before key.0 key.1 x) at (behind_value l))
+value_on c w opening before key x =
+    Peek (λ l at. field_next c w opening (with_property before key.0 key.1 x) at (behind_value l))
 
 abbrev pub field_on : Context → Live → (opening : Position) → Properties → Option (Text × Position) → Prog Properties
 field_on c w opening before None = Ret before
@@ -229,7 +234,8 @@ member_on c w name name_at l at =
 
 -- after a dot
 abbrev pub dot_at : Live → LinkSpot → (dot : Lexeme) → Position → Position → MemberPlace → Prog (List Link)
-dot_at w q dot at pos AMember = raised q.settings at (λ d. Call (Member d w) (λ x. Call (Links w (behind_dot q (member_link dot at x))) Ret))
+dot_at w q dot at pos AMember =
+    raised q.settings at (λ d. Call (Member d w) (λ x. Call (Links w (behind_dot q (member_link dot at x))) Ret))
 dot_at w q dot at pos (NoMember why) = Fail (refusal why pos)
 
 -- after the last link
@@ -269,15 +275,18 @@ binary_right c w at parent lhs strength op pos rhs =
 
 -- after an operator
 abbrev pub binary_on : Context → Live → Position → ℕ → Node → ℕ → Lexeme → Position → Prog Node
-binary_on c w at parent lhs strength op pos = Take (Call (Operand c w (is_range (beginning op))) (binary_right c w at parent lhs strength op pos))
+binary_on c w at parent lhs strength op pos =
+    Take (Call (Operand c w (is_range (beginning op))) (binary_right c w at parent lhs strength op pos))
 
 abbrev pub binary_at : Context → Live → Position → ℕ → Node → Option (ℕ × Bool) → Prog Node
 binary_at c w at parent lhs None = Ret lhs
-binary_at c w at parent lhs (Some op) = if goes_on parent op.0 op.1 then Peek (binary_on c w at parent lhs op.0) else Ret lhs
+binary_at c w at parent lhs (Some op) =
+    if goes_on parent op.0 op.1 then Peek (binary_on c w at parent lhs op.0) else Ret lhs
 
 abbrev pub body : (g : Goal) → Prog (Val g)
 body (Whole c w) = Call (Expression c w) (λ e. Peek (whole_at e))
-body (Expression c w) = Peek (λ l at. raised c at (λ d. Call (Operand d w false) (λ lhs. Call (BinaryOp d w (position_of lhs) 1 lhs) Ret)))
+body (Expression c w) =
+    Peek (λ l at. raised c at (λ d. Call (Operand d w false) (λ lhs. Call (BinaryOp d w (position_of lhs) 1 lhs) Ret)))
 body (Operand c w ranged) = Peek (operand_at c w ranged)
 body (Primary c w) = Peek (λ l at. primary_at c w l at (beginning l))
 body (Called c w name) = Peek (λ l at. called_at c w name (calling l))
@@ -287,7 +296,8 @@ body (Member c w) = Peek (λ name at. Take (Peek (member_on c w name at)))
 body (Postfix c w x) = Peek (postfix_at c w x)
 body (Arguments c w at) = Peek (arguments_at c w at)
 body (Items c w before) = Call (Expression c w) (item_on c w before)
-body (Elements c w opening before) = Peek (λ l at. element_at c w opening before at (item_place c.sizes.array (node_count before) l))
+body (Elements c w opening before) =
+    Peek (λ l at. element_at c w opening before at (item_place c.sizes.array (node_count before) l))
 body (Fields c w opening before) = Call (NextKey c before) (field_on c w opening before)
 body (NextKey c before) = Peek (λ l at. key_on c before at (next_key c.settings before l))
 body NextOperator = Peek (λ l at. next_operator_at at (behind_of l))

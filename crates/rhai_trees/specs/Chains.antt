@@ -44,7 +44,8 @@ links_left (Some o) = open_links o
 
 -- a link with the next one in its item
 abbrev pub with_next : chain.Link → chain.Link → (last : Bool) → chain.Link
-with_next l next last = record { kind = l.kind; negated = l.negated; at = l.at; item = chain.link_node next last l.item next.item }
+with_next l next last =
+    record { kind = l.kind; negated = l.negated; at = l.at; item = chain.link_node next last l.item next.item }
 
 -- The tree of links, the last of which has all later ones in its item; `last` is whether there are none, so that the
 -- item is just its own.
@@ -62,11 +63,14 @@ is_no_method c args = are_none args && (same_text c.name (codes "eval") || same_
 
 -- the error of a method call after a dot
 abbrev pub method_fault : Called → (arguments : Nodes) → Position → Option Refusal
-method_fault c args p = chain.link_fault (record { kind = chain.Dotted; negated = false; at = p; item = method_call c args p })
+method_fault c args p =
+    chain.link_fault (record { kind = chain.Dotted; negated = false; at = p; item = method_call c args p })
 
 -- `.b`, as in `a.b`
 abbrev example_dot : chain.Link
 example_dot = record { kind = chain.Dotted; negated = false; at = place 1 2; item = property (codes "b") (place 1 3) }
 
-example : (nest_until true (property (codes "a") (place 1 1)) (example_dot ∷ []) ≡ chain.nest (property (codes "a") (place 1 1)) (example_dot ∷ [])) × (chain_behind true example_dot.item ≡ alone example_dot.item)
+example : (nest_until true (property (codes "a") (place 1 1)) (example_dot ∷ [])
+    ≡ chain.nest (property (codes "a") (place 1 1)) (example_dot ∷ [])) × (chain_behind true example_dot.item
+    ≡ alone example_dot.item)
 example = (refl, refl)

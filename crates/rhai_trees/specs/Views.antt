@@ -77,5 +77,6 @@ index_kind_view index_kind.Unit = kind.Never (codes "()")
 index_kind_view index_kind.Boolean = kind.Never (codes "a boolean")
 index_kind_view index_kind.Anything = kind.Anything
 
-example : (negated (pos 5) nowhere ≡ Ok (integer (neg_ℤ (pos 5)) nowhere)) × (integer_value (integer (pos 5) nowhere) ≡ Some (pos 5))
+example : (negated (pos 5) nowhere ≡ Ok (integer (neg_ℤ (pos 5)) nowhere))
+    × (integer_value (integer (pos 5) nowhere) ≡ Some (pos 5))
 example = (refl, refl)

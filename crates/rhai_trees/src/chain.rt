@@ -63,7 +63,8 @@ pub fn make_chain(alloc: Global, root: Expr, mut links: Vec<Link>) -> Result<Exp
 // The operand that a tree's chain begins with, and the chain's links.
 #[tactic(auto, using(crate::proofs::ChainLemmas::link_taken))]
 fn take_apart(alloc: Global, tree: Expr) -> Result<(Expr, Vec<Link>), AllocError>
-    ensures { IfOk result (λ c. (view c.0 ≡ (chain_of (view tree)).root) × (link_views c.1.items ≡ (chain_of (view tree)).links)) }
+    ensures { IfOk result (λ c. (view c.0 ≡ (chain_of (view tree)).root)
+        × (link_views c.1.items ≡ (chain_of (view tree)).links)) }
 {
     let mut links = Vec::new(alloc);
     let (root, mut next) = split(tree);
@@ -177,7 +178,8 @@ fn link_node(alloc: Global, link: Link, last: bool, before: Expr) -> Result<Expr
 /// The error is `MalformedIndexExpr` at the start of the index, or `OutOfMemory`.
 pub fn test_index(alloc: Global, indexed: Option<&Expr>, index: &Expr) -> ParseResult<()>
     ensures passes { OnOk result (index_refusal (option_map (λ x. view x.now) indexed.entry) (view index.now) ≡ None) }
-    ensures refused { IfErr result (λ e. is_for_memory e ≡ false → index_refusal (option_map (λ x. view x.now) indexed.entry) (view index.now) ≡ Some (refusal_of e)) }
+    ensures refused { IfErr result (λ e. is_for_memory e ≡ false
+        → index_refusal (option_map (λ x. view x.now) indexed.entry) (view index.now) ≡ Some (refusal_of e)) }
     ensures nowhere { IfErr result MemoryIsNowhere }
 {
     let Some(root) = indexed else {
@@ -228,7 +230,8 @@ fn test_link(alloc: Global, link: &Link) -> ParseResult<()>
 // Refuses a call that is not allowed as a method.
 fn test_method(alloc: Global, call: &FnCallExpr, pos: Position) -> ParseResult<()>
     ensures passes { IsOk result → method_fault (called call.now) (views (out-FnCallExpr call.now).args.items) pos ≡ None }
-    ensures refuses { IfErr result (λ e. is_for_memory e ≡ false → method_fault (called call.now) (views (out-FnCallExpr call.now).args.items) pos ≡ Some (refusal_of e)) }
+    ensures refuses { IfErr result (λ e. is_for_memory e ≡ false
+        → method_fault (called call.now) (views (out-FnCallExpr call.now).args.items) pos ≡ Some (refusal_of e)) }
     ensures nowhere { IfErr result MemoryIsNowhere }
 {
     if is_no_method(call) {

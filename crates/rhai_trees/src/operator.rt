@@ -76,7 +76,8 @@ pub fn make_binary(
 #[tactic(auto, using(crate::proofs::OperatorLemmas::fault_left, crate::proofs::OperatorLemmas::fault_right, crate::proofs::OperatorLemmas::fault_none))]
 fn test_operands(alloc: Global, op_token: &Token, lhs: &Expr, rhs: &Expr) -> ParseResult<()>
     ensures passes { IsOk result → operand_fault (lexeme op_token.now) (view lhs.now) (view rhs.now) ≡ None }
-    ensures refuses { IfErr result (λ e. is_for_memory e ≡ false → operand_fault (lexeme op_token.now) (view lhs.now) (view rhs.now) ≡ Some (refusal_of e)) }
+    ensures refuses { IfErr result (λ e. is_for_memory e ≡ false
+        → operand_fault (lexeme op_token.now) (view lhs.now) (view rhs.now) ≡ Some (refusal_of e)) }
     ensures nowhere { IfErr result MemoryIsNowhere }
 {
     test_operand(alloc, op_token, lhs)?;
@@ -87,7 +88,9 @@ fn test_operands(alloc: Global, op_token: &Token, lhs: &Expr, rhs: &Expr) -> Par
 #[tactic(auto, using(crate::proofs::OperatorLemmas::holds_and, crate::proofs::OperatorLemmas::holds_or, crate::proofs::OperatorLemmas::holds_others))]
 fn test_operand(alloc: Global, op_token: &Token, operand: &Expr) -> ParseResult<()>
     ensures passes { IsOk result → boolean_holds (lexeme op_token.now) (view operand.now) ≡ true }
-    ensures refuses { IfErr result (λ e. is_for_memory e ≡ false → (boolean_holds (lexeme op_token.now) (view operand.now) ≡ false) × (refusal_of e ≡ mismatched (view operand.now))) }
+    ensures refuses { IfErr result (λ e. is_for_memory e ≡ false
+        → (boolean_holds (lexeme op_token.now) (view operand.now) ≡ false)
+        × (refusal_of e ≡ mismatched (view operand.now))) }
     ensures nowhere { IfErr result MemoryIsNowhere }
 {
     match joining_of(op_token) {
@@ -103,7 +106,8 @@ fn test_operand(alloc: Global, op_token: &Token, operand: &Expr) -> ParseResult<
 #[tactic(auto, using(crate::proofs::OperatorLemmas::mismatched_kind))]
 fn test_boolean(alloc: Global, operand: &Expr) -> ParseResult<()>
     ensures passes { IsOk result → is_none (not_boolean (view operand.now)) ≡ true }
-    ensures refuses { IfErr result (λ e. is_for_memory e ≡ false → (is_none (not_boolean (view operand.now)) ≡ false) × (refusal_of e ≡ mismatched (view operand.now))) }
+    ensures refuses { IfErr result (λ e. is_for_memory e ≡ false
+        → (is_none (not_boolean (view operand.now)) ≡ false) × (refusal_of e ≡ mismatched (view operand.now))) }
     ensures nowhere { IfErr result MemoryIsNowhere }
 {
     match not_boolean(operand) {

@@ -76,7 +76,9 @@ pub fn room_for_value(
     count: usize,
 ) -> ParseResult<()>
     ensures room { OnOk result ((full limit count ≡ false) × (is_memory (asked (cursor_of input.old)).lexeme ≡ false)) }
-    ensures refused { IfErr result (λ e. is_for_memory e ≡ false → (full limit count ≡ true) × (is_memory (asked (cursor_of input.old)).lexeme ≡ false) × (refusal_of e ≡ refusal (too_many_fields limit) (asked (cursor_of input.old)).at)) }
+    ensures refused { IfErr result (λ e. is_for_memory e ≡ false
+        → (full limit count ≡ true) × (is_memory (asked (cursor_of input.old)).lexeme ≡ false)
+        × (refusal_of e ≡ refusal (too_many_fields limit) (asked (cursor_of input.old)).at)) }
     ensures nowhere { IfErr result MemoryIsNowhere }
     ensures after { cursor_of input.new ≡ looking (cursor_of input.old) }
 {

@@ -80,7 +80,8 @@ fn key_at(
     first: bool,
 ) -> ParseResult<Option<RcStr>>
     ensures key { IfOk result (λ key. key_place quoted first (lexeme token.now) ≡ key_found key) }
-    ensures refused { IfErr result (λ e. is_for_memory e ≡ false → (key_place quoted first (lexeme token.now) ≡ NoKey (cause_of e.0)) × (e.1 ≡ pos)) }
+    ensures refused { IfErr result (λ e. is_for_memory e ≡ false
+        → (key_place quoted first (lexeme token.now) ≡ NoKey (cause_of e.0)) × (e.1 ≡ pos)) }
     ensures nowhere { IfErr result MemoryIsNowhere }
 {
     match token {
@@ -118,7 +119,8 @@ pub fn next_key(
     properties: &[(Ident, Expr)],
 ) -> ParseResult<Option<Ident>>
     ensures key { IfOk result (KeyIs (property_views properties.now) (asked (cursor_of input.old)).at (next_key (settings_of settings) (property_views properties.now) (asked (cursor_of input.old)).lexeme)) }
-    ensures passed { OnOk result ((is_memory (asked (cursor_of input.old)).lexeme ≡ false) × (cursor_of input.new ≡ taking (cursor_of input.old))) }
+    ensures passed { OnOk result ((is_memory (asked (cursor_of input.old)).lexeme ≡ false)
+        × (cursor_of input.new ≡ taking (cursor_of input.old))) }
     ensures refused { IfErr result (λ e. is_for_memory e ≡ false → (is_memory (asked (cursor_of input.old)).lexeme ≡ false) × KeyRefused (property_views properties.now) (cursor_of input.old) (next_key (settings_of settings) (property_views properties.now) (asked (cursor_of input.old)).lexeme) (refusal_of e) (cursor_of input.new)) }
     ensures nowhere { IfErr result MemoryIsNowhere }
     ensures shorter { left (cursor_of input.new).tokens ≤ left (cursor_of input.old).tokens }

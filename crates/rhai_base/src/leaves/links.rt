@@ -58,7 +58,9 @@ fn is_member(token: &Token) -> bool
 
 /// Looks at the member that is due after a dot; its token stays.
 pub fn member_due(input: &mut TokenStream) -> ParseResult<()>
-    ensures member { OnOk result ((member_place (asked (cursor_of input.old)).lexeme ≡ AMember) × (is_end (asked (cursor_of input.old)).lexeme ≡ false) × (is_memory (asked (cursor_of input.old)).lexeme ≡ false)) }
+    ensures member { OnOk result ((member_place (asked (cursor_of input.old)).lexeme ≡ AMember)
+        × (is_end (asked (cursor_of input.old)).lexeme ≡ false)
+        × (is_memory (asked (cursor_of input.old)).lexeme ≡ false)) }
     ensures refused { IfErr result (λ e. is_for_memory e ≡ false → (member_place (asked (cursor_of input.old)).lexeme ≡ NoMember (no_member (asked (cursor_of input.old)).lexeme)) × (is_memory (asked (cursor_of input.old)).lexeme ≡ false) × (refusal_of e ≡ refusal (no_member (asked (cursor_of input.old)).lexeme) (asked (cursor_of input.old)).at)) }
     ensures nowhere { IfErr result MemoryIsNowhere }
     ensures after { cursor_of input.new ≡ looking (cursor_of input.old) }
