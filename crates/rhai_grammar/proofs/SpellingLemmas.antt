@@ -270,12 +270,18 @@ end_fine true e c h = absurd cc
 end_fine false true c h = refl
 end_fine false false c h = absurd cc
 
-pub streams_are_whole : StreamsAreWhole
-streams_are_whole c w f s t d m =
+-- after a form that fits comes the end mark
+pub end_follows : (c : Context) (w : Live) (f : Run) (s t : Point) → Met (W.whole_expression f c w) s t → is_end (next_at M.code t).lexeme ≡ true
+end_follows c w f s t m =
     let g = whole_spelled c w f s t m in
     let l = (next_at M.code g.end).lexeme in
-    let e = at_end g.end.tokens (subst IsDelivered (sym g.way.1) (delivered_leads (spelling f) s.tokens d)) (end_fine (is_memory l) (is_end l) (unexpected l) g.met.1.0) in
-    (e.0, ap (λ (p : Point). p.tokens) (sym g.met.1.1) ∙ e.1)
+    subst (λ (p : Point). is_end (next_at M.code p).lexeme ≡ true) g.met.1.1
+    (end_fine (is_memory l) (is_end l) (unexpected l) g.met.1.0)
+
+pub streams_are_whole : StreamsAreWhole
+streams_are_whole c w f s t d m =
+    let spelled = (forms_are_spelled c w f s t m).1 in
+    at_end t.tokens (subst IsDelivered (sym spelled) (delivered_leads (spelling f) s.tokens d)) (end_follows c w f s t m)
 
 token_deliverable : (t : Token) → token_may_be_delivered t ≡ true → is_deliverable (lexeme t) ≡ true
 token_deliverable (token.Identifier name) e = e

@@ -4,7 +4,7 @@ use Rattle.rhai_lower.specs.Entries.{ask_of, may_be_delivered}
 use Rattle.rhai_lower.specs.declared.position.Position.{Position}
 use Rattle.rhai_lower.specs.declared.stream.Entry.{Entry}
 use Rattle.rhai_grammar.specs.Causes.{Refusal}
-use Rattle.rhai_grammar.specs.Delivered.{Point, Ends}
+use Rattle.rhai_grammar.specs.Delivered.{code, Point, Ends, ask, is_end}
 use Rattle.rhai_grammar.specs.Cursors.{Cursor, delivered}
 use Rattle.rhai_grammar.specs.Seen.{Gives, leads}
 use Rattle.rhai_grammar.specs.Contexts.{Context, Live}
@@ -21,6 +21,14 @@ abbrev pub FormsAreSpelled : Type 0
 FormsAreSpelled =
     (c : Context) (w : Live) (f : Run) (s t : Point) → Met (whole_expression f c w) s t
     → Gives (spelling f) s.tokens × (t.tokens ≡ leads (spelling f) s.tokens)
+
+-- A form that fits on one stream fits on every stream that begins with its spelling and goes on with the end mark. What
+-- else these streams would deliver, as in text mode, and the position of the end mark make no difference.
+abbrev pub FormsFitWhereverSpelled : Type 0
+FormsFitWhereverSpelled =
+    (c : Context) (w : Live) (f : Run) (s t other : Point) → Met (whole_expression f c w) s t
+    → Gives (spelling f) other.tokens → is_end (ask code (leads (spelling f) other.tokens)).lexeme ≡ true
+    → (end : Point) × Met (whole_expression f c w) other end
 
 -- After a form that fits and spells a delivered stream, the stream is at its end.
 abbrev pub StreamsAreWhole : Type 0

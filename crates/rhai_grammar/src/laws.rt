@@ -1,7 +1,7 @@
 //! Laws of the definitions, as contracts of functions that do nothing.
 
 ghost use Rattle.rhai_grammar.specs.Laws.{ChainsAreJoined, EntriesAreDelivered, FormsAreFair};
-ghost use Rattle.rhai_grammar.specs.Laws.{FormsAreSpelled, StreamsAreWhole, TreesKeepShape};
+ghost use Rattle.rhai_grammar.specs.Laws.{FormsAreSpelled, FormsFitWhereverSpelled, StreamsAreWhole, TreesKeepShape};
 ghost use Rattle.rhai_grammar.specs.Rows.{CallRow, EndedRow, FlatRow, MinusRow, OpenRow};
 ghost use Rattle.rhai_grammar.specs.Rows.{PairRow, RangedRow, SizedRow, SumRow};
 ghost use Rattle.rhai_grammar.specs.RowsOfChains.{CaptureRow, GroupedRow, JoinedRow, QuestionedRow};
@@ -10,6 +10,12 @@ ghost use Rattle.rhai_grammar.specs.RowsOfChains.{CaptureRow, GroupedRow, Joined
 #[tactic(auto, using(crate::proofs::SpellingLemmas::forms_are_spelled))]
 pub fn forms_are_spelled()
     ensures { FormsAreSpelled }
+{}
+
+/// A form that fits on one stream fits on every stream that begins with its spelling and goes on with the end mark.
+#[tactic(auto, using(crate::proofs::StreamLemmas::forms_fit_wherever_spelled))]
+pub fn forms_fit_wherever_spelled()
+    ensures { FormsFitWhereverSpelled }
 {}
 
 /// After a form that fits and spells a delivered stream, the stream is at its end.
