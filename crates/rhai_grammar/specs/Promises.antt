@@ -6,7 +6,8 @@ use Rattle.rhai_lower.specs.declared.ast.AST.{AST}
 use Rattle.rhai_grammar.specs.Causes.{Refusal, refusal_of, is_for_memory}
 use Rattle.rhai_grammar.specs.Delivered.{code, Taken, Point, is_memory}
 use Rattle.rhai_grammar.specs.Cursors.{Cursor, asked}
-use Rattle.rhai_grammar.specs.Seen.{Gives, leads, latest_first, BeginsWith, Readable, StandsAtLast}
+use Rattle.rhai_grammar.specs.Seen.{Gives, leads, TakenIn, mode_after, latest_first, BeginsWith}
+use Rattle.rhai_grammar.specs.Seen.{Readable, StandsAtLast}
 use Rattle.rhai_grammar.specs.Contexts.{Context, Live}
 use Rattle.rhai_grammar.specs.Forms.{Run}
 use Rattle.rhai_grammar.specs.Trees.{tree}
@@ -46,10 +47,14 @@ pub record IsReadable (taken : List Taken) (left : Cursor) : Type 0 where
   pub tokens : Readable (latest_first taken [])
   pub peeked : left.peeked ≡ true → is_memory (asked left).lexeme ≡ false
 
--- Some tokens were taken, and the tokenizer had memory for each of them, and for the one that is peeked, if one is.
+-- Some tokens were taken, and the tokenizer had memory for each of them, and for the one that is peeked, if one is. The
+-- first token was taken in the mode that the stream had at the start, and each later one in code mode. The mode of the
+-- next request is code mode if a token was taken, and otherwise what it was.
 pub record HasRead (start left : Cursor) : Type 0 where
   pub taken : List Taken
   pub saw : Saw taken start left
+  pub modes : TakenIn start.mode taken
+  pub mode : left.mode ≡ mode_after start.mode taken
   pub memory : IsReadable taken left
 
 -- This holds, unless memory ran out.

@@ -1,8 +1,11 @@
 -- What was seen of a stream.
-use Rattle.std.specs.Prelude.{◌≡◌, Bool, true, false, List, [], ◌∷◌}
+use Rattle.std.specs.Prelude.{◌≡◌, Bool, true, false, List, [], ◌∷◌, refl}
+use Rattle.rhai_lower.specs.Positions.{place}
+use Rattle.rhai_lower.specs.Lexemes.{Sign}
+use Rattle.rhai_lower.specs.declared.token.Token.TheVariants.{Plus}
 use Rattle.rhai_grammar.specs.Causes as cause
 use Rattle.rhai_grammar.specs.Causes.{Cause, Refusal}
-use Rattle.rhai_grammar.specs.Delivered.{Tokens, Taken, ask, later, is_memory}
+use Rattle.rhai_grammar.specs.Delivered.{Mode, code, text, item, Tokens, Taken, ask, later, is_memory}
 use Rattle.rhai_grammar.specs.Cursors.{Cursor, asked}
 
 -- A stream gives these tokens, one after the other, in these modes.
@@ -24,6 +27,16 @@ abbrev pub latest_first : List Taken → List Taken → List Taken
 latest_first [] before = before
 latest_first (k ∷ taken) before = latest_first taken (k ∷ before)
 
+-- The first of these tokens was requested in this mode, and each later one in code mode.
+abbrev pub TakenIn : Mode → List Taken → Type 0
+TakenIn m [] = Unit {0}
+TakenIn m (k ∷ taken) = (k.mode ≡ m) × TakenIn code taken
+
+-- the mode of the next request after these, if that of the first one is this mode
+abbrev pub mode_after : Mode → List Taken → Mode
+mode_after m [] = m
+mode_after m (k ∷ taken) = code
+
 -- the tokenizer had memory for each of these tokens
 abbrev pub Readable : List Taken → Type 0
 Readable [] = Unit {0}
@@ -38,3 +51,13 @@ is_at_last _ = false
 -- Such an error has the position of the last token seen, which was peeked.
 abbrev pub StandsAtLast : Refusal → Cursor → Type 0
 StandsAtLast e left = is_at_last e.cause ≡ true → (left.peeked ≡ true) × (e.at ≡ (asked left).at)
+
+abbrev example_taken : List Taken
+example_taken =
+    record { mode = text; item = item (Sign Plus) (place 1 1) }
+    ∷ record { mode = code; item = item (Sign Plus) (place 1 2) } ∷ []
+
+-- Of two tokens the first one was requested in text mode, and the second in code mode, as the next one will be. Where
+-- no token was taken, the mode stays.
+example : TakenIn text example_taken × (mode_after text example_taken ≡ code) × (mode_after text [] ≡ text)
+example = ((refl, (refl, tt)), refl, refl)
