@@ -2,7 +2,7 @@
 use Rattle.std.proofs.Common.{refl, inl, inr}
 use Rattle.rhai_grammar.specs.Settings.{one_more}
 use Rattle.rhai_grammar.specs.Slots.{number}
-use Rattle.rhai_grammar.specs.Rows.{SumRow, PairRow, FlatRow, OpenRow, MinusRow, EndedRow, CallRow, RangedRow, SizedRow}
+use Rattle.rhai_grammar.specs.Rows.{SumRow, PairRow, FlatRow, LateRow, OpenRow, MinusRow, EndedRow, CallRow, RangedRow, SizedRow}
 use Rattle.rhai_grammar.specs.RowsOfChains.{GroupedRow, JoinedRow, QuestionedRow, CaptureRow}
 
 pub sum_row : SumRow
@@ -24,6 +24,14 @@ pair_row = record {
 pub flat_row : FlatRow
 unfolding one_more
 flat_row = record { tree_is = refl; deep = inr (refl, (refl, inr (refl, inr (refl, inr (refl, inr (refl, (refl, (refl, (refl, inr (refl, (refl, inr (refl, inr (refl, inr (refl, inr (refl, inr (refl, inr (refl, inr (refl, inr (refl, (refl, (refl, (refl, inr (refl, (refl, inr (refl, inr (refl, inr (refl, inr (refl, inl (refl, refl, refl))))))))))))))))))))))))))))) }
+
+pub late_row : LateRow
+unfolding one_more
+late_row = record {
+  tree_is = refl;
+  fits = (refl, (refl, (refl, (refl, (refl, (refl, (refl, (refl, (refl, (refl, (refl, (refl, (refl, (refl, (refl, (refl, (refl, (refl, (refl, (refl, (refl, (refl, (refl, (refl, (refl, (refl, (refl, (refl, (refl, (refl, (refl, (refl, (refl, (refl, (refl, (refl, (refl, (refl, (refl, (refl, (refl, (refl, (refl, (refl, (refl, (refl, (refl, refl)))))))))))))))))))))))))))))))))))))))))))))));
+  deep = inr (refl, (refl, inr (refl, inr (refl, inr (refl, inr (refl, (refl, (refl, (refl, inr (refl, (refl, inr (refl, inr (refl, inr (refl, inr (refl, inr (refl, inr (refl, inr (refl, inr (refl, (refl, (refl, (refl, inr (refl, (refl, inr (refl, inr (refl, inr (refl, inr (refl, inr (refl, (refl, (refl, (refl, inr (refl, (refl, inr (refl, inr (refl, inr (refl, inr (refl, inl (refl, refl, refl)))))))))))))))))))))))))))))))))))))));
+}
 
 pub open_row : OpenRow
 unfolding one_more

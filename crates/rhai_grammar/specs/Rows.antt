@@ -93,6 +93,32 @@ pub record FlatRow : Type 0 where
       ≡ operator_call (Sign Plus) (place 1 7) (tree pair_form nothing_live) (integer (pos 3) (place 1 9))
   pub deep : Missed (whole_expression flat_form (depth 2) nothing_live) (unread flat_tokens 10) (refusal cause.ExprTooDeep (place 1 3)) (between flat_tokens [] 10)
 
+-- `1 + 2 + 3 * 4` fits under the depth limit 4, one more than `1 + 2 * 3`: the product is on the right of the second
+-- `+`, which begins at the level that the first `+` raised. Under the limit 3 it misses the raise for `*`, which is
+-- refused at the 3 before it; by then `*` and the 4 were taken.
+abbrev pub late_tokens : List (Lexeme × ℕ)
+late_tokens = flat_tokens ++ ((Sign Multiply, 11) ∷ (Integer (pos 4), 13) ∷ [])
+
+abbrev pub late_product : Run
+late_product = Binary (Sign Multiply) (place 1 11) (number 3 9) (number 4 13)
+
+abbrev pub late_form : Run
+late_form = Binary (Sign Plus) (place 1 7) pair_form late_product
+
+abbrev pub late_product_tree : Node
+late_product_tree =
+    operator_call (Sign Multiply) (place 1 11) (integer (pos 3) (place 1 9)) (integer (pos 4) (place 1 13))
+
+abbrev pub late_refused : Refusal
+late_refused = refusal cause.ExprTooDeep (place 1 9)
+
+pub record LateRow : Type 0 where
+  pub tree_is : tree late_form nothing_live
+      ≡ operator_call (Sign Plus) (place 1 7) (tree pair_form nothing_live) late_product_tree
+  pub fits : Met (whole_expression late_form (depth 4) nothing_live) (unread late_tokens 14) (between late_tokens [] 14)
+  pub deep : Missed (whole_expression late_form (depth 3) nothing_live) (unread late_tokens 14)
+      late_refused (between late_tokens [] 14)
+
 -- a range from an omitted zero to 5, both at these columns
 abbrev pub range_tree : (left range right : ℕ) → Node
 range_tree left range right = operator_call (Sign ExclusiveRange) (place 1 range) (integer (pos 0) (place 1 left)) (integer (pos 5) (place 1 right))

@@ -2,7 +2,7 @@
 
 ghost use Rattle.rhai_grammar.specs.Laws.{ChainsAreJoined, EntriesAreDelivered, FormsAreFair};
 ghost use Rattle.rhai_grammar.specs.Laws.{FormsAreSpelled, FormsFitWhereverSpelled, StreamsAreWhole, TreesKeepShape};
-ghost use Rattle.rhai_grammar.specs.Rows.{CallRow, EndedRow, FlatRow, MinusRow, OpenRow};
+ghost use Rattle.rhai_grammar.specs.Rows.{CallRow, EndedRow, FlatRow, LateRow, MinusRow, OpenRow};
 ghost use Rattle.rhai_grammar.specs.Rows.{PairRow, RangedRow, SizedRow, SumRow};
 ghost use Rattle.rhai_grammar.specs.RowsOfChains.{CaptureRow, GroupedRow, JoinedRow, QuestionedRow};
 
@@ -65,6 +65,13 @@ pub fn pair_row()
 #[tactic(auto, using(crate::proofs::RowLemmas::flat_row))]
 pub fn flat_row()
     ensures { FlatRow }
+{}
+
+/// `1 + 2 + 3 * 4` fits under the depth limit 4, with the product as the right operand of the second `+`, and is too
+/// deep under the limit 3: the second `+` begins at the level that the first one raised.
+#[tactic(auto, using(crate::proofs::RowLemmas::late_row))]
+pub fn late_row()
+    ensures { LateRow }
 {}
 
 /// `..5` is a range from an omitted zero.
