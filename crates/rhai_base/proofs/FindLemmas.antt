@@ -43,8 +43,8 @@ number-here name (s ∷ later) (suc i) l here none =
 pub barrier-there : (slots : List SlotValue) (i k : ℕ) → k ≡ suc i → i < length slots → is_barrier (slot_at slots i) ≡ true → true ≡ list_any is_barrier (drop i slots)
 barrier-there slots i k e l h = sym (ap (list_any is_barrier) (drop-slot slots i k e l) ∙ ap (λ b. b || list_any is_barrier (drop k slots)) h)
 
-pub barrier-behind : (slots : List SlotValue) (i k : ℕ) → k ≡ suc i → i < length slots → is_barrier (slot_at slots i) ≡ false → list_any is_barrier (drop k slots) ≡ list_any is_barrier (drop i slots)
-barrier-behind slots i k e l h = sym (ap (list_any is_barrier) (drop-slot slots i k e l) ∙ ap (λ b. b || list_any is_barrier (drop k slots)) h)
+pub barrier-after : (slots : List SlotValue) (i k : ℕ) → k ≡ suc i → i < length slots → is_barrier (slot_at slots i) ≡ false → list_any is_barrier (drop k slots) ≡ list_any is_barrier (drop i slots)
+barrier-after slots i k e l h = sym (ap (list_any is_barrier) (drop-slot slots i k e l) ∙ ap (λ b. b || list_any is_barrier (drop k slots)) h)
 
 -- the result when the slot of the name is reached
 pub found-here : (name : Text) (slots : List SlotValue) (len i k : ℕ) (b : Bool) → k ≡ suc i → i < length slots → len ≡ length slots → is_named name (slot_at slots i) ≡ true → number name (drop k slots) ≡ None → b ≡ list_any is_barrier (drop k slots) → ◌≡◌ {A = ℕ × Bool} (len - i, b) (unwrap_or (number name slots) 0, barrier_before name slots)

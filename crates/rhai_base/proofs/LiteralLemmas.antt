@@ -13,7 +13,7 @@ use Rattle.rhai_grammar.specs.Delivered.{Item, item, is_end}
 use Rattle.rhai_grammar.specs.Literals.{NoKey, key_place, no_key, property_count}
 use Rattle.rhai_grammar.specs.Settings.{Settings, quoted_keys}
 use Rattle.rhai_grammar.specs.Written.{next_key}
-use Rattle.rhai_base.specs.Literals.{KeyRefused, is_interpolated, is_reserved_word, refused_key}
+use Rattle.rhai_base.specs.MapKeys.{KeyRefused, is_interpolated, is_reserved_word, refused_key}
 
 pub count_properties : (ps : List (Ident × Expr)) → property_count (property_views ps) ≡ length ps
 count_properties [] = refl

@@ -9,6 +9,7 @@ use Rattle.rhai_lower.specs.declared.ast.Expr.{Expr}
 use Rattle.rhai_grammar.specs.Slots.{number, IsLatest}
 use Rattle.rhai_grammar.specs.Trees.{node_count}
 use Rattle.rhai_base.proofs.FindLemmas.{latest-number, non-zero}
+use Rattle.rhai_lower.proofs.Views.{view_unit, view_boolean, view_integer, view_character, view_string}
 
 none_is : (o : Option ℕ) (name : Text) (slots : List SlotValue) → IsLatest name slots o → 0 ≡ unwrap_or o 0 → o ≡ None
 none_is None name slots h e = refl
@@ -29,3 +30,6 @@ slot_place r n name slots m e l = some_is (number name slots) r n m e l
 pub count_views : (es : List Expr) → node_count (views es) ≡ length es
 count_views [] = refl
 count_views (e ∷ es) = omega (arith, count_views es)
+
+-- the nodes of values
+pub ruleset values = (view_unit, view_boolean, view_integer, view_character, view_string)

@@ -1,13 +1,14 @@
-pub mod Chains
 pub mod ClosureNames
+pub mod CommaLists
 pub mod Counts
+pub mod DueTokens
 pub mod FlagNames
 pub mod Index
 pub mod Keys
-pub mod Literals
+pub mod MapKeys
+pub mod Members
 pub mod Operators
 pub mod Settings
 pub mod Shown
 pub mod States
-pub mod Tokens
 pub mod Words

@@ -4,8 +4,8 @@ use Rattle.rhai_lower.specs.Names.{is_identifier}
 use Rattle.rhai_lower.specs.Lexemes.{Lexeme, Reserved}
 use Rattle.rhai_lower.specs.Tokens.{binds_right, strength_of}
 use Rattle.rhai_lower.specs.declared.token.Token.{Token}
-use Rattle.rhai_grammar.specs.Strengths as behind
-use Rattle.rhai_grammar.specs.Strengths.{Behind}
+use Rattle.rhai_grammar.specs.Strengths as follower
+use Rattle.rhai_grammar.specs.Strengths.{Follower}
 use Rattle.rhai_base.specs.declared.leaves.operators.Operator.{Operator}
 
 abbrev pub operator_of : Option ℕ → Bool → Option Operator
@@ -16,13 +16,13 @@ abbrev pub written_operator : Token → Option Operator
 written_operator t = operator_of (strength_of t) (binds_right t)
 
 -- what stands after an operand where this operator was found, or none
-abbrev pub operator_found : Option Operator → Behind
-operator_found None = behind.Other
-operator_found (Some o) = behind.Operator o.strength o.right
+abbrev pub operator_found : Option Operator → Follower
+operator_found None = follower.Other
+operator_found (Some o) = follower.Operator o.strength o.right
 
 -- an operator goes on with a run of this strength: it binds more strongly, or as strongly and to the right
-abbrev pub goes_on : (parent : ℕ) → Operator → Bool
-goes_on parent o = nat_lt parent o.strength || (parent == o.strength && o.right)
+abbrev pub continues : (parent : ℕ) → Operator → Bool
+continues parent o = nat_lt parent o.strength || (parent == o.strength && o.right)
 
 -- a reserved symbol, and no word
 abbrev pub is_reserved_symbol : Lexeme → Bool

@@ -24,5 +24,9 @@ abbrev example_settings : Settings
 example_settings = record { flags = 1; options = 0; level = 0; limit = 0 }
 
 -- At global level `print` may be called and nothing else; `this` has no place there.
-example : (word_result example_settings (codes "print") true (place 1 1) ≡ Ok (variable_of None (codes "print") (place 1 1))) × (word_result example_settings (codes "print") false (place 1 1) ≡ Err (refusal (cause.Reserved (codes "print")) (place 1 1))) × (word_result example_settings (codes "this") true (place 1 1) ≡ Err (no_this (codes "this") (place 1 1)))
+example : (word_result example_settings (codes "print") true (place 1 1)
+    ≡ Ok (variable_of None (codes "print") (place 1 1)))
+    × (word_result example_settings (codes "print") false (place 1 1)
+    ≡ Err (refusal (cause.Reserved (codes "print")) (place 1 1)))
+    × (word_result example_settings (codes "this") true (place 1 1) ≡ Err (no_this (codes "this") (place 1 1)))
 example = (refl, refl, refl)

@@ -37,7 +37,7 @@ pub fn peek(input: &mut TokenStream) -> Result<&(Token, Position), AllocError>
 }
 
 /// Takes the next token with its position. Does not allocate.
-#[tactic(auto, using(rhai_grammar::proofs::CursorLemmas::asked_item, rhai_grammar::proofs::CursorLemmas::later_tokens, rhai_grammar::proofs::CursorLemmas::left_rest, rhai_grammar::proofs::CursorLemmas::left_taken))]
+#[tactic(auto, using(rhai_grammar::proofs::CursorLemmas::taken))]
 pub fn take(input: &mut TokenStream) -> (Token, Position)
     ensures value { item_of result ≡ asked (cursor_of input.old) }
     ensures after { cursor_of input.new ≡ taking (cursor_of input.old) }
@@ -49,7 +49,7 @@ pub fn take(input: &mut TokenStream) -> (Token, Position)
 }
 
 /// Takes the next token and drops it. Does not allocate.
-#[tactic(auto, using(rhai_grammar::proofs::CursorLemmas::later_tokens, rhai_grammar::proofs::CursorLemmas::left_rest, rhai_grammar::proofs::CursorLemmas::left_taken))]
+#[tactic(auto, using(rhai_grammar::proofs::CursorLemmas::taken))]
 pub fn skip(input: &mut TokenStream)
     ensures after { cursor_of input.new ≡ taking (cursor_of input.old) }
     ensures shorter { left (cursor_of input.new).tokens ≤ left (cursor_of input.old).tokens }

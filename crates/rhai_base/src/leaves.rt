@@ -1,10 +1,11 @@
-//! What the readers ask of tokens and make of them without reading an expression: tests, operators, names, keys, due
-//! tokens and refusals.
+//! What the readers ask of tokens and make of them without reading an expression: tests, operators, names, keys,
+//! lists, due tokens and refusals.
 
 pub mod due;
 pub mod items;
 pub mod keys;
 pub mod links;
+pub mod lists;
 pub mod names;
 pub mod operators;
 pub mod refusals;

@@ -1,5 +1,5 @@
-//! What the parsing functions share: the settings, the state, look-ups in the state, the library of functions, access to
-//! the next token, and what they ask of tokens without reading an expression (`leaves`).
+//! What the parsing functions share: the settings, the state, look-ups in the state, the library of functions, access
+//! to the next token, and what they ask of tokens without reading an expression (`leaves`).
 #![tactic(auto)]
 
 pub mod closure_name;

@@ -34,8 +34,8 @@ pub fn find_slot(slots: &Scope, name: &str) -> (usize, bool)
     (0, barrier)
 }
 
-/// The index of the latest slot of the variable `name`, counted from 1 at the latest slot of all; none if no slot has the
-/// name. It does not allocate.
+/// The index of the latest slot of the variable `name`, counted from 1 at the latest slot of all; none if no slot has
+/// the name. It does not allocate.
 #[tactic(auto, using(crate::proofs::NameLemmas::no_place, crate::proofs::NameLemmas::slot_place))]
 pub fn place_of(slots: &Scope, name: &str) -> Option<NonZeroUsize>
     ensures { option_map non_zero_usize_get result ≡ number name.now slots.now }
@@ -64,7 +64,10 @@ impl<'a, 't, 'f> ParseState<'a, 't, 'f> {
     /// from 1 at the latest of all slots, or 0 if no slot has the name; and whether the search met a barrier. Does not
     /// allocate.
     pub fn find_var(&self, name: &str) -> (usize, bool)
-        ensures value { result ≡ (unwrap_or (number name.now self.now.stack) 0, barrier_before name.now self.now.stack) }
+        ensures value { result ≡ (
+          unwrap_or (number name.now self.now.stack) 0,
+          barrier_before name.now self.now.stack,
+        ) }
         ensures latest { IsLatest name.now self.now.stack (number name.now self.now.stack) }
     {
         find_slot(&self.stack, name)
@@ -73,7 +76,8 @@ impl<'a, 't, 'f> ParseState<'a, 't, 'f> {
     /// The index of the latest live import of the module `name`, counted from 1 at the latest of all imports; `None` if
     /// there is none. Does not allocate.
     pub fn find_module(&self, name: &str) -> Option<NonZeroUsize>
-        ensures { option_map (λ place. place.value) result ≡ module_number name.now (map rc_str_bytes self.now.imports.items) }
+        ensures { option_map (λ place. place.value) result
+            ≡ module_number name.now (map rc_str_bytes self.now.imports.items) }
     {
         find_import(&self.imports, name)
     }

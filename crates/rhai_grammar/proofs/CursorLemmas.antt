@@ -28,3 +28,6 @@ pub left_taken : (asks : List Ask) (end : Position) (m : Bool) → is_end (ask (
 unfolding left
 left_taken [] end m e = absurd cc
 left_taken (a ∷ more) end m e = omega arith
+
+-- what is known of a token that is taken
+pub ruleset taken = (asked_item, later_tokens, left_rest, left_taken)

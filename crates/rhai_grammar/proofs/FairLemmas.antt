@@ -5,8 +5,9 @@ use Rattle.rhai_lower.specs.Nodes.{Properties, no_properties, position_of, prope
 use Rattle.rhai_lower.specs.Lexemes.{Lexeme, Name, Reserved, Sign, text_of}
 use Rattle.rhai_lower.specs.declared.position.Position.{Position}
 use Rattle.rhai_lower.specs.declared.token.Token.TheVariants as token
-use Rattle.rhai_grammar.specs.Beginnings as B
-use Rattle.rhai_grammar.specs.Beginnings.{Beginning, beginning, closes, is_range, is_sign, is_value}
+use Rattle.rhai_grammar.specs.declared.role.Beginning.{Beginning}
+use Rattle.rhai_grammar.specs.declared.role.Beginning.TheVariants as begin
+use Rattle.rhai_grammar.specs.Beginnings.{beginning, omits_operand, is_range, is_sign, is_value}
 use Rattle.rhai_grammar.specs.Causes.{Refusal}
 use Rattle.rhai_grammar.specs.Chains.{index_refusal, last_fault}
 use Rattle.rhai_grammar.specs.Contexts.{Context, Live, level_up}
@@ -19,7 +20,7 @@ use Rattle.rhai_grammar.specs.Laws.{FormsAreFair, IsFair, is_refused}
 use Rattle.rhai_grammar.specs.Literals.{KeyPlace, NoKey, is_key}
 use Rattle.rhai_grammar.specs.Trees.{argument_trees, base_tree, bracket_link, member_link, method_tree, primary_tree, tree}
 use Rattle.rhai_grammar.specs.Written as W
-use Rattle.rhai_grammar.specs.Written.{LinkSpot, Outermost, RightOf, Side, Spot, behind_bracket, behind_dot, behind_operand, height_after, is_ranged, operands_fit, outermost, right_side}
+use Rattle.rhai_grammar.specs.Written.{LinkSpot, Outermost, RightOf, Side, Spot, spot_after_bracket, spot_after_dot, spot_after_operand, height_after, is_ranged, operands_fit, outermost, right_side}
 
 -- ---- one token
 
@@ -30,20 +31,20 @@ unless false v e = e
 anything : (l : Lexeme) → is_refused (verdict W.anything l) ≡ false
 anything l = unless (is_memory l) Otherwise refl
 
-operand_due : (ranged : Bool) (l : Lexeme) → is_refused (W.beginning_due (beginning l)) ≡ false → is_refused (verdict (W.operand_due ranged) l) ≡ false
-operand_due ranged l e = unless (is_memory l) (W.operand_due ranged l) (unless (ranged && closes l) (W.beginning_due (beginning l)) e)
+operand_due : (ranged : Bool) (l : Lexeme) → is_refused (W.beginning_due l (beginning l)) ≡ false → is_refused (verdict (W.operand_due ranged) l) ≡ false
+operand_due ranged l e = unless (is_memory l) (W.operand_due ranged l) (unless (ranged && omits_operand l) (W.beginning_due l (beginning l)) e)
 
-value_due : (b : Beginning) → is_value b ≡ true → is_refused (W.beginning_due b) ≡ false
-value_due (B.NoBeginning why) e = absurd cc
-value_due _ e = refl
+value_due : (l : Lexeme) (b : Beginning) → is_value b ≡ true → is_refused (W.beginning_due l b) ≡ false
+value_due l begin.Nothing e = absurd cc
+value_due l _ e = refl
 
-sign_due : (b : Beginning) → is_sign b ≡ true → is_refused (W.beginning_due b) ≡ false
-sign_due (B.NoBeginning why) e = absurd cc
-sign_due _ e = refl
+sign_due : (l : Lexeme) (b : Beginning) → is_sign b ≡ true → is_refused (W.beginning_due l b) ≡ false
+sign_due l begin.Nothing e = absurd cc
+sign_due l _ e = refl
 
-range_due : (b : Beginning) → is_range b ≡ true → is_refused (W.beginning_due b) ≡ false
-range_due (B.NoBeginning why) e = absurd cc
-range_due _ e = refl
+range_due : (l : Lexeme) (b : Beginning) → is_range b ≡ true → is_refused (W.beginning_due l b) ≡ false
+range_due l begin.Nothing e = absurd cc
+range_due l _ e = refl
 
 -- where an operand is omitted
 none_due : (b : Bool) (v : Verdict) → b ≡ true → is_refused (if b then Otherwise else v) ≡ false
@@ -60,13 +61,13 @@ unfaulted : (r : Option Refusal) (k : Demands) → IsFair k → IsFair (W.unfaul
 unfaulted None k h = h
 unfaulted (Some e) k h = h
 
-raised : (side : Side) (k : Demands) → IsFair k → IsFair (W.raise_behind side k)
+raised : (side : Side) (k : Demands) → IsFair k → IsFair (W.raise_after side k)
 raised Outermost k h = h
 raised (RightOf op height) k h = h
 
 mutual
   primary : (x : Primary) (c : Context) (w : Live) (ranged : Bool) (k : Demands) → IsFair k → IsFair (W.primary x c w ranged k)
-  primary (form.Value token at) c w ranged k h = λ e. (operand_due ranged token (value_due (beginning token) e), h)
+  primary (form.Value token at) c w ranged k h = λ e. (operand_due ranged token (value_due token (beginning token) e), h)
   primary (form.Named name at) c w ranged k h = (operand_due ranged (Name name) refl, h)
   primary (form.Word word at) c w ranged k h = (operand_due ranged (Reserved word) refl, h)
   primary (form.Group opening inside closing) c w ranged k h =
@@ -75,7 +76,7 @@ mutual
       (operand_due ranged (Sign token.LeftBracket) refl, elements list 0 (level_up c) w opening k h)
   primary (form.Map opening list) c w ranged k h =
       (operand_due ranged (Sign token.MapStart) refl, fields list no_properties (level_up c) w opening k h)
-  primary (form.Zero range at) c w ranged k h = λ e. (operand_due ranged range (range_due (beginning range) e), h)
+  primary (form.Zero range at) c w ranged k h = λ e. (operand_due ranged range (range_due range (beginning range) e), h)
 
   base : (x : Base) (c : Context) (w : Live) (ranged : Bool) (k : Demands) → IsFair k → IsFair (W.base x c w ranged k)
   base (form.Plain x) c w ranged k h = primary x c w ranged _ h
@@ -90,23 +91,23 @@ mutual
     anything opening,
     run f (outermost (level_up (level_up (level_up q.brackets))) w) _
         (unfaulted (index_refusal q.indexed (tree f w)) _
-        (refl, links rest (behind_bracket q (bracket_link opening at (tree f w))) w k h)),
+        (refl, links rest (spot_after_bracket q (bracket_link opening at (tree f w))) w k h)),
   )
   links (form.Property dot at name name_at rest) q w k h = λ e.
-      (anything dot, (refl, links rest (behind_dot q (member_link dot at (property name name_at))) w k h))
+      (anything dot, (refl, links rest (spot_after_dot q (member_link dot at (property name name_at))) w k h))
   links (form.Method dot at name name_at None args rest) q w k h = λ d e.
       let l = member_link dot at (method_tree (text_of name) name_at false (argument_trees args w)) in
-      (anything dot, (anything name, arguments args W.anything refl refl (level_up q.settings) w name_at _ (links rest (behind_dot q l) w k h)))
+      (anything dot, (anything name, arguments args W.anything refl refl (level_up q.settings) w name_at _ (links rest (spot_after_dot q l) w k h)))
   links (form.Method dot at name name_at (Some bang) args rest) q w k h = λ d e.
       let l = member_link dot at (method_tree (text_of name) name_at true (argument_trees args w)) in
-      (anything dot, (anything name, (refl, arguments args W.list_due refl refl (level_up q.settings) w name_at _ (links rest (behind_dot q l) w k h))))
+      (anything dot, (anything name, (refl, arguments args W.list_due refl refl (level_up q.settings) w name_at _ (links rest (spot_after_dot q l) w k h))))
 
   operand : (x : Operand) (c : Context) (w : Live) (ranged : Bool) (k : Demands) → IsFair k → IsFair (W.operand x c w ranged k)
-  operand (form.Linked x list) c w ranged k h = base x c w ranged _ (links list (behind_operand c (base_tree x w)) w k h)
+  operand (form.Linked x list) c w ranged k h = base x c w ranged _ (links list (spot_after_operand c (base_tree x w)) w k h)
   operand (form.Signed sign at x) c w ranged k h = λ e.
-      (operand_due ranged sign (sign_due (beginning sign) e), operand x (level_up c) w false _ h)
+      (operand_due ranged sign (sign_due sign (beginning sign) e), operand x (level_up c) w false _ h)
   operand (form.NoOperand token at) c w ranged k h = λ e.
-      (unless (is_memory token) (W.operand_due ranged token) (none_due (ranged && closes token) (W.beginning_due (beginning token)) e), h)
+      (unless (is_memory token) (W.operand_due ranged token) (none_due (ranged && omits_operand token) (W.beginning_due token (beginning token)) e), h)
 
   arguments : (x : Arguments) (others : Lexeme → Verdict) → is_refused (verdict others (Sign token.Unit)) ≡ false → is_refused (verdict others (Sign token.LeftParen)) ≡ false → (c : Context) (w : Live) (name : Position) (k : Demands) → IsFair k → IsFair (W.arguments x others c w name k)
   arguments (form.EmptyPair at) others pair list c w name k h = (pair, h)

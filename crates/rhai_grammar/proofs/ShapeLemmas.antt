@@ -8,9 +8,8 @@ use Rattle.rhai_lower.specs.Lexemes.{Lexeme, Sign, text_of}
 use Rattle.rhai_lower.specs.Nodes as node
 use Rattle.rhai_lower.specs.Nodes.{Node, Nodes, position_of}
 use Rattle.rhai_lower.specs.declared.position.Position.{Position}
-use Rattle.rhai_lower.specs.declared.token.Token.{Token}
 use Rattle.rhai_lower.specs.declared.token.Token.TheVariants as token
-use Rattle.rhai_grammar.specs.Beginnings.{beginning, is_this, sign_beginning, value_at}
+use Rattle.rhai_grammar.specs.Beginnings.{is_this, value_of}
 use Rattle.rhai_grammar.specs.Chains.{Bracket, Chain, Dotted, Link, LinkKind, chain_of, chained, is_last, link_node, nest}
 use Rattle.rhai_grammar.specs.Contexts.{Live}
 use Rattle.rhai_grammar.specs.Forms as form
@@ -26,12 +25,9 @@ use Rattle.rhai_grammar.specs.Trees.{argument_trees, base_tree, call_tree, link_
 
 -- ---- operands
 
-sign_value : (t : Token) (p : Position) → node_shape (value_at p (sign_beginning t)) ≡ value_at nowhere (sign_beginning t)
-sign_value token.Unit p = refl
-sign_value _ p = refl
-
-value : (l : Lexeme) (p : Position) → node_shape (value_at p (beginning l)) ≡ value_at nowhere (beginning l)
-value (Sign t) p = sign_value t p
+value : (l : Lexeme) (p : Position) → node_shape (value_of l p) ≡ value_of l nowhere
+value (Sign token.True) p = refl
+value (Sign token.False) p = refl
 value _ p = refl
 
 word : (t : Text) (b : Bool) (p : Position) → node_shape (if b then node.this p else T.variable_of None t p) ≡ (if b then node.this nowhere else T.variable_of None t nowhere)
@@ -110,7 +106,7 @@ join_tree (O.Lists k) op p a b =
     ∙ ap (λ x. list_of_parts k nowhere (part k (node_shape a)) x) (sym (operand_part k b))
 join_tree O.Membership op p a b = refl
 join_tree O.NoMembership op p a b = refl
-join_tree O.Calls op p a b = refl
+join_tree O.MakesCall op p a b = refl
 
 -- ---- chains
 
@@ -146,16 +142,16 @@ chain_shape c = record { root = node_shape c.root; links = link_shapes c.links }
 abbrev alone : Node → Chain
 alone x = record { root = x; links = [] }
 
-behind_bracket : (ends : Bool) (y : Node) → chain_of (node_shape y) ≡ chain_shape (chain_of y) → (if ends then alone (node_shape y) else chain_of (node_shape y)) ≡ chain_shape (if ends then alone y else chain_of y)
-behind_bracket true y e = refl
-behind_bracket false y e = e
+spot_after_bracket : (ends : Bool) (y : Node) → chain_of (node_shape y) ≡ chain_shape (chain_of y) → (if ends then alone (node_shape y) else chain_of (node_shape y)) ≡ chain_shape (if ends then alone y else chain_of y)
+spot_after_bracket true y e = refl
+spot_after_bracket false y e = e
 
 abbrev first_link : LinkKind → Bool → Node → Chain → Chain
 first_link k m x c = record { root = node_shape x; links = record { kind = k; negated = m; at = nowhere; item = c.root } ∷ c.links }
 
 chain : (x : Node) → chain_of (node_shape x) ≡ chain_shape (chain_of x)
 chain (node.dot x y m p) = ap (first_link Dotted m.negated x) (chain y)
-chain (node.index x y m p) = ap (first_link Bracket m.negated x) (behind_bracket m.terminating y (chain y))
+chain (node.index x y m p) = ap (first_link Bracket m.negated x) (spot_after_bracket m.terminating y (chain y))
 chain _ = refl
 
 chains : (x : Node) (ls : List Link) → node_shape (chained x ls) ≡ chained (node_shape x) (link_shapes ls)

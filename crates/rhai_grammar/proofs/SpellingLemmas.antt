@@ -23,7 +23,7 @@ use Rattle.rhai_grammar.specs.Chains.{index_refusal, last_fault}
 use Rattle.rhai_grammar.specs.Spelling.{in_code, primary_spelling, base_spelling, link_spelling, operand_spelling, argument_spelling, item_spelling, element_spelling, field_spelling, spelling, is_deliverable, IsDelivered}
 use Rattle.rhai_grammar.specs.Demands.{Verdict, Fine, Wrong, Otherwise, Demands, Nothing, ◌▸◌, Next, Met}
 use Rattle.rhai_grammar.specs.Written as W
-use Rattle.rhai_grammar.specs.Written.{LinkSpot, behind_operand, behind_bracket, behind_dot, Side, Outermost, RightOf, Spot, outermost, right_side, height_after, is_ranged, raise_behind, operands_fit, end_due, run_ends}
+use Rattle.rhai_grammar.specs.Written.{LinkSpot, spot_after_operand, spot_after_bracket, spot_after_dot, Side, Outermost, RightOf, Spot, outermost, right_side, height_after, is_ranged, raise_after, operands_fit, end_due, run_ends}
 use Rattle.rhai_grammar.specs.Laws.{EntriesAreDelivered, FormsAreSpelled, StreamsAreWhole}
 use Rattle.rhai_grammar.proofs.SeenLemmas.{both, leads_on}
 
@@ -46,7 +46,7 @@ record Spelled (taken : List Taken) (k : Demands) (s t : Point) : Type 0 where
   pub met : Met k end t
   pub way : Way taken s.tokens end.tokens
 
-raised : (side : Side) (k : Demands) (s t : Point) → Met (raise_behind side k) s t → Met k s t
+raised : (side : Side) (k : Demands) (s t : Point) → Met (raise_after side k) s t → Met k s t
 raised Outermost k s t m = m
 raised (RightOf op h) k s t m = m.1
 
@@ -106,7 +106,7 @@ mutual
       let d = level_up (level_up q.brackets) in
       let e = run_spelled f (outermost (level_up d) w) _ (past M.code s) t m.1.1.1.1.1 in
       let i = unfaulted (index_refusal q.indexed (tree f w)) _ e.end t e.met.1 in
-      let r = links_spelled rest (behind_bracket q (bracket_link opening at (tree f w))) w k (past M.code e.end) t i.1 in
+      let r = links_spelled rest (spot_after_bracket q (bracket_link opening at (tree f w))) w k (past M.code e.end) t i.1 in
       record {
         end = r.end;
         met = r.met;
@@ -114,7 +114,7 @@ mutual
             (along (spelling f) _ _ e.end.tokens _ e.way (first (Sign token.RightBracket) closing _ e.end.tokens _ i.0 r.way));
       }
   links_spelled (form.Property dot at name name_at rest) q w k s t m =
-      let r = links_spelled rest (behind_dot q (member_link dot at (property name name_at))) w k (past M.code (past M.code s)) t m.1.1.1.1.1.1 in
+      let r = links_spelled rest (spot_after_dot q (member_link dot at (property name name_at))) w k (past M.code (past M.code s)) t m.1.1.1.1.1.1 in
       record {
         end = r.end;
         met = r.met;
@@ -124,7 +124,7 @@ mutual
   links_spelled (form.Method dot at name name_at None args rest) q w k s t m =
       let x = method_tree (text_of name) name_at false (argument_trees args w) in
       let a = arguments_spelled args W.anything (level_up q.settings) w name_at _ (past M.code (past M.code s)) t m.1.1.1.1.1.1.1 in
-      let r = links_spelled rest (behind_dot q (member_link dot at x)) w k a.end t a.met in
+      let r = links_spelled rest (spot_after_dot q (member_link dot at x)) w k a.end t a.met in
       record {
         end = r.end;
         met = r.met;
@@ -136,7 +136,7 @@ mutual
       let x = method_tree (text_of name) name_at true (argument_trees args w) in
       let p = past M.code (past M.code s) in
       let a = arguments_spelled args W.list_due (level_up q.settings) w name_at _ (past M.code p) t m.1.1.1.1.1.1.1.1 in
-      let r = links_spelled rest (behind_dot q (member_link dot at x)) w k a.end t a.met in
+      let r = links_spelled rest (spot_after_dot q (member_link dot at x)) w k a.end t a.met in
       record {
         end = r.end;
         met = r.met;
@@ -148,7 +148,7 @@ mutual
   operand_spelled : (x : Operand) (c : Context) (w : Live) (ranged : Bool) (k : Demands) (s t : Point) → Met (W.operand x c w ranged k) s t → Spelled (operand_spelling x) k s t
   operand_spelled (form.Linked x list) c w ranged k s t m =
       let b = base_spelled x c w ranged _ s t m in
-      let l = links_spelled list (behind_operand c (base_tree x w)) w k b.end t b.met in
+      let l = links_spelled list (spot_after_operand c (base_tree x w)) w k b.end t b.met in
       record { end = l.end; met = l.met; way = along (base_spelling x) (link_spelling list) _ b.end.tokens _ b.way l.way }
   operand_spelled (form.Signed sign at x) c w ranged k s t m =
       let e = operand_spelled x (level_up c) w false _ (past M.code s) t m.1.1.1 in

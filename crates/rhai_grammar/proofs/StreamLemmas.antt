@@ -6,7 +6,7 @@ use Rattle.rhai_lower.specs.Lexemes.{Lexeme, Sign, text_of}
 use Rattle.rhai_lower.specs.Nodes.{Properties, no_properties, position_of, property, with_property}
 use Rattle.rhai_lower.specs.declared.position.Position.{Position}
 use Rattle.rhai_lower.specs.declared.token.Token.TheVariants as token
-use Rattle.rhai_grammar.specs.Beginnings.{beginning, closes, is_range}
+use Rattle.rhai_grammar.specs.Beginnings.{beginning, omits_operand, is_range}
 use Rattle.rhai_grammar.specs.Causes.{Refusal}
 use Rattle.rhai_grammar.specs.Chains.{index_refusal, last_fault}
 use Rattle.rhai_grammar.specs.Contexts.{Context, Live, level_up}
@@ -22,8 +22,8 @@ use Rattle.rhai_grammar.specs.Spelling.{item_spelling, link_spelling, operand_sp
 use Rattle.rhai_grammar.specs.Trees.{argument_trees, base_tree, bracket_link, member_link, method_tree}
 use Rattle.rhai_grammar.specs.Trees.{primary_tree, tree}
 use Rattle.rhai_grammar.specs.Written as W
-use Rattle.rhai_grammar.specs.Written.{LinkSpot, Outermost, RightOf, Side, Spot, behind_bracket, behind_dot}
-use Rattle.rhai_grammar.specs.Written.{behind_operand, height_after, is_ranged, operands_fit, outermost, right_side}
+use Rattle.rhai_grammar.specs.Written.{LinkSpot, Outermost, RightOf, Side, Spot, spot_after_bracket, spot_after_dot}
+use Rattle.rhai_grammar.specs.Written.{spot_after_operand, height_after, is_ranged, operands_fit, outermost, right_side}
 use Rattle.rhai_grammar.proofs.SpellingLemmas.{end_follows}
 
 -- ---- demands
@@ -111,16 +111,16 @@ range_goes_on : (l : Lexeme) → is_range (beginning l) ≡ true → is_end l �
 range_goes_on (Sign token.EOF) e = absurd cc
 range_goes_on _ e = refl
 
-close_goes_on : (ranged : Bool) (l : Lexeme) → ranged && closes l ≡ true → is_end l ≡ false
-close_goes_on true (Sign token.EOF) e = absurd cc
-close_goes_on true _ e = refl
-close_goes_on false l e = absurd cc
+omitted_goes_on : (ranged : Bool) (l : Lexeme) → ranged && omits_operand l ≡ true → is_end l ≡ false
+omitted_goes_on true (Sign token.EOF) e = absurd cc
+omitted_goes_on true _ e = refl
+omitted_goes_on false l e = absurd cc
 
 unfaulted : (r : Option Refusal) (k : Demands) (rest : List Taken) → Asks rest k → Asks rest (W.unfaulted r k)
 unfaulted None k rest h = h
 unfaulted (Some e) k rest h = h
 
-raised : (side : Side) (k : Demands) (rest : List Taken) → Asks rest k → Asks rest (W.raise_behind side k)
+raised : (side : Side) (k : Demands) (rest : List Taken) → Asks rest k → Asks rest (W.raise_after side k)
 raised Outermost k rest h = h
 raised (RightOf op height) k rest h = h
 
@@ -155,8 +155,8 @@ mutual
   primary (form.Word word at) c w ranged k rest h = (rest, refl, h)
   primary (form.Group opening inside closing) c w ranged k rest h =
       let q = outermost (level_up (level_up c)) w in
-      let closes = in_code (Sign token.RightParen) closing in
-      (_, refl, run_on inside q _ (closes ∷ []) rest (run inside q _ _ (rest, refl, h)))
+      let last = in_code (Sign token.RightParen) closing in
+      (_, refl, run_on inside q _ (last ∷ []) rest (run inside q _ _ (rest, refl, h)))
   primary (form.Array opening list) c w ranged k rest h =
       (_, refl, elements list 0 (level_up c) w opening k rest h)
   primary (form.Map opening list) c w ranged k rest h =
@@ -178,26 +178,26 @@ mutual
       → Asks (link_spelling x ++ rest) (W.links x q w k)
   links form.NoLink q w k rest h = unfaulted (last_fault q.before) k rest h
   links (form.Bracket opening at f closing more) q w k rest h = λ e.
-      let closes = in_code (Sign token.RightBracket) closing in
+      let last = in_code (Sign token.RightBracket) closing in
       let inner = outermost (level_up (level_up (level_up q.brackets))) w in
-      let r = links more (behind_bracket q (bracket_link opening at (tree f w))) w k rest h in (
+      let r = links more (spot_after_bracket q (bracket_link opening at (tree f w))) w k rest h in (
         _,
         refl,
-        run_on f inner _ (closes ∷ link_spelling more) rest
+        run_on f inner _ (last ∷ link_spelling more) rest
             (run f inner _ _ (unfaulted (index_refusal q.indexed (tree f w)) _ _ (_, refl, r))),
       )
   links (form.Property dot at name name_at more) q w k rest h = λ e.
-      (_, refl, (_, refl, links more (behind_dot q (member_link dot at (property name name_at))) w k rest h))
+      (_, refl, (_, refl, links more (spot_after_dot q (member_link dot at (property name name_at))) w k rest h))
   links (form.Method dot at name name_at None args more) q w k rest h = λ d e.
       let l = member_link dot at (method_tree (text_of name) name_at false (argument_trees args w)) in
-      let r = links more (behind_dot q l) w k rest h in
+      let r = links more (spot_after_dot q l) w k rest h in
       let c = level_up q.settings in
       let a = arguments_on args W.anything c w name_at _ (link_spelling more) rest
       (arguments args W.anything c w name_at _ _ r) in
       (_, refl, (_, refl, a))
   links (form.Method dot at name name_at (Some bang) args more) q w k rest h = λ d e.
       let l = member_link dot at (method_tree (text_of name) name_at true (argument_trees args w)) in
-      let r = links more (behind_dot q l) w k rest h in
+      let r = links more (spot_after_dot q l) w k rest h in
       let c = level_up q.settings in
       let a = arguments_on args W.list_due c w name_at _ (link_spelling more) rest
       (arguments args W.list_due c w name_at _ _ r) in
@@ -207,10 +207,10 @@ mutual
       → Asks (operand_spelling x ++ rest) (W.operand x c w ranged k)
   operand (form.Linked x list) c w ranged k rest h =
       base_on x c w ranged _ (link_spelling list) rest
-      (base x c w ranged _ _ (links list (behind_operand c (base_tree x w)) w k rest h))
+      (base x c w ranged _ _ (links list (spot_after_operand c (base_tree x w)) w k rest h))
   operand (form.Signed sign at x) c w ranged k rest h = λ e.
       (_, refl, operand x (level_up c) w false _ rest h)
-  operand (form.NoOperand token at) c w ranged k rest h = λ e. (close_goes_on ranged token e, h)
+  operand (form.NoOperand token at) c w ranged k rest h = λ e. (omitted_goes_on ranged token e, h)
 
   arguments : (x : Arguments) (others : Lexeme → Verdict) (c : Context) (w : Live) (name : Position) (k : Demands)
       (rest : List Taken) → Asks rest k → Asks (argument_spelling x ++ rest) (W.arguments x others c w name k)
@@ -248,8 +248,8 @@ mutual
   fields (form.NoField closing) before c w opening k rest h = (rest, refl, h)
   fields (form.LastField key at colon f closing) before c w opening k rest h = λ e.
       let q = outermost (level_up (level_up c)) w in
-      let closes = in_code (Sign token.RightBrace) closing in
-      (_, refl, (_, refl, run_on f q _ (closes ∷ []) rest (run f q _ _ (rest, refl, h))))
+      let last = in_code (Sign token.RightBrace) closing in
+      (_, refl, (_, refl, run_on f q _ (last ∷ []) rest (run f q _ _ (rest, refl, h))))
   fields (form.Field key at colon f comma more) before c w opening k rest h = λ e.
       let q = outermost (level_up (level_up c)) w in
       let others = in_code (Sign token.Comma) comma ∷ field_spelling more in

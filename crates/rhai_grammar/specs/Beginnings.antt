@@ -1,4 +1,4 @@
--- What a token begins where an operand is expected, and what it does after a name, an operand, a dot and an argument.
+-- What a token begins where an operand is expected, and what it does after a name, an operand and a dot.
 use Rattle.std.specs.Prelude.{◌≡◌, Bool, true, false, codes, if◌then◌else◌, refl}
 use Rattle.rhai_lower.specs.Texts.{Text, same_text}
 use Rattle.rhai_lower.specs.Names.{reserved_as}
@@ -6,9 +6,20 @@ use Rattle.rhai_lower.specs.Lexemes.{Lexeme, Integer, Character, String, Name, R
 use Rattle.rhai_lower.specs.Nodes.{Node, unit, boolean, integer, character, string}
 use Rattle.rhai_lower.specs.declared.position.Position.{Position}
 use Rattle.rhai_lower.specs.declared.token.Token.{Token}
-use Rattle.rhai_lower.specs.declared.token.Token.TheVariants.{Unit, True, False, LeftParen, RightParen, LeftBracket, RightBracket, QuestionBracket, Period, Elvis, MapStart, RightBrace, Comma, SemiColon, DoubleArrow, Minus, UnaryMinus, Plus, UnaryPlus, Bang, ExclusiveRange, InclusiveRange, EOF}
+use Rattle.rhai_lower.specs.declared.token.Token.TheVariants.{Unit, True, False, LeftParen, RightParen, LeftBracket}
+use Rattle.rhai_lower.specs.declared.token.Token.TheVariants.{RightBracket, QuestionBracket, Period, Elvis, MapStart}
+use Rattle.rhai_lower.specs.declared.token.Token.TheVariants.{RightBrace, Comma, SemiColon, DoubleArrow, Minus}
+use Rattle.rhai_lower.specs.declared.token.Token.TheVariants.{UnaryMinus, Plus, UnaryPlus, Bang, ExclusiveRange}
+use Rattle.rhai_lower.specs.declared.token.Token.TheVariants.{InclusiveRange}
 use Rattle.rhai_grammar.specs.Causes as cause
 use Rattle.rhai_grammar.specs.Causes.{Cause}
+use Rattle.rhai_grammar.specs.Delivered.{is_end}
+use Rattle.rhai_grammar.specs.declared.role.Beginning.{Beginning}
+use Rattle.rhai_grammar.specs.declared.role.Beginning.TheVariants as begin
+use Rattle.rhai_grammar.specs.declared.role.Calling.{Calling}
+use Rattle.rhai_grammar.specs.declared.role.Calling.TheVariants as call
+use Rattle.rhai_grammar.specs.declared.role.Linking.{Linking}
+use Rattle.rhai_grammar.specs.declared.role.Linking.TheVariants as link
 
 -- the error for an unexpected token; if it is an error of the tokenizer, that error
 abbrev pub unexpected : Lexeme → Cause
@@ -20,105 +31,98 @@ abbrev pub missing : Text → Lexeme → Cause
 missing due (Faulty f) = cause.BadInput (cause.Lexer f)
 missing due l = cause.MissingToken due
 
--- what a token begins where an operand is expected
-pub data Beginning : Type 0 where
-  -- a value, which is this token: its node, given its position
-  Single : (Position → Node) → Beginning
-  AName : Text → Beginning
-  AWord : Text → Beginning
-  AGroup : Beginning
-  AnArray : Beginning
-  AMap : Beginning
-  ASign : Beginning
-  -- a range operator whose left operand is omitted
-  ARange : Beginning
-  -- no operand, and the error for that
-  NoBeginning : Cause → Beginning
+-- ---- where an operand is expected
 
 abbrev pub sign_beginning : Token → Beginning
-sign_beginning Unit = Single unit
-sign_beginning True = Single (boolean true)
-sign_beginning False = Single (boolean false)
-sign_beginning LeftParen = AGroup
-sign_beginning LeftBracket = AnArray
-sign_beginning MapStart = AMap
-sign_beginning Minus = ASign
-sign_beginning UnaryMinus = ASign
-sign_beginning Plus = ASign
-sign_beginning UnaryPlus = ASign
-sign_beginning Bang = ASign
-sign_beginning ExclusiveRange = ARange
-sign_beginning InclusiveRange = ARange
-sign_beginning EOF = NoBeginning cause.UnexpectedEOF
-sign_beginning t = NoBeginning (unexpected (Sign t))
+sign_beginning Unit = begin.Value
+sign_beginning True = begin.Value
+sign_beginning False = begin.Value
+sign_beginning LeftParen = begin.Group
+sign_beginning LeftBracket = begin.Array
+sign_beginning MapStart = begin.Map
+sign_beginning Minus = begin.Sign
+sign_beginning UnaryMinus = begin.Sign
+sign_beginning Plus = begin.Sign
+sign_beginning UnaryPlus = begin.Sign
+sign_beginning Bang = begin.Sign
+sign_beginning ExclusiveRange = begin.Range
+sign_beginning InclusiveRange = begin.Range
+sign_beginning _ = begin.Nothing
 
+-- what a token begins
 abbrev pub beginning : Lexeme → Beginning
-beginning (Integer n) = Single (integer n)
-beginning (Character c) = Single (character c)
-beginning (String t) = Single (string t)
-beginning (Name t) = AName t
-beginning (Reserved t) = AWord t
+beginning (Integer n) = begin.Value
+beginning (Character c) = begin.Value
+beginning (String t) = begin.Value
+beginning (Name t) = begin.Name
+beginning (Reserved t) = begin.Word
 beginning (Sign t) = sign_beginning t
-beginning l = NoBeginning (unexpected l)
+beginning _ = begin.Nothing
+
+-- the error for a token that begins no operand
+abbrev pub no_operand : Lexeme → Cause
+no_operand l = if is_end l then cause.UnexpectedEOF else unexpected l
+
+-- the node of a token that is a value
+abbrev pub value_of : Lexeme → Position → Node
+value_of (Integer n) at = integer n at
+value_of (Character c) at = character c at
+value_of (String t) at = string t at
+value_of (Sign True) at = boolean true at
+value_of (Sign False) at = boolean false at
+value_of _ at = unit at
+
+abbrev pub is_begun : Beginning → Bool
+is_begun begin.Nothing = false
+is_begun _ = true
 
 abbrev pub is_value : Beginning → Bool
-is_value (Single node) = true
+is_value begin.Value = true
 is_value _ = false
 
 abbrev pub is_sign : Beginning → Bool
-is_sign ASign = true
+is_sign begin.Sign = true
 is_sign _ = false
 
 abbrev pub is_range : Beginning → Bool
-is_range ARange = true
+is_range begin.Range = true
 is_range _ = false
 
--- the node of a value
-abbrev pub value_at : Position → Beginning → Node
-value_at at (Single node) = node at
-value_at at _ = unit at
-
 -- After a range operator, these tokens stand for an omitted unit.
-abbrev pub closes_sign : Token → Bool
-closes_sign RightBracket = true
-closes_sign RightParen = true
-closes_sign RightBrace = true
-closes_sign Comma = true
-closes_sign SemiColon = true
-closes_sign DoubleArrow = true
-closes_sign _ = false
+abbrev pub sign_omits_operand : Token → Bool
+sign_omits_operand RightBracket = true
+sign_omits_operand RightParen = true
+sign_omits_operand RightBrace = true
+sign_omits_operand Comma = true
+sign_omits_operand SemiColon = true
+sign_omits_operand DoubleArrow = true
+sign_omits_operand _ = false
 
-abbrev pub closes : Lexeme → Bool
-closes (Sign t) = closes_sign t
-closes _ = false
+abbrev pub omits_operand : Lexeme → Bool
+omits_operand (Sign t) = sign_omits_operand t
+omits_operand _ = false
 
 -- ---- after a name
 
--- how a token calls the name before it
-pub data Calling : Type 0 where
-  WithPair : Calling
-  WithList : Calling
-  WithBang : Calling
-  NoCall : Calling
-
 abbrev pub sign_calling : Token → Calling
-sign_calling Unit = WithPair
-sign_calling LeftParen = WithList
-sign_calling Bang = WithBang
-sign_calling _ = NoCall
+sign_calling Unit = call.Pair
+sign_calling LeftParen = call.List
+sign_calling Bang = call.Bang
+sign_calling _ = call.Nothing
 
+-- how a token calls the name before it
 abbrev pub calling : Lexeme → Calling
 calling (Sign t) = sign_calling t
-calling _ = NoCall
+calling _ = call.Nothing
 
 abbrev pub is_call : Calling → Bool
-is_call NoCall = false
+is_call call.Nothing = false
 is_call _ = true
 
 -- arguments without a `!` before them
 abbrev pub is_list : Calling → Bool
-is_list WithPair = true
-is_list WithList = true
+is_list call.Pair = true
+is_list call.List = true
 is_list _ = false
 
 abbrev pub calls : Lexeme → Bool
@@ -136,33 +140,28 @@ may_be_called word = called_part (reserved_as word)
 
 -- ---- after an operand
 
--- how a token continues the operand before it
-pub data Linking : Type 0 where
-  ABracket : Linking
-  ADot : Linking
-  NoLinking : Linking
-
 abbrev pub sign_linking : Token → Linking
-sign_linking LeftBracket = ABracket
-sign_linking QuestionBracket = ABracket
-sign_linking Period = ADot
-sign_linking Elvis = ADot
-sign_linking _ = NoLinking
+sign_linking LeftBracket = link.Bracket
+sign_linking QuestionBracket = link.Bracket
+sign_linking Period = link.Dot
+sign_linking Elvis = link.Dot
+sign_linking _ = link.Nothing
 
+-- how a token continues the operand before it
 abbrev pub linking : Lexeme → Linking
 linking (Sign t) = sign_linking t
-linking _ = NoLinking
+linking _ = link.Nothing
 
 abbrev pub is_bracket : Linking → Bool
-is_bracket ABracket = true
+is_bracket link.Bracket = true
 is_bracket _ = false
 
 abbrev pub is_dot : Linking → Bool
-is_dot ADot = true
+is_dot link.Dot = true
 is_dot _ = false
 
 abbrev pub is_link : Linking → Bool
-is_link NoLinking = false
+is_link link.Nothing = false
 is_link _ = true
 
 -- a link with a question mark
@@ -204,36 +203,7 @@ abbrev pub is_name : Lexeme → Bool
 is_name (Name t) = true
 is_name _ = false
 
--- ---- among arguments
-
-pub data Following : Type 0 where
-  AComma : Following
-  AClose : Following
-  -- anything else, and the error for that
-  NoFollowing : Cause → Following
-
-abbrev pub sign_following : Token → Following
-sign_following Comma = AComma
-sign_following RightParen = AClose
-sign_following EOF = NoFollowing (cause.MissingToken (codes ")"))
-sign_following t = NoFollowing (cause.MissingToken (codes ","))
-
-abbrev pub following : Lexeme → Following
-following (Sign t) = sign_following t
-following l = NoFollowing (missing (codes ",") l)
-
-abbrev pub is_close : Following → Bool
-is_close AClose = true
-is_close _ = false
-
--- A list of arguments cannot begin with the end mark or an error of the tokenizer.
-abbrev pub no_argument : Lexeme → Bool
-no_argument (Faulty f) = true
-no_argument (Sign EOF) = true
-no_argument _ = false
-
 -- `(` begins a group where an operand is expected, and calls the name before it; `print` may be called, `this` may not.
-example : (beginning (Sign LeftParen) ≡ AGroup) × (calling (Sign LeftParen) ≡ WithList)
+example : (beginning (Sign LeftParen) ≡ begin.Group) × (calling (Sign LeftParen) ≡ call.List)
     × (may_be_called (codes "print") ≡ true) × (may_be_called (codes "this") ≡ false)
-    × (following (Sign EOF) ≡ NoFollowing (cause.MissingToken (codes ")")))
-example = (refl, refl, refl, refl, refl)
+example = (refl, refl, refl, refl)

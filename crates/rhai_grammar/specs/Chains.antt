@@ -1,5 +1,6 @@
 -- Chains: an operand followed by brackets and dots, and the nested tree of that.
-use Rattle.std.specs.Prelude.{◌≡◌, Bool, true, false, ◌&&◌, ◌||◌, ◌++◌, ◌∷◌, [], List, Option, Some, None, option_map, if◌then◌else◌, codes, refl}
+use Rattle.std.specs.Prelude.{◌≡◌, Bool, true, false, ◌&&◌, ◌||◌, ◌++◌, ◌∷◌, [], List, Option, Some, None, option_map}
+use Rattle.std.specs.Prelude.{if◌then◌else◌, codes, refl}
 use Rattle.std.specs.Option.{option_or}
 use Rattle.rhai_lower.specs.Texts.{Text, same_text}
 use Rattle.rhai_lower.specs.Positions.{place}
@@ -36,7 +37,7 @@ is_last [] = true
 is_last _ = false
 
 -- The node of a link: what is before it, and its item with all later links. Only a bracket that is last ends its chain.
-abbrev pub link_node : Link → (last : Bool) → (before behind : Node) → Node
+abbrev pub link_node : Link → (last : Bool) → (before after : Node) → Node
 link_node l last x y = by_kind l.kind
   where
     by_kind : LinkKind → Node
@@ -113,5 +114,6 @@ example_link kind name p = record { kind = kind; negated = false; at = p; item =
 abbrev example_links : List Link
 example_links = example_link Bracket (codes "b") (place 1 2) ∷ example_link Dotted (codes "c") (place 1 5) ∷ []
 
-example : (chained (chained (property (codes "a") (place 1 1)) (example_link Bracket (codes "b") (place 1 2) ∷ [])) (example_link Dotted (codes "c") (place 1 5) ∷ []) ≡ chained (property (codes "a") (place 1 1)) example_links)
+example : (chained (chained (property (codes "a") (place 1 1)) (example_link Bracket (codes "b") (place 1 2) ∷ []))
+    (example_link Dotted (codes "c") (place 1 5) ∷ []) ≡ chained (property (codes "a") (place 1 1)) example_links)
 example = refl

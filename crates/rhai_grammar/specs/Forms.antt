@@ -36,7 +36,8 @@ mutual
     -- a property after `.` or `?.`
     Property : (dot : Lexeme) (at : Position) (name : Text) (name_at : Position) → Links → Links
     -- a method call after `.` or `?.`
-    Method : (dot : Lexeme) (at : Position) (name : Lexeme) (name_at : Position) (bang : Option Position) (arguments : Arguments) → Links → Links
+    Method : (dot : Lexeme) (at : Position) (name : Lexeme) (name_at : Position) (bang : Option Position)
+        (arguments : Arguments) → Links → Links
 
   -- an operand of an operator
   pub data Operand : Type 0 where

@@ -3,7 +3,9 @@ use Rattle.std.specs.Prelude.{◌≡◌, pos, Bool, true, false, ◌&&◌, ◌++
 use Rattle.rhai_lower.specs.Texts.{Text}
 use Rattle.rhai_lower.specs.Positions.{place}
 use Rattle.rhai_lower.specs.Lexemes.{Lexeme, Sign}
-use Rattle.rhai_lower.specs.Nodes.{Node, Nodes, Properties, unit, boolean, integer, character, string, interpolated, array, object_map, pointer, call, conjunction, disjunction, no_nodes, one_node, no_properties, one_property}
+use Rattle.rhai_lower.specs.Nodes.{Node, Nodes, Properties, unit, boolean, integer, character, string, interpolated}
+use Rattle.rhai_lower.specs.Nodes.{array, object_map, pointer, call, conjunction, disjunction, no_nodes, one_node}
+use Rattle.rhai_lower.specs.Nodes.{no_properties, one_property}
 use Rattle.rhai_lower.specs.declared.token.Token.TheVariants.{ExclusiveRange, InclusiveRange}
 
 -- The kind of a node that cannot be a boolean.

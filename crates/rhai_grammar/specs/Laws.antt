@@ -12,7 +12,8 @@ use Rattle.rhai_grammar.specs.Forms.{Base, Links, NoLink, Bracket, Property, Met
 use Rattle.rhai_grammar.specs.Trees.{tree}
 use Rattle.rhai_grammar.specs.Shapes.{run_shape, node_shape}
 use Rattle.rhai_grammar.specs.Spelling.{spelling, IsDelivered}
-use Rattle.rhai_grammar.specs.Demands.{Verdict, Wrong, Blames, Demands, Nothing, Tok, Ahead, Next, Test, Shape, ◌▸◌, verdict, Met, Missed}
+use Rattle.rhai_grammar.specs.Demands.{Verdict, Wrong, Blames, Demands, Nothing, Tok, Ahead, Next, Test, Shape, ◌▸◌}
+use Rattle.rhai_grammar.specs.Demands.{verdict, Met, Missed}
 use Rattle.rhai_grammar.specs.Written.{whole_expression}
 use Rattle.rhai_grammar.specs.Promises.{IsWritten}
 

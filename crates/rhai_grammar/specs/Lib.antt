@@ -13,6 +13,7 @@ pub mod Operators
 pub mod Answers
 pub mod Slots
 pub mod Contexts
+pub mod CommaLists
 pub mod Literals
 pub mod Chains
 pub mod Trees

@@ -5,48 +5,37 @@ use Rattle.rhai_lower.specs.Names.{is_identifier}
 use Rattle.rhai_lower.specs.Lexemes.{Lexeme, Faulty, Interpolated, Name, Reserved, Sign, String}
 use Rattle.rhai_lower.specs.Nodes.{Properties, no_properties, one_property}
 use Rattle.rhai_lower.specs.declared.token.Token.{Token}
-use Rattle.rhai_lower.specs.declared.token.Token.TheVariants.{Comma, EOF, RightBrace, RightBracket, Plus}
+use Rattle.rhai_lower.specs.declared.token.Token.TheVariants.{EOF, RightBrace, RightBracket, Plus}
 use Rattle.rhai_grammar.specs.Causes as cause
 use Rattle.rhai_grammar.specs.Causes.{Cause}
 use Rattle.rhai_grammar.specs.Contexts.{full}
-use Rattle.rhai_grammar.specs.Beginnings.{missing, Following, AComma, AClose, NoFollowing}
+use Rattle.rhai_grammar.specs.Beginnings.{missing}
+use Rattle.rhai_grammar.specs.Delivered.{is_end}
+use Rattle.rhai_grammar.specs.declared.role.ItemPlace.{ItemPlace}
+use Rattle.rhai_grammar.specs.declared.role.ItemPlace.TheVariants as place
 
 -- ---- arrays
 
--- what a token is where an item may begin
-pub data ItemPlace : Type 0 where
-  -- the `]`
-  ItemsEnd : ItemPlace
-  AnItem : ItemPlace
-  -- no item, and the error for that
-  NoItem : Cause → ItemPlace
-
-abbrev pub too_many_items : (limit : ℕ) → Cause
-too_many_items limit = cause.LiteralTooLarge (codes "Size of array literal") limit
-
 -- where there are this many items already
 abbrev pub item_room : (limit count : ℕ) → ItemPlace
-item_room limit count = if full limit count then NoItem (too_many_items limit) else AnItem
+item_room limit count = if full limit count then place.Nothing else place.Item
 
 abbrev pub sign_item : (limit count : ℕ) → Token → ItemPlace
-sign_item limit count RightBracket = ItemsEnd
-sign_item limit count EOF = NoItem (cause.MissingToken (codes "]"))
+sign_item limit count RightBracket = place.End
+sign_item limit count EOF = place.Nothing
 sign_item limit count _ = item_room limit count
 
+-- what a token is where an item may begin
 abbrev pub item_place : (limit count : ℕ) → Lexeme → ItemPlace
 item_place limit count (Sign t) = sign_item limit count t
 item_place limit count _ = item_room limit count
 
-abbrev pub sign_behind_item : Token → Following
-sign_behind_item Comma = AComma
-sign_behind_item RightBracket = AClose
-sign_behind_item EOF = NoFollowing (cause.MissingToken (codes "]"))
-sign_behind_item t = NoFollowing (cause.MissingToken (codes ","))
+abbrev pub too_many_items : (limit : ℕ) → Cause
+too_many_items limit = cause.LiteralTooLarge (codes "Size of array literal") limit
 
--- what comes after an item
-abbrev pub behind_item : Lexeme → Following
-behind_item (Sign t) = sign_behind_item t
-behind_item l = NoFollowing (missing (codes ",") l)
+-- the error for a token that begins no item: the end mark, or an item too many
+abbrev pub no_item : (limit : ℕ) → Lexeme → Cause
+no_item limit l = if is_end l then missing (codes "]") l else too_many_items limit
 
 -- ---- object maps
 
@@ -95,21 +84,10 @@ is_key _ = false
 abbrev pub too_many_fields : (limit : ℕ) → Cause
 too_many_fields limit = cause.LiteralTooLarge (codes "Number of properties in object map literal") limit
 
-abbrev pub sign_behind_value : Token → Following
-sign_behind_value Comma = AComma
-sign_behind_value RightBrace = AClose
-sign_behind_value t = NoFollowing (cause.MissingToken (codes "}"))
-
--- what comes after the value of a property
-abbrev pub behind_value : Lexeme → Following
-behind_value (Sign t) = sign_behind_value t
-behind_value (Name t) = NoFollowing (cause.MissingToken (codes ","))
-behind_value l = NoFollowing (missing (codes "}") l)
-
 -- With a limit of 1, a second item is one too many; `}` ends an object map; `+` is not a key, and in place of the first
 -- key it is a missing `}`.
-example : (item_place 1 1 (Name (codes "a")) ≡ NoItem (too_many_items 1))
-    × (item_place 1 1 (Sign RightBracket) ≡ ItemsEnd) × (key_place false true (Sign RightBrace) ≡ FieldsEnd)
+example : (item_place 1 1 (Name (codes "a")) ≡ place.Nothing) × (no_item 1 (Name (codes "a")) ≡ too_many_items 1)
+    × (item_place 1 1 (Sign RightBracket) ≡ place.End) × (key_place false true (Sign RightBrace) ≡ FieldsEnd)
     × (key_place false true (Sign Plus) ≡ NoKey (cause.MissingToken (codes "}")))
     × (key_place false false (Sign Plus) ≡ NoKey cause.PropertyExpected)
-example = (refl, refl, refl, refl, refl)
+example = (refl, refl, refl, refl, refl, refl)

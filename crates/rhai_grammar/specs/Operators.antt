@@ -1,8 +1,10 @@
 -- What a binary operator makes of its operands.
-use Rattle.std.specs.Prelude.{◌≡◌, Bool, true, false, [], Option, Some, None, Result, Ok, Err, is_none, unwrap_or, if◌then◌else◌, codes, pos, refl}
+use Rattle.std.specs.Prelude.{◌≡◌, Bool, true, false, [], Option, Some, None, Result, Ok, Err, is_none, unwrap_or}
+use Rattle.std.specs.Prelude.{if◌then◌else◌, codes, pos, refl}
 use Rattle.rhai_lower.specs.Positions.{place}
 use Rattle.rhai_lower.specs.Lexemes.{Lexeme, Sign, text_of}
-use Rattle.rhai_lower.specs.Nodes.{Called, Node, Nodes, integer, boolean, call, conjunction, disjunction, coalescing, no_nodes, one_node, start_of}
+use Rattle.rhai_lower.specs.Nodes.{Called, Node, Nodes, integer, boolean, call, conjunction, disjunction, coalescing}
+use Rattle.rhai_lower.specs.Nodes.{no_nodes, one_node, start_of}
 use Rattle.rhai_lower.specs.declared.position.Position.{Position}
 use Rattle.rhai_lower.specs.declared.token.Token.TheVariants.{And, Or, DoubleQuestion, In, NotIn, Bang}
 use Rattle.rhai_grammar.specs.Causes.{Refusal, refusal, MismatchedType}
@@ -11,7 +13,15 @@ use Rattle.rhai_grammar.specs.Signs.{sign_call}
 
 -- a native-only call of two arguments, with the written operator as its name
 abbrev pub operator_called : Lexeme → Called
-operator_called op = record { name = text_of op; path = []; module_index = None; script_args = None; native_args = 2; captures_scope = false; op_token = Some op }
+operator_called op = record {
+  name = text_of op;
+  path = [];
+  module_index = None;
+  script_args = None;
+  native_args = 2;
+  captures_scope = false;
+  op_token = Some op;
+}
 
 -- the call of an operator, at the operator's position
 abbrev pub operator_call : Lexeme → Position → Node → Node → Node
@@ -22,7 +32,15 @@ operator_call op at left right = call (operator_called op) (one_node left (one_n
 -- Membership is a call of `contains`, which a script may define; the first argument is the container (the right
 -- operand), the second the element.
 abbrev pub contains_called : Option Lexeme → Called
-contains_called op = record { name = codes "contains"; path = []; module_index = None; script_args = Some 2; native_args = 2; captures_scope = false; op_token = op }
+contains_called op = record {
+  name = codes "contains";
+  path = [];
+  module_index = None;
+  script_args = Some 2;
+  native_args = 2;
+  captures_scope = false;
+  op_token = op;
+}
 
 -- the call of `contains` for `left in right`, at the operator's position
 abbrev pub contains_call : Option Lexeme → Position → Node → Node → Node
@@ -87,7 +105,7 @@ pub data Joining : Type 0 where
   Lists : ListKind → Joining
   Membership : Joining
   NoMembership : Joining
-  Calls : Joining
+  MakesCall : Joining
 
 -- how this operator joins its operands
 abbrev pub joining : Lexeme → Joining
@@ -96,13 +114,13 @@ joining (Sign Or) = Lists Disjunction
 joining (Sign DoubleQuestion) = Lists Coalescing
 joining (Sign In) = Membership
 joining (Sign NotIn) = NoMembership
-joining _ = Calls
+joining _ = MakesCall
 
 abbrev pub joined_tree : Joining → Lexeme → Position → Node → Node → Node
 joined_tree (Lists kind) op at left right = list_of kind at left right
 joined_tree Membership op at left right = contains_call None at left right
 joined_tree NoMembership op at left right = no_membership op at left right
-joined_tree Calls op at left right = operator_call op at left right
+joined_tree MakesCall op at left right = operator_call op at left right
 
 -- the tree of an operator at a position with its operands
 abbrev pub operator_tree : Lexeme → Position → Node → Node → Node
@@ -136,5 +154,10 @@ example_true = boolean true (place 1 1)
 abbrev example_list : Node
 example_list = operator_tree (Sign And) (place 1 3) example_true example_true
 
-example : (operator_tree (Sign And) (place 1 5) example_list example_true ≡ conjunction (one_node example_true (one_node example_true (one_node example_true no_nodes))) (place 1 3)) × (operator_tree (Sign And) (place 1 5) example_true example_list ≡ conjunction (one_node example_true (one_node example_true (one_node example_true no_nodes))) (place 1 5)) × (operator_result (Sign And) (place 1 3) (integer (pos 1) (place 1 1)) example_true ≡ Err (refusal (MismatchedType (codes "a boolean expression") (codes "a number")) (place 1 1)))
+example : (operator_tree (Sign And) (place 1 5) example_list example_true
+    ≡ conjunction (one_node example_true (one_node example_true (one_node example_true no_nodes))) (place 1 3))
+    × (operator_tree (Sign And) (place 1 5) example_true example_list
+    ≡ conjunction (one_node example_true (one_node example_true (one_node example_true no_nodes))) (place 1 5))
+    × (operator_result (Sign And) (place 1 3) (integer (pos 1) (place 1 1)) example_true
+    ≡ Err (refusal (MismatchedType (codes "a boolean expression") (codes "a number")) (place 1 1)))
 example = (refl, refl, refl)

@@ -67,7 +67,10 @@ UnlessMemory P (Err e) = is_for_memory e ≡ false → P
 -- A form misses its next demand at the place where the stream is now, with this error.
 pub record IsNamed (c : Context) (w : Live) (taken : List Taken) (start left : Cursor) (e : Refusal) : Type 0 where
   pub form : Run
-  pub missed : Missed (whole_expression form c w) (start_of start) e (record { tokens = left.tokens; taken = latest_first taken [] })
+  pub missed : Missed (whole_expression form c w) (start_of start) e (record {
+    tokens = left.tokens;
+    taken = latest_first taken [];
+  })
   pub last : StandsAtLast e left
 
 -- No form that fits begins with the tokens seen.
@@ -91,7 +94,8 @@ pub record IsRefused (c : Context) (w : Live) (taken : List Taken) (start left :
 -- - `only`: with an empty library, for each such form the result is the script of its tree, unless memory ran out;
 -- - `refused`: an error other than out of memory is one that a form gives after the tokens seen, and no form that fits
 --   begins with these tokens.
-pub record ReadsExpression {F : Type 0} (library : List F) (c : Context) (w : Live) (start left : Cursor) (result : Result AST ParseError) : Type 0 where
+pub record ReadsExpression {F : Type 0} (library : List F) (c : Context) (w : Live) (start left : Cursor)
+    (result : Result AST ParseError) : Type 0 where
   pub accepted : library ≡ [] → IfOk result (λ script. (f : Run) × IsWritten c w f start × IsScriptOf (tree f w) script)
   pub only : library ≡ [] → (f : Run) → IsWritten c w f start → Accepts (tree f w) result
   pub refused : IfErr result (λ e. is_for_memory e ≡ false

@@ -3,13 +3,15 @@ use Rattle.std.specs.Prelude.{◌≡◌, ℕ, pos, codes, None, false, List, [],
 use Rattle.rhai_lower.specs.Positions.{place}
 use Rattle.rhai_lower.specs.Lexemes.{Lexeme, Integer, Name, Sign}
 use Rattle.rhai_lower.specs.Nodes.{Node, unit, integer, array, call, no_nodes, one_node}
-use Rattle.rhai_lower.specs.declared.token.Token.TheVariants.{Plus, Multiply, Minus, ExclusiveRange, LeftParen, RightParen, LeftBracket, RightBracket, Comma}
+use Rattle.rhai_lower.specs.declared.token.Token.TheVariants.{Plus, Multiply, Minus, ExclusiveRange, LeftParen}
+use Rattle.rhai_lower.specs.declared.token.Token.TheVariants.{RightParen, LeftBracket, RightBracket, Comma}
 use Rattle.rhai_grammar.specs.Causes as cause
 use Rattle.rhai_grammar.specs.Causes.{Refusal, refusal}
 use Rattle.rhai_grammar.specs.Delivered.{code, item, Tokens, Ends, Then, Taken, Point}
 use Rattle.rhai_grammar.specs.Contexts.{Context, nothing_live}
 use Rattle.rhai_grammar.specs.Operators.{operator_call}
-use Rattle.rhai_grammar.specs.Forms.{Primary, Operand, Run, Just, Binary, Linked, NoLink, Plain, Value, Named, Zero, Array, Call, Signed, NoOperand, Listed, Last, Element, LastElement}
+use Rattle.rhai_grammar.specs.Forms.{Primary, Operand, Run, Just, Binary, Linked, NoLink, Plain, Value, Named, Zero}
+use Rattle.rhai_grammar.specs.Forms.{Array, Call, Signed, NoOperand, Listed, Last, Element, LastElement}
 use Rattle.rhai_grammar.specs.Literals.{too_many_items}
 use Rattle.rhai_grammar.specs.Trees.{function_called, tree}
 use Rattle.rhai_grammar.specs.Demands.{Met, Missed}
@@ -58,14 +60,16 @@ abbrev pub sum_form : Run
 sum_form = Binary (Sign Plus) (place 1 3) (number 1 1) (Binary (Sign Multiply) (place 1 7) (number 2 5) (number 3 9))
 
 abbrev pub sum_tree : Node
-sum_tree = operator_call (Sign Plus) (place 1 3) (integer (pos 1) (place 1 1)) (operator_call (Sign Multiply) (place 1 7) (integer (pos 2) (place 1 5)) (integer (pos 3) (place 1 9)))
+sum_tree = operator_call (Sign Plus) (place 1 3) (integer (pos 1) (place 1 1))
+    (operator_call (Sign Multiply) (place 1 7) (integer (pos 2) (place 1 5)) (integer (pos 3) (place 1 9)))
 
 -- The sum fits under the depth limit 3, and has its tree. Under the limit 2 it misses the raise for `*`, which is
 -- refused at the 2 before it; by then `*` and the 3 were taken.
 pub record SumRow : Type 0 where
   pub tree_is : tree sum_form nothing_live ≡ sum_tree
   pub fits : Met (whole_expression sum_form (depth 3) nothing_live) (unread sum_tokens 10) (between sum_tokens [] 10)
-  pub deep : Missed (whole_expression sum_form (depth 2) nothing_live) (unread sum_tokens 10) (refusal cause.ExprTooDeep (place 1 5)) (between sum_tokens [] 10)
+  pub deep : Missed (whole_expression sum_form (depth 2) nothing_live) (unread sum_tokens 10)
+      (refusal cause.ExprTooDeep (place 1 5)) (between sum_tokens [] 10)
 
 -- `1 + 2` fits under the depth limit 2. Under the limit 1 it misses the raise after the 2, which is refused at the 1.
 abbrev pub pair_tokens : List (Lexeme × ℕ)
@@ -78,7 +82,8 @@ pub record PairRow : Type 0 where
   pub tree_is : tree pair_form nothing_live
       ≡ operator_call (Sign Plus) (place 1 3) (integer (pos 1) (place 1 1)) (integer (pos 2) (place 1 5))
   pub fits : Met (whole_expression pair_form (depth 2) nothing_live) (unread pair_tokens 6) (between pair_tokens [] 6)
-  pub deep : Missed (whole_expression pair_form (depth 1) nothing_live) (unread pair_tokens 6) (refusal cause.ExprTooDeep (place 1 1)) (between pair_tokens [] 6)
+  pub deep : Missed (whole_expression pair_form (depth 1) nothing_live) (unread pair_tokens 6)
+      (refusal cause.ExprTooDeep (place 1 1)) (between pair_tokens [] 6)
 
 -- `1 + 2 + 3` is too deep under the limit 2: each operator raises the level, and the second raise is refused at the
 -- first operator.
@@ -91,7 +96,8 @@ flat_form = Binary (Sign Plus) (place 1 7) pair_form (number 3 9)
 pub record FlatRow : Type 0 where
   pub tree_is : tree flat_form nothing_live
       ≡ operator_call (Sign Plus) (place 1 7) (tree pair_form nothing_live) (integer (pos 3) (place 1 9))
-  pub deep : Missed (whole_expression flat_form (depth 2) nothing_live) (unread flat_tokens 10) (refusal cause.ExprTooDeep (place 1 3)) (between flat_tokens [] 10)
+  pub deep : Missed (whole_expression flat_form (depth 2) nothing_live) (unread flat_tokens 10)
+      (refusal cause.ExprTooDeep (place 1 3)) (between flat_tokens [] 10)
 
 -- `1 + 2 + 3 * 4` fits under the depth limit 4, one more than `1 + 2 * 3`: the product is on the right of the second
 -- `+`, which begins at the level that the first `+` raised. Under the limit 3 it misses the raise for `*`, which is
@@ -121,7 +127,9 @@ pub record LateRow : Type 0 where
 
 -- a range from an omitted zero to 5, both at these columns
 abbrev pub range_tree : (left range right : ℕ) → Node
-range_tree left range right = operator_call (Sign ExclusiveRange) (place 1 range) (integer (pos 0) (place 1 left)) (integer (pos 5) (place 1 right))
+range_tree left range right =
+    operator_call (Sign ExclusiveRange) (place 1 range) (integer (pos 0) (place 1 left))
+    (integer (pos 5) (place 1 right))
 
 -- `..5`: the left operand of the range operator is omitted.
 abbrev pub open_tokens : List (Lexeme × ℕ)
@@ -140,11 +148,13 @@ abbrev pub minus_tokens : List (Lexeme × ℕ)
 minus_tokens = (Sign Minus, 1) ∷ (Sign ExclusiveRange, 2) ∷ (Integer (pos 5), 4) ∷ []
 
 abbrev pub minus_form : Run
-minus_form = Binary (Sign ExclusiveRange) (place 1 2) (Just (Signed (Sign Minus) (place 1 1) (plain (Zero (Sign ExclusiveRange) (place 1 2))))) (number 5 4)
+minus_form = Binary (Sign ExclusiveRange) (place 1 2)
+    (Just (Signed (Sign Minus) (place 1 1) (plain (Zero (Sign ExclusiveRange) (place 1 2))))) (number 5 4)
 
 pub record MinusRow : Type 0 where
   pub tree_is : tree minus_form nothing_live ≡ range_tree 1 2 4
-  pub fits : Met (whole_expression minus_form (depth 0) nothing_live) (unread minus_tokens 5) (between minus_tokens [] 5)
+  pub fits : Met (whole_expression minus_form (depth 0) nothing_live) (unread minus_tokens 5)
+      (between minus_tokens [] 5)
 
 -- `5..`: after the range operator an operand is expected, not the end mark.
 abbrev pub ended_tokens : List (Lexeme × ℕ)
@@ -154,7 +164,8 @@ abbrev pub ended_form : Run
 ended_form = Binary (Sign ExclusiveRange) (place 1 2) (number 5 1) (number 0 1)
 
 pub record EndedRow : Type 0 where
-  pub missed : Missed (whole_expression ended_form (depth 0) nothing_live) (unread ended_tokens 4) (refusal cause.UnexpectedEOF (place 1 4)) (between ended_tokens [] 4)
+  pub missed : Missed (whole_expression ended_form (depth 0) nothing_live) (unread ended_tokens 4)
+      (refusal cause.UnexpectedEOF (place 1 4)) (between ended_tokens [] 4)
 
 -- `f(1)` fits under the depth limit 3. Under the limit 2 the argument is too deep, and under the limit 1 the list of
 -- arguments, at its name.
@@ -162,7 +173,8 @@ abbrev pub call_tokens : List (Lexeme × ℕ)
 call_tokens = (Name (codes "f"), 1) ∷ (Sign LeftParen, 2) ∷ (Integer (pos 1), 3) ∷ (Sign RightParen, 4) ∷ []
 
 abbrev pub call_form : Run
-call_form = Just (Linked (Call (Named (codes "f") (place 1 1)) None (Listed (place 1 2) (Last (number 1 3) (place 1 4)))) NoLink)
+call_form = Just (Linked (Call (Named (codes "f") (place 1 1)) None
+    (Listed (place 1 2) (Last (number 1 3) (place 1 4)))) NoLink)
 
 abbrev pub call_begun : List (Lexeme × ℕ)
 call_begun = (Name (codes "f"), 1) ∷ (Sign LeftParen, 2) ∷ []
@@ -174,8 +186,10 @@ pub record CallRow : Type 0 where
   pub tree_is : tree call_form nothing_live
       ≡ call (function_called (codes "f") false 1) (one_node (integer (pos 1) (place 1 3)) no_nodes) (place 1 1)
   pub fits : Met (whole_expression call_form (depth 3) nothing_live) (unread call_tokens 5) (between call_tokens [] 5)
-  pub argument_deep : Missed (whole_expression call_form (depth 2) nothing_live) (unread call_tokens 5) (refusal cause.ExprTooDeep (place 1 3)) (between call_begun call_rest 5)
-  pub list_deep : Missed (whole_expression call_form (depth 1) nothing_live) (unread call_tokens 5) (refusal cause.ExprTooDeep (place 1 1)) (between call_begun call_rest 5)
+  pub argument_deep : Missed (whole_expression call_form (depth 2) nothing_live) (unread call_tokens 5)
+      (refusal cause.ExprTooDeep (place 1 3)) (between call_begun call_rest 5)
+  pub list_deep : Missed (whole_expression call_form (depth 1) nothing_live) (unread call_tokens 5)
+      (refusal cause.ExprTooDeep (place 1 1)) (between call_begun call_rest 5)
 
 -- `[5..]`: the unit after the range operator is omitted, and has the position of the `]`.
 abbrev pub ranged_tokens : List (Lexeme × ℕ)

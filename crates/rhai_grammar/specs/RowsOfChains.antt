@@ -10,7 +10,8 @@ use Rattle.rhai_lower.specs.declared.token.Token.TheVariants as token
 use Rattle.rhai_grammar.specs.Causes as cause
 use Rattle.rhai_grammar.specs.Causes.{Refusal, refusal}
 use Rattle.rhai_grammar.specs.Contexts.{nothing_live}
-use Rattle.rhai_grammar.specs.Forms.{Links, Run, Just, Linked, NoLink, Bracket, Property, Method, Plain, Named, Group, EmptyPair}
+use Rattle.rhai_grammar.specs.Forms.{Links, Run, Just, Linked, NoLink, Bracket, Property, Method, Plain, Named, Group}
+use Rattle.rhai_grammar.specs.Forms.{EmptyPair}
 use Rattle.rhai_grammar.specs.Trees.{variable_of, tree}
 use Rattle.rhai_grammar.specs.Demands.{Missed}
 use Rattle.rhai_grammar.specs.Written.{whole_expression}

@@ -3,7 +3,8 @@ use Rattle.std.specs.Prelude.{◌≡◌, ℕ, Option, List, [], ◌∷◌, optio
 use Rattle.rhai_lower.specs.Texts.{Text}
 use Rattle.rhai_lower.specs.Positions.{nowhere, place}
 use Rattle.rhai_lower.specs.Nodes as node
-use Rattle.rhai_lower.specs.Nodes.{Arms, Block, Called, Cases, Named, Node, Nodes, Optional, Properties, Statement, Statements}
+use Rattle.rhai_lower.specs.Nodes.{Arms, Block, Called, Cases, Named, Node, Nodes, Optional, Properties, Statement}
+use Rattle.rhai_lower.specs.Nodes.{Statements}
 use Rattle.rhai_lower.specs.declared.position.Position.{Position}
 use Rattle.rhai_grammar.specs.Contexts.{nothing_live}
 use Rattle.rhai_grammar.specs.Slots.{number}

@@ -1,5 +1,6 @@
 -- Signs before an operand: `-`, `+` and `!`.
-use Rattle.std.specs.Prelude.{◌≡◌, ℤ, pos, negsuc, neg_ℤ, Bool, true, false, [], ◌++◌, ◌^◌, ◌-◌, Some, None, Result, Ok, Err, not, if◌then◌else◌, codes, refl}
+use Rattle.std.specs.Prelude.{◌≡◌, ℤ, pos, negsuc, neg_ℤ, Bool, true, false, [], ◌++◌, ◌^◌, ◌-◌, Some, None, Result, Ok}
+use Rattle.std.specs.Prelude.{Err, not, if◌then◌else◌, codes, refl}
 use Rattle.std.specs.Fmt.{signed_decimal}
 use Rattle.std.specs.Ordering.{int_eq}
 use Rattle.rhai_lower.specs.Texts.{Text}
@@ -20,7 +21,7 @@ plain_sign op = op
 pub data Effect : Type 0 where
   Negates : Effect
   Keeps : Effect
-  Calls : Effect
+  MakesCall : Effect
 
 -- what this sign does to an integer constant
 abbrev pub effect : Lexeme → Effect
@@ -28,11 +29,19 @@ effect (Sign Minus) = Negates
 effect (Sign UnaryMinus) = Negates
 effect (Sign Plus) = Keeps
 effect (Sign UnaryPlus) = Keeps
-effect _ = Calls
+effect _ = MakesCall
 
 -- a native-only call of one argument, with the sign as its name
 abbrev pub sign_called : Lexeme → Called
-sign_called op = record { name = text_of op; path = []; module_index = None; script_args = None; native_args = 1; captures_scope = false; op_token = Some op }
+sign_called op = record {
+  name = text_of op;
+  path = [];
+  module_index = None;
+  script_args = None;
+  native_args = 1;
+  captures_scope = false;
+  op_token = Some op;
+}
 
 -- the call of a sign, at the sign's position
 abbrev pub sign_call : Lexeme → Position → Node → Node

@@ -4,7 +4,8 @@ use Rattle.rhai_lower.specs.Names.{is_identifier}
 use Rattle.rhai_lower.specs.Positions.{place}
 use Rattle.rhai_lower.specs.Lexemes.{Lexeme, Integer, Name, Reserved, Sign}
 use Rattle.rhai_lower.specs.declared.position.Position.{Position}
-use Rattle.rhai_lower.specs.declared.token.Token.TheVariants.{EOF, LeftParen, RightParen, LeftBracket, RightBracket, MapStart, RightBrace, Colon, Comma, Bang}
+use Rattle.rhai_lower.specs.declared.token.Token.TheVariants.{EOF, LeftParen, RightParen, LeftBracket, RightBracket}
+use Rattle.rhai_lower.specs.declared.token.Token.TheVariants.{MapStart, RightBrace, Colon, Comma, Bang}
 use Rattle.rhai_lower.specs.declared.token.Token.TheVariants as token
 use Rattle.rhai_grammar.specs.Delivered.{code, item, Tokens, Ends, Then, Taken}
 use Rattle.rhai_grammar.specs.Forms as form
@@ -91,5 +92,10 @@ IsDelivered (Then a b s t) =
     ((is_deliverable a.lexeme ≡ true) × (is_deliverable b.lexeme ≡ true)) × (IsDelivered s × IsDelivered t)
 
 -- `f(1)`
-example : spelling (form.Just (form.Linked (form.Call (form.Named (codes "f") (place 1 1)) None (form.Listed (place 1 2) (form.Last (form.Just (form.Linked (form.Plain (form.Value (Integer (pos 1)) (place 1 3))) form.NoLink)) (place 1 4)))) form.NoLink)) ≡ in_code (Name (codes "f")) (place 1 1) ∷ in_code (Sign LeftParen) (place 1 2) ∷ in_code (Integer (pos 1)) (place 1 3) ∷ in_code (Sign RightParen) (place 1 4) ∷ []
+example : spelling (form.Just (form.Linked
+    (form.Call (form.Named (codes "f") (place 1 1)) None
+    (form.Listed (place 1 2) (form.Last (form.Just
+    (form.Linked (form.Plain (form.Value (Integer (pos 1)) (place 1 3))) form.NoLink)) (place 1 4)))) form.NoLink))
+    ≡ in_code (Name (codes "f")) (place 1 1) ∷ in_code (Sign LeftParen) (place 1 2) ∷ in_code (Integer (pos 1))
+    (place 1 3) ∷ in_code (Sign RightParen) (place 1 4) ∷ []
 example = refl

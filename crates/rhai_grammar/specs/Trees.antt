@@ -1,14 +1,17 @@
 -- The tree of a written form.
-use Rattle.std.specs.Prelude.{◌≡◌, ℕ, ◌+◌, ◌∷◌, pos, negsuc, Bool, true, false, Option, Some, None, List, [], if◌then◌else◌, refl}
+use Rattle.std.specs.Prelude.{◌≡◌, ℕ, ◌+◌, ◌∷◌, pos, negsuc, Bool, true, false, Option, Some, None, List, []}
+use Rattle.std.specs.Prelude.{if◌then◌else◌, refl}
 use Rattle.std.specs.Option.{is_some}
 use Rattle.rhai_lower.specs.Texts.{Text}
 use Rattle.rhai_lower.specs.Positions.{place}
 use Rattle.rhai_lower.specs.Slots.{SlotValue}
 use Rattle.rhai_lower.specs.Lexemes.{Lexeme, Integer, Sign, text_of}
-use Rattle.rhai_lower.specs.Nodes.{Called, Node, Nodes, Properties, unit, integer, array, object_map, variable, this, call, method_call, property, no_nodes, one_node, no_properties, one_property, position_of}
+use Rattle.rhai_lower.specs.Nodes.{Called, Node, Nodes, Properties, unit, integer, array, object_map, variable, this}
+use Rattle.rhai_lower.specs.Nodes.{call, method_call, property, no_nodes, one_node, no_properties, one_property}
+use Rattle.rhai_lower.specs.Nodes.{position_of}
 use Rattle.rhai_lower.specs.declared.position.Position.{Position}
 use Rattle.rhai_lower.specs.declared.token.Token.TheVariants.{Plus, UnaryMinus}
-use Rattle.rhai_grammar.specs.Beginnings.{beginning, value_at, is_this, is_negated}
+use Rattle.rhai_grammar.specs.Beginnings.{value_of, is_this, is_negated}
 use Rattle.rhai_grammar.specs.Chains.{Link, Bracket, Dotted, chained}
 use Rattle.rhai_grammar.specs.Signs.{signed}
 use Rattle.rhai_grammar.specs.Operators.{operator_tree, operator_call}
@@ -45,7 +48,15 @@ node_count (one_node n ns) = node_count ns + 1
 
 -- a call that a script function as well as a native function may answer
 abbrev pub function_called : Text → (bang : Bool) → ℕ → Called
-function_called name bang count = record { name = name; path = []; module_index = None; script_args = Some count; native_args = count; captures_scope = bang; op_token = None }
+function_called name bang count = record {
+  name = name;
+  path = [];
+  module_index = None;
+  script_args = Some count;
+  native_args = count;
+  captures_scope = bang;
+  op_token = None;
+}
 
 -- the call of a name, at the name's position
 abbrev pub call_tree : Node → (bang : Bool) → Nodes → Node
@@ -64,7 +75,15 @@ member_link dot at x = record { kind = Dotted; negated = is_negated dot; at = at
 
 -- The native function of a method also takes the object.
 abbrev pub method_called : Text → (bang : Bool) → ℕ → Called
-method_called name bang count = record { name = name; path = []; module_index = None; script_args = Some count; native_args = count + 1; captures_scope = bang; op_token = None }
+method_called name bang count = record {
+  name = name;
+  path = [];
+  module_index = None;
+  script_args = Some count;
+  native_args = count + 1;
+  captures_scope = bang;
+  op_token = None;
+}
 
 -- a method call, at its name's position
 abbrev pub method_tree : Text → Position → (bang : Bool) → Nodes → Node
@@ -74,7 +93,7 @@ method_tree name at bang arguments = method_call (method_called name bang (node_
 
 abbrev mutual
   pub primary_tree : Primary → Live → (called : Bool) → Node
-  primary_tree (form.Value token at) w called = value_at at (beginning token)
+  primary_tree (form.Value token at) w called = value_of token at
   primary_tree (form.Named name at) w called = name_tree w.slots called name at
   primary_tree (form.Word word at) w called = word_tree word at
   primary_tree (form.Group opening inside closing) w called = tree inside w
@@ -92,7 +111,8 @@ abbrev mutual
   link_list (form.Bracket opening at f closing rest) w = bracket_link opening at (tree f w) ∷ link_list rest w
   link_list (form.Property dot at name name_at rest) w = member_link dot at (property name name_at) ∷ link_list rest w
   link_list (form.Method dot at name name_at bang arguments rest) w =
-      member_link dot at (method_tree (text_of name) name_at (is_some bang) (argument_trees arguments w)) ∷ link_list rest w
+      member_link dot at (method_tree (text_of name) name_at (is_some bang) (argument_trees arguments w)) ∷ link_list
+      rest w
 
   pub operand_tree : Operand → Live → Node
   operand_tree (form.Linked x links) w = chained (base_tree x w) (link_list links w)
@@ -128,5 +148,8 @@ abbrev example_one : (column : ℕ) → Run
 example_one column = form.Just (form.Linked (form.Plain (form.Value (Integer (pos 1)) (place 1 column))) form.NoLink)
 
 -- `-1 + 1`
-example : tree (form.Binary (Sign Plus) (place 1 4) (form.Just (form.Signed (Sign UnaryMinus) (place 1 1) (form.Linked (form.Plain (form.Value (Integer (pos 1)) (place 1 2))) form.NoLink))) (example_one 6)) nothing_live ≡ operator_call (Sign Plus) (place 1 4) (integer (negsuc 0) (place 1 1)) (integer (pos 1) (place 1 6))
+example : tree (form.Binary (Sign Plus) (place 1 4)
+    (form.Just (form.Signed (Sign UnaryMinus) (place 1 1)
+    (form.Linked (form.Plain (form.Value (Integer (pos 1)) (place 1 2))) form.NoLink))) (example_one 6)) nothing_live
+    ≡ operator_call (Sign Plus) (place 1 4) (integer (negsuc 0) (place 1 1)) (integer (pos 1) (place 1 6))
 example = refl

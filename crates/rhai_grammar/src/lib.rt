@@ -7,8 +7,12 @@ pub mod error;
 pub mod filter;
 pub mod key;
 pub mod laws;
+pub mod list;
+pub mod role;
 
 pub use due::DueToken;
 pub use error::{InputError, ParseError, ParseErrorType, ParseResult};
 pub use filter::ExprFilter;
 pub use key::FnKey;
+pub use list::{AfterPart, CommaList};
+pub use role::{Beginning, Calling, ItemPlace, Linking};

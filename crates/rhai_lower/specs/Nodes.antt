@@ -216,7 +216,15 @@ made_block s = block_of_one s
 
 -- `a[0]` has the position of its bracket and starts at `a`.
 abbrev example_index : Node
-example_index = index (variable (record { number = None; name = codes "a"; path = []; module_index = None }) (place 1 1)) (integer (pos 0) (place 1 3)) (record { negated = false; terminating = true }) (place 1 2)
+example_index = index (variable (record {
+  number = None;
+  name = codes "a";
+  path = [];
+  module_index = None;
+}) (place 1 1)) (integer (pos 0) (place 1 3)) (record {
+  negated = false;
+  terminating = true;
+}) (place 1 2)
 
 example : (position_of example_index ≡ place 1 2) × (start_of example_index ≡ place 1 1)
     × (made_block (expression example_index)

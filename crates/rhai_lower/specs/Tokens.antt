@@ -2,7 +2,21 @@
 use Rattle.std.specs.Prelude.{◌≡◌, ℕ, Bool, true, false, [], Option, None, Some, codes, refl}
 use Rattle.rhai_lower.specs.Texts.{Text}
 use Rattle.rhai_lower.specs.declared.token.Token.{Token}
-use Rattle.rhai_lower.specs.declared.token.Token.TheVariants.{Unit, LeftBrace, RightBrace, LeftParen, RightParen, LeftBracket, RightBracket, QuestionBracket, MapStart, Period, Elvis, DoubleColon, Colon, Comma, SemiColon, DoubleArrow, Equals, Pipe, Or, Bang, Underscore, XOr, And, Ampersand, EqualsTo, NotEqualsTo, In, NotIn, LessThan, LessThanEqualsTo, GreaterThan, GreaterThanEqualsTo, DoubleQuestion, ExclusiveRange, InclusiveRange, Plus, Minus, Multiply, Divide, Modulo, PowerOf, LeftShift, RightShift, UnaryPlus, UnaryMinus, PlusAssign, MinusAssign, MultiplyAssign, DivideAssign, ModuloAssign, PowerOfAssign, LeftShiftAssign, RightShiftAssign, AndAssign, OrAssign, XOrAssign, True, False, Let, Const, If, Else, Switch, While, Loop, Do, Until, For, Break, Continue, Return, Throw, Try, Catch, Import, Export, As, Fn, Private, EOF}
+use Rattle.rhai_lower.specs.declared.token.Token.TheVariants.{Unit, LeftBrace, RightBrace, LeftParen, RightParen}
+use Rattle.rhai_lower.specs.declared.token.Token.TheVariants.{LeftBracket, RightBracket, QuestionBracket, MapStart}
+use Rattle.rhai_lower.specs.declared.token.Token.TheVariants.{Period, Elvis, DoubleColon, Colon, Comma, SemiColon}
+use Rattle.rhai_lower.specs.declared.token.Token.TheVariants.{DoubleArrow, Equals, Pipe, Or, Bang, Underscore, XOr, And}
+use Rattle.rhai_lower.specs.declared.token.Token.TheVariants.{Ampersand, EqualsTo, NotEqualsTo, In, NotIn, LessThan}
+use Rattle.rhai_lower.specs.declared.token.Token.TheVariants.{LessThanEqualsTo, GreaterThan, GreaterThanEqualsTo}
+use Rattle.rhai_lower.specs.declared.token.Token.TheVariants.{DoubleQuestion, ExclusiveRange, InclusiveRange, Plus}
+use Rattle.rhai_lower.specs.declared.token.Token.TheVariants.{Minus, Multiply, Divide, Modulo, PowerOf, LeftShift}
+use Rattle.rhai_lower.specs.declared.token.Token.TheVariants.{RightShift, UnaryPlus, UnaryMinus, PlusAssign}
+use Rattle.rhai_lower.specs.declared.token.Token.TheVariants.{MinusAssign, MultiplyAssign, DivideAssign, ModuloAssign}
+use Rattle.rhai_lower.specs.declared.token.Token.TheVariants.{PowerOfAssign, LeftShiftAssign, RightShiftAssign}
+use Rattle.rhai_lower.specs.declared.token.Token.TheVariants.{AndAssign, OrAssign, XOrAssign, True, False, Let, Const}
+use Rattle.rhai_lower.specs.declared.token.Token.TheVariants.{If, Else, Switch, While, Loop, Do, Until, For, Break}
+use Rattle.rhai_lower.specs.declared.token.Token.TheVariants.{Continue, Return, Throw, Try, Catch, Import, Export, As}
+use Rattle.rhai_lower.specs.declared.token.Token.TheVariants.{Fn, Private, EOF}
 
 -- the strength (precedence) of a binary operator
 abbrev pub strength_of : Token → Option ℕ

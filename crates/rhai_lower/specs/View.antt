@@ -7,9 +7,13 @@ use Rattle.std.specs.declared.alloc.Global.{Global}
 use Rattle.rhai_lower.specs.Texts.{Text}
 use Rattle.rhai_lower.specs.Lexemes.{lexeme}
 use Rattle.rhai_lower.specs.Nodes
-use Rattle.rhai_lower.specs.Nodes.{Called, Named, Node, Nodes, Optional, Properties, Statement, Statements, Block, Arms, Cases, Function, no_nodes, one_node, absent, present, no_properties, one_property, no_statements, one_statement, braces, no_arms, one_arm, no_cases, one_case}
+use Rattle.rhai_lower.specs.Nodes.{Called, Named, Node, Nodes, Optional, Properties, Statement, Statements, Block, Arms}
+use Rattle.rhai_lower.specs.Nodes.{Cases, Function, no_nodes, one_node, absent, present, no_properties, one_property}
+use Rattle.rhai_lower.specs.Nodes.{no_statements, one_statement, braces, no_arms, one_arm, no_cases, one_case}
 use Rattle.rhai_lower.specs.declared.ast.Expr.{Expr, fold-Expr}
-use Rattle.rhai_lower.specs.declared.ast.Expr.TheOpen.{Expr-F, Stmt-F, BinaryExpr-F, FlowControl-F, FnCallExpr-F, ForLoop-F, LoopControl-F, StmtBlock-F, SwitchCase-F, SwitchCasesCollection-F}
+use Rattle.rhai_lower.specs.declared.ast.Expr.TheOpen.{Expr-F, Stmt-F, BinaryExpr-F, FlowControl-F, FnCallExpr-F}
+use Rattle.rhai_lower.specs.declared.ast.Expr.TheOpen.{ForLoop-F, LoopControl-F, StmtBlock-F, SwitchCase-F}
+use Rattle.rhai_lower.specs.declared.ast.Expr.TheOpen.{SwitchCasesCollection-F}
 use Rattle.rhai_lower.specs.declared.ast.BinaryExpr.{BinaryExpr, out-BinaryExpr}
 use Rattle.rhai_lower.specs.declared.ast.FnCallExpr.{FnCallExpr, out-FnCallExpr}
 use Rattle.rhai_lower.specs.declared.ast.Ident.{Ident}
@@ -33,7 +37,12 @@ abbrev pub module_index_of : Namespace → Option ℕ
 module_index_of n = option_map non_zero_usize_get n.index
 
 abbrev pub named : VariableExpr → Named
-named v = record { number = option_map non_zero_usize_get v.index; name = rc_str_bytes v.name; path = path_of v.namespace; module_index = module_index_of v.namespace }
+named v = record {
+  number = option_map non_zero_usize_get v.index;
+  name = rc_str_bytes v.name;
+  path = path_of v.namespace;
+  module_index = module_index_of v.namespace;
+}
 
 -- captured names with the offsets of their slots
 abbrev pub shared_of : List (Ident × Option NonZeroUsize) → List (Text × Position × Option ℕ)
@@ -166,15 +175,18 @@ statement_step (Stmt-F.Share v p) = Nodes.share (shared_of v.items) p
 
 -- an expression of the code as plain data
 abbrev pub view : Expr → Node
-view = fold-Expr Node Statement Pair Flow Seen Rounds Guarded Block Case Choice expr_step statement_step pair_step flow_step call_step rounds_step guarded_step block_step case_step choice_step
+view = fold-Expr Node Statement Pair Flow Seen Rounds Guarded Block Case Choice expr_step statement_step pair_step
+    flow_step call_step rounds_step guarded_step block_step case_step choice_step
 
 -- a statement of the code as plain data
 abbrev pub statement_view : Stmt → Statement
-statement_view = fold-Stmt Node Statement Pair Flow Seen Rounds Guarded Block Case Choice expr_step statement_step pair_step flow_step call_step rounds_step guarded_step block_step case_step choice_step
+statement_view = fold-Stmt Node Statement Pair Flow Seen Rounds Guarded Block Case Choice expr_step statement_step
+    pair_step flow_step call_step rounds_step guarded_step block_step case_step choice_step
 
 -- a block of the code as plain data
 abbrev pub block_view : StmtBlock → Block
-block_view = fold-StmtBlock Node Statement Pair Flow Seen Rounds Guarded Block Case Choice expr_step statement_step pair_step flow_step call_step rounds_step guarded_step block_step case_step choice_step
+block_view = fold-StmtBlock Node Statement Pair Flow Seen Rounds Guarded Block Case Choice expr_step statement_step
+    pair_step flow_step call_step rounds_step guarded_step block_step case_step choice_step
 
 abbrev pub views : List Expr → Nodes
 views es = nodes_of (map view es)
@@ -204,4 +216,10 @@ called c = record {
 }
 
 abbrev pub function_view : ScriptFuncDef → Function
-function_view f = record { this_type = option_map rc_str_bytes f.this_type; name = rc_str_bytes f.name; is_private = f.private; parameters = map rc_str_bytes f.params.items; body = block_view f.body }
+function_view f = record {
+  this_type = option_map rc_str_bytes f.this_type;
+  name = rc_str_bytes f.name;
+  is_private = f.private;
+  parameters = map rc_str_bytes f.params.items;
+  body = block_view f.body;
+}

@@ -1,7 +1,8 @@
 //! The tree that the parser builds.
 
 ghost use Rattle.std.specs.Prelude.{◌≡◌, IfOk};
-ghost use Rattle.rhai_lower.specs.Nodes.{position_of, start_of, first_start, statement_position, block_of_one, made_block};
+ghost use Rattle.rhai_lower.specs.Nodes.{position_of, start_of, first_start, statement_position, block_of_one};
+ghost use Rattle.rhai_lower.specs.Nodes.{made_block};
 ghost use Rattle.rhai_lower.specs.declared.ast.BinaryExpr.{out-BinaryExpr};
 ghost use Rattle.rhai_lower.specs.View.{block_view, statement_view, view, views};
 

@@ -2,7 +2,8 @@
 
 ghost use Rattle.std.specs.Prelude.{◌≡◌};
 ghost use Rattle.std.specs.List.{list_all};
-ghost use Rattle.rhai_lower.specs.Names.{is_word, begins_with_letter, first_but_underscore, is_identifier, is_function_name, reserved_as};
+ghost use Rattle.rhai_lower.specs.Names.{is_word, begins_with_letter, first_but_underscore, is_identifier};
+ghost use Rattle.rhai_lower.specs.Names.{is_function_name, reserved_as};
 
 fn is_word_byte(byte: u8) -> bool
     ensures { result ≡ is_word byte }

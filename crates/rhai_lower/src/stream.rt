@@ -1,6 +1,7 @@
 //! The stream that delivers tokens to the parser.
 
-ghost use Rattle.std.specs.Prelude.{⊤, ◌≡◌, ◌≢◌, ◌<◌, ◌≤◌, ◌+◌, ◌∷◌, [], List, reverse, map, false, true, not, length, All, IsTrue};
+ghost use Rattle.std.specs.Prelude.{⊤, ◌≡◌, ◌≢◌, ◌<◌, ◌≤◌, ◌+◌, ◌∷◌, [], List, reverse, map, false, true, not, length};
+ghost use Rattle.std.specs.Prelude.{All, IsTrue};
 ghost use Rattle.std.specs.Borrow.{sem, follows_so};
 ghost use mathlib.Core.Option.{none};
 ghost use Rattle.rhai_lower.specs.Streams.{Stream, asked, later, peeking, stream_of, in_text_next};
@@ -83,7 +84,12 @@ impl Model for TokenStream {
 
     ghost Value = { Stream };
 
-    ghost view = { λ s. record { asks = head_asks s.head ++ map ask_of (reverse s.rest.items); end = s.mark.1; in_text = head_text s.head; peeked = head_peeked s.head } };
+    ghost view = { λ s. record {
+      asks = head_asks s.head ++ map ask_of (reverse s.rest.items);
+      end = s.mark.1;
+      in_text = head_text s.head;
+      peeked = head_peeked s.head;
+    } };
 
     ghost invariant = { λ s. (s.mark.0 ≡ EOF) × EndsWith s.head s.rest.items };
 }
@@ -182,7 +188,8 @@ impl TokenStream {
     /// The next token with its position, without taking it. Does not allocate.
     pub fn peek(&mut self) -> &(Token, Position)
         ensures value { result.now ≡ asked self.old }
-        ensures* after { sem 𝓛 (follows_so the_row the_row self.entry.ghost_name none (λ _ _. ⊤) (λ v. v ≡ peeking self.old)) }
+        ensures* after { sem 𝓛 (follows_so the_row the_row self.entry.ghost_name none (λ _ _. ⊤) (λ v. v
+            ≡ peeking self.old)) }
     {
         self.ask();
         self.peeked()

@@ -9,18 +9,21 @@ use Rattle.rhai_grammar.specs.Causes.{MemoryIsNowhere, Refusal, UnknownOperator,
 use Rattle.rhai_grammar.specs.declared.error.ParseError.{ParseError}
 use Rattle.rhai_grammar.specs.Cursors.{Cursor, asked, looking}
 use Rattle.rhai_grammar.specs.Delivered.{is_memory}
-use Rattle.rhai_grammar.specs.Strengths.{Unknown, behind_of}
+use Rattle.rhai_grammar.specs.Strengths.{Unknown, follower_of}
 use Rattle.rhai_grammar.specs.Contexts.{Context, Live}
-use Rattle.rhai_grammar.specs.Beginnings as begin
-use Rattle.rhai_grammar.specs.Beginnings.{Beginning, Calling, is_sign, is_list, missing, calls, is_this, may_be_called}
+use Rattle.rhai_grammar.specs.declared.role.Beginning.{Beginning}
+use Rattle.rhai_grammar.specs.declared.role.Beginning.TheVariants as begin
+use Rattle.rhai_grammar.specs.declared.role.Calling.{Calling}
+use Rattle.rhai_grammar.specs.declared.role.Calling.TheVariants as calls_by
+use Rattle.rhai_grammar.specs.Beginnings.{is_sign, is_list, missing, calls, is_this, may_be_called}
 use Rattle.rhai_grammar.specs.Settings.{in_function}
-use Rattle.rhai_grammar.specs.Written.{behind_operand}
+use Rattle.rhai_grammar.specs.Written.{spot_after_operand}
 use Rattle.rhai_grammar.specs.Chains.{chained}
 use Rattle.rhai_grammar.specs.Signs.{sign_result, sign_holds, signed, malformed}
 use Rattle.rhai_grammar.specs.Operators.{operator_result, operator_tree, boolean_holds, mismatched}
 use Rattle.rhai_reading.specs.Reading.{Prog, Ret, Fail, Take, Call, Primary, Postfix, Links, Operand, BinaryOp, word_at, sign_on, operand_by, bang_at, binary_next, next_operator_at, NextOperator, raised}
 use Rattle.rhai_reading.specs.Running as R
-use Rattle.rhai_reading.specs.Running.{Caller, Gives, exec, guarded, run}
+use Rattle.rhai_reading.specs.Running.{Caller, Gives, exec, guarded, result_of}
 use Rattle.rhai_reading.proofs.Steps.{step_next_operator}
 use Rattle.rhai_base.specs.Operators.{operator_found}
 use Rattle.rhai_parser.specs.Asks.{operator_pair}
@@ -65,11 +68,11 @@ word_outcome call c word at l p t = ap (λ q. exec call q t) (word_answers c wor
 -- ---- signs
 
 pub operand_sign : (c : Context) (w : Live) (l : Lexeme) (at : Position) (b : Beginning) → is_sign b ≡ true → operand_by c w l at b ≡ Take (raised c at (λ d. Call (Operand d w false) (sign_on l at)))
-operand_sign c w l at begin.ASign e = refl
+operand_sign c w l at begin.Sign e = refl
 operand_sign c w l at _ e = absurd cc
 
-pub operand_other : (c : Context) (w : Live) (l : Lexeme) (at : Position) (b : Beginning) → is_sign b ≡ false → operand_by c w l at b ≡ Call (Primary c w) (λ x. Call (Postfix c w x) (λ y. Call (Links w (behind_operand c y)) (λ ls. Ret (chained y ls))))
-operand_other c w l at begin.ASign e = absurd cc
+pub operand_other : (c : Context) (w : Live) (l : Lexeme) (at : Position) (b : Beginning) → is_sign b ≡ false → operand_by c w l at b ≡ Call (Primary c w) (λ x. Call (Postfix c w x) (λ y. Call (Links w (spot_after_operand c y)) (λ ls. Ret (chained y ls))))
+operand_other c w l at begin.Sign e = absurd cc
 operand_other c w l at _ e = refl
 
 sign_chosen : (b : Bool) (x : Node) (e : Refusal) → (if b then Ret x else Fail e) ≡ answered (if b then Ok x else Err e)
@@ -82,8 +85,8 @@ sign_outcome call l at n t = ap (λ q. exec call q t) (sign_chosen (sign_holds l
 -- ---- calls
 
 pub bang_refused : (c : Context) (w : Live) (name : Position) (l : Lexeme) (at : Position) (k : Calling) → is_list k ≡ false → bang_at c w name l at k ≡ Fail (refusal (missing (codes "(") l) at)
-bang_refused c w name l at begin.WithPair e = absurd cc
-bang_refused c w name l at begin.WithList e = absurd cc
+bang_refused c w name l at calls_by.Pair e = absurd cc
+bang_refused c w name l at calls_by.List e = absurd cc
 bang_refused c w name l at _ e = refl
 
 -- ---- operators
@@ -93,18 +96,18 @@ found_given at None = refl
 found_given at (Some o) = refl
 
 -- the operator that the code finds
-next_done : (s t : Cursor) (o : Option Operator) → is_memory (asked s).lexeme ≡ false → behind_of (asked s).lexeme ≡ operator_found o → t ≡ looking s → run NextOperator s ≡ R.Done (option_map operator_pair o) t
+next_done : (s t : Cursor) (o : Option Operator) → is_memory (asked s).lexeme ≡ false → follower_of (asked s).lexeme ≡ operator_found o → t ≡ looking s → result_of NextOperator s ≡ R.Done (option_map operator_pair o) t
 next_done s t o readable is look =
     let call = guarded NextOperator s in
     let at = (asked s).at in
     step_next_operator s
-    ∙ ap (λ m. if m then R.Refused out_of_memory (looking s) else exec call (next_operator_at at (behind_of (asked s).lexeme)) (looking s)) readable
+    ∙ ap (λ m. if m then R.Refused out_of_memory (looking s) else exec call (next_operator_at at (follower_of (asked s).lexeme)) (looking s)) readable
     ∙ ap (λ b. exec call (next_operator_at at b) (looking s)) is
     ∙ ap (λ p. exec call p (looking s)) (found_given at o)
     ∙ ap (R.Done (option_map operator_pair o)) (sym look)
 
 -- what the code answers where it looks for an operator, as the reading program gives it
-pub next_given : (s t : Cursor) (r : Result (Option Operator) ParseError) → IfOk r (λ o. behind_of (asked s).lexeme ≡ operator_found o) → IfErr r (λ e. is_for_memory e ≡ false → (behind_of (asked s).lexeme ≡ Unknown (text_of (asked s).lexeme)) × (is_memory (asked s).lexeme ≡ false) × (refusal_of e ≡ refusal (UnknownOperator (text_of (asked s).lexeme)) (asked s).at)) → IfErr r MemoryIsNowhere → t ≡ looking s → OnOk r (is_memory (asked s).lexeme ≡ false) → Gives (option_map operator_pair) (run NextOperator s) r t
+pub next_given : (s t : Cursor) (r : Result (Option Operator) ParseError) → IfOk r (λ o. follower_of (asked s).lexeme ≡ operator_found o) → IfErr r (λ e. is_for_memory e ≡ false → (follower_of (asked s).lexeme ≡ Unknown (text_of (asked s).lexeme)) × (is_memory (asked s).lexeme ≡ false) × (refusal_of e ≡ refusal (UnknownOperator (text_of (asked s).lexeme)) (asked s).at)) → IfErr r MemoryIsNowhere → t ≡ looking s → OnOk r (is_memory (asked s).lexeme ≡ false) → Gives (option_map operator_pair) (result_of NextOperator s) r t
 next_given s t (Ok o) found refused nowhere look readable = next_done s t o readable found look
 next_given s t (Err e) found refused nowhere look readable = (
   λ told. (
@@ -112,7 +115,7 @@ next_given s t (Err e) found refused nowhere look readable = (
       let at = (asked s).at in
       let h = refused told in
       step_next_operator s
-      ∙ ap (λ m. if m then R.Refused out_of_memory (looking s) else exec call (next_operator_at at (behind_of (asked s).lexeme)) (looking s)) h.1
+      ∙ ap (λ m. if m then R.Refused out_of_memory (looking s) else exec call (next_operator_at at (follower_of (asked s).lexeme)) (looking s)) h.1
       ∙ ap (λ b. exec call (next_operator_at at b) (looking s)) h.0
       ∙ ap (λ d. R.Refused d (looking s)) (sym h.2)
       ∙ ap (R.Refused (refusal_of e)) (sym look)),

@@ -1,29 +1,29 @@
 -- What the key of a property depends on, and one more property with the comma after it.
-use Rattle.std.proofs.Common.{◌≡◌, ◌+◌, ◌≤◌, Bool, true, false, Some, refl, sym, ap, ◌∙◌, subst, arith, if◌then◌else◌}
+use Rattle.std.proofs.Common.{◌≡◌, ◌+◌, ◌≤◌, true, false, Some, sym, ap, ◌∙◌, subst, arith, if◌then◌else◌}
 use Rattle.rhai_lower.specs.Texts.{Text}
-use Rattle.rhai_lower.specs.Lexemes.{Lexeme}
 use Rattle.rhai_lower.specs.Nodes.{Node, Properties, with_property}
 use Rattle.rhai_lower.specs.declared.position.Position.{Position}
-use Rattle.rhai_grammar.specs.Beginnings as begin
-use Rattle.rhai_grammar.specs.Beginnings.{Following}
+use Rattle.rhai_grammar.specs.CommaLists.{after_part}
+use Rattle.rhai_grammar.specs.declared.list.AfterPart.TheVariants.{Comma}
+use Rattle.rhai_grammar.specs.declared.list.CommaList.TheVariants as lists
 use Rattle.rhai_grammar.specs.Causes.{Refusal, DuplicatedProperty, ExprTooDeep, refusal, out_of_memory}
 use Rattle.rhai_grammar.specs.Contexts.{Context, Live, has_room, level_up}
 use Rattle.rhai_grammar.specs.Cursors.{Cursor, asked, looking, taking, left}
-use Rattle.rhai_grammar.specs.Delivered.{is_end, is_memory}
+use Rattle.rhai_grammar.specs.Delivered.{is_memory}
 use Rattle.rhai_grammar.specs.declared.due.DueToken.TheVariants as due
-use Rattle.rhai_grammar.specs.Literals.{KeyPlace, FieldsEnd, AKey, NoKey, behind_value, has_key}
+use Rattle.rhai_grammar.specs.Literals.{KeyPlace, FieldsEnd, AKey, NoKey, has_key}
 use Rattle.rhai_grammar.specs.Written.{next_key}
-use Rattle.rhai_reading.specs.Reading.{Ret, Fail, Peek, Call, Expression, Fields, NextKey, match_token, field_next, field_on, key_on, room_at, value_on}
+use Rattle.rhai_reading.specs.Reading.{Ret, Fail, Peek, Call, Expression, Fields, NextKey, match_token, part_next, field_next, field_on, key_on, room_at}
 use Rattle.rhai_reading.specs.Running as R
-use Rattle.rhai_reading.specs.Running.{Caller, exec, run, guarded}
+use Rattle.rhai_reading.specs.Running.{Caller, exec, result_of, guarded}
 use Rattle.rhai_reading.proofs.Steps.{step_fields, step_next_key, guarded_is, and_then_done}
-use Rattle.rhai_base.specs.Literals.{KeyRefused}
+use Rattle.rhai_base.specs.MapKeys.{KeyRefused}
 
 -- ---- keys
 
 -- the equation of the properties of an object map, with the key as the code asks for it
 pub step_fields_key : (c : Context) (w : Live) (at : Position) (before : Properties) (s : Cursor)
-    → run (Fields c w at before) s ≡ R.and_then (run (NextKey c before) s) (λ v t. exec (guarded (Fields c w at before) s) (field_on c w at before v) t)
+    → result_of (Fields c w at before) s ≡ R.and_then (result_of (NextKey c before) s) (λ v t. exec (guarded (Fields c w at before) s) (field_on c w at before v) t)
 step_fields_key c w at before s =
     let g = Fields c w at before in
     step_fields c w at before s
@@ -41,7 +41,7 @@ refused_at call c before s (AKey key) e t readable h =
     ∙ ap (R.Refused e) (sym h.2)
 
 -- a key that is refused
-pub key_refused : (c : Context) (before : Properties) (s t : Cursor) (e : Refusal) → is_memory (asked s).lexeme ≡ false → KeyRefused before s (next_key c.settings before (asked s).lexeme) e t → run (NextKey c before) s ≡ R.Refused e t
+pub key_refused : (c : Context) (before : Properties) (s t : Cursor) (e : Refusal) → is_memory (asked s).lexeme ≡ false → KeyRefused before s (next_key c.settings before (asked s).lexeme) e t → result_of (NextKey c before) s ≡ R.Refused e t
 key_refused c before s t e readable h =
     let k = NextKey c before in
     step_next_key c before s
@@ -52,15 +52,15 @@ key_refused c before s t e readable h =
 
 -- From s a property with this key and the value x stands, and a comma after it, after which the code is at t.
 pub record TakesField (c : Context) (w : Live) (before : Properties) (key : Text × Position) (x : Node) (s s1 s2 : Cursor) : Type 0 where
-  pub key_read : run (NextKey c before) s ≡ R.Done (Some key) s1
+  pub key_read : result_of (NextKey c before) s ≡ R.Done (Some key) s1
   pub room : has_room c ≡ true
-  pub value : run (Expression (level_up c) w) s1 ≡ R.Done x s2
+  pub value : result_of (Expression (level_up c) w) s1 ≡ R.Done x s2
   pub readable : is_memory (asked s2).lexeme ≡ false
-  pub comma : behind_value (asked s2).lexeme ≡ begin.AComma
+  pub comma : after_part lists.Map (asked s2).lexeme ≡ Comma
   pub after_key : left s1.tokens ≤ left s.tokens
   pub after_comma : left (taking s2).tokens + 1 ≤ left s.tokens
 
-pub field_taken : (c : Context) (w : Live) (opening : Position) (before : Properties) (key : Text × Position) (x : Node) (s s1 s2 : Cursor) → TakesField c w before key x s s1 s2 → run (Fields c w opening before) s ≡ run (Fields c w opening (with_property before key.0 key.1 x)) (taking s2)
+pub field_taken : (c : Context) (w : Live) (opening : Position) (before : Properties) (key : Text × Position) (x : Node) (s s1 s2 : Cursor) → TakesField c w before key x s s1 s2 → result_of (Fields c w opening before) s ≡ result_of (Fields c w opening (with_property before key.0 key.1 x)) (taking s2)
 field_taken c w opening before key x s s1 s2 h =
     let g = Fields c w opening before in
     let call = guarded g s in
@@ -69,53 +69,42 @@ field_taken c w opening before key x s s1 s2 h =
     let on = Fields c w opening ps in
     step_fields_key c w opening before s
     ∙ ap (λ o. R.and_then o (λ v u. exec call (field_on c w opening before v) u)) h.key_read
-    ∙ ap (λ b. exec call (if b then Call (Expression (level_up c) w) (value_on c w opening before key) else Fail (refusal ExprTooDeep opening)) s1) h.room
-    ∙ ap (λ o. R.and_then o (λ v u. exec call (value_on c w opening before key v) u)) inner
-    ∙ ap (λ m. if m then R.Refused out_of_memory (looking s2) else exec call (field_next c w opening ps (asked s2).at (behind_value (asked s2).lexeme)) (looking s2)) h.readable
-    ∙ ap (λ b. exec call (field_next c w opening ps (asked s2).at b) (looking s2)) h.comma
+    ∙ ap (λ b. exec call (if b then Call (Expression (level_up c) w) (λ y. field_next c w opening (with_property before key.0 key.1 y)) else Fail (refusal ExprTooDeep opening)) s1) h.room
+    ∙ ap (λ o. R.and_then o (λ y u. exec call (field_next c w opening (with_property before key.0 key.1 y)) u)) inner
+    ∙ ap (λ m. if m then R.Refused out_of_memory (looking s2) else exec call (part_next lists.Map (Call on Ret) (Ret ps) (asked s2).lexeme (asked s2).at (after_part lists.Map (asked s2).lexeme)) (looking s2)) h.readable
+    ∙ ap (λ b. exec call (part_next lists.Map (Call on Ret) (Ret ps) (asked s2).lexeme (asked s2).at b) (looking s2)) h.comma
     ∙ ap (λ m. if m then R.Refused out_of_memory (looking (looking s2)) else exec call (Call on Ret) (taking s2)) h.readable
     ∙ and_then_done (call on (taking s2))
     ∙ guarded_is g s on (taking s2) (omega (arith, h.after_comma))
 
--- what is left after each step
-left_after : (s s1 s2 s3 t : Cursor) → left s1.tokens ≤ left s.tokens → left s2.tokens ≤ left s1.tokens → s3 ≡ looking s2 → left t.tokens + 1 ≤ left s3.tokens → left t.tokens + 1 ≤ left s.tokens
-left_after s s1 s2 s3 t a b look d =
-    let same : left s3.tokens ≡ left s2.tokens = ap (λ (u : Cursor). left u.tokens) look in
-    omega (arith, same, a, b, d)
-
 -- The same as the code takes it: each step leaves a cursor, and none leaves more tokens than there were.
-pub record FieldTaken (c d : Context) (w : Live) (before after : Properties) (key : Text × Position) (x : Node) (s s1 s2 s3 t : Cursor) : Type 0 where
-  pub key_read : run (NextKey c before) s ≡ R.Done (Some key) s1
+pub record FieldTaken (c d : Context) (w : Live) (before after : Properties) (key : Text × Position) (x : Node) (s s1 s2 t : Cursor) : Type 0 where
+  pub key_read : result_of (NextKey c before) s ≡ R.Done (Some key) s1
   pub key_short : left s1.tokens ≤ left s.tokens
   pub room : has_room c ≡ true
   pub deeper : d ≡ level_up c
-  pub value : run (Expression d w) s1 ≡ R.Done x s2
+  pub value : result_of (Expression d w) s1 ≡ R.Done x s2
   pub value_short : left s2.tokens ≤ left s1.tokens
   pub readable : is_memory (asked s2).lexeme ≡ false
-  pub comma : behind_value (asked s2).lexeme ≡ begin.AComma
-  pub more : is_end (asked s2).lexeme ≡ false
-  pub look : s3 ≡ looking s2
-  pub took : t ≡ taking s3
-  pub shrinks : is_end (asked s3).lexeme ≡ false → left t.tokens + 1 ≤ left s3.tokens
+  pub comma : after_part lists.Map (asked s2).lexeme ≡ Comma
+  pub took : t ≡ taking s2
+  pub shrinks : left t.tokens + 1 ≤ left s2.tokens
   pub joined : after ≡ with_property before key.0 key.1 x
 
-pub field_short : {c d : Context} {w : Live} {before after : Properties} {key : Text × Position} {x : Node} {s s1 s2 s3 t : Cursor} → FieldTaken c d w before after key x s s1 s2 s3 t → left t.tokens + 1 ≤ left s.tokens
-field_short {c} {d} {w} {before} {after} {key} {x} {s} {s1} {s2} {s3} {t} h =
-    let more : is_end (asked s3).lexeme ≡ false = ap (λ (u : Cursor). is_end (asked u).lexeme) h.look ∙ h.more in
-    left_after s s1 s2 s3 t h.key_short h.value_short h.look (h.shrinks more)
+pub field_short : {c d : Context} {w : Live} {before after : Properties} {key : Text × Position} {x : Node} {s s1 s2 t : Cursor} → FieldTaken c d w before after key x s s1 s2 t → left t.tokens + 1 ≤ left s.tokens
+field_short h = omega (arith, h.key_short, h.value_short, h.shrinks)
 
-pub field_goes_on : {c d : Context} {w : Live} (opening : Position) {before after : Properties} {key : Text × Position} {x : Node} {s s1 s2 s3 t : Cursor} → FieldTaken c d w before after key x s s1 s2 s3 t → run (Fields c w opening before) s ≡ run (Fields c w opening after) t
-field_goes_on {c} {d} {w} opening {before} {after} {key} {x} {s} {s1} {s2} {s3} {t} h =
-    let there : t ≡ taking s2 = h.took ∙ ap taking h.look in
+pub field_goes_on : {c d : Context} {w : Live} (opening : Position) {before after : Properties} {key : Text × Position} {x : Node} {s s1 s2 t : Cursor} → FieldTaken c d w before after key x s s1 s2 t → result_of (Fields c w opening before) s ≡ result_of (Fields c w opening after) t
+field_goes_on {c} {d} {w} opening {before} {after} {key} {x} {s} {s1} {s2} {t} h =
     let taken : TakesField c w before key x s s1 s2 = record {
       key_read = h.key_read;
       room = h.room;
-      value = ap (λ (e : Context). run (Expression e w) s1) (sym h.deeper) ∙ h.value;
+      value = ap (λ (e : Context). result_of (Expression e w) s1) (sym h.deeper) ∙ h.value;
       readable = h.readable;
       comma = h.comma;
       after_key = h.key_short;
-      after_comma = subst (λ (u : Cursor). left u.tokens + 1 ≤ left s.tokens) there (field_short h);
+      after_comma = subst (λ (u : Cursor). left u.tokens + 1 ≤ left s.tokens) h.took (field_short h);
     } in
     field_taken c w opening before key x s s1 s2 taken
-    ∙ ap (λ ps. run (Fields c w opening ps) (taking s2)) (sym h.joined)
-    ∙ ap (run (Fields c w opening after)) (sym there)
+    ∙ ap (λ ps. result_of (Fields c w opening ps) (taking s2)) (sym h.joined)
+    ∙ ap (result_of (Fields c w opening after)) (sym h.took)

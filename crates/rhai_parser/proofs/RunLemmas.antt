@@ -1,10 +1,11 @@
 -- One operator of a run, with its right side, as the reading program takes it.
 use Rattle.std.proofs.Common.{◌≡◌, ℕ, ◌+◌, ◌≤◌, Bool, true, false, Option, Some, Ok, Err, sym, ap, ◌∙◌, subst, arith, if◌then◌else◌}
 use Rattle.rhai_lower.specs.Texts.{Text}
-use Rattle.rhai_lower.specs.Lexemes.{Lexeme}
+use Rattle.rhai_lower.specs.Lexemes.{Lexeme, text_of}
 use Rattle.rhai_lower.specs.Nodes.{Node, position_of}
 use Rattle.rhai_lower.specs.declared.position.Position.{Position}
-use Rattle.rhai_grammar.specs.Beginnings.{AWord, beginning, calls, is_range}
+use Rattle.rhai_grammar.specs.declared.role.Beginning.TheVariants as begin
+use Rattle.rhai_grammar.specs.Beginnings.{beginning, calls, is_range}
 use Rattle.rhai_grammar.specs.Causes.{Refusal, refusal, ExprTooDeep, out_of_memory}
 use Rattle.rhai_grammar.specs.Cursors.{Cursor, asked, looking, taking, left}
 use Rattle.rhai_grammar.specs.Delivered.{Item, item, is_end, is_memory}
@@ -15,28 +16,28 @@ use Rattle.rhai_base.specs.Settings.{settings_of}
 use Rattle.rhai_base.specs.declared.settings.ParseSettings.{ParseSettings}
 use Rattle.rhai_parser.specs.Engines.{EngineValue, sizes_of}
 use Rattle.rhai_parser.specs.Frames.{context_of}
-use Rattle.rhai_reading.specs.Reading.{Ret, Fail, Peek, Call, NextOperator, Primary, Operand, BinaryOp, primary_at, word_at, goes_on, raised, binary_at, binary_on, binary_right, binary_next}
+use Rattle.rhai_reading.specs.Reading.{Ret, Fail, Peek, Call, NextOperator, Primary, Operand, BinaryOp, primary_at, word_at, continues, raised, binary_at, binary_on, binary_right, binary_next}
 use Rattle.rhai_reading.specs.Running as R
-use Rattle.rhai_reading.specs.Running.{exec, run, guarded}
+use Rattle.rhai_reading.specs.Running.{exec, result_of, guarded}
 use Rattle.rhai_reading.proofs.Steps.{step_binary_op, step_primary, guarded_is, and_then_done}
 use Rattle.rhai_parser.proofs.AnswerLemmas.{binary_done, binary_refused, outcome, word_outcome}
 use Rattle.rhai_base.specs.Words.{word_result}
 
 -- From s an operator of strength n stands after the left operand, and its right side y ends at t.
 pub record TakesOne (c : Context) (w : Live) (parent n : ℕ) (right : Bool) (next : Option (ℕ × Bool)) (x y : Node) (s s1 s2 s3 t : Cursor) : Type 0 where
-  pub operator : run NextOperator s ≡ R.Done (Some (n, right)) s1
-  pub goes : goes_on parent n right ≡ true
+  pub operator : result_of NextOperator s ≡ R.Done (Some (n, right)) s1
+  pub goes : continues parent n right ≡ true
   pub readable : is_memory (asked s1).lexeme ≡ false
-  pub operand : run (Operand c w (is_range (beginning (asked s1).lexeme))) (taking s1) ≡ R.Done x s2
-  pub known : run NextOperator s2 ≡ R.Done next s3
+  pub operand : result_of (Operand c w (is_range (beginning (asked s1).lexeme))) (taking s1) ≡ R.Done x s2
+  pub known : result_of NextOperator s2 ≡ R.Done next s3
   pub room : has_room c ≡ true
-  pub side : run (BinaryOp (level_up c) w (position_of x) n x) s3 ≡ R.Done y t
+  pub side : result_of (BinaryOp (level_up c) w (position_of x) n x) s3 ≡ R.Done y t
   pub after_operator : left (taking s1).tokens + 1 ≤ left s.tokens
   pub after_operand : left s2.tokens + 1 ≤ left s.tokens
   pub after_look : left s3.tokens + 1 ≤ left s.tokens
   pub after_side : left t.tokens + 1 ≤ left s.tokens
 
-one_operator : (c : Context) (w : Live) (at : Position) (parent : ℕ) (lhs : Node) (n : ℕ) (right : Bool) (next : Option (ℕ × Bool)) (x y : Node) (s s1 s2 s3 t : Cursor) → TakesOne c w parent n right next x y s s1 s2 s3 t → run (BinaryOp c w at parent lhs) s ≡ exec (guarded (BinaryOp c w at parent lhs) s) (binary_next (level_up c) w parent lhs (asked s1).lexeme (asked s1).at y) t
+one_operator : (c : Context) (w : Live) (at : Position) (parent : ℕ) (lhs : Node) (n : ℕ) (right : Bool) (next : Option (ℕ × Bool)) (x y : Node) (s s1 s2 s3 t : Cursor) → TakesOne c w parent n right next x y s s1 s2 s3 t → result_of (BinaryOp c w at parent lhs) s ≡ exec (guarded (BinaryOp c w at parent lhs) s) (binary_next (level_up c) w parent lhs (asked s1).lexeme (asked s1).at y) t
 one_operator c w at parent lhs n right next x y s s1 s2 s3 t h =
     let g = BinaryOp c w at parent lhs in
     let first = guarded_is g s NextOperator s (omega arith) ∙ h.operator in
@@ -55,7 +56,7 @@ one_operator c w at parent lhs n right next x y s s1 s2 s3 t h =
     ∙ ap (λ b. exec call (if b then Call (BinaryOp (level_up c) w (position_of x) n x) (binary_next (level_up c) w parent lhs op pos) else Fail (refusal ExprTooDeep at)) s3) h.room
     ∙ ap (λ o. R.and_then o (λ v u. exec call (binary_next (level_up c) w parent lhs op pos v) u)) fourth
 
-pub operator_taken : (c : Context) (w : Live) (at : Position) (parent : ℕ) (lhs : Node) (n : ℕ) (right : Bool) (next : Option (ℕ × Bool)) (x y z : Node) (s s1 s2 s3 t : Cursor) → TakesOne c w parent n right next x y s s1 s2 s3 t → operator_result (asked s1).lexeme (asked s1).at lhs y ≡ Ok z → run (BinaryOp c w at parent lhs) s ≡ run (BinaryOp (level_up c) w (asked s1).at parent z) t
+pub operator_taken : (c : Context) (w : Live) (at : Position) (parent : ℕ) (lhs : Node) (n : ℕ) (right : Bool) (next : Option (ℕ × Bool)) (x y z : Node) (s s1 s2 s3 t : Cursor) → TakesOne c w parent n right next x y s s1 s2 s3 t → operator_result (asked s1).lexeme (asked s1).at lhs y ≡ Ok z → result_of (BinaryOp c w at parent lhs) s ≡ result_of (BinaryOp (level_up c) w (asked s1).at parent z) t
 operator_taken c w at parent lhs n right next x y z s s1 s2 s3 t h e =
     let g = BinaryOp c w at parent lhs in
     one_operator c w at parent lhs n right next x y s s1 s2 s3 t h
@@ -63,15 +64,15 @@ operator_taken c w at parent lhs n right next x y z s s1 s2 s3 t h e =
     ∙ and_then_done (guarded g s (BinaryOp (level_up c) w (asked s1).at parent z) t)
     ∙ guarded_is g s (BinaryOp (level_up c) w (asked s1).at parent z) t (omega (arith, h.after_side))
 
-pub operator_refused : (c : Context) (w : Live) (at : Position) (parent : ℕ) (lhs : Node) (n : ℕ) (right : Bool) (next : Option (ℕ × Bool)) (x y : Node) (r : Refusal) (s s1 s2 s3 t : Cursor) → TakesOne c w parent n right next x y s s1 s2 s3 t → operator_result (asked s1).lexeme (asked s1).at lhs y ≡ Err r → run (BinaryOp c w at parent lhs) s ≡ R.Refused r t
+pub operator_refused : (c : Context) (w : Live) (at : Position) (parent : ℕ) (lhs : Node) (n : ℕ) (right : Bool) (next : Option (ℕ × Bool)) (x y : Node) (r : Refusal) (s s1 s2 s3 t : Cursor) → TakesOne c w parent n right next x y s s1 s2 s3 t → operator_result (asked s1).lexeme (asked s1).at lhs y ≡ Err r → result_of (BinaryOp c w at parent lhs) s ≡ R.Refused r t
 operator_refused c w at parent lhs n right next x y r s s1 s2 s3 t h e =
     one_operator c w at parent lhs n right next x y s s1 s2 s3 t h
     ∙ binary_refused (guarded (BinaryOp c w at parent lhs) s) (level_up c) w parent lhs (asked s1).lexeme (asked s1).at y r t e
 
 -- An operator of a run with its right side, as the code takes it: each step leaves a cursor, and none leaves more tokens than were there.
 pub record Walked (c : Context) (w : Live) (parent n : ℕ) (right ranged : Bool) (next : Option (ℕ × Bool)) (op : Lexeme) (pos : Position) (x y : Node) (d : Context) (s s1 s2 s3 s4 t : Cursor) : Type 0 where
-  pub operator : run NextOperator s ≡ R.Done (Some (n, right)) s1
-  pub goes : goes_on parent n right ≡ true
+  pub operator : result_of NextOperator s ≡ R.Done (Some (n, right)) s1
+  pub goes : continues parent n right ≡ true
   pub readable : is_memory (asked s).lexeme ≡ false
   pub more : is_end (asked s).lexeme ≡ false
   pub look : s1 ≡ looking s
@@ -79,18 +80,18 @@ pub record Walked (c : Context) (w : Live) (parent n : ℕ) (right ranged : Bool
   pub took : s2 ≡ taking s1
   pub shrinks : is_end (asked s1).lexeme ≡ false → left s2.tokens + 1 ≤ left s1.tokens
   pub is_ranged : ranged ≡ is_range (beginning op)
-  pub operand : run (Operand c w ranged) s2 ≡ R.Done x s3
+  pub operand : result_of (Operand c w ranged) s2 ≡ R.Done x s3
   pub operand_short : left s3.tokens ≤ left s2.tokens
-  pub known : run NextOperator s3 ≡ R.Done next s4
+  pub known : result_of NextOperator s3 ≡ R.Done next s4
   pub look_on : s4 ≡ looking s3
   pub room : has_room c ≡ true
   pub deeper : d ≡ level_up c
-  pub side : run (BinaryOp d w (position_of x) n x) s4 ≡ R.Done y t
+  pub side : result_of (BinaryOp d w (position_of x) n x) s4 ≡ R.Done y t
   pub side_short : left t.tokens ≤ left s4.tokens
 
 -- what is left after each step
-left_behind : (s s1 s2 s3 s4 t : Cursor) → s1 ≡ looking s → left s2.tokens + 1 ≤ left s1.tokens → left s3.tokens ≤ left s2.tokens → s4 ≡ looking s3 → left t.tokens ≤ left s4.tokens → (left s2.tokens + 1 ≤ left s.tokens) × (left s3.tokens + 1 ≤ left s.tokens) × (left s4.tokens + 1 ≤ left s.tokens) × (left t.tokens + 1 ≤ left s.tokens)
-left_behind s s1 s2 s3 s4 t look a b on e =
+left_after : (s s1 s2 s3 s4 t : Cursor) → s1 ≡ looking s → left s2.tokens + 1 ≤ left s1.tokens → left s3.tokens ≤ left s2.tokens → s4 ≡ looking s3 → left t.tokens ≤ left s4.tokens → (left s2.tokens + 1 ≤ left s.tokens) × (left s3.tokens + 1 ≤ left s.tokens) × (left s4.tokens + 1 ≤ left s.tokens) × (left t.tokens + 1 ≤ left s.tokens)
+left_after s s1 s2 s3 s4 t look a b on e =
     let first : left s1.tokens ≡ left s.tokens = ap (λ (u : Cursor). left u.tokens) look in
     let second : left s4.tokens ≡ left s3.tokens = ap (λ (u : Cursor). left u.tokens) on in
     (omega (arith, first, a), omega (arith, first, a, b), omega (arith, first, a, b, second), omega (arith, first, a, b, second, e))
@@ -99,29 +100,29 @@ module _ {c : Context} {w : Live} {parent n : ℕ} {right ranged : Bool} {next :
   walked_takes : TakesOne c w parent n right next x y s s1 s3 s4 t
   walked_takes =
       let more : is_end (asked s1).lexeme ≡ false = ap (λ (u : Cursor). is_end (asked u).lexeme) h.look ∙ h.more in
-      let behind = left_behind s s1 s2 s3 s4 t h.look (h.shrinks more) h.operand_short h.look_on h.side_short in
+      let behind = left_after s s1 s2 s3 s4 t h.look (h.shrinks more) h.operand_short h.look_on h.side_short in
       let ranged_is : is_range (beginning (asked s1).lexeme) ≡ ranged = ap (λ (i : Item). is_range (beginning i.lexeme)) (sym h.token) ∙ sym h.is_ranged in
       record {
         operator = h.operator;
         goes = h.goes;
         readable = ap (λ (u : Cursor). is_memory (asked u).lexeme) h.look ∙ h.readable;
-        operand = ap (λ b. run (Operand c w b) (taking s1)) ranged_is ∙ ap (run (Operand c w ranged)) (sym h.took) ∙ h.operand;
+        operand = ap (λ b. result_of (Operand c w b) (taking s1)) ranged_is ∙ ap (result_of (Operand c w ranged)) (sym h.took) ∙ h.operand;
         known = h.known;
         room = h.room;
-        side = ap (λ e. run (BinaryOp e w (position_of x) n x) s4) (sym h.deeper) ∙ h.side;
+        side = ap (λ e. result_of (BinaryOp e w (position_of x) n x) s4) (sym h.deeper) ∙ h.side;
         after_operator = subst (λ (u : Cursor). left u.tokens + 1 ≤ left s.tokens) h.took behind.0;
         after_operand = behind.1;
         after_look = behind.2;
         after_side = behind.3;
       }
 
-  pub walked_on : (at : Position) (lhs : Node) {p : Position} {z : Node} {e : Context} → operator_result op pos lhs y ≡ Ok z → e ≡ d → p ≡ pos → run (BinaryOp c w at parent lhs) s ≡ run (BinaryOp e w p parent z) t
+  pub walked_on : (at : Position) (lhs : Node) {p : Position} {z : Node} {e : Context} → operator_result op pos lhs y ≡ Ok z → e ≡ d → p ≡ pos → result_of (BinaryOp c w at parent lhs) s ≡ result_of (BinaryOp e w p parent z) t
   walked_on at lhs {p} {z} {e} joined same there =
       operator_taken c w at parent lhs n right next x y z s s1 s3 s4 t walked_takes (ap (λ (i : Item). operator_result i.lexeme i.at lhs y) (sym h.token) ∙ joined)
-      ∙ ap (λ (v : Context). run (BinaryOp v w (asked s1).at parent z) t) (sym (same ∙ h.deeper))
-      ∙ ap (λ q. run (BinaryOp e w q parent z) t) (ap (λ (i : Item). i.at) (sym h.token) ∙ sym there)
+      ∙ ap (λ (v : Context). result_of (BinaryOp v w (asked s1).at parent z) t) (sym (same ∙ h.deeper))
+      ∙ ap (λ q. result_of (BinaryOp e w q parent z) t) (ap (λ (i : Item). i.at) (sym h.token) ∙ sym there)
 
-  pub walked_refused : (at : Position) (lhs : Node) {r : Refusal} → operator_result op pos lhs y ≡ Err r → run (BinaryOp c w at parent lhs) s ≡ R.Refused r t
+  pub walked_refused : (at : Position) (lhs : Node) {r : Refusal} → operator_result op pos lhs y ≡ Err r → result_of (BinaryOp c w at parent lhs) s ≡ R.Refused r t
   walked_refused at lhs {r} refused =
       operator_refused c w at parent lhs n right next x y r s s1 s3 s4 t walked_takes (ap (λ (i : Item). operator_result i.lexeme i.at lhs y) (sym h.token) ∙ refused)
 
@@ -132,7 +133,8 @@ module _ {c : Context} {w : Live} {parent n : ℕ} {right ranged : Bool} {next :
 
 -- a reserved word that was taken, with a look after it
 pub record Worded (word : Text) (at : Position) (called : Bool) (s s1 s2 t : Cursor) : Type 0 where
-  pub begins : beginning (asked s).lexeme ≡ AWord word
+  pub begins : beginning (asked s).lexeme ≡ begin.Word
+  pub text : word ≡ text_of (asked s).lexeme
   pub readable : is_memory (asked s).lexeme ≡ false
   pub stands : at ≡ (asked s).at
   pub look : s1 ≡ looking s
@@ -141,7 +143,7 @@ pub record Worded (word : Text) (at : Position) (called : Bool) (s s1 s2 t : Cur
   pub readable_on : is_memory (asked s2).lexeme ≡ false
   pub look_on : t ≡ looking s2
 
-worded : (c : Context) (w : Live) (word : Text) (at : Position) (called : Bool) (s s1 s2 t : Cursor) → Worded word at called s s1 s2 t → run (Primary c w) s ≡ exec (guarded (Primary c w) s) (word_at c word at (asked s2).lexeme (asked s2).at) t
+worded : (c : Context) (w : Live) (word : Text) (at : Position) (called : Bool) (s s1 s2 t : Cursor) → Worded word at called s s1 s2 t → result_of (Primary c w) s ≡ exec (guarded (Primary c w) s) (word_at c word at (asked s2).lexeme (asked s2).at) t
 worded c w word at called s s1 s2 t h =
     let call = guarded (Primary c w) s in
     let u = taking s in
@@ -150,13 +152,14 @@ worded c w word at called s s1 s2 t h =
     step_primary c w s
     ∙ ap (λ m. if m then R.Refused out_of_memory (looking s) else exec call (primary_at c w (asked s).lexeme (asked s).at (beginning (asked s).lexeme)) (looking s)) h.readable
     ∙ ap (λ b. exec call (primary_at c w (asked s).lexeme (asked s).at b) (looking s)) h.begins
-    ∙ ap (λ m. if m then R.Refused out_of_memory (looking (looking s)) else exec call (Peek (word_at c word (asked s).at)) u) h.readable
-    ∙ ap (λ m. if m then R.Refused out_of_memory (looking u) else exec call (word_at c word (asked s).at (asked u).lexeme (asked u).at) (looking u)) readable
+    ∙ ap (λ m. if m then R.Refused out_of_memory (looking (looking s)) else exec call (Peek (word_at c (text_of (asked s).lexeme) (asked s).at)) u) h.readable
+    ∙ ap (λ m. if m then R.Refused out_of_memory (looking u) else exec call (word_at c (text_of (asked s).lexeme) (asked s).at (asked u).lexeme (asked u).at) (looking u)) readable
+    ∙ ap (λ x. exec call (word_at c x (asked s).at (asked u).lexeme (asked u).at) (looking u)) (sym h.text)
     ∙ ap (λ p. exec call (word_at c word p (asked u).lexeme (asked u).at) (looking u)) (sym h.stands)
     ∙ ap (λ (v : Cursor). exec call (word_at c word at (asked v).lexeme (asked v).at) (looking v)) (sym here)
     ∙ ap (exec call (word_at c word at (asked s2).lexeme (asked s2).at)) (sym h.look_on)
 
-pub worded_outcome : (c : Context) (w : Live) {word : Text} {at : Position} {called : Bool} {s s1 s2 t : Cursor} → Worded word at called s s1 s2 t → run (Primary c w) s ≡ outcome (word_result c.settings word called at) t
+pub worded_outcome : (c : Context) (w : Live) {word : Text} {at : Position} {called : Bool} {s s1 s2 t : Cursor} → Worded word at called s s1 s2 t → result_of (Primary c w) s ≡ outcome (word_result c.settings word called at) t
 worded_outcome c w {word} {at} {called} {s} {s1} {s2} {t} h =
     worded c w word at called s s1 s2 t h
     ∙ word_outcome (guarded (Primary c w) s) c word at (asked s2).lexeme (asked s2).at t

@@ -20,7 +20,15 @@ pub record EngineValue : Type 0 where
 
 -- a new engine: all options but STRICT_VAR
 abbrev pub fresh_engine : EngineValue
-fresh_engine = record { options = 191; max_expr_depth = 64; max_function_expr_depth = 32; max_functions = 2 ^ 64 - 1; max_array_size = 0; max_map_size = 0; sub_modules = [] }
+fresh_engine = record {
+  options = 191;
+  max_expr_depth = 64;
+  max_function_expr_depth = 32;
+  max_functions = 2 ^ 64 - 1;
+  max_array_size = 0;
+  max_map_size = 0;
+  sub_modules = [];
+}
 
 -- how large the literals of arrays and of object maps may be
 abbrev pub sizes_of : EngineValue → Sizes

@@ -8,11 +8,11 @@ use Rattle.rhai_lower.specs.declared.ast.Ident.{Ident}
 use Rattle.rhai_lower.specs.declared.position.Position.{Position}
 use Rattle.rhai_grammar.specs.Chains as chain
 use Rattle.rhai_grammar.specs.Cursors.{Cursor, cursor_of, left}
-use Rattle.rhai_grammar.specs.Written.{behind_operand}
+use Rattle.rhai_grammar.specs.Written.{spot_after_operand}
 use Rattle.rhai_grammar.specs.declared.error.ParseError.{ParseError}
 use Rattle.rhai_reading.specs.Reading as reading
 use Rattle.rhai_reading.specs.Reading.{Goal, Val}
-use Rattle.rhai_reading.specs.Running.{Gives, run}
+use Rattle.rhai_reading.specs.Running.{Gives, result_of}
 use Rattle.rhai_trees.specs.Chains.{link_views}
 use Rattle.rhai_trees.specs.declared.chain.Link.{Link}
 use Rattle.rhai_base.specs.declared.leaves.names.Call.{Call}
@@ -65,7 +65,7 @@ fields engine frame settings before = reading.Fields (context_of engine settings
 
 -- the links after an operand
 abbrev pub links : EngineValue → Frame → ParseSettings → (root : Node) → Goal
-links engine frame settings root = reading.Links (live_of frame) (behind_operand (context_of engine settings) root)
+links engine frame settings root = reading.Links (live_of frame) (spot_after_operand (context_of engine settings) root)
 
 -- the index in a bracket; whose index it is, if that is tested
 abbrev pub index : EngineValue → Frame → ParseSettings → (indexed : Option Node) → Goal
@@ -111,4 +111,4 @@ pub record GoesOn (old new : Shared) : Type 0 where
 
 -- What a reader returned, seen by view, is what the goal gives, and so is what it left; unless memory ran out.
 abbrev pub Reads : {X : Type 0} (g : Goal) → (X → Val g) → Shared → Result X ParseError → Shared → Type 0
-Reads g view old result new = Gives view (run g (state_of old)) result (state_of new)
+Reads g view old result new = Gives view (result_of g (state_of old)) result (state_of new)

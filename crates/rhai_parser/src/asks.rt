@@ -5,7 +5,7 @@ ghost use Rattle.rhai_lower.specs.View.{property_views, written};
 ghost use Rattle.rhai_grammar.specs.Cursors.{asked, cursor_of, left, looking};
 ghost use Rattle.rhai_grammar.specs.Delivered.{is_end, is_memory};
 ghost use Rattle.rhai_reading.specs.Reading.{NextKey, NextOperator};
-ghost use Rattle.rhai_reading.specs.Running.{Gives, run};
+ghost use Rattle.rhai_reading.specs.Running.{Gives, result_of};
 ghost use Rattle.rhai_parser.specs.Asks.{operator_pair};
 ghost use Rattle.rhai_parser.specs.Frames.{context_of};
 
@@ -21,7 +21,8 @@ use std::alloc::Global;
 
 /// The operator that stands after an operand, if there is one; its token stays.
 pub(crate) fn next_operator(alloc: Global, input: &mut TokenStream) -> ParseResult<Option<Operator>>
-    ensures gives { Gives (option_map operator_pair) (run NextOperator (cursor_of input.old)) result (cursor_of input.new) }
+    ensures gives { Gives (option_map operator_pair) (result_of NextOperator (cursor_of input.old)) result
+        (cursor_of input.new) }
     ensures after { cursor_of input.new ≡ looking (cursor_of input.old) }
     ensures some { IfOk result (λ o. IsSome o → is_end (asked (cursor_of input.old)).lexeme ≡ false) }
     ensures readable { OnOk result (is_memory (asked (cursor_of input.old)).lexeme ≡ false) }
@@ -38,7 +39,9 @@ pub(crate) fn next_key(
     settings: ParseSettings,
     properties: &[(Ident, Expr)],
 ) -> ParseResult<Option<Ident>>
-    ensures gives { Gives (option_map written) (run (NextKey (context_of engine.now settings) (property_views properties.now)) (cursor_of input.old)) result (cursor_of input.new) }
+    ensures gives { Gives (option_map written)
+        (result_of (NextKey (context_of engine.now settings) (property_views properties.now)) (cursor_of input.old))
+        result (cursor_of input.new) }
     ensures shorter { left (cursor_of input.new).tokens ≤ left (cursor_of input.old).tokens }
 {
     let alloc = engine.alloc();

@@ -12,18 +12,18 @@ use crate::shared::Shared;
 use rhai_base::ParseSettings;
 use rhai_base::cursor::{peek, skip};
 use rhai_base::leaves::due::{arguments_due, match_token};
-use rhai_base::leaves::links::{Linking, is_name, member_due, what_links};
+use rhai_base::leaves::links::{is_name, is_negated, member_due, what_links};
 use rhai_base::leaves::names::{Call, make_method};
 use rhai_base::leaves::refusals::reserved;
-use rhai_base::leaves::tokens::{Calling, is_called, what_calls};
-use rhai_grammar::{DueToken, ParseResult};
+use rhai_base::leaves::tokens::{is_called, what_calls};
+use rhai_grammar::{Calling, DueToken, Linking, ParseResult};
 use rhai_lower::Expr;
 use rhai_trees::{Link, LinkKind, test_index, test_links};
 
 #[tactic(auto, using(crate::proofs::Readers::chains))]
 impl Engine {
-    /// Reads what calls the name before it; without that, there is no `!` and no argument. A raise of the arguments' level
-    /// is refused where the settings stand.
+    /// Reads what calls the name before it; without that, there is no `!` and no argument. A raise of the arguments'
+    /// level is refused where the settings stand.
     #[cycle(parser)]
     pub(crate) fn parse_call(
         &self,
@@ -61,7 +61,7 @@ impl Engine {
         }
     }
 
-    /// Reads the brackets and dots after the operand `root`, up to what is none. A bracket raises the level, and its
+    /// Reads the brackets and dots after the operand `lhs`, up to what is none. A bracket raises the level, and its
     /// index once more; a dot raises that of all to its right.
     #[cycle(parser)]
     pub(crate) fn parse_links(
@@ -69,20 +69,21 @@ impl Engine {
         shared: &mut Shared<'_>,
         frame: &Frame,
         settings: ParseSettings,
-        root: &Expr,
+        lhs: &Expr,
     ) -> ParseResult<Vec<Link>>
         ensures goes_on { GoesOn shared.old shared.new }
-        ensures reads { Reads (links self.now frame.now settings (view root.now)) links_of shared.old result shared.new }
+        ensures reads { Reads (links self.now frame.now settings (view lhs.now)) links_of shared.old result shared.new }
     {
         let mut settings = settings;
         let mut brackets = settings;
-        let mut indexed = Some(root);
+        let mut indexed = Some(lhs);
         let mut links = Vec::new(self.alloc());
         loop {
             let (token, pos) = peek(shared.input)?;
             let pos = *pos;
+            let negated = is_negated(token);
             match what_links(token) {
-                Linking::Bracket { negated } => {
+                Linking::Bracket => {
                     skip(shared.input);
                     brackets = brackets.at(pos).level_up()?;
                     let deeper = brackets.level_up()?;
@@ -96,7 +97,7 @@ impl Engine {
                     indexed = None;
                     continue;
                 }
-                Linking::Dot { negated } => {
+                Linking::Dot => {
                     skip(shared.input);
                     member_due(shared.input)?;
                     settings = settings.at(pos).level_up()?;
@@ -119,8 +120,8 @@ impl Engine {
         }
     }
 
-    /// Reads the index in a bracket, up to the `]`. It is tested for the operand that the bracket stands after, if there is
-    /// one.
+    /// Reads the index in a bracket, up to the `]`. It is tested for the operand that the bracket stands after, if
+    /// there is one.
     #[cycle(parser)]
     fn parse_index(
         &self,
@@ -130,7 +131,8 @@ impl Engine {
         indexed: Option<&Expr>,
     ) -> ParseResult<Expr>
         ensures goes_on { GoesOn shared.old shared.new }
-        ensures reads { Reads (index self.now frame.now settings (option_map (λ x. view x.now) indexed.entry)) view shared.old result shared.new }
+        ensures reads { Reads (index self.now frame.now settings (option_map (λ x.
+            view x.now) indexed.entry)) view shared.old result shared.new }
     {
         let index = self.parse_expr(shared, frame, settings)?;
         test_index(self.alloc(), indexed, &index)?;

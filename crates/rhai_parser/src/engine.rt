@@ -61,8 +61,8 @@ impl Model for Engine {
 }
 
 impl Engine {
-    /// An engine with all options but `STRICT_VAR`, the depths 64 for a script and 32 for a function, any number of functions,
-    /// no limits on literals, and no modules. It does not allocate; `alloc` is where its parsers allocate.
+    /// An engine with all options but `STRICT_VAR`, the depths 64 for a script and 32 for a function, any number of
+    /// functions, no limits on literals, and no modules. It does not allocate; `alloc` is where its parsers allocate.
     pub fn new(alloc: Global) -> Self
         ensures { result ≡ fresh_engine }
     {
@@ -215,7 +215,8 @@ impl Engine {
         false
     }
 
-    /// Lets scripts find a module of this name without importing it. Where there is no memory for that, nothing changes.
+    /// Lets scripts find a module of this name without importing it. Where there is no memory for that, nothing
+    /// changes.
     pub fn add_sub_module(&mut self, name: &str) -> Result<(), AllocError>
         ensures ok { OnOk result (self.new ≡ record self.old { sub_modules = self.old.sub_modules ++ name.now ∷ [] }) }
         ensures err { OnErr result (self.new ≡ self.old) }
@@ -266,7 +267,9 @@ impl Engine {
         constants: Option<&Scope>,
         level: OptimizationLevel,
     ) -> ParseResult<AST>
-        ensures reads { (library : List (FnKey × Rc ScriptFuncDef Global)) → (cursor_of input.old).mode ≡ code → ReadsExpression library (context_of self.now settings) (live_of frame.now) (cursor_of input.old) (cursor_of input.new) result }
+        ensures reads { (library : List (FnKey × Rc ScriptFuncDef Global)) → (cursor_of input.old).mode ≡ code
+            → ReadsExpression library (context_of self.now settings) (live_of frame.now) (cursor_of input.old)
+            (cursor_of input.new) result }
         ensures memory { UnlessMemory (HasRead (cursor_of input.old) (cursor_of input.new)) result }
         ensures nowhere { IfErr result MemoryIsNowhere }
     {
@@ -277,15 +280,15 @@ impl Engine {
         }
     }
 
-    /// Reads the script of one expression that the whole stream is, up to its end mark, and hands its tree to the optimizer
-    /// with the state's external constants.
+    /// Reads the script of one expression that the whole stream is, up to its end mark, and hands its tree to the
+    /// optimizer with the state's external constants.
     ///
     /// `settings` may change the settings that the expression is read under: level 0 at 1:1, the engine's depth for a
     /// script, its options without `STMT_EXPR` and `LOOP_EXPR`, and the flags `GLOBAL_LEVEL` and
     /// `DISALLOW_STATEMENTS_IN_BLOCKS`. `level` is how much the optimizer may do.
     ///
-    /// An error tells why and where the stream is no such script; all are in docs/GRAMMAR.md, "Errors". `OutOfMemory` comes
-    /// where memory ran out, or where the stream said so, and stands at no position.
+    /// An error tells why and where the stream is no such script; all are in docs/GRAMMAR.md, "Errors". `OutOfMemory`
+    /// comes where memory ran out, or where the stream said so, and stands at no position.
     pub fn parse_global_expr<F: FnOnce(&mut ParseSettings)>(
         &self,
         state: ParseState<'_, '_, '_>,
@@ -293,7 +296,10 @@ impl Engine {
         level: OptimizationLevel,
     ) -> ParseResult<AST>
         requires { FnOnceTakesAtMut F.FnOnce settings (expr_settings self.now) }
-        ensures reads { IsFresh state.entry → (chosen : _) × FnOnceReturnsAtMut F.FnOnce settings (expr_settings self.now) tt chosen × ReadsExpression state.entry.lib.now.entries (starts_in self.now state.entry chosen) (live_in state.entry) (cursor_of state.entry.input.now) (cursor_of state.exit.0.now) result }
+        ensures reads { IsFresh state.entry → (chosen : _)
+            × FnOnceReturnsAtMut F.FnOnce settings (expr_settings self.now) tt chosen
+            × ReadsExpression state.entry.lib.now.entries (starts_in self.now state.entry chosen) (live_in state.entry)
+            (cursor_of state.entry.input.now) (cursor_of state.exit.0.now) result }
         ensures memory { UnlessMemory (HasRead (cursor_of state.entry.input.now) (cursor_of state.exit.0.now)) result }
         ensures nowhere { IfErr result MemoryIsNowhere }
         ensures library { state.exit.1.0.now ≡ state.entry.lib.now }

@@ -2,7 +2,8 @@
 
 ghost use Rattle.rhai_lower.specs.Nodes.{no_nodes, position_of};
 ghost use Rattle.rhai_lower.specs.View.{view};
-ghost use Rattle.rhai_parser.specs.Readers.{GoesOn, Reads, arguments, binary_op, expression, items, operand, postfix, primary, views_of, whole};
+ghost use Rattle.rhai_parser.specs.Readers.{GoesOn, Reads, arguments, binary_op, expression, items, operand, postfix};
+ghost use Rattle.rhai_parser.specs.Readers.{primary, views_of, whole};
 
 use crate::asks::next_operator;
 use crate::engine::Engine;
@@ -10,14 +11,14 @@ use crate::frame::Frame;
 use crate::shared::Shared;
 use rhai_base::ParseSettings;
 use rhai_base::cursor::{peek, skip, take};
-use rhai_base::leaves::due::match_token;
+use rhai_base::leaves::due::{end_due, match_token};
+use rhai_base::leaves::lists::{closes_list, list_continues};
 use rhai_base::leaves::names::{as_variable, make_call, name_node, word_node};
-use rhai_base::leaves::refusals::{missing, no_operand, not_following, unexpected};
+use rhai_base::leaves::refusals::{missing, no_operand};
 use rhai_base::leaves::tokens::{
-    Beginning, Following, closes, is_called, is_close, is_end, is_no_argument, is_range, is_sign,
-    what_begins, what_follows,
+    is_called, is_no_argument, is_range, is_sign, omits_operand, value_of, what_begins,
 };
-use rhai_grammar::{DueToken, ParseResult};
+use rhai_grammar::{Beginning, CommaList, DueToken, ParseResult};
 use rhai_lower::Expr;
 use rhai_trees::{make_binary, make_chain, make_unary};
 
@@ -36,17 +37,20 @@ impl Engine {
     {
         let (token, pos) = peek(shared.input)?;
         let pos = *pos;
-        match what_begins(token, pos)? {
-            Beginning::Value(value) => {
+        match what_begins(token) {
+            Beginning::Value => {
+                let value = value_of(token, pos)?;
                 skip(shared.input);
                 Ok(value)
             }
-            Beginning::Name(name) => {
+            Beginning::Name => {
+                let name = token.text(self.alloc())?;
                 skip(shared.input);
                 let called = is_called(shared.input)?;
                 Ok(name_node(self.alloc(), &frame.stack, name, called, pos)?)
             }
-            Beginning::Word(word) => {
+            Beginning::Word => {
+                let word = token.text(self.alloc())?;
                 skip(shared.input);
                 let called = is_called(shared.input)?;
                 word_node(self.alloc(), settings, word, called, pos)
@@ -115,7 +119,7 @@ impl Engine {
             let note = "to close the arguments of a call";
             return Err(missing(self.alloc(), ")", note, token, *pos));
         }
-        if is_close(token) {
+        if closes_list(CommaList::Arguments, token) {
             skip(shared.input);
             return Ok(Vec::new(self.alloc()));
         }
@@ -138,17 +142,11 @@ impl Engine {
         loop {
             let item = self.parse_expr(shared, frame, settings)?;
             items.push(item)?;
-            let (token, pos) = peek(shared.input)?;
-            match what_follows(token) {
-                Following::Comma => skip(shared.input),
-                Following::Close => {
-                    skip(shared.input);
-                    return Ok(items);
-                }
-                Following::Nothing => return Err(not_following(self.alloc(), token, *pos)),
+            if !list_continues(self.alloc(), shared.input, CommaList::Arguments)? {
+                return Ok(items);
             }
             let (token, _) = peek(shared.input)?;
-            if is_close(token) {
+            if closes_list(CommaList::Arguments, token) {
                 skip(shared.input);
                 return Ok(items);
             }
@@ -168,7 +166,7 @@ impl Engine {
         ensures reads { Reads (operand self.now frame.now settings ranged) view shared.old result shared.new }
     {
         let (token, pos) = peek(shared.input)?;
-        if ranged && closes(token) {
+        if ranged && omits_operand(token) {
             return Ok(Expr::Unit(*pos));
         }
         if is_sign(token) {
@@ -195,7 +193,8 @@ impl Engine {
         lhs: Expr,
     ) -> ParseResult<Expr>
         ensures goes_on { GoesOn shared.old shared.new }
-        ensures reads { Reads (binary_op self.now frame.now settings (position_of (view lhs)) parent (view lhs)) view shared.old result shared.new }
+        ensures reads { Reads (binary_op self.now frame.now settings (position_of (view lhs)) parent (view lhs)) view
+            shared.old result shared.new }
     {
         let mut settings = settings.at(lhs.position());
         let mut lhs = lhs;
@@ -203,7 +202,7 @@ impl Engine {
             let Some(operator) = next_operator(self.alloc(), shared.input)? else {
                 return Ok(lhs);
             };
-            if !operator.goes_on(parent) {
+            if !operator.continues(parent) {
                 return Ok(lhs);
             }
             let (op_token, pos) = take(shared.input);
@@ -248,10 +247,7 @@ impl Engine {
         ensures reads { Reads (whole self.now frame.now settings) view shared.old result shared.new }
     {
         let expr = self.parse_expr(shared, frame, settings)?;
-        let (token, pos) = peek(shared.input)?;
-        if is_end(token) {
-            return Ok(expr);
-        }
-        Err(unexpected(self.alloc(), token, *pos))
+        end_due(self.alloc(), shared.input)?;
+        Ok(expr)
     }
 }

@@ -9,10 +9,10 @@ use crate::frame::Frame;
 use crate::shared::Shared;
 use rhai_base::ParseSettings;
 use rhai_base::cursor::{peek, skip};
-use rhai_base::leaves::items::{ItemPlace, item_place, what_follows_item, what_follows_value};
-use rhai_base::leaves::refusals::{no_item, not_following_item, not_following_value};
-use rhai_base::leaves::tokens::Following;
-use rhai_grammar::ParseResult;
+use rhai_base::leaves::items::item_place;
+use rhai_base::leaves::lists::list_continues;
+use rhai_base::leaves::refusals::no_item;
+use rhai_grammar::{CommaList, ItemPlace, ParseResult};
 use rhai_lower::{Expr, Ident};
 
 #[tactic(auto, using(crate::proofs::Readers::literals))]
@@ -44,20 +44,14 @@ impl Engine {
             let deeper = settings.level_up()?;
             let item = self.parse_expr(shared, frame, deeper)?;
             items.push(item)?;
-            let (token, pos) = peek(shared.input)?;
-            match what_follows_item(token) {
-                Following::Comma => skip(shared.input),
-                Following::Close => {
-                    skip(shared.input);
-                    return Ok(items);
-                }
-                Following::Nothing => return Err(not_following_item(self.alloc(), token, *pos)),
+            if !list_continues(self.alloc(), shared.input, CommaList::Array)? {
+                return Ok(items);
             }
         }
     }
 
-    /// Reads the properties of an object map after its `#{`, where the settings stand, up to the `}`. The level is raised
-    /// for each value anew, and a raise is refused at the `#{`.
+    /// Reads the properties of an object map after its `#{`, where the settings stand, up to the `}`. The level is
+    /// raised for each value anew, and a raise is refused at the `#{`.
     #[cycle(parser)]
     pub(crate) fn parse_map_literal(
         &self,
@@ -66,7 +60,8 @@ impl Engine {
         settings: ParseSettings,
     ) -> ParseResult<Vec<(Ident, Expr)>>
         ensures goes_on { GoesOn shared.old shared.new }
-        ensures reads { Reads (fields self.now frame.now settings no_properties) properties_of shared.old result shared.new }
+        ensures reads { Reads (fields self.now frame.now settings no_properties) properties_of shared.old result
+            shared.new }
     {
         let mut properties = Vec::new(self.alloc());
         loop {
@@ -77,14 +72,8 @@ impl Engine {
             let deeper = settings.level_up()?;
             let value = self.parse_expr(shared, frame, deeper)?;
             properties.push((key, value))?;
-            let (token, pos) = peek(shared.input)?;
-            match what_follows_value(token) {
-                Following::Comma => skip(shared.input),
-                Following::Close => {
-                    skip(shared.input);
-                    return Ok(properties);
-                }
-                Following::Nothing => return Err(not_following_value(self.alloc(), token, *pos)),
+            if !list_continues(self.alloc(), shared.input, CommaList::Map)? {
+                return Ok(properties);
             }
         }
     }

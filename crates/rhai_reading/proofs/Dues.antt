@@ -1,19 +1,24 @@
--- A token that is due: what is shown where a reader wants it, whatever the token is.
-use Rattle.std.proofs.Common.{◌≡◌, Bool, true, false, refl}
+-- A token that is due, and what follows a part of a list: what is shown there, whatever the token and the list are.
+use Rattle.std.proofs.Common.{◌≡◌, Bool, true, false, refl, subst}
 use Rattle.rhai_lower.specs.Lexemes.{Lexeme, Sign}
 use Rattle.rhai_lower.specs.declared.position.Position.{Position}
 use Rattle.rhai_lower.specs.declared.token.Token.TheVariants as token
 use Rattle.rhai_grammar.specs.Causes.{refusal}
-use Rattle.rhai_grammar.specs.Delivered.{code, item, Point, next_at, past}
-use Rattle.rhai_grammar.specs.Demands.{Demands}
+use Rattle.rhai_grammar.specs.CommaLists.{closing_of, after_part, is_close, not_after}
+use Rattle.rhai_grammar.specs.Delivered.{code, Item, item, Point, next_at, past, is_memory}
+use Rattle.rhai_grammar.specs.Demands.{Demands, Tok, ◌▸◌}
 use Rattle.rhai_grammar.specs.DueTokens.{token_of, is_due, not_due}
 use Rattle.rhai_grammar.specs.declared.due.DueToken.{DueToken}
 use Rattle.rhai_grammar.specs.declared.due.DueToken.TheVariants as due
+use Rattle.rhai_grammar.specs.declared.list.AfterPart.{AfterPart}
+use Rattle.rhai_grammar.specs.declared.list.AfterPart.TheVariants.{Comma, Close, Nothing}
+use Rattle.rhai_grammar.specs.declared.list.CommaList.{CommaList}
+use Rattle.rhai_grammar.specs.declared.list.CommaList.TheVariants as lists
 use Rattle.rhai_grammar.specs.Written as W
-use Rattle.rhai_reading.specs.Reading.{Prog, match_token}
+use Rattle.rhai_reading.specs.Reading.{Prog, match_token, part_next, after_a_part}
 use Rattle.rhai_reading.proofs.Looks.{op_at, pos_at}
 use Rattle.rhai_reading.proofs.Paths.{Way, Lost}
-use Rattle.rhai_reading.proofs.Shows.{Histories, Kind, Shows, Halts, look, check, take, wrong}
+use Rattle.rhai_reading.proofs.Shows.{Histories, Kind, Shows, Halts, look, check, take, refuse, wrong}
 
 stands : (d : DueToken) (l : Lexeme) (p : Position) → is_due d l ≡ true → item l p ≡ item (Sign (token_of d)) p
 stands due.RightParen (Sign token.RightParen) p e = refl
@@ -35,3 +40,56 @@ module _ {A F B : Type 0} {call : Histories} {Q : A → Point → Type 0} {K : K
   expect d f {s = s} way on =
       look (λ m. check (is_due d (op_at s)) f (λ other k. way (record { way = wrong m (rw other) }) k)
       (λ here. take (on (stands d (op_at s) (pos_at s) here))))
+
+-- ---- after a part of a list
+
+-- what a token is there says which one it is
+abbrev Follows : CommaList → AfterPart → Item → Type 0
+Follows parts Comma i = i ≡ item (Sign token.Comma) i.at
+Follows parts Close i = i ≡ item (Sign (closing_of parts)) i.at
+Follows parts Nothing i = Unit {0}
+
+follows : (parts : CommaList) (l : Lexeme) (p : Position) → Follows parts (after_part parts l) (item l p)
+follows lists.Arguments (Sign token.Comma) p = refl
+follows lists.Arguments (Sign token.RightParen) p = refl
+follows lists.Arguments _ p = tt
+follows lists.Array (Sign token.Comma) p = refl
+follows lists.Array (Sign token.RightBracket) p = refl
+follows lists.Array _ p = tt
+follows lists.Map (Sign token.Comma) p = refl
+follows lists.Map (Sign token.RightBrace) p = refl
+follows lists.Map _ p = tt
+
+followed : {v : AfterPart} (parts : CommaList) (s : Point) → after_part parts (op_at s) ≡ v
+    → Follows parts v (next_at code s)
+followed parts s e = subst (λ v. Follows parts v (next_at code s)) e (follows parts (op_at s) (pos_at s))
+
+only_close : (v : AfterPart) → is_close v ≡ true → v ≡ Close
+only_close Close e = refl
+only_close _ e = absurd cc
+
+-- what is found to close a list is its closing token
+pub closed : (parts : CommaList) (s : Point) → is_close (after_part parts (op_at s)) ≡ true
+    → next_at code s ≡ item (Sign (closing_of parts)) (pos_at s)
+closed parts s e = followed parts s (only_close (after_part parts (op_at s)) e)
+
+-- what may not follow a part of a list stands at a point
+pub record NotAfter (parts : CommaList) (s : Point) : Type 0 where
+  pub way : {i : Item} {ds : Demands}
+      → Way (Tok code i (W.following_due parts) ▸ ds) s (Lost (refusal (not_after parts (op_at s)) (pos_at s)) s)
+
+module _ {A F B : Type 0} {call : Histories} {Q : A → Point → Type 0} {K : Kind F B} {from : Point} where
+  pub separated : (parts : CommaList) (f : F) {on end : Prog A} {s : Point} {b : Bool}
+      → (NotAfter parts s → (k : Demands)
+      → Way (K.demands f k) from (Lost (refusal (not_after parts (op_at s)) (pos_at s)) s))
+      → (next_at code s ≡ item (Sign token.Comma) (pos_at s) → Shows call Q (Halts K from) on (past code s) false)
+      → (next_at code s ≡ item (Sign (closing_of parts)) (pos_at s)
+      → Shows call Q (Halts K from) end (past code s) false)
+      → Shows call Q (Halts K from) (after_a_part parts on end) s b
+  separated parts f {on = on} {end = end} {s = s} way comma close = look (λ m. by (after_part parts (op_at s)) refl m)
+    where
+      by : (v : AfterPart) → after_part parts (op_at s) ≡ v → is_memory (op_at s) ≡ false
+          → Shows call Q (Halts K from) (part_next parts on end (op_at s) (pos_at s) v) s true
+      by Comma e m = take (comma (followed parts s e))
+      by Close e m = take (close (followed parts s e))
+      by Nothing e m = refuse f (λ k. way (record { way = wrong m (rw e) }) k)

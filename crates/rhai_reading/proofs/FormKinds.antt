@@ -140,7 +140,7 @@ pub data MemberForm : Type 0 where
 abbrev pub member_of : Context → Live → MemberForm → Demands → Demands
 member_of c w (AProperty name pos) k = Tok code (item (Name name) pos) W.anything ▸ Next W.uncalled_member ▸ k
 member_of c w (AMethod name is pos call) k =
-    Tok code (item name pos) W.anything ▸ Next (W.method_behind name pos) ▸ call_of c w pos call k
+    Tok code (item name pos) W.anything ▸ Next (W.after_method name pos) ▸ call_of c w pos call k
 
 abbrev pub member_tree : Live → MemberForm → Node
 member_tree w (AProperty name pos) = property name pos

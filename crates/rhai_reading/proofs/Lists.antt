@@ -44,5 +44,5 @@ no_property no_properties = refl
 no_property (one_property key pos x ps) = ap (one_property key pos x) (no_property ps)
 
 -- what stands after one more
-pub behind_one_more : {A : Type 0} (xs : List A) (x : A) (ys : List A) → (xs ++ (x ∷ [])) ++ ys ≡ xs ++ (x ∷ ys)
-behind_one_more xs x ys = append_assoc xs (x ∷ []) ys
+pub spot_after_one_more : {A : Type 0} (xs : List A) (x : A) (ys : List A) → (xs ++ (x ∷ [])) ++ ys ≡ xs ++ (x ∷ ys)
+spot_after_one_more xs x ys = append_assoc xs (x ∷ []) ys

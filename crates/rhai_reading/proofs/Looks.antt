@@ -6,7 +6,7 @@ use Rattle.rhai_lower.specs.declared.position.Position.{Position}
 use Rattle.rhai_grammar.specs.Causes.{Cause}
 use Rattle.rhai_grammar.specs.Delivered.{code, Point, next_at, is_memory}
 use Rattle.rhai_grammar.specs.Contexts.{Live}
-use Rattle.rhai_grammar.specs.Strengths.{Behind, Operator, Unknown, Other, behind_of}
+use Rattle.rhai_grammar.specs.Strengths.{Follower, Operator, Unknown, Other, follower_of}
 use Rattle.rhai_grammar.specs.Demands.{Verdict, Fine, Wrong, Otherwise, verdict}
 use Rattle.rhai_grammar.specs.Written.{Height}
 use Rattle.rhai_reading.specs.Reading.{Goal, BinaryOp}
@@ -17,10 +17,10 @@ op_at s = (next_at code s).lexeme
 abbrev pub pos_at : Point → Position
 pos_at s = (next_at code s).at
 
-abbrev pub behind_at : Point → Behind
-behind_at s = behind_of (op_at s)
+abbrev pub follower_at : Point → Follower
+follower_at s = follower_of (op_at s)
 
-abbrev pub operator_in : Behind → Option (ℕ × Bool)
+abbrev pub operator_in : Follower → Option (ℕ × Bool)
 operator_in (Operator n right) = Some (n, right)
 operator_in (Unknown t) = None
 operator_in Other = None

@@ -4,7 +4,6 @@ use Rattle.rhai_lower.specs.Lexemes.{Lexeme}
 use Rattle.rhai_lower.specs.declared.position.Position.{Position}
 use Rattle.rhai_grammar.specs.Causes as cause
 use Rattle.rhai_grammar.specs.Causes.{Cause, Refusal, refusal, out_of_memory, is_memory_cause}
-use Rattle.rhai_grammar.specs.Beginnings.{Following, AComma, AClose, NoFollowing}
 use Rattle.rhai_grammar.specs.Delivered.{code, Item, Point, next_at, past, is_memory}
 use Rattle.rhai_grammar.specs.Seen.{StandsAtLast, is_at_last}
 use Rattle.rhai_grammar.specs.Contexts.{Context, has_room}
@@ -198,24 +197,6 @@ module _ {A F B : Type 0} {call : Histories} {Q : A → Point → Type 0} {K : K
   part {k = k} h wrap way on =
       called h (λ e t r. record { form = wrap r.form; stops = way r.form _ _ (λ j. r.stops); last = r.last })
       (λ x t b r. subst (λ y. Shows call Q (Halts K from) (k y) t b) r.is (on r.form t b r.passes))
-
--- ---- what stands after a part of a list: a comma, what closes the list, or what is refused
-
-module _ {A F : Type 0} {call : Histories} {K : Kind F A} {from : Point} where
-  pub separated : (view : Lexeme → Following) (next : Position → Following → Prog A) {s : Point} {b : Bool}
-      → ((why : Cause) → next (pos_at s) (NoFollowing why) ≡ Fail (refusal why (pos_at s)))
-      → (f : F) → ((why : Cause) → view (op_at s) ≡ NoFollowing why → is_memory (op_at s) ≡ false → (k : Demands)
-      → Way (K.demands f k) from (Lost (refusal why (pos_at s)) s))
-      → (view (op_at s) ≡ AComma → Goes call K from (next (pos_at s) AComma) s true)
-      → (view (op_at s) ≡ AClose → Goes call K from (next (pos_at s) AClose) s true)
-      → Goes call K from (Peek (λ l pos. next pos (view l))) s b
-  separated view next {s = s} fails_ f way comma close = look (λ m. by (view (op_at s)) refl m)
-    where
-      by : (v : Following) → view (op_at s) ≡ v → is_memory (op_at s) ≡ false
-          → Goes call K from (next (pos_at s) v) s true
-      by AComma e m = comma e
-      by AClose e m = close e
-      by (NoFollowing why) e m = subst (λ p. Goes call K from p s true) (sym (fails_ why)) (refuse f (way why e m))
 
 -- ---- what is left of a form
 

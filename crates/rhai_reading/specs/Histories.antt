@@ -32,7 +32,8 @@ and_then Unfinished f = Unfinished
 abbrev pub exec : {A : Type 0} → ((g : Goal) → State → Outcome (Val g)) → Prog A → State → Outcome A
 exec call (Ret x) s = Done x s
 exec call (Fail e) s = Refused e s
-exec call (Peek k) s = if is_memory (asked s).lexeme then Refused out_of_memory (looking s) else exec call (k (asked s).lexeme (asked s).at) (looking s)
+exec call (Peek k) s = if is_memory (asked s).lexeme then Refused out_of_memory (looking s)
+    else exec call (k (asked s).lexeme (asked s).at) (looking s)
 exec call (Take p) s = if is_memory (asked s).lexeme then Refused out_of_memory (looking s) else exec call p (taking s)
 exec call (Call g k) s = and_then (call g s) (λ v t. exec call (k v) t)
 

@@ -1,8 +1,11 @@
--- The reader as a program that asks a stream. It stands between the code and the definitions: no public promise speaks of it.
-use Rattle.std.specs.Prelude.{ℕ, Bool, true, false, Option, Some, None, List, ◌==◌, ◌||◌, ◌&&◌, nat_lt, codes, if◌then◌else◌}
+-- The reader as a program that asks a stream. It stands between the code and the definitions: no public promise speaks
+-- of it.
+use Rattle.std.specs.Prelude.{ℕ, Bool, true, false, Option, Some, None, List, ◌==◌, ◌||◌, ◌&&◌, nat_lt, codes}
+use Rattle.std.specs.Prelude.{if◌then◌else◌}
 use Rattle.rhai_lower.specs.Texts.{Text}
 use Rattle.rhai_lower.specs.Lexemes.{Lexeme, text_of}
-use Rattle.rhai_lower.specs.Nodes.{Node, Nodes, Properties, unit, integer, array, object_map, property, this, no_nodes, with_node, no_properties, with_property, position_of}
+use Rattle.rhai_lower.specs.Nodes.{Node, Nodes, Properties, unit, integer, array, object_map, property, this, no_nodes}
+use Rattle.rhai_lower.specs.Nodes.{with_node, no_properties, with_property, position_of}
 use Rattle.rhai_lower.specs.declared.position.Position.{Position}
 use Rattle.rhai_grammar.specs.Causes as cause
 use Rattle.rhai_grammar.specs.Causes.{Refusal, refusal}
@@ -12,15 +15,32 @@ use Rattle.rhai_grammar.specs.DueTokens.{is_due, not_due}
 use Rattle.rhai_grammar.specs.declared.due.DueToken.{DueToken}
 use Rattle.rhai_grammar.specs.declared.due.DueToken.TheVariants as due
 use Rattle.rhai_grammar.specs.Contexts.{Context, Live, full, has_room, level_up}
-use Rattle.rhai_grammar.specs.Literals.{ItemPlace, ItemsEnd, AnItem, NoItem, item_place, behind_item, KeyPlace, FieldsEnd, AKey, NoKey, has_key, property_count, too_many_fields, behind_value}
-use Rattle.rhai_grammar.specs.Written.{next_key, LinkSpot, behind_operand, behind_bracket, behind_dot}
+use Rattle.rhai_grammar.specs.declared.list.AfterPart.{AfterPart}
+use Rattle.rhai_grammar.specs.declared.list.AfterPart.TheVariants as after
+use Rattle.rhai_grammar.specs.declared.list.CommaList.{CommaList}
+use Rattle.rhai_grammar.specs.declared.list.CommaList.TheVariants as lists
+use Rattle.rhai_grammar.specs.CommaLists.{after_part, is_close, not_after, no_argument}
+use Rattle.rhai_grammar.specs.declared.role.ItemPlace.{ItemPlace}
+use Rattle.rhai_grammar.specs.declared.role.ItemPlace.TheVariants as place
+use Rattle.rhai_grammar.specs.Literals.{item_place, no_item, KeyPlace, FieldsEnd, AKey, NoKey, has_key}
+use Rattle.rhai_grammar.specs.Literals.{property_count, too_many_fields}
+use Rattle.rhai_grammar.specs.Written.{next_key, LinkSpot, spot_after_operand, spot_after_bracket, spot_after_dot}
 use Rattle.rhai_grammar.specs.Chains.{Link, chained, index_refusal, last_fault}
-use Rattle.rhai_grammar.specs.Beginnings as begin
-use Rattle.rhai_grammar.specs.Beginnings.{Beginning, beginning, unexpected, missing, is_range, closes, Calling, calling, calls, may_be_called, is_this, Following, following, no_argument, is_close, Linking, ABracket, ADot, NoLinking, linking, is_name, MemberPlace, AMember, NoMember, member_place}
+use Rattle.rhai_grammar.specs.declared.role.Beginning.{Beginning}
+use Rattle.rhai_grammar.specs.declared.role.Beginning.TheVariants as begin
+use Rattle.rhai_grammar.specs.declared.role.Calling.{Calling}
+use Rattle.rhai_grammar.specs.declared.role.Calling.TheVariants as calls_by
+use Rattle.rhai_grammar.specs.declared.role.Linking.{Linking}
+use Rattle.rhai_grammar.specs.declared.role.Linking.TheVariants as link
+use Rattle.rhai_grammar.specs.Beginnings.{beginning, value_of, no_operand, unexpected, missing, is_range, omits_operand}
+use Rattle.rhai_grammar.specs.Beginnings.{calling}
+use Rattle.rhai_grammar.specs.Beginnings.{calls, may_be_called, is_this, linking, is_name}
+use Rattle.rhai_grammar.specs.Beginnings.{MemberPlace, AMember, NoMember, member_place}
 use Rattle.rhai_grammar.specs.Signs.{signed, sign_holds, malformed}
 use Rattle.rhai_grammar.specs.Operators.{operator_tree, boolean_holds, mismatched}
-use Rattle.rhai_grammar.specs.Strengths.{Behind, Operator, Unknown, Other, behind_of}
-use Rattle.rhai_grammar.specs.Trees.{name_tree, variable_of, is_variable, node_count, call_tree, bracket_link, member_link, method_tree}
+use Rattle.rhai_grammar.specs.Strengths.{Follower, Operator, Unknown, Other, follower_of}
+use Rattle.rhai_grammar.specs.Trees.{name_tree, variable_of, is_variable, node_count, call_tree, bracket_link}
+use Rattle.rhai_grammar.specs.Trees.{member_link, method_tree}
 
 -- What is read by a call: a constructor for each reader of the code, with what it is given.
 pub data Goal : Type 0 where
@@ -94,6 +114,15 @@ raised c at k = if has_room c then k (level_up c) else Fail (refusal cause.ExprT
 abbrev pub match_token : {A : Type 0} → DueToken → Prog A → Prog A
 match_token d p = Peek (λ l at. if is_due d l then Take p else Fail (refusal (not_due d l) at))
 
+-- After a part of a list: on after a comma, end after the token that closes the list, or what else is there is refused.
+abbrev pub part_next : {A : Type 0} → CommaList → (on end : Prog A) → Lexeme → Position → AfterPart → Prog A
+part_next parts on end l at after.Comma = Take on
+part_next parts on end l at after.Close = Take end
+part_next parts on end l at after.Nothing = Fail (refusal (not_after parts l) at)
+
+abbrev pub after_a_part : {A : Type 0} → CommaList → (on end : Prog A) → Prog A
+after_a_part parts on end = Peek (λ l at. part_next parts on end l at (after_part parts l))
+
 abbrev pub whole_at : Node → Lexeme → Position → Prog Node
 whole_at e l at = if is_end l then Ret e else Fail (refusal (unexpected l) at)
 
@@ -107,33 +136,35 @@ name_at w name at l pos = Ret (name_tree w.slots (calls l) name at)
 abbrev pub word_at : Context → Text → Position → Lexeme → Position → Prog Node
 word_at c word at l pos =
     if may_be_called word && calls l then Ret (variable_of None word at) else
-    if is_this word then (if in_function c.settings then Ret (this at) else Fail (refusal (cause.BadInput (cause.ImproperSymbol word)) at)) else
+    if is_this word then (if in_function c.settings then Ret (this at)
+    else Fail (refusal (cause.BadInput (cause.ImproperSymbol word)) at)) else
     Fail (refusal (cause.Reserved word) at)
 
 abbrev pub primary_at : Context → Live → Lexeme → Position → Beginning → Prog Node
-primary_at c w l at (begin.Single node) = Take (Ret (node at))
-primary_at c w l at (begin.AName name) = Take (Peek (name_at w name at))
-primary_at c w l at (begin.AWord word) = Take (Peek (word_at c word at))
-primary_at c w l at begin.AGroup =
+primary_at c w l at begin.Value = Take (Ret (value_of l at))
+primary_at c w l at begin.Name = Take (Peek (name_at w (text_of l) at))
+primary_at c w l at begin.Word = Take (Peek (word_at c (text_of l) at))
+primary_at c w l at begin.Group =
     Take (raised c at (λ d. Call (Expression d w) (λ x. match_token due.RightParen (Ret x))))
-primary_at c w l at begin.AnArray = Take (raised c at (λ d. Call (Elements d w at no_nodes) (λ ns. Ret (array ns at))))
-primary_at c w l at begin.AMap =
+primary_at c w l at begin.Array = Take (raised c at (λ d. Call (Elements d w at no_nodes) (λ ns. Ret (array ns at))))
+primary_at c w l at begin.Map =
     Take (raised c at (λ d. Call (Fields d w at no_properties) (λ ps. Ret (object_map ps at))))
-primary_at c w l at begin.ASign = Fail (refusal (unexpected l) at)
-primary_at c w l at begin.ARange = Ret (integer (lib.IntN.pos 0) at)
-primary_at c w l at (begin.NoBeginning why) = Fail (refusal why at)
+primary_at c w l at begin.Sign = Fail (refusal (unexpected l) at)
+primary_at c w l at begin.Range = Ret (integer (lib.IntN.pos 0) at)
+primary_at c w l at begin.Nothing = Fail (refusal (no_operand l) at)
 
 -- after the operand of a sign
 abbrev pub sign_on : Lexeme → Position → Node → Prog Node
 sign_on sign at x = if sign_holds sign x then Ret (signed sign at x) else Fail (malformed at x)
 
 abbrev pub operand_by : Context → Live → Lexeme → Position → Beginning → Prog Node
-operand_by c w l at begin.ASign = Take (raised c at (λ d. Call (Operand d w false) (sign_on l at)))
+operand_by c w l at begin.Sign = Take (raised c at (λ d. Call (Operand d w false) (sign_on l at)))
 operand_by c w l at _ =
-    Call (Primary c w) (λ x. Call (Postfix c w x) (λ y. Call (Links w (behind_operand c y)) (λ ls. Ret (chained y ls))))
+    Call (Primary c w) (λ x. Call (Postfix c w x) (λ y.
+    Call (Links w (spot_after_operand c y)) (λ ls. Ret (chained y ls))))
 
 abbrev pub operand_at : Context → Live → (ranged : Bool) → Lexeme → Position → Prog Node
-operand_at c w ranged l at = if ranged && closes l then Ret (unit at) else operand_by c w l at (beginning l)
+operand_at c w ranged l at = if ranged && omits_operand l then Ret (unit at) else operand_by c w l at (beginning l)
 
 -- ---- calls
 
@@ -143,15 +174,15 @@ list_on c w name bang = Take (Call (Arguments c w name) (λ ns. Ret (bang, ns)))
 
 -- after the `!` of a call
 abbrev pub bang_at : Context → Live → Position → Lexeme → Position → Calling → Prog (Bool × Nodes)
-bang_at c w name l at begin.WithPair = Take (Ret (true, no_nodes))
-bang_at c w name l at begin.WithList = list_on c w name true
+bang_at c w name l at calls_by.Pair = Take (Ret (true, no_nodes))
+bang_at c w name l at calls_by.List = list_on c w name true
 bang_at c w name l at _ = Fail (refusal (missing (codes "(") l) at)
 
 abbrev pub called_at : Context → Live → Position → Calling → Prog (Bool × Nodes)
-called_at c w name begin.WithPair = Take (Ret (false, no_nodes))
-called_at c w name begin.WithList = list_on c w name false
-called_at c w name begin.WithBang = Take (Peek (λ l at. bang_at c w name l at (calling l)))
-called_at c w name begin.NoCall = Ret (false, no_nodes)
+called_at c w name calls_by.Pair = Take (Ret (false, no_nodes))
+called_at c w name calls_by.List = list_on c w name false
+called_at c w name calls_by.Bang = Take (Peek (λ l at. bang_at c w name l at (calling l)))
+called_at c w name calls_by.Nothing = Ret (false, no_nodes)
 
 abbrev pub postfix_at : Context → Live → Node → Lexeme → Position → Prog Node
 postfix_at c w x l at =
@@ -160,63 +191,52 @@ postfix_at c w x l at =
 abbrev pub arguments_at : Context → Live → Position → Lexeme → Position → Prog Nodes
 arguments_at c w name l at =
     if no_argument l then Fail (refusal (missing (codes ")") l) at) else
-    if is_close (following l) then Take (Ret no_nodes) else
+    if is_close (after_part lists.Arguments l) then Take (Ret no_nodes) else
     raised c name (λ d. Call (Items d w no_nodes) Ret)
 
 -- after the comma of an argument
 abbrev pub comma_at : Context → Live → Nodes → Lexeme → Position → Prog Nodes
-comma_at c w ns l at = if is_close (following l) then Take (Ret ns) else Call (Items c w ns) Ret
+comma_at c w ns l at = if is_close (after_part lists.Arguments l) then Take (Ret ns) else Call (Items c w ns) Ret
 
 -- after an argument
-abbrev pub items_at : Context → Live → Nodes → Position → Following → Prog Nodes
-items_at c w ns at begin.AComma = Take (Peek (comma_at c w ns))
-items_at c w ns at begin.AClose = Take (Ret ns)
-items_at c w ns at (begin.NoFollowing why) = Fail (refusal why at)
-
-abbrev pub item_on : Context → Live → Nodes → Node → Prog Nodes
-item_on c w before x = Peek (λ l at. items_at c w (with_node before x) at (following l))
+abbrev pub items_at : Context → Live → Nodes → Prog Nodes
+items_at c w ns = after_a_part lists.Arguments (Peek (comma_at c w ns)) (Ret ns)
 
 -- ---- arrays and object maps
 
 -- after an item
-abbrev pub element_next : Context → Live → (opening : Position) → Nodes → Position → Following → Prog Nodes
-element_next c w opening ns at begin.AComma = Take (Call (Elements c w opening ns) Ret)
-element_next c w opening ns at begin.AClose = Take (Ret ns)
-element_next c w opening ns at (begin.NoFollowing why) = Fail (refusal why at)
-
-abbrev pub element_on : Context → Live → (opening : Position) → Nodes → Node → Prog Nodes
-element_on c w opening before x = Peek (λ l at. element_next c w opening (with_node before x) at (behind_item l))
+abbrev pub element_next : Context → Live → (opening : Position) → Nodes → Prog Nodes
+element_next c w opening ns = after_a_part lists.Array (Call (Elements c w opening ns) Ret) (Ret ns)
 
 -- where an item may begin
-abbrev pub element_at : Context → Live → (opening : Position) → Nodes → Position → ItemPlace → Prog Nodes
-element_at c w opening before at ItemsEnd = Take (Ret before)
-element_at c w opening before at AnItem = raised c opening (λ d. Call (Expression d w) (element_on c w opening before))
-element_at c w opening before at (NoItem why) = Fail (refusal why at)
+abbrev pub element_at : Context → Live → (opening : Position) → Nodes → Lexeme → Position → ItemPlace → Prog Nodes
+element_at c w opening before l at place.End = Take (Ret before)
+element_at c w opening before l at place.Item =
+    raised c opening (λ d. Call (Expression d w) (λ x. element_next c w opening (with_node before x)))
+element_at c w opening before l at place.Nothing = Fail (refusal (no_item c.sizes.array l) at)
 
 -- after the colon of one more property
 abbrev pub room_at : Context → Properties → Text → Position → Lexeme → Position → Prog (Option (Text × Position))
 room_at c before key at l pos =
-    if full c.sizes.map (property_count before) then Fail (refusal (too_many_fields c.sizes.map) pos) else Ret (Some (key, at))
+    if full c.sizes.map (property_count before) then Fail (refusal (too_many_fields c.sizes.map) pos)
+    else Ret (Some (key, at))
 
 abbrev pub key_on : Context → Properties → Position → KeyPlace → Prog (Option (Text × Position))
 key_on c before at FieldsEnd = Take (Ret None)
 key_on c before at (AKey key) =
-    Take (if has_key key before then Fail (refusal (cause.DuplicatedProperty key) at) else match_token due.Colon (Peek (room_at c before key at)))
+    Take (if has_key key before then Fail (refusal (cause.DuplicatedProperty key) at)
+    else match_token due.Colon (Peek (room_at c before key at)))
 key_on c before at (NoKey why) = Fail (refusal why at)
 
 -- after a value
-abbrev pub field_next : Context → Live → (opening : Position) → Properties → Position → Following → Prog Properties
-field_next c w opening ps at begin.AComma = Take (Call (Fields c w opening ps) Ret)
-field_next c w opening ps at begin.AClose = Take (Ret ps)
-field_next c w opening ps at (begin.NoFollowing why) = Fail (refusal why at)
+abbrev pub field_next : Context → Live → (opening : Position) → Properties → Prog Properties
+field_next c w opening ps = after_a_part lists.Map (Call (Fields c w opening ps) Ret) (Ret ps)
 
-abbrev pub value_on : Context → Live → (opening : Position) → Properties → Text × Position → Node → Prog Properties
-value_on c w opening before key x =
-    Peek (λ l at. field_next c w opening (with_property before key.0 key.1 x) at (behind_value l))
-
+-- after a key and its colon
 abbrev pub field_on : Context → Live → (opening : Position) → Properties → Option (Text × Position) → Prog Properties
 field_on c w opening before None = Ret before
-field_on c w opening before (Some key) = raised c opening (λ d. Call (Expression d w) (value_on c w opening before key))
+field_on c w opening before (Some key) =
+    raised c opening (λ d. Call (Expression d w) (λ x. field_next c w opening (with_property before key.0 key.1 x)))
 
 -- ---- chains
 
@@ -235,7 +255,7 @@ member_on c w name name_at l at =
 -- after a dot
 abbrev pub dot_at : Live → LinkSpot → (dot : Lexeme) → Position → Position → MemberPlace → Prog (List Link)
 dot_at w q dot at pos AMember =
-    raised q.settings at (λ d. Call (Member d w) (λ x. Call (Links w (behind_dot q (member_link dot at x))) Ret))
+    raised q.settings at (λ d. Call (Member d w) (λ x. Call (Links w (spot_after_dot q (member_link dot at x))) Ret))
 dot_at w q dot at pos (NoMember why) = Fail (refusal why pos)
 
 -- after the last link
@@ -244,19 +264,20 @@ links_end ls None = Ret ls
 links_end ls (Some e) = Fail e
 
 abbrev pub links_at : Live → LinkSpot → Lexeme → Position → Linking → Prog (List Link)
-links_at w q l at ABracket =
-    Take (raised q.brackets at (λ d. raised d at (λ e. Call (Index e w q.indexed) (λ x. Call (Links w (behind_bracket q (bracket_link l at x))) Ret))))
-links_at w q l at ADot = Take (Peek (λ m pos. dot_at w q l at pos (member_place m)))
-links_at w q l at NoLinking = links_end q.before (last_fault q.before)
+links_at w q l at link.Bracket =
+    Take (raised q.brackets at (λ d. raised d at (λ e.
+    Call (Index e w q.indexed) (λ x. Call (Links w (spot_after_bracket q (bracket_link l at x))) Ret))))
+links_at w q l at link.Dot = Take (Peek (λ m pos. dot_at w q l at pos (member_place m)))
+links_at w q l at link.Nothing = links_end q.before (last_fault q.before)
 
 -- ---- operators
 
 -- an operator of this strength goes on with a run of that one
-abbrev pub goes_on : (parent strength : ℕ) → (right : Bool) → Bool
-goes_on parent strength right = nat_lt parent strength || (parent == strength && right)
+abbrev pub continues : (parent strength : ℕ) → (right : Bool) → Bool
+continues parent strength right = nat_lt parent strength || (parent == strength && right)
 
 -- a reserved symbol after an operand is refused
-abbrev pub next_operator_at : Position → Behind → Prog (Option (ℕ × Bool))
+abbrev pub next_operator_at : Position → Follower → Prog (Option (ℕ × Bool))
 next_operator_at at (Operator n right) = Ret (Some (n, right))
 next_operator_at at (Unknown t) = Fail (refusal (cause.UnknownOperator t) at)
 next_operator_at at Other = Ret None
@@ -265,13 +286,15 @@ next_operator_at at Other = Ret None
 abbrev pub binary_next : Context → Live → ℕ → Node → Lexeme → Position → Node → Prog Node
 binary_next d w parent lhs op pos rhs =
     if boolean_holds op lhs then
-    (if boolean_holds op rhs then Call (BinaryOp d w pos parent (operator_tree op pos lhs rhs)) Ret else Fail (mismatched rhs))
+    (if boolean_holds op rhs then Call (BinaryOp d w pos parent (operator_tree op pos lhs rhs)) Ret
+    else Fail (mismatched rhs))
     else Fail (mismatched lhs)
 
 -- after an operator's right operand: the tighter run that begins there, if one does
 abbrev pub binary_right : Context → Live → Position → ℕ → Node → ℕ → Lexeme → Position → Node → Prog Node
 binary_right c w at parent lhs strength op pos rhs =
-    Call NextOperator (λ next. raised c at (λ d. Call (BinaryOp d w (position_of rhs) strength rhs) (binary_next d w parent lhs op pos)))
+    Call NextOperator (λ next. raised c at (λ d.
+    Call (BinaryOp d w (position_of rhs) strength rhs) (binary_next d w parent lhs op pos)))
 
 -- after an operator
 abbrev pub binary_on : Context → Live → Position → ℕ → Node → ℕ → Lexeme → Position → Prog Node
@@ -281,7 +304,7 @@ binary_on c w at parent lhs strength op pos =
 abbrev pub binary_at : Context → Live → Position → ℕ → Node → Option (ℕ × Bool) → Prog Node
 binary_at c w at parent lhs None = Ret lhs
 binary_at c w at parent lhs (Some op) =
-    if goes_on parent op.0 op.1 then Peek (binary_on c w at parent lhs op.0) else Ret lhs
+    if continues parent op.0 op.1 then Peek (binary_on c w at parent lhs op.0) else Ret lhs
 
 abbrev pub body : (g : Goal) → Prog (Val g)
 body (Whole c w) = Call (Expression c w) (λ e. Peek (whole_at e))
@@ -295,10 +318,10 @@ body (Index c w indexed) = Call (Expression c w) (λ x. index_on x (index_refusa
 body (Member c w) = Peek (λ name at. Take (Peek (member_on c w name at)))
 body (Postfix c w x) = Peek (postfix_at c w x)
 body (Arguments c w at) = Peek (arguments_at c w at)
-body (Items c w before) = Call (Expression c w) (item_on c w before)
+body (Items c w before) = Call (Expression c w) (λ x. items_at c w (with_node before x))
 body (Elements c w opening before) =
-    Peek (λ l at. element_at c w opening before at (item_place c.sizes.array (node_count before) l))
+    Peek (λ l at. element_at c w opening before l at (item_place c.sizes.array (node_count before) l))
 body (Fields c w opening before) = Call (NextKey c before) (field_on c w opening before)
 body (NextKey c before) = Peek (λ l at. key_on c before at (next_key c.settings before l))
-body NextOperator = Peek (λ l at. next_operator_at at (behind_of l))
+body NextOperator = Peek (λ l at. next_operator_at at (follower_of l))
 body (BinaryOp c w at parent lhs) = Call NextOperator (binary_at c w at parent lhs)

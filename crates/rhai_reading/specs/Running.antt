@@ -4,7 +4,9 @@ use Rattle.rhai_grammar.specs.Causes.{Refusal, refusal_of, is_for_memory, Memory
 use Rattle.rhai_grammar.specs.Delivered.{is_memory}
 use Rattle.rhai_grammar.specs.Cursors.{Cursor, asked, looking, taking, left}
 use Rattle.rhai_grammar.specs.declared.error.ParseError.{ParseError}
-use Rattle.rhai_reading.specs.Reading.{Goal, Whole, Expression, Operand, Primary, Postfix, Arguments, Items, Elements, Fields, NextKey, Called, Links, Index, Member, NextOperator, BinaryOp, Val, Prog, Ret, Fail, Peek, Take, Call, body}
+use Rattle.rhai_reading.specs.Reading.{Goal, Whole, Expression, Operand, Primary, Postfix, Arguments, Items, Elements}
+use Rattle.rhai_reading.specs.Reading.{Fields, NextKey, Called, Links, Index, Member, NextOperator, BinaryOp, Val, Prog}
+use Rattle.rhai_reading.specs.Reading.{Ret, Fail, Peek, Take, Call, body}
 
 -- what came of a reader, with the cursor that it left
 pub data Out (A : Type 0) : Type 0 where
@@ -20,11 +22,13 @@ and_then Unfinished f = Unfinished
 abbrev pub Caller : Type 0
 Caller = (g : Goal) → Cursor → Out (Val g)
 
--- What a reader does, where call says what each call does. Where the tokenizer found no memory for a token, it is refused so when it is looked at or taken.
+-- What a reader does, where call says what each call does. Where the tokenizer found no memory for a token, it is
+-- refused so when it is looked at or taken.
 abbrev pub exec : {A : Type 0} → Caller → Prog A → Cursor → Out A
 exec call (Ret x) s = Done x s
 exec call (Fail e) s = Refused e s
-exec call (Peek k) s = if is_memory (asked s).lexeme then Refused out_of_memory (looking s) else exec call (k (asked s).lexeme (asked s).at) (looking s)
+exec call (Peek k) s = if is_memory (asked s).lexeme then Refused out_of_memory (looking s)
+    else exec call (k (asked s).lexeme (asked s).at) (looking s)
 exec call (Take p) s = if is_memory (asked s).lexeme then Refused out_of_memory (looking s) else exec call p (taking s)
 exec call (Call g k) s = and_then (call g s) (λ v t. exec call (k v) t)
 
@@ -62,11 +66,11 @@ unfoldable pub level : ℕ → Caller
 level zero g s = Unfinished
 level (suc n) g s = exec (only_less (level n) g s) (body g) s
 
-unfoldable pub run : Caller
-run g s = level (suc (need g s)) g s
+unfoldable pub result_of : Caller
+result_of g s = level (suc (need g s)) g s
 
 unfoldable pub guarded : Goal → Cursor → Caller
-guarded = only_less run
+guarded = only_less result_of
 
 -- ---- what the code's readers promise
 

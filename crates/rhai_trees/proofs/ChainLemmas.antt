@@ -75,3 +75,5 @@ last_fault_push (k ∷ ls) l =
     or_or : (a b c : Option Refusal) → option_or (option_or a b) c ≡ option_or a (option_or b c)
     or_or None b c = refl
     or_or (Some r) b c = refl
+
+pub ruleset joins = (chained_none, chained_some, views_append)

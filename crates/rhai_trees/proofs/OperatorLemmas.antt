@@ -11,6 +11,7 @@ use Rattle.rhai_grammar.specs.Causes.{MismatchedType, Refusal, refusal}
 use Rattle.rhai_grammar.specs.Kinds.{not_boolean}
 use Rattle.rhai_grammar.specs.Operators.{Conjunction, Disjunction, Lists, boolean_holds, joined, joining, mismatched, operator_result, operator_tree, takes_booleans}
 use Rattle.rhai_trees.specs.Views.{operand_fault}
+use Rattle.rhai_lower.proofs.Views.{view_and, view_or, view_coalesce}
 
 -- one list after the other
 pub views_append : (es fs : List Expr) → views (es ++ fs) ≡ joined (views es) (views fs)
@@ -67,3 +68,10 @@ result_refused l at n m r e = refused (boolean_holds l n) (boolean_holds l m) (m
 
 pub result_taken : (l : Lexeme) (at : Position) (n m : Node) → operand_fault l n m ≡ None → operator_result l at n m ≡ Ok (operator_tree l at n m)
 result_taken l at n m e = taken (boolean_holds l n) (boolean_holds l m) (mismatched n) (mismatched m) (operator_tree l at n m) e
+
+pub ruleset operand_faults = (fault_left, fault_right, fault_none)
+
+pub ruleset holds = (holds_and, holds_or, holds_others)
+
+-- the nodes of lists
+pub ruleset lists = (view_and, view_or, view_coalesce)

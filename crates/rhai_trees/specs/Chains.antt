@@ -1,5 +1,6 @@
 -- What the links of the code represent, and what is left of a chain while it is taken apart.
-use Rattle.std.specs.Prelude.{◌≡◌, Bool, true, false, ◌&&◌, ◌||◌, [], ◌∷◌, List, Option, None, Some, if◌then◌else◌, codes, map, refl}
+use Rattle.std.specs.Prelude.{◌≡◌, Bool, true, false, ◌&&◌, ◌||◌, [], ◌∷◌, List, Option, None, Some, if◌then◌else◌}
+use Rattle.std.specs.Prelude.{codes, map, refl}
 use Rattle.rhai_lower.specs.Texts.{same_text}
 use Rattle.rhai_lower.specs.Positions.{place}
 use Rattle.rhai_lower.specs.Nodes.{Called, Node, Nodes, method_call, no_nodes, property}
@@ -27,15 +28,15 @@ abbrev alone : Node → chain.Chain
 alone x = record { root = x; links = [] }
 
 -- the chain after a bracket or dot, depending on whether that bracket ends its chain
-abbrev pub chain_behind : (ends : Bool) → Node → chain.Chain
-chain_behind ends x = if ends then alone x else chain.chain_of x
+abbrev pub chain_after : (ends : Bool) → Node → chain.Chain
+chain_after ends x = if ends then alone x else chain.chain_of x
 
 abbrev followed : chain.Link → chain.Chain → List chain.Link
 followed l rest = record { kind = l.kind; negated = l.negated; at = l.at; item = rest.root } ∷ rest.links
 
 -- an open link and the links after it
 abbrev pub open_links : OpenLink → List chain.Link
-open_links o = followed (link_view o.link) (chain_behind o.ends (view o.link.item))
+open_links o = followed (link_view o.link) (chain_after o.ends (view o.link.item))
 
 -- the links from an optional one on
 abbrev pub links_left : Option OpenLink → List chain.Link
@@ -71,6 +72,6 @@ abbrev example_dot : chain.Link
 example_dot = record { kind = chain.Dotted; negated = false; at = place 1 2; item = property (codes "b") (place 1 3) }
 
 example : (nest_until true (property (codes "a") (place 1 1)) (example_dot ∷ [])
-    ≡ chain.nest (property (codes "a") (place 1 1)) (example_dot ∷ [])) × (chain_behind true example_dot.item
+    ≡ chain.nest (property (codes "a") (place 1 1)) (example_dot ∷ [])) × (chain_after true example_dot.item
     ≡ alone example_dot.item)
 example = (refl, refl)

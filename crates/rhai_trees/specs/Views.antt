@@ -1,5 +1,6 @@
 -- What the types of this crate's code represent, and parts of what its helpers return.
-use Rattle.std.specs.Prelude.{◌≡◌, ℕ, ℤ, pos, false, [], Option, Some, None, Result, Ok, Err, not, if◌then◌else◌, refl, neg_ℤ}
+use Rattle.std.specs.Prelude.{◌≡◌, ℕ, ℤ, pos, false, [], Option, Some, None, Result, Ok, Err, not, if◌then◌else◌, refl}
+use Rattle.std.specs.Prelude.{neg_ℤ}
 use Rattle.std.specs.Ordering.{int_eq}
 use Rattle.rhai_lower.specs.Positions.{nowhere}
 use Rattle.rhai_lower.specs.Lexemes.{Lexeme, text_of}
@@ -26,12 +27,20 @@ use Rattle.std.specs.Prelude.{codes}
 
 -- a native-only call with this number of arguments, with the written operator as its name
 abbrev pub native_called : Lexeme → ℕ → Called
-native_called op n = record { name = text_of op; path = []; module_index = None; script_args = None; native_args = n; captures_scope = false; op_token = Some op }
+native_called op n = record {
+  name = text_of op;
+  path = [];
+  module_index = None;
+  script_args = None;
+  native_args = n;
+  captures_scope = false;
+  op_token = Some op;
+}
 
 abbrev pub effect_view : Effect → sign.Effect
 effect_view effect.Negates = sign.Negates
 effect_view effect.Keeps = sign.Keeps
-effect_view effect.Calls = sign.Calls
+effect_view effect.Calls = sign.MakesCall
 
 -- the value of an integer constant
 abbrev pub integer_value : Node → Option ℤ
@@ -51,7 +60,7 @@ abbrev pub joining_view : Joining → operator.Joining
 joining_view (joining.List kind) = operator.Lists (list_kind_view kind)
 joining_view joining.Membership = operator.Membership
 joining_view joining.NoMembership = operator.NoMembership
-joining_view joining.Call = operator.Calls
+joining_view joining.Call = operator.MakesCall
 
 -- the error for the first operand that an operator does not take
 abbrev pub operand_fault : Lexeme → Node → Node → Option Refusal

@@ -19,7 +19,8 @@ pub(crate) fn native_call(
     pos: Position,
     args: Vec<Expr>,
 ) -> Result<Expr, AllocError>
-    ensures { IfOk result (λ e. view e ≡ call (native_called (lexeme op_token) (length args.items)) (views args.items) pos) }
+    ensures { IfOk result (λ e. view e
+        ≡ call (native_called (lexeme op_token) (length args.items)) (views args.items) pos) }
 {
     let call = FnCallExpr {
         name: op_token.text(alloc)?,

@@ -5,7 +5,8 @@ ghost use Rattle.rhai_lower.specs.View.{called, view, views};
 ghost use Rattle.rhai_lower.specs.declared.ast.FnCallExpr.{out-FnCallExpr};
 ghost use Rattle.rhai_grammar.specs.Causes.{MemoryIsNowhere, is_for_memory, refusal_of};
 ghost use Rattle.rhai_grammar.specs.Chains.{chain_of, chained, index_refusal, last_fault, link_fault, link_node, nest};
-ghost use Rattle.rhai_trees.specs.Chains.{is_no_method, link_view, link_views, links_left, method_fault, open_links, with_next};
+ghost use Rattle.rhai_trees.specs.Chains.{is_no_method, link_view, link_views, links_left, method_fault, open_links};
+ghost use Rattle.rhai_trees.specs.Chains.{with_next};
 
 use crate::kind::index_fault;
 use rhai_grammar::{InputError, ParseError, ParseErrorType, ParseResult};
@@ -48,7 +49,7 @@ pub(crate) struct OpenLink {
 /// links on its right. Only a bracket that is the last link ends its chain.
 ///
 /// `root` is the operand, `links` are the links in written order. Returns `AllocError` if memory runs out.
-#[tactic(auto, using(crate::proofs::ChainLemmas::chained_none, crate::proofs::ChainLemmas::chained_some, crate::proofs::ChainLemmas::views_append))]
+#[tactic(auto, using(crate::proofs::ChainLemmas::joins))]
 pub fn make_chain(alloc: Global, root: Expr, mut links: Vec<Link>) -> Result<Expr, AllocError>
     ensures { IfOk result (λ e. view e ≡ chained (view root) (link_views links.items)) }
 {
@@ -100,7 +101,10 @@ fn split(tree: Expr) -> (Expr, Option<OpenLink>)
 
 // A link whose item is all that comes after its bracket or dot; `ends` is whether it ends its chain.
 fn open_link(kind: LinkKind, negated: bool, ends: bool, pos: Position, item: Expr) -> OpenLink
-    ensures { result ≡ record { link = record { kind = kind; negated = negated; pos = pos; item = item }; ends = ends } }
+    ensures { result ≡ record {
+      link = record { kind = kind; negated = negated; pos = pos; item = item };
+      ends = ends;
+    } }
 {
     let link = Link {
         kind,
@@ -172,8 +176,8 @@ fn link_node(alloc: Global, link: Link, last: bool, before: Expr) -> Result<Expr
     }
 }
 
-/// Refuses an index that the first bracket after an operand cannot have. `indexed` is that operand; it is none after a link,
-/// where no index is tested.
+/// Refuses an index that the first bracket after an operand cannot have. `indexed` is that operand; it is none after a
+/// link, where no index is tested.
 ///
 /// The error is `MalformedIndexExpr` at the start of the index, or `OutOfMemory`.
 pub fn test_index(alloc: Global, indexed: Option<&Expr>, index: &Expr) -> ParseResult<()>
@@ -203,7 +207,8 @@ pub fn test_index(alloc: Global, indexed: Option<&Expr>, index: &Expr) -> ParseR
 #[tactic(auto, using(crate::proofs::ChainLemmas::last_fault_push))]
 pub fn test_links(alloc: Global, links: &[Link]) -> ParseResult<()>
     ensures passes { IsOk result → last_fault (link_views links.now) ≡ None }
-    ensures refuses { IfErr result (λ e. is_for_memory e ≡ false → last_fault (link_views links.now) ≡ Some (refusal_of e)) }
+    ensures refuses { IfErr result (λ e. is_for_memory e ≡ false → last_fault (link_views links.now)
+        ≡ Some (refusal_of e)) }
     ensures nowhere { IfErr result MemoryIsNowhere }
 {
     let mut rest = links;
@@ -218,7 +223,8 @@ pub fn test_links(alloc: Global, links: &[Link]) -> ParseResult<()>
 #[tactic(auto, using(rhai_lower::proofs::Views::view_method_call))]
 fn test_link(alloc: Global, link: &Link) -> ParseResult<()>
     ensures passes { IsOk result → link_fault (link_view link.now) ≡ None }
-    ensures refuses { IfErr result (λ e. is_for_memory e ≡ false → link_fault (link_view link.now) ≡ Some (refusal_of e)) }
+    ensures refuses { IfErr result (λ e. is_for_memory e ≡ false → link_fault (link_view link.now)
+        ≡ Some (refusal_of e)) }
     ensures nowhere { IfErr result MemoryIsNowhere }
 {
     match (link.kind, &link.item) {
@@ -229,7 +235,8 @@ fn test_link(alloc: Global, link: &Link) -> ParseResult<()>
 
 // Refuses a call that is not allowed as a method.
 fn test_method(alloc: Global, call: &FnCallExpr, pos: Position) -> ParseResult<()>
-    ensures passes { IsOk result → method_fault (called call.now) (views (out-FnCallExpr call.now).args.items) pos ≡ None }
+    ensures passes { IsOk result → method_fault (called call.now) (views (out-FnCallExpr call.now).args.items) pos
+        ≡ None }
     ensures refuses { IfErr result (λ e. is_for_memory e ≡ false
         → method_fault (called call.now) (views (out-FnCallExpr call.now).args.items) pos ≡ Some (refusal_of e)) }
     ensures nowhere { IfErr result MemoryIsNowhere }

@@ -3,7 +3,10 @@
 ghost use Rattle.std.specs.Prelude.{◌≡◌, option_map};
 ghost use Rattle.rhai_lower.specs.Lexemes.{lexeme};
 ghost use Rattle.rhai_lower.specs.View.{property_views, view, views};
-ghost use Rattle.rhai_grammar.specs.Kinds.{are_bounds, are_constant, are_literal_values, have_constants, have_literal_values, Counted, Keyed, index_fault, index_kind, indexed, kind_fault, is_constant, is_literal_value, is_range_end, is_range_start, makes_range, not_boolean, not_iterable};
+ghost use Rattle.rhai_grammar.specs.Kinds.{are_bounds, are_constant, are_literal_values, have_constants};
+ghost use Rattle.rhai_grammar.specs.Kinds.{have_literal_values, Counted, Keyed, index_fault, index_kind, indexed};
+ghost use Rattle.rhai_grammar.specs.Kinds.{kind_fault, is_constant, is_literal_value, is_range_end, is_range_start};
+ghost use Rattle.rhai_grammar.specs.Kinds.{makes_range, not_boolean, not_iterable};
 ghost use Rattle.rhai_trees.specs.Views.{index_kind_view, indexed_view};
 
 use rhai_lower::{Expr, Ident, Token};

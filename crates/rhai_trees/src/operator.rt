@@ -5,7 +5,9 @@ ghost use Rattle.rhai_lower.specs.Lexemes.{lexeme};
 ghost use Rattle.rhai_lower.specs.View.{view, views};
 ghost use Rattle.rhai_grammar.specs.Answers.{Answers};
 ghost use Rattle.rhai_grammar.specs.Causes.{MemoryIsNowhere, is_for_memory, no_memory, refusal_of};
-ghost use Rattle.rhai_grammar.specs.Operators.{Coalescing, Conjunction, Disjunction, boolean_holds, items, joining, list_of, list_position, list_tree, mismatched, no_membership, operator_result, operator_tree, part};
+ghost use Rattle.rhai_grammar.specs.Operators.{Coalescing, Conjunction, Disjunction, boolean_holds, items, joining};
+ghost use Rattle.rhai_grammar.specs.Operators.{list_of, list_position, list_tree, mismatched, no_membership};
+ghost use Rattle.rhai_grammar.specs.Operators.{operator_result, operator_tree, part};
 ghost use Rattle.rhai_grammar.specs.Kinds.{not_boolean};
 ghost use Rattle.rhai_trees.specs.Views.{joining_view, list_kind_view, operand_fault, part_view};
 
@@ -73,7 +75,7 @@ pub fn make_binary(
 }
 
 // Refuses the first operand that cannot be a boolean, if the operator needs booleans.
-#[tactic(auto, using(crate::proofs::OperatorLemmas::fault_left, crate::proofs::OperatorLemmas::fault_right, crate::proofs::OperatorLemmas::fault_none))]
+#[tactic(auto, using(crate::proofs::OperatorLemmas::operand_faults))]
 fn test_operands(alloc: Global, op_token: &Token, lhs: &Expr, rhs: &Expr) -> ParseResult<()>
     ensures passes { IsOk result → operand_fault (lexeme op_token.now) (view lhs.now) (view rhs.now) ≡ None }
     ensures refuses { IfErr result (λ e. is_for_memory e ≡ false
@@ -85,7 +87,7 @@ fn test_operands(alloc: Global, op_token: &Token, lhs: &Expr, rhs: &Expr) -> Par
 }
 
 // Refuses an operand that cannot be a boolean, if the operator needs booleans.
-#[tactic(auto, using(crate::proofs::OperatorLemmas::holds_and, crate::proofs::OperatorLemmas::holds_or, crate::proofs::OperatorLemmas::holds_others))]
+#[tactic(auto, using(crate::proofs::OperatorLemmas::holds))]
 fn test_operand(alloc: Global, op_token: &Token, operand: &Expr) -> ParseResult<()>
     ensures passes { IsOk result → boolean_holds (lexeme op_token.now) (view operand.now) ≡ true }
     ensures refuses { IfErr result (λ e. is_for_memory e ≡ false
@@ -190,7 +192,8 @@ fn join_list(
 
 // The items of the left operand, and the position of the list.
 fn begin_list(alloc: Global, left: Part, pos: Position) -> Result<(Vec<Expr>, Position), AllocError>
-    ensures { IfOk result (λ l. (views l.0.items ≡ items (part_view left)) × (l.1 ≡ list_position pos (part_view left))) }
+    ensures { IfOk result (λ l. (views l.0.items ≡ items (part_view left))
+        × (l.1 ≡ list_position pos (part_view left))) }
 {
     match left {
         Part::Items(items, at) => Ok((items, at)),
@@ -240,7 +243,7 @@ fn coalesce_part(operand: Expr) -> Part
 }
 
 // The list of this kind.
-#[tactic(auto, using(rhai_lower::proofs::Views::view_and, rhai_lower::proofs::Views::view_or, rhai_lower::proofs::Views::view_coalesce))]
+#[tactic(auto, using(crate::proofs::OperatorLemmas::lists))]
 fn list(kind: ListKind, items: Vec<Expr>, pos: Position) -> Expr
     ensures { view result ≡ list_tree (list_kind_view kind) (views items.items) pos }
 {

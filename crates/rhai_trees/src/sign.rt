@@ -31,7 +31,7 @@ pub(crate) enum Effect {
 ///
 /// `op_token` is the sign, `pos` its position. Minus on the least integer gives `MalformedNumber` at the sign. If
 /// memory runs out, the error is `OutOfMemory`.
-#[tactic(auto, using(crate::proofs::SignLemmas::result_negates, crate::proofs::SignLemmas::result_keeps, crate::proofs::SignLemmas::result_calls, crate::proofs::SignLemmas::result_others))]
+#[tactic(auto, using(crate::proofs::SignLemmas::results))]
 pub fn make_unary(alloc: Global, op_token: Token, pos: Position, operand: Expr) -> ParseResult<Expr>
     ensures answers { Answers view (sign_result (lexeme op_token) pos (view operand)) result }
     ensures nowhere { IfErr result MemoryIsNowhere }
@@ -96,7 +96,7 @@ fn integer_of(expr: &Expr) -> Option<i64>
 }
 
 // Minus on an integer constant.
-#[tactic(auto, using(rhai_lower::proofs::Views::view_integer, crate::proofs::SignLemmas::negated_fits, crate::proofs::SignLemmas::negated_least))]
+#[tactic(auto, using(crate::proofs::SignLemmas::negations))]
 fn negated(alloc: Global, number: i64, pos: Position) -> ParseResult<Expr>
     ensures answers { Answers view (negated number pos) result }
     ensures nowhere { IfErr result MemoryIsNowhere }

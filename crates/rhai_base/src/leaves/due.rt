@@ -1,18 +1,18 @@
-//! Tokens that are due, and the arguments that are due after the `!` of a call.
+//! Tokens that are due: one that is taken, the arguments after the `!` of a call, and the end mark.
 
-ghost use Rattle.std.specs.Prelude.{◌≡◌, ◌≤◌, IfErr, IfOk, OnOk, codes, false};
+ghost use Rattle.std.specs.Prelude.{◌≡◌, ◌≤◌, IfErr, IfOk, OnOk, codes, false, true};
 ghost use Rattle.rhai_lower.specs.Lexemes.{lexeme};
-ghost use Rattle.rhai_grammar.specs.Beginnings.{calling, is_list, missing};
+ghost use Rattle.rhai_grammar.specs.Beginnings.{calling, is_list, missing, unexpected};
 ghost use Rattle.rhai_grammar.specs.Causes.{MemoryIsNowhere, is_for_memory, refusal, refusal_of};
 ghost use Rattle.rhai_grammar.specs.Cursors.{asked, cursor_of, left, looking};
-ghost use Rattle.rhai_grammar.specs.Delivered.{is_memory};
+ghost use Rattle.rhai_grammar.specs.Delivered.{is_end, is_memory};
 ghost use Rattle.rhai_grammar.specs.DueTokens.{is_due, text_of_due};
-ghost use Rattle.rhai_base.specs.Tokens.{CallsAs, IsListed, Passes};
+ghost use Rattle.rhai_base.specs.DueTokens.{Passes};
 
 use crate::cursor::{peek, skip};
-use crate::leaves::refusals::missing;
-use crate::leaves::tokens::{Calling, what_calls};
-use rhai_grammar::{DueToken, ParseResult};
+use crate::leaves::refusals::{missing, unexpected};
+use crate::leaves::tokens::{is_end, what_calls};
+use rhai_grammar::{Calling, DueToken, ParseResult};
 use rhai_lower::{Token, TokenStream};
 use std::alloc::Global;
 
@@ -62,8 +62,13 @@ pub fn match_token(
 
 /// Looks at the arguments that are due after the `!` of a call; their token stays.
 pub fn arguments_due(alloc: Global, input: &mut TokenStream) -> ParseResult<Calling>
-    ensures listed { IfOk result (λ c. CallsAs (asked (cursor_of input.old)).lexeme c × IsListed c) }
-    ensures refused { IfErr result (λ e. is_for_memory e ≡ false → (is_list (calling (asked (cursor_of input.old)).lexeme) ≡ false) × (is_memory (asked (cursor_of input.old)).lexeme ≡ false) × (refusal_of e ≡ refusal (missing (codes "(") (asked (cursor_of input.old)).lexeme) (asked (cursor_of input.old)).at)) }
+    ensures listed { IfOk result (λ c. (c ≡ calling (asked (cursor_of input.old)).lexeme) × (is_list c ≡ true)) }
+    ensures more { OnOk result (is_end (asked (cursor_of input.old)).lexeme ≡ false) }
+    ensures refused { IfErr result (λ e. is_for_memory e ≡ false
+        → (is_list (calling (asked (cursor_of input.old)).lexeme) ≡ false)
+        × (is_memory (asked (cursor_of input.old)).lexeme ≡ false)
+        × (refusal_of e ≡ refusal (missing (codes "(") (asked (cursor_of input.old)).lexeme)
+        (asked (cursor_of input.old)).at)) }
     ensures nowhere { IfErr result MemoryIsNowhere }
     ensures after { cursor_of input.new ≡ looking (cursor_of input.old) }
     ensures readable { OnOk result (is_memory (asked (cursor_of input.old)).lexeme ≡ false) }
@@ -76,4 +81,22 @@ pub fn arguments_due(alloc: Global, input: &mut TokenStream) -> ParseResult<Call
             Err(missing(alloc, "(", "to begin the arguments of a call", token, *pos))
         }
     }
+}
+
+/// Looks at the end mark that is due after a whole expression; it stays. Any other token there is refused as
+/// unexpected.
+pub fn end_due(alloc: Global, input: &mut TokenStream) -> ParseResult<()>
+    ensures ended { OnOk result ((is_end (asked (cursor_of input.old)).lexeme ≡ true)
+        × (is_memory (asked (cursor_of input.old)).lexeme ≡ false)) }
+    ensures refused { IfErr result (λ e. is_for_memory e ≡ false → (is_end (asked (cursor_of input.old)).lexeme ≡ false)
+        × (is_memory (asked (cursor_of input.old)).lexeme ≡ false)
+        × (refusal_of e ≡ refusal (unexpected (asked (cursor_of input.old)).lexeme) (asked (cursor_of input.old)).at)) }
+    ensures nowhere { IfErr result MemoryIsNowhere }
+    ensures after { cursor_of input.new ≡ looking (cursor_of input.old) }
+{
+    let (token, pos) = peek(input)?;
+    if is_end(token) {
+        return Ok(());
+    }
+    Err(unexpected(alloc, token, *pos))
 }

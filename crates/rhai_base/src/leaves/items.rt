@@ -1,4 +1,4 @@
-//! What a token is in the literal of an array or of an object map.
+//! Where an item of an array or the value of a property may begin.
 
 ghost use Rattle.std.specs.Prelude.{◌≡◌, IfErr, OnOk, false, true};
 ghost use Rattle.rhai_lower.specs.Lexemes.{lexeme};
@@ -6,26 +6,13 @@ ghost use Rattle.rhai_grammar.specs.Causes.{MemoryIsNowhere, is_for_memory, refu
 ghost use Rattle.rhai_grammar.specs.Contexts.{full};
 ghost use Rattle.rhai_grammar.specs.Cursors.{asked, cursor_of, looking};
 ghost use Rattle.rhai_grammar.specs.Delivered.{is_memory};
-ghost use Rattle.rhai_grammar.specs.Literals.{too_many_fields};
-ghost use Rattle.rhai_base.specs.Literals.{FollowsItem, FollowsValue, PlacesItem};
+ghost use Rattle.rhai_grammar.specs.Literals.{item_place, too_many_fields};
 
 use crate::cursor::peek;
 use crate::leaves::refusals::too_large;
-use crate::leaves::tokens::Following;
-use rhai_grammar::ParseResult;
+use rhai_grammar::{ItemPlace, ParseResult};
 use rhai_lower::{Token, TokenStream};
 use std::alloc::Global;
-
-/// What stands where an item of an array may begin.
-#[derive(Clone, Copy)]
-pub enum ItemPlace {
-    /// `]`
-    End,
-    /// An item.
-    Item,
-    /// Nothing that may stand there.
-    Nothing,
-}
 
 // Whether a literal has as many parts as the limit allows; a limit of 0 is none.
 fn is_full(limit: usize, count: usize) -> bool
@@ -36,35 +23,13 @@ fn is_full(limit: usize, count: usize) -> bool
 
 /// What a token is where an item of an array may begin, after `count` others.
 pub fn item_place(token: &Token, limit: usize, count: usize) -> ItemPlace
-    ensures { PlacesItem limit count (lexeme token.now) result }
+    ensures place { result ≡ item_place limit count (lexeme token.now) }
 {
     match token {
         Token::RightBracket => ItemPlace::End,
         Token::EOF => ItemPlace::Nothing,
         _ if is_full(limit, count) => ItemPlace::Nothing,
         _ => ItemPlace::Item,
-    }
-}
-
-/// What a token is after an item of an array.
-pub fn what_follows_item(token: &Token) -> Following
-    ensures { FollowsItem (lexeme token.now) result }
-{
-    match token {
-        Token::Comma => Following::Comma,
-        Token::RightBracket => Following::Close,
-        _ => Following::Nothing,
-    }
-}
-
-/// What a token is after the value of a property.
-pub fn what_follows_value(token: &Token) -> Following
-    ensures { FollowsValue (lexeme token.now) result }
-{
-    match token {
-        Token::Comma => Following::Comma,
-        Token::RightBrace => Following::Close,
-        _ => Following::Nothing,
     }
 }
 

@@ -9,7 +9,7 @@ ghost use Rattle.rhai_grammar.specs.Delivered.{is_memory};
 ghost use Rattle.rhai_grammar.specs.Literals.{NoKey, has_key, key_place, no_property};
 ghost use Rattle.rhai_grammar.specs.Written.{next_key};
 ghost use Rattle.rhai_base.specs.Settings.{settings_of};
-ghost use Rattle.rhai_base.specs.Literals.{KeyIs, KeyRefused, is_interpolated, is_reserved_word, key_found, refused_key};
+ghost use Rattle.rhai_base.specs.MapKeys.{KeyIs, KeyRefused, is_interpolated, is_reserved_word, key_found, refused_key};
 
 use crate::cursor::{peek, skip};
 use crate::leaves::refusals::missing_token;
@@ -49,8 +49,8 @@ fn no_property(token: &Token) -> Result<ParseErrorType, AllocError>
     }
 }
 
-// Why a token is refused that is neither a name nor a string, and does not end the object map. In the place of the first
-// key, the end is due.
+// Why a token is refused that is neither a name nor a string, and does not end the object map. In the place of the
+// first key, the end is due.
 #[tactic(auto, using(crate::proofs::LiteralLemmas::refused_by_tests))]
 fn no_key(alloc: Global, first: bool, token: &Token) -> Result<ParseErrorType, AllocError>
     ensures { IfOk result (λ e. cause_of e ≡ refused_key first (lexeme token.now)) }
@@ -109,8 +109,8 @@ fn has_key(key: &str, properties: &[(Ident, Expr)]) -> bool
     false
 }
 
-/// The key of the property after these ones, which is taken; none where the `}` is, which is taken too. A key that one of
-/// these has is `DuplicatedProperty`.
+/// The key of the property after these ones, which is taken; none where the `}` is, which is taken too. A key that one
+/// of these has is `DuplicatedProperty`.
 #[tactic(auto, using(crate::proofs::LiteralLemmas::count_properties))]
 pub fn next_key(
     alloc: Global,
@@ -118,10 +118,15 @@ pub fn next_key(
     settings: ParseSettings,
     properties: &[(Ident, Expr)],
 ) -> ParseResult<Option<Ident>>
-    ensures key { IfOk result (KeyIs (property_views properties.now) (asked (cursor_of input.old)).at (next_key (settings_of settings) (property_views properties.now) (asked (cursor_of input.old)).lexeme)) }
+    ensures key { IfOk result (KeyIs (property_views properties.now) (asked (cursor_of input.old)).at
+        (next_key (settings_of settings) (property_views properties.now) (asked (cursor_of input.old)).lexeme)) }
     ensures passed { OnOk result ((is_memory (asked (cursor_of input.old)).lexeme ≡ false)
         × (cursor_of input.new ≡ taking (cursor_of input.old))) }
-    ensures refused { IfErr result (λ e. is_for_memory e ≡ false → (is_memory (asked (cursor_of input.old)).lexeme ≡ false) × KeyRefused (property_views properties.now) (cursor_of input.old) (next_key (settings_of settings) (property_views properties.now) (asked (cursor_of input.old)).lexeme) (refusal_of e) (cursor_of input.new)) }
+    ensures refused { IfErr result (λ e. is_for_memory e ≡ false
+        → (is_memory (asked (cursor_of input.old)).lexeme ≡ false)
+        × KeyRefused (property_views properties.now) (cursor_of input.old)
+        (next_key (settings_of settings) (property_views properties.now) (asked (cursor_of input.old)).lexeme)
+        (refusal_of e) (cursor_of input.new)) }
     ensures nowhere { IfErr result MemoryIsNowhere }
     ensures shorter { left (cursor_of input.new).tokens ≤ left (cursor_of input.old).tokens }
 {

@@ -1,40 +1,36 @@
 //! Links after an operand: what a token is there, and the member after a dot.
 
-ghost use Rattle.std.specs.Prelude.{◌≡◌, IfErr, IfOk, IsTrue, OnOk, false};
+ghost use Rattle.std.specs.Prelude.{◌≡◌, IfErr, IfOk, IsTrue, OnOk, false, true};
 ghost use Rattle.rhai_lower.specs.Lexemes.{lexeme};
-ghost use Rattle.rhai_grammar.specs.Beginnings.{AMember, NoMember, is_name, may_be_method, member_place};
+ghost use Rattle.rhai_grammar.specs.Beginnings.{AMember, NoMember, is_link, is_name, is_negated, linking};
+ghost use Rattle.rhai_grammar.specs.Beginnings.{may_be_method, member_place};
 ghost use Rattle.rhai_grammar.specs.Causes.{MemoryIsNowhere, is_for_memory, refusal, refusal_of};
 ghost use Rattle.rhai_grammar.specs.Cursors.{asked, cursor_of, looking};
 ghost use Rattle.rhai_grammar.specs.Delivered.{is_end, is_memory};
-ghost use Rattle.rhai_base.specs.Chains.{LinksAs, no_member};
+ghost use Rattle.rhai_base.specs.Members.{no_member};
 
 use crate::cursor::peek;
 use crate::leaves::refusals::no_member;
-use rhai_grammar::ParseResult;
+use rhai_grammar::{Linking, ParseResult};
 use rhai_lower::{Token, TokenStream, is_reserved_keyword_or_symbol};
 
-/// What goes on with the operand before it.
-#[derive(Clone, Copy)]
-pub enum Linking {
-    /// `[`, or with a question mark `?[`
-    Bracket { negated: bool },
-    /// `.`, or with a question mark `?.`
-    Dot { negated: bool },
-    /// Nothing.
-    Nothing,
-}
-
-/// How a token goes on with the operand before it.
+/// How a token continues the operand before it.
 pub fn what_links(token: &Token) -> Linking
-    ensures { LinksAs (lexeme token.now) result }
+    ensures links { result ≡ linking (lexeme token.now) }
+    ensures more { is_link result ≡ true → is_end (lexeme token.now) ≡ false }
 {
     match token {
-        Token::LeftBracket => Linking::Bracket { negated: false },
-        Token::QuestionBracket => Linking::Bracket { negated: true },
-        Token::Period => Linking::Dot { negated: false },
-        Token::Elvis => Linking::Dot { negated: true },
+        Token::LeftBracket | Token::QuestionBracket => Linking::Bracket,
+        Token::Period | Token::Elvis => Linking::Dot,
         _ => Linking::Nothing,
     }
+}
+
+/// Whether a bracket or a dot has a question mark.
+pub fn is_negated(token: &Token) -> bool
+    ensures { result ≡ is_negated (lexeme token.now) }
+{
+    matches!(token, Token::QuestionBracket | Token::Elvis)
 }
 
 // Whether a reserved word may be called as a method.
@@ -61,7 +57,11 @@ pub fn member_due(input: &mut TokenStream) -> ParseResult<()>
     ensures member { OnOk result ((member_place (asked (cursor_of input.old)).lexeme ≡ AMember)
         × (is_end (asked (cursor_of input.old)).lexeme ≡ false)
         × (is_memory (asked (cursor_of input.old)).lexeme ≡ false)) }
-    ensures refused { IfErr result (λ e. is_for_memory e ≡ false → (member_place (asked (cursor_of input.old)).lexeme ≡ NoMember (no_member (asked (cursor_of input.old)).lexeme)) × (is_memory (asked (cursor_of input.old)).lexeme ≡ false) × (refusal_of e ≡ refusal (no_member (asked (cursor_of input.old)).lexeme) (asked (cursor_of input.old)).at)) }
+    ensures refused { IfErr result (λ e. is_for_memory e ≡ false
+        → (member_place (asked (cursor_of input.old)).lexeme
+        ≡ NoMember (no_member (asked (cursor_of input.old)).lexeme))
+        × (is_memory (asked (cursor_of input.old)).lexeme ≡ false)
+        × (refusal_of e ≡ refusal (no_member (asked (cursor_of input.old)).lexeme) (asked (cursor_of input.old)).at)) }
     ensures nowhere { IfErr result MemoryIsNowhere }
     ensures after { cursor_of input.new ≡ looking (cursor_of input.old) }
 {

@@ -53,7 +53,8 @@ fn variable(
     Ok(Expr::Variable(Box::new(alloc, variable)?, pos))
 }
 
-/// What a name is among these slots: a variable, or where something calls it the name of a call, which is no variable's.
+/// What a name is among these slots: a variable, or where something calls it the name of a call, which is no
+/// variable's.
 /// The error is that there is no memory for it.
 pub fn name_node(
     alloc: Global,
@@ -85,8 +86,8 @@ fn is_this(word: &str) -> bool
     word == "this"
 }
 
-/// What a reserved word or symbol is: the name of a call, or `this` in a function. `this` elsewhere is `ImproperSymbol`,
-/// anything else is `Reserved`.
+/// What a reserved word or symbol is: the name of a call, or `this` in a function. `this` elsewhere is
+/// `ImproperSymbol`, anything else is `Reserved`.
 pub fn word_node(
     alloc: Global,
     settings: ParseSettings,
@@ -126,7 +127,15 @@ pub fn as_variable(operand: Expr) -> Result<(Box<VariableExpr>, Position), Expr>
 // The call of a script's function, which `native_args` arguments of a native function answer too.
 #[tactic(auto, using(crate::proofs::NameLemmas::count_views))]
 fn script_call(alloc: Global, name: RcStr, native_args: usize, call: Call) -> FnCallExpr
-    ensures called { called result ≡ record { name = rc_str_bytes name; path = []; module_index = None; script_args = Some (node_count (views call.args.items)); native_args = native_args; captures_scope = call.bang; op_token = None } }
+    ensures called { called result ≡ record {
+      name = rc_str_bytes name;
+      path = [];
+      module_index = None;
+      script_args = Some (node_count (views call.args.items));
+      native_args = native_args;
+      captures_scope = call.bang;
+      op_token = None;
+    } }
     ensures args { views (out-FnCallExpr result).args.items ≡ views call.args.items }
 {
     FnCallExpr {
@@ -151,7 +160,8 @@ pub fn make_call(
     pos: Position,
     call: Call,
 ) -> Result<Expr, AllocError>
-    ensures { IfOk result (λ e. view e ≡ call_tree (variable (named name.value) pos) call.bang (views call.args.items)) }
+    ensures { IfOk result (λ e. view e
+        ≡ call_tree (variable (named name.value) pos) call.bang (views call.args.items)) }
 {
     let name = Box::into_inner(name).name;
     let native_args = call.args.len();

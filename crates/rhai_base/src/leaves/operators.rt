@@ -5,8 +5,8 @@ ghost use Rattle.rhai_lower.specs.Lexemes.{lexeme, text_of};
 ghost use Rattle.rhai_grammar.specs.Causes.{MemoryIsNowhere, UnknownOperator, is_for_memory, refusal, refusal_of};
 ghost use Rattle.rhai_grammar.specs.Cursors.{asked, cursor_of, looking};
 ghost use Rattle.rhai_grammar.specs.Delivered.{is_end, is_memory};
-ghost use Rattle.rhai_grammar.specs.Strengths.{Unknown, behind_of};
-ghost use Rattle.rhai_base.specs.Operators.{goes_on, is_reserved_symbol, operator_found, written_operator};
+ghost use Rattle.rhai_grammar.specs.Strengths.{Unknown, follower_of};
+ghost use Rattle.rhai_base.specs.Operators.{continues, is_reserved_symbol, operator_found, written_operator};
 
 use crate::cursor::peek;
 use rhai_grammar::{ParseError, ParseErrorType, ParseResult};
@@ -24,8 +24,8 @@ pub struct Operator {
 
 impl Operator {
     /// Whether the operator goes on with a run on the right of one that binds with strength `parent`.
-    pub fn goes_on(self, parent: u8) -> bool
-        ensures { result ≡ goes_on parent self }
+    pub fn continues(self, parent: u8) -> bool
+        ensures { result ≡ continues parent self }
     {
         parent < self.strength || (parent == self.strength && self.right)
     }
@@ -53,10 +53,14 @@ fn is_reserved_symbol(token: &Token) -> bool
 
 /// The operator that stands after an operand, if there is one; its token stays. A reserved symbol there is
 /// `UnknownOperator`.
-#[tactic(auto, using(crate::proofs::OperatorLemmas::reserved_behind, crate::proofs::OperatorLemmas::written_behind))]
+#[tactic(auto, using(crate::proofs::OperatorLemmas::followers))]
 pub fn next_operator(alloc: Global, input: &mut TokenStream) -> ParseResult<Option<Operator>>
-    ensures found { IfOk result (λ o. behind_of (asked (cursor_of input.old)).lexeme ≡ operator_found o) }
-    ensures refused { IfErr result (λ e. is_for_memory e ≡ false → (behind_of (asked (cursor_of input.old)).lexeme ≡ Unknown (text_of (asked (cursor_of input.old)).lexeme)) × (is_memory (asked (cursor_of input.old)).lexeme ≡ false) × (refusal_of e ≡ refusal (UnknownOperator (text_of (asked (cursor_of input.old)).lexeme)) (asked (cursor_of input.old)).at)) }
+    ensures found { IfOk result (λ o. follower_of (asked (cursor_of input.old)).lexeme ≡ operator_found o) }
+    ensures refused { IfErr result (λ e. is_for_memory e ≡ false
+        → (follower_of (asked (cursor_of input.old)).lexeme ≡ Unknown (text_of (asked (cursor_of input.old)).lexeme))
+        × (is_memory (asked (cursor_of input.old)).lexeme ≡ false)
+        × (refusal_of e ≡ refusal (UnknownOperator (text_of (asked (cursor_of input.old)).lexeme))
+        (asked (cursor_of input.old)).at)) }
     ensures nowhere { IfErr result MemoryIsNowhere }
     ensures after { cursor_of input.new ≡ looking (cursor_of input.old) }
     ensures some { IfOk result (λ o. IsSome o → is_end (asked (cursor_of input.old)).lexeme ≡ false) }

@@ -3,11 +3,11 @@
 ghost use Rattle.std.specs.Prelude.{◌≡◌, IfOk, false};
 ghost use Rattle.std.specs.Rc.{rc_str_bytes};
 ghost use Rattle.rhai_lower.specs.Lexemes.{lexeme};
-ghost use Rattle.rhai_grammar.specs.Beginnings.{missing, unexpected};
-ghost use Rattle.rhai_grammar.specs.Causes.{BadInput, LiteralTooLarge, Reserved, Says, cause_of, input_cause, is_for_memory, refusal, refusal_of};
-ghost use Rattle.rhai_base.specs.Chains.{no_member};
-ghost use Rattle.rhai_base.specs.Literals.{due_behind_item, due_behind_value, no_item};
-ghost use Rattle.rhai_base.specs.Tokens.{due_behind, no_operand};
+ghost use Rattle.rhai_grammar.specs.Beginnings.{missing, no_operand, unexpected};
+ghost use Rattle.rhai_grammar.specs.Causes.{BadInput, LiteralTooLarge, Reserved, Says, cause_of, input_cause};
+ghost use Rattle.rhai_grammar.specs.Causes.{is_for_memory, refusal, refusal_of};
+ghost use Rattle.rhai_grammar.specs.Literals.{no_item};
+ghost use Rattle.rhai_base.specs.Members.{no_member};
 
 use crate::leaves::tokens::is_end;
 use rhai_grammar::{InputError, ParseError, ParseErrorType};
@@ -75,26 +75,6 @@ pub fn no_operand(alloc: Global, token: &Token, pos: Position) -> ParseError
     unexpected(alloc, token, pos)
 }
 
-// What is due where a token stands that may not follow an argument.
-fn due_behind(token: &Token) -> &'static str
-    ensures { result.now ≡ due_behind (lexeme token.now) }
-{
-    if is_end(token) { ")" } else { "," }
-}
-
-/// The refusal of a token that may not follow an argument.
-pub fn not_following(alloc: Global, token: &Token, pos: Position) -> ParseError
-    ensures { Says (refusal (missing (due_behind (lexeme token.now)) (lexeme token.now)) pos) result }
-{
-    missing(
-        alloc,
-        due_behind(token),
-        "behind an argument of a call",
-        token,
-        pos,
-    )
-}
-
 /// The refusal of a literal with more parts than the limit allows.
 pub fn too_large(alloc: Global, what: &str, limit: usize, pos: Position) -> ParseError
     ensures { Says (refusal (LiteralTooLarge what.now limit) pos) result }
@@ -113,42 +93,6 @@ pub fn no_item(alloc: Global, limit: usize, token: &Token, pos: Position) -> Par
         return missing(alloc, "]", "to end this array literal", token, pos);
     }
     too_large(alloc, "Size of array literal", limit, pos)
-}
-
-// What is due where a token stands that may not follow an item of an array, and what for.
-fn due_behind_item(token: &Token) -> (&'static str, &'static str)
-    ensures { result.0.now ≡ due_behind_item (lexeme token.now) }
-{
-    if is_end(token) {
-        return ("]", "to end this array literal");
-    }
-    (",", "to separate the items of this array literal")
-}
-
-/// The refusal of a token that may not follow an item of an array.
-pub fn not_following_item(alloc: Global, token: &Token, pos: Position) -> ParseError
-    ensures { Says (refusal (missing (due_behind_item (lexeme token.now)) (lexeme token.now)) pos) result }
-{
-    let (due, note) = due_behind_item(token);
-    missing(alloc, due, note, token, pos)
-}
-
-// What is due where a token stands that may not follow the value of a property, and what for.
-fn due_behind_value(token: &Token) -> (&'static str, &'static str)
-    ensures { result.0.now ≡ due_behind_value (lexeme token.now) }
-{
-    match token {
-        Token::Identifier(_) => { (",", "to separate the properties of this object map literal") }
-        _ => ("}", "to end this object map literal"),
-    }
-}
-
-/// The refusal of a token that may not follow the value of a property.
-pub fn not_following_value(alloc: Global, token: &Token, pos: Position) -> ParseError
-    ensures { Says (refusal (missing (due_behind_value (lexeme token.now)) (lexeme token.now)) pos) result }
-{
-    let (due, note) = due_behind_value(token);
-    missing(alloc, due, note, token, pos)
 }
 
 /// The refusal of a token that may not stand after a dot.

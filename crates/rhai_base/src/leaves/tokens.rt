@@ -1,109 +1,69 @@
-//! What a token is where an operand is due, after a name, and after an argument.
+//! What a token is where an operand is due, and after a name.
 
-ghost use Rattle.std.specs.Prelude.{◌≡◌, IfOk, IsTrue, OnOk, false};
+ghost use Rattle.std.specs.Prelude.{◌≡◌, IfOk, IsTrue, OnOk, false, true};
 ghost use Rattle.rhai_lower.specs.Lexemes.{lexeme};
+ghost use Rattle.rhai_lower.specs.View.{view};
 ghost use Rattle.rhai_grammar.specs.Delivered.{is_end, is_memory};
 ghost use Rattle.rhai_grammar.specs.Cursors.{asked, cursor_of, looking};
-ghost use Rattle.rhai_grammar.specs.Beginnings.{beginning, calls, closes, following, is_close, is_range, is_sign, no_argument};
-ghost use Rattle.rhai_base.specs.Tokens.{Begins, CallsAs, FollowsAs};
+ghost use Rattle.rhai_grammar.specs.Beginnings.{beginning, calling, calls, omits_operand, is_begun, is_call, is_range};
+ghost use Rattle.rhai_grammar.specs.Beginnings.{is_sign, value_of};
+ghost use Rattle.rhai_grammar.specs.CommaLists.{no_argument};
 
 use crate::cursor::peek;
+use rhai_grammar::{Beginning, Calling};
 use rhai_lower::{Expr, Position, Token, TokenStream};
 use std::alloc::AllocError;
-use std::rc::RcStr;
 
-/// What begins where an operand is due.
-#[derive(Drop)]
-pub enum Beginning {
-    /// A value, which the token is.
-    Value(Expr),
-    /// A name.
-    Name(RcStr),
-    /// A reserved word or symbol.
-    Word(RcStr),
-    /// An expression in parentheses.
-    Group,
-    /// An array.
-    Array,
-    /// An object map.
-    Map,
-    /// A sign before an operand.
-    Sign,
-    /// A range operator, whose left operand is not written.
-    Range,
-    /// No operand.
-    Nothing,
-}
-
-/// What calls the name before it.
-#[derive(Clone, Copy)]
-pub enum Calling {
-    /// `()`, as one token.
-    Pair,
-    /// `(`
-    List,
-    /// `!`, which arguments follow.
-    Bang,
-    /// Nothing.
-    Nothing,
-}
-
-/// What follows an argument.
-#[derive(Clone, Copy)]
-pub enum Following {
-    /// `,`
-    Comma,
-    /// `)`
-    Close,
-    /// Nothing that may stand there.
-    Nothing,
-}
-
-/// What a token at `pos` begins where an operand is due. The error is that there is no memory for it.
-#[tactic(auto, using(rhai_lower::proofs::Views::view_unit, rhai_lower::proofs::Views::view_boolean, rhai_lower::proofs::Views::view_integer, rhai_lower::proofs::Views::view_character, rhai_lower::proofs::Views::view_string))]
-pub fn what_begins(token: &Token, pos: Position) -> Result<Beginning, AllocError>
-    ensures { IfOk result (Begins (lexeme token.now) pos) }
+/// What a token begins where an operand is due.
+pub fn what_begins(token: &Token) -> Beginning
+    ensures begins { result ≡ beginning (lexeme token.now) }
+    ensures more { is_begun result ≡ true → is_end (lexeme token.now) ≡ false }
 {
     match token {
-        Token::IntegerConstant(n) => Ok(Beginning::Value(Expr::IntegerConstant(*n, pos))),
-        Token::CharConstant(c) => Ok(Beginning::Value(Expr::CharConstant(*c, pos))),
-        Token::StringConstant(t) => Ok(Beginning::Value(Expr::StringConstant(t.clone()?, pos))),
-        Token::Unit => Ok(Beginning::Value(Expr::Unit(pos))),
-        Token::True => Ok(Beginning::Value(Expr::BoolConstant(true, pos))),
-        Token::False => Ok(Beginning::Value(Expr::BoolConstant(false, pos))),
-        Token::Identifier(name) => Ok(Beginning::Name(name.clone()?)),
-        Token::Reserved(word) => Ok(Beginning::Word(word.clone()?)),
-        Token::LeftParen => Ok(Beginning::Group),
-        Token::LeftBracket => Ok(Beginning::Array),
-        Token::MapStart => Ok(Beginning::Map),
+        Token::IntegerConstant(_)
+        | Token::CharConstant(_)
+        | Token::StringConstant(_)
+        | Token::Unit
+        | Token::True
+        | Token::False => Beginning::Value,
+        Token::Identifier(_) => Beginning::Name,
+        Token::Reserved(_) => Beginning::Word,
+        Token::LeftParen => Beginning::Group,
+        Token::LeftBracket => Beginning::Array,
+        Token::MapStart => Beginning::Map,
         Token::Minus | Token::UnaryMinus | Token::Plus | Token::UnaryPlus | Token::Bang => {
-            Ok(Beginning::Sign)
+            Beginning::Sign
         }
-        Token::ExclusiveRange | Token::InclusiveRange => Ok(Beginning::Range),
-        _ => Ok(Beginning::Nothing),
+        Token::ExclusiveRange | Token::InclusiveRange => Beginning::Range,
+        _ => Beginning::Nothing,
+    }
+}
+
+/// The node of a token at `pos` that is a value. The error is that there is no memory for it.
+#[tactic(auto, using(crate::proofs::NameLemmas::values))]
+pub fn value_of(token: &Token, pos: Position) -> Result<Expr, AllocError>
+    ensures { IfOk result (λ x. view x ≡ value_of (lexeme token.now) pos) }
+{
+    match token {
+        Token::IntegerConstant(n) => Ok(Expr::IntegerConstant(*n, pos)),
+        Token::CharConstant(c) => Ok(Expr::CharConstant(*c, pos)),
+        Token::StringConstant(t) => Ok(Expr::StringConstant(t.clone()?, pos)),
+        Token::True => Ok(Expr::BoolConstant(true, pos)),
+        Token::False => Ok(Expr::BoolConstant(false, pos)),
+        _ => Ok(Expr::Unit(pos)),
     }
 }
 
 /// How a token calls the name before it.
 pub fn what_calls(token: &Token) -> Calling
-    ensures { CallsAs (lexeme token.now) result }
+    ensures calls { result ≡ calling (lexeme token.now) }
+    ensures more { is_call result ≡ true → is_end (lexeme token.now) ≡ false }
 {
     match token {
         Token::Unit => Calling::Pair,
         Token::LeftParen => Calling::List,
         Token::Bang => Calling::Bang,
         _ => Calling::Nothing,
-    }
-}
-
-/// What a token is after an argument.
-pub fn what_follows(token: &Token) -> Following
-    ensures { FollowsAs (lexeme token.now) result }
-{
-    match token {
-        Token::Comma => Following::Comma,
-        Token::RightParen => Following::Close,
-        _ => Following::Nothing,
     }
 }
 
@@ -133,8 +93,8 @@ pub fn is_range(token: &Token) -> bool
 }
 
 /// Whether a token stands for the right operand of the range operator before it, which is not written then.
-pub fn closes(token: &Token) -> bool
-    ensures { result ≡ closes (lexeme token.now) }
+pub fn omits_operand(token: &Token) -> bool
+    ensures { result ≡ omits_operand (lexeme token.now) }
 {
     matches!(
         token,
@@ -145,13 +105,6 @@ pub fn closes(token: &Token) -> bool
             | Token::SemiColon
             | Token::DoubleArrow
     )
-}
-
-/// Whether a token is `)`.
-pub fn is_close(token: &Token) -> bool
-    ensures { result ≡ is_close (following (lexeme token.now)) }
-{
-    matches!(token, Token::RightParen)
 }
 
 /// Whether no argument, nor the end of the arguments, may begin with a token.

@@ -8,7 +8,9 @@ use Rattle.rhai_lower.specs.Nodes.{Node, Nodes, no_nodes, with_node, position_of
 use Rattle.rhai_lower.specs.declared.position.Position.{Position}
 use Rattle.rhai_grammar.specs.Delivered.{code, Item, Point, next_at, past, is_memory}
 use Rattle.rhai_grammar.specs.Contexts.{Context, Live, level_up}
-use Rattle.rhai_grammar.specs.Beginnings.{calls, following, is_close, no_argument}
+use Rattle.rhai_grammar.specs.declared.list.CommaList.TheVariants as lists
+use Rattle.rhai_grammar.specs.Beginnings.{calls}
+use Rattle.rhai_grammar.specs.CommaLists.{after_part, is_close, no_argument}
 use Rattle.rhai_grammar.specs.Forms as form
 use Rattle.rhai_grammar.specs.Forms.{Primary, Arguments, Items, Run}
 use Rattle.rhai_grammar.specs.Trees.{argument_trees, item_trees, primary_tree, is_variable, call_tree, tree}
@@ -106,7 +108,7 @@ listed opening list items others c w name k bang p reads s t b m =
     let u = past code s in
     due m.0 refl (reads.list _ _) (part (next W.argument_due m.1.0
     (λ e. let some = no_wrong (no_argument (op_at u)) _ e in
-    if_false _ some.0 (if_false _ (no_other (is_close (following (op_at u))) some.1).0
+    if_false _ some.0 (if_false _ (no_other (is_close (after_part lists.Arguments (op_at u))) some.1).0
     (if_true _ m.1.1.0 (part (items (level_up c) w no_nodes k u t true m.1.1.1) (λ u l h. ret h)))))) (λ u l h. ret h))
 
 pub last : (f : Run) (closing : Position) → ExpressionRead f → ItemsRead (form.Last f closing)
@@ -121,7 +123,7 @@ trailing f comma closing expression c w before k s t b m =
 pub more : (f : Run) (comma : Position) (rest : Items) → ExpressionRead f → ItemsRead rest
     → ItemsRead (form.More f comma rest)
 more f comma rest expression items c w before k s t b m =
-    part (expression c w _ s t b m) (λ u l n. due n.0 refl refl (next W.goes_on n.1.0 (λ on.
-    if_false _ (no_other (is_close (following (op_at (past code u)))) on).0
+    part (expression c w _ s t b m) (λ u l n. due n.0 refl refl (next W.argument_follows n.1.0 (λ on.
+    if_false _ (no_other (is_close (after_part lists.Arguments (op_at (past code u)))) on).0
     (part (items c w (with_node before (tree f w)) k (past code u) t true n.1.1)
     (λ v a m. gives (added before (tree f w) (item_trees rest w)) m)))))

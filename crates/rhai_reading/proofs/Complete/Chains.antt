@@ -16,11 +16,11 @@ use Rattle.rhai_grammar.specs.Forms.{Links, Arguments, Run}
 use Rattle.rhai_grammar.specs.Trees.{argument_trees, link_list, bracket_link, member_link, method_tree, tree}
 use Rattle.rhai_grammar.specs.Demands.{Demands, Met}
 use Rattle.rhai_grammar.specs.Written as W
-use Rattle.rhai_grammar.specs.Written.{LinkSpot, behind_bracket, behind_dot, unfaulted}
+use Rattle.rhai_grammar.specs.Written.{LinkSpot, spot_after_bracket, spot_after_dot, unfaulted}
 use Rattle.rhai_reading.specs.Reading as R
 use Rattle.rhai_reading.specs.Reading.{body}
 use Rattle.rhai_reading.proofs.FormKinds.{By, call_of}
-use Rattle.rhai_reading.proofs.Lists.{behind_one_more}
+use Rattle.rhai_reading.proofs.Lists.{spot_after_one_more}
 use Rattle.rhai_reading.proofs.Tokens.{bracket_is, dot_is, no_link_is, member_is, readable, member_readable}
 use Rattle.rhai_reading.proofs.Reaches.{Reaches, seen, next, ret, gives, look, peek, take, due, if_true, if_false, part}
 use Rattle.rhai_reading.proofs.Looks.{op_at, pos_at, no_other}
@@ -59,8 +59,8 @@ bracket opening pos f closing rest expression links q w k s t b m =
     peek m.1.0 can (seen (bracket_is (linking opening) m.0) (R.links_at w q opening pos)
     (take m.1.0 can (if_true _ m.1.1.0 (if_true _ m.1.1.1.0
     (part (index c w q.indexed closing _ (expression c w _ (past code s) t false m.1.1.1.1)) (λ u l n.
-    part (links (behind_bracket q (bracket_link opening pos (tree f w))) w k u t l n)
-    (λ v a n. gives (behind_one_more q.before _ (link_list rest w)) n)))))))
+    part (links (spot_after_bracket q (bracket_link opening pos (tree f w))) w k u t l n)
+    (λ v a n. gives (spot_after_one_more q.before _ (link_list rest w)) n)))))))
 
 -- a dot, from what its member comes to, and the links behind it
 module _ (w : Live) (q : LinkSpot) {k j : Demands} {s t : Point} {b : Bool} {x : Node} (ls : List Link) where
@@ -68,7 +68,7 @@ module _ (w : Live) (q : LinkSpot) {k j : Demands} {s t : Point} {b : Bool} {x :
       → next_at code s ≡ item dot pos
       → is_member (member_place name) ≡ true → next_at code (past code s) ≡ item name name_at → has_room q.settings ≡ true
       → Reaches (body (R.Member (level_up q.settings) w)) (past code s) true x j t
-      → ((u : Point) (l : Bool) → Met j u t → Reaches (body (R.Links w (behind_dot q (member_link dot pos x)))) u l
+      → ((u : Point) (l : Bool) → Met j u t → Reaches (body (R.Links w (spot_after_dot q (member_link dot pos x)))) u l
       ((q.before ++ (member_link dot pos x ∷ [])) ++ ls) k t)
       → Reaches (body (R.Links w q)) s b (q.before ++ (member_link dot pos x ∷ ls)) k t
   dotted dot pos name name_at is here member named below inside on =
@@ -76,7 +76,7 @@ module _ (w : Live) (q : LinkSpot) {k j : Demands} {s t : Point} {b : Bool} {x :
       peek here can (seen (dot_is (linking dot) is) (R.links_at w q dot pos) (take here can
       (peek named (member_readable name member) (seen (member_is (member_place name) member)
       (R.dot_at w q dot pos name_at)
-      (if_true _ below (part inside (λ u l n. part (on u l n) (λ v a n. gives (behind_one_more q.before _ ls) n))))))))
+      (if_true _ below (part inside (λ u l n. part (on u l n) (λ v a n. gives (spot_after_one_more q.before _ ls) n))))))))
 
 pub a_property : (dot : Lexeme) (pos : Position) (name : Text) (name_at : Position) (rest : Links) → LinksRead rest
     → LinksRead (form.Property dot pos name name_at rest)
@@ -85,13 +85,13 @@ a_property dot pos name name_at rest links q w k s t b m =
     dotted w q (link_list rest w) dot pos (Name name) name_at m.0 m.1.0 refl h.1.0 h.0
     (due h.1.0 refl refl (next W.uncalled_member h.1.1.0
     (λ e. if_false _ (no_other (calls (op_at (past code (past code s)))) e).0 (ret h.1.1.1)))) (λ u l n.
-    links (behind_dot q (member_link dot pos (property name name_at))) w k u t l n)
+    links (spot_after_dot q (member_link dot pos (property name name_at))) w k u t l n)
 
 method_met : (dot : Lexeme) (pos : Position) (name : Lexeme) (name_at : Position) (bang : Option Position)
     (args : Arguments) (rest : Links) (q : LinkSpot) (w : Live) (k : Demands) (s t : Point)
     → Met (W.links (form.Method dot pos name name_at bang args rest) q w k) s t
     → Met (W.method dot pos name name_at q (call_of (level_up q.settings) w name_at (By bang args)
-    (W.links rest (behind_dot q (member_link dot pos
+    (W.links rest (spot_after_dot q (member_link dot pos
     (method_tree (text_of name) name_at (is_some bang) (argument_trees args w)))) w k))) s t
 method_met dot pos name name_at None args rest q w k s t m = m
 method_met dot pos name name_at (Some bang) args rest q w k s t m = m
@@ -108,5 +108,5 @@ a_method dot pos name name_at bang args rest arguments links q w k s t b m =
     dotted w q (link_list rest w) dot pos name name_at i.0 i.1.1.0 i.1.0 h.1.0 h.0
     (due h.1.0 (member_readable name i.1.0) refl (look on.0
     (if_true _ on.1 (part (called_by bang args arguments c w name_at _ p t true h.1.1.1) (λ u l n. ret n))))) (λ u l n.
-    links (behind_dot q (member_link dot pos (method_tree (text_of name) name_at (is_some bang)
+    links (spot_after_dot q (member_link dot pos (method_tree (text_of name) name_at (is_some bang)
     (argument_trees args w)))) w k u t l n)

@@ -5,8 +5,10 @@ use Rattle.rhai_lower.specs.Nodes.{Node, Nodes, no_nodes, Properties, position_o
 use Rattle.rhai_lower.specs.declared.position.Position.{Position}
 use Rattle.rhai_grammar.specs.Delivered.{code, Point, next_at, is_memory}
 use Rattle.rhai_grammar.specs.Contexts.{Context, Live, has_room}
-use Rattle.rhai_grammar.specs.Beginnings.{Calling, WithPair, WithList, calling, calls}
-use Rattle.rhai_grammar.specs.Strengths.{Behind, behind_of, is_operator, strength}
+use Rattle.rhai_grammar.specs.declared.role.Calling.{Calling}
+use Rattle.rhai_grammar.specs.declared.role.Calling.TheVariants as calls_by
+use Rattle.rhai_grammar.specs.Beginnings.{calling, calls}
+use Rattle.rhai_grammar.specs.Strengths.{Follower, follower_of, is_operator, strength}
 use Rattle.rhai_grammar.specs.Forms.{Primary, Base, Links, Operand, Arguments, Items, Elements, Fields, Run, Just}
 use Rattle.rhai_grammar.specs.Forms.{Binary}
 use Rattle.rhai_grammar.specs.Trees.{is_variable, primary_tree, base_tree, argument_trees, tree}
@@ -21,8 +23,8 @@ use Rattle.rhai_reading.proofs.Rules.{at}
 use Rattle.rhai_reading.proofs.Shows.{Kind}
 use Rattle.rhai_reading.proofs.FormKinds.{expressions, operands, items, elements, fields, links}
 use Rattle.rhai_reading.proofs.Reaches.{Reaches}
-use Rattle.rhai_reading.proofs.Looks.{op_at, behind_at, climb}
-use Rattle.rhai_reading.proofs.Strengths.{next_goes_on}
+use Rattle.rhai_reading.proofs.Looks.{op_at, follower_at, climb}
+use Rattle.rhai_reading.proofs.Strengths.{next_continues}
 
 -- ---- what stands in the laws
 
@@ -33,24 +35,24 @@ Usable x called l = (is_memory l ≡ false) × (is_variable x ≡ true → calls
 -- what a reader does at the arguments of a call
 pub record Lists (c : Context) (w : Live) (name : Position) (bang : Bool)
     (p : Lexeme → Position → Calling → Prog (Bool × Nodes)) : Type 0 where
-  pub pair : (l : Lexeme) (pos : Position) → p l pos WithPair ≡ Take (Ret (bang, no_nodes))
-  pub list : (l : Lexeme) (pos : Position) → p l pos WithList ≡ list_on c w name bang
+  pub pair : (l : Lexeme) (pos : Position) → p l pos calls_by.Pair ≡ Take (Ret (bang, no_nodes))
+  pub list : (l : Lexeme) (pos : Position) → p l pos calls_by.List ≡ list_on c w name bang
 
 -- no operator along the right side goes on with what stands there
-abbrev pub Shut : Run → Behind → Type 0
+abbrev pub Shut : Run → Follower → Type 0
 Shut (Just x) v = Unit {0}
-Shut (Binary op pos l r) v = (next_goes_on (strength (behind_of op)) v ≡ false) × Shut r v
+Shut (Binary op pos l r) v = (next_continues (strength (follower_of op)) v ≡ false) × Shut r v
 
 -- operators that may stand on this side go on with a run of strength p
 abbrev pub Agrees : ℕ → Side → Type 0
 Agrees p side =
-    (l : Lexeme) → is_operator (behind_of l) ≡ true → side_fits side (behind_of l) ≡ true
-    → next_goes_on p (behind_of l) ≡ true
+    (l : Lexeme) → is_operator (follower_of l) ≡ true → side_fits side (follower_of l) ≡ true
+    → next_continues p (follower_of l) ≡ true
 
 -- the run's own top fits where it stands
 abbrev pub Top : Side → Run → Type 0
 Top side (Just x) = Unit {0}
-Top side (Binary op pos l r) = side_fits side (behind_of op) ≡ true
+Top side (Binary op pos l r) = side_fits side (follower_of op) ≡ true
 
 -- the level was raised there
 abbrev pub Entered : Side → Type 0
@@ -73,8 +75,8 @@ pub record Reads (f : Run) (q : Spot) (k : Demands) (s : Point) (b : Bool) (t : 
   pub known_end : verdict operator_known (next_at code end).lexeme ≡ Fine
   pub entered : Entered q.side
   pub top : Top q.side f
-  pub shut : (o : Lexeme) → is_operator (behind_of o) ≡ true → left_fits (behind_of o) f ≡ true → Shut f (behind_of o)
-  pub climbs : Shut f (behind_at end) → (p : ℕ) → Agrees p q.side → (o : Outcome Node)
+  pub shut : (o : Lexeme) → is_operator (follower_of o) ≡ true → left_fits (follower_of o) f ≡ true → Shut f (follower_of o)
+  pub climbs : Shut f (follower_at end) → (p : ℕ) → Agrees p q.side → (o : Outcome Node)
       → ((b : Bool) → Runs (body (climb (height_after q f) q.live p (tree f q.live))) (at end b) o) → (b : Bool)
       → Runs (body (climb (begins q first) q.live p first)) (at rest b) o
 

@@ -1,18 +1,18 @@
 -- Arrays and object maps: the steps to what is written.
 use Rattle.std.proofs.Common.{◌≡◌, Bool, true, false, Some, refl, sym, subst}
 use Rattle.std.specs.Prelude.{◌==◌}
-use Rattle.rhai_lower.specs.Lexemes.{Lexeme, Sign, text_of}
+use Rattle.rhai_lower.specs.Lexemes.{Lexeme, text_of}
 use Rattle.rhai_lower.specs.Nodes.{Node, Nodes, no_nodes, with_node, Properties, no_properties, with_property}
 use Rattle.rhai_lower.specs.declared.position.Position.{Position}
-use Rattle.rhai_lower.specs.declared.token.Token.TheVariants.{RightBrace, Comma}
-use Rattle.rhai_grammar.specs.Delivered.{code, item, Point, past}
+use Rattle.rhai_grammar.specs.Delivered.{code, Point, past}
 use Rattle.rhai_grammar.specs.Settings.{quoted_keys}
 use Rattle.rhai_grammar.specs.Contexts.{Context, Live, full, has_room, level_up}
+use Rattle.rhai_grammar.specs.declared.list.CommaList.TheVariants as lists
 use Rattle.rhai_grammar.specs.Literals.{item_place, property_count, is_key}
 use Rattle.rhai_grammar.specs.Forms as form
 use Rattle.rhai_grammar.specs.Forms.{Elements, Fields, Run}
 use Rattle.rhai_grammar.specs.Trees.{node_count, element_trees, field_trees, tree}
-use Rattle.rhai_grammar.specs.Demands.{Fine, Demands, Tok, ◌▸◌, verdict, Met}
+use Rattle.rhai_grammar.specs.Demands.{Fine, Demands, verdict, Met}
 use Rattle.rhai_grammar.specs.Written as W
 use Rattle.rhai_reading.specs.Reading as R
 use Rattle.rhai_reading.specs.Reading.{body}
@@ -31,12 +31,12 @@ module _ (c : Context) (w : Live) (opening : Position) (before : Nodes) {x : Nod
   -- an item, from what it comes to, and what stands after it
   element : verdict (W.item_due c.sizes.array (node_count before)) (op_at s) ≡ Fine → has_room c ≡ true
       → Reaches (body (R.Expression (level_up c) w)) s true x j t
-      → ((u : Point) (l : Bool) → Met j u t → Reaches (R.element_on c w opening before x) u l all k t)
+      → ((u : Point) (l : Bool) → Met j u t → Reaches (R.element_next c w opening (with_node before x)) u l all k t)
       → Reaches (body (R.Elements c w opening before)) s b all k t
   element due_ below e on =
       next (W.item_due c.sizes.array (node_count before)) due_ (λ fits.
-      seen (item_is (item_place c.sizes.array (node_count before) (op_at s)) fits)
-      (R.element_at c w opening before (pos_at s)) (if_true _ below (part e on)))
+      seen (item_is c.sizes.array (op_at s) (item_place c.sizes.array (node_count before) (op_at s)) fits)
+      (R.element_at c w opening before (op_at s) (pos_at s)) (if_true _ below (part e on)))
 
 pub no_element : (closing : Position) → ElementsRead (form.NoElement closing)
 no_element closing c w opening before k s t b m = due m.0 refl refl (gives (sym (added_none before)) m.1)
@@ -82,7 +82,7 @@ pub last_field : (key : Lexeme) (pos colon : Position) (f : Run) (closing : Posi
     → FieldsRead (form.LastField key pos colon f closing)
 last_field key pos colon f closing expression c w opening before k s t b m =
     part (next_key c w opening before key pos (W.expression f (level_up c) w
-    (Tok code (item (Sign RightBrace) closing) W.value_follows ▸ k)) m) (λ u l n.
+    (W.closed_at lists.Map closing k)) m) (λ u l n.
     if_true _ n.0 (part (expression (level_up c) w _ u t l n.1)
     (λ v a i. due i.0 refl refl (gives (last_property before (text_of key) pos (tree f w)) i.1))))
 
@@ -91,7 +91,7 @@ pub more_fields : (key : Lexeme) (pos colon : Position) (f : Run) (comma : Posit
 more_fields key pos colon f comma rest expression fields c w opening before k s t b m =
     let ps = with_property before (text_of key) pos (tree f w) in
     part (next_key c w opening before key pos (W.expression f (level_up c) w
-    (Tok code (item (Sign Comma) comma) W.value_follows ▸ W.fields rest ps c w opening k)) m) (λ u l n.
+    (W.comma_at lists.Map comma (W.fields rest ps c w opening k))) m) (λ u l n.
     if_true _ n.0 (part (expression (level_up c) w _ u t l n.1) (λ v a i. due i.0 refl refl
     (part (fields c w opening ps k (past code v) t false i.1)
     (λ z d h. gives (added_property before (text_of key) pos (tree f w) (field_trees rest w)) h)))))

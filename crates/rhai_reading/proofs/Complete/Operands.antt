@@ -8,14 +8,15 @@ use Rattle.rhai_grammar.specs.Causes.{Refusal}
 use Rattle.rhai_grammar.specs.Chains.{chained}
 use Rattle.rhai_grammar.specs.Delivered.{code, Item, Point, next_at, past}
 use Rattle.rhai_grammar.specs.Contexts.{Context, Live, level_up}
-use Rattle.rhai_grammar.specs.Beginnings as begin
-use Rattle.rhai_grammar.specs.Beginnings.{Beginning, beginning}
+use Rattle.rhai_grammar.specs.declared.role.Beginning.{Beginning}
+use Rattle.rhai_grammar.specs.declared.role.Beginning.TheVariants as begin
+use Rattle.rhai_grammar.specs.Beginnings.{beginning}
 use Rattle.rhai_grammar.specs.Forms as form
 use Rattle.rhai_grammar.specs.Forms.{Primary, Base, Links, Operand, Run}
 use Rattle.rhai_grammar.specs.Trees.{name_tree, base_tree}
 use Rattle.rhai_grammar.specs.Demands.{Fine, Blames, Demands, Met}
 use Rattle.rhai_grammar.specs.Written as W
-use Rattle.rhai_grammar.specs.Written.{behind_operand}
+use Rattle.rhai_grammar.specs.Written.{spot_after_operand}
 use Rattle.rhai_reading.specs.Reading as R
 use Rattle.rhai_reading.specs.Reading.{Prog, Ret, Fail, Call, operand_by, body}
 use Rattle.rhai_reading.proofs.Reaches.{Reaches, seen, next, ret, gives, look, peek, take, due, if_true, if_false, part}
@@ -63,7 +64,7 @@ word_by false false function x y d e k s t b h ok m = absurd cc
 
 -- the links behind an operand
 abbrev links_on : Context → Live → Node → Prog Node
-links_on c w y = Call (R.Links w (behind_operand c y)) (λ ls. Ret (chained y ls))
+links_on c w y = Call (R.Links w (spot_after_operand c y)) (λ ls. Ret (chained y ls))
 
 -- an operand that no sign stands before, and that is written
 opened : (c : Context) (w : Live) (ranged : Bool) {s : Point} {b : Bool} {x : Node} {k : Demands} {t : Point}
@@ -75,8 +76,8 @@ opened c w ranged {s = s} {x = x} {k = k} {t = t} e r =
     look (begun_readable (op_at s) g) (if_false _ (written ranged (op_at s) g) (plain (beginning (op_at s)) e))
   where
     plain : (v : Beginning) → is_primary v ≡ true → Reaches (operand_by c w (op_at s) (pos_at s) v) s true x k t
-    plain begin.ASign e = absurd cc
-    plain (begin.NoBeginning why) e = absurd cc
+    plain begin.Sign e = absurd cc
+    plain begin.Nothing e = absurd cc
     plain _ e = r
 
 -- ---- primaries
@@ -93,7 +94,7 @@ named name pos c w ranged called k s t b m behind =
 
 pub word : (text : Text) (pos : Position) → PrimaryRead (form.Word text pos)
 word text pos c w ranged called k s t b m behind =
-    due m.0 refl refl (next (W.word_behind c text pos) m.1.0
+    due m.0 refl refl (next (W.after_word c text pos) m.1.0
     (λ may. word_by _ _ _ _ _ _ _ k _ t _ (called_no_this text _) may m.1.1))
 
 pub group : (opening : Position) (inside : Run) (closing : Position) → ExpressionRead inside
@@ -112,7 +113,7 @@ zero range pos c w ranged called k s t b m behind =
 pub linked : (x : Base) (list : Links) → BaseRead x → LinksRead list → OperandRead (form.Linked x list)
 linked x list base links c w ranged k s t b m =
     opened c w ranged (base_begins x c w ranged _ s t m) (base c w ranged _ k s t _ (links_on c w) m (λ u l h.
-    part (links (behind_operand c (base_tree x w)) w k u t l h) (λ v a n. ret n)))
+    part (links (spot_after_operand c (base_tree x w)) w k u t l h) (λ v a n. ret n)))
 
 pub signed : (sign : Lexeme) (pos : Position) (x : Operand) → OperandRead x → OperandRead (form.Signed sign pos x)
 signed sign pos x operand c w ranged k s t b m =

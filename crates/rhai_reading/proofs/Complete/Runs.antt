@@ -9,34 +9,34 @@ use Rattle.rhai_grammar.specs.Delivered.{code, Item, item, Point, next_at, past}
 use Rattle.rhai_grammar.specs.Contexts.{Context, Live, level_up}
 use Rattle.rhai_grammar.specs.Beginnings.{beginning, is_range}
 use Rattle.rhai_grammar.specs.Operators.{operator_tree}
-use Rattle.rhai_grammar.specs.Strengths.{Behind, Operator, Unknown, Other, behind_of, is_operator, strength, is_right}
+use Rattle.rhai_grammar.specs.Strengths.{Follower, Operator, Unknown, Other, follower_of, is_operator, strength, is_right}
 use Rattle.rhai_grammar.specs.Forms.{Operand, Run, Just, Binary}
 use Rattle.rhai_grammar.specs.Trees.{operand_tree, tree}
 use Rattle.rhai_grammar.specs.Demands.{Fine, Otherwise, Demands, verdict, Met}
 use Rattle.rhai_grammar.specs.Written as W
 use Rattle.rhai_grammar.specs.Written.{Height, Side, Outermost, RightOf, Spot, outermost, right_side, height_after}
-use Rattle.rhai_grammar.specs.Written.{is_ranged, raise_behind, side_fits, left_fits, operands_fit, run_ends}
+use Rattle.rhai_grammar.specs.Written.{is_ranged, raise_after, side_fits, left_fits, operands_fit, run_ends}
 use Rattle.rhai_grammar.specs.Written.{operator_known, room_due, end_due, begun, ended}
 use Rattle.rhai_reading.specs.Reading as R
 use Rattle.rhai_reading.specs.Reading.{Goal, Whole, Expression, NextOperator, BinaryOp, Prog, Ret, Fail, Take, Call}
-use Rattle.rhai_reading.specs.Reading.{goes_on, next_operator_at, operand_by, primary_at, list_on, called_at, bang_at}
+use Rattle.rhai_reading.specs.Reading.{continues, next_operator_at, operand_by, primary_at, list_on, called_at, bang_at}
 use Rattle.rhai_reading.specs.Reading.{binary_at, binary_on, binary_next, body}
 use Rattle.rhai_reading.specs.Histories.{Outcome, Done, Runs}
 use Rattle.rhai_reading.proofs.Rules.{at, runs_ret, runs_peek, runs_look, runs_take, runs_call, runs_tail, runs_then}
 use Rattle.rhai_reading.proofs.Rules.{runs_else}
 use Rattle.rhai_reading.proofs.Complete.Law.{OperandRead, RunRead, Shut, Agrees, Top, Entered, begins, Reads}
-use Rattle.rhai_reading.proofs.Looks.{behind_at, operator_in, climb, fine}
-use Rattle.rhai_reading.proofs.Strengths.{sensible, next_goes_on, right_is, left_is, left_down, not_true}
+use Rattle.rhai_reading.proofs.Looks.{follower_at, operator_in, climb, fine}
+use Rattle.rhai_reading.proofs.Strengths.{sensible, next_continues, right_is, left_is, left_down, not_true}
 use Rattle.rhai_reading.proofs.Tokens.{operator_readable}
 
 -- what stands after an operand is looked at
 pub next_operator : (s : Point) (b : Bool) → verdict operator_known (next_at code s).lexeme ≡ Fine
-    → Runs (body NextOperator) (at s b) (Done (operator_in (behind_at s)) (at s true))
+    → Runs (body NextOperator) (at s b) (Done (operator_in (follower_at s)) (at s true))
 next_operator s b e =
     let f = fine operator_known (next_at code s).lexeme e in
-    runs_look f.0 (known (behind_at s) f.1)
+    runs_look f.0 (known (follower_at s) f.1)
   where
-    known : (v : Behind) → W.known_behind v ≡ Fine
+    known : (v : Follower) → W.known_follower v ≡ Fine
         → Runs (next_operator_at (next_at code s).at v) (at s true) (Done (operator_in v) (at s true))
     known (Operator n right) e = runs_ret (Some (n, right)) (at s true)
     known (Unknown t) e = absurd cc
@@ -44,50 +44,50 @@ next_operator s b e =
 
 -- ---- runs
 
-pub none_goes : (p : ℕ) (v : Behind) → is_operator v ≡ false → next_goes_on p v ≡ false
+pub none_goes : (p : ℕ) (v : Follower) → is_operator v ≡ false → next_continues p v ≡ false
 none_goes p (Operator n right) e = absurd cc
 none_goes p (Unknown t) e = refl
 none_goes p Other e = refl
 
-pub shut_none : (f : Run) (v : Behind) → is_operator v ≡ false → Shut f v
+pub shut_none : (f : Run) (v : Follower) → is_operator v ≡ false → Shut f v
 shut_none (Just x) v e = tt
-shut_none (Binary op pos l r) v e = (none_goes (strength (behind_of op)) v e, shut_none r v e)
+shut_none (Binary op pos l r) v e = (none_goes (strength (follower_of op)) v e, shut_none r v e)
 
-entering : (side : Side) (k : Demands) (s t : Point) → Met (raise_behind side k) s t → Entered side × Met k s t
+entering : (side : Side) (k : Demands) (s t : Point) → Met (raise_after side k) s t → Entered side × Met k s t
 entering Outermost k s t m = (tt, m)
 entering (RightOf op h) k s t m = m
 
-pub stops : (c : Context) (w : Live) (pos : Position) (p : ℕ) (x : Node) (s : Point) (v : Behind)
-    → next_goes_on p v ≡ false → Runs (binary_at c w pos p x (operator_in v)) (at s true) (Done x (at s true))
+pub stops : (c : Context) (w : Live) (pos : Position) (p : ℕ) (x : Node) (s : Point) (v : Follower)
+    → next_continues p v ≡ false → Runs (binary_at c w pos p x (operator_in v)) (at s true) (Done x (at s true))
 stops c w pos p x s (Operator n right) e = runs_else _ e (runs_ret x (at s true))
 stops c w pos p x s (Unknown t) e = runs_ret x (at s true)
 stops c w pos p x s Other e = runs_ret x (at s true)
 
 pub climb_stops : (w : Live) (h : Height) (p : ℕ) (x : Node) (s : Point) (b : Bool)
-    → verdict operator_known (next_at code s).lexeme ≡ Fine → next_goes_on p (behind_at s) ≡ false
+    → verdict operator_known (next_at code s).lexeme ≡ Fine → next_continues p (follower_at s) ≡ false
     → Runs (body (climb h w p x)) (at s b) (Done x (at s true))
 climb_stops w h p x s b known e =
     runs_call NextOperator (binary_at h.settings w h.at p x) (next_operator s b known)
-    (stops h.settings w h.at p x s (behind_at s) e)
+    (stops h.settings w h.at p x s (follower_at s) e)
 
 -- ---- operators
 
-pub is_known : (l : Lexeme) → is_operator (behind_of l) ≡ true → verdict operator_known l ≡ Fine
+pub is_known : (l : Lexeme) → is_operator (follower_of l) ≡ true → verdict operator_known l ≡ Fine
 is_known l e =
     subst (λ m. (if m then Otherwise else operator_known l) ≡ Fine) (sym (operator_readable l e))
-    (known (behind_of l) e)
+    (known (follower_of l) e)
   where
-    known : (v : Behind) → is_operator v ≡ true → W.known_behind v ≡ Fine
+    known : (v : Follower) → is_operator v ≡ true → W.known_follower v ≡ Fine
     known (Operator n right) e = refl
     known (Unknown t) e = absurd cc
     known Other e = absurd cc
 
-in_operator : (v : Behind) → is_operator v ≡ true → operator_in v ≡ Some (strength v, is_right v)
+in_operator : (v : Follower) → is_operator v ≡ true → operator_in v ≡ Some (strength v, is_right v)
 in_operator (Operator n right) e = refl
 in_operator (Unknown t) e = absurd cc
 in_operator Other e = absurd cc
 
-goes_sides : (p : ℕ) (v : Behind) → next_goes_on p v ≡ true → goes_on p (strength v) (is_right v) ≡ true
+goes_sides : (p : ℕ) (v : Follower) → next_continues p v ≡ true → continues p (strength v) (is_right v) ≡ true
 goes_sides p (Operator n right) e = e
 goes_sides p (Unknown t) e = absurd cc
 goes_sides p Other e = absurd cc
@@ -96,38 +96,38 @@ goes_sides p Other e = absurd cc
 abbrev pub StandsAt : Lexeme → Position → Point → Type 0
 StandsAt op pos s = next_at code s ≡ item op pos
 
-known_at : (op : Lexeme) (pos : Position) (s : Point) → StandsAt op pos s → is_operator (behind_of op) ≡ true
+known_at : (op : Lexeme) (pos : Position) (s : Point) → StandsAt op pos s → is_operator (follower_of op) ≡ true
     → verdict operator_known (next_at code s).lexeme ≡ Fine
 known_at op pos s at e = subst (λ (i : Item). verdict operator_known i.lexeme ≡ Fine) (sym at) (is_known op e)
 
 -- an operator that goes on
 goes : (w : Live) (h : Height) (p : ℕ) (x : Node) (op : Lexeme) (pos : Position) (s : Point) (o : Outcome Node)
-    → StandsAt op pos s → is_operator (behind_of op) ≡ true → next_goes_on p (behind_of op) ≡ true
-    → Runs (binary_on h.settings w h.at p x (strength (behind_of op)) op pos) (at s true) o → (b : Bool)
+    → StandsAt op pos s → is_operator (follower_of op) ≡ true → next_continues p (follower_of op) ≡ true
+    → Runs (binary_on h.settings w h.at p x (strength (follower_of op)) op pos) (at s true) o → (b : Bool)
     → Runs (body (climb h w p x)) (at s b) o
 goes w h p x op pos s o stands is on r b =
-    let v = behind_of op in
-    let some : operator_in (behind_at s) ≡ Some (strength v, is_right v) = ap
-    (λ (i : Item). operator_in (behind_of i.lexeme)) stands ∙ in_operator v is in
+    let v = follower_of op in
+    let some : operator_in (follower_at s) ≡ Some (strength v, is_right v) = ap
+    (λ (i : Item). operator_in (follower_of i.lexeme)) stands ∙ in_operator v is in
     runs_call NextOperator (binary_at h.settings w h.at p x) (next_operator s b (known_at op pos s stands is))
     (subst (λ v. Runs (binary_at h.settings w h.at p x v) (at s true) o) (sym some)
     (runs_then (Ret x) (goes_sides p v on) (runs_peek (item op pos) stands (operator_readable op is) r)))
 
 step : (q : Spot) (op : Lexeme) (pos : Position) (l r : Run) (k : Demands) (p : ℕ) (s t : Point) (o : Outcome Node)
-    → is_operator (behind_of op) ≡ true → next_goes_on p (behind_of op) ≡ true → StandsAt op pos s
+    → is_operator (follower_of op) ≡ true → next_continues p (follower_of op) ≡ true → StandsAt op pos s
     → (right : Reads r (right_side op (height_after q l) q.live) (operands_fit op (tree l q.live) (tree r q.live) k)
-    (past code s) false t) → Shut r (behind_at right.end)
-    → next_goes_on (strength (behind_of op)) (behind_at right.end) ≡ false
+    (past code s) false t) → Shut r (follower_at right.end)
+    → next_continues (strength (follower_of op)) (follower_at right.end) ≡ false
     → ((b : Bool) → Runs (body (climb (height_after q (Binary op pos l r)) q.live p (tree (Binary op pos l r) q.live)))
     (at right.end b) o) → (b : Bool) → Runs (body (climb (height_after q l) q.live p (tree l q.live))) (at s b) o
 step q op pos l r k p s t o is on stands right shut stop h b =
     let w = q.live in
     let u = height_after q l in
-    let n = strength (behind_of op) in
+    let n = strength (follower_of op) in
     let x = tree l w in
     let y = tree r w in
     let side = right_side op u w in
-    let agrees : Agrees n (RightOf op u) = λ m operator fits. right_is (behind_of op) (behind_of m) (sensible op)
+    let agrees : Agrees n (RightOf op u) = λ m operator fits. right_is (follower_of op) (follower_of m) (sensible op)
     (sensible m) operator ∙ fits in
     let tighter : Runs (body (climb (begins side right.first) w n right.first)) (at right.rest true)
     (Done y (at right.end true)) =
@@ -142,16 +142,16 @@ step q op pos l r k p s t o is on stands right shut stop h b =
     (runs_then _ right.met.1.0 (runs_then _ right.met.1.1.0
     (runs_tail (climb (height_after q (Binary op pos l r)) w p (operator_tree op pos x y)) (h true))))))))) b
 
-shut_left : (op : Lexeme) (pos : Position) (l r : Run) (o : Lexeme) → is_operator (behind_of o) ≡ true
-    → Shut r (behind_of o) → left_fits (behind_of o) (Binary op pos l r) ≡ true → Shut (Binary op pos l r) (behind_of o)
-shut_left op pos l r o is h e = (not_true _ (sym (left_is (behind_of o) (behind_of op) (sensible o) is) ∙ e), h)
+shut_left : (op : Lexeme) (pos : Position) (l r : Run) (o : Lexeme) → is_operator (follower_of o) ≡ true
+    → Shut r (follower_of o) → left_fits (follower_of o) (Binary op pos l r) ≡ true → Shut (Binary op pos l r) (follower_of o)
+shut_left op pos l r o is h e = (not_true _ (sym (left_is (follower_of o) (follower_of op) (sensible o) is) ∙ e), h)
 
 -- the right operand's top stops there too
-down : (o op : Lexeme) (u : Height) (pos : Position) (l r : Run) → left_fits (behind_of o) (Binary op pos l r) ≡ true
-    → Top (RightOf op u) r → left_fits (behind_of o) r ≡ true
+down : (o op : Lexeme) (u : Height) (pos : Position) (l r : Run) → left_fits (follower_of o) (Binary op pos l r) ≡ true
+    → Top (RightOf op u) r → left_fits (follower_of o) r ≡ true
 down o op u pos l (Just x) e h = refl
 down o op u pos l (Binary inner at a b) e h =
-    left_down (behind_of o) (behind_of op) (behind_of inner) (sensible o) (sensible op) e h
+    left_down (follower_of o) (follower_of op) (follower_of inner) (sensible o) (sensible op) e h
 
 pub just : (x : Operand) → OperandRead x → RunRead (Just x)
 just x operand q k s t b m =
@@ -196,6 +196,6 @@ binary op pos l r run_left run_right q k s t b m =
       top = side;
       shut = λ o other h. shut_left op pos l r o other (right.shut o other (down o op u pos l r h right.top)) h;
       climbs = λ h p a o next.
-          let shut = subst (λ (i : Item). Shut l (behind_of i.lexeme)) (sym stands) (left.shut op is fits) in
+          let shut = subst (λ (i : Item). Shut l (follower_of i.lexeme)) (sym stands) (left.shut op is fits) in
           left.climbs shut p a o (step q op pos l r k p left.end t o is (a op is side) stands right h.1 h.0 next);
     }

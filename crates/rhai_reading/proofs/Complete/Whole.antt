@@ -3,17 +3,17 @@ use Rattle.std.proofs.Common.{◌≡◌, Bool, true, false, refl, subst}
 use Rattle.rhai_lower.specs.Nodes.{Node}
 use Rattle.rhai_grammar.specs.Delivered.{Point, is_end}
 use Rattle.rhai_grammar.specs.Contexts.{Context, Live, has_room, level_up}
-use Rattle.rhai_grammar.specs.Strengths.{Behind, Operator, Unknown, Other, behind_of, is_operator}
+use Rattle.rhai_grammar.specs.Strengths.{Follower, Operator, Unknown, Other, follower_of, is_operator}
 use Rattle.rhai_grammar.specs.Forms.{Run}
 use Rattle.rhai_grammar.specs.Trees.{tree}
 use Rattle.rhai_grammar.specs.Demands.{Fine, Nothing, ◌▸◌, Next}
 use Rattle.rhai_grammar.specs.Written as W
 use Rattle.rhai_grammar.specs.Written.{Spot, Height, Side, Outermost, RightOf, Spot, outermost, right_side}
-use Rattle.rhai_grammar.specs.Written.{height_after, is_ranged, raise_behind, side_fits, left_fits, operands_fit}
+use Rattle.rhai_grammar.specs.Written.{height_after, is_ranged, raise_after, side_fits, left_fits, operands_fit}
 use Rattle.rhai_grammar.specs.Written.{run_ends, operator_known, room_due, end_due, begun, ended}
 use Rattle.rhai_reading.specs.Reading as R
 use Rattle.rhai_reading.specs.Reading.{Goal, Whole, Expression, NextOperator, BinaryOp, Prog, Ret, Fail, Take, Call}
-use Rattle.rhai_reading.specs.Reading.{goes_on, next_operator_at, operand_by, primary_at, list_on, called_at, bang_at}
+use Rattle.rhai_reading.specs.Reading.{continues, next_operator_at, operand_by, primary_at, list_on, called_at, bang_at}
 use Rattle.rhai_reading.specs.Reading.{binary_at, binary_on, binary_next, body}
 use Rattle.rhai_reading.specs.Histories.{Done, Runs}
 use Rattle.rhai_reading.proofs.Rules.{at, runs_ret, runs_look, runs_call, runs_tail, runs_then}
@@ -21,10 +21,10 @@ use Rattle.rhai_reading.proofs.Reaches.{Reaches}
 use Rattle.rhai_grammar.specs.Written as W
 use Rattle.rhai_reading.proofs.Complete.Law.{ExpressionRead, RunRead, Agrees, begins}
 use Rattle.rhai_reading.proofs.Complete.Runs.{none_goes, shut_none, climb_stops}
-use Rattle.rhai_reading.proofs.Looks.{op_at, behind_at, climb, fine, or_wrong}
+use Rattle.rhai_reading.proofs.Looks.{op_at, follower_at, climb, fine, or_wrong}
 use Rattle.rhai_reading.proofs.Strengths.{sensible, outer}
 
-no_operator : (v : Behind) → W.ended_behind v ≡ Fine → is_operator v ≡ false
+no_operator : (v : Follower) → W.ended_follower v ≡ Fine → is_operator v ≡ false
 no_operator (Operator n right) e = absurd cc
 no_operator (Unknown t) e = absurd cc
 no_operator Other e = refl
@@ -35,9 +35,9 @@ expression f run c w k s t b m =
     let q = outermost (level_up c) w in
     let reads = run q (ended k) s t true m.1 in
     let room = fine (room_due c) (op_at s) m.0 in
-    let ends = no_operator (behind_at reads.end) (fine run_ends (op_at reads.end) reads.met.0).1 in
-    let agrees : Agrees 1 Outermost = λ l is e. outer (behind_of l) (sensible l) is in
-    let stop = none_goes 1 (behind_at reads.end) ends in
+    let ends = no_operator (follower_at reads.end) (fine run_ends (op_at reads.end) reads.met.0).1 in
+    let agrees : Agrees 1 Outermost = λ l is e. outer (follower_of l) (sensible l) is in
+    let stop = none_goes 1 (follower_at reads.end) ends in
     record {
       end = reads.end;
       met = reads.met.1;
@@ -45,7 +45,7 @@ expression f run c w k s t b m =
       runs = runs_look room.0 (runs_then _ (or_wrong (has_room c) _ room.1)
           (runs_call (R.Operand (level_up c) w false) _ reads.operand
           (runs_tail (climb (begins q reads.first) w 1 reads.first)
-          (reads.climbs (shut_none f (behind_at reads.end) ends) 1 agrees _
+          (reads.climbs (shut_none f (follower_at reads.end) ends) 1 agrees _
           (λ a. climb_stops w (height_after q f) 1 (tree f w) reads.end a reads.known_end stop) reads.looked))));
     }
 

@@ -9,8 +9,11 @@ use Rattle.rhai_lower.specs.declared.position.Position.{Position}
 use Rattle.rhai_lower.specs.declared.token.Token.TheVariants as token
 use Rattle.rhai_grammar.specs.Delivered.{code, item, Point, next_at, past, is_memory}
 use Rattle.rhai_grammar.specs.Contexts.{Context, Live, level_up}
-use Rattle.rhai_grammar.specs.Beginnings as begin
-use Rattle.rhai_grammar.specs.Beginnings.{Calling, calling, calls, is_call, Following, following, is_close, no_argument}
+use Rattle.rhai_grammar.specs.declared.role.Calling.{Calling}
+use Rattle.rhai_grammar.specs.declared.role.Calling.TheVariants as calls_by
+use Rattle.rhai_grammar.specs.declared.list.CommaList.TheVariants as lists
+use Rattle.rhai_grammar.specs.Beginnings.{calling, calls, is_call}
+use Rattle.rhai_grammar.specs.CommaLists.{after_part, is_close, no_argument}
 use Rattle.rhai_grammar.specs.Forms as form
 use Rattle.rhai_grammar.specs.Forms.{Primary, Base, Arguments, Run}
 use Rattle.rhai_grammar.specs.Trees.{primary_tree, base_tree, argument_trees, item_trees, tree, is_variable, call_tree}
@@ -18,12 +21,13 @@ use Rattle.rhai_grammar.specs.Demands.{Verdict, Demands}
 use Rattle.rhai_grammar.specs.Written as W
 use Rattle.rhai_reading.specs.Reading as R
 use Rattle.rhai_reading.specs.Reading.{Ret, Take, body}
-use Rattle.rhai_reading.proofs.Beginnings.{called, followed, closed}
+use Rattle.rhai_reading.proofs.Beginnings.{called}
+use Rattle.rhai_reading.proofs.Dues.{closed, separated}
 use Rattle.rhai_reading.proofs.Lists.{added, added_last}
 use Rattle.rhai_reading.proofs.Looks.{op_at, pos_at}
 use Rattle.rhai_reading.proofs.Paths.{Aim, Way, ◌▹◌}
 use Rattle.rhai_reading.proofs.Shows.{Histories, Goes, wrong, fine, fails, take, look, either, gives, done, refuse}
-use Rattle.rhai_reading.proofs.Shows.{raise, part, ends, separated, Passed}
+use Rattle.rhai_reading.proofs.Shows.{raise, part, ends, Passed}
 use Rattle.rhai_reading.proofs.FormKinds.{Enclosed, Closed, Listing, enclosed_of, enclosed_trees, CallForm, By, call_of}
 use Rattle.rhai_reading.proofs.FormKinds.{call_answer, tree_before, bases, callings, primaries, items, enclosed}
 use Rattle.rhai_reading.proofs.Sound.Law.{AllSound, any_items}
@@ -51,11 +55,11 @@ module _ {call : Histories} (ih : AllSound call) (c : Context) (w : Live) (name 
   module _ (bang : Option Position) (others : Lexeme → Verdict) (u : Point) (b : Bool)
       (lead : (args : Arguments) (k : Demands) (o : Aim) → Way (W.arguments args others c w name k) u o
       → Way (call_of c w name (By bang args) k) s o) where
-    pair : calling (op_at u) ≡ begin.WithPair → Goes call (callings c w name) s
+    pair : calling (op_at u) ≡ calls_by.Pair → Goes call (callings c w name) s
         (Take (Ret (is_some bang, no_nodes))) u b
     pair e = take (done (By bang (form.EmptyPair (pos_at u))) (λ k o r. lead _ _ _ (called u e ▹ r)))
 
-    list : calling (op_at u) ≡ begin.WithList → Goes call (callings c w name) s (R.list_on c w name (is_some bang)) u b
+    list : calling (op_at u) ≡ calls_by.List → Goes call (callings c w name) s (R.list_on c w name (is_some bang)) u b
     list e =
         take (ends (ih.of (R.Arguments c w name) (past code u) false) (λ l. By bang (with_paren (pos_at u) l))
         (λ t l. ap (λ (ns : Nodes). (is_some bang, ns)) (paren_trees w (pos_at u) l))
@@ -66,17 +70,17 @@ module _ {call : Histories} (ih : AllSound call) (c : Context) (w : Live) (name 
       → is_memory (op_at (past code s)) ≡ false
       → Goes call (callings c w name) s (R.bang_at c w name (op_at (past code s)) (pos_at (past code s)) v)
       (past code s) true
-  bang_by here begin.WithPair e m = pair (Some (pos_at s)) W.list_due (past code s) true (λ args k o r. here ▹ r) e
-  bang_by here begin.WithList e m = list (Some (pos_at s)) W.list_due (past code s) true (λ args k o r. here ▹ r) e
-  bang_by here begin.WithBang e m = refuse (By (Some (pos_at s)) (form.EmptyPair nowhere)) (λ k. here ▹ wrong m (rw e))
-  bang_by here begin.NoCall e m = refuse (By (Some (pos_at s)) (form.EmptyPair nowhere)) (λ k. here ▹ wrong m (rw e))
+  bang_by here calls_by.Pair e m = pair (Some (pos_at s)) W.list_due (past code s) true (λ args k o r. here ▹ r) e
+  bang_by here calls_by.List e m = list (Some (pos_at s)) W.list_due (past code s) true (λ args k o r. here ▹ r) e
+  bang_by here calls_by.Bang e m = refuse (By (Some (pos_at s)) (form.EmptyPair nowhere)) (λ k. here ▹ wrong m (rw e))
+  bang_by here calls_by.Nothing e m = refuse (By (Some (pos_at s)) (form.EmptyPair nowhere)) (λ k. here ▹ wrong m (rw e))
 
   called_by : (v : Calling) → calling (op_at s) ≡ v → is_call v ≡ true
       → Goes call (callings c w name) s (R.called_at c w name v) s true
-  called_by begin.WithPair e on = pair None W.anything s true (λ args k o r. r) e
-  called_by begin.WithList e on = list None W.anything s true (λ args k o r. r) e
-  called_by begin.WithBang e on = take (look (λ n. bang_by (called s e) (calling (op_at (past code s))) refl n))
-  called_by begin.NoCall e on = absurd cc
+  called_by calls_by.Pair e on = pair None W.anything s true (λ args k o r. r) e
+  called_by calls_by.List e on = list None W.anything s true (λ args k o r. r) e
+  called_by calls_by.Bang e on = take (look (λ n. bang_by (called s e) (calling (op_at (past code s))) refl n))
+  called_by calls_by.Nothing e on = absurd cc
 
   pub calling_by : (b : Bool) → calls (op_at s) ≡ true → Goes call (callings c w name) s (body (R.Called c w name)) s b
   calling_by b on = look (λ m. called_by (calling (op_at s)) refl on)
@@ -136,7 +140,8 @@ module _ {call : Histories} (ih : AllSound call) (c : Context) (w : Live) where
       → Goes call (enclosed c w name) s (body (R.Arguments c w name)) s b
   arguments name s b = look (λ m.
       either (no_argument (op_at s)) (λ none. refuse (Closed nowhere) (λ k. wrong m (rw none))) (λ some.
-      either (is_close (following (op_at s))) (λ close. take (done (Closed (pos_at s)) (λ k o r. closed s close ▹ r)))
+      either (is_close (after_part lists.Arguments (op_at s)))
+      (λ close. take (done (Closed (pos_at s)) (λ k o r. closed lists.Arguments s close ▹ r)))
       (λ due.
       raise c (Listing any_items) (λ high k. fine m (rw (some, due)) ▹ fails high) (λ below.
       ends (ih.of (R.Items (level_up c) w no_nodes) s true) Listing (λ t l. refl)
@@ -147,12 +152,11 @@ module _ {call : Histories} (ih : AllSound call) (c : Context) (w : Live) where
   item_list before s b =
       part (ih.of (R.Expression c w) s b) (λ f. form.Last f nowhere) (λ f k o r. r _) (λ f t a G.
       let ns = with_node before (tree f w) in
-      separated following (R.items_at c w ns) (λ why. refl) (form.Last f nowhere) (λ why e m k. G.on (wrong m (rw e)))
-      (λ comma. take (look (λ m. either (is_close (following (op_at (past code t))))
+      separated lists.Arguments (form.Last f nowhere) (λ other k. G.on other.way)
+      (λ comma. look (λ m. either (is_close (after_part lists.Arguments (op_at (past code t))))
       (λ close. take (gives (form.Trailing f (pos_at t) (pos_at (past code t))) (sym (added_last before (tree f w)))
-      (λ k o r. G.on (followed t comma ▹ closed (past code t) close ▹ r))))
+      (λ k o r. G.on (comma ▹ closed lists.Arguments (past code t) close ▹ r))))
       (λ more. ends (ih.of (R.Items c w ns) (past code t) true) (form.More f (pos_at t))
       (λ v l. sym (added before (tree f w) (item_trees l w)))
-      (λ l k o r. G.on (followed t comma ▹ fine m (rw more) ▹ r))))))
-      (λ close. take (gives (form.Last f (pos_at t)) (sym (added_last before (tree f w)))
-      (λ k o r. G.on (followed t close ▹ r)))))
+      (λ l k o r. G.on (comma ▹ fine m (rw more) ▹ r)))))
+      (λ close. gives (form.Last f (pos_at t)) (sym (added_last before (tree f w))) (λ k o r. G.on (close ▹ r))))

@@ -14,8 +14,9 @@ use Rattle.rhai_grammar.specs.Causes.{Refusal, refusal}
 use Rattle.rhai_grammar.specs.Delivered.{code, Point, past, is_memory}
 use Rattle.rhai_grammar.specs.Seen.{is_at_last}
 use Rattle.rhai_grammar.specs.Contexts.{Context, Live, has_room, level_up}
-use Rattle.rhai_grammar.specs.Beginnings as begin
-use Rattle.rhai_grammar.specs.Beginnings.{calls, Linking, linking, is_bracket, is_dot, is_name}
+use Rattle.rhai_grammar.specs.declared.role.Linking.{Linking}
+use Rattle.rhai_grammar.specs.declared.role.Linking.TheVariants as link
+use Rattle.rhai_grammar.specs.Beginnings.{calls, linking, is_bracket, is_dot, is_name}
 use Rattle.rhai_grammar.specs.Beginnings.{MemberPlace, AMember, NoMember, member_place, is_member}
 use Rattle.rhai_grammar.specs.Chains as chain
 use Rattle.rhai_grammar.specs.Chains.{Link, LinkKind, link_fault, last_fault, index_refusal}
@@ -25,12 +26,12 @@ use Rattle.rhai_grammar.specs.Forms.{Links, Run}
 use Rattle.rhai_grammar.specs.Trees.{link_list, tree, bracket_link, member_link, method_tree}
 use Rattle.rhai_grammar.specs.Demands.{Demands}
 use Rattle.rhai_grammar.specs.Written as W
-use Rattle.rhai_grammar.specs.Written.{LinkSpot, behind_bracket, behind_dot}
+use Rattle.rhai_grammar.specs.Written.{LinkSpot, spot_after_bracket, spot_after_dot}
 use Rattle.rhai_reading.specs.Reading as R
 use Rattle.rhai_reading.specs.Reading.{body}
 use Rattle.rhai_reading.proofs.Beginnings.{name_is, word_is}
 use Rattle.rhai_reading.proofs.Dues.{expect}
-use Rattle.rhai_reading.proofs.Lists.{behind_one_more}
+use Rattle.rhai_reading.proofs.Lists.{spot_after_one_more}
 use Rattle.rhai_reading.proofs.Looks.{op_at, pos_at}
 use Rattle.rhai_reading.proofs.Paths.{Fits, Aim, Way, ◌▹◌, Lost}
 use Rattle.rhai_reading.proofs.Shows.{Histories, Goes, ill, blamed, fine, fails, take, look, either, gives, done}
@@ -131,9 +132,9 @@ with_member dot pos (AMethod name is name_at (By bang args)) rest = form.Method 
 member_links : (w : Live) (dot : Lexeme) (pos : Position) (before : List Link) (f : MemberForm) (rest : Links)
     → before ++ link_list (with_member dot pos f rest) w ≡
     (before ++ (member_link dot pos (member_tree w f) ∷ [])) ++ link_list rest w
-member_links w dot pos before (AProperty name name_at) rest = sym (behind_one_more before _ (link_list rest w))
+member_links w dot pos before (AProperty name name_at) rest = sym (spot_after_one_more before _ (link_list rest w))
 member_links w dot pos before (AMethod name is name_at (By bang args)) rest =
-    sym (behind_one_more before _ (link_list rest w))
+    sym (spot_after_one_more before _ (link_list rest w))
 
 module _ {call : Histories} (ih : AllSound call) (w : Live) (q : LinkSpot) (s : Point) where
   -- after the last link
@@ -145,7 +146,7 @@ module _ {call : Histories} (ih : AllSound call) (w : Live) (q : LinkSpot) (s : 
   dot_way : is_dot (linking (op_at s)) ≡ true → Fits W.member_due (past code s) → has_room q.settings ≡ true
       → (f : MemberForm) (rest : Links) (k : Demands) (o : Aim)
       → Way (member_of (level_up q.settings) w f (W.links rest
-      (behind_dot q (member_link (op_at s) (pos_at s) (member_tree w f))) w k)) (past code s) o
+      (spot_after_dot q (member_link (op_at s) (pos_at s) (member_tree w f))) w k)) (past code s) o
       → Way (W.links (with_member (op_at s) (pos_at s) f rest) q w k) s o
   dot_way dot due below (AProperty name pos) rest k o r = dot ▹ refl ▹ due ▹ below ▹ r
   dot_way dot due below (AMethod name is pos (By None args)) rest k o r = dot ▹ is ▹ refl ▹ due ▹ below ▹ r
@@ -162,14 +163,14 @@ module _ {call : Histories} (ih : AllSound call) (w : Live) (q : LinkSpot) (s : 
       (λ high k. dot ▹ refl ▹ due ▹ fails high) (λ below.
       first (ih.of (R.Member (level_up q.settings) w) t true (ap is_member e)) (with_member (op_at s) (pos_at s)) form.NoLink
       (dot_way dot due below) (λ f u a.
-      ends (ih.of (R.Links w (behind_dot q (member_link (op_at s) (pos_at s) (member_tree w f)))) u a) (λ rest. rest)
+      ends (ih.of (R.Links w (spot_after_dot q (member_link (op_at s) (pos_at s) (member_tree w f)))) u a) (λ rest. rest)
       (λ v rest. member_links w (op_at s) (pos_at s) q.before f rest) (λ rest k o r. r)))
   dot_by dot (NoMember why) e m =
       refuse (form.Property (op_at s) (pos_at s) [] nowhere form.NoLink) (λ k. dot ▹ refl ▹ ill m (rw e))
 
   links_by : (v : Linking) → linking (op_at s) ≡ v → is_memory (op_at s) ≡ false
       → Goes call (links w q) s (R.links_at w q (op_at s) (pos_at s) v) s true
-  links_by begin.ABracket e m =
+  links_by link.Bracket e m =
       let bracket = ap is_bracket e in
       let any = form.Bracket (op_at s) (pos_at s) any_run nowhere form.NoLink in
       take (raise q.brackets any (λ high k. bracket ▹ refl ▹ fails high)
@@ -177,10 +178,10 @@ module _ {call : Histories} (ih : AllSound call) (w : Live) (q : LinkSpot) (s : 
       first (ih.of (R.Index (level_up (level_up q.brackets)) w q.indexed) (past code s) false)
       (λ f rest. form.Bracket (op_at s) (pos_at s) f.index f.closing rest) form.NoLink
       (λ f rest k o r. bracket ▹ refl ▹ below ▹ deeper ▹ r) (λ f u a.
-      ends (ih.of (R.Links w (behind_bracket q (bracket_link (op_at s) (pos_at s) (tree f.index w)))) u a)
-      (λ rest. rest) (λ v rest. sym (behind_one_more q.before _ (link_list rest w))) (λ rest k o r. r)))))
-  links_by begin.ADot e m = take (look (λ n. dot_by (ap is_dot e) (member_place (op_at (past code s))) refl n))
-  links_by begin.NoLinking e m = links_end (fine m (rw e)) (last_fault q.before) refl
+      ends (ih.of (R.Links w (spot_after_bracket q (bracket_link (op_at s) (pos_at s) (tree f.index w)))) u a)
+      (λ rest. rest) (λ v rest. sym (spot_after_one_more q.before _ (link_list rest w))) (λ rest k o r. r)))))
+  links_by link.Dot e m = take (look (λ n. dot_by (ap is_dot e) (member_place (op_at (past code s))) refl n))
+  links_by link.Nothing e m = links_end (fine m (rw e)) (last_fault q.before) refl
 
   pub link_chain : (b : Bool) → Goes call (links w q) s (body (R.Links w q)) s b
   link_chain b = look (λ m. links_by (linking (op_at s)) refl m)

@@ -8,8 +8,8 @@ use Rattle.rhai_grammar.specs.Causes.{Refusal}
 use Rattle.rhai_grammar.specs.Delivered.{Point}
 use Rattle.rhai_grammar.specs.Seen.{StandsAtLast}
 use Rattle.rhai_grammar.specs.Contexts.{Context, Live}
-use Rattle.rhai_grammar.specs.Beginnings.{beginning, is_sign, closes, calls, member_place, is_member}
-use Rattle.rhai_grammar.specs.Strengths.{Behind, behind_of, strength}
+use Rattle.rhai_grammar.specs.Beginnings.{beginning, is_sign, omits_operand, calls, member_place, is_member}
+use Rattle.rhai_grammar.specs.Strengths.{Follower, follower_of, strength}
 use Rattle.rhai_grammar.specs.Forms as form
 use Rattle.rhai_grammar.specs.Forms.{Primary, Base, Links, Operand, Arguments, Items, Elements, Fields, Run, Just}
 use Rattle.rhai_grammar.specs.Forms.{Binary}
@@ -22,23 +22,23 @@ use Rattle.rhai_reading.specs.Reading.{Goal, Val}
 use Rattle.rhai_reading.specs.Histories.{State, Outcome}
 use Rattle.rhai_reading.proofs.Joins.{cursor}
 use Rattle.rhai_reading.proofs.Rules.{at}
-use Rattle.rhai_reading.proofs.Strengths.{next_goes_on}
+use Rattle.rhai_reading.proofs.Strengths.{next_continues}
 use Rattle.rhai_reading.proofs.FormKinds.{runs, operands, primaries, tree_before, bases, expressions, enclosed, items}
 use Rattle.rhai_reading.proofs.FormKinds.{callings, elements, fields, next_keys, links, indices, members}
-use Rattle.rhai_reading.proofs.Looks.{op_at, behind_at, operator_in}
+use Rattle.rhai_reading.proofs.Looks.{op_at, follower_at, operator_in}
 use Rattle.rhai_reading.proofs.Paths.{Fits, Fails, Way, Lost}
 use Rattle.rhai_reading.proofs.Shows.{Histories, Ensures, Tells, Halts, Answers, Passed}
 
 -- ---- runs
 
 -- the operator at the top doesn't go on with what stands there
-abbrev pub Ended : Run → Behind → Type 0
+abbrev pub Ended : Run → Follower → Type 0
 Ended (Just x) v = Unit {0}
-Ended (Binary op pos l r) v = next_goes_on (strength (behind_of op)) v ≡ false
+Ended (Binary op pos l r) v = next_continues (strength (follower_of op)) v ≡ false
 
 -- what goes on with p fits on this side
 abbrev pub Suits : ℕ → Side → Type 0
-Suits p side = (l : Lexeme) → next_goes_on p (behind_of l) ≡ true → side_fits side (behind_of l) ≡ true
+Suits p side = (l : Lexeme) → next_continues p (follower_of l) ≡ true → side_fits side (follower_of l) ≡ true
 
 -- A run was read as far as s, where it is still to be seen whether a reserved symbol stands.
 pub record Stands (q : Spot) (from : Point) (L : Run) (s : Point) : Type 0 where
@@ -50,7 +50,7 @@ pub record RunRead (q : Spot) (p : ℕ) (from : Point) (x : Node) (t : Point) : 
   pub form : Run
   pub is : tree form q.live ≡ x
   pub passes : Passed (runs q) form from t
-  pub off : next_goes_on p (behind_at t) ≡ false
+  pub off : next_continues p (follower_at t) ≡ false
   pub known : Fits operator_known t
 
 -- ---- the whole
@@ -68,7 +68,7 @@ Sound (R.Whole c w) s o = Ensures (WholeRead c w s) (WholeHalts c w s) o
 Sound (R.Expression c w) s o = Answers (expressions c w) s o
 Sound (R.Operand c w ranged) s o = Answers (operands c w ranged) s o
 Sound (R.Primary c w) s o =
-    (ranged : Bool) → (ranged && closes (op_at s)) ≡ false → is_sign (beginning (op_at s)) ≡ false
+    (ranged : Bool) → (ranged && omits_operand (op_at s)) ≡ false → is_sign (beginning (op_at s)) ≡ false
     → Answers (primaries c w ranged) s o
 Sound (R.Postfix c w x) s o =
     (ranged : Bool) (from : Point) (p : Primary) → tree_before w s p ≡ x → Passed (primaries c w ranged) p from s
@@ -83,11 +83,11 @@ Sound (R.Elements c w opening before) s o = Answers (elements c w opening before
 Sound (R.Fields c w opening before) s o = Answers (fields c w opening before) s o
 Sound (R.NextKey c before) s o = Answers (next_keys c before) s o
 Sound R.NextOperator s o =
-    Tells (λ v t. (t ≡ s) × (v ≡ operator_in (behind_at s)) × Fits operator_known s)
+    Tells (λ v t. (t ≡ s) × (v ≡ operator_in (follower_at s)) × Fits operator_known s)
     (λ e u. Fails (Next operator_known) s e × (u.point ≡ s) × StandsAtLast e (cursor u)) o
 Sound (R.BinaryOp c w pos p lhs) s o =
     (q : Spot) (from : Point) (L : Run) → q.live ≡ w → tree L q.live ≡ lhs
-    → height_after q L ≡ record { settings = c; at = pos } → Suits p q.side → Ended L (behind_at s) → Stands q from L s
+    → height_after q L ≡ record { settings = c; at = pos } → Suits p q.side → Ended L (follower_at s) → Stands q from L s
     → Tells (RunRead q p from) (Halts (runs q) from) o
 
 pub record AllSound (call : Histories) : Type 0 where

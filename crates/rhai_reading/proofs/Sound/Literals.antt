@@ -8,8 +8,10 @@ use Rattle.rhai_lower.specs.declared.position.Position.{Position}
 use Rattle.rhai_grammar.specs.declared.due.DueToken.TheVariants as due
 use Rattle.rhai_grammar.specs.Delivered.{code, Point, past, is_memory}
 use Rattle.rhai_grammar.specs.Contexts.{Context, Live, full, level_up}
-use Rattle.rhai_grammar.specs.Literals.{ItemPlace, ItemsEnd, AnItem, NoItem, item_place, behind_item, KeyPlace}
-use Rattle.rhai_grammar.specs.Literals.{FieldsEnd, AKey, NoKey, is_key, has_key, property_count, behind_value}
+use Rattle.rhai_grammar.specs.declared.list.CommaList.TheVariants as lists
+use Rattle.rhai_grammar.specs.declared.role.ItemPlace.{ItemPlace}
+use Rattle.rhai_grammar.specs.declared.role.ItemPlace.TheVariants as place
+use Rattle.rhai_grammar.specs.Literals.{item_place, KeyPlace, FieldsEnd, AKey, NoKey, is_key, has_key, property_count}
 use Rattle.rhai_grammar.specs.Forms as form
 use Rattle.rhai_grammar.specs.Forms.{Fields}
 use Rattle.rhai_grammar.specs.Trees.{element_trees, field_trees, tree, node_count}
@@ -17,14 +19,14 @@ use Rattle.rhai_grammar.specs.Demands.{Demands}
 use Rattle.rhai_grammar.specs.Written as W
 use Rattle.rhai_reading.specs.Reading as R
 use Rattle.rhai_reading.specs.Reading.{body}
-use Rattle.rhai_reading.proofs.Beginnings.{placed, keyed, item_followed, value_followed}
-use Rattle.rhai_reading.proofs.Dues.{expect}
+use Rattle.rhai_reading.proofs.Beginnings.{placed, keyed}
+use Rattle.rhai_reading.proofs.Dues.{expect, separated}
 use Rattle.rhai_reading.proofs.Lists.{added, added_last, added_none, one_more_node, added_property, last_property}
 use Rattle.rhai_reading.proofs.Lists.{no_property}
 use Rattle.rhai_reading.proofs.Looks.{op_at, pos_at}
 use Rattle.rhai_reading.proofs.Paths.{Fits, Aim, Way, ◌▹◌}
 use Rattle.rhai_reading.proofs.Shows.{Histories, Goes, wrong, ill, fine, fails, take, look, either, gives, done, refuse}
-use Rattle.rhai_reading.proofs.Shows.{halt, raise, part, ends, separated, Passed}
+use Rattle.rhai_reading.proofs.Shows.{halt, raise, part, ends, Passed}
 use Rattle.rhai_reading.proofs.FormKinds.{elements, fields, KeyForm, NoMore, Keyed, key_answer, key_of, next_keys}
 use Rattle.rhai_reading.proofs.Sound.Law.{AllSound, any_run}
 
@@ -32,25 +34,24 @@ module _ {call : Histories} (ih : AllSound call) (c : Context) (w : Live) (openi
     (s : Point) where
   element_by : (v : ItemPlace) → item_place c.sizes.array (node_count before) (op_at s) ≡ v
       → is_memory (op_at s) ≡ false
-      → Goes call (elements c w opening before) s (R.element_at c w opening before (pos_at s) v) s true
-  element_by ItemsEnd e m =
+      → Goes call (elements c w opening before) s (R.element_at c w opening before (op_at s) (pos_at s) v) s true
+  element_by place.End e m =
       take (gives (form.NoElement (pos_at s)) (added_none before)
       (λ k o r. placed c.sizes.array (node_count before) s e ▹ r))
-  element_by AnItem e m =
+  element_by place.Item e m =
       let begins : Fits (W.item_due c.sizes.array (node_count before)) s = fine m (rw e) in
       raise c (form.LastElement any_run nowhere) (λ high k. begins ▹ fails high) (λ below.
       part (ih.of (R.Expression (level_up c) w) s true) (λ f. form.LastElement f nowhere) (λ f k o r. begins ▹ below ▹ r _)
       (λ f t a G.
       let ns = with_node before (tree f w) in
-      separated behind_item (R.element_next c w opening ns) (λ why. refl) (form.LastElement f nowhere)
-      (λ why e n k. begins ▹ below ▹ G.on (wrong n (rw e)))
-      (λ comma. take (ends (ih.of (R.Elements c w opening ns) (past code t) false) (form.Element f (pos_at t))
+      separated lists.Array (form.LastElement f nowhere) (λ other k. begins ▹ below ▹ G.on other.way)
+      (λ comma. ends (ih.of (R.Elements c w opening ns) (past code t) false) (form.Element f (pos_at t))
       (λ v l. sym (added before (tree f w) (element_trees l w)))
-      (λ l k o r. begins ▹ below ▹ G.on (item_followed t comma ▹ subst
-      (λ n. Way (W.elements l n c w opening k) (past code t) o) (one_more_node before (tree f w)) r))))
-      (λ close. take (gives (form.LastElement f (pos_at t)) (sym (added_last before (tree f w)))
-      (λ k o r. begins ▹ below ▹ G.on (item_followed t close ▹ r))))))
-  element_by (NoItem why) e m = refuse (form.NoElement nowhere) (λ k. wrong m (rw e))
+      (λ l k o r. begins ▹ below ▹ G.on (comma ▹ subst
+      (λ n. Way (W.elements l n c w opening k) (past code t) o) (one_more_node before (tree f w)) r)))
+      (λ close. gives (form.LastElement f (pos_at t)) (sym (added_last before (tree f w)))
+      (λ k o r. begins ▹ below ▹ G.on (close ▹ r)))))
+  element_by place.Nothing e m = refuse (form.NoElement nowhere) (λ k. wrong m (rw e))
 
   pub element_list : (b : Bool) → Goes call (elements c w opening before) s (body (R.Elements c w opening before)) s b
   element_list b = look (λ m. element_by (item_place c.sizes.array (node_count before) (op_at s)) refl m)
@@ -96,14 +97,13 @@ module _ {call : Histories} (ih : AllSound call) (c : Context) (w : Live) (openi
       part (ih.of (R.Expression (level_up c) w) t b) (λ f. form.LastField key pos colon f nowhere)
       (λ f k o r. K.on (below ▹ r _)) (λ f u a G.
       let ps = with_property before (text_of key) pos (tree f w) in
-      separated behind_value (R.field_next c w opening ps) (λ why. refl) (form.LastField key pos colon f nowhere)
-      (λ why e n k. K.on (below ▹ G.on (wrong n (rw e))))
-      (λ comma. take (ends (ih.of (R.Fields c w opening ps) (past code u) false) (form.Field key pos colon f (pos_at u))
+      separated lists.Map (form.LastField key pos colon f nowhere) (λ other k. K.on (below ▹ G.on other.way))
+      (λ comma. ends (ih.of (R.Fields c w opening ps) (past code u) false) (form.Field key pos colon f (pos_at u))
       (λ v l. sym (added_property before (text_of key) pos (tree f w) (field_trees l w)))
-      (λ l k o r. K.on (below ▹ G.on (value_followed u comma ▹ r)))))
-      (λ close. take (gives (form.LastField key pos colon f (pos_at u))
+      (λ l k o r. K.on (below ▹ G.on (comma ▹ r))))
+      (λ close. gives (form.LastField key pos colon f (pos_at u))
       (sym (last_property before (text_of key) pos (tree f w)))
-      (λ k o r. K.on (below ▹ G.on (value_followed u close ▹ r)))))))
+      (λ k o r. K.on (below ▹ G.on (close ▹ r))))))
 
   pub field_list : (b : Bool) → Goes call (fields c w opening before) s (body (R.Fields c w opening before)) s b
   field_list b = part (ih.of (R.NextKey c before) s b) with_key key_way field_by

@@ -1,20 +1,22 @@
 -- Primaries, and operands with their signs.
 use Rattle.std.proofs.Common.{◌≡◌, Bool, true, false, refl, ap}
 use Rattle.std.specs.Prelude.{◌&&◌}
+use Rattle.rhai_lower.specs.Lexemes.{text_of}
 use Rattle.rhai_lower.specs.Positions.{nowhere}
 use Rattle.rhai_lower.specs.Nodes.{no_nodes, no_properties}
 use Rattle.rhai_grammar.specs.declared.due.DueToken.TheVariants as due
 use Rattle.rhai_grammar.specs.Delivered.{code, Point, past, is_memory}
 use Rattle.rhai_grammar.specs.Settings.{in_function}
 use Rattle.rhai_grammar.specs.Contexts.{Context, Live, level_up}
-use Rattle.rhai_grammar.specs.Beginnings as begin
-use Rattle.rhai_grammar.specs.Beginnings.{Beginning, beginning, is_value, is_sign, is_range, closes, calls, following}
-use Rattle.rhai_grammar.specs.Beginnings.{may_be_called, is_this, value_at}
+use Rattle.rhai_grammar.specs.declared.role.Beginning.{Beginning}
+use Rattle.rhai_grammar.specs.declared.role.Beginning.TheVariants as begin
+use Rattle.rhai_grammar.specs.Beginnings.{beginning, is_value, is_sign, is_range, omits_operand, calls}
+use Rattle.rhai_grammar.specs.Beginnings.{may_be_called, is_this}
 use Rattle.rhai_grammar.specs.Signs.{sign_holds}
 use Rattle.rhai_grammar.specs.Forms as form
 use Rattle.rhai_grammar.specs.Trees.{base_tree, operand_tree}
 use Rattle.rhai_grammar.specs.Chains.{chained}
-use Rattle.rhai_grammar.specs.Written.{behind_operand}
+use Rattle.rhai_grammar.specs.Written.{spot_after_operand}
 use Rattle.rhai_reading.specs.Reading as R
 use Rattle.rhai_reading.specs.Reading.{Prog, body}
 use Rattle.rhai_reading.proofs.Beginnings.{begun}
@@ -28,14 +30,15 @@ use Rattle.rhai_reading.proofs.FormKinds.{tree_before, operands, primaries}
 use Rattle.rhai_reading.proofs.Sound.Law.{AllSound, any_primary, any_operand, any_run}
 
 module _ {call : Histories} (ih : AllSound call) (c : Context) (w : Live) (ranged : Bool) (s : Point) where
-  primary_by : (v : Beginning) → beginning (op_at s) ≡ v → (ranged && closes (op_at s)) ≡ false → is_sign v ≡ false
+  primary_by : (v : Beginning) → beginning (op_at s) ≡ v → (ranged && omits_operand (op_at s)) ≡ false → is_sign v ≡ false
       → is_memory (op_at s) ≡ false
       → Goes call (primaries c w ranged) s (R.primary_at c w (op_at s) (pos_at s) v) s true
-  primary_by (begin.Single node) e written sign m =
-      take (gives (form.Value (op_at s) (pos_at s)) (ap (value_at (pos_at s)) e) (λ k o r. ap is_value e ▹ refl ▹ r))
-  primary_by (begin.AName name) e written sign m =
-      take (look (λ n. done (form.Named name (pos_at s)) (λ k o r. begun s e ▹ r)))
-  primary_by (begin.AWord word) e written sign m =
+  primary_by begin.Value e written sign m =
+      take (done (form.Value (op_at s) (pos_at s)) (λ k o r. ap is_value e ▹ refl ▹ r))
+  primary_by begin.Name e written sign m =
+      take (look (λ n. done (form.Named (text_of (op_at s)) (pos_at s)) (λ k o r. begun s e ▹ r)))
+  primary_by begin.Word e written sign m =
+      let word = text_of (op_at s) in
       let x = form.Word word (pos_at s) in
       let here = begun s e in
       let next = op_at (past code s) in
@@ -47,43 +50,43 @@ module _ {call : Histories} (ih : AllSound call) (c : Context) (w : Live) (range
       (λ k o r. here ▹ fine n (rw (none, this, inside)) ▹ r))
       (λ outside. halt x refl (λ k. here ▹ blamed n (rw (none, this, outside)))))
       (λ other. halt x refl (λ k. here ▹ blamed n (rw (none, other)))))))
-  primary_by begin.AGroup e written sign m =
+  primary_by begin.Group e written sign m =
       let here = begun s e in
       take (raise c (form.Group (pos_at s) any_run nowhere) (λ high k. here ▹ fails high) (λ below.
       first (ih.of (R.Expression (level_up c) w) (past code s) false) (form.Group (pos_at s)) nowhere
       (λ f p k o r. here ▹ below ▹ r) (λ f t b.
       expect due.RightParen nowhere (λ missing k. missing.way) (λ close.
       done (pos_at t) (λ k o r. close ▹ r)))))
-  primary_by begin.AnArray e written sign m =
+  primary_by begin.Array e written sign m =
       let here = begun s e in
       take (raise c (form.Array (pos_at s) (form.NoElement nowhere)) (λ high k. here ▹ fails high) (λ below.
       ends (ih.of (R.Elements (level_up c) w (pos_at s) no_nodes) (past code s) false) (form.Array (pos_at s))
       (λ t list. refl) (λ list k o r. here ▹ below ▹ r)))
-  primary_by begin.AMap e written sign m =
+  primary_by begin.Map e written sign m =
       let here = begun s e in
       take (raise c (form.Map (pos_at s) (form.NoField nowhere)) (λ high k. here ▹ fails high) (λ below.
       ends (ih.of (R.Fields (level_up c) w (pos_at s) no_properties) (past code s) false) (form.Map (pos_at s))
       (λ t list. refl) (λ list k o r. here ▹ below ▹ r)))
-  primary_by begin.ASign e written sign m = absurd cc
-  primary_by begin.ARange e written sign m = done (form.Zero (op_at s) (pos_at s)) (λ k o r. ap is_range e ▹ refl ▹ r)
-  primary_by (begin.NoBeginning why) e written sign m = refuse any_primary (λ k. refl ▹ wrong m (rw (written, e)))
+  primary_by begin.Sign e written sign m = absurd cc
+  primary_by begin.Range e written sign m = done (form.Zero (op_at s) (pos_at s)) (λ k o r. ap is_range e ▹ refl ▹ r)
+  primary_by begin.Nothing e written sign m = refuse any_primary (λ k. refl ▹ wrong m (rw (written, e)))
 
   -- an operand without a sign
-  unsigned : (ranged && closes (op_at s)) ≡ false → is_sign (beginning (op_at s)) ≡ false
+  unsigned : (ranged && omits_operand (op_at s)) ≡ false → is_sign (beginning (op_at s)) ≡ false
       → Goes call (operands c w ranged) s (R.Call (R.Primary c w)
-      (λ x. R.Call (R.Postfix c w x) (λ y. R.Call (R.Links w (behind_operand c y))
+      (λ x. R.Call (R.Postfix c w x) (λ y. R.Call (R.Links w (spot_after_operand c y))
       (λ ls. R.Ret (chained y ls))))) s true
   unsigned written sign =
       part (ih.of (R.Primary c w) s true ranged written sign) (λ x. form.Linked (form.Plain x) form.NoLink)
       (λ x k o r. r _) (λ x t b G.
       first (ih.of (R.Postfix c w (tree_before w t x)) t b ranged s x refl G) form.Linked form.NoLink
       (λ y list k o r. r) (λ y u a.
-      ends (ih.of (R.Links w (behind_operand c (base_tree y w))) u a) (λ list. list) (λ v list. refl)
+      ends (ih.of (R.Links w (spot_after_operand c (base_tree y w))) u a) (λ list. list) (λ v list. refl)
       (λ list k o r. r)))
 
-  operand_by : (v : Beginning) → beginning (op_at s) ≡ v → (ranged && closes (op_at s)) ≡ false
+  operand_by : (v : Beginning) → beginning (op_at s) ≡ v → (ranged && omits_operand (op_at s)) ≡ false
       → Goes call (operands c w ranged) s (R.operand_by c w (op_at s) (pos_at s) v) s true
-  operand_by begin.ASign e written =
+  operand_by begin.Sign e written =
       let sign = ap is_sign e in
       take (raise c (form.Signed (op_at s) (pos_at s) any_operand) (λ high k. sign ▹ refl ▹ fails high) (λ below.
       first (ih.of (R.Operand (level_up c) w false) (past code s) false)
@@ -93,10 +96,10 @@ module _ {call : Histories} (ih : AllSound call) (c : Context) (w : Live) (range
   operand_by _ e written = unsigned written (ap is_sign e)
 
   pub operand : (b : Bool) → Goes call (operands c w ranged) s (body (R.Operand c w ranged)) s b
-  operand b = look (λ m. either (ranged && closes (op_at s))
-      (λ closes_. done (form.NoOperand (op_at s) (pos_at s)) (λ k o r. closes_ ▹ refl ▹ r))
+  operand b = look (λ m. either (ranged && omits_operand (op_at s))
+      (λ omitted. done (form.NoOperand (op_at s) (pos_at s)) (λ k o r. omitted ▹ refl ▹ r))
       (λ written. operand_by (beginning (op_at s)) refl written))
 
-  pub primary : (b : Bool) → (ranged && closes (op_at s)) ≡ false → is_sign (beginning (op_at s)) ≡ false
+  pub primary : (b : Bool) → (ranged && omits_operand (op_at s)) ≡ false → is_sign (beginning (op_at s)) ≡ false
       → Goes call (primaries c w ranged) s (body (R.Primary c w)) s b
   primary b written sign = look (λ m. primary_by (beginning (op_at s)) refl written sign m)

@@ -10,7 +10,7 @@ use Rattle.rhai_grammar.specs.Seen.{StandsAtLast}
 use Rattle.rhai_grammar.specs.Contexts.{Context, Live}
 use Rattle.rhai_grammar.specs.Beginnings.{beginning, is_range}
 use Rattle.rhai_grammar.specs.Operators.{boolean_holds}
-use Rattle.rhai_grammar.specs.Strengths.{Behind, Operator, Unknown, Other, behind_of, is_operator, strength, right_of}
+use Rattle.rhai_grammar.specs.Strengths.{Follower, Operator, Unknown, Other, follower_of, is_operator, strength, right_of}
 use Rattle.rhai_grammar.specs.Forms.{Run, Just, Binary}
 use Rattle.rhai_grammar.specs.Trees.{tree}
 use Rattle.rhai_grammar.specs.Demands as D
@@ -18,11 +18,11 @@ use Rattle.rhai_grammar.specs.Demands.{Fine, Otherwise, Demands, Next, verdict}
 use Rattle.rhai_grammar.specs.Written as W
 use Rattle.rhai_grammar.specs.Written.{Height, Spot, right_side, height_after, side_fits, left_fits, operator_known}
 use Rattle.rhai_reading.specs.Reading as R
-use Rattle.rhai_reading.specs.Reading.{Prog, Ret, Call, goes_on, next_operator_at, binary_at, binary_on, binary_right}
+use Rattle.rhai_reading.specs.Reading.{Prog, Ret, Call, continues, next_operator_at, binary_at, binary_on, binary_right}
 use Rattle.rhai_reading.specs.Reading.{binary_next, raised, body}
 use Rattle.rhai_reading.proofs.Joins.{cursor}
-use Rattle.rhai_reading.proofs.Strengths.{Sensible, sensible, next_goes_on, right_is, left_is, goes_operator, true_not}
-use Rattle.rhai_reading.proofs.Looks.{op_at, pos_at, behind_at, operator_in, climb, fine as known_fine}
+use Rattle.rhai_reading.proofs.Strengths.{Sensible, sensible, next_continues, right_is, left_is, goes_operator, true_not}
+use Rattle.rhai_reading.proofs.Looks.{op_at, pos_at, follower_at, operator_in, climb, fine as known_fine}
 use Rattle.rhai_reading.proofs.Paths.{Fits, Fails, Aim, Way, ◌▹◌, lost, Lost}
 use Rattle.rhai_reading.proofs.Shows.{Histories, over, Shows, Halts, fine, fails, ret, take, look, either, test, raise}
 use Rattle.rhai_reading.proofs.Shows.{called, tail, part, lost_at, Kind, Passed}
@@ -32,37 +32,37 @@ use Rattle.rhai_reading.proofs.Sound.Law.{AllSound, Ended, Suits, Stands, RunRea
 -- ---- what stands after an operand
 
 pub next_operator : (call : Histories) (s : Point) (b : Bool)
-    → Shows call (λ v t. (t ≡ s) × (v ≡ operator_in (behind_at s)) × Fits operator_known s)
+    → Shows call (λ v t. (t ≡ s) × (v ≡ operator_in (follower_at s)) × Fits operator_known s)
     (λ e u. Fails (Next operator_known) s e × (u.point ≡ s) × StandsAtLast e (cursor u)) (body R.NextOperator) s b
-next_operator call s b = look (λ m. by (behind_at s) refl m)
+next_operator call s b = look (λ m. by (follower_at s) refl m)
   where
-    by : (v : Behind) → behind_at s ≡ v → is_memory (op_at s) ≡ false
-        → Shows call (λ v t. (t ≡ s) × (v ≡ operator_in (behind_at s)) × Fits operator_known s)
+    by : (v : Follower) → follower_at s ≡ v → is_memory (op_at s) ≡ false
+        → Shows call (λ v t. (t ≡ s) × (v ≡ operator_in (follower_at s)) × Fits operator_known s)
         (λ e u. Fails (Next operator_known) s e × (u.point ≡ s) × StandsAtLast e (cursor u))
         (next_operator_at (pos_at s) v) s true
     by (Operator n right) e m = ret (refl, ap operator_in (sym e), fine m (rw e))
     by (Unknown t) e m =
-        record { shown = λ w. (lost_at operator_known s _ _ m (ap W.known_behind e) refl, refl, λ z. (refl, refl)) }
+        record { shown = λ w. (lost_at operator_known s _ _ m (ap W.known_follower e) refl, refl, λ z. (refl, refl)) }
     by Other e m = ret (refl, ap operator_in (sym e), fine m (rw e))
 
 -- ---- runs
 
-ended_fits : (op : Lexeme) (L : Run) → is_operator (behind_of op) ≡ true → Ended L (behind_of op)
-    → left_fits (behind_of op) L ≡ true
+ended_fits : (op : Lexeme) (L : Run) → is_operator (follower_of op) ≡ true → Ended L (follower_of op)
+    → left_fits (follower_of op) L ≡ true
 ended_fits op (Just x) is e = refl
 ended_fits op (Binary inner pos l r) is e =
-    left_is (behind_of op) (behind_of inner) (sensible op) is ∙ true_not
-    (next_goes_on (strength (behind_of inner)) (behind_of op)) e
+    left_is (follower_of op) (follower_of inner) (sensible op) is ∙ true_not
+    (next_continues (strength (follower_of inner)) (follower_of op)) e
 
 -- what does not go on with the right side of an operator ends it
-side_ended : (s t : Point) → next_goes_on (strength (behind_at s)) (behind_at t) ≡ false → Fits operator_known t
+side_ended : (s t : Point) → next_continues (strength (follower_at s)) (follower_at t) ≡ false → Fits operator_known t
     → Fits (W.side_ends (op_at s)) t
 side_ended s t off known =
-    fine (known_fine operator_known (op_at t) known.fits).0 (simp (ends (behind_at t) (sensible (op_at t)) off))
+    fine (known_fine operator_known (op_at t) known.fits).0 (simp (ends (follower_at t) (sensible (op_at t)) off))
   where
-    ends : (v : Behind) → Sensible v → next_goes_on (strength (behind_at s)) v ≡ false
-        → (is_operator v && right_of (behind_at s) v) ≡ false
-    ends (Operator n right) h e = sym (right_is (behind_at s) (Operator n right) (sensible (op_at s)) h refl) ∙ e
+    ends : (v : Follower) → Sensible v → next_continues (strength (follower_at s)) v ≡ false
+        → (is_operator v && right_of (follower_at s) v) ≡ false
+    ends (Operator n right) h e = sym (right_is (follower_at s) (Operator n right) (sensible (op_at s)) h refl) ∙ e
     ends (Unknown t) h e = refl
     ends Other h e = refl
 
@@ -71,8 +71,8 @@ pub no_symbol : (s : Point) (e : Refusal) (P : Type 0) → Fits operator_known s
 no_symbol s e P known r = absurd (subst (λ x. D.Refuses x (pos_at s) e) known.fits r)
 
 -- An operator that may stand after a run, and the way to its right side.
-record Behinds (q : Spot) (from : Point) (L : Run) (s : Point) : Type 0 where
-  pub is : is_operator (behind_at s) ≡ true
+record AtOperator (q : Spot) (from : Point) (L : Run) (s : Point) : Type 0 where
+  pub is : is_operator (follower_at s) ≡ true
   pub right : (r : Run) (k : Demands) (o : Aim)
       → Way (W.run r (right_side (op_at s) (height_after q L) q.live)
       (W.operands_fit (op_at s) (tree L q.live) (tree r q.live) k)) (past code s) o
@@ -83,11 +83,11 @@ module _ {call : Histories} (ih : AllSound call) where
   pub run_part : {F B : Type 0} {K : Kind F B} {from : Point} {A : Type 0} {Q : A → Point → Type 0} {c : Context}
       {w : Live} {pos : Position} {m : ℕ} {k : Node → Prog A} {s : Point} {b : Bool} {lhs : Node}
       (q : Spot) (start : Point) (L : Run) → q.live ≡ w → tree L q.live ≡ lhs
-      → height_after q L ≡ record { settings = c; at = pos } → Suits m q.side → Ended L (behind_at s)
+      → height_after q L ≡ record { settings = c; at = pos } → Suits m q.side → Ended L (follower_at s)
       → Stands q start L s
       → (wrap : Run → F) → ((f : Run) (k : Demands) (o : Aim) → ((j : Demands) → Way (W.run f q j) start o)
       → Way (K.demands (wrap f) k) from o)
-      → ((f : Run) (t : Point) (a : Bool) → Passed (runs q) f start t → next_goes_on m (behind_at t) ≡ false
+      → ((f : Run) (t : Point) (a : Bool) → Passed (runs q) f start t → next_continues m (follower_at t) ≡ false
       → Fits operator_known t → Shows call Q (Halts K from) (k (tree f q.live)) t a)
       → Shows call Q (Halts K from) (Call (R.BinaryOp c w pos m lhs) k) s b
   run_part {K = K} {from = from} {Q = Q} {k = k} {s = s} {b = b} q start L live is high suits ended stands wrap way on =
@@ -99,7 +99,7 @@ module _ {call : Histories} (ih : AllSound call) where
   operator_part : {F B : Type 0} {K : Kind F B} {from : Point} {A : Type 0} {Q : A → Point → Type 0}
       {k : Option (ℕ × Bool) → Prog A} {s : Point} {b : Bool} (f : F)
       → ((e : Refusal) → Fails (Next operator_known) s e → (k : Demands) → Way (K.demands f k) from (Lost e s))
-      → (Fits operator_known s → (a : Bool) → Shows call Q (Halts K from) (k (operator_in (behind_at s))) s a)
+      → (Fits operator_known s → (a : Bool) → Shows call Q (Halts K from) (k (operator_in (follower_at s))) s a)
       → Shows call Q (Halts K from) (Call R.NextOperator k) s b
   operator_part {K = K} {from = from} {Q = Q} {k = k} {s = s} {b = b} f way on =
       called (ih.of R.NextOperator s b) (λ e t r. let stops = subst
@@ -110,8 +110,8 @@ module _ {call : Histories} (ih : AllSound call) where
 
   module _ (q : Spot) (from s : Point) (L : Run) (p : ℕ) (suits : Suits p q.side) where
     -- after an operator that goes on
-    run_on : (h : Behinds q from L s) (b : Bool) → Shows call (RunRead q p from) (Halts (runs q) from)
-        (binary_on (height_after q L).settings q.live (height_after q L).at p (tree L q.live) (strength (behind_at s))
+    run_on : (h : AtOperator q from L s) (b : Bool) → Shows call (RunRead q p from) (Halts (runs q) from)
+        (binary_on (height_after q L).settings q.live (height_after q L).at p (tree L q.live) (strength (follower_at s))
         (op_at s) (pos_at s)) s b
     run_on h b =
         let u = height_after q L in
@@ -124,8 +124,8 @@ module _ {call : Histories} (ih : AllSound call) where
         operator_part (binary (Just x)) (λ e r k. h.right (Just x) k _ (X.on (lost r))) (λ known c.
         raise u.settings (binary (Just x)) (λ high k. h.right (Just x) k _ (X.on (known ▹ fails high))) (λ below.
         run_part q2 (past code s) (Just x) refl refl refl
-        (λ l on. sym (right_is (behind_at s) (behind_of l) (sensible op) (sensible l)
-        (goes_operator (strength (behind_at s)) (behind_of l) on)) ∙ on) tt
+        (λ l on. sym (right_is (follower_at s) (follower_of l) (sensible op) (sensible l)
+        (goes_operator (strength (follower_at s)) (follower_of l) on)) ∙ on) tt
         (record { passes = λ z. record { on = λ r. X.on (known ▹ below ▹ r) }; stops = λ e r. no_symbol t e _ known r })
         binary (λ r k o way. h.right r k o (way _)) (λ r v d G off known_end.
         let ends = side_ended s v off known_end in
@@ -143,19 +143,19 @@ module _ {call : Histories} (ih : AllSound call) where
         })))))))))
 
     -- what stands after a run goes on with it, or does not
-    run_at : (v : Behind) (b : Bool) → behind_at s ≡ v → Fits operator_known s → Ended L (behind_at s)
+    run_at : (v : Follower) (b : Bool) → follower_at s ≡ v → Fits operator_known s → Ended L (follower_at s)
         → Stands q from L s → Shows call (RunRead q p from) (Halts (runs q) from)
         (binary_at (height_after q L).settings q.live (height_after q L).at p (tree L q.live) (operator_in v)) s b
     run_at (Operator m right) b e known ended stands =
         let u = height_after q L in
-        either (goes_on p m right)
+        either (continues p m right)
         (λ on.
-        let is : is_operator (behind_at s) ≡ true = ap is_operator e in
+        let is : is_operator (follower_at s) ≡ true = ap is_operator e in
         let G = stands.passes known in
-        let h : Behinds q from L s = record {
+        let h : AtOperator q from L s = record {
           is = is;
           right = λ r k o way. G.on
-              (is ▹ ended_fits (op_at s) L is ended ▹ suits (op_at s) (ap (next_goes_on p) e ∙ on) ▹ refl ▹ way);
+              (is ▹ ended_fits (op_at s) L is ended ▹ suits (op_at s) (ap (next_continues p) e ∙ on) ▹ refl ▹ way);
         } in
         look (λ n. subst (λ k. Shows call (RunRead q p from) (Halts (runs q) from)
         (binary_on u.settings q.live u.at p (tree L q.live) k (op_at s) (pos_at s)) s true) (ap strength e)
@@ -164,23 +164,23 @@ module _ {call : Histories} (ih : AllSound call) where
           form = L;
           is = refl;
           passes = stands.passes known;
-          off = ap (next_goes_on p) e
+          off = ap (next_continues p) e
               ∙ off;
           known = known;
         }))
     run_at (Unknown t) b e known ended stands =
-        ret (record { form = L; is = refl; passes = stands.passes known; off = ap (next_goes_on p) e; known = known })
+        ret (record { form = L; is = refl; passes = stands.passes known; off = ap (next_continues p) e; known = known })
     run_at Other b e known ended stands =
-        ret (record { form = L; is = refl; passes = stands.passes known; off = ap (next_goes_on p) e; known = known })
+        ret (record { form = L; is = refl; passes = stands.passes known; off = ap (next_continues p) e; known = known })
 
-    run_from : (b : Bool) → Ended L (behind_at s) → Stands q from L s
+    run_from : (b : Bool) → Ended L (follower_at s) → Stands q from L s
         → Shows call (RunRead q p from) (Halts (runs q) from)
         (body (climb (height_after q L) q.live p (tree L q.live))) s b
-    run_from b ended stands = operator_part L stands.stops (λ known a. run_at (behind_at s) a refl known ended stands)
+    run_from b ended stands = operator_part L stands.stops (λ known a. run_at (follower_at s) a refl known ended stands)
 
   pub run : (c : Context) (w : Live) (pos : Position) (p : ℕ) (lhs : Node) (s : Point) (b : Bool) (q : Spot)
       (from : Point) (L : Run) → q.live ≡ w → tree L q.live ≡ lhs → height_after q L ≡ record { settings = c; at = pos }
-      → Suits p q.side → Ended L (behind_at s) → Stands q from L s
+      → Suits p q.side → Ended L (follower_at s) → Stands q from L s
       → Shows call (RunRead q p from) (Halts (runs q) from) (body (R.BinaryOp c w pos p lhs)) s b
   run c w pos p lhs s b q from L live is height suits ended stands =
       subst (λ z. Shows call (RunRead q p from) (Halts (runs q) from) (body (R.BinaryOp c z pos p lhs)) s b) live

@@ -3,7 +3,7 @@ use Rattle.std.proofs.Common.{◌≡◌, Bool, true, false, refl}
 use Rattle.rhai_lower.specs.Nodes.{Node}
 use Rattle.rhai_grammar.specs.Delivered.{Point, is_end}
 use Rattle.rhai_grammar.specs.Contexts.{Context, Live, level_up}
-use Rattle.rhai_grammar.specs.Strengths.{Behind, Operator, Unknown, Other}
+use Rattle.rhai_grammar.specs.Strengths.{Follower, Operator, Unknown, Other}
 use Rattle.rhai_grammar.specs.Forms.{Run, Just}
 use Rattle.rhai_grammar.specs.Trees.{tree}
 use Rattle.rhai_grammar.specs.Demands.{Fine, Nothing}
@@ -13,8 +13,8 @@ use Rattle.rhai_reading.specs.Reading as R
 use Rattle.rhai_reading.specs.Reading.{body}
 use Rattle.rhai_reading.specs.Histories.{exec, Outcome, Done, Refused, Unfinished}
 use Rattle.rhai_reading.proofs.Rules.{at}
-use Rattle.rhai_reading.proofs.Strengths.{Sensible, sensible, next_goes_on, outer}
-use Rattle.rhai_reading.proofs.Looks.{op_at, behind_at, fine as known_fine}
+use Rattle.rhai_reading.proofs.Strengths.{Sensible, sensible, next_continues, outer}
+use Rattle.rhai_reading.proofs.Looks.{op_at, follower_at, fine as known_fine}
 use Rattle.rhai_reading.proofs.Paths.{Fits, ◌▹◌, here, lost, Way, To, reached}
 use Rattle.rhai_reading.proofs.Shows.{Histories, Ensures, Shows, Halts, Goes, ill, fine, over, ret, look, raise, check}
 use Rattle.rhai_reading.proofs.Shows.{part}
@@ -22,12 +22,12 @@ use Rattle.rhai_reading.proofs.FormKinds.{expressions, wholes}
 use Rattle.rhai_reading.proofs.Sound.Law.{Sound, AllSound, WholeRead, WholeHalts, any_run}
 use Rattle.rhai_reading.proofs.Sound.Runs.{run_part}
 
-ends_fine : (s : Point) → next_goes_on 1 (behind_at s) ≡ false → Fits operator_known s → Fits run_ends s
+ends_fine : (s : Point) → next_continues 1 (follower_at s) ≡ false → Fits operator_known s → Fits run_ends s
 ends_fine s off known =
     let f = known_fine operator_known (op_at s) known.fits in
-    fine f.0 (ends (behind_at s) (sensible (op_at s)) off f.1)
+    fine f.0 (ends (follower_at s) (sensible (op_at s)) off f.1)
   where
-    ends : (v : Behind) → Sensible v → next_goes_on 1 v ≡ false → W.known_behind v ≡ Fine → W.ended_behind v ≡ Fine
+    ends : (v : Follower) → Sensible v → next_continues 1 v ≡ false → W.known_follower v ≡ Fine → W.ended_follower v ≡ Fine
     ends (Operator n right) h off k = let w = outer (Operator n right) h refl in absurd cc
     ends (Unknown t) h off k = absurd cc
     ends Other h off k = refl

@@ -4,7 +4,7 @@ use Rattle.std.specs.List.{list_any}
 use Rattle.rhai_lower.specs.Texts.{same_text}
 use Rattle.rhai_lower.specs.Slots.{slot_at}
 use Rattle.rhai_grammar.specs.Slots.{is_barrier, number}
-use Rattle.rhai_base.proofs.FindLemmas.{number-empty, number-other, barrier-there, barrier-behind, found-here, named-barrier, named-other, named-here}
+use Rattle.rhai_base.proofs.FindLemmas.{number-empty, number-other, barrier-there, barrier-after, found-here, named-barrier, named-other, named-here}
 use Rattle.rhai_base.proofs.lookup.find_slot.Goals as goal
 
 pub loop-i-init : goal.loop-i-init
@@ -47,5 +47,5 @@ loop-i-preserved c =
     record {
       all = c.len-len.ensures;
       none_yet = number-other c.args.name.now c.args.slots.now (c.loop-i.i - 1) c.loop-i.i e l (named-other c.args.name.now (slot_at c.args.slots.now (c.loop-i.i - 1)) h) c.loop-i.invariant.none_yet;
-      barrier_so_far = c.loop-i.invariant.barrier_so_far ∙ barrier-behind c.args.slots.now (c.loop-i.i - 1) c.loop-i.i e l b;
+      barrier_so_far = c.loop-i.invariant.barrier_so_far ∙ barrier-after c.args.slots.now (c.loop-i.i - 1) c.loop-i.i e l b;
     }

@@ -7,7 +7,7 @@ use Rattle.rhai_lower.proofs.Views.{property_views_push}
 use Rattle.rhai_grammar.specs.Cursors.{cursor_of}
 use Rattle.rhai_grammar.specs.Written.{LinkSpot}
 use Rattle.rhai_grammar.specs.Signs.{sign_result}
-use Rattle.rhai_reading.specs.Running.{run}
+use Rattle.rhai_reading.specs.Running.{result_of}
 use Rattle.rhai_trees.specs.Chains.{link_views}
 use Rattle.rhai_parser.specs.Frames.{context_of, live_of}
 use Rattle.rhai_parser.specs.Asks.{operator_pair}
@@ -15,7 +15,7 @@ use Rattle.rhai_parser.specs.Readers.{operand, state_of}
 use Rattle.rhai_parser.proofs.AnswerLemmas.{answer_given, outcome}
 use Rattle.rhai_parser.proofs.ChainLemmas.{DotTaken, dot_goes_on, dot_short, links_push}
 use Rattle.rhai_parser.proofs.LiteralLemmas.{FieldTaken, field_goes_on, field_short}
-use Rattle.rhai_parser.proofs.Readers.{operands}
+use Rattle.rhai_parser.proofs.Readers.{literals, operands}
 use Rattle.rhai_parser.proofs.RunLemmas.{Walked, Worded, same_context, walked_on, walked_refused, walked_short, worded_outcome}
 use Rattle.rhai_parser.proofs.engine.Engine.+parser.Goals as goal
 use Rattle.rhai_parser.proofs.engine.Engine.+parser.Goals.{parse_binary_op-After-make_binary}
@@ -58,8 +58,9 @@ parse_binary_op-loop-lhs-preserved t c =
 
 pub parse_primary-returns-in_ok-called-in-Word-clause-reads : goal.parse_primary-returns-in_ok-called-in-Word-clause-reads
 parse_primary-returns-in_ok-called-in-Word-clause-reads t c =
-    let h : Worded (rc_str_bytes c.in-Word.word) c.in_ok-token.field-0.now.1 c.in_ok-called-in-Word.called (state_of c.args.shared.now) (cursor_of c.peek.follows.lender-at-none) (cursor_of c.skip-in-Word.new.input) (cursor_of c.is_called-in-Word.new.input) = record {
+    let h : Worded (rc_str_bytes c.in_ok-word-in-Word.word) c.in_ok-token.field-0.now.1 c.in_ok-called-in-Word.called (state_of c.args.shared.now) (cursor_of c.peek.follows.lender-at-none) (cursor_of c.skip-in-Word.new.input) (cursor_of c.is_called-in-Word.new.input) = record {
       begins = search rules;
+      text = search rules;
       readable = search rules;
       stands = search rules;
       look = c.peek.follows.holds-at-none;
@@ -74,16 +75,19 @@ pub parse_unary-returns-then-is_sign-clause-reads : goal.parse_unary-returns-the
 parse_unary-returns-then-is_sign-clause-reads t c =
     let due = sign_result (lexeme c.take-sign.result.0) c.take-sign.result.1 (view c.in_ok-operand.operand) in
     let left = state_of c.parse_unary.new.shared in
-    let same : run (operand c.args.self.now c.args.frame.now c.args.settings c.args.ranged) (state_of c.args.shared.now) ≡ outcome due left = grind (arith, operands) in
+    let same : result_of (operand c.args.self.now c.args.frame.now c.args.settings c.args.ranged) (state_of c.args.shared.now) ≡ outcome due left = grind (arith, operands) in
     answer_given view due left c.make_unary.result same c.make_unary.ensures.answers c.make_unary.ensures.nowhere
 
 pub parse_unary-returns-in_err-links-clause-reads : goal.parse_unary-returns-in_err-links-clause-reads
 parse_unary-returns-in_err-links-clause-reads t c = let p = err_from_is_err_and c.from_residual-in_err-links.result c.from_residual-in_err-links.ensures.1 in rw (p.1, p.2) (grind (arith, operands))
 
+pub parse_array_literal-returns-in_err-list_continues-clause-reads : goal.parse_array_literal-returns-in_err-list_continues-clause-reads
+parse_array_literal-returns-in_err-list_continues-clause-reads t c = let p = err_from_is_err_and c.from_residual-in_err-list_continues.result c.from_residual-in_err-list_continues.ensures.1 in rw (p.1, p.2) (grind (arith, literals))
+
 pub parse_map_literal-loop-properties-preserved : goal.parse_map_literal-loop-properties-preserved
 parse_map_literal-loop-properties-preserved t c =
     let taken : FieldTaken (context_of c.args.self.now c.args.settings) (context_of c.args.self.now c.in_ok-deeper.deeper) (live_of c.args.frame.now) (property_views c.loop-properties.properties.items) (property_views c.push.new.self.items) (rc_str_bytes c.in-Some.key.name, c.in-Some.key.pos) (view c.in_ok-value.value)
-    (state_of c.loop-properties.shared) (cursor_of c.next_key.new.input) (state_of c.parse_expr.new.shared) (cursor_of c.peek.follows.lender-at-none) (cursor_of c.skip.new.input) = record {
+    (state_of c.loop-properties.shared) (cursor_of c.next_key.new.input) (state_of c.parse_expr.new.shared) (cursor_of c.list_continues.new.input) = record {
       key_read = search rules;
       key_short = search rules;
       room = search rules;
@@ -92,10 +96,8 @@ parse_map_literal-loop-properties-preserved t c =
       value_short = search rules;
       readable = search rules;
       comma = search rules;
-      more = search rules;
-      look = search rules;
       took = search rules;
-      shrinks = c.skip.ensures.shrinks;
+      shrinks = search rules;
       joined = search (rules, property_views_push);
     } in
     record {

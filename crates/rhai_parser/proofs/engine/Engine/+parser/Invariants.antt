@@ -3,7 +3,7 @@ use Rattle.rhai_lower.specs.Nodes.{no_nodes, no_properties, position_of}
 use Rattle.rhai_lower.specs.View.{view}
 use Rattle.rhai_grammar.specs.Cursors.{left}
 use Rattle.rhai_reading.specs.Reading.{Links}
-use Rattle.rhai_reading.specs.Running.{need, run}
+use Rattle.rhai_reading.specs.Running.{need, result_of}
 use Rattle.rhai_parser.specs.Frames.{context_of, live_of}
 use Rattle.rhai_parser.specs.Readers.{GoesOn, arguments, binary_op, called, elements, expression, fields, index, items, links, links_of, member, operand, postfix, primary, properties_of, state_of, views_of}
 use Rattle.rhai_parser.proofs.engine.Engine.+parser.Given as goal
@@ -24,7 +24,7 @@ abbrev pub decreases-parse_call : goal.decreases-parse_call
 decreases-parse_call l = need (called l.self.now l.frame.now l.settings) (state_of l.shared.now)
 
 abbrev pub decreases-parse_links : goal.decreases-parse_links
-decreases-parse_links l = need (links l.self.now l.frame.now l.settings (view l.root.now)) (state_of l.shared.now)
+decreases-parse_links l = need (links l.self.now l.frame.now l.settings (view l.lhs.now)) (state_of l.shared.now)
 
 abbrev pub decreases-parse_index : goal.decreases-parse_index
 decreases-parse_index l = need (index l.self.now l.frame.now l.settings (option_map (λ x. view x.now) l.indexed)) (state_of l.shared.now)
@@ -49,7 +49,7 @@ decreases-parse_binary_op l = need (binary_op l.self.now l.frame.now l.settings 
 
 abbrev pub invariant-parse_items-loop-items : goal.invariant-parse_items-loop-items
 invariant-parse_items-loop-items l = record {
-  same : run (items l.fn.self l.fn.frame l.fn.settings no_nodes) (state_of l.fn.shared) ≡ run (items l.self l.frame l.settings (views_of l.items)) (state_of l.shared);
+  same : result_of (items l.fn.self l.fn.frame l.fn.settings no_nodes) (state_of l.fn.shared) ≡ result_of (items l.self l.frame l.settings (views_of l.items)) (state_of l.shared);
   goes_on : GoesOn l.fn.shared l.shared;
 }
 
@@ -58,7 +58,7 @@ decreases-parse_items-loop-items l = left (state_of l.shared).tokens
 
 abbrev pub invariant-parse_array_literal-loop-items : goal.invariant-parse_array_literal-loop-items
 invariant-parse_array_literal-loop-items l = record {
-  same : run (elements l.fn.self l.fn.frame l.fn.settings no_nodes) (state_of l.fn.shared) ≡ run (elements l.self l.frame l.settings (views_of l.items)) (state_of l.shared);
+  same : result_of (elements l.fn.self l.fn.frame l.fn.settings no_nodes) (state_of l.fn.shared) ≡ result_of (elements l.self l.frame l.settings (views_of l.items)) (state_of l.shared);
   goes_on : GoesOn l.fn.shared l.shared;
 }
 
@@ -67,7 +67,7 @@ decreases-parse_array_literal-loop-items l = left (state_of l.shared).tokens
 
 abbrev pub invariant-parse_map_literal-loop-properties : goal.invariant-parse_map_literal-loop-properties
 invariant-parse_map_literal-loop-properties l = record {
-  same : run (fields l.fn.self l.fn.frame l.fn.settings no_properties) (state_of l.fn.shared) ≡ run (fields l.self l.frame l.settings (properties_of l.properties)) (state_of l.shared);
+  same : result_of (fields l.fn.self l.fn.frame l.fn.settings no_properties) (state_of l.fn.shared) ≡ result_of (fields l.self l.frame l.settings (properties_of l.properties)) (state_of l.shared);
   goes_on : GoesOn l.fn.shared l.shared;
 }
 
@@ -76,7 +76,7 @@ decreases-parse_map_literal-loop-properties l = left (state_of l.shared).tokens
 
 abbrev pub invariant-parse_links-loop-links : goal.invariant-parse_links-loop-links
 invariant-parse_links-loop-links l = record {
-  same : run (links l.fn.self l.fn.frame l.fn.settings (view l.fn.root)) (state_of l.fn.shared) ≡ run (Links (live_of l.frame) (record { settings = context_of l.self l.settings; brackets = context_of l.self l.brackets; indexed = option_map (λ x. view x.now) l.indexed; before = links_of l.links })) (state_of l.shared);
+  same : result_of (links l.fn.self l.fn.frame l.fn.settings (view l.fn.lhs)) (state_of l.fn.shared) ≡ result_of (Links (live_of l.frame) (record { settings = context_of l.self l.settings; brackets = context_of l.self l.brackets; indexed = option_map (λ x. view x.now) l.indexed; before = links_of l.links })) (state_of l.shared);
   goes_on : GoesOn l.fn.shared l.shared;
 }
 
@@ -85,7 +85,7 @@ decreases-parse_links-loop-links l = left (state_of l.shared).tokens
 
 abbrev pub invariant-parse_binary_op-loop-lhs : goal.invariant-parse_binary_op-loop-lhs
 invariant-parse_binary_op-loop-lhs l = record {
-  same : run (binary_op l.fn.self l.fn.frame l.fn.settings (position_of (view l.fn.lhs)) l.parent (view l.fn.lhs)) (state_of l.fn.shared) ≡ run (binary_op l.self l.frame l.settings l.settings.pos l.parent (view l.lhs)) (state_of l.shared);
+  same : result_of (binary_op l.fn.self l.fn.frame l.fn.settings (position_of (view l.fn.lhs)) l.parent (view l.fn.lhs)) (state_of l.fn.shared) ≡ result_of (binary_op l.self l.frame l.settings l.settings.pos l.parent (view l.lhs)) (state_of l.shared);
   goes_on : GoesOn l.fn.shared l.shared;
 }
 

@@ -1,0 +1,23 @@
+//! Lists with commas.
+
+/// A list whose parts are separated by commas.
+#[derive(Clone, Copy, PartialEq, Eq, Debug)]
+pub enum CommaList {
+    /// The arguments of a call, up to `)`.
+    Arguments,
+    /// The items of an array, up to `]`.
+    Array,
+    /// The properties of an object map, up to `}`.
+    Map,
+}
+
+/// What a token is after a part of such a list.
+#[derive(Clone, Copy, PartialEq, Eq, Debug)]
+pub enum AfterPart {
+    /// `,`
+    Comma,
+    /// The token that closes the list.
+    Close,
+    /// It may not stand there.
+    Nothing,
+}
