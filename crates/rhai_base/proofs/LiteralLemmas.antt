@@ -12,7 +12,7 @@ use Rattle.rhai_grammar.specs.Cursors.{Cursor, asked, looking}
 use Rattle.rhai_grammar.specs.Delivered.{Item, item, is_end}
 use Rattle.rhai_grammar.specs.Literals.{NoKey, key_place, no_key, property_count}
 use Rattle.rhai_grammar.specs.Settings.{Settings, quoted_keys}
-use Rattle.rhai_grammar.specs.Written.{next_key}
+use Rattle.rhai_grammar.specs.Verdicts.{next_key}
 use Rattle.rhai_base.specs.MapKeys.{KeyRefused, is_interpolated, is_reserved_word, refused_key}
 
 pub count_properties : (ps : List (Ident × Expr)) → property_count (property_views ps) ≡ length ps

@@ -19,8 +19,11 @@ use Rattle.rhai_grammar.specs.Forms.{Arguments, Base, Elements, Fields, Items, L
 use Rattle.rhai_grammar.specs.Laws.{FormsAreFair, IsFair, is_refused}
 use Rattle.rhai_grammar.specs.Literals.{KeyPlace, NoKey, is_key}
 use Rattle.rhai_grammar.specs.Trees.{argument_trees, base_tree, bracket_link, member_link, method_tree, primary_tree, tree}
+use Rattle.rhai_grammar.specs.Verdicts as V
 use Rattle.rhai_grammar.specs.Written as W
-use Rattle.rhai_grammar.specs.Written.{LinkSpot, Outermost, RightOf, Side, Spot, spot_after_bracket, spot_after_dot, spot_after_operand, height_after, is_ranged, operands_fit, outermost, right_side}
+use Rattle.rhai_grammar.specs.Written.{operands_fit}
+use Rattle.rhai_grammar.specs.Spots.{LinkSpot, Outermost, RightOf, Side, Spot, spot_after_bracket, spot_after_dot}
+use Rattle.rhai_grammar.specs.Spots.{spot_after_operand, height_after, is_ranged, outermost, right_side}
 
 -- ---- one token
 
@@ -28,21 +31,21 @@ unless : (b : Bool) (v : Verdict) → is_refused v ≡ false → is_refused (if 
 unless true v e = refl
 unless false v e = e
 
-anything : (l : Lexeme) → is_refused (verdict W.anything l) ≡ false
+anything : (l : Lexeme) → is_refused (verdict V.anything l) ≡ false
 anything l = unless (is_memory l) Otherwise refl
 
-operand_due : (ranged : Bool) (l : Lexeme) → is_refused (W.beginning_due l (beginning l)) ≡ false → is_refused (verdict (W.operand_due ranged) l) ≡ false
-operand_due ranged l e = unless (is_memory l) (W.operand_due ranged l) (unless (ranged && omits_operand l) (W.beginning_due l (beginning l)) e)
+operand_due : (ranged : Bool) (l : Lexeme) → is_refused (V.beginning_due l (beginning l)) ≡ false → is_refused (verdict (V.operand_due ranged) l) ≡ false
+operand_due ranged l e = unless (is_memory l) (V.operand_due ranged l) (unless (ranged && omits_operand l) (V.beginning_due l (beginning l)) e)
 
-value_due : (l : Lexeme) (b : Beginning) → is_value b ≡ true → is_refused (W.beginning_due l b) ≡ false
+value_due : (l : Lexeme) (b : Beginning) → is_value b ≡ true → is_refused (V.beginning_due l b) ≡ false
 value_due l begin.Nothing e = absurd cc
 value_due l _ e = refl
 
-sign_due : (l : Lexeme) (b : Beginning) → is_sign b ≡ true → is_refused (W.beginning_due l b) ≡ false
+sign_due : (l : Lexeme) (b : Beginning) → is_sign b ≡ true → is_refused (V.beginning_due l b) ≡ false
 sign_due l begin.Nothing e = absurd cc
 sign_due l _ e = refl
 
-range_due : (l : Lexeme) (b : Beginning) → is_range b ≡ true → is_refused (W.beginning_due l b) ≡ false
+range_due : (l : Lexeme) (b : Beginning) → is_range b ≡ true → is_refused (V.beginning_due l b) ≡ false
 range_due l begin.Nothing e = absurd cc
 range_due l _ e = refl
 
@@ -51,7 +54,7 @@ none_due : (b : Bool) (v : Verdict) → b ≡ true → is_refused (if b then Oth
 none_due true v e = refl
 none_due false v e = absurd cc
 
-key_due : (k : KeyPlace) → is_key k ≡ true → is_refused (W.key_at k) ≡ false
+key_due : (k : KeyPlace) → is_key k ≡ true → is_refused (V.key_at k) ≡ false
 key_due (NoKey why) e = absurd cc
 key_due _ e = refl
 
@@ -81,9 +84,9 @@ mutual
   base : (x : Base) (c : Context) (w : Live) (ranged : Bool) (k : Demands) → IsFair k → IsFair (W.base x c w ranged k)
   base (form.Plain x) c w ranged k h = primary x c w ranged _ h
   base (form.Call x None args) c w ranged k h =
-      primary x c w ranged _ (λ e. arguments args W.anything refl refl c w (position_of (primary_tree x w true)) k h)
+      primary x c w ranged _ (λ e. arguments args V.anything refl refl c w (position_of (primary_tree x w true)) k h)
   base (form.Call x (Some bang) args) c w ranged k h =
-      primary x c w ranged _ (λ e. (refl, arguments args W.list_due refl refl c w (position_of (primary_tree x w true)) k h))
+      primary x c w ranged _ (λ e. (refl, arguments args V.list_due refl refl c w (position_of (primary_tree x w true)) k h))
 
   links : (x : Links) (q : LinkSpot) (w : Live) (k : Demands) → IsFair k → IsFair (W.links x q w k)
   links form.NoLink q w k h = unfaulted (last_fault q.before) k h
@@ -97,17 +100,17 @@ mutual
       (anything dot, (refl, links rest (spot_after_dot q (member_link dot at (property name name_at))) w k h))
   links (form.Method dot at name name_at None args rest) q w k h = λ d e.
       let l = member_link dot at (method_tree (text_of name) name_at false (argument_trees args w)) in
-      (anything dot, (anything name, arguments args W.anything refl refl (level_up q.settings) w name_at _ (links rest (spot_after_dot q l) w k h)))
+      (anything dot, (anything name, arguments args V.anything refl refl (level_up q.settings) w name_at _ (links rest (spot_after_dot q l) w k h)))
   links (form.Method dot at name name_at (Some bang) args rest) q w k h = λ d e.
       let l = member_link dot at (method_tree (text_of name) name_at true (argument_trees args w)) in
-      (anything dot, (anything name, (refl, arguments args W.list_due refl refl (level_up q.settings) w name_at _ (links rest (spot_after_dot q l) w k h))))
+      (anything dot, (anything name, (refl, arguments args V.list_due refl refl (level_up q.settings) w name_at _ (links rest (spot_after_dot q l) w k h))))
 
   operand : (x : Operand) (c : Context) (w : Live) (ranged : Bool) (k : Demands) → IsFair k → IsFair (W.operand x c w ranged k)
   operand (form.Linked x list) c w ranged k h = base x c w ranged _ (links list (spot_after_operand c (base_tree x w)) w k h)
   operand (form.Signed sign at x) c w ranged k h = λ e.
       (operand_due ranged sign (sign_due sign (beginning sign) e), operand x (level_up c) w false _ h)
   operand (form.NoOperand token at) c w ranged k h = λ e.
-      (unless (is_memory token) (W.operand_due ranged token) (none_due (ranged && omits_operand token) (W.beginning_due token (beginning token)) e), h)
+      (unless (is_memory token) (V.operand_due ranged token) (none_due (ranged && omits_operand token) (V.beginning_due token (beginning token)) e), h)
 
   arguments : (x : Arguments) (others : Lexeme → Verdict) → is_refused (verdict others (Sign token.Unit)) ≡ false → is_refused (verdict others (Sign token.LeftParen)) ≡ false → (c : Context) (w : Live) (name : Position) (k : Demands) → IsFair k → IsFair (W.arguments x others c w name k)
   arguments (form.EmptyPair at) others pair list c w name k h = (pair, h)
@@ -128,9 +131,9 @@ mutual
   fields : (x : Fields) (before : Properties) (c : Context) (w : Live) (opening : Position) (k : Demands) → IsFair k → IsFair (W.fields x before c w opening k)
   fields (form.NoField closing) before c w opening k h = (refl, h)
   fields (form.LastField key at colon f closing) before c w opening k h = λ e.
-      (unless (is_memory key) _ (key_due (W.next_key c.settings before key) e), (refl, run f (outermost (level_up (level_up c)) w) _ (refl, h)))
+      (unless (is_memory key) _ (key_due (V.next_key c.settings before key) e), (refl, run f (outermost (level_up (level_up c)) w) _ (refl, h)))
   fields (form.Field key at colon f comma rest) before c w opening k h = λ e. (
-    unless (is_memory key) _ (key_due (W.next_key c.settings before key) e),
+    unless (is_memory key) _ (key_due (V.next_key c.settings before key) e),
     (refl, run f (outermost (level_up (level_up c)) w) _ (refl, fields rest (with_property before (text_of key) at (tree f w)) c w opening k h)),
   )
 

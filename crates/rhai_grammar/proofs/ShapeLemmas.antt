@@ -16,10 +16,16 @@ use Rattle.rhai_grammar.specs.Forms as form
 use Rattle.rhai_grammar.specs.Forms.{Arguments, Base, Elements, Fields, Items, Links, Operand, Primary, Run}
 use Rattle.rhai_grammar.specs.Laws.{TreesKeepShape}
 use Rattle.rhai_grammar.specs.Operators as O
-use Rattle.rhai_grammar.specs.Operators.{Joining, ListKind, Part, joined, joined_tree, joining, list_of_parts, operator_tree, part}
+use Rattle.rhai_grammar.specs.Operators.{Part, joined, joined_tree, joining, list_of_parts, operator_tree, part}
 use Rattle.rhai_grammar.specs.Shapes as shape
 use Rattle.rhai_grammar.specs.Shapes.{bang_shape, node_shape, nodes_shape}
-use Rattle.rhai_grammar.specs.Signs.{Effect, Keeps, Negates, affected, effect, plain_sign, signed}
+use Rattle.rhai_grammar.specs.declared.role.Effect.{Effect}
+use Rattle.rhai_grammar.specs.declared.role.Effect.TheVariants.{Keeps, Negates}
+use Rattle.rhai_grammar.specs.declared.role.ListKind.{ListKind}
+use Rattle.rhai_grammar.specs.declared.role.ListKind.TheVariants as lists
+use Rattle.rhai_grammar.specs.declared.role.Joining.{Joining}
+use Rattle.rhai_grammar.specs.declared.role.Joining.TheVariants as joins
+use Rattle.rhai_grammar.specs.Signs.{affected, effect, plain_sign, signed}
 use Rattle.rhai_grammar.specs.Trees as T
 use Rattle.rhai_grammar.specs.Trees.{argument_trees, base_tree, call_tree, link_list, method_tree, name_of, node_count, operand_tree, primary_tree, tree, word_tree}
 
@@ -72,9 +78,9 @@ part_shape (O.Items ns p) = O.Items (nodes_shape ns) nowhere
 part_shape (O.Item n) = O.Item (node_shape n)
 
 operand_part : (k : ListKind) (n : Node) → part k (node_shape n) ≡ part_shape (part k n)
-operand_part O.Conjunction (node.conjunction ns p) = refl
-operand_part O.Disjunction (node.disjunction ns p) = refl
-operand_part O.Coalescing (node.coalescing ns p) = refl
+operand_part lists.And (node.conjunction ns p) = refl
+operand_part lists.Or (node.disjunction ns p) = refl
+operand_part lists.Coalesce (node.coalescing ns p) = refl
 operand_part _ n = refl
 
 part_items : (a : Part) → O.items (part_shape a) ≡ nodes_shape (O.items a)
@@ -86,9 +92,9 @@ part_stands (O.Items ns p) = refl
 part_stands (O.Item n) = refl
 
 list : (k : ListKind) (ns : Nodes) (p : Position) → node_shape (O.list_tree k ns p) ≡ O.list_tree k (nodes_shape ns) nowhere
-list O.Conjunction ns p = refl
-list O.Disjunction ns p = refl
-list O.Coalescing ns p = refl
+list lists.And ns p = refl
+list lists.Or ns p = refl
+list lists.Coalesce ns p = refl
 
 parts : (k : ListKind) (p : Position) (a b : Part) → node_shape (list_of_parts k p a b) ≡ list_of_parts k nowhere (part_shape a) (part_shape b)
 parts k p a b =
@@ -100,13 +106,13 @@ parts k p a b =
     cc
 
 join_tree : (j : Joining) (op : Lexeme) (p : Position) (a b : Node) → node_shape (joined_tree j op p a b) ≡ joined_tree j op nowhere (node_shape a) (node_shape b)
-join_tree (O.Lists k) op p a b =
+join_tree (joins.List k) op p a b =
     parts k p (part k a) (part k b)
     ∙ ap (λ x. list_of_parts k nowhere x (part_shape (part k b))) (sym (operand_part k a))
     ∙ ap (λ x. list_of_parts k nowhere (part k (node_shape a)) x) (sym (operand_part k b))
-join_tree O.Membership op p a b = refl
-join_tree O.NoMembership op p a b = refl
-join_tree O.MakesCall op p a b = refl
+join_tree joins.Membership op p a b = refl
+join_tree joins.NoMembership op p a b = refl
+join_tree joins.Call op p a b = refl
 
 -- ---- chains
 

@@ -22,8 +22,12 @@ use Rattle.rhai_grammar.specs.Trees.{bracket_link, member_link, method_tree, pri
 use Rattle.rhai_grammar.specs.Chains.{index_refusal, last_fault}
 use Rattle.rhai_grammar.specs.Spelling.{in_code, primary_spelling, base_spelling, link_spelling, operand_spelling, argument_spelling, item_spelling, element_spelling, field_spelling, spelling, is_deliverable, IsDelivered}
 use Rattle.rhai_grammar.specs.Demands.{Verdict, Fine, Wrong, Otherwise, Demands, Nothing, ◌▸◌, Next, Met}
+use Rattle.rhai_grammar.specs.Verdicts as V
 use Rattle.rhai_grammar.specs.Written as W
-use Rattle.rhai_grammar.specs.Written.{LinkSpot, spot_after_operand, spot_after_bracket, spot_after_dot, Side, Outermost, RightOf, Spot, outermost, right_side, height_after, is_ranged, raise_after, operands_fit, end_due, run_ends}
+use Rattle.rhai_grammar.specs.Written.{raise_after, operands_fit}
+use Rattle.rhai_grammar.specs.Verdicts.{end_due, run_ends}
+use Rattle.rhai_grammar.specs.Spots.{LinkSpot, spot_after_operand, spot_after_bracket, spot_after_dot, Side}
+use Rattle.rhai_grammar.specs.Spots.{Outermost, RightOf, Spot, outermost, right_side, height_after, is_ranged}
 use Rattle.rhai_grammar.specs.Laws.{EntriesAreDelivered, FormsAreSpelled, StreamsAreWhole}
 use Rattle.rhai_grammar.proofs.SeenLemmas.{both, leads_on}
 
@@ -88,11 +92,11 @@ mutual
       record { end = p.end; met = p.met.1; way = p.way }
   base_spelled (form.Call x None args) c w ranged k s t m =
       let p = primary_spelled x c w ranged _ s t m in
-      let a = arguments_spelled args W.anything c w (position_of (primary_tree x w true)) k p.end t p.met.1 in
+      let a = arguments_spelled args V.anything c w (position_of (primary_tree x w true)) k p.end t p.met.1 in
       record { end = a.end; met = a.met; way = along (primary_spelling x) (argument_spelling args) _ p.end.tokens _ p.way a.way }
   base_spelled (form.Call x (Some bang) args) c w ranged k s t m =
       let p = primary_spelled x c w ranged _ s t m in
-      let a = arguments_spelled args W.list_due c w (position_of (primary_tree x w true)) k (past M.code p.end) t p.met.1.1 in
+      let a = arguments_spelled args V.list_due c w (position_of (primary_tree x w true)) k (past M.code p.end) t p.met.1.1 in
       record {
         end = a.end;
         met = a.met;
@@ -123,7 +127,7 @@ mutual
       }
   links_spelled (form.Method dot at name name_at None args rest) q w k s t m =
       let x = method_tree (text_of name) name_at false (argument_trees args w) in
-      let a = arguments_spelled args W.anything (level_up q.settings) w name_at _ (past M.code (past M.code s)) t m.1.1.1.1.1.1.1 in
+      let a = arguments_spelled args V.anything (level_up q.settings) w name_at _ (past M.code (past M.code s)) t m.1.1.1.1.1.1.1 in
       let r = links_spelled rest (spot_after_dot q (member_link dot at x)) w k a.end t a.met in
       record {
         end = r.end;
@@ -135,7 +139,7 @@ mutual
   links_spelled (form.Method dot at name name_at (Some bang) args rest) q w k s t m =
       let x = method_tree (text_of name) name_at true (argument_trees args w) in
       let p = past M.code (past M.code s) in
-      let a = arguments_spelled args W.list_due (level_up q.settings) w name_at _ (past M.code p) t m.1.1.1.1.1.1.1.1 in
+      let a = arguments_spelled args V.list_due (level_up q.settings) w name_at _ (past M.code p) t m.1.1.1.1.1.1.1.1 in
       let r = links_spelled rest (spot_after_dot q (member_link dot at x)) w k a.end t a.met in
       record {
         end = r.end;

@@ -21,9 +21,11 @@ use Rattle.rhai_grammar.specs.Spelling.{argument_spelling, base_spelling, elemen
 use Rattle.rhai_grammar.specs.Spelling.{item_spelling, link_spelling, operand_spelling, primary_spelling, spelling}
 use Rattle.rhai_grammar.specs.Trees.{argument_trees, base_tree, bracket_link, member_link, method_tree}
 use Rattle.rhai_grammar.specs.Trees.{primary_tree, tree}
+use Rattle.rhai_grammar.specs.Verdicts as V
 use Rattle.rhai_grammar.specs.Written as W
-use Rattle.rhai_grammar.specs.Written.{LinkSpot, Outermost, RightOf, Side, Spot, spot_after_bracket, spot_after_dot}
-use Rattle.rhai_grammar.specs.Written.{spot_after_operand, height_after, is_ranged, operands_fit, outermost, right_side}
+use Rattle.rhai_grammar.specs.Spots.{LinkSpot, Outermost, RightOf, Side, Spot, spot_after_bracket, spot_after_dot}
+use Rattle.rhai_grammar.specs.Written.{operands_fit}
+use Rattle.rhai_grammar.specs.Spots.{spot_after_operand, height_after, is_ranged, outermost, right_side}
 use Rattle.rhai_grammar.proofs.SpellingLemmas.{end_follows}
 
 -- ---- demands
@@ -168,11 +170,11 @@ mutual
   base (form.Plain x) c w ranged k rest h = primary x c w ranged _ rest h
   base (form.Call x None args) c w ranged k rest h =
       primary_on x c w ranged _ (argument_spelling args) rest
-      (primary x c w ranged _ _ (λ e. arguments args W.anything c w (position_of (primary_tree x w true)) k rest h))
+      (primary x c w ranged _ _ (λ e. arguments args V.anything c w (position_of (primary_tree x w true)) k rest h))
   base (form.Call x (Some bang) args) c w ranged k rest h =
       let name = position_of (primary_tree x w true) in
       primary_on x c w ranged _ (in_code (Sign token.Bang) bang ∷ argument_spelling args) rest
-      (primary x c w ranged _ _ (λ e. (_, refl, arguments args W.list_due c w name k rest h)))
+      (primary x c w ranged _ _ (λ e. (_, refl, arguments args V.list_due c w name k rest h)))
 
   links : (x : Links) (q : LinkSpot) (w : Live) (k : Demands) (rest : List Taken) → Asks rest k
       → Asks (link_spelling x ++ rest) (W.links x q w k)
@@ -192,15 +194,15 @@ mutual
       let l = member_link dot at (method_tree (text_of name) name_at false (argument_trees args w)) in
       let r = links more (spot_after_dot q l) w k rest h in
       let c = level_up q.settings in
-      let a = arguments_on args W.anything c w name_at _ (link_spelling more) rest
-      (arguments args W.anything c w name_at _ _ r) in
+      let a = arguments_on args V.anything c w name_at _ (link_spelling more) rest
+      (arguments args V.anything c w name_at _ _ r) in
       (_, refl, (_, refl, a))
   links (form.Method dot at name name_at (Some bang) args more) q w k rest h = λ d e.
       let l = member_link dot at (method_tree (text_of name) name_at true (argument_trees args w)) in
       let r = links more (spot_after_dot q l) w k rest h in
       let c = level_up q.settings in
-      let a = arguments_on args W.list_due c w name_at _ (link_spelling more) rest
-      (arguments args W.list_due c w name_at _ _ r) in
+      let a = arguments_on args V.list_due c w name_at _ (link_spelling more) rest
+      (arguments args V.list_due c w name_at _ _ r) in
       (_, refl, (_, refl, (_, refl, a)))
 
   operand : (x : Operand) (c : Context) (w : Live) (ranged : Bool) (k : Demands) (rest : List Taken) → Asks rest k

@@ -25,11 +25,11 @@ nothing_live = record { slots = [] }
 
 -- a raise of the level is possible
 abbrev pub has_room : Context → Bool
-has_room c = settings.has_room c.settings
+has_room context = settings.has_room context.settings
 
 -- one level deeper
 abbrev pub level_up : Context → Context
-level_up c = record c { settings = settings.level_up c.settings }
+level_up context = record context { settings = settings.level_up context.settings }
 
 -- A literal with this number of parts has no room for one more.
 abbrev pub full : (limit count : ℕ) → Bool

@@ -20,21 +20,22 @@ use Rattle.rhai_grammar.specs.Promises.{IsWritten}
 -- A form whose demands are met is spelled by the tokens that were taken.
 abbrev pub FormsAreSpelled : Type 0
 FormsAreSpelled =
-    (c : Context) (w : Live) (f : Run) (s t : Point) → Met (whole_expression f c w) s t
+    (context : Context) (live : Live) (f : Run) (s t : Point) → Met (whole_expression f context live) s t
     → Gives (spelling f) s.tokens × (t.tokens ≡ leads (spelling f) s.tokens)
 
 -- A form that fits on one stream fits on every stream that begins with its spelling and goes on with the end mark. What
 -- else these streams would deliver, as in text mode, and the position of the end mark make no difference.
 abbrev pub FormsFitWhereverSpelled : Type 0
 FormsFitWhereverSpelled =
-    (c : Context) (w : Live) (f : Run) (s t other : Point) → Met (whole_expression f c w) s t
+    (context : Context) (live : Live) (f : Run) (s t other : Point) → Met (whole_expression f context live) s t
     → Gives (spelling f) other.tokens → is_end (ask code (leads (spelling f) other.tokens)).lexeme ≡ true
-    → (end : Point) × Met (whole_expression f c w) other end
+    → (end : Point) × Met (whole_expression f context live) other end
 
 -- After a form that fits and spells a delivered stream, the stream is at its end.
 abbrev pub StreamsAreWhole : Type 0
 StreamsAreWhole =
-    (c : Context) (w : Live) (f : Run) (s t : Point) → IsDelivered s.tokens → Met (whole_expression f c w) s t
+    (context : Context) (live : Live) (f : Run) (s t : Point) → IsDelivered s.tokens
+    → Met (whole_expression f context live) s t
     → (end : Position) × (t.tokens ≡ Ends end)
 
 -- Entries that may be delivered make a delivered stream.
@@ -46,7 +47,8 @@ EntriesAreDelivered =
 -- Two forms that fit and spell the same stream have the same tree.
 abbrev pub FormsHaveOneTree : Type 0
 FormsHaveOneTree =
-    (c : Context) (w : Live) (s : Cursor) (f g : Run) → IsWritten c w f s → IsWritten c w g s → tree f w ≡ tree g w
+    (context : Context) (live : Live) (s : Cursor) (f g : Run) → IsWritten context live f s → IsWritten context live g s
+    → tree f live ≡ tree g live
 
 -- a verdict that is an error
 abbrev pub is_refused : Verdict → Bool
@@ -66,13 +68,14 @@ IsFair (Shape holds ▸ ds) = holds ≡ true → IsFair ds
 -- In no form is a token both required and refused at one place. So if a form fits along a stream, it gives no error
 -- there.
 pub record FormsAreFair : Type 0 where
-  pub fair : (c : Context) (w : Live) (f : Run) → IsFair (whole_expression f c w)
-  pub apart : (c : Context) (w : Live) (f : Run) (s t u : Point) (e : Refusal) →
-      Met (whole_expression f c w) s t → Missed (whole_expression f c w) s e u → ⊥
+  pub fair : (context : Context) (live : Live) (f : Run) → IsFair (whole_expression f context live)
+  pub apart : (context : Context) (live : Live) (f : Run) (s t u : Point) (e : Refusal) →
+      Met (whole_expression f context live) s t → Missed (whole_expression f context live) s e u → ⊥
 
 -- Forms that are equal up to positions have trees that are equal up to positions.
 abbrev pub TreesKeepShape : Type 0
-TreesKeepShape = (w : Live) (f g : Run) → run_shape f ≡ run_shape g → node_shape (tree f w) ≡ node_shape (tree g w)
+TreesKeepShape = (live : Live) (f g : Run) → run_shape f ≡ run_shape g → node_shape (tree f live)
+    ≡ node_shape (tree g live)
 
 -- links, and others after them
 abbrev pub followed : Links → Links → Links
@@ -90,8 +93,8 @@ grouped_chain opening x links closing more = Just (Linked (Plain (Group opening 
 -- the two forms fit or not. If the other tokens keep their positions, the trees are equal: the parentheses leave no
 -- trace. Otherwise, as in two scripts, the trees are equal up to positions.
 pub record ChainsAreJoined : Type 0 where
-  pub equal : (w : Live) (opening closing : Position) (x : Base) (links more : Links) →
-      tree (grouped_chain opening x links closing more) w ≡ tree (Just (Linked x (followed links more))) w
-  pub same_shape : (w : Live) (opening closing : Position) (x : Base) (links more : Links) (f : Run) →
+  pub equal : (live : Live) (opening closing : Position) (x : Base) (links more : Links) →
+      tree (grouped_chain opening x links closing more) live ≡ tree (Just (Linked x (followed links more))) live
+  pub same_shape : (live : Live) (opening closing : Position) (x : Base) (links more : Links) (f : Run) →
       run_shape f ≡ run_shape (Just (Linked x (followed links more))) →
-      node_shape (tree (grouped_chain opening x links closing more) w) ≡ node_shape (tree f w)
+      node_shape (tree (grouped_chain opening x links closing more) live) ≡ node_shape (tree f live)

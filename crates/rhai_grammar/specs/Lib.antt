@@ -18,6 +18,8 @@ pub mod Literals
 pub mod Chains
 pub mod Trees
 pub mod Demands
+pub mod Verdicts
+pub mod Spots
 pub mod Written
 pub mod Promises
 pub mod Spelling

@@ -10,6 +10,10 @@ use Rattle.rhai_lower.specs.declared.token.Token.TheVariants.{And, Or, DoubleQue
 use Rattle.rhai_grammar.specs.Causes.{Refusal, refusal, MismatchedType}
 use Rattle.rhai_grammar.specs.Kinds.{not_boolean}
 use Rattle.rhai_grammar.specs.Signs.{sign_call}
+use Rattle.rhai_grammar.specs.declared.role.ListKind.{ListKind}
+use Rattle.rhai_grammar.specs.declared.role.ListKind.TheVariants as lists
+use Rattle.rhai_grammar.specs.declared.role.Joining.{Joining}
+use Rattle.rhai_grammar.specs.declared.role.Joining.TheVariants as joins
 
 -- a native-only call of two arguments, with the written operator as its name
 abbrev pub operator_called : Lexeme → Called
@@ -52,17 +56,11 @@ no_membership op at left right = sign_call (Sign Bang) at (contains_call (Some o
 
 -- ---- `&&`, `||` and `??`
 
--- lists of two or more operands
-pub data ListKind : Type 0 where
-  Conjunction : ListKind
-  Disjunction : ListKind
-  Coalescing : ListKind
-
 -- the list of these operands, at this position
 abbrev pub list_tree : ListKind → Nodes → Position → Node
-list_tree Conjunction ns at = conjunction ns at
-list_tree Disjunction ns at = disjunction ns at
-list_tree Coalescing ns at = coalescing ns at
+list_tree lists.And ns at = conjunction ns at
+list_tree lists.Or ns at = disjunction ns at
+list_tree lists.Coalesce ns at = coalescing ns at
 
 -- an operand of such an operator: a list of the same kind, or one item
 pub data Part : Type 0 where
@@ -71,9 +69,9 @@ pub data Part : Type 0 where
 
 -- an operand, as part of a list of this kind
 abbrev pub part : ListKind → Node → Part
-part Conjunction (conjunction ns p) = Items ns p
-part Disjunction (disjunction ns p) = Items ns p
-part Coalescing (coalescing ns p) = Items ns p
+part lists.And (conjunction ns p) = Items ns p
+part lists.Or (disjunction ns p) = Items ns p
+part lists.Coalesce (coalescing ns p) = Items ns p
 part kind n = Item n
 
 -- the items of one list, then those of another
@@ -100,27 +98,20 @@ list_of kind at left right = list_of_parts kind at (part kind left) (part kind r
 
 -- ---- all operators
 
--- how an operator joins its operands
-pub data Joining : Type 0 where
-  Lists : ListKind → Joining
-  Membership : Joining
-  NoMembership : Joining
-  MakesCall : Joining
-
 -- how this operator joins its operands
 abbrev pub joining : Lexeme → Joining
-joining (Sign And) = Lists Conjunction
-joining (Sign Or) = Lists Disjunction
-joining (Sign DoubleQuestion) = Lists Coalescing
-joining (Sign In) = Membership
-joining (Sign NotIn) = NoMembership
-joining _ = MakesCall
+joining (Sign And) = joins.List lists.And
+joining (Sign Or) = joins.List lists.Or
+joining (Sign DoubleQuestion) = joins.List lists.Coalesce
+joining (Sign In) = joins.Membership
+joining (Sign NotIn) = joins.NoMembership
+joining _ = joins.Call
 
 abbrev pub joined_tree : Joining → Lexeme → Position → Node → Node → Node
-joined_tree (Lists kind) op at left right = list_of kind at left right
-joined_tree Membership op at left right = contains_call None at left right
-joined_tree NoMembership op at left right = no_membership op at left right
-joined_tree MakesCall op at left right = operator_call op at left right
+joined_tree (joins.List kind) op at left right = list_of kind at left right
+joined_tree joins.Membership op at left right = contains_call None at left right
+joined_tree joins.NoMembership op at left right = no_membership op at left right
+joined_tree joins.Call op at left right = operator_call op at left right
 
 -- the tree of an operator at a position with its operands
 abbrev pub operator_tree : Lexeme → Position → Node → Node → Node
@@ -128,8 +119,8 @@ operator_tree op at left right = joined_tree (joining op) op at left right
 
 -- the operands of `&&` and `||` must be possible booleans
 abbrev pub takes_booleans : Joining → Bool
-takes_booleans (Lists Conjunction) = true
-takes_booleans (Lists Disjunction) = true
+takes_booleans (joins.List lists.And) = true
+takes_booleans (joins.List lists.Or) = true
 takes_booleans _ = false
 
 -- the operator takes this operand, which must be a possible boolean for `&&` and `||`

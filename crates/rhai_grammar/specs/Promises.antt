@@ -21,7 +21,7 @@ start_of s = record { tokens = s.tokens; taken = [] }
 
 -- An expression fits and spells a whole stream, up to its end mark.
 abbrev pub IsWritten : Context → Live → Run → Cursor → Type 0
-IsWritten c w f s = (t : Point) × Met (whole_expression f c w) (start_of s) t
+IsWritten context live f s = (t : Point) × Met (whole_expression f context live) (start_of s) t
 
 -- ---- the answer
 
@@ -65,25 +65,28 @@ UnlessMemory P (Err e) = is_for_memory e ≡ false → P
 -- ---- refusals
 
 -- A form misses its next demand at the place where the stream is now, with this error.
-pub record IsNamed (c : Context) (w : Live) (taken : List Taken) (start left : Cursor) (e : Refusal) : Type 0 where
-  pub form : Run
-  pub missed : Missed (whole_expression form c w) (start_of start) e (record {
-    tokens = left.tokens;
-    taken = latest_first taken [];
-  })
-  pub last : StandsAtLast e left
+pub record IsNamed (context : Context) (live : Live) (taken : List Taken) (start left : Cursor) (e : Refusal) : Type 0
+  where
+    pub form : Run
+    pub missed : Missed (whole_expression form context live) (start_of start) e (record {
+      tokens = left.tokens;
+      taken = latest_first taken [];
+    })
+    pub last : StandsAtLast e left
 
 -- No form that fits begins with the tokens seen.
 abbrev pub NoneBegins : Context → Live → List Taken → Cursor → Type 0
-NoneBegins c w taken left = (f : Run) (s : Cursor) → IsWritten c w f s → BeginsWith taken left s.tokens → ⊥
+NoneBegins context live taken left = (f : Run) (s : Cursor) → IsWritten context live f s
+    → BeginsWith taken left s.tokens → ⊥
 
 -- A refusal after the tokens seen. The last token was peeked in code mode.
-pub record IsRefused (c : Context) (w : Live) (taken : List Taken) (start left : Cursor) (e : Refusal) : Type 0 where
-  pub saw : Saw taken start left
-  pub named : IsNamed c w taken start left e
-  pub early : NoneBegins c w taken left
-  pub memory : IsReadable taken left
-  pub mode : left.mode ≡ code
+pub record IsRefused (context : Context) (live : Live) (taken : List Taken) (start left : Cursor) (e : Refusal) : Type 0
+  where
+    pub saw : Saw taken start left
+    pub named : IsNamed context live taken start left e
+    pub early : NoneBegins context live taken left
+    pub memory : IsReadable taken left
+    pub mode : left.mode ≡ code
 
 -- ---- the promise
 
@@ -94,9 +97,10 @@ pub record IsRefused (c : Context) (w : Live) (taken : List Taken) (start left :
 -- - `only`: with an empty library, for each such form the result is the script of its tree, unless memory ran out;
 -- - `refused`: an error other than out of memory is one that a form gives after the tokens seen, and no form that fits
 --   begins with these tokens.
-pub record ReadsExpression {F : Type 0} (library : List F) (c : Context) (w : Live) (start left : Cursor)
+pub record ReadsExpression {F : Type 0} (library : List F) (context : Context) (live : Live) (start left : Cursor)
     (result : Result AST ParseError) : Type 0 where
-  pub accepted : library ≡ [] → IfOk result (λ script. (f : Run) × IsWritten c w f start × IsScriptOf (tree f w) script)
-  pub only : library ≡ [] → (f : Run) → IsWritten c w f start → Accepts (tree f w) result
+  pub accepted : library ≡ [] → IfOk result (λ script. (f : Run) × IsWritten context live f start
+      × IsScriptOf (tree f live) script)
+  pub only : library ≡ [] → (f : Run) → IsWritten context live f start → Accepts (tree f live) result
   pub refused : IfErr result (λ e. is_for_memory e ≡ false
-      → (taken : List Taken) × IsRefused c w taken start left (refusal_of e))
+      → (taken : List Taken) × IsRefused context live taken start left (refusal_of e))

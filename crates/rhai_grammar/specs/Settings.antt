@@ -11,15 +11,15 @@ pub record Settings : Type 0 where
 
 -- the bit of the flags that says that a function's body is parsed
 abbrev pub in_function : Settings → Bool
-in_function c = bit_and c.flags 2 == 2
+in_function settings = bit_and settings.flags 2 == 2
 
 -- the bit of the flags that requires strings as keys of object maps
 abbrev pub quoted_keys : Settings → Bool
-quoted_keys c = bit_and c.flags 32 == 32
+quoted_keys settings = bit_and settings.flags 32 == 32
 
 -- a raise is possible
 abbrev pub has_room : Settings → Bool
-has_room c = (c.limit == 0) || nat_lt c.level c.limit
+has_room settings = (settings.limit == 0) || nat_lt settings.level settings.limit
 
 -- one level more; saturates at the greatest `usize`
 unfoldable pub one_more : ℕ → ℕ
@@ -27,7 +27,7 @@ one_more n = min (n + 1) (2 ^ 64 - 1)
 
 -- the settings one level deeper
 abbrev pub level_up : Settings → Settings
-level_up c = record c { level = one_more c.level }
+level_up settings = record settings { level = one_more settings.level }
 
 abbrev at_level : ℕ → ℕ → Settings
 at_level limit level = record { flags = 0; options = 0; level = level; limit = limit }

@@ -10,6 +10,8 @@ use Rattle.rhai_lower.specs.Nodes.{Called, Node, integer, call, no_nodes, one_no
 use Rattle.rhai_lower.specs.declared.position.Position.{Position}
 use Rattle.rhai_lower.specs.declared.token.Token.TheVariants.{Minus, Plus, UnaryMinus, UnaryPlus, Bang}
 use Rattle.rhai_grammar.specs.Causes.{Refusal, refusal, BadInput, MalformedNumber}
+use Rattle.rhai_grammar.specs.declared.role.Effect.{Effect}
+use Rattle.rhai_grammar.specs.declared.role.Effect.TheVariants.{Negates, Keeps, Calls}
 
 -- the sign as a call names it: `-` and `+` have one token each there, whichever was delivered
 abbrev pub plain_sign : Lexeme → Lexeme
@@ -17,19 +19,13 @@ plain_sign (Sign UnaryMinus) = Sign Minus
 plain_sign (Sign UnaryPlus) = Sign Plus
 plain_sign op = op
 
--- what a sign does to an integer constant: it negates it, keeps it, or makes a call, as for anything else
-pub data Effect : Type 0 where
-  Negates : Effect
-  Keeps : Effect
-  MakesCall : Effect
-
--- what this sign does to an integer constant
+-- what this sign does to an integer constant: it negates it, keeps it, or makes a call, as for anything else
 abbrev pub effect : Lexeme → Effect
 effect (Sign Minus) = Negates
 effect (Sign UnaryMinus) = Negates
 effect (Sign Plus) = Keeps
 effect (Sign UnaryPlus) = Keeps
-effect _ = MakesCall
+effect _ = Calls
 
 -- a native-only call of one argument, with the sign as its name
 abbrev pub sign_called : Lexeme → Called

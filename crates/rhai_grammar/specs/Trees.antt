@@ -93,56 +93,57 @@ method_tree name at bang arguments = method_call (method_called name bang (node_
 
 abbrev mutual
   pub primary_tree : Primary → Live → (called : Bool) → Node
-  primary_tree (form.Value token at) w called = value_of token at
-  primary_tree (form.Named name at) w called = name_tree w.slots called name at
-  primary_tree (form.Word word at) w called = word_tree word at
-  primary_tree (form.Group opening inside closing) w called = tree inside w
-  primary_tree (form.Array opening elements) w called = array (element_trees elements w) opening
-  primary_tree (form.Map opening fields) w called = object_map (field_trees fields w) opening
-  primary_tree (form.Zero range at) w called = integer (pos 0) at
+  primary_tree (form.Value token at) live called = value_of token at
+  primary_tree (form.Named name at) live called = name_tree live.slots called name at
+  primary_tree (form.Word word at) live called = word_tree word at
+  primary_tree (form.Group opening inside closing) live called = tree inside live
+  primary_tree (form.Array opening elements) live called = array (element_trees elements live) opening
+  primary_tree (form.Map opening fields) live called = object_map (field_trees fields live) opening
+  primary_tree (form.Zero range at) live called = integer (pos 0) at
 
   pub base_tree : Base → Live → Node
-  base_tree (form.Plain x) w = primary_tree x w false
-  base_tree (form.Call x bang arguments) w =
-      call_tree (primary_tree x w true) (is_some bang) (argument_trees arguments w)
+  base_tree (form.Plain x) live = primary_tree x live false
+  base_tree (form.Call x bang arguments) live =
+      call_tree (primary_tree x live true) (is_some bang) (argument_trees arguments live)
 
   pub link_list : Links → Live → List Link
-  link_list form.NoLink w = []
-  link_list (form.Bracket opening at f closing rest) w = bracket_link opening at (tree f w) ∷ link_list rest w
-  link_list (form.Property dot at name name_at rest) w = member_link dot at (property name name_at) ∷ link_list rest w
-  link_list (form.Method dot at name name_at bang arguments rest) w =
-      member_link dot at (method_tree (text_of name) name_at (is_some bang) (argument_trees arguments w)) ∷ link_list
-      rest w
+  link_list form.NoLink live = []
+  link_list (form.Bracket opening at f closing rest) live = bracket_link opening at (tree f live) ∷ link_list rest live
+  link_list (form.Property dot at name name_at rest) live =
+      member_link dot at (property name name_at) ∷ link_list rest live
+  link_list (form.Method dot at name name_at bang arguments rest) live =
+      member_link dot at (method_tree (text_of name) name_at (is_some bang) (argument_trees arguments live)) ∷ link_list
+      rest live
 
   pub operand_tree : Operand → Live → Node
-  operand_tree (form.Linked x links) w = chained (base_tree x w) (link_list links w)
-  operand_tree (form.Signed sign at x) w = signed sign at (operand_tree x w)
-  operand_tree (form.NoOperand token at) w = unit at
+  operand_tree (form.Linked x links) live = chained (base_tree x live) (link_list links live)
+  operand_tree (form.Signed sign at x) live = signed sign at (operand_tree x live)
+  operand_tree (form.NoOperand token at) live = unit at
 
   pub argument_trees : Arguments → Live → Nodes
-  argument_trees (form.EmptyPair at) w = no_nodes
-  argument_trees (form.Empty opening closing) w = no_nodes
-  argument_trees (form.Listed opening items) w = item_trees items w
+  argument_trees (form.EmptyPair at) live = no_nodes
+  argument_trees (form.Empty opening closing) live = no_nodes
+  argument_trees (form.Listed opening items) live = item_trees items live
 
   pub item_trees : Items → Live → Nodes
-  item_trees (form.Last f closing) w = one_node (tree f w) no_nodes
-  item_trees (form.Trailing f comma closing) w = one_node (tree f w) no_nodes
-  item_trees (form.More f comma items) w = one_node (tree f w) (item_trees items w)
+  item_trees (form.Last f closing) live = one_node (tree f live) no_nodes
+  item_trees (form.Trailing f comma closing) live = one_node (tree f live) no_nodes
+  item_trees (form.More f comma items) live = one_node (tree f live) (item_trees items live)
 
   pub element_trees : Elements → Live → Nodes
-  element_trees (form.NoElement closing) w = no_nodes
-  element_trees (form.LastElement f closing) w = one_node (tree f w) no_nodes
-  element_trees (form.Element f comma elements) w = one_node (tree f w) (element_trees elements w)
+  element_trees (form.NoElement closing) live = no_nodes
+  element_trees (form.LastElement f closing) live = one_node (tree f live) no_nodes
+  element_trees (form.Element f comma elements) live = one_node (tree f live) (element_trees elements live)
 
   pub field_trees : Fields → Live → Properties
-  field_trees (form.NoField closing) w = no_properties
-  field_trees (form.LastField key at colon f closing) w = one_property (text_of key) at (tree f w) no_properties
-  field_trees (form.Field key at colon f comma fields) w =
-      one_property (text_of key) at (tree f w) (field_trees fields w)
+  field_trees (form.NoField closing) live = no_properties
+  field_trees (form.LastField key at colon f closing) live = one_property (text_of key) at (tree f live) no_properties
+  field_trees (form.Field key at colon f comma fields) live =
+      one_property (text_of key) at (tree f live) (field_trees fields live)
 
   pub tree : Run → Live → Node
-  tree (form.Just x) w = operand_tree x w
-  tree (form.Binary op at l r) w = operator_tree op at (tree l w) (tree r w)
+  tree (form.Just x) live = operand_tree x live
+  tree (form.Binary op at l r) live = operator_tree op at (tree l live) (tree r live)
 
 abbrev example_one : (column : ℕ) → Run
 example_one column = form.Just (form.Linked (form.Plain (form.Value (Integer (pos 1)) (place 1 column))) form.NoLink)

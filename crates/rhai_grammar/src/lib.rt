@@ -15,4 +15,4 @@ pub use error::{InputError, ParseError, ParseErrorType, ParseResult};
 pub use filter::ExprFilter;
 pub use key::FnKey;
 pub use list::{AfterPart, CommaList};
-pub use role::{Beginning, Calling, ItemPlace, Linking};
+pub use role::{Beginning, Calling, Effect, ItemPlace, Joining, Linking, ListKind};

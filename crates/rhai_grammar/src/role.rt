@@ -57,3 +57,38 @@ pub enum ItemPlace {
     /// It may not stand there.
     Nothing,
 }
+
+/// What a sign does to an integer constant.
+#[derive(Clone, Copy, PartialEq, Eq, Debug)]
+pub enum Effect {
+    /// It gives the negated integer.
+    Negates,
+    /// It gives the integer itself.
+    Keeps,
+    /// It is a call, as for any other operand.
+    Calls,
+}
+
+/// The lists that operators make of their operands.
+#[derive(Clone, Copy, PartialEq, Eq, Debug)]
+pub enum ListKind {
+    /// The operands of `&&`.
+    And,
+    /// The operands of `||`.
+    Or,
+    /// The operands of `??`.
+    Coalesce,
+}
+
+/// How an operator joins its operands.
+#[derive(Clone, Copy, PartialEq, Eq, Debug)]
+pub enum Joining {
+    /// Into a list.
+    List(ListKind),
+    /// Into a call of `contains`.
+    Membership,
+    /// Into the negation of such a call.
+    NoMembership,
+    /// Into a call with the operator as its name.
+    Call,
+}

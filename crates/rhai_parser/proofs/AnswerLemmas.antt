@@ -17,7 +17,7 @@ use Rattle.rhai_grammar.specs.declared.role.Calling.{Calling}
 use Rattle.rhai_grammar.specs.declared.role.Calling.TheVariants as calls_by
 use Rattle.rhai_grammar.specs.Beginnings.{is_sign, is_list, missing, calls, is_this, may_be_called}
 use Rattle.rhai_grammar.specs.Settings.{in_function}
-use Rattle.rhai_grammar.specs.Written.{spot_after_operand}
+use Rattle.rhai_grammar.specs.Spots.{spot_after_operand}
 use Rattle.rhai_grammar.specs.Chains.{chained}
 use Rattle.rhai_grammar.specs.Signs.{sign_result, sign_holds, signed, malformed}
 use Rattle.rhai_grammar.specs.Operators.{operator_result, operator_tree, boolean_holds, mismatched}

@@ -10,7 +10,7 @@ use Rattle.rhai_grammar.specs.Contexts.{Context, Live, has_room, level_up}
 use Rattle.rhai_grammar.specs.Cursors.{Cursor, asked, looking, taking, left}
 use Rattle.rhai_grammar.specs.Delivered.{Item, item, is_end, is_memory}
 use Rattle.rhai_grammar.specs.Trees.{member_link}
-use Rattle.rhai_grammar.specs.Written.{LinkSpot, spot_after_dot}
+use Rattle.rhai_grammar.specs.Spots.{LinkSpot, spot_after_dot}
 use Rattle.rhai_reading.specs.Reading.{Fail, Ret, Call, Links, Member, dot_at, links_at}
 use Rattle.rhai_reading.specs.Running as R
 use Rattle.rhai_reading.specs.Running.{exec, result_of, guarded}

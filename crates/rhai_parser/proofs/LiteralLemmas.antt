@@ -12,7 +12,7 @@ use Rattle.rhai_grammar.specs.Cursors.{Cursor, asked, looking, taking, left}
 use Rattle.rhai_grammar.specs.Delivered.{is_memory}
 use Rattle.rhai_grammar.specs.declared.due.DueToken.TheVariants as due
 use Rattle.rhai_grammar.specs.Literals.{KeyPlace, FieldsEnd, AKey, NoKey, has_key}
-use Rattle.rhai_grammar.specs.Written.{next_key}
+use Rattle.rhai_grammar.specs.Verdicts.{next_key}
 use Rattle.rhai_reading.specs.Reading.{Ret, Fail, Peek, Call, Expression, Fields, NextKey, match_token, part_next, field_next, field_on, key_on, room_at}
 use Rattle.rhai_reading.specs.Running as R
 use Rattle.rhai_reading.specs.Running.{Caller, exec, result_of, guarded}

@@ -8,7 +8,7 @@ use Rattle.rhai_lower.specs.declared.ast.Ident.{Ident}
 use Rattle.rhai_lower.specs.declared.position.Position.{Position}
 use Rattle.rhai_grammar.specs.Chains as chain
 use Rattle.rhai_grammar.specs.Cursors.{Cursor, cursor_of, left}
-use Rattle.rhai_grammar.specs.Written.{spot_after_operand}
+use Rattle.rhai_grammar.specs.Spots.{spot_after_operand}
 use Rattle.rhai_grammar.specs.declared.error.ParseError.{ParseError}
 use Rattle.rhai_reading.specs.Reading as reading
 use Rattle.rhai_reading.specs.Reading.{Goal, Val}

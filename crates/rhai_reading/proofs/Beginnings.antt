@@ -16,7 +16,7 @@ use Rattle.rhai_grammar.specs.declared.role.ItemPlace.{ItemPlace}
 use Rattle.rhai_grammar.specs.declared.role.ItemPlace.TheVariants as place
 use Rattle.rhai_grammar.specs.Beginnings.{beginning, calling, is_name, member_place, is_member}
 use Rattle.rhai_grammar.specs.Literals.{item_place, KeyPlace, FieldsEnd, AKey, key_place}
-use Rattle.rhai_grammar.specs.Written.{no_method}
+use Rattle.rhai_grammar.specs.Verdicts.{no_method}
 use Rattle.rhai_reading.proofs.Looks.{op_at, pos_at}
 
 -- ---- where an operand is due

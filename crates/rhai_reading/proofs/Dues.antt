@@ -14,6 +14,7 @@ use Rattle.rhai_grammar.specs.declared.list.AfterPart.{AfterPart}
 use Rattle.rhai_grammar.specs.declared.list.AfterPart.TheVariants.{Comma, Close, Nothing}
 use Rattle.rhai_grammar.specs.declared.list.CommaList.{CommaList}
 use Rattle.rhai_grammar.specs.declared.list.CommaList.TheVariants as lists
+use Rattle.rhai_grammar.specs.Verdicts as V
 use Rattle.rhai_grammar.specs.Written as W
 use Rattle.rhai_reading.specs.Reading.{Prog, match_token, part_next, after_a_part}
 use Rattle.rhai_reading.proofs.Looks.{op_at, pos_at}
@@ -76,7 +77,7 @@ closed parts s e = followed parts s (only_close (after_part parts (op_at s)) e)
 -- what may not follow a part of a list stands at a point
 pub record NotAfter (parts : CommaList) (s : Point) : Type 0 where
   pub way : {i : Item} {ds : Demands}
-      → Way (Tok code i (W.following_due parts) ▸ ds) s (Lost (refusal (not_after parts (op_at s)) (pos_at s)) s)
+      → Way (Tok code i (V.following_due parts) ▸ ds) s (Lost (refusal (not_after parts (op_at s)) (pos_at s)) s)
 
 module _ {A F B : Type 0} {call : Histories} {Q : A → Point → Type 0} {K : Kind F B} {from : Point} where
   pub separated : (parts : CommaList) (f : F) {on end : Prog A} {s : Point} {b : Bool}

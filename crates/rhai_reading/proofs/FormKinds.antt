@@ -20,8 +20,10 @@ use Rattle.rhai_grammar.specs.Forms.{Primary, Base, Links, Operand, Arguments, I
 use Rattle.rhai_grammar.specs.Trees.{primary_tree, base_tree, link_list, operand_tree, argument_trees, item_trees}
 use Rattle.rhai_grammar.specs.Trees.{element_trees, field_trees, tree, node_count, method_tree}
 use Rattle.rhai_grammar.specs.Demands.{Demands, ◌▸◌, Tok, Next, Test, Shape}
+use Rattle.rhai_grammar.specs.Verdicts as V
 use Rattle.rhai_grammar.specs.Written as W
-use Rattle.rhai_grammar.specs.Written.{LinkSpot, Height, Side, Spot, height_after, side_fits, operator_known}
+use Rattle.rhai_grammar.specs.Verdicts.{operator_known}
+use Rattle.rhai_grammar.specs.Spots.{LinkSpot, Spot}
 use Rattle.rhai_reading.proofs.Lists.{joined_properties}
 use Rattle.rhai_reading.proofs.Looks.{op_at}
 use Rattle.rhai_reading.proofs.Shows.{Kind}
@@ -60,8 +62,8 @@ enclosed_trees w (Closed closing) = no_nodes
 enclosed_trees w (Listing list) = item_trees list w
 
 abbrev pub enclosed_of : Context → Live → Position → Enclosed → Demands → Demands
-enclosed_of c w name (Closed closing) k = Tok code (item (Sign token.RightParen) closing) W.close_or_argument ▸ k
-enclosed_of c w name (Listing list) k = Next W.argument_due ▸ W.raise_at c name (W.items list (level_up c) w k)
+enclosed_of c w name (Closed closing) k = Tok code (item (Sign token.RightParen) closing) V.close_or_argument ▸ k
+enclosed_of c w name (Listing list) k = Next V.argument_due ▸ W.raise_at c name (W.items list (level_up c) w k)
 
 abbrev pub enclosed : Context → Live → Position → Kind Enclosed Nodes
 enclosed c w name = record { tree = λ t list. enclosed_trees w list; demands = enclosed_of c w name }
@@ -71,9 +73,9 @@ pub data CallForm : Type 0 where
   By : (bang : Option Position) → Arguments → CallForm
 
 abbrev pub call_of : Context → Live → Position → CallForm → Demands → Demands
-call_of c w name (By None args) k = W.arguments args W.anything c w name k
+call_of c w name (By None args) k = W.arguments args V.anything c w name k
 call_of c w name (By (Some bang) args) k =
-    Tok code (item (Sign token.Bang) bang) W.anything ▸ W.arguments args W.list_due c w name k
+    Tok code (item (Sign token.Bang) bang) V.anything ▸ W.arguments args V.list_due c w name k
 
 abbrev pub call_answer : Live → CallForm → Bool × Nodes
 call_answer w (By bang args) = (is_some bang, argument_trees args w)
@@ -101,11 +103,11 @@ pub data KeyForm : Type 0 where
   Keyed : (key : Lexeme) (pos colon : Position) → KeyForm
 
 abbrev pub key_of : Context → Properties → KeyForm → Demands → Demands
-key_of c before (NoMore closing) k = Tok code (item (Sign token.RightBrace) closing) (W.key_due c before) ▸ k
+key_of c before (NoMore closing) k = Tok code (item (Sign token.RightBrace) closing) (V.key_due c before) ▸ k
 key_of c before (Keyed key pos colon) k =
-    Shape (is_key (W.next_key c.settings before key)) ▸ Tok code (item key pos) (W.key_due c before) ▸
+    Shape (is_key (V.next_key c.settings before key)) ▸ Tok code (item key pos) (V.key_due c before) ▸
     Test (not (has_key (text_of key) before)) (refusal (cause.DuplicatedProperty (text_of key)) pos) ▸
-    W.due_token due.Colon colon (Next (W.value_due c.sizes.map (property_count before)) ▸ k)
+    W.due_token due.Colon colon (Next (V.value_due c.sizes.map (property_count before)) ▸ k)
 
 abbrev pub key_answer : KeyForm → Option (Text × Position)
 key_answer (NoMore closing) = None
@@ -138,9 +140,9 @@ pub data MemberForm : Type 0 where
   AMethod : (name : Lexeme) → is_member (member_place name) ≡ true → Position → CallForm → MemberForm
 
 abbrev pub member_of : Context → Live → MemberForm → Demands → Demands
-member_of c w (AProperty name pos) k = Tok code (item (Name name) pos) W.anything ▸ Next W.uncalled_member ▸ k
+member_of c w (AProperty name pos) k = Tok code (item (Name name) pos) V.anything ▸ Next V.uncalled_member ▸ k
 member_of c w (AMethod name is pos call) k =
-    Tok code (item name pos) W.anything ▸ Next (W.after_method name pos) ▸ call_of c w pos call k
+    Tok code (item name pos) V.anything ▸ Next (V.after_method name pos) ▸ call_of c w pos call k
 
 abbrev pub member_tree : Live → MemberForm → Node
 member_tree w (AProperty name pos) = property name pos

@@ -8,7 +8,7 @@ use Rattle.rhai_grammar.specs.Delivered.{code, Point, next_at, is_memory}
 use Rattle.rhai_grammar.specs.Contexts.{Live}
 use Rattle.rhai_grammar.specs.Strengths.{Follower, Operator, Unknown, Other, follower_of}
 use Rattle.rhai_grammar.specs.Demands.{Verdict, Fine, Wrong, Otherwise, verdict}
-use Rattle.rhai_grammar.specs.Written.{Height}
+use Rattle.rhai_grammar.specs.Spots.{Height}
 use Rattle.rhai_reading.specs.Reading.{Goal, BinaryOp}
 
 abbrev pub op_at : Point → Lexeme

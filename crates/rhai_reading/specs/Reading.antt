@@ -24,7 +24,8 @@ use Rattle.rhai_grammar.specs.declared.role.ItemPlace.{ItemPlace}
 use Rattle.rhai_grammar.specs.declared.role.ItemPlace.TheVariants as place
 use Rattle.rhai_grammar.specs.Literals.{item_place, no_item, KeyPlace, FieldsEnd, AKey, NoKey, has_key}
 use Rattle.rhai_grammar.specs.Literals.{property_count, too_many_fields}
-use Rattle.rhai_grammar.specs.Written.{next_key, LinkSpot, spot_after_operand, spot_after_bracket, spot_after_dot}
+use Rattle.rhai_grammar.specs.Verdicts.{next_key}
+use Rattle.rhai_grammar.specs.Spots.{LinkSpot, spot_after_operand, spot_after_bracket, spot_after_dot}
 use Rattle.rhai_grammar.specs.Chains.{Link, chained, index_refusal, last_fault}
 use Rattle.rhai_grammar.specs.declared.role.Beginning.{Beginning}
 use Rattle.rhai_grammar.specs.declared.role.Beginning.TheVariants as begin

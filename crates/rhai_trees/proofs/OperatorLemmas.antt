@@ -9,7 +9,9 @@ use Rattle.rhai_lower.specs.declared.ast.Expr.{Expr}
 use Rattle.rhai_lower.specs.declared.position.Position.{Position}
 use Rattle.rhai_grammar.specs.Causes.{MismatchedType, Refusal, refusal}
 use Rattle.rhai_grammar.specs.Kinds.{not_boolean}
-use Rattle.rhai_grammar.specs.Operators.{Conjunction, Disjunction, Lists, boolean_holds, joined, joining, mismatched, operator_result, operator_tree, takes_booleans}
+use Rattle.rhai_grammar.specs.declared.role.ListKind.TheVariants as lists_of
+use Rattle.rhai_grammar.specs.declared.role.Joining.TheVariants as joins
+use Rattle.rhai_grammar.specs.Operators.{boolean_holds, joined, joining, mismatched, operator_result, operator_tree, takes_booleans}
 use Rattle.rhai_trees.specs.Views.{operand_fault}
 use Rattle.rhai_lower.proofs.Views.{view_and, view_or, view_coalesce}
 
@@ -23,10 +25,10 @@ views_append (e ∷ es) fs = ap (λ rest. one_node (view e) rest) (views_append 
 pub holds_where_due : (l : Lexeme) (n : Node) → takes_booleans (joining l) ≡ true → boolean_holds l n ≡ is_none (not_boolean n)
 holds_where_due l n e = ap (λ b. if b then is_none (not_boolean n) else true) e
 
-pub holds_and : (l : Lexeme) (n : Node) → joining l ≡ Lists Conjunction → boolean_holds l n ≡ is_none (not_boolean n)
+pub holds_and : (l : Lexeme) (n : Node) → joining l ≡ joins.List lists_of.And → boolean_holds l n ≡ is_none (not_boolean n)
 holds_and l n e = holds_where_due l n (ap takes_booleans e)
 
-pub holds_or : (l : Lexeme) (n : Node) → joining l ≡ Lists Disjunction → boolean_holds l n ≡ is_none (not_boolean n)
+pub holds_or : (l : Lexeme) (n : Node) → joining l ≡ joins.List lists_of.Or → boolean_holds l n ≡ is_none (not_boolean n)
 holds_or l n e = holds_where_due l n (ap takes_booleans e)
 
 pub holds_others : (l : Lexeme) (n : Node) → takes_booleans (joining l) ≡ false → boolean_holds l n ≡ true

@@ -8,7 +8,9 @@ use Rattle.rhai_lower.specs.Lexemes.{Lexeme}
 use Rattle.rhai_lower.specs.Nodes.{Node, integer}
 use Rattle.rhai_lower.specs.declared.position.Position.{Position}
 use Rattle.rhai_grammar.specs.Causes.{Refusal}
-use Rattle.rhai_grammar.specs.Signs.{Effect, Negates, Keeps, MakesCall, affected, effect, effect_holds, malformed, plain_sign, sign_call, sign_result, least}
+use Rattle.rhai_grammar.specs.declared.role.Effect.{Effect}
+use Rattle.rhai_grammar.specs.declared.role.Effect.TheVariants.{Negates, Keeps, Calls}
+use Rattle.rhai_grammar.specs.Signs.{affected, effect, effect_holds, malformed, plain_sign, sign_call, sign_result, least}
 use Rattle.rhai_trees.specs.Views.{integer_value, negated}
 use Rattle.rhai_lower.proofs.Views.{view_integer}
 
@@ -29,16 +31,16 @@ effect_keeps op at _ k e = absurd cc
 pub result_keeps : (l : Lexeme) (at : Position) (n : Node) (k : ℤ) → effect l ≡ Keeps → integer_value n ≡ Some k → sign_result l at n ≡ Ok n
 result_keeps l at n k e i = ap (λ s. by_effect s (plain_sign l) at n) e ∙ effect_keeps (plain_sign l) at n k i
 
-calls_always : (op : Lexeme) (at : Position) (n : Node) → by_effect MakesCall op at n ≡ Ok (sign_call op at n)
+calls_always : (op : Lexeme) (at : Position) (n : Node) → by_effect Calls op at n ≡ Ok (sign_call op at n)
 calls_always op at n = refl
 
 calls_others : (s : Effect) (op : Lexeme) (at : Position) (n : Node) → integer_value n ≡ None → by_effect s op at n ≡ Ok (sign_call op at n)
 calls_others s op at (integer m p) e = absurd cc
 calls_others Negates op at _ e = refl
 calls_others Keeps op at _ e = refl
-calls_others MakesCall op at _ e = refl
+calls_others Calls op at _ e = refl
 
-pub result_calls : (l : Lexeme) (at : Position) (n : Node) → effect l ≡ MakesCall → sign_result l at n ≡ Ok (sign_call (plain_sign l) at n)
+pub result_calls : (l : Lexeme) (at : Position) (n : Node) → effect l ≡ Calls → sign_result l at n ≡ Ok (sign_call (plain_sign l) at n)
 result_calls l at n e = ap (λ s. by_effect s (plain_sign l) at n) e
 
 pub result_others : (l : Lexeme) (at : Position) (n : Node) → integer_value n ≡ None → sign_result l at n ≡ Ok (sign_call (plain_sign l) at n)

@@ -15,14 +15,8 @@ use Rattle.rhai_trees.specs.declared.kind.IndexKind.{IndexKind}
 use Rattle.rhai_trees.specs.declared.kind.IndexKind.TheVariants as index_kind
 use Rattle.rhai_trees.specs.declared.kind.Indexed.{Indexed}
 use Rattle.rhai_trees.specs.declared.kind.Indexed.TheVariants as indexed
-use Rattle.rhai_trees.specs.declared.operator.Joining.{Joining}
-use Rattle.rhai_trees.specs.declared.operator.Joining.TheVariants as joining
-use Rattle.rhai_trees.specs.declared.operator.ListKind.{ListKind}
-use Rattle.rhai_trees.specs.declared.operator.ListKind.TheVariants as list_kind
 use Rattle.rhai_trees.specs.declared.operator.Part.{Part}
 use Rattle.rhai_trees.specs.declared.operator.Part.TheVariants as part
-use Rattle.rhai_trees.specs.declared.sign.Effect.{Effect}
-use Rattle.rhai_trees.specs.declared.sign.Effect.TheVariants as effect
 use Rattle.std.specs.Prelude.{codes}
 
 -- a native-only call with this number of arguments, with the written operator as its name
@@ -37,11 +31,6 @@ native_called op n = record {
   op_token = Some op;
 }
 
-abbrev pub effect_view : Effect → sign.Effect
-effect_view effect.Negates = sign.Negates
-effect_view effect.Keeps = sign.Keeps
-effect_view effect.Calls = sign.MakesCall
-
 -- the value of an integer constant
 abbrev pub integer_value : Node → Option ℤ
 integer_value (integer n p) = Some n
@@ -50,17 +39,6 @@ integer_value _ = None
 -- what minus on an integer constant gives
 abbrev pub negated : ℤ → Position → Result Node Refusal
 negated n at = if not (int_eq n sign.least) then Ok (integer (neg_ℤ n) at) else Err (sign.malformed at (integer n at))
-
-abbrev pub list_kind_view : ListKind → operator.ListKind
-list_kind_view list_kind.And = operator.Conjunction
-list_kind_view list_kind.Or = operator.Disjunction
-list_kind_view list_kind.Coalesce = operator.Coalescing
-
-abbrev pub joining_view : Joining → operator.Joining
-joining_view (joining.List kind) = operator.Lists (list_kind_view kind)
-joining_view joining.Membership = operator.Membership
-joining_view joining.NoMembership = operator.NoMembership
-joining_view joining.Call = operator.MakesCall
 
 -- the error for the first operand that an operator does not take
 abbrev pub operand_fault : Lexeme → Node → Node → Option Refusal

@@ -5,42 +5,19 @@ ghost use Rattle.rhai_lower.specs.Lexemes.{lexeme};
 ghost use Rattle.rhai_lower.specs.View.{view, views};
 ghost use Rattle.rhai_grammar.specs.Answers.{Answers};
 ghost use Rattle.rhai_grammar.specs.Causes.{MemoryIsNowhere, is_for_memory, no_memory, refusal_of};
-ghost use Rattle.rhai_grammar.specs.Operators.{Coalescing, Conjunction, Disjunction, boolean_holds, items, joining};
+ghost use Rattle.rhai_grammar.specs.Operators.{boolean_holds, items, joining};
 ghost use Rattle.rhai_grammar.specs.Operators.{list_of, list_position, list_tree, mismatched, no_membership};
 ghost use Rattle.rhai_grammar.specs.Operators.{operator_result, operator_tree, part};
 ghost use Rattle.rhai_grammar.specs.Kinds.{not_boolean};
-ghost use Rattle.rhai_trees.specs.Views.{joining_view, list_kind_view, operand_fault, part_view};
+ghost use Rattle.rhai_grammar.specs.declared.role.ListKind.TheVariants.{And, Coalesce, Or};
+ghost use Rattle.rhai_trees.specs.Views.{operand_fault, part_view};
 
 use crate::call::{contains_call, native_call};
 use crate::kind::not_boolean;
-use rhai_grammar::{ParseError, ParseErrorType, ParseResult};
+use rhai_grammar::{Joining, ListKind, ParseError, ParseErrorType, ParseResult};
 use rhai_lower::{Expr, Position, Token};
 use std::alloc::{AllocError, Global};
 use std::rc::RcStr;
-
-/// The lists that operators make.
-#[derive(Clone, Copy)]
-pub(crate) enum ListKind {
-    /// The operands of `&&`.
-    And,
-    /// The operands of `||`.
-    Or,
-    /// The operands of `??`.
-    Coalesce,
-}
-
-/// How an operator joins its operands.
-#[derive(Clone, Copy)]
-pub(crate) enum Joining {
-    /// Into a list.
-    List(ListKind),
-    /// Into a call of `contains`.
-    Membership,
-    /// Into the negation of such a call.
-    NoMembership,
-    /// Into a call with the operator as its name.
-    Call,
-}
 
 /// An operand of an operator that makes lists.
 #[derive(Drop)]
@@ -125,7 +102,7 @@ fn test_boolean(alloc: Global, operand: &Expr) -> ParseResult<()>
 
 // How an operator joins its operands.
 fn joining_of(op_token: &Token) -> Joining
-    ensures { joining_view result ≡ joining (lexeme op_token.now) }
+    ensures { result ≡ joining (lexeme op_token.now) }
 {
     match op_token {
         Token::And => Joining::List(ListKind::And),
@@ -179,7 +156,7 @@ fn join_list(
     lhs: Expr,
     rhs: Expr,
 ) -> ParseResult<Expr>
-    ensures tree { IfOk result (λ e. view e ≡ list_of (list_kind_view kind) pos (view lhs) (view rhs)) }
+    ensures tree { IfOk result (λ e. view e ≡ list_of kind pos (view lhs) (view rhs)) }
     ensures nowhere { IfErr result (λ e. e ≡ no_memory) }
 {
     let (mut items, at) = begin_list(alloc, as_part(kind, lhs), pos)?;
@@ -203,7 +180,7 @@ fn begin_list(alloc: Global, left: Part, pos: Position) -> Result<(Vec<Expr>, Po
 
 // An operand of an operator that makes lists of this kind.
 fn as_part(kind: ListKind, operand: Expr) -> Part
-    ensures { part_view result ≡ part (list_kind_view kind) (view operand) }
+    ensures { part_view result ≡ part kind (view operand) }
 {
     match kind {
         ListKind::And => and_part(operand),
@@ -214,7 +191,7 @@ fn as_part(kind: ListKind, operand: Expr) -> Part
 
 #[tactic(auto, using(rhai_lower::proofs::Views::view_and))]
 fn and_part(operand: Expr) -> Part
-    ensures { part_view result ≡ part Conjunction (view operand) }
+    ensures { part_view result ≡ part And (view operand) }
 {
     match operand {
         Expr::And(items, pos) => Part::Items(items, pos),
@@ -224,7 +201,7 @@ fn and_part(operand: Expr) -> Part
 
 #[tactic(auto, using(rhai_lower::proofs::Views::view_or))]
 fn or_part(operand: Expr) -> Part
-    ensures { part_view result ≡ part Disjunction (view operand) }
+    ensures { part_view result ≡ part Or (view operand) }
 {
     match operand {
         Expr::Or(items, pos) => Part::Items(items, pos),
@@ -234,7 +211,7 @@ fn or_part(operand: Expr) -> Part
 
 #[tactic(auto, using(rhai_lower::proofs::Views::view_coalesce))]
 fn coalesce_part(operand: Expr) -> Part
-    ensures { part_view result ≡ part Coalescing (view operand) }
+    ensures { part_view result ≡ part Coalesce (view operand) }
 {
     match operand {
         Expr::Coalesce(items, pos) => Part::Items(items, pos),
@@ -245,7 +222,7 @@ fn coalesce_part(operand: Expr) -> Part
 // The list of this kind.
 #[tactic(auto, using(crate::proofs::OperatorLemmas::lists))]
 fn list(kind: ListKind, items: Vec<Expr>, pos: Position) -> Expr
-    ensures { view result ≡ list_tree (list_kind_view kind) (views items.items) pos }
+    ensures { view result ≡ list_tree kind (views items.items) pos }
 {
     match kind {
         ListKind::And => Expr::And(items, pos),

@@ -6,24 +6,13 @@ ghost use Rattle.rhai_lower.specs.View.{view};
 ghost use Rattle.rhai_grammar.specs.Answers.{Answers};
 ghost use Rattle.rhai_grammar.specs.Causes.{MemoryIsNowhere};
 ghost use Rattle.rhai_grammar.specs.Signs.{effect, plain_sign, sign_call, sign_result};
-ghost use Rattle.rhai_trees.specs.Views.{effect_view, integer_value, negated};
+ghost use Rattle.rhai_trees.specs.Views.{integer_value, negated};
 
 use crate::call::native_call;
-use rhai_grammar::{InputError, ParseError, ParseErrorType, ParseResult};
+use rhai_grammar::{Effect, InputError, ParseError, ParseErrorType, ParseResult};
 use rhai_lower::{Expr, Position, Token};
 use std::alloc::{AllocError, Global};
 use std::rc::RcStr;
-
-/// What a sign does to an integer constant.
-#[derive(Clone, Copy)]
-pub(crate) enum Effect {
-    /// It gives the negated integer.
-    Negates,
-    /// It gives the integer itself.
-    Keeps,
-    /// It is a call, as for any other operand.
-    Calls,
-}
 
 /// What a sign makes of its operand (docs/GRAMMAR.md, "Signs"). Minus on an integer constant gives the negated integer,
 /// at the sign; plus on one gives that constant unchanged; otherwise a sign is a native-only call at the sign's
@@ -47,7 +36,7 @@ pub fn make_unary(alloc: Global, op_token: Token, pos: Position, operand: Expr) 
 
 // What a token does to an integer constant, as a sign before it.
 fn sign_effect(op_token: &Token) -> Effect
-    ensures { effect_view result ≡ effect (lexeme op_token.now) }
+    ensures { result ≡ effect (lexeme op_token.now) }
 {
     match op_token {
         Token::Minus | Token::UnaryMinus => Effect::Negates,

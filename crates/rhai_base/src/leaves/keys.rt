@@ -7,7 +7,7 @@ ghost use Rattle.rhai_grammar.specs.Causes.{MemoryIsNowhere, cause_of, is_for_me
 ghost use Rattle.rhai_grammar.specs.Cursors.{asked, cursor_of, left, taking};
 ghost use Rattle.rhai_grammar.specs.Delivered.{is_memory};
 ghost use Rattle.rhai_grammar.specs.Literals.{NoKey, has_key, key_place, no_property};
-ghost use Rattle.rhai_grammar.specs.Written.{next_key};
+ghost use Rattle.rhai_grammar.specs.Verdicts.{next_key};
 ghost use Rattle.rhai_base.specs.Settings.{settings_of};
 ghost use Rattle.rhai_base.specs.MapKeys.{KeyIs, KeyRefused, is_interpolated, is_reserved_word, key_found, refused_key};
 

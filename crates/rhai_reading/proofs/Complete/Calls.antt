@@ -15,6 +15,7 @@ use Rattle.rhai_grammar.specs.Forms as form
 use Rattle.rhai_grammar.specs.Forms.{Primary, Arguments, Items, Run}
 use Rattle.rhai_grammar.specs.Trees.{argument_trees, item_trees, primary_tree, is_variable, call_tree, tree}
 use Rattle.rhai_grammar.specs.Demands.{Fine, Demands, Shape, ◌▸◌, verdict, Met}
+use Rattle.rhai_grammar.specs.Verdicts as V
 use Rattle.rhai_grammar.specs.Written as W
 use Rattle.rhai_reading.specs.Reading as R
 use Rattle.rhai_reading.specs.Reading.{called_at, bang_at, body}
@@ -25,8 +26,8 @@ use Rattle.rhai_reading.proofs.Reaches.{Reaches, next, ret, gives, look, due, if
 use Rattle.rhai_reading.proofs.Complete.Law.{Usable, PrimaryRead, BaseRead, ArgumentsRead, ItemsRead, ExpressionRead}
 
 -- nothing calls x
-free : (x : Node) (l : Lexeme) → verdict (W.uncalled x) l ≡ Fine → Usable x false l
-free x l h = let f = fine (W.uncalled x) l h in (f.0, λ z. rw z at (no_other (is_variable x && calls l) f.1).0)
+free : (x : Node) (l : Lexeme) → verdict (V.uncalled x) l ≡ Fine → Usable x false l
+free x l h = let f = fine (V.uncalled x) l h in (f.0, λ z. rw z at (no_other (is_variable x && calls l) f.1).0)
 
 postfix_stops : (c : Context) (w : Live) (x : Node) {s : Point} {b : Bool} {k : Demands} {t : Point}
     → Usable x false (op_at s) → Met k s t → Reaches (body (R.Postfix c w x)) s b x k t
@@ -71,10 +72,10 @@ pub called_by : (bang : Option Position) (args : Arguments) → ArgumentsRead ar
     → Met (call_of c w name (By bang args) k) s t
     → Reaches (body (R.Called c w name)) s b (is_some bang, argument_trees args w) k t
 called_by None args arguments c w name k s t b m =
-    arguments W.anything c w name k false (λ l pos. called_at c w name)
+    arguments V.anything c w name k false (λ l pos. called_at c w name)
     (record { pair = λ l pos. refl; list = λ l pos. refl }) s t b m
 called_by (Some bang) args arguments c w name k s t b m =
-    due m.0 refl refl (arguments W.list_due c w name k true (bang_at c w name)
+    due m.0 refl refl (arguments V.list_due c w name k true (bang_at c w name)
     (record { pair = λ l pos. refl; list = λ l pos. refl }) (past code s) t false m.1)
 
 -- ---- operands without links
@@ -106,7 +107,7 @@ empty opening closing others c w name k bang p reads s t b m =
 pub listed : (opening : Position) (list : Items) → ItemsRead list → ArgumentsRead (form.Listed opening list)
 listed opening list items others c w name k bang p reads s t b m =
     let u = past code s in
-    due m.0 refl (reads.list _ _) (part (next W.argument_due m.1.0
+    due m.0 refl (reads.list _ _) (part (next V.argument_due m.1.0
     (λ e. let some = no_wrong (no_argument (op_at u)) _ e in
     if_false _ some.0 (if_false _ (no_other (is_close (after_part lists.Arguments (op_at u))) some.1).0
     (if_true _ m.1.1.0 (part (items (level_up c) w no_nodes k u t true m.1.1.1) (λ u l h. ret h)))))) (λ u l h. ret h))
@@ -123,7 +124,7 @@ trailing f comma closing expression c w before k s t b m =
 pub more : (f : Run) (comma : Position) (rest : Items) → ExpressionRead f → ItemsRead rest
     → ItemsRead (form.More f comma rest)
 more f comma rest expression items c w before k s t b m =
-    part (expression c w _ s t b m) (λ u l n. due n.0 refl refl (next W.argument_follows n.1.0 (λ on.
+    part (expression c w _ s t b m) (λ u l n. due n.0 refl refl (next V.argument_follows n.1.0 (λ on.
     if_false _ (no_other (is_close (after_part lists.Arguments (op_at (past code u)))) on).0
     (part (items c w (with_node before (tree f w)) k (past code u) t true n.1.1)
     (λ v a m. gives (added before (tree f w) (item_trees rest w)) m)))))

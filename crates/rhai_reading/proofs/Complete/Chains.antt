@@ -15,8 +15,10 @@ use Rattle.rhai_grammar.specs.Forms as form
 use Rattle.rhai_grammar.specs.Forms.{Links, Arguments, Run}
 use Rattle.rhai_grammar.specs.Trees.{argument_trees, link_list, bracket_link, member_link, method_tree, tree}
 use Rattle.rhai_grammar.specs.Demands.{Demands, Met}
+use Rattle.rhai_grammar.specs.Verdicts as V
 use Rattle.rhai_grammar.specs.Written as W
-use Rattle.rhai_grammar.specs.Written.{LinkSpot, spot_after_bracket, spot_after_dot, unfaulted}
+use Rattle.rhai_grammar.specs.Written.{unfaulted}
+use Rattle.rhai_grammar.specs.Spots.{LinkSpot, spot_after_bracket, spot_after_dot}
 use Rattle.rhai_reading.specs.Reading as R
 use Rattle.rhai_reading.specs.Reading.{body}
 use Rattle.rhai_reading.proofs.FormKinds.{By, call_of}
@@ -30,7 +32,7 @@ use Rattle.rhai_reading.proofs.Complete.Calls.{call_here, called_by}
 -- after the last link
 pub no_link : LinksRead form.NoLink
 no_link q w k s t b m =
-    next W.unlinked m.0 (λ e. seen (no_link_is (linking (op_at s)) (no_other (is_link (linking (op_at s))) e).0)
+    next V.unlinked m.0 (λ e. seen (no_link_is (linking (op_at s)) (no_other (is_link (linking (op_at s))) e).0)
     (R.links_at w q (op_at s) (pos_at s)) (fits (last_fault q.before) m.1))
   where
     fits : (v : Option Refusal) → Met (unfaulted v k) s t → Reaches (R.links_end q.before v) s true (q.before ++ []) k t
@@ -83,7 +85,7 @@ pub a_property : (dot : Lexeme) (pos : Position) (name : Text) (name_at : Positi
 a_property dot pos name name_at rest links q w k s t b m =
     let h = m.1.1.1 in
     dotted w q (link_list rest w) dot pos (Name name) name_at m.0 m.1.0 refl h.1.0 h.0
-    (due h.1.0 refl refl (next W.uncalled_member h.1.1.0
+    (due h.1.0 refl refl (next V.uncalled_member h.1.1.0
     (λ e. if_false _ (no_other (calls (op_at (past code (past code s)))) e).0 (ret h.1.1.1)))) (λ u l n.
     links (spot_after_dot q (member_link dot pos (property name name_at))) w k u t l n)
 

@@ -14,8 +14,9 @@ use Rattle.rhai_grammar.specs.Forms.{Binary}
 use Rattle.rhai_grammar.specs.Trees.{is_variable, primary_tree, base_tree, argument_trees, tree}
 use Rattle.rhai_grammar.specs.Demands.{Verdict, Fine, Demands, verdict, Met}
 use Rattle.rhai_grammar.specs.Written as W
-use Rattle.rhai_grammar.specs.Written.{LinkSpot, Height, Side, Outermost, RightOf, Spot, height_after, is_ranged}
-use Rattle.rhai_grammar.specs.Written.{side_fits, left_fits, operator_known}
+use Rattle.rhai_grammar.specs.Spots.{LinkSpot, Height, Side, Outermost, RightOf, Spot, height_after, is_ranged}
+use Rattle.rhai_grammar.specs.Verdicts.{operator_known}
+use Rattle.rhai_grammar.specs.Spots.{side_fits, left_fits}
 use Rattle.rhai_reading.specs.Reading as R
 use Rattle.rhai_reading.specs.Reading.{Goal, Val, Prog, Ret, Peek, Take, Call, list_on, body}
 use Rattle.rhai_reading.specs.Histories.{Outcome, Done, Runs}

@@ -13,6 +13,7 @@ use Rattle.rhai_grammar.specs.Forms as form
 use Rattle.rhai_grammar.specs.Forms.{Elements, Fields, Run}
 use Rattle.rhai_grammar.specs.Trees.{node_count, element_trees, field_trees, tree}
 use Rattle.rhai_grammar.specs.Demands.{Fine, Demands, verdict, Met}
+use Rattle.rhai_grammar.specs.Verdicts as V
 use Rattle.rhai_grammar.specs.Written as W
 use Rattle.rhai_reading.specs.Reading as R
 use Rattle.rhai_reading.specs.Reading.{body}
@@ -29,12 +30,12 @@ use Rattle.rhai_reading.proofs.Complete.Law.{PrimaryRead, ElementsRead, FieldsRe
 module _ (c : Context) (w : Live) (opening : Position) (before : Nodes) {x : Node} {j k : Demands} {s t : Point}
     {b : Bool} {all : Nodes} where
   -- an item, from what it comes to, and what stands after it
-  element : verdict (W.item_due c.sizes.array (node_count before)) (op_at s) ≡ Fine → has_room c ≡ true
+  element : verdict (V.item_due c.sizes.array (node_count before)) (op_at s) ≡ Fine → has_room c ≡ true
       → Reaches (body (R.Expression (level_up c) w)) s true x j t
       → ((u : Point) (l : Bool) → Met j u t → Reaches (R.element_next c w opening (with_node before x)) u l all k t)
       → Reaches (body (R.Elements c w opening before)) s b all k t
   element due_ below e on =
-      next (W.item_due c.sizes.array (node_count before)) due_ (λ fits.
+      next (V.item_due c.sizes.array (node_count before)) due_ (λ fits.
       seen (item_is c.sizes.array (op_at s) (item_place c.sizes.array (node_count before) (op_at s)) fits)
       (R.element_at c w opening before (op_at s) (pos_at s)) (if_true _ below (part e on)))
 
@@ -67,10 +68,10 @@ module _ (c : Context) (w : Live) (opening : Position) (before : Properties) (ke
   next_key : Met (W.field key pos colon before c opening k) s t
       → Reaches (body (R.NextKey c before)) s b (Some (text_of key, pos)) (W.raise_at c opening k) t
   next_key m =
-      let can = readable (λ l. is_key (W.next_key c.settings before l)) (λ f. refl) key m.0 in
+      let can = readable (λ l. is_key (V.next_key c.settings before l)) (λ f. refl) key m.0 in
       peek m.1.0 can (seen (key_is (quoted_keys c.settings) (property_count before == 0) key m.0) (R.key_on c before pos)
       (take m.1.0 can (if_false _ (not_true _ m.1.1.0)
-      (due m.1.1.1.0 refl refl (next (W.value_due c.sizes.map (property_count before)) m.1.1.1.1.0
+      (due m.1.1.1.0 refl refl (next (V.value_due c.sizes.map (property_count before)) m.1.1.1.1.0
       (λ e. if_false _ (no_wrong (full c.sizes.map (property_count before)) _ e).0
       (ret m.1.1.1.1.1)))))))
 

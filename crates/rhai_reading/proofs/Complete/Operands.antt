@@ -15,8 +15,9 @@ use Rattle.rhai_grammar.specs.Forms as form
 use Rattle.rhai_grammar.specs.Forms.{Primary, Base, Links, Operand, Run}
 use Rattle.rhai_grammar.specs.Trees.{name_tree, base_tree}
 use Rattle.rhai_grammar.specs.Demands.{Fine, Blames, Demands, Met}
+use Rattle.rhai_grammar.specs.Verdicts as V
 use Rattle.rhai_grammar.specs.Written as W
-use Rattle.rhai_grammar.specs.Written.{spot_after_operand}
+use Rattle.rhai_grammar.specs.Spots.{spot_after_operand}
 use Rattle.rhai_reading.specs.Reading as R
 use Rattle.rhai_reading.specs.Reading.{Prog, Ret, Fail, Call, operand_by, body}
 use Rattle.rhai_reading.proofs.Reaches.{Reaches, seen, next, ret, gives, look, peek, take, due, if_true, if_false, part}
@@ -94,7 +95,7 @@ named name pos c w ranged called k s t b m behind =
 
 pub word : (text : Text) (pos : Position) → PrimaryRead (form.Word text pos)
 word text pos c w ranged called k s t b m behind =
-    due m.0 refl refl (next (W.after_word c text pos) m.1.0
+    due m.0 refl refl (next (V.after_word c text pos) m.1.0
     (λ may. word_by _ _ _ _ _ _ _ k _ t _ (called_no_this text _) may m.1.1))
 
 pub group : (opening : Position) (inside : Run) (closing : Position) → ExpressionRead inside

@@ -13,10 +13,12 @@ use Rattle.rhai_grammar.specs.Strengths.{Follower, Operator, Unknown, Other, fol
 use Rattle.rhai_grammar.specs.Forms.{Operand, Run, Just, Binary}
 use Rattle.rhai_grammar.specs.Trees.{operand_tree, tree}
 use Rattle.rhai_grammar.specs.Demands.{Fine, Otherwise, Demands, verdict, Met}
-use Rattle.rhai_grammar.specs.Written as W
-use Rattle.rhai_grammar.specs.Written.{Height, Side, Outermost, RightOf, Spot, outermost, right_side, height_after}
-use Rattle.rhai_grammar.specs.Written.{is_ranged, raise_after, side_fits, left_fits, operands_fit, run_ends}
-use Rattle.rhai_grammar.specs.Written.{operator_known, room_due, end_due, begun, ended}
+use Rattle.rhai_grammar.specs.Verdicts as V
+use Rattle.rhai_grammar.specs.Spots.{Height, Side, Outermost, RightOf, Spot, right_side, height_after}
+use Rattle.rhai_grammar.specs.Written.{raise_after, operands_fit}
+use Rattle.rhai_grammar.specs.Verdicts.{run_ends}
+use Rattle.rhai_grammar.specs.Spots.{is_ranged, left_fits}
+use Rattle.rhai_grammar.specs.Verdicts.{operator_known, room_due, end_due}
 use Rattle.rhai_reading.specs.Reading as R
 use Rattle.rhai_reading.specs.Reading.{Goal, Whole, Expression, NextOperator, BinaryOp, Prog, Ret, Fail, Take, Call}
 use Rattle.rhai_reading.specs.Reading.{continues, next_operator_at, operand_by, primary_at, list_on, called_at, bang_at}
@@ -36,7 +38,7 @@ next_operator s b e =
     let f = fine operator_known (next_at code s).lexeme e in
     runs_look f.0 (known (follower_at s) f.1)
   where
-    known : (v : Follower) → W.known_follower v ≡ Fine
+    known : (v : Follower) → V.known_follower v ≡ Fine
         → Runs (next_operator_at (next_at code s).at v) (at s true) (Done (operator_in v) (at s true))
     known (Operator n right) e = runs_ret (Some (n, right)) (at s true)
     known (Unknown t) e = absurd cc
@@ -77,7 +79,7 @@ is_known l e =
     subst (λ m. (if m then Otherwise else operator_known l) ≡ Fine) (sym (operator_readable l e))
     (known (follower_of l) e)
   where
-    known : (v : Follower) → is_operator v ≡ true → W.known_follower v ≡ Fine
+    known : (v : Follower) → is_operator v ≡ true → V.known_follower v ≡ Fine
     known (Operator n right) e = refl
     known (Unknown t) e = absurd cc
     known Other e = absurd cc

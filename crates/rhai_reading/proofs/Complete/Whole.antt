@@ -7,10 +7,11 @@ use Rattle.rhai_grammar.specs.Strengths.{Follower, Operator, Unknown, Other, fol
 use Rattle.rhai_grammar.specs.Forms.{Run}
 use Rattle.rhai_grammar.specs.Trees.{tree}
 use Rattle.rhai_grammar.specs.Demands.{Fine, Nothing, ◌▸◌, Next}
-use Rattle.rhai_grammar.specs.Written as W
-use Rattle.rhai_grammar.specs.Written.{Spot, Height, Side, Outermost, RightOf, Spot, outermost, right_side}
-use Rattle.rhai_grammar.specs.Written.{height_after, is_ranged, raise_after, side_fits, left_fits, operands_fit}
-use Rattle.rhai_grammar.specs.Written.{run_ends, operator_known, room_due, end_due, begun, ended}
+use Rattle.rhai_grammar.specs.Verdicts as V
+use Rattle.rhai_grammar.specs.Spots.{Outermost, outermost}
+use Rattle.rhai_grammar.specs.Spots.{height_after}
+use Rattle.rhai_grammar.specs.Written.{ended}
+use Rattle.rhai_grammar.specs.Verdicts.{run_ends, operator_known, room_due, end_due}
 use Rattle.rhai_reading.specs.Reading as R
 use Rattle.rhai_reading.specs.Reading.{Goal, Whole, Expression, NextOperator, BinaryOp, Prog, Ret, Fail, Take, Call}
 use Rattle.rhai_reading.specs.Reading.{continues, next_operator_at, operand_by, primary_at, list_on, called_at, bang_at}
@@ -18,13 +19,13 @@ use Rattle.rhai_reading.specs.Reading.{binary_at, binary_on, binary_next, body}
 use Rattle.rhai_reading.specs.Histories.{Done, Runs}
 use Rattle.rhai_reading.proofs.Rules.{at, runs_ret, runs_look, runs_call, runs_tail, runs_then}
 use Rattle.rhai_reading.proofs.Reaches.{Reaches}
-use Rattle.rhai_grammar.specs.Written as W
+use Rattle.rhai_grammar.specs.Verdicts as V
 use Rattle.rhai_reading.proofs.Complete.Law.{ExpressionRead, RunRead, Agrees, begins}
 use Rattle.rhai_reading.proofs.Complete.Runs.{none_goes, shut_none, climb_stops}
 use Rattle.rhai_reading.proofs.Looks.{op_at, follower_at, climb, fine, or_wrong}
 use Rattle.rhai_reading.proofs.Strengths.{sensible, outer}
 
-no_operator : (v : Follower) → W.ended_follower v ≡ Fine → is_operator v ≡ false
+no_operator : (v : Follower) → V.ended_follower v ≡ Fine → is_operator v ≡ false
 no_operator (Operator n right) e = absurd cc
 no_operator (Unknown t) e = absurd cc
 no_operator Other e = refl

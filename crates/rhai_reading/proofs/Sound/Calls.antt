@@ -18,6 +18,7 @@ use Rattle.rhai_grammar.specs.Forms as form
 use Rattle.rhai_grammar.specs.Forms.{Primary, Base, Arguments, Run}
 use Rattle.rhai_grammar.specs.Trees.{primary_tree, base_tree, argument_trees, item_trees, tree, is_variable, call_tree}
 use Rattle.rhai_grammar.specs.Demands.{Verdict, Demands}
+use Rattle.rhai_grammar.specs.Verdicts as V
 use Rattle.rhai_grammar.specs.Written as W
 use Rattle.rhai_reading.specs.Reading as R
 use Rattle.rhai_reading.specs.Reading.{Ret, Take, body}
@@ -70,15 +71,15 @@ module _ {call : Histories} (ih : AllSound call) (c : Context) (w : Live) (name 
       → is_memory (op_at (past code s)) ≡ false
       → Goes call (callings c w name) s (R.bang_at c w name (op_at (past code s)) (pos_at (past code s)) v)
       (past code s) true
-  bang_by here calls_by.Pair e m = pair (Some (pos_at s)) W.list_due (past code s) true (λ args k o r. here ▹ r) e
-  bang_by here calls_by.List e m = list (Some (pos_at s)) W.list_due (past code s) true (λ args k o r. here ▹ r) e
+  bang_by here calls_by.Pair e m = pair (Some (pos_at s)) V.list_due (past code s) true (λ args k o r. here ▹ r) e
+  bang_by here calls_by.List e m = list (Some (pos_at s)) V.list_due (past code s) true (λ args k o r. here ▹ r) e
   bang_by here calls_by.Bang e m = refuse (By (Some (pos_at s)) (form.EmptyPair nowhere)) (λ k. here ▹ wrong m (rw e))
   bang_by here calls_by.Nothing e m = refuse (By (Some (pos_at s)) (form.EmptyPair nowhere)) (λ k. here ▹ wrong m (rw e))
 
   called_by : (v : Calling) → calling (op_at s) ≡ v → is_call v ≡ true
       → Goes call (callings c w name) s (R.called_at c w name v) s true
-  called_by calls_by.Pair e on = pair None W.anything s true (λ args k o r. r) e
-  called_by calls_by.List e on = list None W.anything s true (λ args k o r. r) e
+  called_by calls_by.Pair e on = pair None V.anything s true (λ args k o r. r) e
+  called_by calls_by.List e on = list None V.anything s true (λ args k o r. r) e
   called_by calls_by.Bang e on = take (look (λ n. bang_by (called s e) (calling (op_at (past code s))) refl n))
   called_by calls_by.Nothing e on = absurd cc
 

@@ -25,8 +25,9 @@ use Rattle.rhai_grammar.specs.Forms as form
 use Rattle.rhai_grammar.specs.Forms.{Links, Run}
 use Rattle.rhai_grammar.specs.Trees.{link_list, tree, bracket_link, member_link, method_tree}
 use Rattle.rhai_grammar.specs.Demands.{Demands}
+use Rattle.rhai_grammar.specs.Verdicts as V
 use Rattle.rhai_grammar.specs.Written as W
-use Rattle.rhai_grammar.specs.Written.{LinkSpot, spot_after_bracket, spot_after_dot}
+use Rattle.rhai_grammar.specs.Spots.{LinkSpot, spot_after_bracket, spot_after_dot}
 use Rattle.rhai_reading.specs.Reading as R
 use Rattle.rhai_reading.specs.Reading.{body}
 use Rattle.rhai_reading.proofs.Beginnings.{name_is, word_is}
@@ -138,12 +139,12 @@ member_links w dot pos before (AMethod name is name_at (By bang args)) rest =
 
 module _ {call : Histories} (ih : AllSound call) (w : Live) (q : LinkSpot) (s : Point) where
   -- after the last link
-  links_end : Fits W.unlinked s → (v : Option Refusal) → last_fault q.before ≡ v
+  links_end : Fits V.unlinked s → (v : Option Refusal) → last_fault q.before ≡ v
       → Goes call (links w q) s (R.links_end q.before v) s true
   links_end free None e = gives form.NoLink (append-nil q.before) (λ k o r. free ▹ unfaulted e r)
   links_end free (Some d) e = halt form.NoLink (early _ d (last_early q.before) e) (λ k. free ▹ faulted k e)
 
-  dot_way : is_dot (linking (op_at s)) ≡ true → Fits W.member_due (past code s) → has_room q.settings ≡ true
+  dot_way : is_dot (linking (op_at s)) ≡ true → Fits V.member_due (past code s) → has_room q.settings ≡ true
       → (f : MemberForm) (rest : Links) (k : Demands) (o : Aim)
       → Way (member_of (level_up q.settings) w f (W.links rest
       (spot_after_dot q (member_link (op_at s) (pos_at s) (member_tree w f))) w k)) (past code s) o
@@ -158,7 +159,7 @@ module _ {call : Histories} (ih : AllSound call) (w : Live) (q : LinkSpot) (s : 
       → Goes call (links w q) s (R.dot_at w q (op_at s) (pos_at s) (pos_at (past code s)) v) (past code s) true
   dot_by dot AMember e m =
       let t = past code s in
-      let due : Fits W.member_due t = fine m (rw e) in
+      let due : Fits V.member_due t = fine m (rw e) in
       raise q.settings (form.Property (op_at s) (pos_at s) [] nowhere form.NoLink)
       (λ high k. dot ▹ refl ▹ due ▹ fails high) (λ below.
       first (ih.of (R.Member (level_up q.settings) w) t true (ap is_member e)) (with_member (op_at s) (pos_at s)) form.NoLink

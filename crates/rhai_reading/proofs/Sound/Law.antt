@@ -16,7 +16,8 @@ use Rattle.rhai_grammar.specs.Forms.{Binary}
 use Rattle.rhai_grammar.specs.Trees.{tree}
 use Rattle.rhai_grammar.specs.Demands.{Demands, Next, Met, Missed}
 use Rattle.rhai_grammar.specs.Written as W
-use Rattle.rhai_grammar.specs.Written.{LinkSpot, Height, Side, Spot, height_after, side_fits, operator_known}
+use Rattle.rhai_grammar.specs.Verdicts.{operator_known}
+use Rattle.rhai_grammar.specs.Spots.{Side, Spot, height_after, side_fits}
 use Rattle.rhai_reading.specs.Reading as R
 use Rattle.rhai_reading.specs.Reading.{Goal, Val}
 use Rattle.rhai_reading.specs.Histories.{State, Outcome}

@@ -16,6 +16,7 @@ use Rattle.rhai_grammar.specs.Forms as form
 use Rattle.rhai_grammar.specs.Forms.{Fields}
 use Rattle.rhai_grammar.specs.Trees.{element_trees, field_trees, tree, node_count}
 use Rattle.rhai_grammar.specs.Demands.{Demands}
+use Rattle.rhai_grammar.specs.Verdicts as V
 use Rattle.rhai_grammar.specs.Written as W
 use Rattle.rhai_reading.specs.Reading as R
 use Rattle.rhai_reading.specs.Reading.{body}
@@ -39,7 +40,7 @@ module _ {call : Histories} (ih : AllSound call) (c : Context) (w : Live) (openi
       take (gives (form.NoElement (pos_at s)) (added_none before)
       (λ k o r. placed c.sizes.array (node_count before) s e ▹ r))
   element_by place.Item e m =
-      let begins : Fits (W.item_due c.sizes.array (node_count before)) s = fine m (rw e) in
+      let begins : Fits (V.item_due c.sizes.array (node_count before)) s = fine m (rw e) in
       raise c (form.LastElement any_run nowhere) (λ high k. begins ▹ fails high) (λ below.
       part (ih.of (R.Expression (level_up c) w) s true) (λ f. form.LastElement f nowhere) (λ f k o r. begins ▹ below ▹ r _)
       (λ f t a G.
@@ -57,7 +58,7 @@ module _ {call : Histories} (ih : AllSound call) (c : Context) (w : Live) (openi
   element_list b = look (λ m. element_by (item_place c.sizes.array (node_count before) (op_at s)) refl m)
 
 module _ (call : Histories) (c : Context) (before : Properties) (s : Point) where
-  key_by : (v : KeyPlace) → W.next_key c.settings before (op_at s) ≡ v → is_memory (op_at s) ≡ false
+  key_by : (v : KeyPlace) → V.next_key c.settings before (op_at s) ≡ v → is_memory (op_at s) ≡ false
       → Goes call (next_keys c before) s (R.key_on c before (pos_at s) v) s true
   key_by FieldsEnd e m = take (done (NoMore (pos_at s)) (λ k o r. keyed _ _ s e ▹ r))
   key_by (AKey key) e m =
@@ -75,7 +76,7 @@ module _ (call : Histories) (c : Context) (before : Properties) (s : Point) wher
   key_by (NoKey why) e m = refuse (NoMore nowhere) (λ k. wrong m (rw e))
 
   pub next_key : (b : Bool) → Goes call (next_keys c before) s (body (R.NextKey c before)) s b
-  next_key b = look (λ m. key_by (W.next_key c.settings before (op_at s)) refl m)
+  next_key b = look (λ m. key_by (V.next_key c.settings before (op_at s)) refl m)
 
 -- an object map of which that is missing which comes behind a key
 abbrev with_key : KeyForm → Fields

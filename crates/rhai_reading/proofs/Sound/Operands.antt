@@ -16,7 +16,7 @@ use Rattle.rhai_grammar.specs.Signs.{sign_holds}
 use Rattle.rhai_grammar.specs.Forms as form
 use Rattle.rhai_grammar.specs.Trees.{base_tree, operand_tree}
 use Rattle.rhai_grammar.specs.Chains.{chained}
-use Rattle.rhai_grammar.specs.Written.{spot_after_operand}
+use Rattle.rhai_grammar.specs.Spots.{spot_after_operand}
 use Rattle.rhai_reading.specs.Reading as R
 use Rattle.rhai_reading.specs.Reading.{Prog, body}
 use Rattle.rhai_reading.proofs.Beginnings.{begun}

@@ -15,8 +15,10 @@ use Rattle.rhai_grammar.specs.Forms.{Run, Just, Binary}
 use Rattle.rhai_grammar.specs.Trees.{tree}
 use Rattle.rhai_grammar.specs.Demands as D
 use Rattle.rhai_grammar.specs.Demands.{Fine, Otherwise, Demands, Next, verdict}
+use Rattle.rhai_grammar.specs.Verdicts as V
 use Rattle.rhai_grammar.specs.Written as W
-use Rattle.rhai_grammar.specs.Written.{Height, Spot, right_side, height_after, side_fits, left_fits, operator_known}
+use Rattle.rhai_grammar.specs.Verdicts.{operator_known}
+use Rattle.rhai_grammar.specs.Spots.{Height, Spot, right_side, height_after, left_fits}
 use Rattle.rhai_reading.specs.Reading as R
 use Rattle.rhai_reading.specs.Reading.{Prog, Ret, Call, continues, next_operator_at, binary_at, binary_on, binary_right}
 use Rattle.rhai_reading.specs.Reading.{binary_next, raised, body}
@@ -42,7 +44,7 @@ next_operator call s b = look (λ m. by (follower_at s) refl m)
         (next_operator_at (pos_at s) v) s true
     by (Operator n right) e m = ret (refl, ap operator_in (sym e), fine m (rw e))
     by (Unknown t) e m =
-        record { shown = λ w. (lost_at operator_known s _ _ m (ap W.known_follower e) refl, refl, λ z. (refl, refl)) }
+        record { shown = λ w. (lost_at operator_known s _ _ m (ap V.known_follower e) refl, refl, λ z. (refl, refl)) }
     by Other e m = ret (refl, ap operator_in (sym e), fine m (rw e))
 
 -- ---- runs
@@ -56,7 +58,7 @@ ended_fits op (Binary inner pos l r) is e =
 
 -- what does not go on with the right side of an operator ends it
 side_ended : (s t : Point) → next_continues (strength (follower_at s)) (follower_at t) ≡ false → Fits operator_known t
-    → Fits (W.side_ends (op_at s)) t
+    → Fits (V.side_ends (op_at s)) t
 side_ended s t off known =
     fine (known_fine operator_known (op_at t) known.fits).0 (simp (ends (follower_at t) (sensible (op_at t)) off))
   where

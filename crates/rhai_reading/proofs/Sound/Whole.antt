@@ -7,8 +7,10 @@ use Rattle.rhai_grammar.specs.Strengths.{Follower, Operator, Unknown, Other}
 use Rattle.rhai_grammar.specs.Forms.{Run, Just}
 use Rattle.rhai_grammar.specs.Trees.{tree}
 use Rattle.rhai_grammar.specs.Demands.{Fine, Nothing}
+use Rattle.rhai_grammar.specs.Verdicts as V
 use Rattle.rhai_grammar.specs.Written as W
-use Rattle.rhai_grammar.specs.Written.{outermost, run_ends, operator_known}
+use Rattle.rhai_grammar.specs.Verdicts.{run_ends, operator_known}
+use Rattle.rhai_grammar.specs.Spots.{outermost}
 use Rattle.rhai_reading.specs.Reading as R
 use Rattle.rhai_reading.specs.Reading.{body}
 use Rattle.rhai_reading.specs.Histories.{exec, Outcome, Done, Refused, Unfinished}
@@ -27,7 +29,7 @@ ends_fine s off known =
     let f = known_fine operator_known (op_at s) known.fits in
     fine f.0 (ends (follower_at s) (sensible (op_at s)) off f.1)
   where
-    ends : (v : Follower) → Sensible v → next_continues 1 v ≡ false → W.known_follower v ≡ Fine → W.ended_follower v ≡ Fine
+    ends : (v : Follower) → Sensible v → next_continues 1 v ≡ false → V.known_follower v ≡ Fine → V.ended_follower v ≡ Fine
     ends (Operator n right) h off k = let w = outer (Operator n right) h refl in absurd cc
     ends (Unknown t) h off k = absurd cc
     ends Other h off k = refl

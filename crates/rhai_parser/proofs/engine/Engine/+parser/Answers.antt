@@ -5,7 +5,7 @@ use Rattle.rhai_lower.specs.Lexemes.{lexeme}
 use Rattle.rhai_lower.specs.View.{property_views, view}
 use Rattle.rhai_lower.proofs.Views.{property_views_push}
 use Rattle.rhai_grammar.specs.Cursors.{cursor_of}
-use Rattle.rhai_grammar.specs.Written.{LinkSpot}
+use Rattle.rhai_grammar.specs.Spots.{LinkSpot}
 use Rattle.rhai_grammar.specs.Signs.{sign_result}
 use Rattle.rhai_reading.specs.Running.{result_of}
 use Rattle.rhai_trees.specs.Chains.{link_views}

@@ -1,0 +1,90 @@
+-- The place of a run and of a link: the settings under which they are parsed, and what stands around them.
+use Rattle.std.specs.Prelude.{Bool, true, false, Option, Some, None, List, [], ◌∷◌, ◌++◌}
+use Rattle.rhai_lower.specs.Lexemes.{Lexeme}
+use Rattle.rhai_lower.specs.Nodes.{Node, position_of}
+use Rattle.rhai_lower.specs.declared.position.Position.{Position}
+use Rattle.rhai_grammar.specs.Contexts.{Context, Live, level_up}
+use Rattle.rhai_grammar.specs.Beginnings.{beginning, is_range}
+use Rattle.rhai_grammar.specs.Strengths.{Follower, follower_of, left_of}
+use Rattle.rhai_grammar.specs.Strengths.{right_of}
+use Rattle.rhai_grammar.specs.Forms as form
+use Rattle.rhai_grammar.specs.Forms.{Run}
+use Rattle.rhai_grammar.specs.Trees.{operand_tree}
+use Rattle.rhai_grammar.specs.Chains.{Link}
+
+-- settings, and the position at which the next raise of their level is refused
+pub record Height : Type 0 where
+  pub settings : Context
+  pub at : Position
+
+-- the place of a run
+pub data Side : Type 0 where
+  Outermost : Side
+  -- on the right of an operator, whose level is raised after the first operand
+  RightOf : (op : Lexeme) (height : Height) → Side
+
+-- A run's first operand is parsed under the settings `first`, and its operators begin under `begins`; `live` is
+-- what was defined before it.
+pub record Spot : Type 0 where
+  pub first : Context
+  pub begins : Context
+  pub side : Side
+  pub live : Live
+
+abbrev pub outermost : Context → Live → Spot
+outermost context live = record { first = context; begins = context; side = Outermost; live = live }
+
+abbrev pub right_side : Lexeme → Height → Live → Spot
+right_side op height live = record {
+  first = height.settings;
+  begins = level_up height.settings;
+  side = RightOf op height;
+  live = live;
+}
+
+-- The height after a run: that of its first operand, and one level more for each operator on its left side.
+abbrev pub height_after : Spot → Run → Height
+height_after spot (form.Just x) = record { settings = spot.begins; at = position_of (operand_tree x spot.live) }
+height_after spot (form.Binary op at left right) =
+    record { settings = level_up (height_after spot left).settings; at = at }
+
+-- an operand directly after a range operator
+abbrev pub is_ranged : Side → Bool
+is_ranged Outermost = false
+is_ranged (RightOf op height) = is_range (beginning op)
+
+abbrev pub side_fits : Side → Follower → Bool
+side_fits Outermost inner = true
+side_fits (RightOf op height) inner = right_of (follower_of op) inner
+
+abbrev pub left_fits : Follower → Run → Bool
+left_fits op (form.Just x) = true
+left_fits op (form.Binary inner at left right) = left_of op (follower_of inner)
+
+-- The place of a link: the settings of the operand that it continues, those of the brackets directly before it, the
+-- operand against which the index of a bracket is tested, if it is, and the links before.
+pub record LinkSpot : Type 0 where
+  pub settings : Context
+  pub brackets : Context
+  pub indexed : Option Node
+  pub before : List Link
+
+abbrev pub spot_after_operand : Context → Node → LinkSpot
+spot_after_operand context x = record { settings = context; brackets = context; indexed = Some x; before = [] }
+
+abbrev pub spot_after_bracket : LinkSpot → Link → LinkSpot
+spot_after_bracket spot link = record {
+  settings = spot.settings;
+  brackets = level_up spot.brackets;
+  indexed = None;
+  before = spot.before ++ (link ∷ []);
+}
+
+-- Everything to the right of a dot is one level deeper.
+abbrev pub spot_after_dot : LinkSpot → Link → LinkSpot
+spot_after_dot spot link = record {
+  settings = level_up spot.settings;
+  brackets = level_up spot.settings;
+  indexed = None;
+  before = spot.before ++ (link ∷ []);
+}
