@@ -16,5 +16,6 @@ Separates parts s (Ok comma) t =
     × (comma ≡ false → after_part parts (asked s).lexeme ≡ Close)
     × (is_memory (asked s).lexeme ≡ false) × (t ≡ taking s)
 Separates parts s (Err e) t =
-    is_for_memory e ≡ false → (after_part parts (asked s).lexeme ≡ Nothing) × (is_memory (asked s).lexeme ≡ false)
+    is_for_memory e ≡ false → (after_part parts (asked s).lexeme ≡ Nothing)
+    × (is_memory (asked s).lexeme ≡ false)
     × (refusal_of e ≡ refusal (not_after parts (asked s).lexeme) (asked s).at) × (t ≡ looking s)

@@ -9,7 +9,8 @@ use Rattle.rhai_grammar.specs.declared.due.DueToken.{DueToken}
 
 -- A token is due: it is taken, or another one is refused in its place and stays, unless memory ran out.
 abbrev pub Passes : DueToken → Cursor → Result Unit ParseError → Cursor → Type 0
-Passes due s (Ok done) t = (is_due due (asked s).lexeme ≡ true) × (is_memory (asked s).lexeme ≡ false) × (t ≡ taking s)
+Passes due s (Ok done) t = (is_due due (asked s).lexeme ≡ true) × (is_memory (asked s).lexeme ≡ false)
+    × (t ≡ taking s)
 Passes due s (Err e) t =
     is_for_memory e ≡ false → (is_due due (asked s).lexeme ≡ false) × (is_memory (asked s).lexeme ≡ false)
     × (refusal_of e ≡ refusal (not_due due (asked s).lexeme) (asked s).at) × (t ≡ looking s)

@@ -26,7 +26,8 @@ key_found (Some t) = literal.AKey (rc_str_bytes t)
 abbrev pub KeyIs : (before : Properties) → Position → KeyPlace → Option Ident → Type 0
 KeyIs before at place None = place ≡ literal.FieldsEnd
 KeyIs before at place (Some key) =
-    (place ≡ literal.AKey (rc_str_bytes key.name)) × (key.pos ≡ at) × (has_key (rc_str_bytes key.name) before ≡ false)
+    (place ≡ literal.AKey (rc_str_bytes key.name)) × (key.pos ≡ at)
+    × (has_key (rc_str_bytes key.name) before ≡ false)
 
 -- What stands where a key may is refused: it is none and stays, or it is the key of one of the properties and was
 -- taken.

@@ -54,6 +54,8 @@ left (Ends p) = 0
 left (Then a b s t) = max (left s) (left t) + 1
 
 -- A stream of one token, which is `+` in both modes.
-example : asked (cursor_of (stream_of (record { code = (Plus, place 1 1); text = (Plus, place 1 1) } ∷ []) (place 1 2)))
-    ≡ item (Sign Plus) (place 1 1)
+abbrev example_ask : Ask
+example_ask = record { code = (Plus, place 1 1); text = (Plus, place 1 1) }
+
+example : asked (cursor_of (stream_of (example_ask ∷ []) (place 1 2))) ≡ item (Sign Plus) (place 1 1)
 example = refl

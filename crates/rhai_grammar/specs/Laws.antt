@@ -12,7 +12,8 @@ use Rattle.rhai_grammar.specs.Forms.{Base, Links, NoLink, Bracket, Property, Met
 use Rattle.rhai_grammar.specs.Trees.{tree}
 use Rattle.rhai_grammar.specs.Shapes.{run_shape, node_shape}
 use Rattle.rhai_grammar.specs.Spelling.{spelling, IsDelivered}
-use Rattle.rhai_grammar.specs.Demands.{Verdict, Wrong, Blames, Demands, Nothing, Tok, Ahead, Next, Test, Shape, ◌▸◌}
+use Rattle.rhai_grammar.specs.Demands.{Verdict, Wrong, Blames, Demands, Nothing, Tok, Ahead, Next, Test, Shape}
+use Rattle.rhai_grammar.specs.Demands.{◌▸◌}
 use Rattle.rhai_grammar.specs.Demands.{verdict, Met, Missed}
 use Rattle.rhai_grammar.specs.Written.{whole_expression}
 use Rattle.rhai_grammar.specs.Promises.{IsWritten}
@@ -23,8 +24,9 @@ FormsAreSpelled =
     (context : Context) (live : Live) (f : Run) (s t : Point) → Met (whole_expression f context live) s t
     → Gives (spelling f) s.tokens × (t.tokens ≡ leads (spelling f) s.tokens)
 
--- A form that fits on one stream fits on every stream that begins with its spelling and goes on with the end mark. What
--- else these streams would deliver, as in text mode, and the position of the end mark make no difference.
+-- A form that fits on one stream fits on every stream that begins with its spelling and goes on with the
+-- end mark. What else these streams would deliver, as in text mode, and the position of the end mark make no
+-- difference.
 abbrev pub FormsFitWhereverSpelled : Type 0
 FormsFitWhereverSpelled =
     (context : Context) (live : Live) (f : Run) (s t other : Point) → Met (whole_expression f context live) s t
@@ -47,7 +49,8 @@ EntriesAreDelivered =
 -- Two forms that fit and spell the same stream have the same tree.
 abbrev pub FormsHaveOneTree : Type 0
 FormsHaveOneTree =
-    (context : Context) (live : Live) (s : Cursor) (f g : Run) → IsWritten context live f s → IsWritten context live g s
+    (context : Context) (live : Live) (s : Cursor) (f g : Run) → IsWritten context live f s
+    → IsWritten context live g s
     → tree f live ≡ tree g live
 
 -- a verdict that is an error
@@ -74,8 +77,9 @@ pub record FormsAreFair : Type 0 where
 
 -- Forms that are equal up to positions have trees that are equal up to positions.
 abbrev pub TreesKeepShape : Type 0
-TreesKeepShape = (live : Live) (f g : Run) → run_shape f ≡ run_shape g → node_shape (tree f live)
-    ≡ node_shape (tree g live)
+TreesKeepShape =
+    (live : Live) (f g : Run) → run_shape f ≡ run_shape g
+    → node_shape (tree f live) ≡ node_shape (tree g live)
 
 -- links, and others after them
 abbrev pub followed : Links → Links → Links

@@ -47,9 +47,9 @@ pub record IsReadable (taken : List Taken) (left : Cursor) : Type 0 where
   pub tokens : Readable (latest_first taken [])
   pub peeked : left.peeked ≡ true → is_memory (asked left).lexeme ≡ false
 
--- Some tokens were taken, and the tokenizer had memory for each of them, and for the one that is peeked, if one is. The
--- first token was taken in the mode that the stream had at the start, and each later one in code mode. The mode of the
--- next request is code mode if a token was taken, and otherwise what it was.
+-- Some tokens were taken, and the tokenizer had memory for each of them, and for the one that is peeked, if one
+-- is. The first token was taken in the mode that the stream had at the start, and each later one in code mode. The
+-- mode of the next request is code mode if a token was taken, and otherwise what it was.
 pub record HasRead (start left : Cursor) : Type 0 where
   pub taken : List Taken
   pub saw : Saw taken start left
@@ -80,7 +80,8 @@ NoneBegins context live taken left = (f : Run) (s : Cursor) → IsWritten contex
     → BeginsWith taken left s.tokens → ⊥
 
 -- A refusal after the tokens seen. The last token was peeked in code mode.
-pub record IsRefused (context : Context) (live : Live) (taken : List Taken) (start left : Cursor) (e : Refusal) : Type 0
+pub record IsRefused (context : Context) (live : Live) (taken : List Taken) (start left : Cursor) (e : Refusal) :
+    Type 0
   where
     pub saw : Saw taken start left
     pub named : IsNamed context live taken start left e

@@ -121,7 +121,8 @@ late_refused = refusal cause.ExprTooDeep (place 1 9)
 pub record LateRow : Type 0 where
   pub tree_is : tree late_form nothing_live
       ≡ operator_call (Sign Plus) (place 1 7) (tree pair_form nothing_live) late_product_tree
-  pub fits : Met (whole_expression late_form (depth 4) nothing_live) (unread late_tokens 14) (between late_tokens [] 14)
+  pub fits : Met (whole_expression late_form (depth 4) nothing_live) (unread late_tokens 14)
+      (between late_tokens [] 14)
   pub deep : Missed (whole_expression late_form (depth 3) nothing_live) (unread late_tokens 14)
       late_refused (between late_tokens [] 14)
 

@@ -108,12 +108,13 @@ abbrev mutual
 
   pub link_list : Links → Live → List Link
   link_list form.NoLink live = []
-  link_list (form.Bracket opening at f closing rest) live = bracket_link opening at (tree f live) ∷ link_list rest live
+  link_list (form.Bracket opening at f closing rest) live =
+      bracket_link opening at (tree f live) ∷ link_list rest live
   link_list (form.Property dot at name name_at rest) live =
       member_link dot at (property name name_at) ∷ link_list rest live
   link_list (form.Method dot at name name_at bang arguments rest) live =
-      member_link dot at (method_tree (text_of name) name_at (is_some bang) (argument_trees arguments live)) ∷ link_list
-      rest live
+      member_link dot at (method_tree (text_of name) name_at (is_some bang) (argument_trees arguments live))
+      ∷ link_list rest live
 
   pub operand_tree : Operand → Live → Node
   operand_tree (form.Linked x links) live = chained (base_tree x live) (link_list links live)

@@ -53,8 +53,9 @@ anything token = Otherwise
 abbrev pub word_use : Context → Text → Position → (called : Bool) → Verdict
 word_use context word at called =
     if may_be_called word && called then Fine else
-    if is_this word then (if in_function context.settings then Fine
-    else Blames (refusal (cause.BadInput (cause.ImproperSymbol word)) at)) else
+    if is_this word then
+    (if in_function context.settings then Fine else
+    Blames (refusal (cause.BadInput (cause.ImproperSymbol word)) at)) else
     Blames (refusal (cause.Reserved word) at)
 
 abbrev pub after_word : Context → Text → Position → Lexeme → Verdict

@@ -77,7 +77,8 @@ as_expression inside context live more = begun context (inside (outermost (level
 -- After its whole right side an operator joins its operands: for `&&` and `||` both have to be possible booleans.
 abbrev pub operands_fit : Lexeme → Node → Node → Demands → Demands
 operands_fit op x y more =
-    Next (side_ends op) ▸ Test (boolean_holds op x) (mismatched x) ▸ Test (boolean_holds op y) (mismatched y) ▸ more
+    Next (side_ends op) ▸ Test (boolean_holds op x) (mismatched x) ▸ Test (boolean_holds op y) (mismatched y)
+    ▸ more
 
 -- A property up to its value: no earlier property has its key.
 abbrev pub field : (key : Lexeme) (at colon : Position) (before : Properties) → Context → (opening : Position)
@@ -147,7 +148,8 @@ abbrev mutual
       due_token due.RightBracket closing (
       links rest (spot_after_bracket spot (bracket_link opening at (tree f live))) live more)))))
   links (form.Property dot at name name_at rest) spot live more =
-      Shape (is_dot (linking dot)) ▸ Tok code (item dot at) anything ▸ Next member_due ▸ raise_at spot.settings at (
+      Shape (is_dot (linking dot)) ▸ Tok code (item dot at) anything ▸ Next member_due
+      ▸ raise_at spot.settings at (
       Tok code (item (Name name) name_at) anything ▸ Next uncalled_member ▸
       links rest (spot_after_dot spot (member_link dot at (property name name_at))) live more)
   links (form.Method dot at name name_at None args rest) spot live more =

@@ -1,5 +1,6 @@
 -- Names, and the words that the language reserves.
-use Rattle.std.specs.Prelude.{◌≡◌, ℕ, Bool, true, false, Option, Some, None, List, [], ◌∷◌, ◌&&◌, ◌||◌, ◌==◌, not, find}
+use Rattle.std.specs.Prelude.{◌≡◌, ℕ, Bool, true, false, Option, Some, None, List, [], ◌∷◌, ◌&&◌, ◌||◌, ◌==◌, not}
+use Rattle.std.specs.Prelude.{find}
 use Rattle.std.specs.Prelude.{codes, if◌then◌else◌, refl}
 use Rattle.std.specs.Char.{is_ascii_alphabetic, is_ascii_alphanumeric}
 use Rattle.std.specs.List.{list_all, list_any}

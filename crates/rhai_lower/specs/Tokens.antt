@@ -5,7 +5,8 @@ use Rattle.rhai_lower.specs.declared.token.Token.{Token}
 use Rattle.rhai_lower.specs.declared.token.Token.TheVariants.{Unit, LeftBrace, RightBrace, LeftParen, RightParen}
 use Rattle.rhai_lower.specs.declared.token.Token.TheVariants.{LeftBracket, RightBracket, QuestionBracket, MapStart}
 use Rattle.rhai_lower.specs.declared.token.Token.TheVariants.{Period, Elvis, DoubleColon, Colon, Comma, SemiColon}
-use Rattle.rhai_lower.specs.declared.token.Token.TheVariants.{DoubleArrow, Equals, Pipe, Or, Bang, Underscore, XOr, And}
+use Rattle.rhai_lower.specs.declared.token.Token.TheVariants.{DoubleArrow, Equals, Pipe, Or, Bang, Underscore}
+use Rattle.rhai_lower.specs.declared.token.Token.TheVariants.{XOr, And}
 use Rattle.rhai_lower.specs.declared.token.Token.TheVariants.{Ampersand, EqualsTo, NotEqualsTo, In, NotIn, LessThan}
 use Rattle.rhai_lower.specs.declared.token.Token.TheVariants.{LessThanEqualsTo, GreaterThan, GreaterThanEqualsTo}
 use Rattle.rhai_lower.specs.declared.token.Token.TheVariants.{DoubleQuestion, ExclusiveRange, InclusiveRange, Plus}

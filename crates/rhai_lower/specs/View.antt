@@ -7,7 +7,8 @@ use Rattle.std.specs.declared.alloc.Global.{Global}
 use Rattle.rhai_lower.specs.Texts.{Text}
 use Rattle.rhai_lower.specs.Lexemes.{lexeme}
 use Rattle.rhai_lower.specs.Nodes
-use Rattle.rhai_lower.specs.Nodes.{Called, Named, Node, Nodes, Optional, Properties, Statement, Statements, Block, Arms}
+use Rattle.rhai_lower.specs.Nodes.{Called, Named, Node, Nodes, Optional, Properties, Statement, Statements, Block}
+use Rattle.rhai_lower.specs.Nodes.{Arms}
 use Rattle.rhai_lower.specs.Nodes.{Cases, Function, no_nodes, one_node, absent, present, no_properties, one_property}
 use Rattle.rhai_lower.specs.Nodes.{no_statements, one_statement, braces, no_arms, one_arm, no_cases, one_case}
 use Rattle.rhai_lower.specs.declared.ast.Expr.{Expr, fold-Expr}

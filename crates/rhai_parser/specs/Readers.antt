@@ -89,8 +89,8 @@ views_of es = views es.items
 abbrev pub properties_of : Vec (Ident × Expr) Global → Properties
 properties_of ps = property_views ps.items
 
-abbrev pub links_of : Vec Link Global → List chain.Link
-links_of ls = link_views ls.items
+abbrev pub linked : Vec Link Global → List chain.Link
+linked ls = link_views ls.items
 
 -- what calls a name: whether it has a `!`, and the arguments
 abbrev pub call_view : Call → Bool × Nodes

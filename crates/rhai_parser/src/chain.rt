@@ -4,7 +4,7 @@ ghost use Rattle.std.specs.Prelude.{◌≡◌, false, option_map};
 ghost use Rattle.rhai_lower.specs.View.{view};
 ghost use Rattle.rhai_grammar.specs.Cursors.{asked, cursor_of};
 ghost use Rattle.rhai_grammar.specs.Delivered.{is_end};
-ghost use Rattle.rhai_parser.specs.Readers.{GoesOn, Reads, call_view, called, index, links, links_of, member};
+ghost use Rattle.rhai_parser.specs.Readers.{GoesOn, Reads, call_view, called, index, links, linked, member};
 
 use crate::engine::Engine;
 use crate::frame::Frame;
@@ -72,7 +72,7 @@ impl Engine {
         lhs: &Expr,
     ) -> ParseResult<Vec<Link>>
         ensures goes_on { GoesOn shared.old shared.new }
-        ensures reads { Reads (links self.now frame.now settings (view lhs.now)) links_of shared.old result shared.new }
+        ensures reads { Reads (links self.now frame.now settings (view lhs.now)) linked shared.old result shared.new }
     {
         let mut settings = settings;
         let mut brackets = settings;

@@ -33,7 +33,8 @@ use Rattle.rhai_grammar.specs.declared.role.Calling.{Calling}
 use Rattle.rhai_grammar.specs.declared.role.Calling.TheVariants as calls_by
 use Rattle.rhai_grammar.specs.declared.role.Linking.{Linking}
 use Rattle.rhai_grammar.specs.declared.role.Linking.TheVariants as link
-use Rattle.rhai_grammar.specs.Beginnings.{beginning, value_of, no_operand, unexpected, missing, is_range, omits_operand}
+use Rattle.rhai_grammar.specs.Beginnings.{beginning, value_of, no_operand, unexpected, missing, is_range}
+use Rattle.rhai_grammar.specs.Beginnings.{omits_operand}
 use Rattle.rhai_grammar.specs.Beginnings.{calling}
 use Rattle.rhai_grammar.specs.Beginnings.{calls, may_be_called, is_this, linking, is_name}
 use Rattle.rhai_grammar.specs.Beginnings.{MemberPlace, AMember, NoMember, member_place}
@@ -115,7 +116,8 @@ raised c at k = if has_room c then k (level_up c) else Fail (refusal cause.ExprT
 abbrev pub match_token : {A : Type 0} → DueToken → Prog A → Prog A
 match_token d p = Peek (λ l at. if is_due d l then Take p else Fail (refusal (not_due d l) at))
 
--- After a part of a list: on after a comma, end after the token that closes the list, or what else is there is refused.
+-- After a part of a list: on after a comma, end after the token that closes the list, or what else is there is
+-- refused.
 abbrev pub part_next : {A : Type 0} → CommaList → (on end : Prog A) → Lexeme → Position → AfterPart → Prog A
 part_next parts on end l at after.Comma = Take on
 part_next parts on end l at after.Close = Take end
@@ -210,7 +212,8 @@ abbrev pub element_next : Context → Live → (opening : Position) → Nodes �
 element_next c w opening ns = after_a_part lists.Array (Call (Elements c w opening ns) Ret) (Ret ns)
 
 -- where an item may begin
-abbrev pub element_at : Context → Live → (opening : Position) → Nodes → Lexeme → Position → ItemPlace → Prog Nodes
+abbrev pub element_at : Context → Live → (opening : Position) → Nodes → Lexeme → Position → ItemPlace
+    → Prog Nodes
 element_at c w opening before l at place.End = Take (Ret before)
 element_at c w opening before l at place.Item =
     raised c opening (λ d. Call (Expression d w) (λ x. element_next c w opening (with_node before x)))

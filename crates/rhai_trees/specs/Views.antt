@@ -1,5 +1,6 @@
 -- What the types of this crate's code represent, and parts of what its helpers return.
-use Rattle.std.specs.Prelude.{◌≡◌, ℕ, ℤ, pos, false, [], Option, Some, None, Result, Ok, Err, not, if◌then◌else◌, refl}
+use Rattle.std.specs.Prelude.{◌≡◌, ℕ, ℤ, pos, false, [], Option, Some, None, Result, Ok, Err, not, if◌then◌else◌}
+use Rattle.std.specs.Prelude.{refl}
 use Rattle.std.specs.Prelude.{neg_ℤ}
 use Rattle.std.specs.Ordering.{int_eq}
 use Rattle.rhai_lower.specs.Positions.{nowhere}

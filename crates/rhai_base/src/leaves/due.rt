@@ -88,9 +88,11 @@ pub fn arguments_due(alloc: Global, input: &mut TokenStream) -> ParseResult<Call
 pub fn end_due(alloc: Global, input: &mut TokenStream) -> ParseResult<()>
     ensures ended { OnOk result ((is_end (asked (cursor_of input.old)).lexeme ≡ true)
         × (is_memory (asked (cursor_of input.old)).lexeme ≡ false)) }
-    ensures refused { IfErr result (λ e. is_for_memory e ≡ false → (is_end (asked (cursor_of input.old)).lexeme ≡ false)
+    ensures refused { IfErr result (λ e. is_for_memory e ≡ false
+        → (is_end (asked (cursor_of input.old)).lexeme ≡ false)
         × (is_memory (asked (cursor_of input.old)).lexeme ≡ false)
-        × (refusal_of e ≡ refusal (unexpected (asked (cursor_of input.old)).lexeme) (asked (cursor_of input.old)).at)) }
+        × (refusal_of e ≡ refusal (unexpected (asked (cursor_of input.old)).lexeme)
+        (asked (cursor_of input.old)).at)) }
     ensures nowhere { IfErr result MemoryIsNowhere }
     ensures after { cursor_of input.new ≡ looking (cursor_of input.old) }
 {

@@ -9,7 +9,8 @@ ghost use Rattle.rhai_grammar.specs.Delivered.{is_memory};
 ghost use Rattle.rhai_grammar.specs.Literals.{NoKey, has_key, key_place, no_property};
 ghost use Rattle.rhai_grammar.specs.Verdicts.{next_key};
 ghost use Rattle.rhai_base.specs.Settings.{settings_of};
-ghost use Rattle.rhai_base.specs.MapKeys.{KeyIs, KeyRefused, is_interpolated, is_reserved_word, key_found, refused_key};
+ghost use Rattle.rhai_base.specs.MapKeys.{KeyIs, KeyRefused, is_interpolated, is_reserved_word, key_found};
+ghost use Rattle.rhai_base.specs.MapKeys.{refused_key};
 
 use crate::cursor::{peek, skip};
 use crate::leaves::refusals::missing_token;

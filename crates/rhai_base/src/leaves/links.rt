@@ -61,7 +61,8 @@ pub fn member_due(input: &mut TokenStream) -> ParseResult<()>
         → (member_place (asked (cursor_of input.old)).lexeme
         ≡ NoMember (no_member (asked (cursor_of input.old)).lexeme))
         × (is_memory (asked (cursor_of input.old)).lexeme ≡ false)
-        × (refusal_of e ≡ refusal (no_member (asked (cursor_of input.old)).lexeme) (asked (cursor_of input.old)).at)) }
+        × (refusal_of e ≡ refusal (no_member (asked (cursor_of input.old)).lexeme)
+        (asked (cursor_of input.old)).at)) }
     ensures nowhere { IfErr result MemoryIsNowhere }
     ensures after { cursor_of input.new ≡ looking (cursor_of input.old) }
 {

@@ -57,7 +57,8 @@ fn is_reserved_symbol(token: &Token) -> bool
 pub fn next_operator(alloc: Global, input: &mut TokenStream) -> ParseResult<Option<Operator>>
     ensures found { IfOk result (λ o. follower_of (asked (cursor_of input.old)).lexeme ≡ operator_found o) }
     ensures refused { IfErr result (λ e. is_for_memory e ≡ false
-        → (follower_of (asked (cursor_of input.old)).lexeme ≡ Unknown (text_of (asked (cursor_of input.old)).lexeme))
+        → (follower_of (asked (cursor_of input.old)).lexeme
+        ≡ Unknown (text_of (asked (cursor_of input.old)).lexeme))
         × (is_memory (asked (cursor_of input.old)).lexeme ≡ false)
         × (refusal_of e ≡ refusal (UnknownOperator (text_of (asked (cursor_of input.old)).lexeme))
         (asked (cursor_of input.old)).at)) }

@@ -5,7 +5,7 @@ use Rattle.rhai_grammar.specs.Cursors.{left}
 use Rattle.rhai_reading.specs.Reading.{Links}
 use Rattle.rhai_reading.specs.Running.{need, result_of}
 use Rattle.rhai_parser.specs.Frames.{context_of, live_of}
-use Rattle.rhai_parser.specs.Readers.{GoesOn, arguments, binary_op, called, elements, expression, fields, index, items, links, links_of, member, operand, postfix, primary, properties_of, state_of, views_of}
+use Rattle.rhai_parser.specs.Readers.{GoesOn, arguments, binary_op, called, elements, expression, fields, index, items, links, linked, member, operand, postfix, primary, properties_of, state_of, views_of}
 use Rattle.rhai_parser.proofs.engine.Engine.+parser.Given as goal
 
 abbrev pub decreases-parse_expr : goal.decreases-parse_expr
@@ -76,7 +76,7 @@ decreases-parse_map_literal-loop-properties l = left (state_of l.shared).tokens
 
 abbrev pub invariant-parse_links-loop-links : goal.invariant-parse_links-loop-links
 invariant-parse_links-loop-links l = record {
-  same : result_of (links l.fn.self l.fn.frame l.fn.settings (view l.fn.lhs)) (state_of l.fn.shared) ≡ result_of (Links (live_of l.frame) (record { settings = context_of l.self l.settings; brackets = context_of l.self l.brackets; indexed = option_map (λ x. view x.now) l.indexed; before = links_of l.links })) (state_of l.shared);
+  same : result_of (links l.fn.self l.fn.frame l.fn.settings (view l.fn.lhs)) (state_of l.fn.shared) ≡ result_of (Links (live_of l.frame) (record { settings = context_of l.self l.settings; brackets = context_of l.self l.brackets; indexed = option_map (λ x. view x.now) l.indexed; before = linked l.links })) (state_of l.shared);
   goes_on : GoesOn l.fn.shared l.shared;
 }
 
