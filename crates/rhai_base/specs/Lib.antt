@@ -3,6 +3,7 @@ pub mod CommaLists
 pub mod Counts
 pub mod DueTokens
 pub mod FlagNames
+pub mod Frames
 pub mod Index
 pub mod Keys
 pub mod MapKeys
@@ -10,5 +11,6 @@ pub mod Members
 pub mod Operators
 pub mod Settings
 pub mod Shown
+pub mod Statements
 pub mod States
 pub mod Words

@@ -6,6 +6,7 @@ use Rattle.rhai_grammar.specs.declared.error.ParseErrorType.TheVariants as error
 use Rattle.rhai_grammar.specs.declared.error.ParseError.{ParseError}
 use Rattle.rhai_grammar.specs.Settings.{Settings, has_room, level_up, one_more}
 use Rattle.rhai_base.specs.declared.settings.ParseSettings.{ParseSettings}
+use Rattle.rhai_base.specs.declared.settings.RunSettings.{RunSettings}
 
 -- everything except the position
 abbrev pub settings_of : ParseSettings → Settings
@@ -20,6 +21,12 @@ too_deep at = record { 0 = error.ExprTooDeep; 1 = at }
 abbrev pub Raises : ParseSettings → Position → Result ParseSettings ParseError → Type 0
 Raises c at (Ok d) = (has_room (settings_of c) ≡ true) × (settings_of d ≡ level_up (settings_of c)) × (d.pos ≡ at)
 Raises c at (Err e) = (has_room (settings_of c) ≡ false) × (e ≡ too_deep c.pos)
+
+-- After an operator of a run, at this position, its right side has the settings one level deeper, at the old position,
+-- and the operators that follow it have them at the operator.
+abbrev pub RaisesInRun : ParseSettings → Position → Result RunSettings ParseError → Type 0
+RaisesInRun c at (Ok d) = Raises c c.pos (Ok d.side) × Raises c at (Ok d.next)
+RaisesInRun c at (Err e) = Raises c c.pos (Err e)
 
 -- no flags and no options
 abbrev bare : (level limit : ℕ) → Position → ParseSettings

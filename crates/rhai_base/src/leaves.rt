@@ -1,5 +1,5 @@
 //! What the readers ask of tokens and make of them without reading an expression: tests, operators, names, keys,
-//! lists, due tokens and refusals.
+//! lists, due tokens, statements and refusals.
 
 pub mod due;
 pub mod items;
@@ -9,4 +9,5 @@ pub mod lists;
 pub mod names;
 pub mod operators;
 pub mod refusals;
+pub mod statements;
 pub mod tokens;

@@ -1,20 +1,24 @@
-//! What the parsing functions share: the settings, the state, look-ups in the state, the library of functions, access
-//! to the next token, and what they ask of tokens without reading an expression (`leaves`).
+//! What the parsing functions share: the settings, the state, the slots that are live in a block, look-ups among the
+//! slots and imports, the library of functions, access to the next token, and what they ask of tokens without reading
+//! an expression (`leaves`).
 #![tactic(auto)]
 
 pub mod closure_name;
 pub mod counts;
 pub mod cursor;
+pub mod frame;
 pub mod leaves;
 pub mod library;
 pub mod lookup;
 pub mod names;
 pub mod settings;
+mod slots;
 pub mod state;
 
 pub use closure_name::make_anonymous_fn;
 pub use counts::ParseCounts;
+pub use frame::Frame;
 pub use library::{FnLib, add_function, closure_count, functions, has_function, is_function_name};
 pub use names::FnNames;
-pub use settings::{LangOptions, ParseSettingFlags, ParseSettings};
+pub use settings::{LangOptions, ParseSettingFlags, ParseSettings, RunSettings};
 pub use state::{ParseState, TokenizerControl, nest_peak};

@@ -4,7 +4,7 @@ ghost use Rattle.std.specs.Prelude.{⊤, ◌≡◌, ◌==◌};
 ghost use Rattle.std.specs.Int.RustNames.{bit_and, bit_or, bit_xor};
 ghost use Rattle.bitflags.specs.Sets.{without};
 ghost use Rattle.rhai_base.specs.FlagNames.{flag_names, option_names};
-ghost use Rattle.rhai_base.specs.Settings.{settings_of, Raises};
+ghost use Rattle.rhai_base.specs.Settings.{settings_of, Raises, RaisesInRun};
 
 use bitflags::{Flag, Flags};
 use rhai_grammar::{ParseError, ParseErrorType, ParseResult};
@@ -356,6 +356,15 @@ pub struct ParseSettings {
     pub max_expr_depth: usize,
 }
 
+/// The settings after an operator of a run, one level deeper than those before it.
+#[derive(Clone, Copy)]
+pub struct RunSettings {
+    /// Those of the operator's right side.
+    pub side: ParseSettings,
+    /// Those of the operators that follow it in the run.
+    pub next: ParseSettings,
+}
+
 impl ParseSettings {
     /// Whether all of these flags are set. Does not allocate.
     pub fn has_flag(&self, flags: ParseSettingFlags) -> bool
@@ -392,6 +401,18 @@ impl ParseSettings {
             level: self.level.saturating_add(1),
             pos,
             ..*self
+        })
+    }
+
+    /// The settings after an operator at `pos`: those of its right side are one level deeper, at the old position, and
+    /// those of the operators that follow it are as deep, at `pos`. An error is that of `level_up`. Does not allocate.
+    pub fn level_up_in_run(&self, pos: Position) -> ParseResult<RunSettings>
+        ensures { RaisesInRun self.now pos result }
+    {
+        let side = self.level_up()?;
+        Ok(RunSettings {
+            side,
+            next: side.at(pos),
         })
     }
 

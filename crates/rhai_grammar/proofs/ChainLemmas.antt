@@ -107,5 +107,5 @@ chains_are_joined = record {
   equal = λ w opening closing x links more. equal w x links more;
   same_shape = λ w opening closing x links more f e.
       ap node_shape (equal w x links more)
-      ∙ trees_keep_shape w (form.Just (form.Linked x (followed links more))) f (sym e);
+      ∙ trees_keep_shape.expression w (form.Just (form.Linked x (followed links more))) f (sym e);
 }

@@ -7,15 +7,20 @@ use Rattle.rhai_lower.specs.declared.position.Position.{Position}
 use Rattle.rhai_lower.specs.declared.token.Token.TheVariants as token
 use Rattle.rhai_grammar.specs.declared.role.Beginning.{Beginning}
 use Rattle.rhai_grammar.specs.declared.role.Beginning.TheVariants as begin
-use Rattle.rhai_grammar.specs.Beginnings.{beginning, omits_operand, is_range, is_sign, is_value}
+use Rattle.rhai_grammar.specs.Beginnings.{beginning, no_operand, omits_operand, is_range, is_sign, is_value}
 use Rattle.rhai_grammar.specs.Causes.{Refusal}
 use Rattle.rhai_grammar.specs.Chains.{index_refusal, last_fault}
-use Rattle.rhai_grammar.specs.Contexts.{Context, Live, level_up}
+use Rattle.rhai_grammar.specs.Contexts.{Context, Live, has_block_values, in_block, level_up}
 use Rattle.rhai_grammar.specs.Delivered as M
 use Rattle.rhai_grammar.specs.Delivered.{Item, Point, is_memory, next_at, past}
 use Rattle.rhai_grammar.specs.Demands.{◌▸◌, Ahead, Blames, Demands, Fine, Met, Missed, Next, Nothing, Otherwise, Refused, Refuses, Shape, Test, Tok, Verdict, Wrong, verdict}
 use Rattle.rhai_grammar.specs.Forms as form
-use Rattle.rhai_grammar.specs.Forms.{Arguments, Base, Elements, Fields, Items, Links, Operand, Primary, Run}
+use Rattle.rhai_grammar.specs.Forms.{Arguments, Base, Body, Elements, ExprStatement, Fields, Initializer, Items, Links, Operand, Primary, Run, Statement, Statements}
+use Rattle.rhai_grammar.specs.Definitions.{after_statement}
+use Rattle.rhai_grammar.specs.Statements as S
+use Rattle.rhai_grammar.specs.Targets.{is_constant_use, target_fault}
+use Rattle.rhai_grammar.specs.declared.role.Closing.{Closing}
+use Rattle.rhai_grammar.specs.declared.role.Closing.TheVariants.{Brace, EndMark}
 use Rattle.rhai_grammar.specs.Laws.{FormsAreFair, IsFair, is_refused}
 use Rattle.rhai_grammar.specs.Literals.{KeyPlace, NoKey, is_key}
 use Rattle.rhai_grammar.specs.Trees.{argument_trees, base_tree, bracket_link, member_link, method_tree, primary_tree, tree}
@@ -34,20 +39,26 @@ unless false v e = e
 anything : (l : Lexeme) → is_refused (verdict V.anything l) ≡ false
 anything l = unless (is_memory l) Otherwise refl
 
-operand_due : (ranged : Bool) (l : Lexeme) → is_refused (V.beginning_due l (beginning l)) ≡ false → is_refused (verdict (V.operand_due ranged) l) ≡ false
-operand_due ranged l e = unless (is_memory l) (V.operand_due ranged l) (unless (ranged && omits_operand l) (V.beginning_due l (beginning l)) e)
+operand_due : (c : Context) (ranged : Bool) (l : Lexeme) → is_refused (V.beginning_due c l (beginning l)) ≡ false → is_refused (verdict (V.operand_due c ranged) l) ≡ false
+operand_due c ranged l e = unless (is_memory l) (V.operand_due c ranged l) (unless (ranged && omits_operand l) (V.beginning_due c l (beginning l)) e)
 
-value_due : (l : Lexeme) (b : Beginning) → is_value b ≡ true → is_refused (V.beginning_due l b) ≡ false
-value_due l begin.Nothing e = absurd cc
-value_due l _ e = refl
+block_due : (c : Context) (l : Lexeme) → has_block_values c ≡ true → is_refused (V.beginning_due c l begin.Block) ≡ false
+block_due c l on = ap (λ b. is_refused (if b then Otherwise else Wrong (no_operand l))) on
 
-sign_due : (l : Lexeme) (b : Beginning) → is_sign b ≡ true → is_refused (V.beginning_due l b) ≡ false
-sign_due l begin.Nothing e = absurd cc
-sign_due l _ e = refl
+value_due : (c : Context) (l : Lexeme) (b : Beginning) → is_value b ≡ true → is_refused (V.beginning_due c l b) ≡ false
+value_due c l begin.Nothing e = absurd cc
+value_due c l begin.Block e = absurd cc
+value_due c l _ e = refl
 
-range_due : (l : Lexeme) (b : Beginning) → is_range b ≡ true → is_refused (V.beginning_due l b) ≡ false
-range_due l begin.Nothing e = absurd cc
-range_due l _ e = refl
+sign_due : (c : Context) (l : Lexeme) (b : Beginning) → is_sign b ≡ true → is_refused (V.beginning_due c l b) ≡ false
+sign_due c l begin.Nothing e = absurd cc
+sign_due c l begin.Block e = absurd cc
+sign_due c l _ e = refl
+
+range_due : (c : Context) (l : Lexeme) (b : Beginning) → is_range b ≡ true → is_refused (V.beginning_due c l b) ≡ false
+range_due c l begin.Nothing e = absurd cc
+range_due c l begin.Block e = absurd cc
+range_due c l _ e = refl
 
 -- where an operand is omitted
 none_due : (b : Bool) (v : Verdict) → b ≡ true → is_refused (if b then Otherwise else v) ≡ false
@@ -57,6 +68,10 @@ none_due false v e = absurd cc
 key_due : (k : KeyPlace) → is_key k ≡ true → is_refused (V.key_at k) ≡ false
 key_due (NoKey why) e = absurd cc
 key_due _ e = refl
+
+semicolon_due : (closing : Closing) → is_refused (verdict (S.semicolon_due closing) (Sign token.SemiColon)) ≡ false
+semicolon_due Brace = refl
+semicolon_due EndMark = refl
 
 -- ---- all forms
 
@@ -70,16 +85,18 @@ raised (RightOf op height) k h = h
 
 mutual
   primary : (x : Primary) (c : Context) (w : Live) (ranged : Bool) (k : Demands) → IsFair k → IsFair (W.primary x c w ranged k)
-  primary (form.Value token at) c w ranged k h = λ e. (operand_due ranged token (value_due token (beginning token) e), h)
-  primary (form.Named name at) c w ranged k h = (operand_due ranged (Name name) refl, h)
-  primary (form.Word word at) c w ranged k h = (operand_due ranged (Reserved word) refl, h)
+  primary (form.Value token at) c w ranged k h = λ e. (operand_due c ranged token (value_due c token (beginning token) e), h)
+  primary (form.Named name at) c w ranged k h = (operand_due c ranged (Name name) refl, h)
+  primary (form.Word word at) c w ranged k h = (operand_due c ranged (Reserved word) refl, h)
   primary (form.Group opening inside closing) c w ranged k h =
-      (operand_due ranged (Sign token.LeftParen) refl, run inside (outermost (level_up (level_up c)) w) _ (refl, h))
+      (operand_due c ranged (Sign token.LeftParen) refl, run inside (outermost (level_up (level_up c)) w) _ (refl, h))
   primary (form.Array opening list) c w ranged k h =
-      (operand_due ranged (Sign token.LeftBracket) refl, elements list 0 (level_up c) w opening k h)
+      (operand_due c ranged (Sign token.LeftBracket) refl, elements list 0 (level_up c) w opening k h)
   primary (form.Map opening list) c w ranged k h =
-      (operand_due ranged (Sign token.MapStart) refl, fields list no_properties (level_up c) w opening k h)
-  primary (form.Zero range at) c w ranged k h = λ e. (operand_due ranged range (range_due range (beginning range) e), h)
+      (operand_due c ranged (Sign token.MapStart) refl, fields list no_properties (level_up c) w opening k h)
+  primary (form.BlockValue opening f) c w ranged k h = λ on.
+      (operand_due c ranged (Sign token.LeftBrace) (block_due c (Sign token.LeftBrace) on), block f (level_up (level_up c)) w k h)
+  primary (form.Zero range at) c w ranged k h = λ e. (operand_due c ranged range (range_due c range (beginning range) e), h)
 
   base : (x : Base) (c : Context) (w : Live) (ranged : Bool) (k : Demands) → IsFair k → IsFair (W.base x c w ranged k)
   base (form.Plain x) c w ranged k h = primary x c w ranged _ h
@@ -108,9 +125,9 @@ mutual
   operand : (x : Operand) (c : Context) (w : Live) (ranged : Bool) (k : Demands) → IsFair k → IsFair (W.operand x c w ranged k)
   operand (form.Linked x list) c w ranged k h = base x c w ranged _ (links list (spot_after_operand c (base_tree x w)) w k h)
   operand (form.Signed sign at x) c w ranged k h = λ e.
-      (operand_due ranged sign (sign_due sign (beginning sign) e), operand x (level_up c) w false _ h)
+      (operand_due c ranged sign (sign_due c sign (beginning sign) e), operand x (level_up c) w false _ h)
   operand (form.NoOperand token at) c w ranged k h = λ e.
-      (unless (is_memory token) (V.operand_due ranged token) (none_due (ranged && omits_operand token) (V.beginning_due token (beginning token)) e), h)
+      (unless (is_memory token) (V.operand_due c ranged token) (none_due (ranged && omits_operand token) (V.beginning_due c token (beginning token)) e), h)
 
   arguments : (x : Arguments) (others : Lexeme → Verdict) → is_refused (verdict others (Sign token.Unit)) ≡ false → is_refused (verdict others (Sign token.LeftParen)) ≡ false → (c : Context) (w : Live) (name : Position) (k : Demands) → IsFair k → IsFair (W.arguments x others c w name k)
   arguments (form.EmptyPair at) others pair list c w name k h = (pair, h)
@@ -145,6 +162,35 @@ mutual
         run r (right_side op (height_after q l) q.live) (operands_fit op (tree l q.live) (tree r q.live) k) h,
       ))
 
+  evaluation : (x : ExprStatement) (c : Context) (w : Live) (k : Demands) → IsFair k → IsFair (W.expr_statement x c w k)
+  evaluation (form.Evaluate f) c w k h = run f (outermost (level_up c) w) _ h
+  evaluation (form.Assign f op at x) c w k h =
+      run f (outermost (level_up c) w) _ (λ d. (
+        anything op,
+        run x (outermost (level_up c) w) _ (unfaulted (target_fault (is_constant_use w.slots (tree f w)) op at (tree f w)) k h),
+      ))
+
+  initializer : (x : Initializer) (c : Context) (w : Live) (at : Position) (k : Demands) → IsFair k → IsFair (W.definition_value x c w at k)
+  initializer form.NoValue c w at k h = h
+  initializer (form.Valued equals f) c w at k h = (refl, run f (outermost (level_up (level_up c)) w) _ h)
+
+  statement : (x : Statement) (c : Context) (w : Live) (k : Demands) → IsFair k → IsFair (W.statement x c w k)
+  statement (form.EmptyStatement at) c w k h = (refl, h)
+  statement (form.Expression x) c w k h = evaluation x (level_up c) w k h
+  statement (form.Define constant at name name_at x) c w k h = (refl, (refl, initializer x (level_up c) w at k h))
+  statement (form.Block opening f) c w k h = (refl, block f (level_up (level_up c)) w k h)
+
+  statements : (xs : Statements) (closing : Closing) (c : Context) (w : Live) (k : Demands) → IsFair k → IsFair (W.statements xs closing c w k)
+  statements form.NoStatement closing c w k h = h
+  statements (form.LastStatement f) closing c w k h = statement f c w _ (λ d. h)
+  statements (form.Ended f semicolon rest) closing c w k h =
+      statement f c w _ (λ d. (semicolon_due closing, statements rest closing c (after_statement f w) k h))
+  statements (form.Standing f rest) closing c w k h = statement f c w _ (λ d. statements rest closing c (after_statement f w) k h)
+
+  block : (x : Body) (c : Context) (w : Live) (k : Demands) → IsFair k → IsFair (W.block x c w k)
+  block (form.Many fs closing) c w k h = λ d. statements fs Brace c (in_block w) _ (refl, h)
+  block (form.Single x closing) c w k h = λ d. evaluation x c w _ (refl, h)
+
 whole : (c : Context) (w : Live) (f : Run) → IsFair (W.whole_expression f c w)
 whole c w f = run f (outermost (level_up c) w) _ tt
 
@@ -176,6 +222,12 @@ met_or_missed (Shape holds ▸ ds) s t u e h m n = met_or_missed ds s t u e (h m
 
 pub forms_are_fair : FormsAreFair
 forms_are_fair = record {
-  fair = whole;
-  apart = λ c w f s t u e m n. met_or_missed (W.whole_expression f c w) s t u e (whole c w f) m n;
+  expression = λ c w. record {
+    fair = whole c w;
+    apart = λ f s t u e m n. met_or_missed (W.whole_expression f c w) s t u e (whole c w f) m n;
+  };
+  script = λ c w. record {
+    fair = λ fs. statements fs EndMark c w Nothing tt;
+    apart = λ fs s t u e m n. met_or_missed (W.whole_script fs c w) s t u e (statements fs EndMark c w Nothing tt) m n;
+  };
 }

@@ -1,8 +1,11 @@
 pub mod CursorLemmas
 pub mod SeenLemmas
+pub mod Leads
 pub mod SpellingLemmas
 pub mod StreamLemmas
 pub mod RowLemmas
+pub mod StatementRowLemmas
+pub mod SlotLemmas
 pub mod ChainLemmas
 pub mod FairLemmas
 pub mod ShapeLemmas

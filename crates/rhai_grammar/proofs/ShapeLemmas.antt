@@ -11,9 +11,10 @@ use Rattle.rhai_lower.specs.declared.position.Position.{Position}
 use Rattle.rhai_lower.specs.declared.token.Token.TheVariants as token
 use Rattle.rhai_grammar.specs.Beginnings.{is_this, value_of}
 use Rattle.rhai_grammar.specs.Chains.{Bracket, Chain, Dotted, Link, LinkKind, chain_of, chained, is_last, link_node, nest}
-use Rattle.rhai_grammar.specs.Contexts.{Live}
+use Rattle.rhai_grammar.specs.Contexts.{Live, in_block}
 use Rattle.rhai_grammar.specs.Forms as form
-use Rattle.rhai_grammar.specs.Forms.{Arguments, Base, Elements, Fields, Items, Links, Operand, Primary, Run}
+use Rattle.rhai_grammar.specs.Forms.{Arguments, Base, Body, Elements, ExprStatement, Fields, Initializer, Items, Links, Operand, Primary, Run, Statement, Statements}
+use Rattle.rhai_grammar.specs.Definitions.{after_statement}
 use Rattle.rhai_grammar.specs.Laws.{TreesKeepShape}
 use Rattle.rhai_grammar.specs.Operators as O
 use Rattle.rhai_grammar.specs.Operators.{Part, joined, joined_tree, joining, list_of_parts, operator_tree, part}
@@ -170,6 +171,16 @@ chains x (l ∷ ls) =
 
 -- ---- forms
 
+kept : (f : node.Statement) (rest : node.Statements) → shape.statements_shape (T.kept f rest) ≡ T.kept (shape.statement_shape f) (shape.statements_shape rest)
+kept (node.noop p) rest = refl
+kept _ rest = refl
+
+live_after : (f : Statement) (w : Live) → after_statement (shape.written_shape f) w ≡ after_statement f w
+live_after (form.Define constant at text text_at x) w = refl
+live_after (form.EmptyStatement at) w = refl
+live_after (form.Expression x) w = refl
+live_after (form.Block opening f) w = refl
+
 mutual
   primary : (x : Primary) (w : Live) (called : Bool) → node_shape (primary_tree x w called) ≡ primary_tree (shape.primary_shape x) w called
   primary (form.Value token at) w called = value token at
@@ -178,6 +189,7 @@ mutual
   primary (form.Group opening inside closing) w called = run inside w
   primary (form.Array opening list) w called = let e = elements list w in cc
   primary (form.Map opening list) w called = let e = fields list w in cc
+  primary (form.BlockValue opening f) w called = let e = body opening f w in cc
   primary (form.Zero range at) w called = refl
 
   base : (x : Base) (w : Live) → node_shape (base_tree x w) ≡ base_tree (shape.base_shape x) w
@@ -234,5 +246,42 @@ mutual
       let f = run r w in
       join_tree (joining op) op at (tree l w) (tree r w) ∙ (cc)
 
+  evaluation : (x : ExprStatement) (w : Live) → shape.statement_shape (T.statement_of x w) ≡ T.statement_of (shape.evaluation_shape x) w
+  evaluation (form.Evaluate f) w = let e = run f w in cc
+  evaluation (form.Assign f op at x) w = let e = run f w in let g = run x w in cc
+
+  initializer : (x : Initializer) (w : Live) → node_shape (T.value_tree x w) ≡ T.value_tree (shape.initializer_shape x) w
+  initializer form.NoValue w = refl
+  initializer (form.Valued equals f) w = run f w
+
+  statement : (x : Statement) (w : Live) → shape.statement_shape (T.statement_tree x w) ≡ T.statement_tree (shape.written_shape x) w
+  statement (form.EmptyStatement at) w = refl
+  statement (form.Expression x) w = evaluation x w
+  statement (form.Define constant at text text_at x) w = let e = initializer x w in cc
+  statement (form.Block opening f) w = let e = body opening f w in cc
+
+  statements : (xs : Statements) (w : Live) → shape.statements_shape (T.statement_trees xs w) ≡ T.statement_trees (shape.script_shape xs) w
+  statements form.NoStatement w = refl
+  statements (form.LastStatement f) w =
+      let e = statement f w in
+      kept (T.statement_tree f w) node.no_statements ∙ (cc)
+  statements (form.Ended f semicolon rest) w =
+      let e = statement f w in
+      let g = statements rest (after_statement f w) in
+      let h = live_after f w in
+      kept (T.statement_tree f w) (T.statement_trees rest (after_statement f w)) ∙ (cc)
+  statements (form.Standing f rest) w =
+      let e = statement f w in
+      let g = statements rest (after_statement f w) in
+      let h = live_after f w in
+      kept (T.statement_tree f w) (T.statement_trees rest (after_statement f w)) ∙ (cc)
+
+  body : (opening : Position) (x : Body) (w : Live) → shape.block_shape (T.block_tree opening x w) ≡ T.block_tree nowhere (shape.body_shape x) w
+  body opening (form.Many fs closing) w = let e = statements fs (in_block w) in cc
+  body opening (form.Single x closing) w = let e = evaluation x w in cc
+
 pub trees_keep_shape : TreesKeepShape
-trees_keep_shape w f g e = run f w ∙ ap (λ x. tree x w) e ∙ sym (run g w)
+trees_keep_shape = record {
+  expression = λ w f g e. run f w ∙ ap (λ x. tree x w) e ∙ sym (run g w);
+  script = λ w fs gs e. statements fs w ∙ ap (λ x. T.statement_trees x w) e ∙ sym (statements gs w);
+}

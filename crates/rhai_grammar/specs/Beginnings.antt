@@ -8,7 +8,7 @@ use Rattle.rhai_lower.specs.declared.position.Position.{Position}
 use Rattle.rhai_lower.specs.declared.token.Token.{Token}
 use Rattle.rhai_lower.specs.declared.token.Token.TheVariants.{Unit, True, False, LeftParen, RightParen, LeftBracket}
 use Rattle.rhai_lower.specs.declared.token.Token.TheVariants.{RightBracket, QuestionBracket, Period, Elvis, MapStart}
-use Rattle.rhai_lower.specs.declared.token.Token.TheVariants.{RightBrace, Comma, SemiColon, DoubleArrow, Minus}
+use Rattle.rhai_lower.specs.declared.token.Token.TheVariants.{LeftBrace, RightBrace, Comma, SemiColon, DoubleArrow, Minus}
 use Rattle.rhai_lower.specs.declared.token.Token.TheVariants.{UnaryMinus, Plus, UnaryPlus, Bang, ExclusiveRange}
 use Rattle.rhai_lower.specs.declared.token.Token.TheVariants.{InclusiveRange}
 use Rattle.rhai_grammar.specs.Causes as cause
@@ -40,6 +40,7 @@ sign_beginning False = begin.Value
 sign_beginning LeftParen = begin.Group
 sign_beginning LeftBracket = begin.Array
 sign_beginning MapStart = begin.Map
+sign_beginning LeftBrace = begin.Block
 sign_beginning Minus = begin.Sign
 sign_beginning UnaryMinus = begin.Sign
 sign_beginning Plus = begin.Sign

@@ -1,5 +1,6 @@
 -- What the meaning of a form depends on: the settings and limits around it, and what was defined before it.
-use Rattle.std.specs.Prelude.{◌≡◌, ℕ, Bool, true, false, ◌&&◌, not, List, [], nat_lt, refl}
+use Rattle.std.specs.Prelude.{◌≡◌, ℕ, ◌==◌, Bool, true, false, ◌&&◌, not, List, [], length, nat_lt, refl}
+use Rattle.std.specs.Int.RustNames.{bit_and}
 use Rattle.rhai_lower.specs.Slots.{SlotValue}
 use Rattle.rhai_grammar.specs.Settings as settings
 use Rattle.rhai_grammar.specs.Settings.{Settings}
@@ -9,19 +10,39 @@ pub record Sizes : Type 0 where
   pub array : ℕ
   pub map : ℕ
 
--- What a form passes on to its parts, with only the level changed: the settings, and the engine's limits.
+-- What a form passes on to its parts, with only the level changed: the settings, and the engine's options (as bits)
+-- and limits.
 pub record Context : Type 0 where
   pub settings : Settings
+  pub options : ℕ
   pub sizes : Sizes
 
 -- What was defined before a form, in written order, and is still live.
 pub record Live : Type 0 where
   -- the slots of the variables, the oldest first
   pub slots : List SlotValue
+  -- the number of slots before the current block
+  pub block : ℕ
 
 -- nothing was defined
 abbrev pub nothing_live : Live
-nothing_live = record { slots = [] }
+nothing_live = record { slots = []; block = 0 }
+
+-- at the beginning of a block
+abbrev pub in_block : Live → Live
+in_block live = record live { block = length live.slots }
+
+-- the engine lets a definition shadow a variable of the same name
+abbrev pub allows_shadowing : Context → Bool
+allows_shadowing context = bit_and context.options 128 == 128
+
+-- a block is an operand
+abbrev pub has_block_values : Context → Bool
+has_block_values context = settings.block_values context.settings
+
+-- a block is one expression or assignment
+abbrev pub has_single_blocks : Context → Bool
+has_single_blocks context = settings.single_blocks context.settings
 
 -- a raise of the level is possible
 abbrev pub has_room : Context → Bool

@@ -1,5 +1,5 @@
 -- Written forms: what a person writes, with the position of each token.
-use Rattle.std.specs.Prelude.{Option}
+use Rattle.std.specs.Prelude.{Bool, Option}
 use Rattle.rhai_lower.specs.Texts.{Text}
 use Rattle.rhai_lower.specs.Lexemes.{Lexeme}
 use Rattle.rhai_lower.specs.declared.position.Position.{Position}
@@ -19,6 +19,8 @@ mutual
     Array : (opening : Position) (elements : Elements) → Primary
     -- an object map, from its `#{`
     Map : (opening : Position) (fields : Fields) → Primary
+    -- a block as a value
+    BlockValue : (opening : Position) → Body → Primary
     -- the omitted zero before a range operator; it names the operator, which is not one of this form's tokens
     Zero : (range : Lexeme) (at : Position) → Primary
 
@@ -78,3 +80,37 @@ mutual
   pub data Run : Type 0 where
     Just : Operand → Run
     Binary : (op : Lexeme) (at : Position) (left right : Run) → Run
+
+  -- an expression, or the assignment of one to another, with the token of the assignment
+  pub data ExprStatement : Type 0 where
+    Evaluate : Run → ExprStatement
+    Assign : (target : Run) (op : Lexeme) (at : Position) (value : Run) → ExprStatement
+
+  -- the value of a definition, with its `=`
+  pub data Initializer : Type 0 where
+    NoValue : Initializer
+    Valued : (equals : Position) → Run → Initializer
+
+  pub data Statement : Type 0 where
+    -- a lone `;`
+    EmptyStatement : (at : Position) → Statement
+    Expression : ExprStatement → Statement
+    -- `let` or `const`
+    Define : (constant : Bool) (at : Position) (name : Text) (name_at : Position) → Initializer → Statement
+    Block : (opening : Position) → Body → Statement
+
+  -- the statements of a block or of a script, up to what closes it
+  pub data Statements : Type 0 where
+    NoStatement : Statements
+    -- the last one, without a `;`
+    LastStatement : Statement → Statements
+    -- one with its `;`
+    Ended : Statement → (semicolon : Position) → Statements → Statements
+    -- one that ends by itself
+    Standing : Statement → Statements → Statements
+
+  -- a block after its `{`
+  pub data Body : Type 0 where
+    Many : Statements → (closing : Position) → Body
+    -- where a block is one expression or assignment
+    Single : ExprStatement → (closing : Position) → Body

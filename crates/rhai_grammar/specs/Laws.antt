@@ -4,41 +4,51 @@ use Rattle.rhai_lower.specs.Entries.{ask_of, may_be_delivered}
 use Rattle.rhai_lower.specs.declared.position.Position.{Position}
 use Rattle.rhai_lower.specs.declared.stream.Entry.{Entry}
 use Rattle.rhai_grammar.specs.Causes.{Refusal}
-use Rattle.rhai_grammar.specs.Delivered.{code, Point, Ends, ask, is_end}
+use Rattle.rhai_grammar.specs.Delivered.{code, Point, Ends, Taken, ask, is_end}
 use Rattle.rhai_grammar.specs.Cursors.{Cursor, delivered}
 use Rattle.rhai_grammar.specs.Seen.{Gives, leads}
 use Rattle.rhai_grammar.specs.Contexts.{Context, Live}
-use Rattle.rhai_grammar.specs.Forms.{Base, Links, NoLink, Bracket, Property, Method, Run, Group, Plain, Linked, Just}
-use Rattle.rhai_grammar.specs.Trees.{tree}
-use Rattle.rhai_grammar.specs.Shapes.{run_shape, node_shape}
-use Rattle.rhai_grammar.specs.Spelling.{spelling, IsDelivered}
+use Rattle.rhai_grammar.specs.Forms.{Base, Links, NoLink, Bracket, Property, Method, Run, Group, Plain, Linked, Just, Statements}
+use Rattle.rhai_grammar.specs.Trees.{statement_trees, tree}
+use Rattle.rhai_grammar.specs.Definitions.{after_statements}
+use Rattle.rhai_grammar.specs.Shapes.{run_shape, node_shape, script_shape, statements_shape}
+use Rattle.rhai_grammar.specs.Spelling.{script_spelling, spelling, IsDelivered}
 use Rattle.rhai_grammar.specs.Demands.{Verdict, Wrong, Blames, Demands, Nothing, Tok, Ahead, Next, Test, Shape}
 use Rattle.rhai_grammar.specs.Demands.{◌▸◌}
 use Rattle.rhai_grammar.specs.Demands.{verdict, Met, Missed}
-use Rattle.rhai_grammar.specs.Written.{whole_expression}
-use Rattle.rhai_grammar.specs.Promises.{IsWritten}
+use Rattle.rhai_grammar.specs.Promises.{IsWritten, expressions, scripts}
 
 -- A form whose demands are met is spelled by the tokens that were taken.
-abbrev pub FormsAreSpelled : Type 0
-FormsAreSpelled =
-    (context : Context) (live : Live) (f : Run) (s t : Point) → Met (whole_expression f context live) s t
-    → Gives (spelling f) s.tokens × (t.tokens ≡ leads (spelling f) s.tokens)
+abbrev AreSpelled : {F : Type 0} → (whole : F → Demands) → (spelled : F → List Taken) → Type 0
+AreSpelled {F} whole spelled =
+    (f : F) (s t : Point) → Met (whole f) s t
+    → Gives (spelled f) s.tokens × (t.tokens ≡ leads (spelled f) s.tokens)
+
+pub record FormsAreSpelled : Type 0 where
+  pub expression : (context : Context) (live : Live) → AreSpelled (expressions context live) spelling
+  pub script : (context : Context) (live : Live) → AreSpelled (scripts context live) script_spelling
 
 -- A form that fits on one stream fits on every stream that begins with its spelling and goes on with the
 -- end mark. What else these streams would deliver, as in text mode, and the position of the end mark make no
 -- difference.
-abbrev pub FormsFitWhereverSpelled : Type 0
-FormsFitWhereverSpelled =
-    (context : Context) (live : Live) (f : Run) (s t other : Point) → Met (whole_expression f context live) s t
-    → Gives (spelling f) other.tokens → is_end (ask code (leads (spelling f) other.tokens)).lexeme ≡ true
-    → (end : Point) × Met (whole_expression f context live) other end
+abbrev FitWhereverSpelled : {F : Type 0} → (whole : F → Demands) → (spelled : F → List Taken) → Type 0
+FitWhereverSpelled {F} whole spelled =
+    (f : F) (s t other : Point) → Met (whole f) s t
+    → Gives (spelled f) other.tokens → is_end (ask code (leads (spelled f) other.tokens)).lexeme ≡ true
+    → (end : Point) × Met (whole f) other end
+
+pub record FormsFitWhereverSpelled : Type 0 where
+  pub expression : (context : Context) (live : Live) → FitWhereverSpelled (expressions context live) spelling
+  pub script : (context : Context) (live : Live) → FitWhereverSpelled (scripts context live) script_spelling
 
 -- After a form that fits and spells a delivered stream, the stream is at its end.
-abbrev pub StreamsAreWhole : Type 0
-StreamsAreWhole =
-    (context : Context) (live : Live) (f : Run) (s t : Point) → IsDelivered s.tokens
-    → Met (whole_expression f context live) s t
-    → (end : Position) × (t.tokens ≡ Ends end)
+abbrev AreWhole : {F : Type 0} → (whole : F → Demands) → Type 0
+AreWhole {F} whole =
+    (f : F) (s t : Point) → IsDelivered s.tokens → Met (whole f) s t → (end : Position) × (t.tokens ≡ Ends end)
+
+pub record StreamsAreWhole : Type 0 where
+  pub expression : (context : Context) (live : Live) → AreWhole (expressions context live)
+  pub script : (context : Context) (live : Live) → AreWhole (scripts context live)
 
 -- Entries that may be delivered make a delivered stream.
 abbrev pub EntriesAreDelivered : Type 0
@@ -49,9 +59,17 @@ EntriesAreDelivered =
 -- Two forms that fit and spell the same stream have the same tree.
 abbrev pub FormsHaveOneTree : Type 0
 FormsHaveOneTree =
-    (context : Context) (live : Live) (s : Cursor) (f g : Run) → IsWritten context live f s
-    → IsWritten context live g s
+    (context : Context) (live : Live) (s : Cursor) (f g : Run) → IsWritten (expressions context live) f s
+    → IsWritten (expressions context live) g s
     → tree f live ≡ tree g live
+
+-- Two scripts that fit and spell the same stream have the same statements, and leave the same slots.
+abbrev pub ScriptsHaveOneTree : Type 0
+ScriptsHaveOneTree =
+    (context : Context) (live : Live) (s : Cursor) (fs gs : Statements) → IsWritten (scripts context live) fs s
+    → IsWritten (scripts context live) gs s
+    → (statement_trees fs live ≡ statement_trees gs live)
+    × (after_statements fs live ≡ after_statements gs live)
 
 -- a verdict that is an error
 abbrev pub is_refused : Verdict → Bool
@@ -70,16 +88,20 @@ IsFair (Shape holds ▸ ds) = holds ≡ true → IsFair ds
 
 -- In no form is a token both required and refused at one place. So if a form fits along a stream, it gives no error
 -- there.
+pub record AreFair {F : Type 0} (whole : F → Demands) : Type 0 where
+  pub fair : (f : F) → IsFair (whole f)
+  pub apart : (f : F) (s t u : Point) (e : Refusal) → Met (whole f) s t → Missed (whole f) s e u → ⊥
+
 pub record FormsAreFair : Type 0 where
-  pub fair : (context : Context) (live : Live) (f : Run) → IsFair (whole_expression f context live)
-  pub apart : (context : Context) (live : Live) (f : Run) (s t u : Point) (e : Refusal) →
-      Met (whole_expression f context live) s t → Missed (whole_expression f context live) s e u → ⊥
+  pub expression : (context : Context) (live : Live) → AreFair (expressions context live)
+  pub script : (context : Context) (live : Live) → AreFair (scripts context live)
 
 -- Forms that are equal up to positions have trees that are equal up to positions.
-abbrev pub TreesKeepShape : Type 0
-TreesKeepShape =
-    (live : Live) (f g : Run) → run_shape f ≡ run_shape g
-    → node_shape (tree f live) ≡ node_shape (tree g live)
+pub record TreesKeepShape : Type 0 where
+  pub expression : (live : Live) (f g : Run) → run_shape f ≡ run_shape g
+      → node_shape (tree f live) ≡ node_shape (tree g live)
+  pub script : (live : Live) (fs gs : Statements) → script_shape fs ≡ script_shape gs
+      → statements_shape (statement_trees fs live) ≡ statements_shape (statement_trees gs live)
 
 -- links, and others after them
 abbrev pub followed : Links → Links → Links

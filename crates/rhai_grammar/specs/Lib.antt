@@ -16,8 +16,11 @@ pub mod Contexts
 pub mod CommaLists
 pub mod Literals
 pub mod Chains
+pub mod Definitions
+pub mod Targets
 pub mod Trees
 pub mod Demands
+pub mod Statements
 pub mod Verdicts
 pub mod Spots
 pub mod Written
@@ -27,4 +30,6 @@ pub mod Shapes
 pub mod Laws
 pub mod Rows
 pub mod RowsOfChains
+pub mod RowsOfStatements
+pub mod SlotLaws
 pub mod Imports

@@ -1,27 +1,40 @@
 -- What the parser promises about a stream that it parses, in terms of written forms only.
-use Rattle.std.specs.Prelude.{◌≡◌, true, false, List, [], Result, Ok, Err, IfOk, IfErr}
+use Rattle.std.specs.Prelude.{◌≡◌, true, false, List, [], Result, Ok, Err, IfOk, IfErr, Vec}
+use Rattle.std.specs.declared.alloc.Global.{Global}
+use Rattle.std.specs.declared.rc.Rc.{Rc}
+use Rattle.rhai_lower.specs.Slots.{SlotValue}
 use Rattle.rhai_lower.specs.Nodes.{Node, expression, no_statements, one_statement}
 use Rattle.rhai_lower.specs.View.{statement_views}
 use Rattle.rhai_lower.specs.declared.ast.AST.{AST}
+use Rattle.rhai_lower.specs.declared.ast.ScriptFuncDef.{ScriptFuncDef}
+use Rattle.rhai_lower.specs.declared.ast.Stmt.{Stmt}
 use Rattle.rhai_grammar.specs.Causes.{Refusal, refusal_of, is_for_memory}
 use Rattle.rhai_grammar.specs.Delivered.{code, Taken, Point, is_memory}
 use Rattle.rhai_grammar.specs.Cursors.{Cursor, asked}
 use Rattle.rhai_grammar.specs.Seen.{Gives, leads, TakenIn, mode_after, latest_first, BeginsWith}
 use Rattle.rhai_grammar.specs.Seen.{Readable, StandsAtLast}
 use Rattle.rhai_grammar.specs.Contexts.{Context, Live}
-use Rattle.rhai_grammar.specs.Forms.{Run}
-use Rattle.rhai_grammar.specs.Trees.{tree}
-use Rattle.rhai_grammar.specs.Demands.{Met, Missed}
-use Rattle.rhai_grammar.specs.Written.{whole_expression}
+use Rattle.rhai_grammar.specs.Definitions.{after_statements}
+use Rattle.rhai_grammar.specs.Forms.{Run, Statements}
+use Rattle.rhai_grammar.specs.Trees.{statement_trees, tree}
+use Rattle.rhai_grammar.specs.Demands.{Demands, Met, Missed}
+use Rattle.rhai_grammar.specs.Written.{whole_expression, whole_script}
 use Rattle.rhai_grammar.specs.declared.error.ParseError.{ParseError}
 
 -- the point at which parsing starts
 abbrev pub start_of : Cursor → Point
 start_of s = record { tokens = s.tokens; taken = [] }
 
--- An expression fits and spells a whole stream, up to its end mark.
-abbrev pub IsWritten : Context → Live → Run → Cursor → Type 0
-IsWritten context live f s = (t : Point) × Met (whole_expression f context live) (start_of s) t
+-- A form fits and spells a whole stream, up to its end mark; `whole` is what each form demands of it.
+abbrev pub IsWritten : {F : Type 0} → (whole : F → Demands) → F → Cursor → Type 0
+IsWritten whole f s = (t : Point) × Met (whole f) (start_of s) t
+
+-- the forms of a stream that is one expression, and of a stream that is a script
+abbrev pub expressions : Context → Live → Run → Demands
+expressions context live f = whole_expression f context live
+
+abbrev pub scripts : Context → Live → Statements → Demands
+scripts context live fs = whole_script fs context live
 
 -- ---- the answer
 
@@ -30,10 +43,21 @@ pub record IsScriptOf (x : Node) (script : AST) : Type 0 where
   pub statements : statement_views script.statements.items ≡ one_statement (expression x) no_statements
   pub functions : script.functions.items ≡ []
 
+-- the statements and functions of a script, and the slots that are left after it
+pub record IsScript (fs : Statements) (live : Live)
+    (script : Vec Stmt Global × Vec (Rc ScriptFuncDef Global) Global) (left : List SlotValue) : Type 0 where
+  pub statements : statement_views script.0.items ≡ statement_trees fs live
+  pub functions : script.1.items ≡ []
+  pub slots : left ≡ (after_statements fs live).slots
+
+-- the result is such a one, unless memory ran out
+abbrev pub Returns : {X : Type 0} → (X → Type 0) → Result X ParseError → Type 0
+Returns Is (Ok x) = Is x
+Returns Is (Err e) = is_for_memory e ≡ true
+
 -- the script of this tree, unless memory ran out
 abbrev pub Accepts : Node → Result AST ParseError → Type 0
-Accepts x (Ok script) = IsScriptOf x script
-Accepts x (Err e) = is_for_memory e ≡ true
+Accepts x result = Returns (IsScriptOf x) result
 
 -- ---- what was seen
 
@@ -65,43 +89,55 @@ UnlessMemory P (Err e) = is_for_memory e ≡ false → P
 -- ---- refusals
 
 -- A form misses its next demand at the place where the stream is now, with this error.
-pub record IsNamed (context : Context) (live : Live) (taken : List Taken) (start left : Cursor) (e : Refusal) : Type 0
+pub record IsNamed {F : Type 0} (whole : F → Demands) (taken : List Taken) (start left : Cursor) (e : Refusal) :
+    Type 0
   where
-    pub form : Run
-    pub missed : Missed (whole_expression form context live) (start_of start) e (record {
+    pub form : F
+    pub missed : Missed (whole form) (start_of start) e (record {
       tokens = left.tokens;
       taken = latest_first taken [];
     })
     pub last : StandsAtLast e left
 
 -- No form that fits begins with the tokens seen.
-abbrev pub NoneBegins : Context → Live → List Taken → Cursor → Type 0
-NoneBegins context live taken left = (f : Run) (s : Cursor) → IsWritten context live f s
-    → BeginsWith taken left s.tokens → ⊥
+abbrev pub NoneBegins : {F : Type 0} → (whole : F → Demands) → List Taken → Cursor → Type 0
+NoneBegins {F} whole taken left =
+    (f : F) (s : Cursor) → IsWritten whole f s → BeginsWith taken left s.tokens → ⊥
 
 -- A refusal after the tokens seen. The last token was peeked in code mode.
-pub record IsRefused (context : Context) (live : Live) (taken : List Taken) (start left : Cursor) (e : Refusal) :
+pub record IsRefused {F : Type 0} (whole : F → Demands) (taken : List Taken) (start left : Cursor) (e : Refusal) :
     Type 0
   where
     pub saw : Saw taken start left
-    pub named : IsNamed context live taken start left e
-    pub early : NoneBegins context live taken left
+    pub named : IsNamed whole taken start left e
+    pub early : NoneBegins whole taken left
     pub memory : IsReadable taken left
     pub mode : left.mode ≡ code
 
 -- ---- the promise
 
 -- What is promised of the result on a stream, where `left` is what is left of it, and `library` the functions at the
--- start:
--- - `accepted`: with an empty library, the result is a script only if some form fits and spells the whole stream, and
---   it is the script of that form's tree;
--- - `only`: with an empty library, for each such form the result is the script of its tree, unless memory ran out;
+-- start. `whole` is what each form demands of the stream, and `Is` says that a result is the one of a form.
+-- - `accepted`: with an empty library, a result is that of some form that fits and spells the whole stream;
+-- - `only`: with an empty library, it is the result of each such form, unless memory ran out;
 -- - `refused`: an error other than out of memory is one that a form gives after the tokens seen, and no form that fits
 --   begins with these tokens.
-pub record ReadsExpression {F : Type 0} (library : List F) (context : Context) (live : Live) (start left : Cursor)
-    (result : Result AST ParseError) : Type 0 where
-  pub accepted : library ≡ [] → IfOk result (λ script. (f : Run) × IsWritten context live f start
-      × IsScriptOf (tree f live) script)
-  pub only : library ≡ [] → (f : Run) → IsWritten context live f start → Accepts (tree f live) result
+pub record ReadsWhole {L F X : Type 0} (library : List L) (whole : F → Demands) (Is : F → X → Type 0)
+    (start left : Cursor) (result : Result X ParseError) : Type 0 where
+  pub accepted : library ≡ [] → IfOk result (λ x. (f : F) × IsWritten whole f start × Is f x)
+  pub only : library ≡ [] → (f : F) → IsWritten whole f start → Returns (Is f) result
   pub refused : IfErr result (λ e. is_for_memory e ≡ false
-      → (taken : List Taken) × IsRefused context live taken start left (refusal_of e))
+      → (taken : List Taken) × IsRefused whole taken start left (refusal_of e))
+
+-- A stream that is one expression is the script of its tree.
+abbrev pub ReadsExpression : {L : Type 0} → (library : List L) → Context → Live → (start left : Cursor)
+    → Result AST ParseError → Type 0
+ReadsExpression library context live start left result =
+    ReadsWhole library (expressions context live) (λ f script. IsScriptOf (tree f live) script) start left result
+
+-- A stream that is a script gives its statements, no function, and the slots that its definitions leave.
+abbrev pub ReadsScript : {L : Type 0} → (library : List L) → Context → Live → (start left : Cursor)
+    → Result (Vec Stmt Global × Vec (Rc ScriptFuncDef Global) Global) ParseError → (slots : List SlotValue)
+    → Type 0
+ReadsScript library context live start left result slots =
+    ReadsWhole library (scripts context live) (λ fs script. IsScript fs live script slots) start left result

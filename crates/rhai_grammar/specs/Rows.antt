@@ -37,6 +37,7 @@ between ts us end = record { tokens = line us end; taken = reverse (taken_from t
 abbrev pub depth : ℕ → Context
 depth limit = record {
   settings = record { flags = 0; options = 0; level = 0; limit = limit };
+  options = 191;
   sizes = record { array = 0; map = 0 };
 }
 

@@ -13,9 +13,17 @@ pub record Settings : Type 0 where
 abbrev pub in_function : Settings → Bool
 in_function settings = bit_and settings.flags 2 == 2
 
+-- the bit of the flags that makes a block one expression or assignment
+abbrev pub single_blocks : Settings → Bool
+single_blocks settings = bit_and settings.flags 16 == 16
+
 -- the bit of the flags that requires strings as keys of object maps
 abbrev pub quoted_keys : Settings → Bool
 quoted_keys settings = bit_and settings.flags 32 == 32
+
+-- the bit of the options that makes a block an operand
+abbrev pub block_values : Settings → Bool
+block_values settings = bit_and settings.options 8 == 8
 
 -- a raise is possible
 abbrev pub has_room : Settings → Bool

@@ -10,7 +10,8 @@ use Rattle.rhai_grammar.specs.Contexts.{nothing_live}
 use Rattle.rhai_grammar.specs.Slots.{number}
 use Rattle.rhai_grammar.specs.Trees.{tree}
 use Rattle.rhai_grammar.specs.Forms as form
-use Rattle.rhai_grammar.specs.Forms.{Arguments, Base, Elements, Fields, Items, Links, Operand, Primary, Run}
+use Rattle.rhai_grammar.specs.Forms.{Arguments, Base, Body, Elements, ExprStatement, Fields, Initializer, Items, Links}
+use Rattle.rhai_grammar.specs.Forms.{Operand, Primary, Run}
 
 -- ---- trees
 
@@ -110,6 +111,7 @@ abbrev mutual
   primary_shape (form.Group opening inside closing) = form.Group nowhere (run_shape inside) nowhere
   primary_shape (form.Array opening elements) = form.Array nowhere (elements_shape elements)
   primary_shape (form.Map opening fields) = form.Map nowhere (fields_shape fields)
+  primary_shape (form.BlockValue opening body) = form.BlockValue nowhere (body_shape body)
   primary_shape (form.Zero range at) = form.Zero range nowhere
 
   pub base_shape : Base → Base
@@ -153,6 +155,31 @@ abbrev mutual
   pub run_shape : Run → Run
   run_shape (form.Just x) = form.Just (operand_shape x)
   run_shape (form.Binary op at l r) = form.Binary op nowhere (run_shape l) (run_shape r)
+
+  pub evaluation_shape : ExprStatement → ExprStatement
+  evaluation_shape (form.Evaluate f) = form.Evaluate (run_shape f)
+  evaluation_shape (form.Assign f op at value) = form.Assign (run_shape f) op nowhere (run_shape value)
+
+  pub initializer_shape : Initializer → Initializer
+  initializer_shape form.NoValue = form.NoValue
+  initializer_shape (form.Valued equals f) = form.Valued nowhere (run_shape f)
+
+  pub written_shape : form.Statement → form.Statement
+  written_shape (form.EmptyStatement at) = form.EmptyStatement nowhere
+  written_shape (form.Expression x) = form.Expression (evaluation_shape x)
+  written_shape (form.Define constant at name name_at value) =
+      form.Define constant nowhere name nowhere (initializer_shape value)
+  written_shape (form.Block opening body) = form.Block nowhere (body_shape body)
+
+  pub script_shape : form.Statements → form.Statements
+  script_shape form.NoStatement = form.NoStatement
+  script_shape (form.LastStatement f) = form.LastStatement (written_shape f)
+  script_shape (form.Ended f semicolon rest) = form.Ended (written_shape f) nowhere (script_shape rest)
+  script_shape (form.Standing f rest) = form.Standing (written_shape f) (script_shape rest)
+
+  pub body_shape : Body → Body
+  body_shape (form.Many fs closing) = form.Many (script_shape fs) nowhere
+  body_shape (form.Single x closing) = form.Single (evaluation_shape x) nowhere
 
 abbrev example_name : (column : ℕ) → Run
 example_name column = form.Just (form.Linked (form.Plain (form.Named (codes "a") (place 1 column))) form.NoLink)

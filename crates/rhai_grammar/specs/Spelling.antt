@@ -5,11 +5,14 @@ use Rattle.rhai_lower.specs.Positions.{place}
 use Rattle.rhai_lower.specs.Lexemes.{Lexeme, Integer, Name, Reserved, Sign}
 use Rattle.rhai_lower.specs.declared.position.Position.{Position}
 use Rattle.rhai_lower.specs.declared.token.Token.TheVariants.{EOF, LeftParen, RightParen, LeftBracket, RightBracket}
-use Rattle.rhai_lower.specs.declared.token.Token.TheVariants.{MapStart, RightBrace, Colon, Comma, Bang}
+use Rattle.rhai_lower.specs.declared.token.Token.TheVariants.{MapStart, LeftBrace, RightBrace, Colon, Comma, Bang}
+use Rattle.rhai_lower.specs.declared.token.Token.TheVariants.{Equals, SemiColon}
 use Rattle.rhai_lower.specs.declared.token.Token.TheVariants as token
 use Rattle.rhai_grammar.specs.Delivered.{code, item, Tokens, Ends, Then, Taken}
 use Rattle.rhai_grammar.specs.Forms as form
 use Rattle.rhai_grammar.specs.Forms.{Primary, Base, Links, Operand, Arguments, Items, Elements, Fields, Run}
+use Rattle.rhai_grammar.specs.Forms.{Body, ExprStatement, Initializer, Statement, Statements}
+use Rattle.rhai_grammar.specs.Statements.{keyword_of}
 
 -- a token at a position, requested in code mode
 abbrev pub in_code : Lexeme → Position → Taken
@@ -31,6 +34,7 @@ abbrev mutual
       in_code (Sign LeftParen) opening ∷ (spelling inside ++ (in_code (Sign RightParen) closing ∷ []))
   primary_spelling (form.Array opening elements) = in_code (Sign LeftBracket) opening ∷ element_spelling elements
   primary_spelling (form.Map opening fields) = in_code (Sign MapStart) opening ∷ field_spelling fields
+  primary_spelling (form.BlockValue opening body) = in_code (Sign LeftBrace) opening ∷ body_spelling body
   primary_spelling (form.Zero range at) = []
 
   pub base_spelling : Base → List Taken
@@ -78,6 +82,32 @@ abbrev mutual
   pub spelling : Run → List Taken
   spelling (form.Just x) = operand_spelling x
   spelling (form.Binary op at l r) = spelling l ++ (in_code op at ∷ spelling r)
+
+  pub evaluation_spelling : ExprStatement → List Taken
+  evaluation_spelling (form.Evaluate f) = spelling f
+  evaluation_spelling (form.Assign f op at value) = spelling f ++ (in_code op at ∷ spelling value)
+
+  pub initializer_spelling : Initializer → List Taken
+  initializer_spelling form.NoValue = []
+  initializer_spelling (form.Valued equals f) = in_code (Sign Equals) equals ∷ spelling f
+
+  pub statement_spelling : Statement → List Taken
+  statement_spelling (form.EmptyStatement at) = in_code (Sign SemiColon) at ∷ []
+  statement_spelling (form.Expression x) = evaluation_spelling x
+  statement_spelling (form.Define constant at name name_at value) =
+      in_code (Sign (keyword_of constant)) at ∷ in_code (Name name) name_at ∷ initializer_spelling value
+  statement_spelling (form.Block opening body) = in_code (Sign LeftBrace) opening ∷ body_spelling body
+
+  pub script_spelling : Statements → List Taken
+  script_spelling form.NoStatement = []
+  script_spelling (form.LastStatement f) = statement_spelling f
+  script_spelling (form.Ended f semicolon rest) =
+      statement_spelling f ++ (in_code (Sign SemiColon) semicolon ∷ script_spelling rest)
+  script_spelling (form.Standing f rest) = statement_spelling f ++ script_spelling rest
+
+  pub body_spelling : Body → List Taken
+  body_spelling (form.Many fs closing) = script_spelling fs ++ (in_code (Sign RightBrace) closing ∷ [])
+  body_spelling (form.Single x closing) = evaluation_spelling x ++ (in_code (Sign RightBrace) closing ∷ [])
 
 -- a token that a tokenizer may deliver: an identifier is a valid name, and the end mark comes only at the end
 abbrev pub is_deliverable : Lexeme → Bool

@@ -3,12 +3,14 @@ use Rattle.std.specs.Prelude.{◌≡◌, ℕ, ◌+◌, ◌∷◌, pos, negsuc, B
 use Rattle.std.specs.Prelude.{if◌then◌else◌, refl}
 use Rattle.std.specs.Option.{is_some}
 use Rattle.rhai_lower.specs.Texts.{Text}
-use Rattle.rhai_lower.specs.Positions.{place}
+use Rattle.rhai_lower.specs.Positions.{nowhere, place}
 use Rattle.rhai_lower.specs.Slots.{SlotValue}
 use Rattle.rhai_lower.specs.Lexemes.{Lexeme, Integer, Sign, text_of}
 use Rattle.rhai_lower.specs.Nodes.{Called, Node, Nodes, Properties, unit, integer, array, object_map, variable, this}
 use Rattle.rhai_lower.specs.Nodes.{call, method_call, property, no_nodes, one_node, no_properties, one_property}
-use Rattle.rhai_lower.specs.Nodes.{position_of}
+use Rattle.rhai_lower.specs.Nodes.{position_of, noop, expression, assignment, block_statement, block_value}
+use Rattle.rhai_lower.specs.Nodes.{braces, no_statements, one_statement, var_statement}
+use Rattle.rhai_lower.specs.Nodes as node
 use Rattle.rhai_lower.specs.declared.position.Position.{Position}
 use Rattle.rhai_lower.specs.declared.token.Token.TheVariants.{Plus, UnaryMinus}
 use Rattle.rhai_grammar.specs.Beginnings.{value_of, is_this, is_negated}
@@ -16,9 +18,12 @@ use Rattle.rhai_grammar.specs.Chains.{Link, Bracket, Dotted, chained}
 use Rattle.rhai_grammar.specs.Signs.{signed}
 use Rattle.rhai_grammar.specs.Operators.{operator_tree, operator_call}
 use Rattle.rhai_grammar.specs.Slots.{number}
-use Rattle.rhai_grammar.specs.Contexts.{Live, nothing_live}
+use Rattle.rhai_grammar.specs.Contexts.{Live, in_block, nothing_live}
+use Rattle.rhai_grammar.specs.Definitions.{after_statement, reused}
+use Rattle.rhai_grammar.specs.Targets.{update_of}
 use Rattle.rhai_grammar.specs.Forms as form
 use Rattle.rhai_grammar.specs.Forms.{Primary, Base, Links, Operand, Arguments, Items, Elements, Fields, Run}
+use Rattle.rhai_grammar.specs.Forms.{Body, ExprStatement, Initializer, Statement, Statements}
 
 -- ---- names and calls
 
@@ -89,6 +94,23 @@ method_called name bang count = record {
 abbrev pub method_tree : Text → Position → (bang : Bool) → Nodes → Node
 method_tree name at bang arguments = method_call (method_called name bang (node_count arguments)) arguments at
 
+-- ---- statements
+
+-- a definition, and the number of the slot that it uses again
+abbrev pub definition_tree : (constant : Bool) → Position → Text → Node → Live → node.Statement
+definition_tree constant at name x live =
+    var_statement name x (reused live.block name live.slots) constant false at
+
+-- a statement before others; an empty one leaves no trace
+abbrev pub kept : node.Statement → node.Statements → node.Statements
+kept (noop at) rest = rest
+kept f rest = one_statement f rest
+
+-- statements with one more
+abbrev pub with_kept : node.Statements → node.Statement → node.Statements
+with_kept before (noop at) = before
+with_kept before f = node.with_statement before f
+
 -- ---- forms
 
 abbrev mutual
@@ -99,6 +121,7 @@ abbrev mutual
   primary_tree (form.Group opening inside closing) live called = tree inside live
   primary_tree (form.Array opening elements) live called = array (element_trees elements live) opening
   primary_tree (form.Map opening fields) live called = object_map (field_trees fields live) opening
+  primary_tree (form.BlockValue opening body) live called = block_value (block_tree opening body live)
   primary_tree (form.Zero range at) live called = integer (pos 0) at
 
   pub base_tree : Base → Live → Node
@@ -145,6 +168,35 @@ abbrev mutual
   pub tree : Run → Live → Node
   tree (form.Just x) live = operand_tree x live
   tree (form.Binary op at l r) live = operator_tree op at (tree l live) (tree r live)
+
+  pub statement_of : ExprStatement → Live → node.Statement
+  statement_of (form.Evaluate f) live = expression (tree f live)
+  statement_of (form.Assign f op at value) live = assignment (update_of op) (tree f live) (tree value live) at
+
+  -- the value of a definition; an absent one is unit
+  pub value_tree : Initializer → Live → Node
+  value_tree form.NoValue live = unit nowhere
+  value_tree (form.Valued equals f) live = tree f live
+
+  pub statement_tree : Statement → Live → node.Statement
+  statement_tree (form.EmptyStatement at) live = noop at
+  statement_tree (form.Expression x) live = statement_of x live
+  statement_tree (form.Define constant at name name_at value) live =
+      definition_tree constant at name (value_tree value live) live
+  statement_tree (form.Block opening body) live = block_statement (block_tree opening body live)
+
+  pub statement_trees : Statements → Live → node.Statements
+  statement_trees form.NoStatement live = no_statements
+  statement_trees (form.LastStatement f) live = kept (statement_tree f live) no_statements
+  statement_trees (form.Ended f semicolon rest) live =
+      kept (statement_tree f live) (statement_trees rest (after_statement f live))
+  statement_trees (form.Standing f rest) live =
+      kept (statement_tree f live) (statement_trees rest (after_statement f live))
+
+  pub block_tree : (opening : Position) → Body → Live → node.Block
+  block_tree opening (form.Many fs closing) live = braces (statement_trees fs (in_block live)) opening closing
+  block_tree opening (form.Single x closing) live =
+      braces (one_statement (statement_of x live) no_statements) opening closing
 
 abbrev example_one : (column : ℕ) → Run
 example_one column = form.Just (form.Linked (form.Plain (form.Value (Integer (pos 1)) (place 1 column))) form.NoLink)

@@ -11,7 +11,7 @@ use Rattle.rhai_grammar.specs.Delivered.{is_end}
 use Rattle.rhai_grammar.specs.Settings.{Settings, in_function, quoted_keys}
 use Rattle.rhai_grammar.specs.DueTokens.{is_due, not_due}
 use Rattle.rhai_grammar.specs.declared.due.DueToken.{DueToken}
-use Rattle.rhai_grammar.specs.Contexts.{Context, full, has_room}
+use Rattle.rhai_grammar.specs.Contexts.{Context, full, has_block_values, has_room}
 use Rattle.rhai_grammar.specs.declared.role.Beginning.{Beginning}
 use Rattle.rhai_grammar.specs.declared.role.Beginning.TheVariants as begin
 use Rattle.rhai_grammar.specs.Beginnings.{beginning, no_operand, unexpected, missing}
@@ -39,12 +39,14 @@ abbrev pub unless_due : DueToken → Lexeme → Verdict
 unless_due wanted token = if is_due wanted token then Otherwise else Wrong (not_due wanted token)
 
 -- where an operand is expected; after a range operator, some tokens say that it is omitted
-abbrev pub beginning_due : Lexeme → Beginning → Verdict
-beginning_due token begin.Nothing = Wrong (no_operand token)
-beginning_due token _ = Otherwise
+abbrev pub beginning_due : Context → Lexeme → Beginning → Verdict
+beginning_due context token begin.Nothing = Wrong (no_operand token)
+beginning_due context token begin.Block = if has_block_values context then Otherwise else Wrong (no_operand token)
+beginning_due context token _ = Otherwise
 
-abbrev pub operand_due : (ranged : Bool) → Lexeme → Verdict
-operand_due ranged token = if ranged && omits_operand token then Otherwise else beginning_due token (beginning token)
+abbrev pub operand_due : Context → (ranged : Bool) → Lexeme → Verdict
+operand_due context ranged token =
+    if ranged && omits_operand token then Otherwise else beginning_due context token (beginning token)
 
 abbrev pub anything : Lexeme → Verdict
 anything token = Otherwise

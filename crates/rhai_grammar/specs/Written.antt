@@ -1,17 +1,19 @@
 -- What each written form demands of the stream, followed by what comes after it demands (the last argument, `more`).
 use Rattle.std.specs.Prelude.{ℕ, ◌+◌, Bool, true, false, not, Option, Some, None, ◌&&◌}
+use Rattle.rhai_lower.specs.Texts.{Text}
 use Rattle.rhai_lower.specs.Lexemes.{Lexeme, Name, Reserved, Sign, text_of}
 use Rattle.rhai_lower.specs.Nodes.{Node, Properties, no_properties, with_property, property, position_of}
 use Rattle.rhai_lower.specs.declared.position.Position.{Position}
 use Rattle.rhai_lower.specs.declared.token.Token.TheVariants.{Unit, LeftParen, RightParen, LeftBracket, RightBracket}
-use Rattle.rhai_lower.specs.declared.token.Token.TheVariants.{MapStart, RightBrace, Comma, Bang}
+use Rattle.rhai_lower.specs.declared.token.Token.TheVariants.{MapStart, LeftBrace, RightBrace, Comma, SemiColon}
+use Rattle.rhai_lower.specs.declared.token.Token.TheVariants.{Bang, Equals}
 use Rattle.rhai_grammar.specs.Causes as cause
 use Rattle.rhai_grammar.specs.Causes.{Refusal, refusal}
 use Rattle.rhai_grammar.specs.Delivered.{code, item}
 use Rattle.rhai_grammar.specs.DueTokens.{token_of}
 use Rattle.rhai_grammar.specs.declared.due.DueToken.{DueToken}
 use Rattle.rhai_grammar.specs.declared.due.DueToken.TheVariants as due
-use Rattle.rhai_grammar.specs.Contexts.{Context, Live, has_room, level_up}
+use Rattle.rhai_grammar.specs.Contexts.{Context, Live, has_block_values, has_room, has_single_blocks, in_block, level_up}
 use Rattle.rhai_grammar.specs.Beginnings.{beginning, is_value, is_sign, is_range}
 use Rattle.rhai_grammar.specs.Beginnings.{omits_operand}
 use Rattle.rhai_grammar.specs.Beginnings.{linking, is_bracket, is_dot}
@@ -26,8 +28,15 @@ use Rattle.rhai_grammar.specs.Operators.{boolean_holds, mismatched}
 use Rattle.rhai_grammar.specs.Strengths.{follower_of, is_operator}
 use Rattle.rhai_grammar.specs.Forms as form
 use Rattle.rhai_grammar.specs.Forms.{Primary, Base, Links, Operand, Arguments, Items, Elements, Fields, Run}
+use Rattle.rhai_grammar.specs.Forms.{Body, ExprStatement, Initializer, Statement, Statements}
+use Rattle.rhai_grammar.specs.Definitions.{after_statement, may_define}
+use Rattle.rhai_grammar.specs.Targets.{is_assignment, is_constant_use, target_fault}
+use Rattle.rhai_grammar.specs.Statements.{closed_due, ends_itself, expression_begins, keyword_of, list_ends, name_due}
+use Rattle.rhai_grammar.specs.Statements.{semicolon_due, statement_begins, unassigned, without_value}
+use Rattle.rhai_grammar.specs.declared.role.Closing.{Closing}
+use Rattle.rhai_grammar.specs.declared.role.Closing.TheVariants.{Brace, EndMark}
 use Rattle.rhai_grammar.specs.Trees.{is_variable, bracket_link, member_link, method_tree, primary_tree, base_tree}
-use Rattle.rhai_grammar.specs.Trees.{argument_trees, operand_tree, tree}
+use Rattle.rhai_grammar.specs.Trees.{argument_trees, operand_tree, statement_tree, tree}
 use Rattle.rhai_grammar.specs.Chains.{index_refusal, last_fault}
 use Rattle.rhai_grammar.specs.Demands.{Verdict, Demands, Nothing, Tok, Ahead, Next}
 use Rattle.rhai_grammar.specs.Demands.{Test, Shape, ◌▸◌}
@@ -102,26 +111,40 @@ method dot at name name_at spot more =
     Tok code (item dot at) anything ▸ Next member_due ▸ raise_at spot.settings at (
     Tok code (item name name_at) anything ▸ Next (after_method name name_at) ▸ more)
 
+-- A name that is defined, and may be.
+abbrev pub new_name : (name : Text) → Position → Context → Live → Demands → Demands
+new_name name at context live more =
+    Tok code (item (Name name) at) name_due ▸
+    Test (may_define context name live) (refusal (cause.VariableExists name) at) ▸ more
+
+-- The level is raised at the `{` of a block, and once more after it.
+abbrev pub block_at : (opening : Position) → Context → Demands → Demands
+block_at opening context more = raise_at context opening (raise_at (level_up context) opening more)
+
 -- ---- the forms
 
 abbrev mutual
   pub primary : Primary → Context → Live → (ranged : Bool) → Demands → Demands
   primary (form.Value token at) context live ranged more =
-      Shape (is_value (beginning token)) ▸ Tok code (item token at) (operand_due ranged) ▸ more
-  primary (form.Named name at) context live ranged more = Tok code (item (Name name) at) (operand_due ranged) ▸ more
+      Shape (is_value (beginning token)) ▸ Tok code (item token at) (operand_due context ranged) ▸ more
+  primary (form.Named name at) context live ranged more =
+      Tok code (item (Name name) at) (operand_due context ranged) ▸ more
   primary (form.Word word at) context live ranged more =
-      Tok code (item (Reserved word) at) (operand_due ranged) ▸ Next (after_word context word at) ▸ more
+      Tok code (item (Reserved word) at) (operand_due context ranged) ▸ Next (after_word context word at) ▸ more
   primary (form.Group opening inside closing) context live ranged more =
-      Tok code (item (Sign LeftParen) opening) (operand_due ranged) ▸ raise_at context opening (
+      Tok code (item (Sign LeftParen) opening) (operand_due context ranged) ▸ raise_at context opening (
       as_expression (run inside) (level_up context) live (due_token due.RightParen closing more))
   primary (form.Array opening list) context live ranged more =
-      Tok code (item (Sign LeftBracket) opening) (operand_due ranged) ▸ raise_at context opening (
+      Tok code (item (Sign LeftBracket) opening) (operand_due context ranged) ▸ raise_at context opening (
       elements list 0 (level_up context) live opening more)
   primary (form.Map opening list) context live ranged more =
-      Tok code (item (Sign MapStart) opening) (operand_due ranged) ▸ raise_at context opening (
+      Tok code (item (Sign MapStart) opening) (operand_due context ranged) ▸ raise_at context opening (
       fields list no_properties (level_up context) live opening more)
+  primary (form.BlockValue opening body) context live ranged more =
+      Shape (has_block_values context) ▸ Tok code (item (Sign LeftBrace) opening) (operand_due context ranged) ▸
+      block_at opening context (block body (level_up (level_up context)) live more)
   primary (form.Zero range at) context live ranged more =
-      Shape (is_range (beginning range)) ▸ Ahead (item range at) (operand_due ranged) ▸ more
+      Shape (is_range (beginning range)) ▸ Ahead (item range at) (operand_due context ranged) ▸ more
 
   -- A variable that is called is the name of a call. Only what calls it may follow a reserved word other than `this`.
   pub base : Base → Context → Live → (ranged : Bool) → Demands → Demands
@@ -167,11 +190,12 @@ abbrev mutual
   operand (form.Linked x list) context live ranged more =
       base x context live ranged (links list (spot_after_operand context (base_tree x live)) live more)
   operand (form.Signed sign at x) context live ranged more =
-      Shape (is_sign (beginning sign)) ▸ Tok code (item sign at) (operand_due ranged) ▸ raise_at context at (
+      Shape (is_sign (beginning sign)) ▸ Tok code (item sign at) (operand_due context ranged) ▸
+      raise_at context at (
       operand x (level_up context) live false (
       Test (sign_holds sign (operand_tree x live)) (malformed at (operand_tree x live)) ▸ more))
   operand (form.NoOperand token at) context live ranged more =
-      Shape (ranged && omits_operand token) ▸ Ahead (item token at) (operand_due ranged) ▸ more
+      Shape (ranged && omits_operand token) ▸ Ahead (item token at) (operand_due context ranged) ▸ more
 
   -- The level of arguments is raised once for all of them; the refusal has the position of the name that is called.
   pub arguments : Arguments → (others : Lexeme → Verdict) → Context → Live → Position → Demands → Demands
@@ -230,9 +254,64 @@ abbrev mutual
       run right (right_side op (height_after spot left) spot.live) (
       operands_fit op (tree left spot.live) (tree right spot.live) more))
 
+  -- An expression, or an assignment. What is assigned to is tested after the value.
+  pub expr_statement : ExprStatement → Context → Live → Demands → Demands
+  expr_statement (form.Evaluate f) context live more = as_expression (run f) context live (Next unassigned ▸ more)
+  expr_statement (form.Assign f op at value) context live more =
+      as_expression (run f) context live (
+      Shape (is_assignment op) ▸ Tok code (item op at) anything ▸
+      as_expression (run value) context live (
+      unfaulted (target_fault (is_constant_use live.slots (tree f live)) op at (tree f live)) more))
+
+  -- The value of a definition raises the level at the definition.
+  pub definition_value : Initializer → Context → Live → (at : Position) → Demands → Demands
+  definition_value form.NoValue context live at more = Next without_value ▸ more
+  definition_value (form.Valued equals f) context live at more =
+      Tok code (item (Sign Equals) equals) anything ▸ raise_at context at (
+      as_expression (run f) (level_up context) live more)
+
+  -- A statement raises the level at its first token; a block raises it once more.
+  pub statement : Statement → Context → Live → Demands → Demands
+  statement (form.EmptyStatement at) context live more = Tok code (item (Sign SemiColon) at) anything ▸ more
+  statement (form.Expression x) context live more =
+      Next expression_begins ▸ begun context (expr_statement x (level_up context) live more)
+  statement (form.Define constant at name name_at value) context live more =
+      Tok code (item (Sign (keyword_of constant)) at) anything ▸ raise_at context at (
+      new_name name name_at (level_up context) live (definition_value value (level_up context) live at more))
+  statement (form.Block opening body) context live more =
+      Tok code (item (Sign LeftBrace) opening) anything ▸
+      block_at opening context (block body (level_up (level_up context)) live more)
+
+  -- A `;` is between two statements, unless the first ends by itself.
+  pub statements : Statements → Closing → Context → Live → Demands → Demands
+  statements form.NoStatement closing context live more = Next (list_ends closing) ▸ more
+  statements (form.LastStatement f) closing context live more =
+      Next (statement_begins closing) ▸ statement f context live (
+      Shape (not (ends_itself (statement_tree f live))) ▸ Next (closed_due closing) ▸ more)
+  statements (form.Ended f semicolon rest) closing context live more =
+      Next (statement_begins closing) ▸ statement f context live (
+      Shape (not (ends_itself (statement_tree f live))) ▸
+      Tok code (item (Sign SemiColon) semicolon) (semicolon_due closing) ▸
+      statements rest closing context (after_statement f live) more)
+  statements (form.Standing f rest) closing context live more =
+      Next (statement_begins closing) ▸ statement f context live (
+      Shape (ends_itself (statement_tree f live)) ▸
+      statements rest closing context (after_statement f live) more)
+
+  pub block : Body → Context → Live → Demands → Demands
+  block (form.Many fs closing) context live more =
+      Shape (not (has_single_blocks context)) ▸
+      statements fs Brace context (in_block live) (due_token due.RightBrace closing more)
+  block (form.Single x closing) context live more =
+      Shape (has_single_blocks context) ▸ expr_statement x context live (due_token due.RightBrace closing more)
+
 abbrev pub expression : Run → Context → Live → Demands → Demands
 expression f = as_expression (run f)
 
 -- a whole stream that is one expression
 abbrev pub whole_expression : Run → Context → Live → Demands
 whole_expression f context live = expression f context live (Next end_due ▸ Nothing)
+
+-- a whole stream that is a script
+abbrev pub whole_script : Statements → Context → Live → Demands
+whole_script fs context live = statements fs EndMark context live Nothing

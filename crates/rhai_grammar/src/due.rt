@@ -9,4 +9,6 @@ pub enum DueToken {
     RightBracket,
     /// `:`, between the key of a property and its value.
     Colon,
+    /// `}`, which ends a block of one expression.
+    RightBrace,
 }

@@ -5,6 +5,8 @@ ghost use Rattle.rhai_grammar.specs.Laws.{FormsAreSpelled, FormsFitWhereverSpell
 ghost use Rattle.rhai_grammar.specs.Rows.{CallRow, EndedRow, FlatRow, LateRow, MinusRow, OpenRow};
 ghost use Rattle.rhai_grammar.specs.Rows.{PairRow, RangedRow, SizedRow, SumRow};
 ghost use Rattle.rhai_grammar.specs.RowsOfChains.{CaptureRow, GroupedRow, JoinedRow, QuestionedRow};
+ghost use Rattle.rhai_grammar.specs.RowsOfStatements.{AgainRow, ConstantRow, LetRow, OpenBlockRow, ScopesRow, SingleRow};
+ghost use Rattle.rhai_grammar.specs.SlotLaws.{NoSlot, NumberedSlot, Reuse, ScopesClose};
 
 /// A form whose demands are met is spelled by the tokens that were taken.
 #[tactic(auto, using(crate::proofs::SpellingLemmas::forms_are_spelled))]
@@ -133,4 +135,68 @@ pub fn questioned_row()
 #[tactic(auto, using(crate::proofs::RowLemmas::capture_row))]
 pub fn capture_row()
     ensures { CaptureRow }
+{}
+
+/// In `let x = 1; let y = 2; { let x = x; x }` the inner definition gets a new slot: its value is the outer `x`, the
+/// last use is the inner one, and the slots of the outer variables are left after the block.
+#[tactic(auto, using(crate::proofs::StatementRowLemmas::scopes_row))]
+pub fn scopes_row()
+    ensures { ScopesRow }
+{}
+
+/// The second definition of `let x = 1; let x = 2;` uses the slot of the first one again.
+#[tactic(auto, using(crate::proofs::StatementRowLemmas::again_row))]
+pub fn again_row()
+    ensures { AgainRow }
+{}
+
+/// `const x = 1; x = 2;` is refused at the second `x`, after the value of the assignment was parsed.
+#[tactic(auto, using(crate::proofs::StatementRowLemmas::constant_row))]
+pub fn constant_row()
+    ensures { ConstantRow }
+{}
+
+/// `{ 1` is refused at the end mark for want of a `;`, and `{ 1;` for want of a `}`.
+#[tactic(auto, using(crate::proofs::StatementRowLemmas::open_block_row))]
+pub fn open_block_row()
+    ensures { OpenBlockRow }
+{}
+
+/// Where a block is one expression, `{ 1; 2 }` is refused at its `;`, where the `}` is missing; `{ 1 }` is an operand
+/// where the options allow that.
+#[tactic(auto, using(crate::proofs::StatementRowLemmas::single_row))]
+pub fn single_row()
+    ensures { SingleRow }
+{}
+
+/// `let x = 1;` fits under the depth limit 3; under the limit 2 its value is too deep, and under the limit 1 the
+/// definition.
+#[tactic(auto, using(crate::proofs::StatementRowLemmas::let_row))]
+pub fn let_row()
+    ensures { LetRow }
+{}
+
+/// A name that has a number in its tree is not called, and the slot with that number is the latest of the name.
+#[tactic(auto, using(crate::proofs::SlotLemmas::numbered_slot))]
+pub fn numbered_slot()
+    ensures { NumberedSlot }
+{}
+
+/// A name that has no number in its tree is called, or no live slot has the name.
+#[tactic(auto, using(crate::proofs::SlotLemmas::no_slot))]
+pub fn no_slot()
+    ensures { NoSlot }
+{}
+
+/// A definition uses the latest slot of its name again exactly where that is in the block and not exported; otherwise
+/// there is one more slot, which is the latest.
+#[tactic(auto, using(crate::proofs::SlotLemmas::reuse))]
+pub fn reuse()
+    ensures { Reuse }
+{}
+
+/// A block and an expression leave live what was live before them, and statements keep the slots before their block.
+#[tactic(auto, using(crate::proofs::SlotLemmas::scopes_close))]
+pub fn scopes_close()
+    ensures { ScopesClose }
 {}

@@ -15,4 +15,7 @@ pub use error::{InputError, ParseError, ParseErrorType, ParseResult};
 pub use filter::ExprFilter;
 pub use key::FnKey;
 pub use list::{AfterPart, CommaList};
-pub use role::{Beginning, Calling, Effect, ItemPlace, Joining, Linking, ListKind};
+pub use role::{
+    AfterStatement, Beginning, Calling, Closing, Effect, ItemPlace, Joining, Linking, ListKind,
+    StatementPlace, StatementStart,
+};

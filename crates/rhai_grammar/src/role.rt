@@ -15,6 +15,8 @@ pub enum Beginning {
     Array,
     /// An object map.
     Map,
+    /// A block, which is an operand only under `STMT_EXPR`.
+    Block,
     /// A sign before an operand.
     Sign,
     /// A range whose left operand is omitted.
@@ -91,4 +93,50 @@ pub enum Joining {
     NoMembership,
     /// Into a call with the operator as its name.
     Call,
+}
+
+/// What a token begins where a statement is expected.
+#[derive(Clone, Copy, PartialEq, Eq, Debug)]
+pub enum StatementStart {
+    /// `;`, which is an empty statement.
+    Empty,
+    /// `{`, which begins a block.
+    Block,
+    /// `let`, which begins the definition of a variable.
+    Let,
+    /// `const`, which begins the definition of a constant.
+    Const,
+    /// An expression, or nothing that may stand there.
+    Expression,
+}
+
+/// What closes a list of statements.
+#[derive(Clone, Copy, PartialEq, Eq, Debug)]
+pub enum Closing {
+    /// `}`, which closes a block.
+    Brace,
+    /// The end mark, which closes a script.
+    EndMark,
+}
+
+/// What a token is where a statement of a list may begin.
+#[derive(Clone, Copy, PartialEq, Eq, Debug)]
+pub enum StatementPlace {
+    /// It begins a statement.
+    Statement,
+    /// It closes the list.
+    Close,
+    /// The end mark in a block, whose `}` is missing.
+    Nothing,
+}
+
+/// What a token is after a statement that does not end by itself.
+#[derive(Clone, Copy, PartialEq, Eq, Debug)]
+pub enum AfterStatement {
+    /// `;`
+    SemiColon,
+    /// It closes the list.
+    Close,
+    /// It may not stand there.
+    Nothing,
 }

@@ -2,15 +2,9 @@
 //! describes the command line and both formats.
 #![tactic(auto)]
 
-mod escape;
-mod lines;
-mod list;
-mod literal;
-mod number;
-mod print;
-mod refused;
+#[cfg(test)]
+mod later_forms;
 mod run;
-mod symbol;
 mod words;
 
 use std::process::ExitCode;

@@ -3,16 +3,13 @@
 ghost use Rattle.std.specs.Prelude.{All, IsTrue};
 ghost use Rattle.rhai_lower.specs.Entries.{may_be_delivered};
 
-use crate::lines::read_lines;
-use crate::list::{ListError, TokenList, read_list};
-use crate::print::accepted;
-use crate::refused::Refused;
-use crate::words::{Limits, read_words};
+use crate::words::{Entry, Limits, read_words};
 use bitflags::Flags;
 use rhai_parser::{
     AST, Engine, FnLib, LangOptions, OptimizationLevel, ParseError, ParseResult, ParseState,
     TokenStream, TokenizerControl,
 };
+use rhai_text::{ListError, Refused, TokenList, accepted, read_lines, read_list};
 use std::alloc::{AllocError, Global};
 use std::io::{self, ErrorKind, Read, Write};
 
@@ -68,21 +65,31 @@ fn make_engine(alloc: Global, limits: &Limits) -> Engine {
     engine
 }
 
-fn parse(alloc: Global, limits: &Limits, list: TokenList) -> ParseResult<AST>
+// The tree of a list of tokens, parsed by this entry.
+fn parse(alloc: Global, entry: Entry, limits: &Limits, list: TokenList) -> ParseResult<AST>
     requires { All (λ e. IsTrue (may_be_delivered e)) list.entries.items }
 {
     let engine = make_engine(alloc, limits);
     let mut input = TokenStream::new(list.entries, list.end);
     let mut lib = FnLib::new(alloc);
-    let state = ParseState::new(alloc, None, &mut input, TokenizerControl, &mut lib);
-    engine.parse_global_expr(state, |_settings| {}, OptimizationLevel::None)
+    let mut state = ParseState::new(alloc, None, &mut input, TokenizerControl, &mut lib);
+    match entry {
+        Entry::Expr => engine.parse_global_expr(state, |_settings| {}, OptimizationLevel::None),
+        Entry::Script => {
+            let (statements, functions) = engine.parse_global_level(&mut state, |_settings| {})?;
+            Ok(AST {
+                statements,
+                functions,
+            })
+        }
+    }
 }
 
 fn answer<R: Read>(alloc: Global, words: &[String], input: &mut R) -> Result<String, Failure> {
-    let limits = read_words(words).ok_or(Failure::Unreadable(0))?;
+    let (entry, limits) = read_words(words).ok_or(Failure::Unreadable(0))?;
     let lines = read_lines(alloc, input)?;
     let list = read_list(alloc, &lines)?;
-    let script = parse(alloc, &limits, list)?;
+    let script = parse(alloc, entry, &limits, list)?;
     Ok(accepted(alloc, &script)?)
 }
 

@@ -2,7 +2,16 @@
 
 ghost use Rattle.std.specs.Prelude.{◌≡◌, ◌↔◌, IsSome, IsNone};
 
-use crate::number::decimal;
+use rhai_text::decimal;
+
+/// What the list of tokens is parsed as.
+#[derive(Clone, Copy, PartialEq, Debug)]
+pub enum Entry {
+    /// One expression.
+    Expr,
+    /// A script.
+    Script,
+}
 
 /// The settings of the engine that the words name; `None` keeps the engine's default.
 #[derive(Clone, Copy, PartialEq, Debug)]
@@ -62,17 +71,24 @@ fn read_word(limits: &mut Limits, word: &str) -> Option<()> {
     }
 }
 
-/// Reads the words: `expr`, and then any of `expr_depth`, `fn_depth`, `functions`, `array`, `map` and `options`, each
-/// at most once, followed by `=` and decimal digits, for `options` at most 255. `None` if a word is bad or the first
-/// one is missing.
-pub fn read_words(words: &[String]) -> Option<Limits> {
-    let (first, rest) = words.split_first()?;
-    if first.as_str() != "expr" {
-        return None;
+// The entry that a word names, if it names one.
+fn named_entry(word: &str) -> Option<Entry> {
+    match word {
+        "expr" => Some(Entry::Expr),
+        "script" => Some(Entry::Script),
+        _ => None,
     }
+}
+
+/// Reads the words: `expr` or `script`, and then any of `expr_depth`, `fn_depth`, `functions`, `array`, `map` and
+/// `options`, each at most once, followed by `=` and decimal digits, for `options` at most 255. `None` if a word is bad
+/// or the first one is missing.
+pub fn read_words(words: &[String]) -> Option<(Entry, Limits)> {
+    let (first, rest) = words.split_first()?;
+    let entry = named_entry(first.as_str())?;
     let mut limits = Limits::NONE;
     for word in rest {
         read_word(&mut limits, word.as_str())?;
     }
-    Some(limits)
+    Some((entry, limits))
 }

@@ -9,18 +9,23 @@ use Rattle.rhai_grammar.specs.Causes.{refusal, ExprTooDeep, out_of_memory}
 use Rattle.rhai_grammar.specs.Contexts.{Context, Live, has_room, level_up}
 use Rattle.rhai_grammar.specs.Cursors.{Cursor, asked, looking, taking, left}
 use Rattle.rhai_grammar.specs.Delivered.{Item, item, is_end, is_memory}
+use Rattle.rhai_grammar.specs.Chains as chain
 use Rattle.rhai_grammar.specs.Trees.{member_link}
 use Rattle.rhai_grammar.specs.Spots.{LinkSpot, spot_after_dot}
 use Rattle.rhai_reading.specs.Reading.{Fail, Ret, Call, Links, Member, dot_at, links_at}
 use Rattle.rhai_reading.specs.Running as R
 use Rattle.rhai_reading.specs.Running.{exec, result_of, guarded}
 use Rattle.rhai_reading.proofs.Steps.{step_links, guarded_is, and_then_done}
-use Rattle.rhai_trees.specs.Chains.{link_view, link_views}
+use Rattle.rhai_trees.specs.Chains.{indexed_by, link_view, link_views}
 use Rattle.rhai_trees.specs.declared.chain.Link.{Link}
 
 pub links_push : (ls : List Link) (l : Link) → link_views (ls ++ (l ∷ [])) ≡ link_views ls ++ (link_view l ∷ [])
 links_push [] l = refl
 links_push (m ∷ ls) l = ap (λ r. link_view m ∷ r) (links_push ls l)
+
+pub indexed_after : (x : Node) (ls : List chain.Link) (l : chain.Link) → indexed_by x (ls ++ (l ∷ [])) ≡ None
+indexed_after x [] l = refl
+indexed_after x (m ∷ ls) l = refl
 
 -- From s a dot stands, whose member x ends at t.
 pub record TakesDot (w : Live) (q : LinkSpot) (x : Node) (s t : Cursor) : Type 0 where

@@ -1,49 +1,133 @@
 -- From what the reading program gives to what is promised.
-use Rattle.std.proofs.Common.{◌≡◌, Bool, true, false, List, refl, sym, ◌∙◌, subst, Result, Ok, Err}
-use Rattle.rhai_lower.specs.Nodes.{Node}
+use Rattle.std.proofs.Common.{◌≡◌, Bool, true, false, List, [], ◌∷◌, refl, sym, ap, ◌∙◌, subst, Result, Ok, Err, IfErr, IfOk}
+use Rattle.std.specs.Prelude.{Vec, map}
+use Rattle.std.specs.declared.alloc.Global.{Global}
+use Rattle.std.specs.declared.rc.Rc.{Rc}
+use Rattle.rhai_lower.specs.Nodes.{Node, Statements}
+use Rattle.rhai_lower.specs.Slots.{SlotValue}
+use Rattle.rhai_lower.specs.View.{statement_views}
 use Rattle.rhai_lower.specs.declared.ast.AST.{AST}
+use Rattle.rhai_lower.specs.declared.ast.ScriptFuncDef.{ScriptFuncDef}
+use Rattle.rhai_lower.specs.declared.ast.Stmt.{Stmt}
 use Rattle.rhai_grammar.specs.Causes.{cause_of, refusal_of, is_memory_cause, is_memory_kind, is_for_memory}
 use Rattle.rhai_grammar.specs.Cursors.{Cursor}
 use Rattle.rhai_grammar.specs.Delivered.{code}
 use Rattle.rhai_grammar.specs.Contexts.{Context, Live}
-use Rattle.rhai_grammar.specs.Promises.{Accepts, IsScriptOf, HasRead, UnlessMemory, ReadsExpression}
+use Rattle.rhai_grammar.specs.Demands.{Demands}
+use Rattle.rhai_grammar.specs.Forms.{Run}
+use Rattle.rhai_grammar.specs.Forms as form
+use Rattle.rhai_grammar.specs.Trees.{statement_trees, tree}
+use Rattle.rhai_grammar.specs.Definitions.{after_statements}
+use Rattle.rhai_grammar.specs.Promises.{Accepts, IsScript, IsScriptOf, HasRead, ReadsExpression, ReadsScript, ReadsWhole}
+use Rattle.rhai_grammar.specs.Promises.{Returns, UnlessMemory}
 use Rattle.rhai_grammar.specs.declared.error.ParseError.{ParseError}
 use Rattle.rhai_grammar.specs.declared.error.ParseErrorType.{ParseErrorType}
 use Rattle.rhai_grammar.specs.declared.error.ParseErrorType.TheVariants.{OutOfMemory}
-use Rattle.rhai_reading.specs.Reading.{Whole}
+use Rattle.rhai_reading.specs.Reading.{Goal, Script, Val, Whole}
 use Rattle.rhai_reading.specs.Running.{Done, Fails, result_of}
 use Rattle.rhai_reading.proofs.Main as M
-
--- an expression that was read, and what is made of it
-pub reads_done : {F : Type 0} (library : List F) (c : Context) (live : Live) (s left : Cursor) (x : Node) (result : Result AST ParseError) → s.mode ≡ code → result_of (Whole c live) s ≡ Done x left → Accepts x result → ReadsExpression library c live s left result
-reads_done library c live s left x (Ok script) mode e is = record {
-  accepted = λ empty. (let w = M.accepted c live s left x mode e in (w.0, w.2, subst (λ y. IsScriptOf y script) (sym w.1) is));
-  only = λ empty f written. subst (λ y. IsScriptOf y script) (M.accepted_only c live s left x mode e f written) is;
-  refused = tt;
-}
-reads_done library c live s left x (Err d) mode e is = record { accepted = λ empty. tt; only = λ empty f written. is; refused = λ no. absurd (let w = sym is ∙ no in cc) }
+use Rattle.rhai_reading.proofs.Main.{Entry, expression_entry, script_entry, script_of}
 
 memory_kind : (k : ParseErrorType) → is_memory_cause (cause_of k) ≡ is_memory_kind k
 memory_kind OutOfMemory = refl
 memory_kind _ = refl
 
--- an error, of the reading program or if memory ran out
-pub reads_fails : {F : Type 0} (library : List F) (c : Context) (live : Live) (s left : Cursor) (e : ParseError) → s.mode ≡ code → Fails (result_of (Whole c live) s) e left → ReadsExpression library c live s left (Err e)
-reads_fails library c live s left e mode fails = record {
-  accepted = λ empty. tt;
-  only = λ empty f written. by_memory (is_for_memory e) refl (λ no. M.refused_none c live s left (refusal_of e) mode (fails.0 no) f written);
-  refused = λ no. M.refused c live s left (refusal_of e) mode (fails.0 no) (memory_kind e.0 ∙ no);
-}
-  where
-    by_memory : (b : Bool) → is_for_memory e ≡ b → (is_for_memory e ≡ false → ⊥) → is_for_memory e ≡ true
-    by_memory true is h = is
-    by_memory false is h = absurd (h is)
+-- memory ran out after a form was read
+pub ran_out : {X : Type 0} (Is : X → Type 0) (result : Result X ParseError) → Returns Is result
+    → IfErr result (λ e. is_for_memory e ≡ true)
+ran_out Is (Ok x) is = tt
+ran_out Is (Err e) is = is
+
+module _ {L F X : Type 0} {g : Goal} {whole : F → Demands} {tree_of : F → Val g} (E : Entry g whole tree_of)
+    (Is : F → X → Type 0) (library : List L) (s left : Cursor) where
+  -- a form that was read, and what is made of it
+  pub reads_done : (v : Val g) (result : Result X ParseError) → s.mode ≡ code → result_of g s ≡ Done v left
+      → IfErr result (λ e. is_for_memory e ≡ true)
+      → (library ≡ [] → (f : F) → tree_of f ≡ v → Returns (Is f) result)
+      → ReadsWhole library whole Is s left result
+  reads_done v (Ok x) mode e out is = record {
+    accepted = λ empty. (let w = M.accepted E s left v mode e in (w.0, w.2, is empty w.0 w.1));
+    only = λ empty f written. is empty f (sym (M.accepted_only E s left v mode e f written));
+    refused = tt;
+  }
+  reads_done v (Err d) mode e out is = record {
+    accepted = λ empty. tt;
+    only = λ empty f written. out;
+    refused = λ other. absurd (let w = sym out ∙ other in cc);
+  }
+
+  -- an error, of the reading program or if memory ran out
+  pub reads_fails : (e : ParseError) → s.mode ≡ code → Fails (result_of g s) e left
+      → ReadsWhole library whole Is s left (Err e)
+  reads_fails e mode fails = record {
+    accepted = λ empty. tt;
+    only = λ empty f written. by_memory (is_for_memory e) refl (λ other. M.refused_none E s left (refusal_of e) mode (fails.0 other) f written);
+    refused = λ other. M.refused E s left (refusal_of e) mode (fails.0 other) (memory_kind e.0 ∙ other);
+  }
+    where
+      by_memory : (b : Bool) → is_for_memory e ≡ b → (is_for_memory e ≡ false → ⊥) → is_for_memory e ≡ true
+      by_memory true is h = is
+      by_memory false is h = absurd (h is)
 
 -- ---- what was seen
 
-pub has_read_done : (c : Context) (live : Live) (s left : Cursor) (x : Node) (result : Result AST ParseError) → result_of (Whole c live) s ≡ Done x left → UnlessMemory (HasRead s left) result
-has_read_done c live s left x (Ok script) e = M.done_read c live s left x e
-has_read_done c live s left x (Err d) e = λ other. M.done_read c live s left x e
+module _ {F X : Type 0} {g : Goal} {whole : F → Demands} {tree_of : F → Val g} (E : Entry g whole tree_of)
+    (s left : Cursor) where
+  pub has_read_done : (v : Val g) (result : Result X ParseError) → result_of g s ≡ Done v left
+      → UnlessMemory (HasRead s left) result
+  has_read_done v (Ok x) e = M.done_read E s left v e
+  has_read_done v (Err d) e = λ other. M.done_read E s left v e
 
-pub has_read_fails : (c : Context) (live : Live) (s left : Cursor) (e : ParseError) → Fails (result_of (Whole c live) s) e left → is_for_memory e ≡ false → HasRead s left
-has_read_fails c live s left e fails other = M.refused_read c live s left (refusal_of e) (fails.0 other) (memory_kind e.0 ∙ other)
+module _ {F : Type 0} {g : Goal} {whole : F → Demands} {tree_of : F → Val g} (E : Entry g whole tree_of)
+    (s left : Cursor) where
+  pub has_read_fails : (e : ParseError) → Fails (result_of g s) e left → is_for_memory e ≡ false → HasRead s left
+  has_read_fails e fails other = M.refused_read E s left (refusal_of e) (fails.0 other) (memory_kind e.0 ∙ other)
+
+-- ---- the two entries
+
+pub expression_done : {L : Type 0} (library : List L) (c : Context) (live : Live) (s left : Cursor) (x : Node) (result : Result AST ParseError) → s.mode ≡ code → result_of (Whole c live) s ≡ Done x left → Accepts x result → ReadsExpression library c live s left result
+expression_done library c live s left x result mode e is =
+    reads_done (expression_entry c live) (λ f script. IsScriptOf (tree f live) script) library s left x result mode e
+    (ran_out (IsScriptOf x) result is) (λ empty f same. subst (λ y. Accepts y result) (sym same) is)
+
+pub expression_fails : {L : Type 0} (library : List L) (c : Context) (live : Live) (s left : Cursor) (e : ParseError) → s.mode ≡ code → Fails (result_of (Whole c live) s) e left → ReadsExpression library c live s left (Err e)
+expression_fails library c live s left e mode fails =
+    reads_fails (expression_entry c live) (λ f script. IsScriptOf (tree f live) script) library s left e mode fails
+
+abbrev Read : Type 0
+Read = Vec Stmt Global × Vec (Rc ScriptFuncDef Global) Global
+
+abbrev functions_of : List (Rc ScriptFuncDef Global) → List ScriptFuncDef
+functions_of rs = map (λ (f : Rc ScriptFuncDef Global). f.value) rs
+
+abbrev library_of : {V : Type 0} → List (V × Rc ScriptFuncDef Global) → List (Rc ScriptFuncDef Global)
+library_of entries = map (λ e. e.1) entries
+
+none_mapped : (rs : List (Rc ScriptFuncDef Global)) → functions_of rs ≡ [] → rs ≡ []
+none_mapped [] e = refl
+none_mapped (r ∷ rs) e = absurd cc
+
+-- what was made of a script: its statements, and the functions of a library
+abbrev IsMade : {V : Type 0} → List (V × Rc ScriptFuncDef Global) → Statements → Result Read ParseError → Type 0
+IsMade library ss result =
+    IfOk result (λ r. (statement_views r.0.items ≡ ss) × (functions_of r.1.items ≡ functions_of (library_of library)))
+
+made_so : {V : Type 0} (library : List (V × Rc ScriptFuncDef Global)) (live left : Live) (ss : Statements) (slots : List SlotValue) (result : Result Read ParseError) → slots ≡ left.slots → IfErr result (λ e. is_for_memory e ≡ true) → IsMade library ss result → library ≡ [] → (fs : form.Statements) → statement_trees fs live ≡ ss → after_statements fs live ≡ left → Returns (λ script. IsScript fs live script slots) result
+made_so library live left ss slots (Ok r) same out is empty fs trees lives = record {
+  statements = is.0 ∙ sym trees;
+  functions = none_mapped r.1.items (is.1 ∙ ap (λ l. functions_of (library_of l)) empty);
+  slots = same ∙ ap (λ (w : Live). w.slots) (sym lives);
+}
+made_so library live left ss slots (Err e) same out is empty fs trees lives = out
+
+-- a script that was read, and the slots that it leaves
+pub script_done : {V : Type 0} (library : List (V × Rc ScriptFuncDef Global)) (c : Context) (live left : Live) (s t : Cursor) (ss : Statements) (slots : List SlotValue) (result : Result Read ParseError) → s.mode ≡ code → result_of (Script c live) s ≡ Done (ss, left) t → slots ≡ left.slots → IfErr result (λ e. is_for_memory e ≡ true) → IsMade library ss result → ReadsScript library c live s t result slots
+script_done library c live left s t ss slots result mode read same out is =
+    reads_done (script_entry c live) (λ fs script. IsScript fs live script slots) library s t (ss, left) result mode read out
+    (λ empty fs tree. made_so library live left ss slots result same out is empty fs (ap (λ v. v.0) tree) (ap (λ v. v.1) tree))
+
+pub script_fails : {L : Type 0} (library : List L) (c : Context) (live : Live) (s left : Cursor) (e : ParseError) (slots : List SlotValue) → s.mode ≡ code → Fails (result_of (Script c live) s) e left → ReadsScript library c live s left (Err e) slots
+script_fails library c live s left e slots mode fails =
+    reads_fails (script_entry c live) (λ fs script. IsScript fs live script slots) library s left e mode fails
+
+pub ruleset expressions_read = (expression_done, expression_fails)

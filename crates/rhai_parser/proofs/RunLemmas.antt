@@ -168,7 +168,7 @@ worded_outcome c w {word} {at} {called} {s} {s1} {s2} {t} h =
 -- ---- what a form stands in
 
 abbrev under : EngineValue → Settings → Context
-under engine c = record { settings = c; sizes = sizes_of engine }
+under engine c = record { settings = c; options = engine.options; sizes = sizes_of engine }
 
 -- Settings that differ in their position alone make one context.
 pub same_context : (engine : EngineValue) (c d : ParseSettings) → settings_of c ≡ settings_of d → context_of engine c ≡ context_of engine d

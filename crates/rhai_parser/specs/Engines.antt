@@ -49,6 +49,16 @@ expr_settings e = record {
   max_expr_depth = e.max_expr_depth;
 }
 
+-- the settings that a script is read under, before the caller changes them: the flag GLOBAL_LEVEL
+abbrev pub script_settings : EngineValue → ParseSettings
+script_settings e = record {
+  flags = record { 0 = 1 };
+  options = record { 0 = e.options };
+  level = 0;
+  pos = place 1 1;
+  max_expr_depth = e.max_expr_depth;
+}
+
 -- whether a name is among those of the modules
 abbrev pub has_module : Text → List Text → Bool
 has_module name modules = list_any (λ m. same_text m name) modules

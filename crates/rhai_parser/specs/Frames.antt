@@ -9,15 +9,19 @@ use Rattle.rhai_base.specs.Settings.{settings_of}
 use Rattle.rhai_base.specs.declared.settings.ParseSettings.{ParseSettings}
 use Rattle.rhai_base.specs.declared.state.ParseState.{ParseState}
 use Rattle.rhai_parser.specs.Engines.{EngineValue, sizes_of}
-use Rattle.rhai_parser.specs.declared.frame.Frame.{Frame}
+use Rattle.rhai_base.specs.Frames.{FrameValue}
 
 -- what goes down into it, where an engine reads it under these settings
 abbrev pub context_of : EngineValue → ParseSettings → Context
-context_of engine settings = record { settings = settings_of settings; sizes = sizes_of engine }
+context_of engine settings = record {
+  settings = settings_of settings;
+  options = engine.options;
+  sizes = sizes_of engine;
+}
 
 -- what was defined before it
-abbrev pub live_of : Frame → Live
-live_of frame = record { slots = frame.stack }
+abbrev pub live_of : FrameValue → Live
+live_of frame = frame.live
 
 -- ---- at an entry, in the state that it is given
 
@@ -30,4 +34,4 @@ starts_in engine state settings = context_of engine settings
 
 -- what is live before it
 abbrev pub live_in : StateValue → Live
-live_in state = record { slots = state.stack }
+live_in state = record { slots = state.stack; block = state.frame_pointer }

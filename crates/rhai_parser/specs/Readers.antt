@@ -1,11 +1,17 @@
 -- How the contracts of the readers speak of what they read and what they leave.
 use Rattle.std.specs.Prelude.{◌≡◌, ◌≤◌, ℕ, Bool, List, Option, Result, Vec}
 use Rattle.std.specs.declared.alloc.Global.{Global}
-use Rattle.rhai_lower.specs.Nodes.{Node, Nodes, Properties}
-use Rattle.rhai_lower.specs.View.{property_views, views}
+use Rattle.std.specs.declared.rc.RcStr.{RcStr}
+use Rattle.std.specs.Rc.{rc_str_bytes}
+use Rattle.rhai_lower.specs.Texts.{Text}
+use Rattle.rhai_lower.specs.Nodes.{Node, Nodes, Properties, Statements}
+use Rattle.rhai_lower.specs.View.{property_views, statement_views, views}
 use Rattle.rhai_lower.specs.declared.ast.Expr.{Expr}
 use Rattle.rhai_lower.specs.declared.ast.Ident.{Ident}
+use Rattle.rhai_lower.specs.declared.ast.Stmt.{Stmt}
 use Rattle.rhai_lower.specs.declared.position.Position.{Position}
+use Rattle.rhai_grammar.specs.Contexts.{Live}
+use Rattle.rhai_grammar.specs.declared.role.Closing.{Closing}
 use Rattle.rhai_grammar.specs.Chains as chain
 use Rattle.rhai_grammar.specs.Cursors.{Cursor, cursor_of, left}
 use Rattle.rhai_grammar.specs.Spots.{spot_after_operand}
@@ -15,70 +21,100 @@ use Rattle.rhai_reading.specs.Reading.{Goal, Val}
 use Rattle.rhai_reading.specs.Running.{Gives, result_of}
 use Rattle.rhai_trees.specs.Chains.{link_views}
 use Rattle.rhai_trees.specs.declared.chain.Link.{Link}
+use Rattle.rhai_base.specs.Frames.{FrameValue}
 use Rattle.rhai_base.specs.declared.leaves.names.Call.{Call}
 use Rattle.rhai_base.specs.declared.settings.ParseSettings.{ParseSettings}
 use Rattle.rhai_parser.specs.Engines.{EngineValue}
 use Rattle.rhai_parser.specs.Frames.{context_of, live_of}
-use Rattle.rhai_parser.specs.declared.frame.Frame.{Frame}
 use Rattle.rhai_parser.specs.declared.shared.Shared.{Shared}
 
 -- ---- what is read, by the engine, the frame and the settings that it is read under
 
 -- an expression up to the end mark
-abbrev pub whole : EngineValue → Frame → ParseSettings → Goal
+abbrev pub whole : EngineValue → FrameValue → ParseSettings → Goal
 whole engine frame settings = reading.Whole (context_of engine settings) (live_of frame)
 
-abbrev pub expression : EngineValue → Frame → ParseSettings → Goal
+abbrev pub expression : EngineValue → FrameValue → ParseSettings → Goal
 expression engine frame settings = reading.Expression (context_of engine settings) (live_of frame)
 
 -- an operand with its signs and its call; whether it stands directly after a range operator
-abbrev pub operand : EngineValue → Frame → ParseSettings → (ranged : Bool) → Goal
+abbrev pub operand : EngineValue → FrameValue → ParseSettings → (ranged : Bool) → Goal
 operand engine frame settings ranged = reading.Operand (context_of engine settings) (live_of frame) ranged
 
-abbrev pub primary : EngineValue → Frame → ParseSettings → Goal
+abbrev pub primary : EngineValue → FrameValue → ParseSettings → Goal
 primary engine frame settings = reading.Primary (context_of engine settings) (live_of frame)
 
 -- what calls an operand, if it is a variable
-abbrev pub postfix : EngineValue → Frame → ParseSettings → (operand : Node) → Goal
+abbrev pub postfix : EngineValue → FrameValue → ParseSettings → (operand : Node) → Goal
 postfix engine frame settings operand = reading.Postfix (context_of engine settings) (live_of frame) operand
 
 -- what calls a name
-abbrev pub called : EngineValue → Frame → ParseSettings → Goal
+abbrev pub called : EngineValue → FrameValue → ParseSettings → Goal
 called engine frame settings = reading.Called (context_of engine settings) (live_of frame) settings.pos
 
 -- the arguments after a `(`
-abbrev pub arguments : EngineValue → Frame → ParseSettings → Goal
+abbrev pub arguments : EngineValue → FrameValue → ParseSettings → Goal
 arguments engine frame settings = reading.Arguments (context_of engine settings) (live_of frame) settings.pos
 
 -- an argument, and those that follow, after these
-abbrev pub items : EngineValue → Frame → ParseSettings → (before : Nodes) → Goal
+abbrev pub items : EngineValue → FrameValue → ParseSettings → (before : Nodes) → Goal
 items engine frame settings before = reading.Items (context_of engine settings) (live_of frame) before
 
 -- the items of an array, after these
-abbrev pub elements : EngineValue → Frame → ParseSettings → (before : Nodes) → Goal
+abbrev pub elements : EngineValue → FrameValue → ParseSettings → (before : Nodes) → Goal
 elements engine frame settings before =
     reading.Elements (context_of engine settings) (live_of frame) settings.pos before
 
 -- the properties of an object map, after these
-abbrev pub fields : EngineValue → Frame → ParseSettings → (before : Properties) → Goal
+abbrev pub fields : EngineValue → FrameValue → ParseSettings → (before : Properties) → Goal
 fields engine frame settings before = reading.Fields (context_of engine settings) (live_of frame) settings.pos before
 
 -- the links after an operand
-abbrev pub links : EngineValue → Frame → ParseSettings → (root : Node) → Goal
+abbrev pub links : EngineValue → FrameValue → ParseSettings → (root : Node) → Goal
 links engine frame settings root = reading.Links (live_of frame) (spot_after_operand (context_of engine settings) root)
 
 -- the index in a bracket; whose index it is, if that is tested
-abbrev pub index : EngineValue → Frame → ParseSettings → (indexed : Option Node) → Goal
+abbrev pub index : EngineValue → FrameValue → ParseSettings → (indexed : Option Node) → Goal
 index engine frame settings indexed = reading.Index (context_of engine settings) (live_of frame) indexed
 
 -- the member after a dot
-abbrev pub member : EngineValue → Frame → ParseSettings → Goal
+abbrev pub member : EngineValue → FrameValue → ParseSettings → Goal
 member engine frame settings = reading.Member (context_of engine settings) (live_of frame)
 
 -- the operators after a left operand that go on with a run of this strength
-abbrev pub binary_op : EngineValue → Frame → ParseSettings → (at : Position) (parent : ℕ) (lhs : Node) → Goal
+abbrev pub binary_op : EngineValue → FrameValue → ParseSettings → (at : Position) (parent : ℕ) (lhs : Node)
+    → Goal
 binary_op engine frame settings at parent lhs =
     reading.BinaryOp (context_of engine settings) (live_of frame) at parent lhs
+
+-- an expression or an assignment
+abbrev pub expr_statement : EngineValue → FrameValue → ParseSettings → Goal
+expr_statement engine frame settings = reading.ExprStatement (context_of engine settings) (live_of frame)
+
+-- the name of a definition
+abbrev pub var_name : EngineValue → FrameValue → ParseSettings → Goal
+var_name engine frame settings = reading.VarName (context_of engine settings) (live_of frame)
+
+-- the value of a definition
+abbrev pub initializer : EngineValue → FrameValue → ParseSettings → Goal
+initializer engine frame settings = reading.Initializer (context_of engine settings) (live_of frame) settings.pos
+
+-- a definition after its keyword
+abbrev pub definition : EngineValue → FrameValue → ParseSettings → (constant : Bool) → Goal
+definition engine frame settings constant =
+    reading.Definition (context_of engine settings) (live_of frame) settings.pos constant
+
+abbrev pub statement : EngineValue → FrameValue → ParseSettings → Goal
+statement engine frame settings = reading.Statement (context_of engine settings) (live_of frame)
+
+-- the statements of a list, after these
+abbrev pub statements : EngineValue → FrameValue → ParseSettings → Closing → (before : Statements) → Goal
+statements engine frame settings closing before =
+    reading.Statements closing (context_of engine settings) (live_of frame) before
+
+-- a block after its `{`
+abbrev pub block : EngineValue → FrameValue → ParseSettings → Goal
+block engine frame settings = reading.Block (context_of engine settings) (live_of frame) settings.pos
 
 -- ---- what comes of it
 
@@ -95,6 +131,17 @@ linked ls = link_views ls.items
 -- what calls a name: whether it has a `!`, and the arguments
 abbrev pub call_view : Call → Bool × Nodes
 call_view c = (c.bang, views_of c.args)
+
+abbrev pub statements_of : Vec Stmt Global → Statements
+statements_of ss = statement_views ss.items
+
+-- what a reader returned, and what is live after it
+abbrev pub with_live : {X A : Type 0} → (X → A) → FrameValue → X → A × Live
+with_live view frame x = (view x, live_of frame)
+
+-- a name and its position
+abbrev pub name_view : RcStr Global × Position → Text × Position
+name_view n = (rc_str_bytes n.0, n.1)
 
 -- what is left to read
 abbrev pub state_of : Shared → Cursor

@@ -1,23 +1,28 @@
 //! What the readers ask for by leaves, as the reading program gives it: the next operator, and the next key.
 
 ghost use Rattle.std.specs.Prelude.{◌≡◌, ◌≤◌, IfOk, IsSome, OnOk, false, option_map};
-ghost use Rattle.rhai_lower.specs.View.{property_views, written};
+ghost use Rattle.rhai_lower.specs.View.{block_view, property_views, written};
 ghost use Rattle.rhai_grammar.specs.Cursors.{asked, cursor_of, left, looking};
 ghost use Rattle.rhai_grammar.specs.Delivered.{is_end, is_memory};
-ghost use Rattle.rhai_reading.specs.Reading.{NextKey, NextOperator};
+ghost use Rattle.rhai_reading.specs.Reading.{BlockEnd, NextKey, NextOperator};
 ghost use Rattle.rhai_reading.specs.Running.{Gives, result_of};
 ghost use Rattle.rhai_parser.specs.Asks.{operator_pair};
 ghost use Rattle.rhai_parser.specs.Frames.{context_of};
+ghost use Rattle.rhai_parser.specs.Readers.{name_view, statements_of, var_name};
 
 use crate::engine::Engine;
-use rhai_base::ParseSettings;
+use rhai_base::cursor::peek;
 use rhai_base::leaves::due::match_token;
 use rhai_base::leaves::items::room_for_value;
 use rhai_base::leaves::operators::Operator;
+use rhai_base::leaves::statements::parse_var_name;
 use rhai_base::leaves::{keys, operators};
+use rhai_base::{Frame, ParseSettings};
 use rhai_grammar::{DueToken, ParseResult};
-use rhai_lower::{Expr, Ident, TokenStream};
+use rhai_lower::{Expr, Ident, Position, Stmt, StmtBlock, TokenStream};
+use rhai_trees::make_block;
 use std::alloc::Global;
+use std::rc::RcStr;
 
 /// The operator that stands after an operand, if there is one; its token stays.
 pub(crate) fn next_operator(alloc: Global, input: &mut TokenStream) -> ParseResult<Option<Operator>>
@@ -60,4 +65,39 @@ pub(crate) fn next_key(
         Ok(()) => Ok(Some(key)),
         Err(error) => Err(error),
     }
+}
+
+/// The name of a definition, which is taken, with its position. Without shadowing, a name that a slot has is refused.
+#[tactic(auto, using(rhai_reading::proofs::Steps::step_var_name))]
+pub(crate) fn next_var_name(
+    engine: &Engine,
+    input: &mut TokenStream,
+    frame: &Frame<'_>,
+    settings: ParseSettings,
+) -> ParseResult<(RcStr, Position)>
+    ensures gives { Gives name_view (result_of (var_name engine.now frame.now settings) (cursor_of input.old)) result
+        (cursor_of input.new) }
+    ensures shorter { left (cursor_of input.new).tokens ≤ left (cursor_of input.old).tokens }
+{
+    let (name, pos) = parse_var_name(input)?;
+    frame.test_name(engine.allow_shadowing(), &name, pos)?;
+    Ok((name, pos))
+}
+
+/// A block of these statements, from its `{` at `start` to its `}`, which is taken.
+#[tactic(auto, using(rhai_reading::proofs::Steps::step_block_end))]
+pub(crate) fn end_block(
+    alloc: Global,
+    input: &mut TokenStream,
+    statements: Vec<Stmt>,
+    start: Position,
+) -> ParseResult<StmtBlock>
+    ensures gives { Gives block_view (result_of (BlockEnd start (statements_of statements)) (cursor_of input.old))
+        result (cursor_of input.new) }
+    ensures shorter { left (cursor_of input.new).tokens ≤ left (cursor_of input.old).tokens }
+{
+    let (_, end) = peek(input)?;
+    let end = *end;
+    match_token(alloc, input, DueToken::RightBrace, "to end this block")?;
+    Ok(make_block(statements, start, end))
 }

@@ -7,18 +7,17 @@ ghost use Rattle.rhai_grammar.specs.Delivered.{is_end};
 ghost use Rattle.rhai_parser.specs.Readers.{GoesOn, Reads, call_view, called, index, links, linked, member};
 
 use crate::engine::Engine;
-use crate::frame::Frame;
 use crate::shared::Shared;
-use rhai_base::ParseSettings;
 use rhai_base::cursor::{peek, skip};
 use rhai_base::leaves::due::{arguments_due, match_token};
 use rhai_base::leaves::links::{is_name, is_negated, member_due, what_links};
 use rhai_base::leaves::names::{Call, make_method};
 use rhai_base::leaves::refusals::reserved;
 use rhai_base::leaves::tokens::{is_called, what_calls};
+use rhai_base::{Frame, ParseSettings};
 use rhai_grammar::{Calling, DueToken, Linking, ParseResult};
 use rhai_lower::Expr;
-use rhai_trees::{Link, LinkKind, test_index, test_links};
+use rhai_trees::{Link, LinkKind, indexed_operand, test_index, test_links};
 
 #[tactic(auto, using(crate::proofs::Readers::chains))]
 impl Engine {
@@ -28,7 +27,7 @@ impl Engine {
     pub(crate) fn parse_call(
         &self,
         shared: &mut Shared<'_>,
-        frame: &Frame,
+        frame: &Frame<'_>,
         settings: ParseSettings,
     ) -> ParseResult<Call>
         ensures goes_on { GoesOn shared.old shared.new }
@@ -67,7 +66,7 @@ impl Engine {
     pub(crate) fn parse_links(
         &self,
         shared: &mut Shared<'_>,
-        frame: &Frame,
+        frame: &Frame<'_>,
         settings: ParseSettings,
         lhs: &Expr,
     ) -> ParseResult<Vec<Link>>
@@ -76,7 +75,6 @@ impl Engine {
     {
         let mut settings = settings;
         let mut brackets = settings;
-        let mut indexed = Some(lhs);
         let mut links = Vec::new(self.alloc());
         loop {
             let (token, pos) = peek(shared.input)?;
@@ -87,6 +85,7 @@ impl Engine {
                     skip(shared.input);
                     brackets = brackets.at(pos).level_up()?;
                     let deeper = brackets.level_up()?;
+                    let indexed = indexed_operand(lhs, &links);
                     let item = self.parse_index(shared, frame, deeper, indexed)?;
                     links.push(Link {
                         kind: LinkKind::Index,
@@ -94,7 +93,6 @@ impl Engine {
                         pos,
                         item,
                     })?;
-                    indexed = None;
                     continue;
                 }
                 Linking::Dot => {
@@ -109,7 +107,6 @@ impl Engine {
                         pos,
                         item,
                     })?;
-                    indexed = None;
                     continue;
                 }
                 Linking::Nothing => {
@@ -126,7 +123,7 @@ impl Engine {
     fn parse_index(
         &self,
         shared: &mut Shared<'_>,
-        frame: &Frame,
+        frame: &Frame<'_>,
         settings: ParseSettings,
         indexed: Option<&Expr>,
     ) -> ParseResult<Expr>
@@ -146,7 +143,7 @@ impl Engine {
     fn parse_member(
         &self,
         shared: &mut Shared<'_>,
-        frame: &Frame,
+        frame: &Frame<'_>,
         settings: ParseSettings,
     ) -> ParseResult<Expr>
         requires { is_end (asked (cursor_of shared.now.input.now)).lexeme ≡ false }

@@ -16,10 +16,9 @@ ghost use Rattle.rhai_base.specs.States.{IsFresh};
 ghost use Rattle.rhai_parser.specs.Frames.{context_of, live_in, live_of, starts_in};
 ghost use Rattle.rhai_parser.specs.Engines.{fresh_engine, with_bits, expr_settings, has_module};
 
-use crate::frame::Frame;
 use crate::shared::Shared;
 use bitflags::Flags;
-use rhai_base::{LangOptions, ParseSettingFlags, ParseSettings, ParseState};
+use rhai_base::{Frame, LangOptions, ParseSettingFlags, ParseSettings, ParseState};
 use rhai_grammar::ParseResult;
 use rhai_lower::{
     AST, Expr, OptimizationLevel, Position, Scope, Stmt, TokenStream, optimize_into_ast,
@@ -258,11 +257,11 @@ impl Engine {
     }
 
     // Reads the script of one expression that a whole stream is.
-    #[tactic(auto, using(crate::proofs::PromiseLemmas::reads_done, crate::proofs::PromiseLemmas::reads_fails))]
+    #[tactic(auto, using(crate::proofs::PromiseLemmas::expressions_read))]
     fn read_script(
         &self,
         input: &mut TokenStream,
-        frame: &Frame,
+        frame: &Frame<'_>,
         settings: ParseSettings,
         constants: Option<&Scope>,
         level: OptimizationLevel,
@@ -313,14 +312,14 @@ impl Engine {
             expr_filter: _,
             external_constants,
             stack,
-            frame_pointer: _,
+            frame_pointer,
             external_vars: _,
             allow_capture: _,
             imports: _,
             global_imports: _,
             counts: _,
         } = state;
-        let frame = Frame { stack };
+        let frame = Frame::new(stack, frame_pointer);
         self.read_script(input, &frame, chosen, external_constants, level)
     }
 }

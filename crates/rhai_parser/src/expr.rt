@@ -7,9 +7,7 @@ ghost use Rattle.rhai_parser.specs.Readers.{primary, views_of, whole};
 
 use crate::asks::next_operator;
 use crate::engine::Engine;
-use crate::frame::Frame;
 use crate::shared::Shared;
-use rhai_base::ParseSettings;
 use rhai_base::cursor::{peek, skip, take};
 use rhai_base::leaves::due::{end_due, match_token};
 use rhai_base::leaves::lists::{closes_list, list_continues};
@@ -18,9 +16,10 @@ use rhai_base::leaves::refusals::{missing, no_operand};
 use rhai_base::leaves::tokens::{
     is_called, is_no_argument, is_range, is_sign, omits_operand, value_of, what_begins,
 };
+use rhai_base::{Frame, LangOptions, ParseSettings};
 use rhai_grammar::{Beginning, CommaList, DueToken, ParseResult};
 use rhai_lower::Expr;
-use rhai_trees::{make_binary, make_chain, make_unary};
+use rhai_trees::{make_binary, make_block_value, make_chain, make_unary};
 
 #[tactic(auto, using(crate::proofs::Readers::expressions))]
 impl Engine {
@@ -29,7 +28,7 @@ impl Engine {
     fn parse_primary(
         &self,
         shared: &mut Shared<'_>,
-        frame: &Frame,
+        frame: &Frame<'_>,
         settings: ParseSettings,
     ) -> ParseResult<Expr>
         ensures goes_on { GoesOn shared.old shared.new }
@@ -47,7 +46,7 @@ impl Engine {
                 let name = token.text(self.alloc())?;
                 skip(shared.input);
                 let called = is_called(shared.input)?;
-                Ok(name_node(self.alloc(), &frame.stack, name, called, pos)?)
+                Ok(name_node(self.alloc(), frame, name, called, pos)?)
             }
             Beginning::Word => {
                 let word = token.text(self.alloc())?;
@@ -75,6 +74,15 @@ impl Engine {
                 let properties = self.parse_map_literal(shared, frame, deeper)?;
                 Ok(Expr::Map(properties, pos))
             }
+            Beginning::Block => {
+                if !settings.has_option(LangOptions::STMT_EXPR) {
+                    return Err(no_operand(self.alloc(), token, pos));
+                }
+                skip(shared.input);
+                let deeper = settings.at(pos).level_up()?.level_up()?;
+                let block = self.parse_block(shared, frame, deeper)?;
+                Ok(make_block_value(self.alloc(), block)?)
+            }
             Beginning::Range => Ok(Expr::IntegerConstant(0, pos)),
             Beginning::Sign | Beginning::Nothing => Err(no_operand(self.alloc(), token, pos)),
         }
@@ -85,7 +93,7 @@ impl Engine {
     fn parse_postfix(
         &self,
         shared: &mut Shared<'_>,
-        frame: &Frame,
+        frame: &Frame<'_>,
         settings: ParseSettings,
         operand: Expr,
     ) -> ParseResult<Expr>
@@ -108,7 +116,7 @@ impl Engine {
     pub(crate) fn parse_fn_call_args(
         &self,
         shared: &mut Shared<'_>,
-        frame: &Frame,
+        frame: &Frame<'_>,
         settings: ParseSettings,
     ) -> ParseResult<Vec<Expr>>
         ensures goes_on { GoesOn shared.old shared.new }
@@ -132,7 +140,7 @@ impl Engine {
     fn parse_items(
         &self,
         shared: &mut Shared<'_>,
-        frame: &Frame,
+        frame: &Frame<'_>,
         settings: ParseSettings,
     ) -> ParseResult<Vec<Expr>>
         ensures goes_on { GoesOn shared.old shared.new }
@@ -158,7 +166,7 @@ impl Engine {
     fn parse_unary(
         &self,
         shared: &mut Shared<'_>,
-        frame: &Frame,
+        frame: &Frame<'_>,
         settings: ParseSettings,
         ranged: bool,
     ) -> ParseResult<Expr>
@@ -187,7 +195,7 @@ impl Engine {
     fn parse_binary_op(
         &self,
         shared: &mut Shared<'_>,
-        frame: &Frame,
+        frame: &Frame<'_>,
         settings: ParseSettings,
         parent: u8,
         lhs: Expr,
@@ -209,13 +217,13 @@ impl Engine {
             let rhs = self.parse_unary(shared, frame, settings, is_range(&op_token))?;
             // A reserved symbol after the operand is refused before the level is raised.
             next_operator(self.alloc(), shared.input)?;
-            let deeper = settings.level_up()?;
-            let rhs = self.parse_binary_op(shared, frame, deeper, operator.strength, rhs)?;
+            let deeper = settings.level_up_in_run(pos)?;
+            let rhs = self.parse_binary_op(shared, frame, deeper.side, operator.strength, rhs)?;
             lhs = match make_binary(self.alloc(), op_token, pos, lhs, rhs) {
                 Ok(joined) => joined,
                 Err(error) => return Err(error),
             };
-            settings = deeper.at(pos);
+            settings = deeper.next;
         }
     }
 
@@ -224,7 +232,7 @@ impl Engine {
     pub(crate) fn parse_expr(
         &self,
         shared: &mut Shared<'_>,
-        frame: &Frame,
+        frame: &Frame<'_>,
         settings: ParseSettings,
     ) -> ParseResult<Expr>
         ensures goes_on { GoesOn shared.old shared.new }
@@ -240,7 +248,7 @@ impl Engine {
     pub(crate) fn parse_whole_expr(
         &self,
         shared: &mut Shared<'_>,
-        frame: &Frame,
+        frame: &Frame<'_>,
         settings: ParseSettings,
     ) -> ParseResult<Expr>
         ensures goes_on { GoesOn shared.old shared.new }

@@ -5,9 +5,10 @@ mod asks;
 mod chain;
 pub mod engine;
 mod expr;
-mod frame;
 mod literals;
+mod script;
 mod shared;
+mod stmt;
 
 pub use engine::Engine;
 pub use rhai_base::{

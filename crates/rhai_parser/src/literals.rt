@@ -5,13 +5,12 @@ ghost use Rattle.rhai_parser.specs.Readers.{GoesOn, Reads, elements, fields, pro
 
 use crate::asks::next_key;
 use crate::engine::Engine;
-use crate::frame::Frame;
 use crate::shared::Shared;
-use rhai_base::ParseSettings;
 use rhai_base::cursor::{peek, skip};
 use rhai_base::leaves::items::item_place;
 use rhai_base::leaves::lists::list_continues;
 use rhai_base::leaves::refusals::no_item;
+use rhai_base::{Frame, ParseSettings};
 use rhai_grammar::{CommaList, ItemPlace, ParseResult};
 use rhai_lower::{Expr, Ident};
 
@@ -23,7 +22,7 @@ impl Engine {
     pub(crate) fn parse_array_literal(
         &self,
         shared: &mut Shared<'_>,
-        frame: &Frame,
+        frame: &Frame<'_>,
         settings: ParseSettings,
     ) -> ParseResult<Vec<Expr>>
         ensures goes_on { GoesOn shared.old shared.new }
@@ -56,7 +55,7 @@ impl Engine {
     pub(crate) fn parse_map_literal(
         &self,
         shared: &mut Shared<'_>,
-        frame: &Frame,
+        frame: &Frame<'_>,
         settings: ParseSettings,
     ) -> ParseResult<Vec<(Ident, Expr)>>
         ensures goes_on { GoesOn shared.old shared.new }

@@ -7,7 +7,7 @@ use Rattle.rhai_grammar.specs.Causes as cause
 use Rattle.rhai_grammar.specs.Causes.{refusal}
 use Rattle.rhai_grammar.specs.Contexts.{full}
 use Rattle.rhai_grammar.specs.Delivered.{code, Item, item, Point, next_at}
-use Rattle.rhai_grammar.specs.Demands.{Blames}
+use Rattle.rhai_grammar.specs.Demands.{Blames, Wrong}
 use Rattle.rhai_grammar.specs.declared.role.Beginning.{Beginning}
 use Rattle.rhai_grammar.specs.declared.role.Beginning.TheVariants as begin
 use Rattle.rhai_grammar.specs.declared.role.Calling.{Calling}
@@ -17,6 +17,14 @@ use Rattle.rhai_grammar.specs.declared.role.ItemPlace.TheVariants as place
 use Rattle.rhai_grammar.specs.Beginnings.{beginning, calling, is_name, member_place, is_member}
 use Rattle.rhai_grammar.specs.Literals.{item_place, KeyPlace, FieldsEnd, AKey, key_place}
 use Rattle.rhai_grammar.specs.Verdicts.{no_method}
+use Rattle.rhai_grammar.specs.Targets.{is_equals}
+use Rattle.rhai_grammar.specs.Statements.{after_statement, keyword_of, name_due, no_variable, statement_start}
+use Rattle.rhai_grammar.specs.declared.role.AfterStatement.{AfterStatement}
+use Rattle.rhai_grammar.specs.declared.role.AfterStatement.TheVariants as after
+use Rattle.rhai_grammar.specs.declared.role.Closing.{Closing}
+use Rattle.rhai_grammar.specs.declared.role.Closing.TheVariants.{Brace, EndMark}
+use Rattle.rhai_grammar.specs.declared.role.StatementStart.{StatementStart}
+use Rattle.rhai_grammar.specs.declared.role.StatementStart.TheVariants as start
 use Rattle.rhai_reading.proofs.Looks.{op_at, pos_at}
 
 -- ---- where an operand is due
@@ -27,6 +35,7 @@ Begins begin.Word i = i ≡ item (Reserved (text_of i.lexeme)) i.at
 Begins begin.Group i = i ≡ item (Sign token.LeftParen) i.at
 Begins begin.Array i = i ≡ item (Sign token.LeftBracket) i.at
 Begins begin.Map i = i ≡ item (Sign token.MapStart) i.at
+Begins begin.Block i = i ≡ item (Sign token.LeftBrace) i.at
 Begins _ i = Unit {0}
 
 begins : (l : Lexeme) (p : Position) → Begins (beginning l) (item l p)
@@ -35,6 +44,7 @@ begins (Reserved t) p = refl
 begins (Sign token.LeftParen) p = refl
 begins (Sign token.LeftBracket) p = refl
 begins (Sign token.MapStart) p = refl
+begins (Sign token.LeftBrace) p = refl
 begins _ p = tt
 
 pub begun : {v : Beginning} (s : Point) → beginning (op_at s) ≡ v → Begins v (next_at code s)
@@ -95,7 +105,50 @@ pub keyed : {v : KeyPlace} (quoted first : Bool) (s : Point) → key_place quote
     → Keys v (next_at code s)
 keyed quoted first s e = subst (λ v. Keys v (next_at code s)) e (keys quoted first (op_at s) (pos_at s))
 
+-- ---- where a statement begins, and after one
+
+abbrev pub Starts : StatementStart → Item → Type 0
+Starts start.Empty i = i ≡ item (Sign token.SemiColon) i.at
+Starts start.Block i = i ≡ item (Sign token.LeftBrace) i.at
+Starts start.Let i = i ≡ item (Sign (keyword_of false)) i.at
+Starts start.Const i = i ≡ item (Sign (keyword_of true)) i.at
+Starts start.Expression i = Unit {0}
+
+starts : (l : Lexeme) (p : Position) → Starts (statement_start l) (item l p)
+starts (Sign token.SemiColon) p = refl
+starts (Sign token.LeftBrace) p = refl
+starts (Sign token.Let) p = refl
+starts (Sign token.Const) p = refl
+starts _ p = tt
+
+pub started : {v : StatementStart} (s : Point) → statement_start (op_at s) ≡ v → Starts v (next_at code s)
+started s e = subst (λ v. Starts v (next_at code s)) e (starts (op_at s) (pos_at s))
+
+abbrev pub Separates : AfterStatement → Item → Type 0
+Separates after.SemiColon i = i ≡ item (Sign token.SemiColon) i.at
+Separates _ i = Unit {0}
+
+separates : (closing : Closing) (l : Lexeme) (p : Position) → Separates (after_statement closing l) (item l p)
+separates Brace (Sign token.SemiColon) p = refl
+separates Brace (Sign token.RightBrace) p = tt
+separates Brace _ p = tt
+separates EndMark (Sign token.SemiColon) p = refl
+separates EndMark (Sign token.EOF) p = tt
+separates EndMark _ p = tt
+
+pub separated : {v : AfterStatement} (closing : Closing) (s : Point) → after_statement closing (op_at s) ≡ v
+    → Separates v (next_at code s)
+separated closing s e = subst (λ v. Separates v (next_at code s)) e (separates closing (op_at s) (pos_at s))
+
 -- ---- one token
+
+pub equals_is : (l : Lexeme) (p : Position) → is_equals l ≡ true → item l p ≡ item (Sign token.Equals) p
+equals_is (Sign token.Equals) p e = refl
+equals_is _ p e = absurd cc
+
+pub no_name : (l : Lexeme) → is_name l ≡ false → name_due l ≡ Wrong (no_variable l)
+no_name (Name t) e = absurd cc
+no_name _ e = refl
 
 pub name_is : (l : Lexeme) (p : Position) → is_name l ≡ true → item l p ≡ item (Name (text_of l)) p
 name_is (Name t) p e = refl

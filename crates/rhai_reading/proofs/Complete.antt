@@ -5,6 +5,7 @@ pub mod Calls
 pub mod Literals
 pub mod Chains
 pub mod Runs
+pub mod Statements
 pub mod Whole
 use Rattle.std.proofs.Common.{Bool, true}
 use Rattle.rhai_grammar.specs.Delivered.{Point}
@@ -12,8 +13,12 @@ use Rattle.rhai_grammar.specs.Contexts.{Context, Live}
 use Rattle.rhai_grammar.specs.Forms as form
 use Rattle.rhai_grammar.specs.Forms.{Primary, Base, Links, Operand, Arguments, Items, Elements, Fields, Run, Just}
 use Rattle.rhai_grammar.specs.Forms.{Binary}
-use Rattle.rhai_grammar.specs.Trees.{tree}
-use Rattle.rhai_grammar.specs.Demands.{Met}
+use Rattle.rhai_grammar.specs.Trees.{statement_trees, tree}
+use Rattle.rhai_grammar.specs.Demands.{Met, Nothing}
+use Rattle.rhai_grammar.specs.Definitions.{after_statements}
+use Rattle.rhai_grammar.specs.declared.role.Closing.TheVariants.{EndMark}
+use Rattle.rhai_lower.specs.Nodes.{no_statements}
+use Rattle.rhai_reading.proofs.Reaches.{reached_end}
 use Rattle.rhai_grammar.specs.Written as W
 use Rattle.rhai_reading.specs.Reading as R
 use Rattle.rhai_reading.specs.Reading.{body}
@@ -22,11 +27,14 @@ use Rattle.rhai_reading.specs.Histories.{Done}
 use Rattle.rhai_reading.proofs.Rules.{at}
 use Rattle.rhai_reading.proofs.Complete.Law.{PrimaryRead, BaseRead, LinksRead, OperandRead, ArgumentsRead, ItemsRead}
 use Rattle.rhai_reading.proofs.Complete.Law.{ElementsRead, FieldsRead, RunRead}
+use Rattle.rhai_reading.proofs.Complete.Law.{ExprStatementRead, InitializerRead, StatementRead, StatementsRead, BodyRead}
+use Rattle.rhai_grammar.specs.Forms.{Body, ExprStatement, Initializer, Statement}
 use Rattle.rhai_reading.proofs.Complete.Operands as O
 use Rattle.rhai_reading.proofs.Complete.Calls as C
 use Rattle.rhai_reading.proofs.Complete.Literals as L
 use Rattle.rhai_reading.proofs.Complete.Chains as K
 use Rattle.rhai_reading.proofs.Complete.Runs as N
+use Rattle.rhai_reading.proofs.Complete.Statements as T
 use Rattle.rhai_reading.proofs.Complete.Whole.{expression, whole}
 
 mutual
@@ -37,6 +45,7 @@ mutual
   primary (form.Group opening inside closing) = O.group opening inside closing (expression inside (run inside))
   primary (form.Array opening list) = L.array opening list (elements list)
   primary (form.Map opening list) = L.object_map opening list (fields list)
+  primary (form.BlockValue opening f) = T.block_value opening f (block f)
   primary (form.Zero range pos) = O.zero range pos
 
   base : (x : Base) → BaseRead x
@@ -81,6 +90,37 @@ mutual
   run (Just x) = N.just x (operand x)
   run (Binary op pos l r) = N.binary op pos l r (run l) (run r)
 
+  expr_statement : (x : ExprStatement) → ExprStatementRead x
+  expr_statement (form.Evaluate f) = T.evaluate f (expression f (run f))
+  expr_statement (form.Assign f op pos value) =
+      T.assign f op pos value (expression f (run f)) (expression value (run value))
+
+  initializer : (x : Initializer) → InitializerRead x
+  initializer form.NoValue = T.no_value
+  initializer (form.Valued equals f) = T.valued equals f (expression f (run f))
+
+  statement : (x : Statement) → StatementRead x
+  statement (form.EmptyStatement pos) = T.empty_statement pos
+  statement (form.Expression x) = T.expression_statement x (expr_statement x)
+  statement (form.Define constant pos name name_at value) =
+      T.define constant pos name name_at value (initializer value)
+  statement (form.Block opening f) = T.block_statement opening f (block f)
+
+  statements : (x : form.Statements) → StatementsRead x
+  statements form.NoStatement = T.no_statements
+  statements (form.LastStatement f) = T.last_statement f (statement f)
+  statements (form.Ended f semicolon rest) = T.ended f semicolon rest (statement f) (statements rest)
+  statements (form.Standing f rest) = T.standing f rest (statement f) (statements rest)
+
+  block : (x : Body) → BodyRead x
+  block (form.Many fs closing) = T.many fs closing (statements fs)
+  block (form.Single x closing) = T.single x closing (expr_statement x)
+
 pub complete : (c : Context) (w : Live) (f : Run) (s t : Point) (b : Bool) → Met (W.whole_expression f c w) s t
     → H.Runs (body (R.Whole c w)) (at s b) (Done (tree f w) (at t true))
 complete c w f s t b m = whole c w (expression f (run f) c w _ s t b m)
+
+pub complete_script : (c : Context) (w : Live) (fs : form.Statements) (s t : Point) (b : Bool)
+    → Met (W.whole_script fs c w) s t → (looked : Bool) × H.Runs (body (R.Script c w)) (at s b)
+    (Done (statement_trees fs w, after_statements fs w) (at t looked))
+complete_script c w fs s t b m = reached_end (statements fs EndMark c w no_statements Nothing s t b m)

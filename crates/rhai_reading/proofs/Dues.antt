@@ -25,6 +25,7 @@ stands : (d : DueToken) (l : Lexeme) (p : Position) → is_due d l ≡ true → 
 stands due.RightParen (Sign token.RightParen) p e = refl
 stands due.RightBracket (Sign token.RightBracket) p e = refl
 stands due.Colon (Sign token.Colon) p e = refl
+stands due.RightBrace (Sign token.RightBrace) p e = refl
 stands _ _ p e = absurd cc
 
 -- the token that is due is missed at a point

@@ -24,7 +24,13 @@ use Rattle.rhai_grammar.specs.Verdicts as V
 use Rattle.rhai_grammar.specs.Written as W
 use Rattle.rhai_grammar.specs.Verdicts.{operator_known}
 use Rattle.rhai_grammar.specs.Spots.{LinkSpot, Spot}
-use Rattle.rhai_reading.proofs.Lists.{joined_properties}
+use Rattle.rhai_lower.specs.Nodes as node
+use Rattle.rhai_grammar.specs.Forms as form
+use Rattle.rhai_grammar.specs.Forms.{Body, ExprStatement, Initializer, Statement, Statements}
+use Rattle.rhai_grammar.specs.Definitions.{after_statement, after_statements}
+use Rattle.rhai_grammar.specs.Trees.{block_tree, statement_of, statement_tree, statement_trees, value_tree}
+use Rattle.rhai_grammar.specs.declared.role.Closing.{Closing}
+use Rattle.rhai_reading.proofs.Lists.{joined_properties, joined_statements}
 use Rattle.rhai_reading.proofs.Looks.{op_at}
 use Rattle.rhai_reading.proofs.Shows.{Kind}
 
@@ -154,3 +160,55 @@ members c w = record { tree = λ t f. member_tree w f; demands = member_of c w }
 
 abbrev pub wholes : Context → Live → Kind Run Node
 wholes c w = record { tree = λ t f. tree f w; demands = λ f k. W.whole_expression f c w }
+
+-- ---- statements
+
+abbrev pub expr_statements : Context → Live → Kind ExprStatement node.Statement
+expr_statements c w = record { tree = λ t f. statement_of f w; demands = λ f k. W.expr_statement f c w k }
+
+-- the name of a definition
+pub record NameForm : Type 0 where
+  pub name : Text
+  pub at : Position
+
+abbrev pub var_names : Context → Live → Kind NameForm (Text × Position)
+var_names c w = record { tree = λ t f. (f.name, f.at); demands = λ f k. W.new_name f.name f.at c w k }
+
+abbrev pub initializers : Context → Live → Position → Kind Initializer Node
+initializers c w at = record { tree = λ t f. value_tree f w; demands = λ f k. W.definition_value f c w at k }
+
+-- a definition after its keyword
+pub record DefinitionForm : Type 0 where
+  pub name : NameForm
+  pub value : Initializer
+
+abbrev pub definition_of : (constant : Bool) → Position → DefinitionForm → Statement
+definition_of constant at f = form.Define constant at f.name.name f.name.at f.value
+
+abbrev pub definitions : Context → Live → Position → (constant : Bool) → Kind DefinitionForm (node.Statement × Live)
+definitions c w at constant = record {
+  tree = λ t f. (statement_tree (definition_of constant at f) w, after_statement (definition_of constant at f) w);
+  demands = λ f k. W.new_name f.name.name f.name.at c w (W.definition_value f.value c w at k);
+}
+
+-- the position of the `}` of a block
+abbrev pub block_ends : Position → node.Statements → Kind Position node.Block
+block_ends at fs = record {
+  tree = λ t closing. node.braces fs at closing;
+  demands = λ closing k. W.due_token due.RightBrace closing k;
+}
+
+abbrev pub statements : Context → Live → Kind Statement (node.Statement × Live)
+statements c w = record {
+  tree = λ t f. (statement_tree f w, after_statement f w);
+  demands = λ f k. W.statement f c w k;
+}
+
+abbrev pub statement_lists : Closing → Context → Live → (before : node.Statements) → Kind Statements (node.Statements × Live)
+statement_lists closing c w before = record {
+  tree = λ t fs. (joined_statements before (statement_trees fs w), after_statements fs w);
+  demands = λ fs k. W.statements fs closing c w k;
+}
+
+abbrev pub blocks : Context → Live → (opening : Position) → Kind Body node.Block
+blocks c w opening = record { tree = λ t f. block_tree opening f w; demands = λ f k. W.block f c w k }

@@ -1,11 +1,11 @@
 -- Lists that grow by one at their end.
-use Rattle.std.proofs.Common.{◌≡◌, ◌+◌, List, [], ◌∷◌, ◌++◌, refl, ap, append_assoc}
+use Rattle.std.proofs.Common.{◌≡◌, ◌+◌, List, [], ◌∷◌, ◌++◌, refl, sym, ap, ◌∙◌, append_assoc}
 use Rattle.rhai_lower.specs.Texts.{Text}
 use Rattle.rhai_lower.specs.Nodes.{Node, Nodes, no_nodes, one_node, with_node, Properties, no_properties, one_property}
-use Rattle.rhai_lower.specs.Nodes.{with_property}
+use Rattle.rhai_lower.specs.Nodes.{with_property, Statement, Statements, noop, no_statements, one_statement, with_statement}
 use Rattle.rhai_lower.specs.declared.position.Position.{Position}
 use Rattle.rhai_grammar.specs.Operators.{joined}
-use Rattle.rhai_grammar.specs.Trees.{node_count}
+use Rattle.rhai_grammar.specs.Trees.{kept, node_count, with_kept}
 
 -- nodes after those before them
 pub added : (ns : Nodes) (x : Node) (ms : Nodes) → joined (with_node ns x) ms ≡ joined ns (one_node x ms)
@@ -46,3 +46,26 @@ no_property (one_property key pos x ps) = ap (one_property key pos x) (no_proper
 -- what stands after one more
 pub spot_after_one_more : {A : Type 0} (xs : List A) (x : A) (ys : List A) → (xs ++ (x ∷ [])) ++ ys ≡ xs ++ (x ∷ ys)
 spot_after_one_more xs x ys = append_assoc xs (x ∷ []) ys
+
+-- ---- statements: an empty one leaves no trace
+
+abbrev pub joined_statements : Statements → Statements → Statements
+joined_statements no_statements more = more
+joined_statements (one_statement f fs) more = one_statement f (joined_statements fs more)
+
+added_statement : (fs : Statements) (f : Statement) (more : Statements)
+    → joined_statements (with_statement fs f) more ≡ joined_statements fs (one_statement f more)
+added_statement no_statements f more = refl
+added_statement (one_statement g fs) f more = ap (one_statement g) (added_statement fs f more)
+
+pub kept_statement : (fs : Statements) (f : Statement) (more : Statements)
+    → joined_statements (with_kept fs f) more ≡ joined_statements fs (kept f more)
+kept_statement fs (noop p) more = refl
+kept_statement fs f more = added_statement fs f more
+
+pub no_statement : (fs : Statements) → joined_statements fs no_statements ≡ fs
+no_statement no_statements = refl
+no_statement (one_statement f fs) = ap (one_statement f) (no_statement fs)
+
+pub last_kept : (fs : Statements) (f : Statement) → joined_statements fs (kept f no_statements) ≡ with_kept fs f
+last_kept fs f = sym (kept_statement fs f no_statements) ∙ no_statement (with_kept fs f)

@@ -5,9 +5,18 @@ pub mod Calls
 pub mod Literals
 pub mod Chains
 pub mod Runs
+pub mod Statements
 pub mod Whole
-use Rattle.std.proofs.Common.{ℕ, zero, suc, Bool}
+use Rattle.std.proofs.Common.{◌≡◌, ℕ, zero, suc, Bool}
+use Rattle.rhai_grammar.specs.Contexts.{Context, Live}
+use Rattle.rhai_grammar.specs.Definitions.{after_statements}
 use Rattle.rhai_grammar.specs.Delivered.{Point}
+use Rattle.rhai_grammar.specs.Demands.{Met, Missed}
+use Rattle.rhai_grammar.specs.Forms as F
+use Rattle.rhai_grammar.specs.Seen.{StandsAtLast}
+use Rattle.rhai_grammar.specs.Trees.{statement_trees}
+use Rattle.rhai_grammar.specs.Written as W
+use Rattle.rhai_reading.proofs.Joins.{cursor}
 use Rattle.rhai_reading.specs.Reading as R
 use Rattle.rhai_reading.specs.Reading.{Goal, body}
 use Rattle.rhai_reading.specs.Histories.{exec, calls as deep}
@@ -21,6 +30,7 @@ use Rattle.rhai_reading.proofs.Sound.Calls as C
 use Rattle.rhai_reading.proofs.Sound.Literals as L
 use Rattle.rhai_reading.proofs.Sound.Chains as K
 use Rattle.rhai_reading.proofs.Sound.Runs as N
+use Rattle.rhai_reading.proofs.Sound.Statements as T
 use Rattle.rhai_reading.proofs.Sound.Whole as H
 
 -- one step, where all calls are sound
@@ -40,6 +50,14 @@ step ih (R.Elements c w opening before) s b = tells (L.element_list ih c w openi
 step ih (R.Fields c w opening before) s b = tells (L.field_list ih c w opening before s b)
 step ih (R.NextKey c before) s b = tells (L.next_key _ c before s b)
 step ih R.NextOperator s b = tells (N.next_operator _ s b)
+step ih (R.ExprStatement c w) s b = tells (T.evaluated ih c w s b)
+step ih (R.VarName c w) s b = tells (T.var_name ih c w s b)
+step ih (R.Initializer c w pos) s b = tells (T.initializer ih c w s pos b)
+step ih (R.Definition c w pos constant) s b = tells (T.definition ih c w s pos constant b)
+step ih (R.Statement c w) s b = tells (T.statement ih c w s b)
+step ih (R.Statements closing c w before) s b = tells (T.list_of ih closing c w before s b)
+step ih (R.Block c w opening) s b = tells (T.block ih c w opening s b)
+step ih (R.BlockEnd opening fs) s b = tells (T.block_end _ opening fs s b)
 step ih (R.BinaryOp c w pos p lhs) s b =
     λ q from L live is height suits ended stands. tells
     (N.run ih c w pos p lhs s b q from L live is height suits ended stands)
@@ -57,3 +75,11 @@ none _ s b = record { told = tt }
 pub sound : (n : ℕ) (g : Goal) (s : Point) (b : Bool) → Sound g s (deep n g (at s b))
 sound zero g s b = none g s b
 sound (suc n) g s b = step (record { of = sound n }) g s b
+
+-- a script
+pub script : (n : ℕ) (c : Context) (w : Live) (s : Point) (b : Bool)
+    → Ensures (λ x t. (fs : F.Statements) × ((statement_trees fs w, after_statements fs w) ≡ x)
+    × Met (W.whole_script fs c w) s t)
+    (λ e u. (fs : F.Statements) × Missed (W.whole_script fs c w) s e u.point × StandsAtLast e (cursor u))
+    (deep n (R.Script c w) (at s b))
+script n c w s b = H.script c w s _ (sound n (R.Script c w) s b)

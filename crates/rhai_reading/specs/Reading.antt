@@ -5,7 +5,10 @@ use Rattle.std.specs.Prelude.{if◌then◌else◌}
 use Rattle.rhai_lower.specs.Texts.{Text}
 use Rattle.rhai_lower.specs.Lexemes.{Lexeme, text_of}
 use Rattle.rhai_lower.specs.Nodes.{Node, Nodes, Properties, unit, integer, array, object_map, property, this, no_nodes}
-use Rattle.rhai_lower.specs.Nodes.{with_node, no_properties, with_property, position_of}
+use Rattle.rhai_lower.specs.Nodes.{with_node, no_properties, with_property, position_of, noop, expression, assignment}
+use Rattle.rhai_lower.specs.Nodes.{block_statement, block_value, braces, no_statements, one_statement}
+use Rattle.rhai_lower.specs.Nodes as node
+use Rattle.rhai_lower.specs.Positions.{nowhere}
 use Rattle.rhai_lower.specs.declared.position.Position.{Position}
 use Rattle.rhai_grammar.specs.Causes as cause
 use Rattle.rhai_grammar.specs.Causes.{Refusal, refusal}
@@ -14,7 +17,18 @@ use Rattle.rhai_grammar.specs.Settings.{in_function}
 use Rattle.rhai_grammar.specs.DueTokens.{is_due, not_due}
 use Rattle.rhai_grammar.specs.declared.due.DueToken.{DueToken}
 use Rattle.rhai_grammar.specs.declared.due.DueToken.TheVariants as due
-use Rattle.rhai_grammar.specs.Contexts.{Context, Live, full, has_room, level_up}
+use Rattle.rhai_grammar.specs.Contexts.{Context, Live, full, has_block_values, has_room, has_single_blocks, in_block, level_up}
+use Rattle.rhai_grammar.specs.Definitions.{defined, may_define}
+use Rattle.rhai_grammar.specs.Targets.{is_assignment, is_constant_use, is_equals, target_fault, update_of}
+use Rattle.rhai_grammar.specs.Statements.{after_statement, ends_itself, no_variable, statement_place, statement_start}
+use Rattle.rhai_grammar.specs.declared.role.AfterStatement.{AfterStatement}
+use Rattle.rhai_grammar.specs.declared.role.AfterStatement.TheVariants as ends
+use Rattle.rhai_grammar.specs.declared.role.Closing.{Closing}
+use Rattle.rhai_grammar.specs.declared.role.Closing.TheVariants.{Brace, EndMark}
+use Rattle.rhai_grammar.specs.declared.role.StatementPlace.{StatementPlace}
+use Rattle.rhai_grammar.specs.declared.role.StatementPlace.TheVariants as stands
+use Rattle.rhai_grammar.specs.declared.role.StatementStart.{StatementStart}
+use Rattle.rhai_grammar.specs.declared.role.StatementStart.TheVariants as start
 use Rattle.rhai_grammar.specs.declared.list.AfterPart.{AfterPart}
 use Rattle.rhai_grammar.specs.declared.list.AfterPart.TheVariants as after
 use Rattle.rhai_grammar.specs.declared.list.CommaList.{CommaList}
@@ -42,7 +56,7 @@ use Rattle.rhai_grammar.specs.Signs.{signed, sign_holds, malformed}
 use Rattle.rhai_grammar.specs.Operators.{operator_tree, boolean_holds, mismatched}
 use Rattle.rhai_grammar.specs.Strengths.{Follower, Operator, Unknown, Other, follower_of}
 use Rattle.rhai_grammar.specs.Trees.{name_tree, variable_of, is_variable, node_count, call_tree, bracket_link}
-use Rattle.rhai_grammar.specs.Trees.{member_link, method_tree}
+use Rattle.rhai_grammar.specs.Trees.{member_link, method_tree, definition_tree, with_kept}
 
 -- What is read by a call: a constructor for each reader of the code, with what it is given.
 pub data Goal : Type 0 where
@@ -76,6 +90,25 @@ pub data Goal : Type 0 where
   NextOperator : Goal
   -- the operators after a left operand that go on with a run of this strength; at is where the next raise is refused
   BinaryOp : Context → Live → (at : Position) (parent : ℕ) (lhs : Node) → Goal
+  -- an expression or an assignment
+  ExprStatement : Context → Live → Goal
+  -- the name of a definition
+  VarName : Context → Live → Goal
+  -- the value of a definition, which is unit where it is absent; at is where the raise of its level is refused
+  Initializer : Context → Live → (at : Position) → Goal
+  -- a definition after its keyword, which is at a position
+  Definition : Context → Live → (at : Position) (constant : Bool) → Goal
+  Statement : Context → Live → Goal
+  -- the statements of a list, after these, up to the token that closes it
+  Statements : Closing → Context → Live → (before : node.Statements) → Goal
+  -- a block after its `{`, which is at a position
+  Block : Context → Live → (at : Position) → Goal
+  -- the `}` of a block of these statements
+  BlockEnd : (at : Position) (fs : node.Statements) → Goal
+
+-- a script, up to the end mark
+abbrev pub Script : Context → Live → Goal
+Script c w = Statements EndMark c w no_statements
 
 -- what it gives
 abbrev pub Val : Goal → Type 0
@@ -95,6 +128,14 @@ Val (Fields c w at before) = Properties
 Val (NextKey c before) = Option (Text × Position)
 Val NextOperator = Option (ℕ × Bool)
 Val (BinaryOp c w at parent lhs) = Node
+Val (ExprStatement c w) = node.Statement
+Val (VarName c w) = Text × Position
+Val (Initializer c w at) = Node
+Val (Definition c w at constant) = node.Statement × Live
+Val (Statement c w) = node.Statement × Live
+Val (Statements closing c w before) = node.Statements × Live
+Val (Block c w at) = node.Block
+Val (BlockEnd at fs) = node.Block
 
 -- a reader that gives an A
 pub data Prog (A : Type 0) : Type 0 where
@@ -152,6 +193,10 @@ primary_at c w l at begin.Group =
 primary_at c w l at begin.Array = Take (raised c at (λ d. Call (Elements d w at no_nodes) (λ ns. Ret (array ns at))))
 primary_at c w l at begin.Map =
     Take (raised c at (λ d. Call (Fields d w at no_properties) (λ ps. Ret (object_map ps at))))
+primary_at c w l at begin.Block =
+    if has_block_values c then Take (raised c at (λ d. raised d at (λ e.
+    Call (Block e w at) (λ b. Ret (block_value b)))))
+    else Fail (refusal (no_operand l) at)
 primary_at c w l at begin.Sign = Fail (refusal (unexpected l) at)
 primary_at c w l at begin.Range = Ret (integer (lib.IntN.pos 0) at)
 primary_at c w l at begin.Nothing = Fail (refusal (no_operand l) at)
@@ -310,6 +355,71 @@ binary_at c w at parent lhs None = Ret lhs
 binary_at c w at parent lhs (Some op) =
     if continues parent op.0 op.1 then Peek (binary_on c w at parent lhs op.0) else Ret lhs
 
+-- ---- statements
+
+-- after the value of an assignment, whose target may be refused
+abbrev pub assigned_on : node.Statement → Option Refusal → Prog node.Statement
+assigned_on f None = Ret f
+assigned_on f (Some e) = Fail e
+
+-- after an expression
+abbrev pub evaluated_at : Context → Live → Node → Lexeme → Position → Prog node.Statement
+evaluated_at c w x l at =
+    if is_assignment l then Take (Call (Expression c w) (λ y.
+    assigned_on (assignment (update_of l) x y at) (target_fault (is_constant_use w.slots x) l at x)))
+    else Ret (expression x)
+
+-- where the name of a definition is due
+abbrev pub var_name_at : Context → Live → Lexeme → Position → Prog (Text × Position)
+var_name_at c w l at =
+    if is_name l then Take (if may_define c (text_of l) w then Ret (text_of l, at)
+    else Fail (refusal (cause.VariableExists (text_of l)) at))
+    else Fail (refusal (no_variable l) at)
+
+-- after the name of a definition
+abbrev pub value_at : Context → Live → Position → Lexeme → Position → Prog Node
+value_at c w at l pos =
+    if is_equals l then Take (raised c at (λ d. Call (Expression d w) Ret)) else Ret (unit nowhere)
+
+-- where a definition stands
+abbrev pub definition_on : Context → Live → Position → (constant : Bool) → Prog (node.Statement × Live)
+definition_on c w at constant = Take (raised c at (λ d. Call (Definition d w at constant) Ret))
+
+-- where a statement begins
+abbrev pub statement_at : Context → Live → Position → StatementStart → Prog (node.Statement × Live)
+statement_at c w at start.Empty = Take (Ret (noop at, w))
+statement_at c w at start.Block =
+    Take (raised c at (λ d. raised d at (λ e. Call (Block e w at) (λ b. Ret (block_statement b, w)))))
+statement_at c w at start.Let = definition_on c w at false
+statement_at c w at start.Const = definition_on c w at true
+statement_at c w at start.Expression = raised c at (λ d. Call (ExprStatement d w) (λ f. Ret (f, w)))
+
+-- after a statement that does not end by itself
+abbrev pub separated_at : Closing → Context → Live → node.Statements → Lexeme → Position → AfterStatement
+    → Prog (node.Statements × Live)
+separated_at closing c w before l at ends.SemiColon = Take (Call (Statements closing c w before) Ret)
+separated_at closing c w before l at ends.Close = Ret (before, w)
+separated_at closing c w before l at ends.Nothing = Fail (refusal (missing (codes ";") l) at)
+
+-- after a statement
+abbrev pub statements_on : Closing → Context → Live → node.Statements → (ends : Bool)
+    → Prog (node.Statements × Live)
+statements_on closing c w before ends =
+    if ends then Call (Statements closing c w before) Ret
+    else Peek (λ l at. separated_at closing c w before l at (after_statement closing l))
+
+-- where a statement of a list may begin
+abbrev pub statements_at : Closing → Context → Live → node.Statements → Lexeme → Position → StatementPlace
+    → Prog (node.Statements × Live)
+statements_at closing c w before l at stands.Close = Ret (before, w)
+statements_at closing c w before l at stands.Statement =
+    Call (Statement c w) (λ f. statements_on closing c f.1 (with_kept before f.0) (ends_itself f.0))
+statements_at closing c w before l at stands.Nothing = Fail (refusal (missing (codes "}") l) at)
+
+abbrev pub block_on : Context → Live → Position → (single : Bool) → Prog node.Block
+block_on c w at true = Call (ExprStatement c w) (λ f. Call (BlockEnd at (one_statement f no_statements)) Ret)
+block_on c w at false = Call (Statements Brace c (in_block w) no_statements) (λ fs. Call (BlockEnd at fs.0) Ret)
+
 abbrev pub body : (g : Goal) → Prog (Val g)
 body (Whole c w) = Call (Expression c w) (λ e. Peek (whole_at e))
 body (Expression c w) =
@@ -329,3 +439,14 @@ body (Fields c w opening before) = Call (NextKey c before) (field_on c w opening
 body (NextKey c before) = Peek (λ l at. key_on c before at (next_key c.settings before l))
 body NextOperator = Peek (λ l at. next_operator_at at (follower_of l))
 body (BinaryOp c w at parent lhs) = Call NextOperator (binary_at c w at parent lhs)
+body (ExprStatement c w) = Call (Expression c w) (λ x. Peek (evaluated_at c w x))
+body (VarName c w) = Peek (var_name_at c w)
+body (Initializer c w at) = Peek (value_at c w at)
+body (Definition c w at constant) =
+    Call (VarName c w) (λ name. Call (Initializer c w at) (λ x.
+    Ret (definition_tree constant at name.0 x w, defined name.0 constant w)))
+body (Statement c w) = Peek (λ l at. statement_at c w at (statement_start l))
+body (Statements closing c w before) =
+    Peek (λ l at. statements_at closing c w before l at (statement_place closing l))
+body (Block c w at) = block_on c w at (has_single_blocks c)
+body (BlockEnd at fs) = Peek (λ l end. match_token due.RightBrace (Ret (braces fs at end)))

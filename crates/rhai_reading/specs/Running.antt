@@ -6,7 +6,8 @@ use Rattle.rhai_grammar.specs.Cursors.{Cursor, asked, looking, taking, left}
 use Rattle.rhai_grammar.specs.declared.error.ParseError.{ParseError}
 use Rattle.rhai_reading.specs.Reading.{Goal, Whole, Expression, Operand, Primary, Postfix, Arguments, Items, Elements}
 use Rattle.rhai_reading.specs.Reading.{Fields, NextKey, Called, Links, Index, Member, NextOperator, BinaryOp, Val}
-use Rattle.rhai_reading.specs.Reading.{Prog}
+use Rattle.rhai_reading.specs.Reading.{ExprStatement, VarName, Initializer, Definition, Statement, Statements, Block}
+use Rattle.rhai_reading.specs.Reading.{BlockEnd, Prog}
 use Rattle.rhai_reading.specs.Reading.{Ret, Fail, Peek, Take, Call, body}
 
 -- what came of a reader, with the cursor that it left
@@ -51,6 +52,14 @@ rank (Index c w indexed) = 4
 rank (Member c w) = 0
 rank NextOperator = 0
 rank (BinaryOp c w at parent lhs) = 1
+rank (ExprStatement c w) = 4
+rank (VarName c w) = 0
+rank (Initializer c w at) = 0
+rank (Definition c w at constant) = 1
+rank (Statement c w) = 5
+rank (Statements closing c w before) = 6
+rank (Block c w at) = 7
+rank (BlockEnd at fs) = 0
 
 -- the work that is left, above every rank for each token
 abbrev pub work : ℕ → ℕ → ℕ

@@ -2,9 +2,14 @@
 //! does, and the laws say what that means in terms of the definitions.
 #![tactic(auto)]
 
-ghost use Rattle.rhai_grammar.specs.Laws.{FormsHaveOneTree};
+ghost use Rattle.rhai_grammar.specs.Laws.{FormsHaveOneTree, ScriptsHaveOneTree};
 
 /// Two forms that fit and spell the same stream have one tree.
 pub fn forms_have_one_tree()
     ensures { FormsHaveOneTree }
+{}
+
+/// Two scripts that fit and spell the same stream have the same statements, and leave the same slots.
+pub fn scripts_have_one_tree()
+    ensures { ScriptsHaveOneTree }
 {}

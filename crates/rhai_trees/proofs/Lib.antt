@@ -2,3 +2,4 @@ pub mod SignLemmas
 pub mod OperatorLemmas
 pub mod KindLemmas
 pub mod ChainLemmas
+pub mod StatementLemmas

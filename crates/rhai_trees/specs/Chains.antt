@@ -55,6 +55,11 @@ abbrev pub nest_until : (last : Bool) → Node → List chain.Link → Node
 nest_until last x [] = x
 nest_until last x (l ∷ ls) = chain.link_node l (chain.is_last ls && last) x (nest_until last l.item ls)
 
+-- The operand for which the index in a bracket is tested: the one that the bracket stands directly after.
+abbrev pub indexed_by : (root : Node) (before : List chain.Link) → Option Node
+indexed_by x [] = Some x
+indexed_by x _ = None
+
 abbrev pub are_none : Nodes → Bool
 are_none no_nodes = true
 are_none _ = false

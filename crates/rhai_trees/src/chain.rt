@@ -5,8 +5,8 @@ ghost use Rattle.rhai_lower.specs.View.{called, view, views};
 ghost use Rattle.rhai_lower.specs.declared.ast.FnCallExpr.{out-FnCallExpr};
 ghost use Rattle.rhai_grammar.specs.Causes.{MemoryIsNowhere, is_for_memory, refusal_of};
 ghost use Rattle.rhai_grammar.specs.Chains.{chain_of, chained, index_refusal, last_fault, link_fault, link_node, nest};
-ghost use Rattle.rhai_trees.specs.Chains.{is_no_method, link_view, link_views, links_left, method_fault, open_links};
-ghost use Rattle.rhai_trees.specs.Chains.{with_next};
+ghost use Rattle.rhai_trees.specs.Chains.{indexed_by, is_no_method, link_view, link_views, links_left, method_fault};
+ghost use Rattle.rhai_trees.specs.Chains.{open_links, with_next};
 
 use crate::kind::index_fault;
 use rhai_grammar::{InputError, ParseError, ParseErrorType, ParseResult};
@@ -173,6 +173,17 @@ fn link_node(alloc: Global, link: Link, last: bool, before: Expr) -> Result<Expr
             };
             Ok(Expr::Dot(sides, flags, link.pos))
         }
+    }
+}
+
+/// The operand for which the index in a bracket is tested, if the bracket stands after the operand `root` and the links
+/// `before`: only where it stands directly after the operand. Does not allocate.
+pub fn indexed_operand<'a>(root: &'a Expr, before: &[Link]) -> Option<&'a Expr>
+    ensures { option_map (λ x. view x.now) result ≡ indexed_by (view root.now) (link_views before.now) }
+{
+    match before {
+        [] => Some(root),
+        _ => None,
     }
 }
 

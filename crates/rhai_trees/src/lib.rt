@@ -1,4 +1,5 @@
-//! Operations on trees that do not use the stream: signs, operators and links with their operands, and tests on trees.
+//! Operations on trees that do not use the stream: signs, operators and links with their operands, statements, and
+//! tests on trees.
 #![tactic(auto)]
 
 mod call;
@@ -6,8 +7,15 @@ pub mod chain;
 pub mod kind;
 pub mod operator;
 pub mod sign;
+pub mod statement;
+pub mod target;
 
-pub use chain::{Link, LinkKind, make_chain, test_index, test_links};
+pub use chain::{Link, LinkKind, indexed_operand, make_chain, test_index, test_links};
 pub use kind::{index_fault, is_constant, is_literal_value, not_boolean, not_iterable};
 pub use operator::make_binary;
 pub use sign::make_unary;
+pub use statement::{
+    ends_itself, make_assignment, make_block, make_block_statement, make_block_value,
+    make_definition, make_expression, push_statement,
+};
+pub use target::{slot_of, test_target};

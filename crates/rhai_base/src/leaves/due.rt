@@ -24,6 +24,7 @@ fn text_of_due(due: DueToken) -> &'static str
         DueToken::RightParen => ")",
         DueToken::RightBracket => "]",
         DueToken::Colon => ":",
+        DueToken::RightBrace => "}",
     }
 }
 
@@ -35,6 +36,7 @@ fn is_due(due: DueToken, token: &Token) -> bool
         DueToken::RightParen => matches!(token, Token::RightParen),
         DueToken::RightBracket => matches!(token, Token::RightBracket),
         DueToken::Colon => matches!(token, Token::Colon),
+        DueToken::RightBrace => matches!(token, Token::RightBrace),
     }
 }
 

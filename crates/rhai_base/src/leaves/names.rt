@@ -13,11 +13,11 @@ ghost use Rattle.rhai_grammar.specs.Trees.{call_tree, is_variable, method_tree, 
 ghost use Rattle.rhai_base.specs.Settings.{settings_of};
 ghost use Rattle.rhai_base.specs.Words.{word_result};
 
-use crate::lookup::place_of;
+use crate::frame::Frame;
 use crate::settings::{ParseSettingFlags, ParseSettings};
 use rhai_grammar::{InputError, ParseError, ParseErrorType, ParseResult};
 use rhai_lower::{
-    Expr, FnCallExpr, Namespace, Position, Scope, VariableExpr, is_reserved_keyword_or_symbol,
+    Expr, FnCallExpr, Namespace, Position, VariableExpr, is_reserved_keyword_or_symbol,
 };
 use std::alloc::{AllocError, Global};
 use std::num::NonZeroUsize;
@@ -53,22 +53,21 @@ fn variable(
     Ok(Expr::Variable(Box::new(alloc, variable)?, pos))
 }
 
-/// What a name is among these slots: a variable, or where something calls it the name of a call, which is no
-/// variable's.
-/// The error is that there is no memory for it.
+/// What a name is among the slots of this frame: a variable, or where something calls it the name of a call, which is
+/// no variable's. The error is that there is no memory for it.
 pub fn name_node(
     alloc: Global,
-    slots: &Scope,
+    frame: &Frame<'_>,
     name: RcStr,
     called: bool,
     pos: Position,
 ) -> Result<Expr, AllocError>
-    ensures { IfOk result (λ e. view e ≡ name_tree slots.now called (rc_str_bytes name) pos) }
+    ensures { IfOk result (λ e. view e ≡ name_tree frame.now.live.slots called (rc_str_bytes name) pos) }
 {
     if called {
         return variable(alloc, None, name, pos);
     }
-    let index = place_of(slots, &name);
+    let index = frame.place_of(&name);
     variable(alloc, index, name, pos)
 }
 

@@ -31,6 +31,7 @@ pub fn what_begins(token: &Token) -> Beginning
         Token::LeftParen => Beginning::Group,
         Token::LeftBracket => Beginning::Array,
         Token::MapStart => Beginning::Map,
+        Token::LeftBrace => Beginning::Block,
         Token::Minus | Token::UnaryMinus | Token::Plus | Token::UnaryPlus | Token::Bang => {
             Beginning::Sign
         }

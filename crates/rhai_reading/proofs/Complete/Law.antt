@@ -23,6 +23,10 @@ use Rattle.rhai_reading.specs.Histories.{Outcome, Done, Runs}
 use Rattle.rhai_reading.proofs.Rules.{at}
 use Rattle.rhai_reading.proofs.Shows.{Kind}
 use Rattle.rhai_reading.proofs.FormKinds.{expressions, operands, items, elements, fields, links}
+use Rattle.rhai_reading.proofs.FormKinds.{expr_statements, initializers, statements, statement_lists, blocks}
+use Rattle.rhai_lower.specs.Nodes as node
+use Rattle.rhai_grammar.specs.Forms.{Body, ExprStatement, Initializer, Statement, Statements}
+use Rattle.rhai_grammar.specs.declared.role.Closing.{Closing}
 use Rattle.rhai_reading.proofs.Reaches.{Reaches}
 use Rattle.rhai_reading.proofs.Looks.{op_at, follower_at, climb}
 use Rattle.rhai_reading.proofs.Strengths.{next_continues}
@@ -135,3 +139,22 @@ LinksRead x = (q : LinkSpot) (w : Live) → IsRead (R.Links w q) (links w q) x
 
 abbrev pub RunRead : Run → Type 0
 RunRead f = (q : Spot) (k : Demands) (s t : Point) (b : Bool) → Met (W.run f q k) s t → Reads f q k s b t
+
+-- ---- statements
+
+abbrev pub ExprStatementRead : ExprStatement → Type 0
+ExprStatementRead x = (c : Context) (w : Live) → IsRead (R.ExprStatement c w) (expr_statements c w) x
+
+abbrev pub InitializerRead : Initializer → Type 0
+InitializerRead x = (c : Context) (w : Live) (at : Position) → IsRead (R.Initializer c w at) (initializers c w at) x
+
+abbrev pub StatementRead : Statement → Type 0
+StatementRead x = (c : Context) (w : Live) → IsRead (R.Statement c w) (statements c w) x
+
+abbrev pub StatementsRead : Statements → Type 0
+StatementsRead x =
+    (closing : Closing) (c : Context) (w : Live) (before : node.Statements)
+    → IsRead (R.Statements closing c w before) (statement_lists closing c w before) x
+
+abbrev pub BodyRead : Body → Type 0
+BodyRead x = (c : Context) (w : Live) (at : Position) → IsRead (R.Block c w at) (blocks c w at) x

@@ -41,6 +41,7 @@ begins_here (form.Word word pos) c w ranged k s t m = looks (λ l. is_primary (b
 begins_here (form.Group opening inside closing) c w ranged k s t m = looks (λ l. is_primary (beginning l)) s _ m.0 refl
 begins_here (form.Array opening list) c w ranged k s t m = looks (λ l. is_primary (beginning l)) s _ m.0 refl
 begins_here (form.Map opening list) c w ranged k s t m = looks (λ l. is_primary (beginning l)) s _ m.0 refl
+begins_here (form.BlockValue opening f) c w ranged k s t m = looks (λ l. is_primary (beginning l)) s _ m.1.0 refl
 begins_here (form.Zero range pos) c w ranged k s t m =
     looks (λ l. is_primary (beginning l)) s _ m.1.0 (range_primary (beginning range) m.0)
 

@@ -44,18 +44,18 @@ use Rattle.rhai_reading.proofs.Sound.Law.{AllSound, any_run}
 -- ---- tests that refuse
 
 -- what is refused, if anything, may stand before the last token that was seen
-abbrev Early : Option Refusal → Type 0
+abbrev pub Early : Option Refusal → Type 0
 Early None = Unit {0}
 Early (Some e) = is_at_last e.cause ≡ false
 
-early : (f : Option Refusal) (e : Refusal) → Early f → f ≡ Some e → is_at_last e.cause ≡ false
+pub early : (f : Option Refusal) (e : Refusal) → Early f → f ≡ Some e → is_at_last e.cause ≡ false
 early f e h is = subst Early is h
 
-early_if : (b : Bool) (x y : Option Refusal) → Early x → Early y → Early (if b then x else y)
+pub early_if : (b : Bool) (x y : Option Refusal) → Early x → Early y → Early (if b then x else y)
 early_if true x y g h = g
 early_if false x y g h = h
 
-early_or : (x y : Option Refusal) → Early x → Early y → Early (option_or x y)
+pub early_or : (x y : Option Refusal) → Early x → Early y → Early (option_or x y)
 early_or None y g h = h
 early_or (Some e) y g h = g
 
@@ -80,10 +80,10 @@ index_early (Some x) key = by (index_fault x key)
     by (Some why) = refl
 
 -- nothing is refused, or something is
-unfaulted : {f : Option Refusal} {k : Demands} {s : Point} {o : Aim} → f ≡ None → Way k s o → Way (W.unfaulted f k) s o
+pub unfaulted : {f : Option Refusal} {k : Demands} {s : Point} {o : Aim} → f ≡ None → Way k s o → Way (W.unfaulted f k) s o
 unfaulted {k = k} {s = s} {o = o} e r = subst (λ f. Way (W.unfaulted f k) s o) (sym e) r
 
-faulted : {f : Option Refusal} {e : Refusal} (k : Demands) {s : Point} → f ≡ Some e → Way (W.unfaulted f k) s (Lost e s)
+pub faulted : {f : Option Refusal} {e : Refusal} (k : Demands) {s : Point} → f ≡ Some e → Way (W.unfaulted f k) s (Lost e s)
 faulted {e = e} k {s = s} is = subst (λ f. Way (W.unfaulted f k) s (Lost e s)) (sym is) (fails refl)
 
 -- ---- the index in a bracket, and the member behind a dot

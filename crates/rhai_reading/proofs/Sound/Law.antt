@@ -26,6 +26,8 @@ use Rattle.rhai_reading.proofs.Rules.{at}
 use Rattle.rhai_reading.proofs.Strengths.{next_continues}
 use Rattle.rhai_reading.proofs.FormKinds.{runs, operands, primaries, tree_before, bases, expressions, enclosed, items}
 use Rattle.rhai_reading.proofs.FormKinds.{callings, elements, fields, next_keys, links, indices, members}
+use Rattle.rhai_reading.proofs.FormKinds.{expr_statements, var_names, initializers, statements, statement_lists, blocks}
+use Rattle.rhai_reading.proofs.FormKinds.{block_ends, definitions}
 use Rattle.rhai_reading.proofs.Looks.{op_at, follower_at, operator_in}
 use Rattle.rhai_reading.proofs.Paths.{Fits, Fails, Way, Lost}
 use Rattle.rhai_reading.proofs.Shows.{Histories, Ensures, Tells, Halts, Answers, Passed}
@@ -90,6 +92,14 @@ Sound (R.BinaryOp c w pos p lhs) s o =
     (q : Spot) (from : Point) (L : Run) → q.live ≡ w → tree L q.live ≡ lhs
     → height_after q L ≡ record { settings = c; at = pos } → Suits p q.side → Ended L (follower_at s) → Stands q from L s
     → Tells (RunRead q p from) (Halts (runs q) from) o
+Sound (R.ExprStatement c w) s o = Answers (expr_statements c w) s o
+Sound (R.VarName c w) s o = Answers (var_names c w) s o
+Sound (R.Initializer c w pos) s o = Answers (initializers c w pos) s o
+Sound (R.Definition c w pos constant) s o = Answers (definitions c w pos constant) s o
+Sound (R.Statement c w) s o = Answers (statements c w) s o
+Sound (R.Statements closing c w before) s o = Answers (statement_lists closing c w before) s o
+Sound (R.Block c w opening) s o = Answers (blocks c w opening) s o
+Sound (R.BlockEnd opening fs) s o = Answers (block_ends opening fs) s o
 
 pub record AllSound (call : Histories) : Type 0 where
   pub of : (g : Goal) (s : Point) (b : Bool) → Sound g s (call g (at s b))

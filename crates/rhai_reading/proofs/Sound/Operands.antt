@@ -7,7 +7,7 @@ use Rattle.rhai_lower.specs.Nodes.{no_nodes, no_properties}
 use Rattle.rhai_grammar.specs.declared.due.DueToken.TheVariants as due
 use Rattle.rhai_grammar.specs.Delivered.{code, Point, past, is_memory}
 use Rattle.rhai_grammar.specs.Settings.{in_function}
-use Rattle.rhai_grammar.specs.Contexts.{Context, Live, level_up}
+use Rattle.rhai_grammar.specs.Contexts.{Context, Live, has_block_values, level_up}
 use Rattle.rhai_grammar.specs.declared.role.Beginning.{Beginning}
 use Rattle.rhai_grammar.specs.declared.role.Beginning.TheVariants as begin
 use Rattle.rhai_grammar.specs.Beginnings.{beginning, is_value, is_sign, is_range, omits_operand, calls}
@@ -67,6 +67,15 @@ module _ {call : Histories} (ih : AllSound call) (c : Context) (w : Live) (range
       take (raise c (form.Map (pos_at s) (form.NoField nowhere)) (λ high k. here ▹ fails high) (λ below.
       ends (ih.of (R.Fields (level_up c) w (pos_at s) no_properties) (past code s) false) (form.Map (pos_at s))
       (λ t list. refl) (λ list k o r. here ▹ below ▹ r)))
+  primary_by begin.Block e written sign m =
+      let start = begun s e in
+      let any = form.BlockValue (pos_at s) (form.Many form.NoStatement nowhere) in
+      either (has_block_values c)
+      (λ values. take (raise c any (λ high k. values ▹ start ▹ fails high) (λ below.
+      raise (level_up c) any (λ high k. values ▹ start ▹ below ▹ fails high) (λ deeper.
+      ends (ih.of (R.Block (level_up (level_up c)) w (pos_at s)) (past code s) false) (form.BlockValue (pos_at s))
+      (λ t f. refl) (λ f k o r. values ▹ start ▹ below ▹ deeper ▹ r)))))
+      (λ none. refuse any_primary (λ k. refl ▹ wrong m (rw (written, e, none))))
   primary_by begin.Sign e written sign m = absurd cc
   primary_by begin.Range e written sign m = done (form.Zero (op_at s) (pos_at s)) (λ k o r. ap is_range e ▹ refl ▹ r)
   primary_by begin.Nothing e written sign m = refuse any_primary (λ k. refl ▹ wrong m (rw (written, e)))

@@ -4,9 +4,9 @@ use Rattle.rhai_lower.specs.Nodes.{Node}
 use Rattle.rhai_grammar.specs.Delivered.{Point, is_end}
 use Rattle.rhai_grammar.specs.Contexts.{Context, Live, level_up}
 use Rattle.rhai_grammar.specs.Strengths.{Follower, Operator, Unknown, Other}
-use Rattle.rhai_grammar.specs.Forms.{Run, Just}
-use Rattle.rhai_grammar.specs.Trees.{tree}
-use Rattle.rhai_grammar.specs.Demands.{Fine, Nothing}
+use Rattle.rhai_grammar.specs.Forms.{Run, Just, Statements}
+use Rattle.rhai_grammar.specs.Trees.{statement_trees, tree}
+use Rattle.rhai_grammar.specs.Demands.{Fine, Met, Missed, Nothing}
 use Rattle.rhai_grammar.specs.Verdicts as V
 use Rattle.rhai_grammar.specs.Written as W
 use Rattle.rhai_grammar.specs.Verdicts.{run_ends, operator_known}
@@ -18,9 +18,15 @@ use Rattle.rhai_reading.proofs.Rules.{at}
 use Rattle.rhai_reading.proofs.Strengths.{Sensible, sensible, next_continues, outer}
 use Rattle.rhai_reading.proofs.Looks.{op_at, follower_at, fine as known_fine}
 use Rattle.rhai_reading.proofs.Paths.{Fits, ◌▹◌, here, lost, Way, To, reached}
-use Rattle.rhai_reading.proofs.Shows.{Histories, Ensures, Shows, Halts, Goes, ill, fine, over, ret, look, raise, check}
+use Rattle.rhai_reading.proofs.Shows.{Histories, Ensures, Answers, Shows, Halts, Goes, ill, fine, over, ret, look, raise, check}
 use Rattle.rhai_reading.proofs.Shows.{part}
-use Rattle.rhai_reading.proofs.FormKinds.{expressions, wholes}
+use Rattle.rhai_reading.proofs.FormKinds.{expressions, statement_lists, wholes}
+use Rattle.rhai_lower.specs.Nodes as node
+use Rattle.rhai_lower.specs.Nodes.{no_statements}
+use Rattle.rhai_grammar.specs.Definitions.{after_statements}
+use Rattle.rhai_grammar.specs.Seen.{StandsAtLast}
+use Rattle.rhai_grammar.specs.declared.role.Closing.TheVariants.{EndMark}
+use Rattle.rhai_reading.proofs.Joins.{cursor}
 use Rattle.rhai_reading.proofs.Sound.Law.{Sound, AllSound, WholeRead, WholeHalts, any_run}
 use Rattle.rhai_reading.proofs.Sound.Runs.{run_part}
 
@@ -66,3 +72,13 @@ written c w s Unfinished h = tt
 pub whole : {call : Histories} → AllSound call → (c : Context) (w : Live) (s : Point) (b : Bool)
     → Sound (R.Whole c w) s (exec call (body (R.Whole c w)) (at s b))
 whole ih c w s b = written c w s _ (whole_by ih c w s b).shown
+
+-- a script, from what is shown of its list of statements
+pub script : (c : Context) (w : Live) (s : Point) (o : Outcome (node.Statements × Live))
+    → Answers (statement_lists EndMark c w no_statements) s o
+    → Ensures (λ x t. (fs : Statements) × ((statement_trees fs w, after_statements fs w) ≡ x)
+    × Met (W.whole_script fs c w) s t)
+    (λ e u. (fs : Statements) × Missed (W.whole_script fs c w) s e u.point × StandsAtLast e (cursor u)) o
+script c w s (Done x t) h = let r = h.told in (r.0, (r.1.form, r.1.is, reached (r.1.passes.on here)))
+script c w s (Refused e t) h = λ z. let r = h.told z in (r.form, reached (r.stops {k = Nothing}), r.last)
+script c w s Unfinished h = tt

@@ -8,20 +8,20 @@ use Rattle.rhai_grammar.specs.Cursors.{cursor_of}
 use Rattle.rhai_grammar.specs.Spots.{LinkSpot}
 use Rattle.rhai_grammar.specs.Signs.{sign_result}
 use Rattle.rhai_reading.specs.Running.{result_of}
-use Rattle.rhai_trees.specs.Chains.{link_views}
+use Rattle.rhai_trees.specs.Chains.{indexed_by, link_views}
 use Rattle.rhai_parser.specs.Frames.{context_of, live_of}
 use Rattle.rhai_parser.specs.Asks.{operator_pair}
 use Rattle.rhai_parser.specs.Readers.{operand, state_of}
 use Rattle.rhai_parser.proofs.AnswerLemmas.{answer_given, outcome}
-use Rattle.rhai_parser.proofs.ChainLemmas.{DotTaken, dot_goes_on, dot_short, links_push}
+use Rattle.rhai_parser.proofs.ChainLemmas.{DotTaken, dot_goes_on, dot_short, indexed_after, links_push}
 use Rattle.rhai_parser.proofs.LiteralLemmas.{FieldTaken, field_goes_on, field_short}
-use Rattle.rhai_parser.proofs.Readers.{literals, operands}
+use Rattle.rhai_parser.proofs.Readers.{chains, literals, operands}
 use Rattle.rhai_parser.proofs.RunLemmas.{Walked, Worded, same_context, walked_on, walked_refused, walked_short, worded_outcome}
 use Rattle.rhai_parser.proofs.engine.Engine.+parser.Goals as goal
 use Rattle.rhai_parser.proofs.engine.Engine.+parser.Goals.{parse_binary_op-After-make_binary}
 
 -- an operator of a run with its right side
-walked : (t : _) (c : parse_binary_op-After-make_binary t) → Walked (context_of c.args.self.now c.loop-lhs.settings) (live_of c.args.frame.now) c.args.parent c.in-Some.operator.strength c.in-Some.operator.right c.is_range.result (option_map operator_pair c.in_ok-next_operator.field-0) (lexeme c.take-op_token.result.0) c.take-op_token.result.1 (view c.in_ok-rhs.rhs) (view c.in_ok-rhs-2.rhs) (context_of c.args.self.now c.in_ok-deeper.deeper)
+walked : (t : _) (c : parse_binary_op-After-make_binary t) → Walked (context_of c.args.self.now c.loop-lhs.settings) (live_of c.args.frame.now) c.args.parent c.in-Some.operator.strength c.in-Some.operator.right c.is_range.result (option_map operator_pair c.in_ok-next_operator.field-0) (lexeme c.take-op_token.result.0) c.take-op_token.result.1 (view c.in_ok-rhs.rhs) (view c.in_ok-rhs-2.rhs) (context_of c.args.self.now c.in_ok-deeper.deeper.side)
     (state_of c.loop-lhs.shared) (cursor_of c.next_operator.new.input) (cursor_of c.take-op_token.new.input) (state_of c.parse_unary.new.shared) (cursor_of c.next_operator-in-loop-lhs.new.input) (state_of c.parse_binary_op.new.shared)
 walked t c = record {
   operator = search rules;
@@ -52,7 +52,7 @@ pub parse_binary_op-loop-lhs-preserved : goal.parse_binary_op-loop-lhs-preserved
 parse_binary_op-loop-lhs-preserved t c =
     let h = walked t (goal.at.parse_binary_op-loop-lhs-preserved t c).After-make_binary in
     record {
-      same = c.loop-lhs.invariant.same ∙ walked_on h _ _ c.in-Ok.ensures.answers (same_context c.args.self.now c.at-settings-in-loop-lhs.result c.in_ok-deeper.deeper c.at-settings-in-loop-lhs.ensures.settings) c.at-settings-in-loop-lhs.ensures.position;
+      same = c.loop-lhs.invariant.same ∙ walked_on h _ _ c.in-Ok.ensures.answers (same_context c.args.self.now c.in_ok-deeper.deeper.next c.in_ok-deeper.deeper.side (search rules)) (search rules);
       goes_on = record { same = search rules; shorter = let less = walked_short h in omega (arith, less, c.loop-lhs.invariant.goes_on.shorter) };
     }
 
@@ -107,8 +107,8 @@ parse_map_literal-loop-properties-preserved t c =
 
 pub parse_links-loop-links-preserved : goal.parse_links-loop-links-preserved
 parse_links-loop-links-preserved t c =
-    let spot : LinkSpot = record { settings = context_of c.args.self.now c.loop-links.settings; brackets = context_of c.args.self.now c.loop-links.brackets; indexed = option_map (λ x. view x.now) c.loop-links.indexed; before = link_views c.loop-links.links.items } in
-    let next : LinkSpot = record { settings = context_of c.args.self.now c.in_ok-settings-in-Dot.settings; brackets = context_of c.args.self.now c.in_ok-settings-in-Dot.settings; indexed = None; before = link_views c.push-in-Dot.new.self.items } in
+    let spot : LinkSpot = record { settings = context_of c.args.self.now c.loop-links.settings; brackets = context_of c.args.self.now c.loop-links.brackets; indexed = indexed_by (view c.args.lhs.now) (link_views c.loop-links.links.items); before = link_views c.loop-links.links.items } in
+    let next : LinkSpot = record { settings = context_of c.args.self.now c.in_ok-settings-in-Dot.settings; brackets = context_of c.args.self.now c.in_ok-settings-in-Dot.settings; indexed = indexed_by (view c.args.lhs.now) (link_views c.push-in-Dot.new.self.items); before = link_views c.push-in-Dot.new.self.items } in
     let taken : DotTaken (context_of c.args.self.now c.in_ok-settings-in-Dot.settings) (live_of c.args.frame.now) spot next (lexeme c.in_ok-token.field-0.now.0) c.in_ok-token.field-0.now.1 (view c.in_ok-item-in-Dot.item)
     (state_of c.loop-links.shared) (cursor_of c.peek.follows.lender-at-none) (cursor_of c.skip-in-Dot.new.input) (cursor_of c.member_due.new.input) (state_of c.parse_member.new.shared) = record {
       token = search rules;
@@ -125,9 +125,17 @@ parse_links-loop-links-preserved t c =
       deeper = search rules;
       member = search rules;
       member_short = search rules;
-      joined = search (rules, links_push);
+      joined = search (rules, links_push, indexed_after);
     } in
     record {
       same = c.loop-links.invariant.same ∙ dot_goes_on taken;
       goes_on = record { same = search rules; shorter = let less = (dot_short taken).1 in omega (arith, less, c.loop-links.invariant.goes_on.shorter) };
+    }
+
+pub parse_links-loop-links-preserved-in-Bracket : goal.parse_links-loop-links-preserved-in-Bracket
+parse_links-loop-links-preserved-in-Bracket t c =
+    let none : indexed_by (view c.args.lhs.now) (link_views c.push.new.self.items) ≡ None = search (rules, links_push, indexed_after) in
+    record {
+      same = c.loop-links.invariant.same ∙ rw none (grind (arith, chains));
+      goes_on = record { same = search rules; shorter = search rules };
     }

@@ -1,11 +1,12 @@
 use Rattle.std.proofs.Common.{◌≡◌, option_map}
-use Rattle.rhai_lower.specs.Nodes.{no_nodes, no_properties, position_of}
+use Rattle.rhai_lower.specs.Nodes.{no_nodes, no_properties, no_statements, position_of}
 use Rattle.rhai_lower.specs.View.{view}
 use Rattle.rhai_grammar.specs.Cursors.{left}
 use Rattle.rhai_reading.specs.Reading.{Links}
 use Rattle.rhai_reading.specs.Running.{need, result_of}
+use Rattle.rhai_trees.specs.Chains.{indexed_by}
 use Rattle.rhai_parser.specs.Frames.{context_of, live_of}
-use Rattle.rhai_parser.specs.Readers.{GoesOn, arguments, binary_op, called, elements, expression, fields, index, items, links, linked, member, operand, postfix, primary, properties_of, state_of, views_of}
+use Rattle.rhai_parser.specs.Readers.{GoesOn, arguments, binary_op, block, called, definition, expr_statement, initializer, statement, statements, statements_of, elements, expression, fields, index, items, links, linked, member, operand, postfix, primary, properties_of, state_of, views_of}
 use Rattle.rhai_parser.proofs.engine.Engine.+parser.Given as goal
 
 abbrev pub decreases-parse_expr : goal.decreases-parse_expr
@@ -76,7 +77,7 @@ decreases-parse_map_literal-loop-properties l = left (state_of l.shared).tokens
 
 abbrev pub invariant-parse_links-loop-links : goal.invariant-parse_links-loop-links
 invariant-parse_links-loop-links l = record {
-  same : result_of (links l.fn.self l.fn.frame l.fn.settings (view l.fn.lhs)) (state_of l.fn.shared) ≡ result_of (Links (live_of l.frame) (record { settings = context_of l.self l.settings; brackets = context_of l.self l.brackets; indexed = option_map (λ x. view x.now) l.indexed; before = linked l.links })) (state_of l.shared);
+  same : result_of (links l.fn.self l.fn.frame l.fn.settings (view l.fn.lhs)) (state_of l.fn.shared) ≡ result_of (Links (live_of l.frame) (record { settings = context_of l.self l.settings; brackets = context_of l.self l.brackets; indexed = indexed_by (view l.fn.lhs) (linked l.links); before = linked l.links })) (state_of l.shared);
   goes_on : GoesOn l.fn.shared l.shared;
 }
 
@@ -91,3 +92,31 @@ invariant-parse_binary_op-loop-lhs l = record {
 
 abbrev pub decreases-parse_binary_op-loop-lhs : goal.decreases-parse_binary_op-loop-lhs
 decreases-parse_binary_op-loop-lhs l = left (state_of l.shared).tokens
+
+abbrev pub decreases-parse_expr_stmt : goal.decreases-parse_expr_stmt
+decreases-parse_expr_stmt l = need (expr_statement l.self.now l.frame.now l.settings) (state_of l.shared.now)
+
+abbrev pub decreases-parse_initializer : goal.decreases-parse_initializer
+decreases-parse_initializer l = need (initializer l.self.now l.frame.now l.settings) (state_of l.shared.now)
+
+abbrev pub decreases-parse_let : goal.decreases-parse_let
+decreases-parse_let l = need (definition l.self.now l.frame.now l.settings l.constant) (state_of l.shared.now)
+
+abbrev pub decreases-parse_stmt : goal.decreases-parse_stmt
+decreases-parse_stmt l = need (statement l.self.now l.frame.now l.settings) (state_of l.shared.now)
+
+abbrev pub decreases-parse_statements : goal.decreases-parse_statements
+decreases-parse_statements l = need (statements l.self.now l.frame.now l.settings l.closing no_statements) (state_of l.shared.now)
+
+abbrev pub decreases-parse_block : goal.decreases-parse_block
+decreases-parse_block l = need (block l.self.now l.frame.now l.settings) (state_of l.shared.now)
+
+abbrev pub invariant-parse_statements-loop-statements : goal.invariant-parse_statements-loop-statements
+invariant-parse_statements-loop-statements l = record {
+  same : result_of (statements l.fn.self l.fn.frame l.fn.settings l.fn.closing no_statements) (state_of l.fn.shared) ≡ result_of (statements l.self l.frame l.settings l.closing (statements_of l.statements)) (state_of l.shared);
+  goes_on : GoesOn l.fn.shared l.shared;
+  depth : l.frame.depth ≡ l.fn.frame.depth;
+}
+
+abbrev pub decreases-parse_statements-loop-statements : goal.decreases-parse_statements-loop-statements
+decreases-parse_statements-loop-statements l = left (state_of l.shared).tokens

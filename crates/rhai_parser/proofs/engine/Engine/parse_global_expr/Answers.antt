@@ -1,6 +1,17 @@
-use Rattle.std.proofs.Common.{ap, rules}
-use Rattle.rhai_grammar.specs.Cursors.{mode_by}
+use Rattle.std.proofs.Common.{ap, rules, subst}
+use Rattle.rhai_grammar.specs.Contexts.{Live}
+use Rattle.rhai_grammar.specs.Cursors.{cursor_of, mode_by}
+use Rattle.rhai_grammar.specs.Promises.{ReadsExpression}
+use Rattle.rhai_parser.specs.Frames.{context_of, live_of}
 use Rattle.rhai_parser.proofs.engine.Engine.parse_global_expr.Goals as goal
 
 pub returns-clause-reads : goal.returns-clause-reads
-returns-clause-reads g c = λ fresh. (c.settings.new.arg2, search rules, c.read_script.ensures.reads _ (ap mode_by fresh.mode))
+returns-clause-reads g c = λ fresh.
+    let library = c.args.state.lib.now.entries in
+    let read = c.read_script.ensures.reads library (ap mode_by fresh.mode) in (
+      c.settings.new.arg2,
+      search rules,
+      subst (λ (live : Live). ReadsExpression library (context_of c.args.self.now c.settings.new.arg2) live
+          (cursor_of c.args.state.input.now) (cursor_of c.read_script.new.input) c.read_script.result)
+          (ap live_of c.new-frame.ensures) read,
+    )

@@ -1,0 +1,51 @@
+-- What stands where a statement begins and ends, and the name of a definition, as the code takes them.
+use Rattle.std.specs.Prelude.{◌≡◌, Bool, true, false, IsTrue, Result, Ok, Err, codes}
+use Rattle.std.specs.Rc.{rc_str_bytes}
+use Rattle.std.specs.declared.alloc.Global.{Global}
+use Rattle.std.specs.declared.rc.RcStr.{RcStr}
+use Rattle.rhai_lower.specs.Lexemes.{Name}
+use Rattle.rhai_lower.specs.declared.position.Position.{Position}
+use Rattle.rhai_grammar.specs.Beginnings.{is_name, missing}
+use Rattle.rhai_grammar.specs.Causes.{is_for_memory, refusal, refusal_of}
+use Rattle.rhai_grammar.specs.Cursors.{Cursor, asked, looking, taking}
+use Rattle.rhai_grammar.specs.Delivered.{is_memory}
+use Rattle.rhai_grammar.specs.Statements.{after_statement, no_variable}
+use Rattle.rhai_grammar.specs.declared.error.ParseError.{ParseError}
+use Rattle.rhai_grammar.specs.declared.role.AfterStatement.TheVariants as after
+use Rattle.rhai_grammar.specs.declared.role.Closing.{Closing}
+use Rattle.rhai_grammar.specs.declared.role.StatementPlace.{StatementPlace}
+use Rattle.rhai_grammar.specs.declared.role.StatementPlace.TheVariants as place
+use Rattle.rhai_grammar.specs.declared.role.StatementStart.{StatementStart}
+use Rattle.rhai_grammar.specs.declared.role.StatementStart.TheVariants as start
+
+-- no other form of statement begins there
+abbrev pub is_expression : StatementStart → Bool
+is_expression start.Expression = true
+is_expression _ = false
+
+-- what stands where a statement of a list may begin, depending on whether the list ends there
+abbrev pub place_found : (ends : Bool) → StatementPlace
+place_found true = place.Close
+place_found false = place.Statement
+
+-- After a statement that does not end by itself, a `;` is taken (`true`), or the token that closes the list stays; or
+-- another token is refused and stays, unless memory ran out.
+abbrev pub Separates : Closing → Cursor → Result Bool ParseError → Cursor → Type 0
+Separates closing s (Ok semicolon) t =
+    (IsTrue semicolon → (after_statement closing (asked s).lexeme ≡ after.SemiColon) × (t ≡ taking s))
+    × (semicolon ≡ false → (after_statement closing (asked s).lexeme ≡ after.Close) × (t ≡ looking s))
+    × (is_memory (asked s).lexeme ≡ false)
+Separates closing s (Err e) t =
+    is_for_memory e ≡ false → (after_statement closing (asked s).lexeme ≡ after.Nothing)
+    × (is_memory (asked s).lexeme ≡ false)
+    × (refusal_of e ≡ refusal (missing (codes ";") (asked s).lexeme) (asked s).at) × (t ≡ looking s)
+
+-- The name of a definition is taken, with its position; or another token is refused in its place and stays, unless
+-- memory ran out.
+abbrev pub Names : Cursor → Result (RcStr Global × Position) ParseError → Cursor → Type 0
+Names s (Ok name) t =
+    ((asked s).lexeme ≡ Name (rc_str_bytes name.0)) × (name.1 ≡ (asked s).at)
+    × (is_memory (asked s).lexeme ≡ false) × (t ≡ taking s)
+Names s (Err e) t =
+    is_for_memory e ≡ false → (is_name (asked s).lexeme ≡ false) × (is_memory (asked s).lexeme ≡ false)
+    × (refusal_of e ≡ refusal (no_variable (asked s).lexeme) (asked s).at) × (t ≡ looking s)

@@ -1,0 +1,61 @@
+//! What a definition does to the slots of one frame.
+
+ghost use Rattle.std.specs.Prelude.{◌≡◌, ◌≤◌, IfOk, OnErr, OnOk, length, option_map};
+ghost use Rattle.std.specs.Int.NonZero.{non_zero_usize_get};
+ghost use Rattle.std.specs.Rc.{rc_str_bytes};
+ghost use Rattle.rhai_grammar.specs.Definitions.{define, is_reusable, reused};
+ghost use Rattle.rhai_grammar.specs.Slots.{number};
+
+use crate::lookup::place_of;
+use rhai_lower::Scope;
+use std::alloc::AllocError;
+use std::num::NonZeroUsize;
+use std::rc::RcStr;
+
+// Whether a definition may use the slot with this number again: it is in the block, and is not exported.
+#[tactic(auto, using(crate::proofs::DefinitionLemmas::exported))]
+fn is_reusable(slots: &Scope, block: usize, place: NonZeroUsize) -> bool
+    requires { non_zero_usize_get place ≤ length slots.now }
+    ensures { result ≡ is_reusable block slots.now (non_zero_usize_get place) }
+{
+    let index = slots.len() - place.get();
+    index >= block && slots.aliases(index).is_empty()
+}
+
+// The number of the slot that a definition of this name uses again; none if it gets a new slot.
+#[tactic(auto, using(crate::proofs::DefinitionLemmas::reusing))]
+fn reused(slots: &Scope, block: usize, name: &str) -> Option<NonZeroUsize>
+    ensures { option_map non_zero_usize_get result ≡ reused block name.now slots.now }
+{
+    let place = place_of(slots, name)?;
+    if is_reusable(slots, block, place) {
+        return Some(place);
+    }
+    None
+}
+
+/// Defines a variable or a constant in the block that begins after `block` slots: the latest slot of its name is used
+/// again if it is in the block and is not exported; otherwise there is a new slot. The number of the slot that is used
+/// again, counted from 1 at the latest of all; none if it is new.
+///
+/// The error is that there is no memory for it; then nothing changes.
+#[tactic(auto, using(crate::proofs::DefinitionLemmas::defining))]
+pub fn define(
+    slots: &mut Scope,
+    block: usize,
+    name: &RcStr,
+    constant: bool,
+) -> Result<Option<NonZeroUsize>, AllocError>
+    ensures number { IfOk result (λ number. option_map non_zero_usize_get number
+        ≡ reused block (rc_str_bytes name.now) slots.old) }
+    ensures ok { OnOk result (slots.new ≡ define block (rc_str_bytes name.now) constant slots.old) }
+    ensures err { OnErr result (slots.new ≡ slots.old) }
+{
+    let Some(place) = reused(slots, block, name) else {
+        slots.push(name.clone()?, constant)?;
+        return Ok(None);
+    };
+    let index = slots.len() - place.get();
+    slots.set_constant(index, constant);
+    Ok(Some(place))
+}

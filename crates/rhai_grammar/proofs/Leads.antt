@@ -1,0 +1,195 @@
+-- What each form demands leads, over the tokens of its spelling, to what comes after it.
+use Rattle.std.proofs.Common.{◌≡◌, ℕ, ◌+◌, Bool, true, false, ◌&&◌, List, [], ◌∷◌, ◌++◌, append-nil, refl, subst}
+use Rattle.std.specs.Prelude.{Option, Some, None}
+use Rattle.rhai_lower.specs.Lexemes.{Lexeme, Sign, text_of}
+use Rattle.rhai_lower.specs.Nodes.{Properties, no_properties, position_of, property, with_property}
+use Rattle.rhai_lower.specs.declared.position.Position.{Position}
+use Rattle.rhai_lower.specs.declared.token.Token.TheVariants.{EOF}
+use Rattle.rhai_grammar.specs.Beginnings.{beginning, omits_operand, is_range}
+use Rattle.rhai_grammar.specs.Causes.{Refusal}
+use Rattle.rhai_grammar.specs.Chains.{index_refusal, last_fault}
+use Rattle.rhai_grammar.specs.Contexts.{Context, Live, in_block, level_up}
+use Rattle.rhai_grammar.specs.Definitions.{after_statement}
+use Rattle.rhai_grammar.specs.Delivered.{code, Item, Taken, is_end}
+use Rattle.rhai_grammar.specs.Demands.{◌▸◌, Ahead, Demands, Next, Shape, Test, Tok, Verdict}
+use Rattle.rhai_grammar.specs.Forms as form
+use Rattle.rhai_grammar.specs.Forms.{Arguments, Base, Body, Elements, ExprStatement, Fields, Initializer, Items, Links}
+use Rattle.rhai_grammar.specs.Forms.{Operand, Primary, Run, Statement, Statements}
+use Rattle.rhai_grammar.specs.Spelling.{argument_spelling, base_spelling, body_spelling, element_spelling}
+use Rattle.rhai_grammar.specs.Spelling.{evaluation_spelling, field_spelling, initializer_spelling, item_spelling}
+use Rattle.rhai_grammar.specs.Spelling.{link_spelling, operand_spelling, primary_spelling, script_spelling, spelling}
+use Rattle.rhai_grammar.specs.Spelling.{statement_spelling}
+use Rattle.rhai_grammar.specs.Spots.{LinkSpot, Outermost, RightOf, Side, Spot, height_after, is_ranged, outermost}
+use Rattle.rhai_grammar.specs.Spots.{right_side, spot_after_bracket, spot_after_dot, spot_after_operand}
+use Rattle.rhai_grammar.specs.Targets.{is_constant_use, target_fault}
+use Rattle.rhai_grammar.specs.Trees.{argument_trees, base_tree, bracket_link, member_link, method_tree, primary_tree}
+use Rattle.rhai_grammar.specs.Trees.{tree}
+use Rattle.rhai_grammar.specs.Verdicts as V
+use Rattle.rhai_grammar.specs.Written as W
+use Rattle.rhai_grammar.specs.declared.role.Closing.{Closing}
+use Rattle.rhai_grammar.specs.declared.role.Closing.TheVariants.{Brace}
+
+-- Demands lead to others over these tokens, each in code mode, as long as the conditions on the form hold; and no end
+-- mark is demanded ahead.
+pub data Leads : List Taken → Demands → Demands → Type 0 where
+  here : {k : Demands} → Leads [] k k
+  tok : {ts : List Taken} {i : Item} {v : Lexeme → Verdict} {ds k : Demands} → Leads ts ds k
+      → Leads (record { mode = code; item = i } ∷ ts) (Tok code i v ▸ ds) k
+  ahead : {ts : List Taken} {i : Item} {v : Lexeme → Verdict} {ds k : Demands} → is_end i.lexeme ≡ false
+      → Leads ts ds k → Leads ts (Ahead i v ▸ ds) k
+  next : {ts : List Taken} {v : Lexeme → Verdict} {ds k : Demands} → Leads ts ds k → Leads ts (Next v ▸ ds) k
+  test : {ts : List Taken} {b : Bool} {e : Refusal} {ds k : Demands} → Leads ts ds k → Leads ts (Test b e ▸ ds) k
+  shape : {ts : List Taken} {b : Bool} {ds k : Demands} → (b ≡ true → Leads ts ds k) → Leads ts (Shape b ▸ ds) k
+
+-- one after the other
+pub on : {a b : List Taken} {ds k j : Demands} → Leads a ds k → Leads b k j → Leads (a ++ b) ds j
+on here h = h
+on (tok r) h = tok (on r h)
+on (ahead e r) h = ahead e (on r h)
+on (next r) h = next (on r h)
+on (test r) h = test (on r h)
+on (shape f) h = shape (λ e. on (f e) h)
+
+-- followed by what has no tokens
+pub all_of : {a : List Taken} {ds k : Demands} → Leads (a ++ []) ds k → Leads a ds k
+all_of {a = a} {ds = ds} {k = k} h = subst (λ ts. Leads ts ds k) (append-nil a) h
+
+range_goes_on : (l : Lexeme) → is_range (beginning l) ≡ true → is_end l ≡ false
+range_goes_on (Sign EOF) e = absurd cc
+range_goes_on _ e = refl
+
+omitted_goes_on : (ranged : Bool) (l : Lexeme) → ranged && omits_operand l ≡ true → is_end l ≡ false
+omitted_goes_on true (Sign EOF) e = absurd cc
+omitted_goes_on true _ e = refl
+omitted_goes_on false l e = absurd cc
+
+unfaulted : (r : Option Refusal) {ts : List Taken} {k j : Demands} → Leads ts k j → Leads ts (W.unfaulted r k) j
+unfaulted None h = h
+unfaulted (Some e) h = test h
+
+raised : (side : Side) {ts : List Taken} {k j : Demands} → Leads ts k j → Leads ts (W.raise_after side k) j
+raised Outermost h = h
+raised (RightOf op height) h = test h
+
+-- the two ends of an expression
+pub expressed : (f : Run) (c : Context) (w : Live) {k : Demands}
+    → Leads (spelling f) (W.run f (outermost (level_up c) w) (W.ended k)) (W.ended k)
+    → Leads (spelling f) (W.expression f c w k) k
+expressed f c w h = next (all_of (on h (next here)))
+
+mutual
+  pub primary : (x : Primary) (c : Context) (w : Live) (ranged : Bool) (k : Demands)
+      → Leads (primary_spelling x) (W.primary x c w ranged k) k
+  primary (form.Value token at) c w ranged k = shape (λ e. tok here)
+  primary (form.Named name at) c w ranged k = tok here
+  primary (form.Word word at) c w ranged k = tok (next here)
+  primary (form.Group opening inside closing) c w ranged k = tok (test (on (expressed inside (level_up c) w (run inside _ _)) (tok here)))
+  primary (form.Array opening list) c w ranged k = tok (test (elements list 0 (level_up c) w opening k))
+  primary (form.Map opening list) c w ranged k = tok (test (fields list no_properties (level_up c) w opening k))
+  primary (form.BlockValue opening f) c w ranged k =
+      shape (λ e. tok (test (test (block f (level_up (level_up c)) w k))))
+  primary (form.Zero range at) c w ranged k = shape (λ e. ahead (range_goes_on range e) here)
+
+  pub base : (x : Base) (c : Context) (w : Live) (ranged : Bool) (k : Demands)
+      → Leads (base_spelling x) (W.base x c w ranged k) k
+  base (form.Plain x) c w ranged k = all_of (on (primary x c w ranged _) (next here))
+  base (form.Call x None args) c w ranged k =
+      on (primary x c w ranged _)
+      (shape (λ e. arguments args V.anything c w (position_of (primary_tree x w true)) k))
+  base (form.Call x (Some bang) args) c w ranged k =
+      on (primary x c w ranged _)
+      (shape (λ e. tok (arguments args V.list_due c w (position_of (primary_tree x w true)) k)))
+
+  pub links : (x : Links) (q : LinkSpot) (w : Live) (k : Demands) → Leads (link_spelling x) (W.links x q w k) k
+  links form.NoLink q w k = next (unfaulted (last_fault q.before) here)
+  links (form.Bracket opening at f closing more) q w k =
+      shape (λ e. tok (test (test (on (expressed f (level_up (level_up q.brackets)) w (run f _ _))
+      (unfaulted (index_refusal q.indexed (tree f w))
+      (tok (links more (spot_after_bracket q (bracket_link opening at (tree f w))) w k)))))))
+  links (form.Property dot at name name_at more) q w k =
+      shape (λ e. tok (next (test (tok (next
+      (links more (spot_after_dot q (member_link dot at (property name name_at))) w k))))))
+  links (form.Method dot at name name_at None args more) q w k =
+      let l = member_link dot at (method_tree (text_of name) name_at false (argument_trees args w)) in
+      shape (λ d. shape (λ e. tok (next (test (tok (next
+      (on (arguments args V.anything (level_up q.settings) w name_at _) (links more (spot_after_dot q l) w k))))))))
+  links (form.Method dot at name name_at (Some bang) args more) q w k =
+      let l = member_link dot at (method_tree (text_of name) name_at true (argument_trees args w)) in
+      shape (λ d. shape (λ e. tok (next (test (tok (next (tok
+      (on (arguments args V.list_due (level_up q.settings) w name_at _) (links more (spot_after_dot q l) w k)))))))))
+
+  pub operand : (x : Operand) (c : Context) (w : Live) (ranged : Bool) (k : Demands)
+      → Leads (operand_spelling x) (W.operand x c w ranged k) k
+  operand (form.Linked x list) c w ranged k =
+      on (base x c w ranged _) (links list (spot_after_operand c (base_tree x w)) w k)
+  operand (form.Signed sign at x) c w ranged k =
+      shape (λ e. tok (test (all_of (on (operand x (level_up c) w false _) (test here)))))
+  operand (form.NoOperand token at) c w ranged k = shape (λ e. ahead (omitted_goes_on ranged token e) here)
+
+  pub arguments : (x : Arguments) (others : Lexeme → Verdict) (c : Context) (w : Live) (name : Position) (k : Demands)
+      → Leads (argument_spelling x) (W.arguments x others c w name k) k
+  arguments (form.EmptyPair at) others c w name k = tok here
+  arguments (form.Empty opening closing) others c w name k = tok (tok here)
+  arguments (form.Listed opening list) others c w name k = tok (next (test (items list (level_up c) w k)))
+
+  pub items : (x : Items) (c : Context) (w : Live) (k : Demands) → Leads (item_spelling x) (W.items x c w k) k
+  items (form.Last f closing) c w k = on (expressed f c w (run f _ _)) (tok here)
+  items (form.Trailing f comma closing) c w k = on (expressed f c w (run f _ _)) (tok (tok here))
+  items (form.More f comma more) c w k = on (expressed f c w (run f _ _)) (tok (next (items more c w k)))
+
+  pub elements : (x : Elements) (count : ℕ) (c : Context) (w : Live) (opening : Position) (k : Demands)
+      → Leads (element_spelling x) (W.elements x count c w opening k) k
+  elements (form.NoElement closing) count c w opening k = tok here
+  elements (form.LastElement f closing) count c w opening k =
+      next (test (on (expressed f (level_up c) w (run f _ _)) (tok here)))
+  elements (form.Element f comma more) count c w opening k =
+      next (test (on (expressed f (level_up c) w (run f _ _)) (tok (elements more (count + 1) c w opening k))))
+
+  pub fields : (x : Fields) (before : Properties) (c : Context) (w : Live) (opening : Position) (k : Demands)
+      → Leads (field_spelling x) (W.fields x before c w opening k) k
+  fields (form.NoField closing) before c w opening k = tok here
+  fields (form.LastField key at colon f closing) before c w opening k =
+      shape (λ e. tok (test (tok (next (test (on (expressed f (level_up c) w (run f _ _)) (tok here)))))))
+  fields (form.Field key at colon f comma more) before c w opening k =
+      let others = fields more (with_property before (text_of key) at (tree f w)) c w opening k in
+      shape (λ e. tok (test (tok (next (test (on (expressed f (level_up c) w (run f _ _)) (tok others)))))))
+
+  pub run : (f : Run) (q : Spot) (k : Demands) → Leads (spelling f) (W.run f q k) k
+  run (form.Just x) q k = all_of (on (operand x q.first q.live (is_ranged q.side) _) (next (raised q.side here)))
+  run (form.Binary op at l r) q k =
+      let side = right_side op (height_after q l) q.live in
+      on (run l q _)
+      (shape (λ a. shape (λ b. shape (λ d. tok (all_of (on (run r side _) (next (test (test here)))))))))
+
+  pub evaluation : (x : ExprStatement) (c : Context) (w : Live) (k : Demands)
+      → Leads (evaluation_spelling x) (W.expr_statement x c w k) k
+  evaluation (form.Evaluate f) c w k = all_of (on (expressed f c w (run f _ _)) (next here))
+  evaluation (form.Assign f op at value) c w k =
+      on (expressed f c w (run f _ _)) (shape (λ e. tok (all_of (on (expressed value c w (run value _ _))
+      (unfaulted (target_fault (is_constant_use w.slots (tree f w)) op at (tree f w)) here)))))
+
+  pub initializer : (x : Initializer) (c : Context) (w : Live) (at : Position) (k : Demands)
+      → Leads (initializer_spelling x) (W.definition_value x c w at k) k
+  initializer form.NoValue c w at k = next here
+  initializer (form.Valued equals f) c w at k = tok (test (expressed f (level_up c) w (run f _ _)))
+
+  pub statement : (x : Statement) (c : Context) (w : Live) (k : Demands)
+      → Leads (statement_spelling x) (W.statement x c w k) k
+  statement (form.EmptyStatement at) c w k = tok here
+  statement (form.Expression x) c w k = next (next (evaluation x (level_up c) w k))
+  statement (form.Define constant at name name_at value) c w k =
+      tok (test (tok (test (initializer value (level_up c) w at k))))
+  statement (form.Block opening f) c w k = tok (test (test (block f (level_up (level_up c)) w k)))
+
+  pub statements : (xs : Statements) (closing : Closing) (c : Context) (w : Live) (k : Demands)
+      → Leads (script_spelling xs) (W.statements xs closing c w k) k
+  statements form.NoStatement closing c w k = next here
+  statements (form.LastStatement f) closing c w k = next (all_of (on (statement f c w _) (shape (λ e. next here))))
+  statements (form.Ended f semicolon rest) closing c w k =
+      next (on (statement f c w _) (shape (λ e. tok (statements rest closing c (after_statement f w) k))))
+  statements (form.Standing f rest) closing c w k =
+      next (on (statement f c w _) (shape (λ e. statements rest closing c (after_statement f w) k)))
+
+  pub block : (x : Body) (c : Context) (w : Live) (k : Demands) → Leads (body_spelling x) (W.block x c w k) k
+  block (form.Many fs closing) c w k = shape (λ e. on (statements fs Brace c (in_block w) _) (tok here))
+  block (form.Single x closing) c w k = shape (λ e. on (evaluation x c w _) (tok here))

@@ -1,0 +1,76 @@
+-- What a definition does to the slots: the latest slot of its name is used again if it is in the current block and is
+-- not exported; otherwise there is a new slot.
+use Rattle.std.specs.Prelude.{◌≡◌, ℕ, ◌-◌, Bool, true, false, ◌&&◌, ◌||◌, not, List, [], ◌∷◌, Option, Some, None}
+use Rattle.std.specs.Prelude.{length, nat_lt, codes, refl}
+use Rattle.std.specs.Prelude.{if◌then◌else◌}
+use Rattle.rhai_lower.specs.Texts.{Text}
+use Rattle.rhai_lower.specs.Slots.{SlotValue, fresh_slot, with_slot, with_constant}
+use Rattle.rhai_grammar.specs.Contexts.{Context, Live, allows_shadowing}
+use Rattle.rhai_grammar.specs.Slots.{number, slot_from_latest}
+use Rattle.rhai_grammar.specs.Forms as form
+use Rattle.rhai_grammar.specs.Forms.{Statement, Statements}
+
+-- a slot that is exported under some name
+abbrev pub is_exported : SlotValue → Bool
+is_exported slot = not_empty slot.aliases
+  where
+    not_empty : List Text → Bool
+    not_empty [] = false
+    not_empty _ = true
+
+-- The slot with this number is in the block that begins after so many slots.
+abbrev pub is_in_block : (block : ℕ) → List SlotValue → ℕ → Bool
+is_in_block block slots place = not (nat_lt (length slots - place) block)
+
+abbrev pub is_reusable : (block : ℕ) → List SlotValue → ℕ → Bool
+is_reusable block slots place = is_in_block block slots place && not (is_exported (slot_from_latest slots place))
+
+abbrev pub reused_at : (block : ℕ) → List SlotValue → Option ℕ → Option ℕ
+reused_at block slots None = None
+reused_at block slots (Some place) = if is_reusable block slots place then Some place else None
+
+-- the number of the slot that a definition uses again; none if it gets a new slot
+abbrev pub reused : (block : ℕ) → Text → List SlotValue → Option ℕ
+reused block name slots = reused_at block slots (number name slots)
+
+abbrev pub define_at : Option ℕ → Text → (constant : Bool) → List SlotValue → List SlotValue
+define_at None name constant slots = with_slot slots name constant
+define_at (Some place) name constant slots = with_constant slots (length slots - place) constant
+
+-- the slots after a definition
+abbrev pub define : (block : ℕ) → Text → (constant : Bool) → List SlotValue → List SlotValue
+define block name constant slots = define_at (reused block name slots) name constant slots
+
+abbrev pub is_none : Option ℕ → Bool
+is_none None = true
+is_none _ = false
+
+-- A definition of this name is allowed: without shadowing, no slot may have the name.
+abbrev pub may_define : Context → Text → Live → Bool
+may_define context name live = allows_shadowing context || is_none (number name live.slots)
+
+-- what is live after a definition
+abbrev pub defined : Text → (constant : Bool) → Live → Live
+defined name constant live = record live { slots = define live.block name constant live.slots }
+
+-- what is live after a statement; a block gives back what it found
+abbrev pub after_statement : Statement → Live → Live
+after_statement (form.Define constant at name name_at value) live = defined name constant live
+after_statement _ live = live
+
+-- what is live after statements
+abbrev pub after_statements : Statements → Live → Live
+after_statements form.NoStatement live = live
+after_statements (form.LastStatement f) live = after_statement f live
+after_statements (form.Ended f semicolon rest) live = after_statements rest (after_statement f live)
+after_statements (form.Standing f rest) live = after_statements rest (after_statement f live)
+
+-- `let x = 1; const x = 2;` has one slot, which is constant in the end. In a block of its own, the second definition
+-- gets a new slot.
+abbrev example_slots : List SlotValue
+example_slots = define 0 (codes "x") false []
+
+example : (define 0 (codes "x") true example_slots ≡ fresh_slot (codes "x") true ∷ [])
+    × (reused 0 (codes "x") example_slots ≡ Some 1) × (reused 1 (codes "x") example_slots ≡ None)
+unfolding number
+example = (refl, refl, refl)

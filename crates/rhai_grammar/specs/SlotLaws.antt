@@ -1,0 +1,83 @@
+-- Laws of names and slots that users rely on: which slot a use refers to, what a definition does, and where a scope
+-- ends.
+use Rattle.std.specs.Prelude.{◌≡◌, ℕ, ◌+◌, ◌-◌, ◌≤◌, ◌↔◌, ◌⊎◌, Bool, true, false, List, [], ◌∷◌, Some, None}
+use Rattle.std.specs.Prelude.{length, take, codes, refl}
+use Rattle.rhai_lower.specs.Texts.{Text}
+use Rattle.rhai_lower.specs.Names.{is_identifier}
+use Rattle.rhai_lower.specs.Positions.{place}
+use Rattle.rhai_lower.specs.Slots.{SlotValue, fresh_slot}
+use Rattle.rhai_lower.specs.declared.position.Position.{Position}
+use Rattle.rhai_grammar.specs.Contexts.{Live, in_block}
+use Rattle.rhai_grammar.specs.Definitions.{after_statement, after_statements, define, is_exported, reused}
+use Rattle.rhai_grammar.specs.Forms as form
+use Rattle.rhai_grammar.specs.Forms.{Body, ExprStatement, Named, Statements}
+use Rattle.rhai_grammar.specs.Slots.{IsLatest, is_barrier, number, slot_from_latest}
+use Rattle.rhai_grammar.specs.Trees.{primary_tree, variable_of}
+
+-- A name that has a number in its tree is not called, and the slot with that number is the latest of the name.
+pub record NumberedSlot : Type 0 where
+  pub uncalled : (live : Live) (called : Bool) (name : Text) (at : Position) (place : ℕ) →
+      primary_tree (Named name at) live called ≡ variable_of (Some place) name at → called ≡ false
+  pub latest : (live : Live) (called : Bool) (name : Text) (at : Position) (place : ℕ) →
+      primary_tree (Named name at) live called ≡ variable_of (Some place) name at →
+      IsLatest name live.slots (Some place)
+
+-- A name that has no number in its tree is called, or no live slot has the name.
+abbrev pub NoSlot : Type 0
+NoSlot =
+    (live : Live) (called : Bool) (name : Text) (at : Position)
+    → primary_tree (Named name at) live called ≡ variable_of None name at
+    → (called ≡ true) ⊎ IsLatest name live.slots None
+
+-- The slot with this number is the latest of the name, in the block, and not exported.
+pub record IsReusable (block : ℕ) (name : Text) (slots : List SlotValue) (place : ℕ) : Type 0 where
+  pub latest : number name slots ≡ Some place
+  pub inside : block ≤ length slots - place
+  pub unexported : is_exported (slot_from_latest slots place) ≡ false
+
+-- After a definition its name has this number, at a slot with the definition's mark, and there are so many slots.
+pub record IsDefined (name : Text) (constant : Bool) (place count : ℕ) (after : List SlotValue) : Type 0 where
+  pub latest : number name after ≡ Some place
+  pub count_is : length after ≡ count
+  pub mark : (slot_from_latest after place).constant ≡ constant
+
+-- A definition uses a slot again exactly where that is the latest of its name, in the block, and not exported. The name
+-- keeps its number then; otherwise there is one more slot, to which the name refers. A new slot under the name of a
+-- barrier would not be found, but no identifier is that name.
+pub record Reuse : Type 0 where
+  pub exactly : (block : ℕ) (name : Text) (slots : List SlotValue) (place : ℕ) →
+      (reused block name slots ≡ Some place) ↔ IsReusable block name slots place
+  pub again : (block : ℕ) (name : Text) (constant : Bool) (slots : List SlotValue) (place : ℕ) →
+      reused block name slots ≡ Some place →
+      IsDefined name constant place (length slots) (define block name constant slots)
+  pub anew : (block : ℕ) (name : Text) (constant : Bool) (slots : List SlotValue) →
+      is_barrier (fresh_slot name constant) ≡ false → reused block name slots ≡ None →
+      IsDefined name constant 1 (length slots + 1) (define block name constant slots)
+  pub identifier : (name : Text) (constant : Bool) →
+      is_identifier name ≡ true → is_barrier (fresh_slot name constant) ≡ false
+
+-- A block and an expression leave live what was live before them. Statements leave the slots before their block as they
+-- were, so a block's end gives back the slots that the block found.
+pub record ScopesClose : Type 0 where
+  pub block : (opening : Position) (body : Body) (live : Live) →
+      after_statement (form.Block opening body) live ≡ live
+  pub expression : (x : ExprStatement) (live : Live) → after_statement (form.Expression x) live ≡ live
+  pub start : (fs : Statements) (live : Live) → (after_statements fs live).block ≡ live.block
+  pub before : (fs : Statements) (live : Live) → live.block ≤ length live.slots →
+      take live.block (after_statements fs live).slots ≡ take live.block live.slots
+  pub given_back : (fs : Statements) (live : Live) →
+      take (length live.slots) (after_statements fs (in_block live)).slots ≡ live.slots
+
+-- Two variables of one name are live, the second in a block: a use refers to the second, and a definition uses its slot
+-- again.
+abbrev example_live : Live
+example_live = record {
+  slots = fresh_slot (codes "x") true ∷ fresh_slot (codes "x") false ∷ [];
+  block = 1;
+}
+
+example : (primary_tree (Named (codes "x") (place 1 1)) example_live false
+    ≡ variable_of (Some 1) (codes "x") (place 1 1)) × (reused 1 (codes "x") example_live.slots ≡ Some 1)
+    × IsDefined (codes "x") true 1 2 (define 1 (codes "x") true example_live.slots)
+unfolding number
+example = (refl, refl, record { latest = refl; count_is = refl; mark = refl })

@@ -1,0 +1,140 @@
+-- What a token does where a statement begins, in a definition, and after a statement; and which tokens are refused
+-- there.
+use Rattle.std.specs.Prelude.{◌≡◌, Bool, true, false, codes, if◌then◌else◌, refl}
+use Rattle.rhai_lower.specs.Names.{is_identifier}
+use Rattle.rhai_lower.specs.Lexemes.{Lexeme, Faulty, Name, Reserved, Sign}
+use Rattle.rhai_lower.specs.Nodes as node
+use Rattle.rhai_lower.specs.declared.token.Token.{Token}
+use Rattle.rhai_lower.specs.declared.token.Token.TheVariants as token
+use Rattle.rhai_grammar.specs.Causes as cause
+use Rattle.rhai_grammar.specs.Causes.{Cause}
+use Rattle.rhai_grammar.specs.Beginnings.{missing}
+use Rattle.rhai_grammar.specs.Demands.{Verdict, Fine, Wrong, Otherwise}
+use Rattle.rhai_grammar.specs.Targets.{is_assignment, is_equals}
+use Rattle.rhai_grammar.specs.declared.role.AfterStatement.{AfterStatement}
+use Rattle.rhai_grammar.specs.declared.role.AfterStatement.TheVariants as after
+use Rattle.rhai_grammar.specs.declared.role.Closing.{Closing}
+use Rattle.rhai_grammar.specs.declared.role.Closing.TheVariants.{Brace, EndMark}
+use Rattle.rhai_grammar.specs.declared.role.StatementPlace.{StatementPlace}
+use Rattle.rhai_grammar.specs.declared.role.StatementPlace.TheVariants as place
+use Rattle.rhai_grammar.specs.declared.role.StatementStart.{StatementStart}
+use Rattle.rhai_grammar.specs.declared.role.StatementStart.TheVariants as start
+
+abbrev pub sign_start : Token → StatementStart
+sign_start token.SemiColon = start.Empty
+sign_start token.LeftBrace = start.Block
+sign_start token.Let = start.Let
+sign_start token.Const = start.Const
+sign_start _ = start.Expression
+
+-- what a token begins where a statement is expected
+abbrev pub statement_start : Lexeme → StatementStart
+statement_start (Sign t) = sign_start t
+statement_start _ = start.Expression
+
+abbrev pub sign_place : Closing → Token → StatementPlace
+sign_place Brace token.RightBrace = place.Close
+sign_place Brace token.EOF = place.Nothing
+sign_place Brace _ = place.Statement
+sign_place EndMark token.EOF = place.Close
+sign_place EndMark _ = place.Statement
+
+-- what a token is where a statement of a list may begin
+abbrev pub statement_place : Closing → Lexeme → StatementPlace
+statement_place closing (Sign t) = sign_place closing t
+statement_place closing _ = place.Statement
+
+abbrev pub sign_after : Closing → Token → AfterStatement
+sign_after Brace token.SemiColon = after.SemiColon
+sign_after Brace token.RightBrace = after.Close
+sign_after Brace _ = after.Nothing
+sign_after EndMark token.SemiColon = after.SemiColon
+sign_after EndMark token.EOF = after.Close
+sign_after EndMark _ = after.Nothing
+
+-- what a token is after a statement that does not end by itself
+abbrev pub after_statement : Closing → Lexeme → AfterStatement
+after_statement closing (Sign t) = sign_after closing t
+after_statement closing _ = after.Nothing
+
+-- An empty statement and a block end by themselves: no `;` has to follow them.
+abbrev pub ends_itself : node.Statement → Bool
+ends_itself (node.noop p) = true
+ends_itself (node.block_statement b) = true
+ends_itself _ = false
+
+-- the token of a definition
+abbrev pub keyword_of : (constant : Bool) → Token
+keyword_of true = token.Const
+keyword_of false = token.Let
+
+-- the error for a token that is no name where a variable is defined
+abbrev pub no_variable : Lexeme → Cause
+no_variable (Faulty f) = cause.BadInput (cause.Lexer f)
+no_variable (Reserved t) = if is_identifier t then cause.Reserved t else cause.VariableExpected
+no_variable l = cause.VariableExpected
+
+-- ---- which tokens are refused
+
+-- where a list of statements may end
+abbrev pub list_ends_at : Lexeme → StatementPlace → Verdict
+list_ends_at token place.Close = Fine
+list_ends_at token place.Statement = Otherwise
+list_ends_at token place.Nothing = Wrong (missing (codes "}") token)
+
+abbrev pub list_ends : Closing → Lexeme → Verdict
+list_ends closing token = list_ends_at token (statement_place closing token)
+
+-- where a statement of a list begins
+abbrev pub begins_at : Lexeme → StatementPlace → Verdict
+begins_at token place.Statement = Fine
+begins_at token place.Close = Otherwise
+begins_at token place.Nothing = Otherwise
+
+abbrev pub statement_begins : Closing → Lexeme → Verdict
+statement_begins closing token = begins_at token (statement_place closing token)
+
+-- after a statement that does not end by itself: a `;`
+abbrev pub separated_at : Lexeme → AfterStatement → Verdict
+separated_at token after.Nothing = Wrong (missing (codes ";") token)
+separated_at token _ = Otherwise
+
+abbrev pub semicolon_due : Closing → Lexeme → Verdict
+semicolon_due closing token = separated_at token (after_statement closing token)
+
+-- after such a statement without a `;`: what closes the list
+abbrev pub last_at : Lexeme → AfterStatement → Verdict
+last_at token after.Close = Fine
+last_at token after.SemiColon = Otherwise
+last_at token after.Nothing = Wrong (missing (codes ";") token)
+
+abbrev pub closed_due : Closing → Lexeme → Verdict
+closed_due closing token = last_at token (after_statement closing token)
+
+-- an expression begins a statement, and no other form of statement does
+abbrev pub expression_at : StatementStart → Verdict
+expression_at start.Expression = Fine
+expression_at _ = Otherwise
+
+abbrev pub expression_begins : Lexeme → Verdict
+expression_begins token = expression_at (statement_start token)
+
+-- after an expression statement: no assignment
+abbrev pub unassigned : Lexeme → Verdict
+unassigned token = if is_assignment token then Otherwise else Fine
+
+-- the name of a definition
+abbrev pub name_due : Lexeme → Verdict
+name_due (Name t) = Otherwise
+name_due token = Wrong (no_variable token)
+
+-- after the name of a definition without a value
+abbrev pub without_value : Lexeme → Verdict
+without_value token = if is_equals token then Otherwise else Fine
+
+-- In a block, `}` closes the list of statements and the end mark is refused; in a script, the end mark closes it.
+example : (list_ends Brace (Sign token.RightBrace) ≡ Fine) × (list_ends EndMark (Sign token.EOF) ≡ Fine)
+    × (list_ends Brace (Sign token.EOF) ≡ Wrong (cause.MissingToken (codes "}")))
+    × (closed_due Brace (Sign token.EOF) ≡ Wrong (cause.MissingToken (codes ";")))
+    × (name_due (Sign token.Let) ≡ Wrong cause.VariableExpected)
+example = (refl, refl, refl, refl, refl)

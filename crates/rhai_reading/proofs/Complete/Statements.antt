@@ -1,0 +1,202 @@
+-- Statements, their lists, and blocks: the steps to what is written.
+use Rattle.std.proofs.Common.{◌≡◌, Bool, true, false, Option, Some, None, refl, sym, ap}
+use Rattle.rhai_lower.specs.Texts.{Text}
+use Rattle.rhai_lower.specs.Lexemes.{Lexeme, Sign}
+use Rattle.rhai_lower.specs.Nodes as node
+use Rattle.rhai_lower.specs.declared.position.Position.{Position}
+use Rattle.rhai_lower.specs.declared.token.Token.TheVariants as token
+use Rattle.rhai_grammar.specs.Causes.{Refusal}
+use Rattle.rhai_grammar.specs.Delivered.{code, Point, past}
+use Rattle.rhai_grammar.specs.Contexts.{Context, Live, has_room, in_block, level_up}
+use Rattle.rhai_grammar.specs.Definitions as walk
+use Rattle.rhai_grammar.specs.Demands.{Fine, Demands, Met, Next, ◌▸◌}
+use Rattle.rhai_grammar.specs.Forms as form
+use Rattle.rhai_grammar.specs.Forms.{Body, ExprStatement, Initializer, Run, Statement, Statements}
+use Rattle.rhai_grammar.specs.Statements as V
+use Rattle.rhai_grammar.specs.Targets.{is_assignment, is_constant_use, is_equals, target_fault, update_of}
+use Rattle.rhai_grammar.specs.Trees.{statement_of, statement_tree, statement_trees, tree, with_kept}
+use Rattle.rhai_grammar.specs.Verdicts.{room_due}
+use Rattle.rhai_grammar.specs.Written as W
+use Rattle.rhai_grammar.specs.Written.{unfaulted}
+use Rattle.rhai_grammar.specs.declared.role.AfterStatement.{AfterStatement}
+use Rattle.rhai_grammar.specs.declared.role.AfterStatement.TheVariants as after
+use Rattle.rhai_grammar.specs.declared.role.Closing.{Closing}
+use Rattle.rhai_grammar.specs.declared.role.Closing.TheVariants.{Brace, EndMark}
+use Rattle.rhai_grammar.specs.declared.role.StatementPlace.{StatementPlace}
+use Rattle.rhai_grammar.specs.declared.role.StatementPlace.TheVariants as place
+use Rattle.rhai_grammar.specs.declared.role.StatementStart.{StatementStart}
+use Rattle.rhai_grammar.specs.declared.role.StatementStart.TheVariants as start
+use Rattle.rhai_reading.specs.Reading as R
+use Rattle.rhai_reading.specs.Reading.{body}
+use Rattle.rhai_reading.proofs.Complete.Law.{ExpressionRead, ExprStatementRead, InitializerRead, StatementRead}
+use Rattle.rhai_reading.proofs.Complete.Law.{StatementsRead, BodyRead, IsRead, PrimaryRead}
+use Rattle.rhai_reading.proofs.FormKinds.{NameForm, block_ends, definitions, var_names}
+use Rattle.rhai_reading.proofs.Lists.{kept_statement, last_kept, no_statement}
+use Rattle.rhai_reading.proofs.Looks.{op_at, pos_at, fine, no_other, or_wrong}
+use Rattle.rhai_reading.proofs.Reaches.{Reaches, seen, next, ret, gives, peek, take, due, if_true, if_false, part}
+use Rattle.rhai_reading.proofs.Strengths.{not_true}
+use Rattle.rhai_reading.proofs.Tokens.{readable}
+
+-- ---- the view of which a verdict is fine
+
+expression_is : (v : StatementStart) → V.expression_at v ≡ Fine → v ≡ start.Expression
+expression_is start.Expression e = refl
+expression_is _ e = absurd cc
+
+close_is : (l : Lexeme) (v : StatementPlace) → V.list_ends_at l v ≡ Fine → v ≡ place.Close
+close_is l place.Close e = refl
+close_is l _ e = absurd cc
+
+statement_is : (l : Lexeme) (v : StatementPlace) → V.begins_at l v ≡ Fine → v ≡ place.Statement
+statement_is l place.Statement e = refl
+statement_is l _ e = absurd cc
+
+last_is : (l : Lexeme) (v : AfterStatement) → V.last_at l v ≡ Fine → v ≡ after.Close
+last_is l after.Close e = refl
+last_is l _ e = absurd cc
+
+semicolon_is : (closing : Closing) → V.after_statement closing (Sign token.SemiColon) ≡ after.SemiColon
+semicolon_is Brace = refl
+semicolon_is EndMark = refl
+
+-- ---- expressions and assignments
+
+pub evaluate : (f : Run) → ExpressionRead f → ExprStatementRead (form.Evaluate f)
+evaluate f expression c w k s t b m =
+    part (expression c w _ s t b m)
+    (λ u l n. next V.unassigned n.0 (λ e. if_false _ (no_other (is_assignment (op_at u)) e).0 (ret n.1)))
+
+pub assign : (f : Run) (op : Lexeme) (at : Position) (value : Run) → ExpressionRead f → ExpressionRead value
+    → ExprStatementRead (form.Assign f op at value)
+assign f op at value target assigned c w k s t b m =
+    part (target c w _ s t b m) (λ u l n.
+    let can = readable is_assignment (λ f. refl) op n.0 in
+    peek n.1.0 can (if_true _ n.0 (take n.1.0 can (part (assigned c w _ (past code u) t false n.1.1)
+    (λ v a i. fits (target_fault (is_constant_use w.slots (tree f w)) op at (tree f w)) v a i)))))
+  where
+    fits : (v : Option Refusal) (u : Point) (l : Bool) → Met (unfaulted v k) u t
+        → Reaches (R.assigned_on (node.assignment (update_of op) (tree f w) (tree value w) at) v) u l
+        (node.assignment (update_of op) (tree f w) (tree value w) at) k t
+    fits None u l n = ret n
+    fits (Some e) u l n = let h = n.0 in absurd cc
+
+-- ---- definitions
+
+pub var_name : (c : Context) (w : Live) (f : NameForm) → IsRead (R.VarName c w) (var_names c w) f
+var_name c w f k s t b m = due m.0 refl refl (if_true _ m.1.0 (ret m.1.1))
+
+pub no_value : InitializerRead form.NoValue
+no_value c w at k s t b m =
+    next V.without_value m.0 (λ e. if_false _ (no_other (is_equals (op_at s)) e).0 (ret m.1))
+
+pub valued : (equals : Position) (f : Run) → ExpressionRead f → InitializerRead (form.Valued equals f)
+valued equals f expression c w at k s t b m =
+    due m.0 refl refl (if_true _ m.1.0 (part (expression (level_up c) w k (past code s) t false m.1.1)
+    (λ u l n. ret n)))
+
+-- ---- statements
+
+pub empty_statement : (at : Position) → StatementRead (form.EmptyStatement at)
+empty_statement at c w k s t b m = due m.0 refl refl (ret m.1)
+
+pub expression_statement : (x : ExprStatement) → ExprStatementRead x → StatementRead (form.Expression x)
+expression_statement x reads c w k s t b m =
+    next V.expression_begins m.0 (λ e.
+    seen (expression_is (V.statement_start (op_at s)) e) (R.statement_at c w (pos_at s))
+    (if_true _ (or_wrong (has_room c) _ (fine (room_due c) (op_at s) m.1.0).1)
+    (part (reads (level_up c) w k s t true m.1.1) (λ u l n. ret n))))
+
+define_is : (c : Context) (w : Live) (at : Position) (constant : Bool)
+    → R.statement_at c w at (V.statement_start (Sign (V.keyword_of constant))) ≡ R.definition_on c w at constant
+define_is c w at true = refl
+define_is c w at false = refl
+
+definition : (c : Context) (w : Live) (at : Position) (constant : Bool) (name : NameForm) (value : Initializer)
+    → InitializerRead value
+    → IsRead (R.Definition c w at constant) (definitions c w at constant) (record { name = name; value = value })
+definition c w at constant name value reads k s t b m =
+    part (var_name c w name _ s t b m) (λ u l n. part (reads c w at k u t l n) (λ v a i. ret i))
+
+pub define : (constant : Bool) (at : Position) (name : Text) (name_at : Position) (value : Initializer)
+    → InitializerRead value → StatementRead (form.Define constant at name name_at value)
+define constant at name name_at value reads c w k s t b m =
+    due m.0 refl (define_is c w at constant) (if_true _ m.1.0
+    (part (definition (level_up c) w at constant (record { name = name; at = name_at }) value reads k (past code s) t false
+    m.1.1) (λ u l n. ret n)))
+
+pub block_statement : (opening : Position) (f : Body) → BodyRead f → StatementRead (form.Block opening f)
+block_statement opening f reads c w k s t b m =
+    due m.0 refl refl (if_true _ m.1.0 (if_true _ m.1.1.0
+    (part (reads (level_up (level_up c)) w opening k (past code s) t false m.1.1.1) (λ u l n. ret n))))
+
+-- ---- lists of statements
+
+pub no_statements : StatementsRead form.NoStatement
+no_statements closing c w before k s t b m =
+    next (V.list_ends closing) m.0 (λ e.
+    seen (close_is (op_at s) (V.statement_place closing (op_at s)) e) (R.statements_at closing c w before (op_at s) (pos_at s))
+    (gives (ap (λ fs. (fs, w)) (sym (no_statement before))) m.1))
+
+module _ (closing : Closing) (c : Context) (w : Live) (before : node.Statements) (j : Demands) {k : Demands}
+    {s t : Point} {b : Bool} {all : node.Statements × Live} (f : Statement) where
+  -- a statement, and what comes after it
+  statement_here : StatementRead f → Met (Next (V.statement_begins closing) ▸ W.statement f c w j) s t
+      → ((u : Point) (l : Bool) → Met j u t → Reaches (R.statements_on closing c (walk.after_statement f w)
+      (with_kept before (statement_tree f w)) (V.ends_itself (statement_tree f w))) u l all k t)
+      → Reaches (body (R.Statements closing c w before)) s b all k t
+  statement_here reads m on =
+      next (V.statement_begins closing) m.0 (λ e.
+      seen (statement_is (op_at s) (V.statement_place closing (op_at s)) e)
+      (R.statements_at closing c w before (op_at s) (pos_at s)) (part (reads c w j s t true m.1) on))
+
+pub last_statement : (f : Statement) → StatementRead f → StatementsRead (form.LastStatement f)
+last_statement f reads closing c w before k s t b m =
+    statement_here closing c w before _ f reads m (λ u l n.
+    if_false _ (not_true _ n.0) (next (V.closed_due closing) n.1.0 (λ e.
+    seen (last_is (op_at u) (V.after_statement closing (op_at u)) e)
+    (R.separated_at closing c (walk.after_statement f w) (with_kept before (statement_tree f w)) (op_at u) (pos_at u))
+    (gives (ap (λ fs. (fs, walk.after_statement f w)) (sym (last_kept before (statement_tree f w)))) n.1.1))))
+
+pub ended : (f : Statement) (semicolon : Position) (rest : Statements) → StatementRead f → StatementsRead rest
+    → StatementsRead (form.Ended f semicolon rest)
+ended f semicolon rest reads more closing c w before k s t b m =
+    let live = walk.after_statement f w in
+    let so_far = with_kept before (statement_tree f w) in
+    statement_here closing c w before _ f reads m (λ u l n.
+    if_false _ (not_true _ n.0) (peek n.1.0 refl
+    (seen (semicolon_is closing) (R.separated_at closing c live so_far (Sign token.SemiColon) semicolon)
+    (take n.1.0 refl (part (more closing c live so_far k (past code u) t false n.1.1)
+    (λ v a i. gives (ap (λ fs. (fs, walk.after_statements rest live))
+    (kept_statement before (statement_tree f w) (statement_trees rest live))) i))))))
+
+pub standing : (f : Statement) (rest : Statements) → StatementRead f → StatementsRead rest
+    → StatementsRead (form.Standing f rest)
+standing f rest reads more closing c w before k s t b m =
+    let live = walk.after_statement f w in
+    let so_far = with_kept before (statement_tree f w) in
+    statement_here closing c w before _ f reads m (λ u l n.
+    if_true _ n.0 (part (more closing c live so_far k u t l n.1)
+    (λ v a i. gives (ap (λ fs. (fs, walk.after_statements rest live))
+    (kept_statement before (statement_tree f w) (statement_trees rest live))) i)))
+
+-- ---- blocks
+
+block_end : (at : Position) (fs : node.Statements) (closing : Position)
+    → IsRead (R.BlockEnd at fs) (block_ends at fs) closing
+block_end at fs closing k s t b m = peek m.0 refl (due m.0 refl refl (ret m.1))
+
+pub many : (fs : Statements) (closing : Position) → StatementsRead fs → BodyRead (form.Many fs closing)
+many fs closing reads c w at k s t b m =
+    seen (not_true _ m.0) (R.block_on c w at) (part (reads Brace c (in_block w) node.no_statements _ s t b m.1)
+    (λ u l n. part (block_end at (statement_trees fs (in_block w)) closing k u t l n) (λ v a i. ret i)))
+
+pub single : (x : ExprStatement) (closing : Position) → ExprStatementRead x → BodyRead (form.Single x closing)
+single x closing reads c w at k s t b m =
+    seen m.0 (R.block_on c w at) (part (reads c w _ s t b m.1)
+    (λ u l n. part (block_end at (node.one_statement (statement_of x w) node.no_statements) closing k u t l n)
+    (λ v a i. ret i)))
+
+pub block_value : (opening : Position) (f : Body) → BodyRead f → PrimaryRead (form.BlockValue opening f)
+block_value opening f reads c w ranged called k s t b m behind =
+    peek m.1.0 refl (if_true _ m.0 (take m.1.0 refl (if_true _ m.1.1.0 (if_true _ m.1.1.1.0
+    (part (reads (level_up (level_up c)) w opening k (past code s) t false m.1.1.1.1) (λ u l n. ret n))))))

@@ -1,0 +1,222 @@
+-- Statements, their lists, and blocks.
+use Rattle.std.proofs.Common.{◌≡◌, Bool, true, false, Option, Some, None, List, [], ◌∷◌, refl, sym, ap}
+use Rattle.std.specs.Prelude.{not}
+use Rattle.rhai_lower.specs.Lexemes.{Lexeme, Sign, text_of}
+use Rattle.rhai_lower.specs.Nodes.{Node, position_of}
+use Rattle.rhai_lower.specs.Positions.{nowhere}
+use Rattle.rhai_lower.specs.Nodes as node
+use Rattle.rhai_lower.specs.declared.position.Position.{Position}
+use Rattle.rhai_grammar.specs.Causes.{AssignmentToConstant, Refusal, refusal}
+use Rattle.rhai_grammar.specs.Delivered.{code, item, Point, next_at, past, is_memory}
+use Rattle.rhai_grammar.specs.Contexts.{Context, Live, has_single_blocks, in_block, level_up}
+use Rattle.rhai_grammar.specs.Beginnings.{is_name}
+use Rattle.rhai_grammar.specs.Definitions as walk
+use Rattle.rhai_grammar.specs.Forms as form
+use Rattle.rhai_grammar.specs.Forms.{Run, Statement}
+use Rattle.rhai_grammar.specs.Statements as V
+use Rattle.rhai_grammar.specs.Chains.{Bracket, Chain, Dotted, Link, LinkKind, chain_of}
+use Rattle.rhai_grammar.specs.Kinds.{is_constant}
+use Rattle.rhai_grammar.specs.Targets.{chain_fault, invalid, is_assignment, is_constant_use, is_equals, item_fault, links_fault, root_fault}
+use Rattle.rhai_grammar.specs.Targets.{target_fault, update_of, value_fault}
+use Rattle.rhai_grammar.specs.Trees.{definition_tree, statement_of, statement_tree, statement_trees, tree, with_kept}
+use Rattle.rhai_grammar.specs.declared.due.DueToken.TheVariants as due
+use Rattle.rhai_grammar.specs.declared.role.AfterStatement.{AfterStatement}
+use Rattle.rhai_grammar.specs.declared.role.AfterStatement.TheVariants as after
+use Rattle.rhai_grammar.specs.declared.role.Closing.{Closing}
+use Rattle.rhai_grammar.specs.declared.role.Closing.TheVariants.{Brace}
+use Rattle.rhai_grammar.specs.declared.role.StatementPlace.{StatementPlace}
+use Rattle.rhai_grammar.specs.declared.role.StatementPlace.TheVariants as place
+use Rattle.rhai_grammar.specs.declared.role.StatementStart.{StatementStart}
+use Rattle.rhai_grammar.specs.declared.role.StatementStart.TheVariants as start
+use Rattle.rhai_reading.specs.Reading as R
+use Rattle.rhai_reading.specs.Reading.{body}
+use Rattle.rhai_reading.proofs.Beginnings.{equals_is, name_is, no_name, separated, started}
+use Rattle.rhai_reading.proofs.Dues.{expect}
+use Rattle.rhai_reading.proofs.FormKinds.{expressions, expr_statements, NameForm, var_names, initializers, statements}
+use Rattle.rhai_reading.proofs.FormKinds.{statement_lists, blocks, block_ends, definition_of, definitions}
+use Rattle.rhai_reading.proofs.Lists.{kept_statement, last_kept, no_statement}
+use Rattle.rhai_reading.proofs.Looks.{op_at, pos_at}
+use Rattle.rhai_reading.proofs.Paths.{Fits, ◌▹◌}
+use Rattle.rhai_reading.proofs.Shows.{Histories, Goes, ill, wrong, fine, fails, take, look, either, gives, done, refuse}
+use Rattle.rhai_reading.proofs.Shows.{halt, test, raise, part, first, ends, Passed}
+use Rattle.rhai_reading.proofs.Sound.Chains.{Early, early, early_if, early_or, faulted, unfaulted}
+use Rattle.rhai_reading.proofs.Sound.Law.{AllSound, any_run}
+
+-- ---- targets
+
+item_early : (k : LinkKind) (x : Node) → Early (item_fault k x)
+item_early Bracket x = tt
+item_early Dotted (node.method_call c arguments p) = refl
+item_early Dotted _ = tt
+
+links_early : (ls : List Link) → Early (links_fault ls)
+links_early [] = tt
+links_early (l ∷ ls) = early_or (item_fault l.kind l.item) (links_fault ls) (item_early l.kind l.item) (links_early ls)
+
+root_early : (x : Node) → Early (root_fault x)
+root_early (node.this p) = tt
+root_early (node.variable v p) = tt
+root_early _ = refl
+
+chain_early : (c : Chain) → Early (chain_fault c)
+chain_early c = early_or (links_fault c.links) (root_fault c.root) (links_early c.links) (root_early c.root)
+
+value_early : (constant : Bool) (at : Position) → Early (value_fault constant at)
+value_early true at = refl
+value_early false at = refl
+
+target_early : (constant : Bool) (op : Lexeme) (at : Position) (x : Node) → Early (target_fault constant op at x)
+target_early constant op at (node.this p) = tt
+target_early constant op at (node.variable v p) = early_if constant (Some (refusal (AssignmentToConstant v.name) p)) None refl tt
+target_early constant op at (node.dot x y m p) = chain_early (chain_of (node.dot x y m p))
+target_early constant op at (node.index x y m p) = chain_early (chain_of (node.index x y m p))
+target_early constant op at (node.conjunction ns p) = early_if (is_equals op) _ (Some (invalid p)) refl refl
+target_early constant op at (node.disjunction ns p) = early_if (is_equals op) _ (Some (invalid p)) refl refl
+target_early constant op at (node.coalescing ns p) = early_if (is_equals op) _ (Some (invalid p)) refl refl
+target_early constant op at x = value_early (is_constant x) (position_of x)
+
+-- ---- expressions and assignments
+
+module _ {call : Histories} (ih : AllSound call) (c : Context) (w : Live) (s : Point) where
+  -- after the value of an assignment
+  assigned_by : (f x : Run) (t u : Point) (b : Bool) → Passed (expressions c w) f s t
+      → is_assignment (op_at t) ≡ true → Passed (expressions c w) x (past code t) u
+      → (v : Option Refusal) → target_fault (is_constant_use w.slots (tree f w)) (op_at t) (pos_at t) (tree f w) ≡ v
+      → Goes call (expr_statements c w) s
+      (R.assigned_on (node.assignment (update_of (op_at t)) (tree f w) (tree x w) (pos_at t)) v) u b
+  assigned_by f x t u b G is H None e =
+      done (form.Assign f (op_at t) (pos_at t) x) (λ k o r. G.on (is ▹ refl ▹ H.on (unfaulted e r)))
+  assigned_by f x t u b G is H (Some d) e =
+      halt (form.Assign f (op_at t) (pos_at t) x) (early _ d (target_early (is_constant_use w.slots (tree f w)) (op_at t) (pos_at t) (tree f w)) e)
+      (λ k. G.on (is ▹ refl ▹ H.on (faulted k e)))
+
+  pub evaluated : (b : Bool) → Goes call (expr_statements c w) s (body (R.ExprStatement c w)) s b
+  evaluated b =
+      part (ih.of (R.Expression c w) s b) form.Evaluate (λ f k o r. r _) (λ f t a G.
+      look (λ m. either (is_assignment (op_at t))
+      (λ is. take (part (ih.of (R.Expression c w) (past code t) false) (form.Assign f (op_at t) (pos_at t))
+      (λ x k o r. G.on (is ▹ refl ▹ r _))
+      (λ x u d H. assigned_by f x t u d G is H (target_fault (is_constant_use w.slots (tree f w)) (op_at t) (pos_at t) (tree f w)) refl)))
+      (λ none. done (form.Evaluate f) (λ k o r. G.on (fine m (rw none) ▹ r)))))
+
+  -- ---- definitions
+
+  pub var_name : (b : Bool) → Goes call (var_names c w) s (body (R.VarName c w)) s b
+  var_name b =
+      let here : NameForm = record { name = text_of (op_at s); at = pos_at s } in
+      look (λ m. either (is_name (op_at s))
+      (λ named. take (test (walk.may_define c (text_of (op_at s)) w) here refl
+      (λ taken k. name_is (op_at s) (pos_at s) named ▹ fails taken)
+      (λ free. done here (λ k o r. name_is (op_at s) (pos_at s) named ▹ free ▹ r))))
+      (λ other. refuse here (λ k. wrong m (no_name (op_at s) other))))
+
+  pub initializer : (at : Position) (b : Bool) → Goes call (initializers c w at) s (body (R.Initializer c w at)) s b
+  initializer at b =
+      look (λ m. either (is_equals (op_at s))
+      (λ is. take (raise c (form.Valued (pos_at s) any_run) (λ high k. equals_is (op_at s) (pos_at s) is ▹ fails high)
+      (λ below. ends (ih.of (R.Expression (level_up c) w) (past code s) false) (form.Valued (pos_at s)) (λ v f. refl)
+      (λ f k o r. equals_is (op_at s) (pos_at s) is ▹ below ▹ r))))
+      (λ none. done form.NoValue (λ k o r. fine m (rw none) ▹ r)))
+
+  pub definition : (at : Position) (constant : Bool) (b : Bool)
+      → Goes call (definitions c w at constant) s (body (R.Definition c w at constant)) s b
+  definition at constant b =
+      first (ih.of (R.VarName c w) s b) (λ f x. record { name = f; value = x }) form.NoValue (λ f x k o r. r) (λ f t a.
+      ends {v = λ x. (definition_tree constant at f.name x w, walk.defined f.name constant w)}
+      (ih.of (R.Initializer c w at) t a) (λ x. x) (λ v x. refl) (λ x k o r. r))
+
+  defined : (constant : Bool) → next_at code s ≡ item (Sign (V.keyword_of constant)) (pos_at s)
+      → Goes call (statements c w) s (R.definition_on c w (pos_at s) constant) s true
+  defined constant here =
+      take (raise c (form.Define constant (pos_at s) [] nowhere form.NoValue) (λ high k. here ▹ fails high) (λ below.
+      ends (ih.of (R.Definition (level_up c) w (pos_at s) constant) (past code s) false) (definition_of constant (pos_at s))
+      (λ v f. refl) (λ f k o r. here ▹ below ▹ r)))
+
+  -- ---- statements
+
+  statement_by : (v : StatementStart) → V.statement_start (op_at s) ≡ v → is_memory (op_at s) ≡ false
+      → Goes call (statements c w) s (R.statement_at c w (pos_at s) v) s true
+  statement_by start.Empty e m = take (done (form.EmptyStatement (pos_at s)) (λ k o r. started s e ▹ r))
+  statement_by start.Block e m =
+      let here = started s e in
+      let any = form.Block (pos_at s) (form.Many form.NoStatement nowhere) in
+      take (raise c any (λ high k. here ▹ fails high) (λ below.
+      raise (level_up c) any (λ high k. here ▹ below ▹ fails high) (λ deeper.
+      ends (ih.of (R.Block (level_up (level_up c)) w (pos_at s)) (past code s) false) (form.Block (pos_at s))
+      (λ v f. refl) (λ f k o r. here ▹ below ▹ deeper ▹ r))))
+  statement_by start.Let e m = defined false (started s e)
+  statement_by start.Const e m = defined true (started s e)
+  statement_by start.Expression e m =
+      let begins : Fits V.expression_begins s = fine m (rw e) in
+      raise c (form.Expression (form.Evaluate any_run)) (λ high k. begins ▹ ill m (rw high)) (λ below.
+      ends (ih.of (R.ExprStatement (level_up c) w) s true) form.Expression (λ v f. refl)
+      (λ f k o r. begins ▹ fine m (rw below) ▹ r))
+
+  pub statement : (b : Bool) → Goes call (statements c w) s (body (R.Statement c w)) s b
+  statement b = look (λ m. statement_by (V.statement_start (op_at s)) refl m)
+
+-- ---- lists of statements
+
+module _ {call : Histories} (ih : AllSound call) (closing : Closing) (c : Context) (w : Live)
+    (before : node.Statements) (s : Point) where
+  -- after a statement that does not end by itself
+  separated_by : (f : Statement) (t : Point) → Fits (V.statement_begins closing) s → Passed (statements c w) f s t
+      → V.ends_itself (statement_tree f w) ≡ false → (v : AfterStatement) → V.after_statement closing (op_at t) ≡ v
+      → is_memory (op_at t) ≡ false
+      → Goes call (statement_lists closing c w before) s
+      (R.separated_at closing c (walk.after_statement f w) (with_kept before (statement_tree f w)) (op_at t) (pos_at t) v)
+      t true
+  separated_by f t begins G open_ after.SemiColon e m =
+      take (ends (ih.of (R.Statements closing c (walk.after_statement f w) (with_kept before (statement_tree f w)))
+      (past code t) false) (form.Ended f (pos_at t))
+      (λ v l. ap (λ fs. (fs, walk.after_statements l (walk.after_statement f w))) (sym (kept_statement before
+      (statement_tree f w) (statement_trees l (walk.after_statement f w)))))
+      (λ l k o r. begins ▹ G.on (ap not open_ ▹ separated closing t e ▹ r)))
+  separated_by f t begins G open_ after.Close e m =
+      gives (form.LastStatement f) (ap (λ fs. (fs, walk.after_statement f w)) (last_kept before (statement_tree f w)))
+      (λ k o r. begins ▹ G.on (ap not open_ ▹ fine m (rw e) ▹ r))
+  separated_by f t begins G open_ after.Nothing e m =
+      refuse (form.LastStatement f) (λ k. begins ▹ G.on (ap not open_ ▹ ill m (rw e)))
+
+  list_by : (v : StatementPlace) → V.statement_place closing (op_at s) ≡ v → is_memory (op_at s) ≡ false
+      → Goes call (statement_lists closing c w before) s
+      (R.statements_at closing c w before (op_at s) (pos_at s) v) s true
+  list_by place.Close e m =
+      gives form.NoStatement (ap (λ fs. (fs, w)) (no_statement before)) (λ k o r. fine m (rw e) ▹ r)
+  list_by place.Statement e m =
+      let begins : Fits (V.statement_begins closing) s = fine m (rw e) in
+      part (ih.of (R.Statement c w) s true) form.LastStatement (λ f k o r. begins ▹ r _) (λ f t a G.
+      either (V.ends_itself (statement_tree f w))
+      (λ itself. ends (ih.of (R.Statements closing c (walk.after_statement f w) (with_kept before (statement_tree f w))) t a)
+      (form.Standing f)
+      (λ v l. ap (λ fs. (fs, walk.after_statements l (walk.after_statement f w))) (sym (kept_statement before
+      (statement_tree f w) (statement_trees l (walk.after_statement f w)))))
+      (λ l k o r. begins ▹ G.on (itself ▹ r)))
+      (λ open_. look (λ n. separated_by f t begins G open_ (V.after_statement closing (op_at t)) refl n)))
+  list_by place.Nothing e m = refuse form.NoStatement (λ k. ill m (rw e))
+
+  pub list_of : (b : Bool) → Goes call (statement_lists closing c w before) s (body (R.Statements closing c w before)) s b
+  list_of b = look (λ m. list_by (V.statement_place closing (op_at s)) refl m)
+
+-- ---- blocks
+
+pub block_end : (call : Histories) (at : Position) (fs : node.Statements) (s : Point) (b : Bool)
+    → Goes call (block_ends at fs) s (body (R.BlockEnd at fs)) s b
+block_end call at fs s b =
+    look (λ m. expect due.RightBrace nowhere (λ missing k. missing.way) (λ close.
+    done (pos_at s) (λ k o r. close ▹ r)))
+
+module _ {call : Histories} (ih : AllSound call) (c : Context) (w : Live) (at : Position) (s : Point) where
+  block_by : (single : Bool) → has_single_blocks c ≡ single → (b : Bool)
+      → Goes call (blocks c w at) s (R.block_on c w at single) s b
+  block_by true e b =
+      first (ih.of (R.ExprStatement c w) s b) form.Single nowhere (λ f p k o r. e ▹ r) (λ f t a.
+      ends (ih.of (R.BlockEnd at (node.one_statement (statement_of f w) node.no_statements)) t a) (λ p. p) (λ v p. refl)
+      (λ p k o r. r))
+  block_by false e b =
+      first (ih.of (R.Statements Brace c (in_block w) node.no_statements) s b) form.Many nowhere
+      (λ f p k o r. ap not e ▹ r) (λ f t a.
+      ends (ih.of (R.BlockEnd at (statement_trees f (in_block w))) t a) (λ p. p) (λ v p. refl) (λ p k o r. r))
+
+  pub block : (b : Bool) → Goes call (blocks c w at) s (body (R.Block c w at)) s b
+  block b = block_by (has_single_blocks c) refl b

@@ -1,0 +1,46 @@
+//! How an accepted script is printed: one node per line, indented two spaces deeper than its parent. docs/FORMAT.md has
+//! the line of each node.
+
+mod expr_line;
+mod fields;
+mod stmt_line;
+mod tree;
+
+use crate::escape::Escaped;
+use crate::print::fields::Optional;
+use crate::print::tree::{print_block, print_statements};
+use rhai_lower::{AST, ScriptFuncDef};
+use std::alloc::{AllocError, Global};
+use std::rc::Rc;
+
+fn print_function(text: &mut String, function: &ScriptFuncDef) -> Result<(), AllocError> {
+    if function.private {
+        text.push_str("private ")?;
+    }
+    let this_type = Optional(function.this_type.as_ref().map(|name| Escaped(name)));
+    let name = &function.name;
+    write!(text, "fn {this_type} {name}")?;
+    for parameter in &function.params {
+        write!(text, " {parameter}")?;
+    }
+    text.push_str("\n")?;
+    print_block(text, 1, &function.body)
+}
+
+fn print_functions(text: &mut String, list: &[Rc<ScriptFuncDef>]) -> Result<(), AllocError> {
+    let count = list.len();
+    writeln!(text, "functions {count}")?;
+    for function in list {
+        print_function(text, function)?;
+    }
+    Ok(())
+}
+
+/// The output for an accepted script: the word `accepted`, its statements, and its functions in the order in which they
+/// end. Returns `AllocError` if memory runs out.
+pub fn accepted(alloc: Global, script: &AST) -> Result<String, AllocError> {
+    let mut text = String::from_str(alloc, "accepted\n")?;
+    print_statements(&mut text, 0, &script.statements)?;
+    print_functions(&mut text, &script.functions)?;
+    Ok(text)
+}

@@ -1,0 +1,165 @@
+//! Statements: which end by themselves, lists of them, and the nodes of definitions, assignments and blocks.
+
+ghost use Rattle.std.specs.Prelude.{◌≡◌, IfOk, OnOk, false, option_map};
+ghost use Rattle.std.specs.Int.NonZero.{non_zero_usize_get};
+ghost use Rattle.std.specs.Rc.{rc_str_bytes};
+ghost use Rattle.rhai_lower.specs.Lexemes.{lexeme};
+ghost use Rattle.rhai_lower.specs.Nodes.{assignment, block_statement, block_value, braces, expression, var_statement};
+ghost use Rattle.rhai_lower.specs.View.{block_view, statement_view, statement_views, view};
+ghost use Rattle.rhai_grammar.specs.Statements.{ends_itself};
+ghost use Rattle.rhai_grammar.specs.Targets.{update_of};
+ghost use Rattle.rhai_grammar.specs.Trees.{with_kept};
+ghost use Rattle.rhai_trees.specs.Statements.{is_empty};
+
+use rhai_lower::{BinaryExpr, Expr, Position, Stmt, StmtBlock, Token};
+use std::alloc::{AllocError, Global};
+use std::num::NonZeroUsize;
+use std::rc::RcStr;
+
+/// Whether a statement ends by itself, so that no `;` has to follow it: an empty one, or a block. Does not allocate.
+pub fn ends_itself(statement: &Stmt) -> bool
+    ensures { result ≡ ends_itself (statement_view statement.now) }
+{
+    match statement {
+        Stmt::Noop(_) | Stmt::Block(_) => true,
+        Stmt::If(_, _)
+        | Stmt::Switch { .. }
+        | Stmt::While(_, _)
+        | Stmt::Do { .. }
+        | Stmt::For(_, _)
+        | Stmt::Var { .. }
+        | Stmt::Assignment { .. }
+        | Stmt::Expr(_)
+        | Stmt::TryCatch(_, _)
+        | Stmt::BreakLoop { .. }
+        | Stmt::Return { .. }
+        | Stmt::Import { .. }
+        | Stmt::Export { .. }
+        | Stmt::Share(_, _) => false,
+    }
+}
+
+// Whether a statement is empty.
+fn is_empty(statement: &Stmt) -> bool
+    ensures { result ≡ is_empty (statement_view statement.now) }
+{
+    match statement {
+        Stmt::Noop(_) => true,
+        Stmt::If(_, _)
+        | Stmt::Switch { .. }
+        | Stmt::While(_, _)
+        | Stmt::Do { .. }
+        | Stmt::For(_, _)
+        | Stmt::Var { .. }
+        | Stmt::Assignment { .. }
+        | Stmt::Expr(_)
+        | Stmt::Block(_)
+        | Stmt::TryCatch(_, _)
+        | Stmt::BreakLoop { .. }
+        | Stmt::Return { .. }
+        | Stmt::Import { .. }
+        | Stmt::Export { .. }
+        | Stmt::Share(_, _) => false,
+    }
+}
+
+/// Adds a statement to a list, unless it is empty. Returns `AllocError` if memory runs out.
+#[tactic(auto, using(crate::proofs::StatementLemmas::kept))]
+pub fn push_statement(list: &mut Vec<Stmt>, statement: Stmt) -> Result<(), AllocError>
+    ensures { OnOk result (statement_views list.new.items
+        ≡ with_kept (statement_views list.old.items) (statement_view statement)) }
+{
+    if is_empty(&statement) {
+        return Ok(());
+    }
+    list.push(statement)?;
+    Ok(())
+}
+
+// The token of an assignment in the tree, where `=` is left out.
+fn update_of(op: Token) -> Option<Token>
+    ensures { option_map lexeme result ≡ update_of (lexeme op) }
+{
+    match op {
+        Token::Equals => None,
+        other => Some(other),
+    }
+}
+
+/// An assignment, whose token is `op`, at `pos`. Returns `AllocError` if memory runs out.
+pub fn make_assignment(
+    alloc: Global,
+    op: Token,
+    pos: Position,
+    target: Expr,
+    value: Expr,
+) -> Result<Stmt, AllocError>
+    ensures { IfOk result (λ s. statement_view s
+        ≡ assignment (update_of (lexeme op)) (view target) (view value) pos) }
+{
+    let sides = BinaryExpr {
+        lhs: target,
+        rhs: value,
+    };
+    Ok(Stmt::Assignment {
+        op: update_of(op),
+        operands: Box::new(alloc, sides)?,
+        pos,
+    })
+}
+
+/// An expression as a statement. Returns `AllocError` if memory runs out.
+pub fn make_expression(alloc: Global, expr: Expr) -> Result<Stmt, AllocError>
+    ensures { IfOk result (λ s. statement_view s ≡ expression (view expr)) }
+{
+    Ok(Stmt::Expr(Box::new(alloc, expr)?))
+}
+
+/// The definition of a variable or a constant, which is not exported; `number` is that of the slot that it uses again.
+/// Returns `AllocError` if memory runs out.
+pub fn make_definition(
+    alloc: Global,
+    name: RcStr,
+    value: Expr,
+    number: Option<NonZeroUsize>,
+    constant: bool,
+    pos: Position,
+) -> Result<Stmt, AllocError>
+    ensures { IfOk result (λ s. statement_view s ≡ var_statement
+        (rc_str_bytes name) (view value) (option_map non_zero_usize_get number) constant false pos) }
+{
+    Ok(Stmt::Var {
+        name,
+        value: Box::new(alloc, value)?,
+        index: number,
+        constant,
+        exported: false,
+        pos,
+    })
+}
+
+/// Statements in braces, which are at these positions. Does not allocate.
+pub fn make_block(statements: Vec<Stmt>, start: Position, end: Position) -> StmtBlock
+    ensures { block_view result ≡ braces (statement_views statements.items) start end }
+{
+    StmtBlock {
+        statements,
+        start,
+        end,
+    }
+}
+
+/// A block as a statement. Returns `AllocError` if memory runs out.
+pub fn make_block_statement(alloc: Global, block: StmtBlock) -> Result<Stmt, AllocError>
+    ensures { IfOk result (λ s. statement_view s ≡ block_statement (block_view block)) }
+{
+    Ok(Stmt::Block(Box::new(alloc, block)?))
+}
+
+/// A block as an operand. Returns `AllocError` if memory runs out.
+#[tactic(auto, using(rhai_lower::proofs::Views::view_block_value))]
+pub fn make_block_value(alloc: Global, block: StmtBlock) -> Result<Expr, AllocError>
+    ensures { IfOk result (λ e. view e ≡ block_value (block_view block)) }
+{
+    Ok(Expr::Stmt(Box::new(alloc, block)?))
+}
