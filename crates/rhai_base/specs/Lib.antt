@@ -13,4 +13,5 @@ pub mod Settings
 pub mod Shown
 pub mod Statements
 pub mod States
+pub mod Strings
 pub mod Words

@@ -1,5 +1,5 @@
 //! What the readers ask of tokens and make of them without reading an expression: tests, operators, names, keys,
-//! lists, due tokens, statements and refusals.
+//! lists, texts of strings, due tokens, statements and refusals.
 
 pub mod due;
 pub mod items;
@@ -10,4 +10,5 @@ pub mod names;
 pub mod operators;
 pub mod refusals;
 pub mod statements;
+pub mod strings;
 pub mod tokens;

@@ -1,21 +1,26 @@
 -- No token is both required and refused at one place.
-use Rattle.std.proofs.Common.{◌≡◌, ℕ, ◌+◌, Bool, true, false, ◌&&◌, refl, ap, subst, inl, inr, if◌then◌else◌}
+use Rattle.std.proofs.Common.{◌≡◌, ℕ, ◌+◌, Bool, true, false, refl, ap, subst, inl, inr, if◌then◌else◌}
 use Rattle.std.specs.Prelude.{Option, Some, None}
 use Rattle.rhai_lower.specs.Nodes.{Properties, no_properties, position_of, property, with_property}
-use Rattle.rhai_lower.specs.Lexemes.{Lexeme, Name, Reserved, Sign, text_of}
+use Rattle.rhai_lower.specs.Lexemes.{Lexeme, Interpolated, Name, Reserved, Sign, text_of}
 use Rattle.rhai_lower.specs.declared.position.Position.{Position}
 use Rattle.rhai_lower.specs.declared.token.Token.TheVariants as token
 use Rattle.rhai_grammar.specs.declared.role.Beginning.{Beginning}
 use Rattle.rhai_grammar.specs.declared.role.Beginning.TheVariants as begin
-use Rattle.rhai_grammar.specs.Beginnings.{beginning, no_operand, omits_operand, is_range, is_sign, is_value}
+use Rattle.rhai_grammar.specs.Beginnings.{beginning, no_operand, is_range, is_sign, is_value}
+use Rattle.rhai_grammar.specs.Starts.{begins, is_jump, is_omitted, jump_token, operand_start}
+use Rattle.rhai_grammar.specs.declared.role.OperandPlace.{OperandPlace}
+use Rattle.rhai_grammar.specs.declared.role.OperandPlace.TheVariants as place
+use Rattle.rhai_grammar.specs.declared.role.OperandStart.{OperandStart}
+use Rattle.rhai_grammar.specs.declared.role.OperandStart.TheVariants as start
 use Rattle.rhai_grammar.specs.Causes.{Refusal}
 use Rattle.rhai_grammar.specs.Chains.{index_refusal, last_fault}
-use Rattle.rhai_grammar.specs.Contexts.{Context, Live, has_block_values, in_block, level_up}
+use Rattle.rhai_grammar.specs.Contexts.{Context, Live, in_block, level_up}
 use Rattle.rhai_grammar.specs.Delivered as M
-use Rattle.rhai_grammar.specs.Delivered.{Item, Point, is_memory, next_at, past}
+use Rattle.rhai_grammar.specs.Delivered.{Item, Mode, Point, is_memory, next_at, past}
 use Rattle.rhai_grammar.specs.Demands.{◌▸◌, Ahead, Blames, Demands, Fine, Met, Missed, Next, Nothing, Otherwise, Refused, Refuses, Shape, Test, Tok, Verdict, Wrong, verdict}
 use Rattle.rhai_grammar.specs.Forms as form
-use Rattle.rhai_grammar.specs.Forms.{Arguments, Base, Body, Elements, ExprStatement, Fields, Initializer, Items, Links, Operand, Primary, Run, Statement, Statements}
+use Rattle.rhai_grammar.specs.Forms.{Arguments, Base, Body, Elements, ExprStatement, Fields, Initializer, Items, JumpValue, Links, Operand, Primary, Run, Segments, Statement, Statements}
 use Rattle.rhai_grammar.specs.Definitions.{after_statement}
 use Rattle.rhai_grammar.specs.Statements as S
 use Rattle.rhai_grammar.specs.Targets.{is_constant_use, target_fault}
@@ -28,7 +33,7 @@ use Rattle.rhai_grammar.specs.Verdicts as V
 use Rattle.rhai_grammar.specs.Written as W
 use Rattle.rhai_grammar.specs.Written.{operands_fit}
 use Rattle.rhai_grammar.specs.Spots.{LinkSpot, Outermost, RightOf, Side, Spot, spot_after_bracket, spot_after_dot}
-use Rattle.rhai_grammar.specs.Spots.{spot_after_operand, height_after, is_ranged, outermost, right_side}
+use Rattle.rhai_grammar.specs.Spots.{spot_after_operand, height_after, outermost, place_of, right_side}
 
 -- ---- one token
 
@@ -39,31 +44,35 @@ unless false v e = e
 anything : (l : Lexeme) → is_refused (verdict V.anything l) ≡ false
 anything l = unless (is_memory l) Otherwise refl
 
-operand_due : (c : Context) (ranged : Bool) (l : Lexeme) → is_refused (V.beginning_due c l (beginning l)) ≡ false → is_refused (verdict (V.operand_due c ranged) l) ≡ false
-operand_due c ranged l e = unless (is_memory l) (V.operand_due c ranged l) (unless (ranged && omits_operand l) (V.beginning_due c l (beginning l)) e)
+-- a token that begins an operand
+operand_due : (c : Context) (p : OperandPlace) (l : Lexeme) → begins c (beginning l) ≡ true → is_refused (verdict (V.operand_due c p) l) ≡ false
+operand_due c p l e = unless (is_memory l) (V.operand_due c p l) (by (operand_start p l))
+  where
+    by : (v : OperandStart) → is_refused (V.beginning_due c l v) ≡ false
+    by start.Written = ap (λ b. is_refused (if b then Otherwise else Wrong (no_operand l))) e
+    by start.Omitted = refl
+    by start.Jump = refl
 
-block_due : (c : Context) (l : Lexeme) → has_block_values c ≡ true → is_refused (V.beginning_due c l begin.Block) ≡ false
-block_due c l on = ap (λ b. is_refused (if b then Otherwise else Wrong (no_operand l))) on
+value_begins : (c : Context) (b : Beginning) → is_value b ≡ true → begins c b ≡ true
+value_begins c begin.Value e = refl
+value_begins c _ e = absurd cc
 
-value_due : (c : Context) (l : Lexeme) (b : Beginning) → is_value b ≡ true → is_refused (V.beginning_due c l b) ≡ false
-value_due c l begin.Nothing e = absurd cc
-value_due c l begin.Block e = absurd cc
-value_due c l _ e = refl
+sign_begins : (c : Context) (b : Beginning) → is_sign b ≡ true → begins c b ≡ true
+sign_begins c begin.Sign e = refl
+sign_begins c _ e = absurd cc
 
-sign_due : (c : Context) (l : Lexeme) (b : Beginning) → is_sign b ≡ true → is_refused (V.beginning_due c l b) ≡ false
-sign_due c l begin.Nothing e = absurd cc
-sign_due c l begin.Block e = absurd cc
-sign_due c l _ e = refl
+range_begins : (c : Context) (b : Beginning) → is_range b ≡ true → begins c b ≡ true
+range_begins c begin.Range e = refl
+range_begins c _ e = absurd cc
 
-range_due : (c : Context) (l : Lexeme) (b : Beginning) → is_range b ≡ true → is_refused (V.beginning_due c l b) ≡ false
-range_due c l begin.Nothing e = absurd cc
-range_due c l begin.Block e = absurd cc
-range_due c l _ e = refl
+-- where none is written
+omitted_due : (c : Context) (l : Lexeme) (v : OperandStart) → is_omitted v ≡ true → is_refused (V.beginning_due c l v) ≡ false
+omitted_due c l start.Omitted e = refl
+omitted_due c l _ e = absurd cc
 
--- where an operand is omitted
-none_due : (b : Bool) (v : Verdict) → b ≡ true → is_refused (if b then Otherwise else v) ≡ false
-none_due true v e = refl
-none_due false v e = absurd cc
+jump_due : (c : Context) (l : Lexeme) (v : OperandStart) → is_jump v ≡ true → is_refused (V.beginning_due c l v) ≡ false
+jump_due c l start.Jump e = refl
+jump_due c l _ e = absurd cc
 
 key_due : (k : KeyPlace) → is_key k ≡ true → is_refused (V.key_at k) ≡ false
 key_due (NoKey why) e = absurd cc
@@ -84,26 +93,28 @@ raised Outermost k h = h
 raised (RightOf op height) k h = h
 
 mutual
-  primary : (x : Primary) (c : Context) (w : Live) (ranged : Bool) (k : Demands) → IsFair k → IsFair (W.primary x c w ranged k)
-  primary (form.Value token at) c w ranged k h = λ e. (operand_due c ranged token (value_due c token (beginning token) e), h)
-  primary (form.Named name at) c w ranged k h = (operand_due c ranged (Name name) refl, h)
-  primary (form.Word word at) c w ranged k h = (operand_due c ranged (Reserved word) refl, h)
-  primary (form.Group opening inside closing) c w ranged k h =
-      (operand_due c ranged (Sign token.LeftParen) refl, run inside (outermost (level_up (level_up c)) w) _ (refl, h))
-  primary (form.Array opening list) c w ranged k h =
-      (operand_due c ranged (Sign token.LeftBracket) refl, elements list 0 (level_up c) w opening k h)
-  primary (form.Map opening list) c w ranged k h =
-      (operand_due c ranged (Sign token.MapStart) refl, fields list no_properties (level_up c) w opening k h)
-  primary (form.BlockValue opening f) c w ranged k h = λ on.
-      (operand_due c ranged (Sign token.LeftBrace) (block_due c (Sign token.LeftBrace) on), block f (level_up (level_up c)) w k h)
-  primary (form.Zero range at) c w ranged k h = λ e. (operand_due c ranged range (range_due c range (beginning range) e), h)
+  primary : (x : Primary) (c : Context) (w : Live) (p : OperandPlace) (k : Demands) → IsFair k → IsFair (W.primary x c w p k)
+  primary (form.Value token at) c w p k h = λ e. (operand_due c p token (value_begins c (beginning token) e), h)
+  primary (form.Named name at) c w p k h = (operand_due c p (Name name) refl, h)
+  primary (form.Word word at) c w p k h = (operand_due c p (Reserved word) refl, h)
+  primary (form.Group opening inside closing) c w p k h =
+      (operand_due c p (Sign token.LeftParen) refl, run inside (outermost (level_up (level_up c)) w) _ (refl, h))
+  primary (form.Array opening list) c w p k h =
+      (operand_due c p (Sign token.LeftBracket) refl, elements list 0 (level_up c) w opening k h)
+  primary (form.Map opening list) c w p k h =
+      (operand_due c p (Sign token.MapStart) refl, fields list no_properties (level_up c) w opening k h)
+  primary (form.Interpolated first at list) c w p k h =
+      (operand_due c p (Interpolated first) refl, segments list (level_up c) w at k h)
+  primary (form.BlockValue opening f) c w p k h = λ on.
+      (operand_due c p (Sign token.LeftBrace) on, block f (level_up (level_up c)) w k h)
+  primary (form.Zero range at) c w p k h = λ e. (operand_due c p range (range_begins c (beginning range) e), h)
 
-  base : (x : Base) (c : Context) (w : Live) (ranged : Bool) (k : Demands) → IsFair k → IsFair (W.base x c w ranged k)
-  base (form.Plain x) c w ranged k h = primary x c w ranged _ h
-  base (form.Call x None args) c w ranged k h =
-      primary x c w ranged _ (λ e. arguments args V.anything refl refl c w (position_of (primary_tree x w true)) k h)
-  base (form.Call x (Some bang) args) c w ranged k h =
-      primary x c w ranged _ (λ e. (refl, arguments args V.list_due refl refl c w (position_of (primary_tree x w true)) k h))
+  base : (x : Base) (c : Context) (w : Live) (p : OperandPlace) (k : Demands) → IsFair k → IsFair (W.base x c w p k)
+  base (form.Plain x) c w p k h = primary x c w p _ h
+  base (form.Call x None args) c w p k h =
+      primary x c w p _ (λ e. arguments args V.anything refl refl c w (position_of (primary_tree x w true)) k h)
+  base (form.Call x (Some bang) args) c w p k h =
+      primary x c w p _ (λ e. (refl, arguments args V.list_due refl refl c w (position_of (primary_tree x w true)) k h))
 
   links : (x : Links) (q : LinkSpot) (w : Live) (k : Demands) → IsFair k → IsFair (W.links x q w k)
   links form.NoLink q w k h = unfaulted (last_fault q.before) k h
@@ -122,12 +133,15 @@ mutual
       let l = member_link dot at (method_tree (text_of name) name_at true (argument_trees args w)) in
       (anything dot, (anything name, (refl, arguments args V.list_due refl refl (level_up q.settings) w name_at _ (links rest (spot_after_dot q l) w k h))))
 
-  operand : (x : Operand) (c : Context) (w : Live) (ranged : Bool) (k : Demands) → IsFair k → IsFair (W.operand x c w ranged k)
-  operand (form.Linked x list) c w ranged k h = base x c w ranged _ (links list (spot_after_operand c (base_tree x w)) w k h)
-  operand (form.Signed sign at x) c w ranged k h = λ e.
-      (operand_due c ranged sign (sign_due c sign (beginning sign) e), operand x (level_up c) w false _ h)
-  operand (form.NoOperand token at) c w ranged k h = λ e.
-      (unless (is_memory token) (V.operand_due c ranged token) (none_due (ranged && omits_operand token) (V.beginning_due c token (beginning token)) e), h)
+  operand : (x : Operand) (c : Context) (w : Live) (p : OperandPlace) (k : Demands) → IsFair k → IsFair (W.operand x c w p k)
+  operand (form.Linked x list) c w p k h = base x c w p _ (links list (spot_after_operand c (base_tree x w)) w k h)
+  operand (form.Signed sign at x) c w p k h = λ e.
+      (operand_due c p sign (sign_begins c (beginning sign) e), operand x (level_up c) w place.Elsewhere _ h)
+  operand (form.NoOperand token at) c w p k h = λ e.
+      (unless (is_memory token) (V.operand_due c p token) (omitted_due c token (operand_start p token) e), h)
+  operand (form.Jump throws at x) c w p k h = λ e.
+      let l = Sign (jump_token throws) in
+      (unless (is_memory l) (V.operand_due c p l) (jump_due c l (operand_start p l) e), jump_value x c w at k h)
 
   arguments : (x : Arguments) (others : Lexeme → Verdict) → is_refused (verdict others (Sign token.Unit)) ≡ false → is_refused (verdict others (Sign token.LeftParen)) ≡ false → (c : Context) (w : Live) (name : Position) (k : Demands) → IsFair k → IsFair (W.arguments x others c w name k)
   arguments (form.EmptyPair at) others pair list c w name k h = (pair, h)
@@ -154,8 +168,12 @@ mutual
     (refl, run f (outermost (level_up (level_up c)) w) _ (refl, fields rest (with_property before (text_of key) at (tree f w)) c w opening k h)),
   )
 
+  segments : (x : Segments) (c : Context) (w : Live) (at : Position) (k : Demands) → IsFair k → IsFair (W.segments x c w at k)
+  segments (form.LastSegment opening f last pos) c w at k h = (refl, block f (level_up c) w _ (refl, h))
+  segments (form.Segment opening f next pos rest) c w at k h = (refl, block f (level_up c) w _ (refl, segments rest c w at k h))
+
   run : (f : Run) (q : Spot) (k : Demands) → IsFair k → IsFair (W.run f q k)
-  run (form.Just x) q k h = operand x q.first q.live (is_ranged q.side) _ (raised q.side k h)
+  run (form.Just x) q k h = operand x q.first q.live (place_of q.side) _ (raised q.side k h)
   run (form.Binary op at l r) q k h =
       run l q _ (λ a b d. (
         anything op,
@@ -174,11 +192,16 @@ mutual
   initializer form.NoValue c w at k h = h
   initializer (form.Valued equals f) c w at k h = (refl, run f (outermost (level_up (level_up c)) w) _ h)
 
+  jump_value : (x : JumpValue) (c : Context) (w : Live) (at : Position) (k : Demands) → IsFair k → IsFair (W.jump_value x c w at k)
+  jump_value form.Absent c w at k h = h
+  jump_value (form.Present f) c w at k h = run f (outermost (level_up (level_up c)) w) _ h
+
   statement : (x : Statement) (c : Context) (w : Live) (k : Demands) → IsFair k → IsFair (W.statement x c w k)
   statement (form.EmptyStatement at) c w k h = (refl, h)
   statement (form.Expression x) c w k h = evaluation x (level_up c) w k h
   statement (form.Define constant at name name_at x) c w k h = (refl, (refl, initializer x (level_up c) w at k h))
   statement (form.Block opening f) c w k h = (refl, block f (level_up (level_up c)) w k h)
+  statement (form.Return throws at x) c w k h = (anything (Sign (jump_token throws)), jump_value x c w at k h)
 
   statements : (xs : Statements) (closing : Closing) (c : Context) (w : Live) (k : Demands) → IsFair k → IsFair (W.statements xs closing c w k)
   statements form.NoStatement closing c w k h = h
@@ -206,28 +229,28 @@ unrefused Otherwise at e h r = r
 stands : (others : Lexeme → Verdict) (i due : Item) (e : Refusal) → is_refused (verdict others due.lexeme) ≡ false → i ≡ due → Refused others i e → ⊥
 stands others i due e h same r = unrefused (verdict others due.lexeme) due.at e h (subst (λ x. Refused others x e) same r)
 
-met_or_missed : (ds : Demands) (s t u : Point) (e : Refusal) → IsFair ds → Met ds s t → Missed ds s e u → ⊥
-met_or_missed Nothing s t u e h m n = n
-met_or_missed (Tok mode i others ▸ ds) s t u e h m (inl r) = stands others (next_at mode s) i e h.0 m.0 r.0
-met_or_missed (Tok mode i others ▸ ds) s t u e h m (inr n) = met_or_missed ds (past mode s) t u e h.1 m.1 n.1
-met_or_missed (Ahead i others ▸ ds) s t u e h m (inl r) = stands others (next_at M.code s) i e h.0 m.0 r.0
-met_or_missed (Ahead i others ▸ ds) s t u e h m (inr n) = met_or_missed ds s t u e h.1 m.1 n.1
-met_or_missed (Next v ▸ ds) s t u e h m (inl r) =
+met_or_missed : (ds : Demands) (s t u : Point) (e : Refusal) (n : Mode) → IsFair ds → Met ds s t → Missed ds s e n u → ⊥
+met_or_missed Nothing s t u e o h m n = n
+met_or_missed (Tok mode i others ▸ ds) s t u e o h m (inl r) = stands others (next_at mode s) i e h.0 m.0 r.0
+met_or_missed (Tok mode i others ▸ ds) s t u e o h m (inr n) = met_or_missed ds (past mode s) t u e o h.1 m.1 n.1
+met_or_missed (Ahead i others ▸ ds) s t u e o h m (inl r) = stands others (next_at M.code s) i e h.0 m.0 r.0
+met_or_missed (Ahead i others ▸ ds) s t u e o h m (inr n) = met_or_missed ds s t u e o h.1 m.1 n.1
+met_or_missed (Next v ▸ ds) s t u e o h m (inl r) =
     let i = next_at M.code s in
     unrefused (verdict v i.lexeme) i.at e (ap is_refused m.0) r.0
-met_or_missed (Next v ▸ ds) s t u e h m (inr n) = met_or_missed ds s t u e h m.1 n.1
-met_or_missed (Test holds d ▸ ds) s t u e h m (inl r) = let a = m.0 in let b = r.0 in absurd cc
-met_or_missed (Test holds d ▸ ds) s t u e h m (inr n) = met_or_missed ds s t u e h m.1 n.1
-met_or_missed (Shape holds ▸ ds) s t u e h m n = met_or_missed ds s t u e (h m.0) m.1 n.1
+met_or_missed (Next v ▸ ds) s t u e o h m (inr n) = met_or_missed ds s t u e o h m.1 n.1
+met_or_missed (Test holds d ▸ ds) s t u e o h m (inl r) = let a = m.0 in let b = r.0 in absurd cc
+met_or_missed (Test holds d ▸ ds) s t u e o h m (inr n) = met_or_missed ds s t u e o h m.1 n.1
+met_or_missed (Shape holds ▸ ds) s t u e o h m n = met_or_missed ds s t u e o (h m.0) m.1 n.1
 
 pub forms_are_fair : FormsAreFair
 forms_are_fair = record {
   expression = λ c w. record {
     fair = whole c w;
-    apart = λ f s t u e m n. met_or_missed (W.whole_expression f c w) s t u e (whole c w f) m n;
+    apart = λ f s t u e o m n. met_or_missed (W.whole_expression f c w) s t u e o (whole c w f) m n;
   };
   script = λ c w. record {
     fair = λ fs. statements fs EndMark c w Nothing tt;
-    apart = λ fs s t u e m n. met_or_missed (W.whole_script fs c w) s t u e (statements fs EndMark c w Nothing tt) m n;
+    apart = λ fs s t u e o m n. met_or_missed (W.whole_script fs c w) s t u e o (statements fs EndMark c w Nothing tt) m n;
   };
 }

@@ -1,25 +1,28 @@
 -- What each form demands leads, over the tokens of its spelling, to what comes after it.
-use Rattle.std.proofs.Common.{◌≡◌, ℕ, ◌+◌, Bool, true, false, ◌&&◌, List, [], ◌∷◌, ◌++◌, append-nil, refl, subst}
+use Rattle.std.proofs.Common.{◌≡◌, ℕ, ◌+◌, Bool, true, false, List, [], ◌∷◌, ◌++◌, append-nil, refl, subst}
 use Rattle.std.specs.Prelude.{Option, Some, None}
 use Rattle.rhai_lower.specs.Lexemes.{Lexeme, Sign, text_of}
 use Rattle.rhai_lower.specs.Nodes.{Properties, no_properties, position_of, property, with_property}
 use Rattle.rhai_lower.specs.declared.position.Position.{Position}
 use Rattle.rhai_lower.specs.declared.token.Token.TheVariants.{EOF}
-use Rattle.rhai_grammar.specs.Beginnings.{beginning, omits_operand, is_range}
+use Rattle.rhai_grammar.specs.Beginnings.{beginning, is_range}
+use Rattle.rhai_grammar.specs.Starts.{is_omitted, operand_start}
+use Rattle.rhai_grammar.specs.declared.role.OperandPlace.{OperandPlace}
+use Rattle.rhai_grammar.specs.declared.role.OperandPlace.TheVariants as place
 use Rattle.rhai_grammar.specs.Causes.{Refusal}
 use Rattle.rhai_grammar.specs.Chains.{index_refusal, last_fault}
 use Rattle.rhai_grammar.specs.Contexts.{Context, Live, in_block, level_up}
 use Rattle.rhai_grammar.specs.Definitions.{after_statement}
-use Rattle.rhai_grammar.specs.Delivered.{code, Item, Taken, is_end}
+use Rattle.rhai_grammar.specs.Delivered.{Mode, code, Item, Taken, is_end}
 use Rattle.rhai_grammar.specs.Demands.{◌▸◌, Ahead, Demands, Next, Shape, Test, Tok, Verdict}
 use Rattle.rhai_grammar.specs.Forms as form
 use Rattle.rhai_grammar.specs.Forms.{Arguments, Base, Body, Elements, ExprStatement, Fields, Initializer, Items, Links}
-use Rattle.rhai_grammar.specs.Forms.{Operand, Primary, Run, Statement, Statements}
+use Rattle.rhai_grammar.specs.Forms.{JumpValue, Operand, Primary, Run, Segments, Statement, Statements}
 use Rattle.rhai_grammar.specs.Spelling.{argument_spelling, base_spelling, body_spelling, element_spelling}
 use Rattle.rhai_grammar.specs.Spelling.{evaluation_spelling, field_spelling, initializer_spelling, item_spelling}
-use Rattle.rhai_grammar.specs.Spelling.{link_spelling, operand_spelling, primary_spelling, script_spelling, spelling}
+use Rattle.rhai_grammar.specs.Spelling.{jump_spelling, link_spelling, operand_spelling, primary_spelling, script_spelling, segment_spelling, spelling}
 use Rattle.rhai_grammar.specs.Spelling.{statement_spelling}
-use Rattle.rhai_grammar.specs.Spots.{LinkSpot, Outermost, RightOf, Side, Spot, height_after, is_ranged, outermost}
+use Rattle.rhai_grammar.specs.Spots.{LinkSpot, Outermost, RightOf, Side, Spot, height_after, outermost, place_of}
 use Rattle.rhai_grammar.specs.Spots.{right_side, spot_after_bracket, spot_after_dot, spot_after_operand}
 use Rattle.rhai_grammar.specs.Targets.{is_constant_use, target_fault}
 use Rattle.rhai_grammar.specs.Trees.{argument_trees, base_tree, bracket_link, member_link, method_tree, primary_tree}
@@ -29,20 +32,25 @@ use Rattle.rhai_grammar.specs.Written as W
 use Rattle.rhai_grammar.specs.declared.role.Closing.{Closing}
 use Rattle.rhai_grammar.specs.declared.role.Closing.TheVariants.{Brace}
 
--- Demands lead to others over these tokens, each in code mode, as long as the conditions on the form hold; and no end
--- mark is demanded ahead.
-pub data Leads : List Taken → Demands → Demands → Type 0 where
-  here : {k : Demands} → Leads [] k k
-  tok : {ts : List Taken} {i : Item} {v : Lexeme → Verdict} {ds k : Demands} → Leads ts ds k
-      → Leads (record { mode = code; item = i } ∷ ts) (Tok code i v ▸ ds) k
-  ahead : {ts : List Taken} {i : Item} {v : Lexeme → Verdict} {ds k : Demands} → is_end i.lexeme ≡ false
-      → Leads ts ds k → Leads ts (Ahead i v ▸ ds) k
-  next : {ts : List Taken} {v : Lexeme → Verdict} {ds k : Demands} → Leads ts ds k → Leads ts (Next v ▸ ds) k
-  test : {ts : List Taken} {b : Bool} {e : Refusal} {ds k : Demands} → Leads ts ds k → Leads ts (Test b e ▸ ds) k
-  shape : {ts : List Taken} {b : Bool} {ds k : Demands} → (b ≡ true → Leads ts ds k) → Leads ts (Shape b ▸ ds) k
+-- Demands lead to others over these tokens, as long as the conditions on the form hold; and no end mark is demanded
+-- ahead. The first mode is that of the next token, the second that of the one after these: what looks at the next token
+-- does so in code mode, so nothing looks directly before a text.
+pub data Leads : Mode → Mode → List Taken → Demands → Demands → Type 0 where
+  here : {n : Mode} {k : Demands} → Leads n n [] k k
+  tok : {m n o : Mode} {ts : List Taken} {i : Item} {v : Lexeme → Verdict} {ds k : Demands} → Leads n o ts ds k
+      → Leads m o (record { mode = m; item = i } ∷ ts) (Tok m i v ▸ ds) k
+  ahead : {n : Mode} {ts : List Taken} {i : Item} {v : Lexeme → Verdict} {ds k : Demands} → is_end i.lexeme ≡ false
+      → Leads code n ts ds k → Leads code n ts (Ahead i v ▸ ds) k
+  next : {n : Mode} {ts : List Taken} {v : Lexeme → Verdict} {ds k : Demands} → Leads code n ts ds k
+      → Leads code n ts (Next v ▸ ds) k
+  test : {m n : Mode} {ts : List Taken} {b : Bool} {e : Refusal} {ds k : Demands} → Leads m n ts ds k
+      → Leads m n ts (Test b e ▸ ds) k
+  shape : {m n : Mode} {ts : List Taken} {b : Bool} {ds k : Demands} → (b ≡ true → Leads m n ts ds k)
+      → Leads m n ts (Shape b ▸ ds) k
 
 -- one after the other
-pub on : {a b : List Taken} {ds k j : Demands} → Leads a ds k → Leads b k j → Leads (a ++ b) ds j
+pub on : {m n o : Mode} {a b : List Taken} {ds k j : Demands} → Leads m n a ds k → Leads n o b k j
+    → Leads m o (a ++ b) ds j
 on here h = h
 on (tok r) h = tok (on r h)
 on (ahead e r) h = ahead e (on r h)
@@ -51,56 +59,61 @@ on (test r) h = test (on r h)
 on (shape f) h = shape (λ e. on (f e) h)
 
 -- followed by what has no tokens
-pub all_of : {a : List Taken} {ds k : Demands} → Leads (a ++ []) ds k → Leads a ds k
-all_of {a = a} {ds = ds} {k = k} h = subst (λ ts. Leads ts ds k) (append-nil a) h
+pub all_of : {m n : Mode} {a : List Taken} {ds k : Demands} → Leads m n (a ++ []) ds k → Leads m n a ds k
+all_of {m = m} {n = n} {a = a} {ds = ds} {k = k} h = subst (λ ts. Leads m n ts ds k) (append-nil a) h
 
 range_goes_on : (l : Lexeme) → is_range (beginning l) ≡ true → is_end l ≡ false
 range_goes_on (Sign EOF) e = absurd cc
 range_goes_on _ e = refl
 
-omitted_goes_on : (ranged : Bool) (l : Lexeme) → ranged && omits_operand l ≡ true → is_end l ≡ false
-omitted_goes_on true (Sign EOF) e = absurd cc
-omitted_goes_on true _ e = refl
-omitted_goes_on false l e = absurd cc
+omitted_goes_on : (p : OperandPlace) (l : Lexeme) → is_omitted (operand_start p l) ≡ true → is_end l ≡ false
+omitted_goes_on p (Sign EOF) e = by p e
+  where
+    by : (p : OperandPlace) → is_omitted (operand_start p (Sign EOF)) ≡ true → is_end (Sign EOF) ≡ false
+    by place.AfterRange e = absurd cc
+    by place.AfterCoalesce e = absurd cc
+    by place.Elsewhere e = absurd cc
+omitted_goes_on p _ e = refl
 
-unfaulted : (r : Option Refusal) {ts : List Taken} {k j : Demands} → Leads ts k j → Leads ts (W.unfaulted r k) j
+unfaulted : (r : Option Refusal) {ts : List Taken} {k j : Demands} → Leads code code ts k j → Leads code code ts (W.unfaulted r k) j
 unfaulted None h = h
 unfaulted (Some e) h = test h
 
-raised : (side : Side) {ts : List Taken} {k j : Demands} → Leads ts k j → Leads ts (W.raise_after side k) j
+raised : (side : Side) {ts : List Taken} {k j : Demands} → Leads code code ts k j → Leads code code ts (W.raise_after side k) j
 raised Outermost h = h
 raised (RightOf op height) h = test h
 
 -- the two ends of an expression
 pub expressed : (f : Run) (c : Context) (w : Live) {k : Demands}
-    → Leads (spelling f) (W.run f (outermost (level_up c) w) (W.ended k)) (W.ended k)
-    → Leads (spelling f) (W.expression f c w k) k
+    → Leads code code (spelling f) (W.run f (outermost (level_up c) w) (W.ended k)) (W.ended k)
+    → Leads code code (spelling f) (W.expression f c w k) k
 expressed f c w h = next (all_of (on h (next here)))
 
 mutual
-  pub primary : (x : Primary) (c : Context) (w : Live) (ranged : Bool) (k : Demands)
-      → Leads (primary_spelling x) (W.primary x c w ranged k) k
-  primary (form.Value token at) c w ranged k = shape (λ e. tok here)
-  primary (form.Named name at) c w ranged k = tok here
-  primary (form.Word word at) c w ranged k = tok (next here)
-  primary (form.Group opening inside closing) c w ranged k = tok (test (on (expressed inside (level_up c) w (run inside _ _)) (tok here)))
-  primary (form.Array opening list) c w ranged k = tok (test (elements list 0 (level_up c) w opening k))
-  primary (form.Map opening list) c w ranged k = tok (test (fields list no_properties (level_up c) w opening k))
-  primary (form.BlockValue opening f) c w ranged k =
+  pub primary : (x : Primary) (c : Context) (w : Live) (p : OperandPlace) (k : Demands)
+      → Leads code code (primary_spelling x) (W.primary x c w p k) k
+  primary (form.Value token at) c w p k = shape (λ e. tok here)
+  primary (form.Named name at) c w p k = tok here
+  primary (form.Word word at) c w p k = tok (next here)
+  primary (form.Group opening inside closing) c w p k = tok (test (on (expressed inside (level_up c) w (run inside _ _)) (tok here)))
+  primary (form.Array opening list) c w p k = tok (test (elements list 0 (level_up c) w opening k))
+  primary (form.Map opening list) c w p k = tok (test (fields list no_properties (level_up c) w opening k))
+  primary (form.Interpolated first at list) c w p k = tok (test (segments list (level_up c) w at k))
+  primary (form.BlockValue opening f) c w p k =
       shape (λ e. tok (test (test (block f (level_up (level_up c)) w k))))
-  primary (form.Zero range at) c w ranged k = shape (λ e. ahead (range_goes_on range e) here)
+  primary (form.Zero range at) c w p k = shape (λ e. ahead (range_goes_on range e) here)
 
-  pub base : (x : Base) (c : Context) (w : Live) (ranged : Bool) (k : Demands)
-      → Leads (base_spelling x) (W.base x c w ranged k) k
-  base (form.Plain x) c w ranged k = all_of (on (primary x c w ranged _) (next here))
-  base (form.Call x None args) c w ranged k =
-      on (primary x c w ranged _)
+  pub base : (x : Base) (c : Context) (w : Live) (p : OperandPlace) (k : Demands)
+      → Leads code code (base_spelling x) (W.base x c w p k) k
+  base (form.Plain x) c w p k = all_of (on (primary x c w p _) (next here))
+  base (form.Call x None args) c w p k =
+      on (primary x c w p _)
       (shape (λ e. arguments args V.anything c w (position_of (primary_tree x w true)) k))
-  base (form.Call x (Some bang) args) c w ranged k =
-      on (primary x c w ranged _)
+  base (form.Call x (Some bang) args) c w p k =
+      on (primary x c w p _)
       (shape (λ e. tok (arguments args V.list_due c w (position_of (primary_tree x w true)) k)))
 
-  pub links : (x : Links) (q : LinkSpot) (w : Live) (k : Demands) → Leads (link_spelling x) (W.links x q w k) k
+  pub links : (x : Links) (q : LinkSpot) (w : Live) (k : Demands) → Leads code code (link_spelling x) (W.links x q w k) k
   links form.NoLink q w k = next (unfaulted (last_fault q.before) here)
   links (form.Bracket opening at f closing more) q w k =
       shape (λ e. tok (test (test (on (expressed f (level_up (level_up q.brackets)) w (run f _ _))
@@ -118,27 +131,28 @@ mutual
       shape (λ d. shape (λ e. tok (next (test (tok (next (tok
       (on (arguments args V.list_due (level_up q.settings) w name_at _) (links more (spot_after_dot q l) w k)))))))))
 
-  pub operand : (x : Operand) (c : Context) (w : Live) (ranged : Bool) (k : Demands)
-      → Leads (operand_spelling x) (W.operand x c w ranged k) k
-  operand (form.Linked x list) c w ranged k =
-      on (base x c w ranged _) (links list (spot_after_operand c (base_tree x w)) w k)
-  operand (form.Signed sign at x) c w ranged k =
-      shape (λ e. tok (test (all_of (on (operand x (level_up c) w false _) (test here)))))
-  operand (form.NoOperand token at) c w ranged k = shape (λ e. ahead (omitted_goes_on ranged token e) here)
+  pub operand : (x : Operand) (c : Context) (w : Live) (p : OperandPlace) (k : Demands)
+      → Leads code code (operand_spelling x) (W.operand x c w p k) k
+  operand (form.Linked x list) c w p k =
+      on (base x c w p _) (links list (spot_after_operand c (base_tree x w)) w k)
+  operand (form.Signed sign at x) c w p k =
+      shape (λ e. tok (test (all_of (on (operand x (level_up c) w place.Elsewhere _) (test here)))))
+  operand (form.NoOperand token at) c w p k = shape (λ e. ahead (omitted_goes_on p token e) here)
+  operand (form.Jump throws at x) c w p k = shape (λ e. tok (jump_value x c w at k))
 
   pub arguments : (x : Arguments) (others : Lexeme → Verdict) (c : Context) (w : Live) (name : Position) (k : Demands)
-      → Leads (argument_spelling x) (W.arguments x others c w name k) k
+      → Leads code code (argument_spelling x) (W.arguments x others c w name k) k
   arguments (form.EmptyPair at) others c w name k = tok here
   arguments (form.Empty opening closing) others c w name k = tok (tok here)
   arguments (form.Listed opening list) others c w name k = tok (next (test (items list (level_up c) w k)))
 
-  pub items : (x : Items) (c : Context) (w : Live) (k : Demands) → Leads (item_spelling x) (W.items x c w k) k
+  pub items : (x : Items) (c : Context) (w : Live) (k : Demands) → Leads code code (item_spelling x) (W.items x c w k) k
   items (form.Last f closing) c w k = on (expressed f c w (run f _ _)) (tok here)
   items (form.Trailing f comma closing) c w k = on (expressed f c w (run f _ _)) (tok (tok here))
   items (form.More f comma more) c w k = on (expressed f c w (run f _ _)) (tok (next (items more c w k)))
 
   pub elements : (x : Elements) (count : ℕ) (c : Context) (w : Live) (opening : Position) (k : Demands)
-      → Leads (element_spelling x) (W.elements x count c w opening k) k
+      → Leads code code (element_spelling x) (W.elements x count c w opening k) k
   elements (form.NoElement closing) count c w opening k = tok here
   elements (form.LastElement f closing) count c w opening k =
       next (test (on (expressed f (level_up c) w (run f _ _)) (tok here)))
@@ -146,7 +160,7 @@ mutual
       next (test (on (expressed f (level_up c) w (run f _ _)) (tok (elements more (count + 1) c w opening k))))
 
   pub fields : (x : Fields) (before : Properties) (c : Context) (w : Live) (opening : Position) (k : Demands)
-      → Leads (field_spelling x) (W.fields x before c w opening k) k
+      → Leads code code (field_spelling x) (W.fields x before c w opening k) k
   fields (form.NoField closing) before c w opening k = tok here
   fields (form.LastField key at colon f closing) before c w opening k =
       shape (λ e. tok (test (tok (next (test (on (expressed f (level_up c) w (run f _ _)) (tok here)))))))
@@ -154,35 +168,47 @@ mutual
       let others = fields more (with_property before (text_of key) at (tree f w)) c w opening k in
       shape (λ e. tok (test (tok (next (test (on (expressed f (level_up c) w (run f _ _)) (tok others)))))))
 
-  pub run : (f : Run) (q : Spot) (k : Demands) → Leads (spelling f) (W.run f q k) k
-  run (form.Just x) q k = all_of (on (operand x q.first q.live (is_ranged q.side) _) (next (raised q.side here)))
+  pub segments : (x : Segments) (c : Context) (w : Live) (start : Position) (k : Demands)
+      → Leads code code (segment_spelling x) (W.segments x c w start k) k
+  segments (form.LastSegment opening f last at) c w start k = tok (test (on (block f (level_up c) w _) (tok here)))
+  segments (form.Segment opening f more at rest) c w start k =
+      tok (test (on (block f (level_up c) w _) (tok (segments rest c w start k))))
+
+  pub run : (f : Run) (q : Spot) (k : Demands) → Leads code code (spelling f) (W.run f q k) k
+  run (form.Just x) q k = all_of (on (operand x q.first q.live (place_of q.side) _) (next (raised q.side here)))
   run (form.Binary op at l r) q k =
       let side = right_side op (height_after q l) q.live in
       on (run l q _)
       (shape (λ a. shape (λ b. shape (λ d. tok (all_of (on (run r side _) (next (test (test here)))))))))
 
   pub evaluation : (x : ExprStatement) (c : Context) (w : Live) (k : Demands)
-      → Leads (evaluation_spelling x) (W.expr_statement x c w k) k
+      → Leads code code (evaluation_spelling x) (W.expr_statement x c w k) k
   evaluation (form.Evaluate f) c w k = all_of (on (expressed f c w (run f _ _)) (next here))
   evaluation (form.Assign f op at value) c w k =
       on (expressed f c w (run f _ _)) (shape (λ e. tok (all_of (on (expressed value c w (run value _ _))
       (unfaulted (target_fault (is_constant_use w.slots (tree f w)) op at (tree f w)) here)))))
 
   pub initializer : (x : Initializer) (c : Context) (w : Live) (at : Position) (k : Demands)
-      → Leads (initializer_spelling x) (W.definition_value x c w at k) k
+      → Leads code code (initializer_spelling x) (W.definition_value x c w at k) k
   initializer form.NoValue c w at k = next here
   initializer (form.Valued equals f) c w at k = tok (test (expressed f (level_up c) w (run f _ _)))
 
+  pub jump_value : (x : JumpValue) (c : Context) (w : Live) (at : Position) (k : Demands)
+      → Leads code code (jump_spelling x) (W.jump_value x c w at k) k
+  jump_value form.Absent c w at k = next (test here)
+  jump_value (form.Present f) c w at k = next (test (expressed f (level_up c) w (run f _ _)))
+
   pub statement : (x : Statement) (c : Context) (w : Live) (k : Demands)
-      → Leads (statement_spelling x) (W.statement x c w k) k
+      → Leads code code (statement_spelling x) (W.statement x c w k) k
   statement (form.EmptyStatement at) c w k = tok here
   statement (form.Expression x) c w k = next (next (evaluation x (level_up c) w k))
   statement (form.Define constant at name name_at value) c w k =
       tok (test (tok (test (initializer value (level_up c) w at k))))
   statement (form.Block opening f) c w k = tok (test (test (block f (level_up (level_up c)) w k)))
+  statement (form.Return throws at x) c w k = tok (jump_value x c w at k)
 
   pub statements : (xs : Statements) (closing : Closing) (c : Context) (w : Live) (k : Demands)
-      → Leads (script_spelling xs) (W.statements xs closing c w k) k
+      → Leads code code (script_spelling xs) (W.statements xs closing c w k) k
   statements form.NoStatement closing c w k = next here
   statements (form.LastStatement f) closing c w k = next (all_of (on (statement f c w _) (shape (λ e. next here))))
   statements (form.Ended f semicolon rest) closing c w k =
@@ -190,6 +216,7 @@ mutual
   statements (form.Standing f rest) closing c w k =
       next (on (statement f c w _) (shape (λ e. statements rest closing c (after_statement f w) k)))
 
-  pub block : (x : Body) (c : Context) (w : Live) (k : Demands) → Leads (body_spelling x) (W.block x c w k) k
+  pub block : {n : Mode} (x : Body) (c : Context) (w : Live) (k : Demands)
+      → Leads code n (body_spelling x) (W.block x c w k) k
   block (form.Many fs closing) c w k = shape (λ e. on (statements fs Brace c (in_block w) _) (tok here))
   block (form.Single x closing) c w k = shape (λ e. on (evaluation x c w _) (tok here))

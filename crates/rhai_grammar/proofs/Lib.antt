@@ -5,6 +5,8 @@ pub mod SpellingLemmas
 pub mod StreamLemmas
 pub mod RowLemmas
 pub mod StatementRowLemmas
+pub mod StringRowLemmas
+pub mod StartLemmas
 pub mod SlotLemmas
 pub mod ChainLemmas
 pub mod FairLemmas

@@ -10,7 +10,7 @@ unfolding one_more
 sum_row = record {
   tree_is = refl;
   fits = (refl, (refl, (refl, (refl, (refl, (refl, (refl, (refl, (refl, (refl, (refl, (refl, (refl, (refl, (refl, (refl, (refl, (refl, (refl, (refl, (refl, (refl, (refl, (refl, (refl, (refl, (refl, (refl, (refl, (refl, (refl, (refl, (refl, (refl, refl))))))))))))))))))))))))))))))))));
-  deep = inr (refl, (refl, inr (refl, inr (refl, inr (refl, inr (refl, (refl, (refl, (refl, inr (refl, (refl, inr (refl, inr (refl, inr (refl, inr (refl, inr (refl, (refl, (refl, (refl, inr (refl, (refl, inr (refl, inr (refl, inr (refl, inr (refl, inl (refl, refl, refl))))))))))))))))))))))))));
+  deep = inr (refl, (refl, inr (refl, inr (refl, inr (refl, inr (refl, (refl, (refl, (refl, inr (refl, (refl, inr (refl, inr (refl, inr (refl, inr (refl, inr (refl, (refl, (refl, (refl, inr (refl, (refl, inr (refl, inr (refl, inr (refl, inr (refl, inl (refl, refl, refl, refl))))))))))))))))))))))))));
 }
 
 pub pair_row : PairRow
@@ -18,19 +18,19 @@ unfolding one_more
 pair_row = record {
   tree_is = refl;
   fits = (refl, (refl, (refl, (refl, (refl, (refl, (refl, (refl, (refl, (refl, (refl, (refl, (refl, (refl, (refl, (refl, (refl, (refl, (refl, (refl, (refl, refl)))))))))))))))))))));
-  deep = inr (refl, (refl, inr (refl, inr (refl, inr (refl, inr (refl, (refl, (refl, (refl, inr (refl, (refl, inr (refl, inr (refl, inr (refl, inr (refl, inl (refl, refl, refl))))))))))))))));
+  deep = inr (refl, (refl, inr (refl, inr (refl, inr (refl, inr (refl, (refl, (refl, (refl, inr (refl, (refl, inr (refl, inr (refl, inr (refl, inr (refl, inl (refl, refl, refl, refl))))))))))))))));
 }
 
 pub flat_row : FlatRow
 unfolding one_more
-flat_row = record { tree_is = refl; deep = inr (refl, (refl, inr (refl, inr (refl, inr (refl, inr (refl, (refl, (refl, (refl, inr (refl, (refl, inr (refl, inr (refl, inr (refl, inr (refl, inr (refl, inr (refl, inr (refl, inr (refl, (refl, (refl, (refl, inr (refl, (refl, inr (refl, inr (refl, inr (refl, inr (refl, inl (refl, refl, refl))))))))))))))))))))))))))))) }
+flat_row = record { tree_is = refl; deep = inr (refl, (refl, inr (refl, inr (refl, inr (refl, inr (refl, (refl, (refl, (refl, inr (refl, (refl, inr (refl, inr (refl, inr (refl, inr (refl, inr (refl, inr (refl, inr (refl, inr (refl, (refl, (refl, (refl, inr (refl, (refl, inr (refl, inr (refl, inr (refl, inr (refl, inl (refl, refl, refl, refl))))))))))))))))))))))))))))) }
 
 pub late_row : LateRow
 unfolding one_more
 late_row = record {
   tree_is = refl;
   fits = (refl, (refl, (refl, (refl, (refl, (refl, (refl, (refl, (refl, (refl, (refl, (refl, (refl, (refl, (refl, (refl, (refl, (refl, (refl, (refl, (refl, (refl, (refl, (refl, (refl, (refl, (refl, (refl, (refl, (refl, (refl, (refl, (refl, (refl, (refl, (refl, (refl, (refl, (refl, (refl, (refl, (refl, (refl, (refl, (refl, (refl, (refl, refl)))))))))))))))))))))))))))))))))))))))))))))));
-  deep = inr (refl, (refl, inr (refl, inr (refl, inr (refl, inr (refl, (refl, (refl, (refl, inr (refl, (refl, inr (refl, inr (refl, inr (refl, inr (refl, inr (refl, inr (refl, inr (refl, inr (refl, (refl, (refl, (refl, inr (refl, (refl, inr (refl, inr (refl, inr (refl, inr (refl, inr (refl, (refl, (refl, (refl, inr (refl, (refl, inr (refl, inr (refl, inr (refl, inr (refl, inl (refl, refl, refl)))))))))))))))))))))))))))))))))))))));
+  deep = inr (refl, (refl, inr (refl, inr (refl, inr (refl, inr (refl, (refl, (refl, (refl, inr (refl, (refl, inr (refl, inr (refl, inr (refl, inr (refl, inr (refl, inr (refl, inr (refl, inr (refl, (refl, (refl, (refl, inr (refl, (refl, inr (refl, inr (refl, inr (refl, inr (refl, inr (refl, (refl, (refl, (refl, inr (refl, (refl, inr (refl, inr (refl, inr (refl, inr (refl, inl (refl, refl, refl, refl)))))))))))))))))))))))))))))))))))))));
 }
 
 pub open_row : OpenRow
@@ -43,15 +43,15 @@ minus_row = record { tree_is = refl; fits = (refl, (refl, (refl, (refl, (refl, (
 
 pub ended_row : EndedRow
 unfolding one_more
-ended_row = record { missed = inr (refl, (refl, inr (refl, inr (refl, inr (refl, inr (refl, (refl, (refl, (refl, inr (refl, (refl, inl (refl, refl)))))))))))) }
+ended_row = record { missed = inr (refl, (refl, inr (refl, inr (refl, inr (refl, inr (refl, (refl, (refl, (refl, inr (refl, (refl, inl (refl, refl, refl)))))))))))) }
 
 pub call_row : CallRow
 unfolding one_more number
 call_row = record {
   tree_is = refl;
   fits = (refl, (refl, (refl, (refl, (refl, (refl, (refl, (refl, (refl, (refl, (refl, (refl, (refl, (refl, (refl, (refl, (refl, (refl, refl))))))))))))))))));
-  argument_deep = inr (refl, inr (refl, (refl, inr (refl, inr (refl, inr (refl, inl (refl, refl)))))));
-  list_deep = inr (refl, inr (refl, (refl, inr (refl, inr (refl, inl (refl, refl, refl))))));
+  argument_deep = inr (refl, inr (refl, (refl, inr (refl, inr (refl, inr (refl, inl (refl, refl, refl)))))));
+  list_deep = inr (refl, inr (refl, (refl, inr (refl, inr (refl, inl (refl, refl, refl, refl))))));
 }
 
 pub ranged_row : RangedRow
@@ -60,7 +60,7 @@ ranged_row = record { tree_is = refl; fits = (refl, (refl, (refl, (refl, (refl, 
 
 pub sized_row : SizedRow
 unfolding one_more
-sized_row = record { missed = inr (refl, inr (refl, inr (refl, inr (refl, inr (refl, inr (refl, (refl, inr (refl, inr (refl, inr (refl, inr (refl, inr (refl, inr (refl, inr (refl, inr (refl, inr (refl, (refl, inr (refl, inr (refl, inr (refl, inr (refl, inr (refl, inr (refl, inl (refl, refl)))))))))))))))))))))))) }
+sized_row = record { missed = inr (refl, inr (refl, inr (refl, inr (refl, inr (refl, inr (refl, (refl, inr (refl, inr (refl, inr (refl, inr (refl, inr (refl, inr (refl, inr (refl, inr (refl, inr (refl, (refl, inr (refl, inr (refl, inr (refl, inr (refl, inr (refl, inr (refl, inl (refl, refl, refl)))))))))))))))))))))))) }
 
 pub grouped_row : GroupedRow
 unfolding one_more number
@@ -86,4 +86,4 @@ questioned_row = record { tree_is = refl; fits = (refl, (refl, (refl, (refl, (re
 
 pub capture_row : CaptureRow
 unfolding one_more number
-capture_row = record { missed = inr (refl, inr (refl, inr (refl, (refl, (refl, inr (refl, inr (refl, inr (refl, inr (refl, inr (refl, inr (refl, inr (refl, (refl, inr (refl, inr (refl, inr (refl, inr (refl, inr (refl, inr (refl, inl (refl, refl, refl)))))))))))))))))))) }
+capture_row = record { missed = inr (refl, inr (refl, inr (refl, (refl, (refl, inr (refl, inr (refl, inr (refl, inr (refl, inr (refl, inr (refl, inr (refl, (refl, inr (refl, inr (refl, inr (refl, inr (refl, inr (refl, inr (refl, inl (refl, refl, refl, refl)))))))))))))))))))) }

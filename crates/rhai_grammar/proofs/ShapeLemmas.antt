@@ -13,8 +13,9 @@ use Rattle.rhai_grammar.specs.Beginnings.{is_this, value_of}
 use Rattle.rhai_grammar.specs.Chains.{Bracket, Chain, Dotted, Link, LinkKind, chain_of, chained, is_last, link_node, nest}
 use Rattle.rhai_grammar.specs.Contexts.{Live, in_block}
 use Rattle.rhai_grammar.specs.Forms as form
-use Rattle.rhai_grammar.specs.Forms.{Arguments, Base, Body, Elements, ExprStatement, Fields, Initializer, Items, Links, Operand, Primary, Run, Statement, Statements}
+use Rattle.rhai_grammar.specs.Forms.{Arguments, Base, Body, Elements, ExprStatement, Fields, Initializer, Items, JumpValue, Links, Operand, Primary, Run, Segments, Statement, Statements}
 use Rattle.rhai_grammar.specs.Definitions.{after_statement}
+use Rattle.rhai_grammar.specs.Interpolations.{with_text}
 use Rattle.rhai_grammar.specs.Laws.{TreesKeepShape}
 use Rattle.rhai_grammar.specs.Operators as O
 use Rattle.rhai_grammar.specs.Operators.{Part, joined, joined_tree, joining, list_of_parts, operator_tree, part}
@@ -175,11 +176,19 @@ kept : (f : node.Statement) (rest : node.Statements) → shape.statements_shape 
 kept (node.noop p) rest = refl
 kept _ rest = refl
 
+with_texted : (t : Text) (at : Position) (rest : Nodes) → nodes_shape (with_text t at rest) ≡ with_text t nowhere (nodes_shape rest)
+with_texted [] at rest = refl
+with_texted (c ∷ t) at rest = refl
+
+texted : (t : Text) (at : Position) (rest : Nodes) → node_shape (node.interpolated (with_text t at rest) at) ≡ node.interpolated (with_text t nowhere (nodes_shape rest)) nowhere
+texted t at rest = ap (λ ns. node.interpolated ns nowhere) (with_texted t at rest)
+
 live_after : (f : Statement) (w : Live) → after_statement (shape.written_shape f) w ≡ after_statement f w
 live_after (form.Define constant at text text_at x) w = refl
 live_after (form.EmptyStatement at) w = refl
 live_after (form.Expression x) w = refl
 live_after (form.Block opening f) w = refl
+live_after (form.Return throws at x) w = refl
 
 mutual
   primary : (x : Primary) (w : Live) (called : Bool) → node_shape (primary_tree x w called) ≡ primary_tree (shape.primary_shape x) w called
@@ -189,6 +198,8 @@ mutual
   primary (form.Group opening inside closing) w called = run inside w
   primary (form.Array opening list) w called = let e = elements list w in cc
   primary (form.Map opening list) w called = let e = fields list w in cc
+  primary (form.Interpolated first at list) w called =
+      let e = segments list w in texted first at (T.segment_trees list w) ∙ (cc)
   primary (form.BlockValue opening f) w called = let e = body opening f w in cc
   primary (form.Zero range at) w called = refl
 
@@ -218,6 +229,7 @@ mutual
       chains (base_tree x w) (link_list list w) ∙ (cc)
   operand (form.Signed sign at x) w = sign_effect (effect sign) (plain_sign sign) at (operand_tree x w) ∙ ap (λ n. signed sign nowhere n) (operand x w)
   operand (form.NoOperand token at) w = refl
+  operand (form.Jump throws at x) w = let e = jump x w in cc
 
   arguments : (x : Arguments) (w : Live) → nodes_shape (argument_trees x w) ≡ argument_trees (shape.arguments_shape x) w
   arguments (form.EmptyPair at) w = refl
@@ -239,6 +251,12 @@ mutual
   fields (form.LastField key at colon f closing) w = let e = run f w in cc
   fields (form.Field key at colon f comma rest) w = let e = run f w in let g = fields rest w in cc
 
+  segments : (x : Segments) (w : Live) → nodes_shape (T.segment_trees x w) ≡ T.segment_trees (shape.segments_shape x) w
+  segments (form.LastSegment opening f last at) w =
+      let e = body opening f w in let g = with_texted last at node.no_nodes in cc
+  segments (form.Segment opening f next at rest) w =
+      let e = body opening f w in let g = segments rest w in let h = with_texted next at (T.segment_trees rest w) in cc
+
   run : (f : Run) (w : Live) → node_shape (tree f w) ≡ tree (shape.run_shape f) w
   run (form.Just x) w = operand x w
   run (form.Binary op at l r) w =
@@ -254,11 +272,16 @@ mutual
   initializer form.NoValue w = refl
   initializer (form.Valued equals f) w = run f w
 
+  jump : (x : JumpValue) (w : Live) → shape.optional_shape (T.jump_result x w) ≡ T.jump_result (shape.jump_shape x) w
+  jump form.Absent w = refl
+  jump (form.Present f) w = let e = run f w in cc
+
   statement : (x : Statement) (w : Live) → shape.statement_shape (T.statement_tree x w) ≡ T.statement_tree (shape.written_shape x) w
   statement (form.EmptyStatement at) w = refl
   statement (form.Expression x) w = evaluation x w
   statement (form.Define constant at text text_at x) w = let e = initializer x w in cc
   statement (form.Block opening f) w = let e = body opening f w in cc
+  statement (form.Return throws at x) w = let e = jump x w in cc
 
   statements : (xs : Statements) (w : Live) → shape.statements_shape (T.statement_trees xs w) ≡ T.statement_trees (shape.script_shape xs) w
   statements form.NoStatement w = refl

@@ -227,6 +227,7 @@ start_of (form.EmptyStatement at) live = refl
 start_of (form.Expression x) live = refl
 start_of (form.Define constant at name name_at value) live = refl
 start_of (form.Block opening body) live = refl
+start_of (form.Return throws at x) live = refl
 
 starts : (fs : Statements) (live : Live) → (after_statements fs live).block ≡ live.block
 starts form.NoStatement live = refl
@@ -241,6 +242,7 @@ keeps (form.Expression x) live l = (refl, l)
 keeps (form.Define constant at name name_at value) live l =
     defined_keeps live.block name constant live.slots (reused live.block name live.slots) refl l
 keeps (form.Block opening body) live l = (refl, l)
+keeps (form.Return throws at x) live l = (refl, l)
 
 abbrev StatementsKeep : Statements → Live → Type 0
 StatementsKeep fs live =

@@ -44,27 +44,27 @@ pub record Spelled (taken : List Taken) (k : Demands) (s t : Point) : Type 0 whe
   pub way : Way taken s.tokens end.tokens
 
 -- Demands that are met are met over the tokens that they lead over.
-pub spelled : {taken : List Taken} {ds k : Demands} → Leads taken ds k → (s t : Point) → Met ds s t → Spelled taken k s t
+pub spelled : {m n : Mode} {taken : List Taken} {ds k : Demands} → Leads m n taken ds k → (s t : Point) → Met ds s t → Spelled taken k s t
 spelled here s t m = record { end = s; met = m; way = (tt, refl) }
-spelled (tok h) s t m =
-    let r = spelled h (past M.code s) t m.1 in
+spelled (tok {m = mode} h) s t m =
+    let r = spelled h (past mode s) t m.1 in
     record { end = r.end; met = r.met; way = ((m.0, r.way.0), r.way.1) }
 spelled (ahead e h) s t m = spelled h s t m.1
 spelled (next h) s t m = spelled h s t m.1
 spelled (test h) s t m = spelled h s t m.1
 spelled (shape f) s t m = spelled (f m.0) s t m.1
 
-are_spelled : (taken : List Taken) (ds : Demands) → Leads taken ds Nothing → (s t : Point) → Met ds s t
+are_spelled : (taken : List Taken) (ds : Demands) → Leads M.code M.code taken ds Nothing → (s t : Point) → Met ds s t
     → Gives taken s.tokens × (t.tokens ≡ leads taken s.tokens)
 are_spelled taken ds h s t m =
     let r = spelled h s t m in (r.way.0, ap (λ (p : Point). p.tokens) (sym r.met) ∙ r.way.1)
 
 -- what a whole stream demands
-pub expression_leads : (c : Context) (w : Live) (f : Run) → Leads (spelling f) (W.whole_expression f c w) Nothing
+pub expression_leads : (c : Context) (w : Live) (f : Run) → Leads M.code M.code (spelling f) (W.whole_expression f c w) Nothing
 expression_leads c w f =
     all_of (on (expressed f c w (L.run f (outermost (level_up c) w) _)) (next here))
 
-pub script_leads : (c : Context) (w : Live) (fs : Statements) → Leads (script_spelling fs) (W.whole_script fs c w) Nothing
+pub script_leads : (c : Context) (w : Live) (fs : Statements) → Leads M.code M.code (script_spelling fs) (W.whole_script fs c w) Nothing
 script_leads c w fs = L.statements fs EndMark c w Nothing
 
 pub forms_are_spelled : FormsAreSpelled

@@ -22,27 +22,27 @@ again_row = record {
 
 pub constant_row : ConstantRow
 unfolding one_more number
-constant_row = record { missed = inr (refl, inr (refl, inr (refl, inr (refl, inr (refl, inr (refl, inr (refl, inr (refl, (refl, inr (refl, inr (refl, inr (refl, inr (refl, inr (refl, (refl, inr (refl, inr (refl, inr (refl, inr (refl, inr (refl, inr (refl, inr (refl, inr (refl, inr (refl, inr (refl, (refl, inr (refl, inr (refl, (refl, inr (refl, inr (refl, inr (refl, inr (refl, inr (refl, inl (refl, refl, refl))))))))))))))))))))))))))))))))))) }
+constant_row = record { missed = inr (refl, inr (refl, inr (refl, inr (refl, inr (refl, inr (refl, inr (refl, inr (refl, (refl, inr (refl, inr (refl, inr (refl, inr (refl, inr (refl, (refl, inr (refl, inr (refl, inr (refl, inr (refl, inr (refl, inr (refl, inr (refl, inr (refl, inr (refl, inr (refl, (refl, inr (refl, inr (refl, (refl, inr (refl, inr (refl, inr (refl, inr (refl, inr (refl, inl (refl, refl, refl, refl))))))))))))))))))))))))))))))))))) }
 
 pub open_block_row : OpenBlockRow
 unfolding one_more
 open_block_row = record {
-  missed = inr (refl, inr (refl, inr (refl, inr (refl, (refl, inr (refl, inr (refl, inr (refl, inr (refl, (refl, inr (refl, inr (refl, inr (refl, inr (refl, inr (refl, inr (refl, (refl, inl (refl, refl))))))))))))))))));
-  ended_missed = inr (refl, inr (refl, inr (refl, inr (refl, (refl, inr (refl, inr (refl, inr (refl, inr (refl, (refl, inr (refl, inr (refl, inr (refl, inr (refl, inr (refl, inr (refl, (refl, inr (refl, inl (refl, refl)))))))))))))))))));
+  missed = inr (refl, inr (refl, inr (refl, inr (refl, (refl, inr (refl, inr (refl, inr (refl, inr (refl, (refl, inr (refl, inr (refl, inr (refl, inr (refl, inr (refl, inr (refl, (refl, inl (refl, refl, refl))))))))))))))))));
+  ended_missed = inr (refl, inr (refl, inr (refl, inr (refl, (refl, inr (refl, inr (refl, inr (refl, inr (refl, (refl, inr (refl, inr (refl, inr (refl, inr (refl, inr (refl, inr (refl, (refl, inr (refl, inl (refl, refl, refl)))))))))))))))))));
 }
 
 pub let_row : LetRow
 unfolding one_more number
 let_row = record {
   fits = (refl, (refl, (refl, (refl, (refl, (refl, (refl, (refl, (refl, (refl, (refl, (refl, (refl, (refl, (refl, (refl, (refl, refl)))))))))))))))));
-  value_deep = inr (refl, inr (refl, inr (refl, inr (refl, inr (refl, inr (refl, inr (refl, inl (refl, refl))))))));
-  deep = inr (refl, inr (refl, inr (refl, inr (refl, inr (refl, inr (refl, inl (refl, refl, refl)))))));
+  value_deep = inr (refl, inr (refl, inr (refl, inr (refl, inr (refl, inr (refl, inr (refl, inl (refl, refl, refl))))))));
+  deep = inr (refl, inr (refl, inr (refl, inr (refl, inr (refl, inr (refl, inl (refl, refl, refl, refl)))))));
 }
 
 pub single_row : SingleRow
 unfolding one_more
 single_row = record {
-  missed = inr (refl, inr (refl, inr (refl, inr (refl, (refl, inr (refl, (refl, inr (refl, inr (refl, inr (refl, inr (refl, inr (refl, inr (refl, inl (refl, refl))))))))))))));
+  missed = inr (refl, inr (refl, inr (refl, inr (refl, (refl, inr (refl, (refl, inr (refl, inr (refl, inr (refl, inr (refl, inr (refl, inr (refl, inl (refl, refl, refl))))))))))))));
   fits = (refl, (refl, (refl, (refl, (refl, (refl, (refl, (refl, (refl, (refl, (refl, (refl, (refl, (refl, (refl, (refl, (refl, (refl, (refl, (refl, refl))))))))))))))))))));
   tree_is = refl;
 }

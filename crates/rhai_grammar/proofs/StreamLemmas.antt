@@ -4,7 +4,7 @@ use Rattle.std.proofs.Common.{refl, sym, ap, ◌∙◌, subst}
 use Rattle.rhai_lower.specs.Lexemes.{Lexeme, Sign}
 use Rattle.rhai_lower.specs.declared.token.Token.TheVariants as token
 use Rattle.rhai_grammar.specs.Delivered as M
-use Rattle.rhai_grammar.specs.Delivered.{Item, Point, Taken, ask, is_end, next_at, past}
+use Rattle.rhai_grammar.specs.Delivered.{Item, Mode, Point, Taken, ask, is_end, next_at, past}
 use Rattle.rhai_grammar.specs.Demands.{Demands, Met, Nothing, verdict}
 use Rattle.rhai_grammar.specs.Laws.{FormsFitWhereverSpelled}
 use Rattle.rhai_grammar.specs.Seen.{Gives, leads}
@@ -33,7 +33,7 @@ same_ahead due i j e stands (inr both) =
     let w = sym e ∙ ap (λ (x : Item). is_end x.lexeme) (sym stands) ∙ both.0 in absurd cc
 
 -- the token that comes next is the same on both streams
-next_same : {taken : List Taken} {ds : Demands} → Leads taken ds Nothing → (s t r : Point) → Met ds s t
+next_same : {taken : List Taken} {ds : Demands} → Leads M.code M.code taken ds Nothing → (s t r : Point) → Met ds s t
     → is_end (next_at M.code t).lexeme ≡ true → Whole taken r → Same (next_at M.code s) (next_at M.code r)
 next_same here s t r m end g = inr (subst (λ (p : Point). is_end (next_at M.code p).lexeme ≡ true) (sym m) end, g.1)
 next_same (tok h) s t r m end g = inl (m.0 ∙ sym g.0.0)
@@ -43,11 +43,11 @@ next_same (test h) s t r m end g = next_same h s t r m.1 end g
 next_same (shape f) s t r m end g = next_same (f m.0) s t r m.1 end g
 
 -- so demands that are met on one are met on the other
-met_again : {taken : List Taken} {ds : Demands} → Leads taken ds Nothing → (s t r : Point) → Met ds s t
+met_again : {mode : Mode} {taken : List Taken} {ds : Demands} → Leads mode M.code taken ds Nothing → (s t r : Point) → Met ds s t
     → is_end (next_at M.code t).lexeme ≡ true → Whole taken r → (u : Point) × Met ds r u
 met_again here s t r m end g = (r, refl)
-met_again (tok h) s t r m end g =
-    let u = met_again h (past M.code s) t (past M.code r) m.1 end (g.0.1, g.1) in
+met_again (tok {m = mode} h) s t r m end g =
+    let u = met_again h (past mode s) t (past mode r) m.1 end (g.0.1, g.1) in
     (u.0, (g.0.0, u.1))
 met_again (ahead {i = i} e h) s t r m end g =
     let u = met_again h s t r m.1 end g in

@@ -2,7 +2,8 @@
 use Rattle.std.specs.Prelude.{◌≡◌, Bool, true, false, codes, if◌then◌else◌, refl}
 use Rattle.rhai_lower.specs.Texts.{Text, same_text}
 use Rattle.rhai_lower.specs.Names.{reserved_as}
-use Rattle.rhai_lower.specs.Lexemes.{Lexeme, Integer, Character, String, Name, Reserved, Faulty, Sign, text_of}
+use Rattle.rhai_lower.specs.Lexemes.{Lexeme, Integer, Character, String, Interpolated, Name, Reserved, Faulty, Sign}
+use Rattle.rhai_lower.specs.Lexemes.{text_of}
 use Rattle.rhai_lower.specs.Nodes.{Node, unit, boolean, integer, character, string}
 use Rattle.rhai_lower.specs.declared.position.Position.{Position}
 use Rattle.rhai_lower.specs.declared.token.Token.{Token}
@@ -55,6 +56,7 @@ abbrev pub beginning : Lexeme → Beginning
 beginning (Integer n) = begin.Value
 beginning (Character c) = begin.Value
 beginning (String t) = begin.Value
+beginning (Interpolated t) = begin.Interpolated
 beginning (Name t) = begin.Name
 beginning (Reserved t) = begin.Word
 beginning (Sign t) = sign_beginning t

@@ -60,14 +60,17 @@ Refuses Otherwise at e = ⊥
 abbrev pub Refused : (Lexeme → Verdict) → Item → Refusal → Type 0
 Refused v i e = Refuses (verdict v i.lexeme) i.at e
 
--- The demands are met from one point up to another, and there the next one is missed, with this error.
-abbrev pub Missed : Demands → Point → Refusal → Point → Type 0
-Missed Nothing s e u = ⊥
-Missed (Tok m i others ▸ ds) s e u =
-    (Refused others (next_at m s) e × (u ≡ s)) ⊎ ((next_at m s ≡ i) × Missed ds (past m s) e u)
-Missed (Ahead i others ▸ ds) s e u =
-    (Refused others (next_at code s) e × (u ≡ s)) ⊎ ((next_at code s ≡ i) × Missed ds s e u)
-Missed (Next v ▸ ds) s e u =
-    (Refused v (next_at code s) e × (u ≡ s)) ⊎ ((verdict v (next_at code s).lexeme ≡ Fine) × Missed ds s e u)
-Missed (Test holds d ▸ ds) s e u = ((holds ≡ false) × (e ≡ d) × (u ≡ s)) ⊎ ((holds ≡ true) × Missed ds s e u)
-Missed (Shape holds ▸ ds) s e u = (holds ≡ true) × Missed ds s e u
+-- The demands are met from one point up to another, and there the next one is missed, with this error. The mode `n` is
+-- the one in which the next token is requested there: text mode where a text is missed, otherwise code mode.
+abbrev pub Missed : Demands → Point → Refusal → (n : Mode) → Point → Type 0
+Missed Nothing s e n u = ⊥
+Missed (Tok m i others ▸ ds) s e n u =
+    (Refused others (next_at m s) e × (n ≡ m) × (u ≡ s)) ⊎ ((next_at m s ≡ i) × Missed ds (past m s) e n u)
+Missed (Ahead i others ▸ ds) s e n u =
+    (Refused others (next_at code s) e × (n ≡ code) × (u ≡ s)) ⊎ ((next_at code s ≡ i) × Missed ds s e n u)
+Missed (Next v ▸ ds) s e n u =
+    (Refused v (next_at code s) e × (n ≡ code) × (u ≡ s))
+    ⊎ ((verdict v (next_at code s).lexeme ≡ Fine) × Missed ds s e n u)
+Missed (Test holds d ▸ ds) s e n u =
+    ((holds ≡ false) × (e ≡ d) × (n ≡ code) × (u ≡ s)) ⊎ ((holds ≡ true) × Missed ds s e n u)
+Missed (Shape holds ▸ ds) s e n u = (holds ≡ true) × Missed ds s e n u

@@ -8,12 +8,13 @@ use Rattle.rhai_grammar.specs.Beginnings.{missing}
 use Rattle.rhai_grammar.specs.Causes as cause
 use Rattle.rhai_grammar.specs.Causes.{Cause}
 use Rattle.rhai_grammar.specs.declared.due.DueToken.{DueToken}
-use Rattle.rhai_grammar.specs.declared.due.DueToken.TheVariants.{RightParen, RightBracket, Colon, RightBrace}
+use Rattle.rhai_grammar.specs.declared.due.DueToken.TheVariants.{RightParen, RightBracket, Colon, LeftBrace, RightBrace}
 
 abbrev pub token_of : DueToken → Token
 token_of RightParen = token.RightParen
 token_of RightBracket = token.RightBracket
 token_of Colon = token.Colon
+token_of LeftBrace = token.LeftBrace
 token_of RightBrace = token.RightBrace
 
 -- how it is written
@@ -21,12 +22,14 @@ abbrev pub text_of_due : DueToken → Text
 text_of_due RightParen = codes ")"
 text_of_due RightBracket = codes "]"
 text_of_due Colon = codes ":"
+text_of_due LeftBrace = codes "{"
 text_of_due RightBrace = codes "}"
 
 abbrev is_due_sign : DueToken → Token → Bool
 is_due_sign RightParen token.RightParen = true
 is_due_sign RightBracket token.RightBracket = true
 is_due_sign Colon token.Colon = true
+is_due_sign LeftBrace token.LeftBrace = true
 is_due_sign RightBrace token.RightBrace = true
 is_due_sign _ _ = false
 

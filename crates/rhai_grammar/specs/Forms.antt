@@ -19,6 +19,8 @@ mutual
     Array : (opening : Position) (elements : Elements) → Primary
     -- an object map, from its `#{`
     Map : (opening : Position) (fields : Fields) → Primary
+    -- an interpolated string, from its first text
+    Interpolated : (first : Text) (at : Position) → Segments → Primary
     -- a block as a value
     BlockValue : (opening : Position) → Body → Primary
     -- the omitted zero before a range operator; it names the operator, which is not one of this form's tokens
@@ -47,6 +49,8 @@ mutual
     Signed : (sign : Lexeme) (at : Position) (operand : Operand) → Operand
     -- the omitted unit after a range operator; it names the token there, which is not one of this form's tokens
     NoOperand : (token : Lexeme) (at : Position) → Operand
+    -- a `return` or `throw` after `??`
+    Jump : (throws : Bool) (at : Position) → JumpValue → Operand
 
   pub data Arguments : Type 0 where
     -- `()` as one token
@@ -76,6 +80,12 @@ mutual
     LastField : (key : Lexeme) (at colon : Position) (value : Run) (closing : Position) → Fields
     Field : (key : Lexeme) (at colon : Position) (value : Run) (comma : Position) → Fields → Fields
 
+  -- A block and a text in turn, after the first text of an interpolated string. Each text but the last one is followed
+  -- by a block.
+  pub data Segments : Type 0 where
+    LastSegment : (opening : Position) → Body → (text : Text) (at : Position) → Segments
+    Segment : (opening : Position) → Body → (text : Text) (at : Position) → Segments → Segments
+
   -- operands joined by binary operators: one operand, or an operator between two runs
   pub data Run : Type 0 where
     Just : Operand → Run
@@ -91,6 +101,11 @@ mutual
     NoValue : Initializer
     Valued : (equals : Position) → Run → Initializer
 
+  -- what a `return` or `throw` gives
+  pub data JumpValue : Type 0 where
+    Absent : JumpValue
+    Present : Run → JumpValue
+
   pub data Statement : Type 0 where
     -- a lone `;`
     EmptyStatement : (at : Position) → Statement
@@ -98,6 +113,8 @@ mutual
     -- `let` or `const`
     Define : (constant : Bool) (at : Position) (name : Text) (name_at : Position) → Initializer → Statement
     Block : (opening : Position) → Body → Statement
+    -- `return` or `throw`
+    Return : (throws : Bool) (at : Position) → JumpValue → Statement
 
   -- the statements of a block or of a script, up to what closes it
   pub data Statements : Type 0 where

@@ -4,7 +4,7 @@ use Rattle.rhai_lower.specs.Entries.{ask_of, may_be_delivered}
 use Rattle.rhai_lower.specs.declared.position.Position.{Position}
 use Rattle.rhai_lower.specs.declared.stream.Entry.{Entry}
 use Rattle.rhai_grammar.specs.Causes.{Refusal}
-use Rattle.rhai_grammar.specs.Delivered.{code, Point, Ends, Taken, ask, is_end}
+use Rattle.rhai_grammar.specs.Delivered.{Mode, code, Point, Ends, Taken, ask, is_end}
 use Rattle.rhai_grammar.specs.Cursors.{Cursor, delivered}
 use Rattle.rhai_grammar.specs.Seen.{Gives, leads}
 use Rattle.rhai_grammar.specs.Contexts.{Context, Live}
@@ -90,7 +90,7 @@ IsFair (Shape holds ▸ ds) = holds ≡ true → IsFair ds
 -- there.
 pub record AreFair {F : Type 0} (whole : F → Demands) : Type 0 where
   pub fair : (f : F) → IsFair (whole f)
-  pub apart : (f : F) (s t u : Point) (e : Refusal) → Met (whole f) s t → Missed (whole f) s e u → ⊥
+  pub apart : (f : F) (s t u : Point) (e : Refusal) (n : Mode) → Met (whole f) s t → Missed (whole f) s e n u → ⊥
 
 pub record FormsAreFair : Type 0 where
   pub expression : (context : Context) (live : Live) → AreFair (expressions context live)

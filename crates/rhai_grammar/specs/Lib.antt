@@ -18,9 +18,11 @@ pub mod Literals
 pub mod Chains
 pub mod Definitions
 pub mod Targets
+pub mod Interpolations
 pub mod Trees
 pub mod Demands
 pub mod Statements
+pub mod Starts
 pub mod Verdicts
 pub mod Spots
 pub mod Written
@@ -31,5 +33,7 @@ pub mod Laws
 pub mod Rows
 pub mod RowsOfChains
 pub mod RowsOfStatements
+pub mod RowsOfStrings
+pub mod StartLaws
 pub mod SlotLaws
 pub mod Imports

@@ -1,5 +1,5 @@
 -- What the parser promises about a stream that it parses, in terms of written forms only.
-use Rattle.std.specs.Prelude.{◌≡◌, true, false, List, [], Result, Ok, Err, IfOk, IfErr, Vec}
+use Rattle.std.specs.Prelude.{◌≡◌, ◌⊎◌, Bool, true, false, List, [], Result, Ok, Err, IfOk, IfErr, Vec}
 use Rattle.std.specs.declared.alloc.Global.{Global}
 use Rattle.std.specs.declared.rc.Rc.{Rc}
 use Rattle.rhai_lower.specs.Slots.{SlotValue}
@@ -9,7 +9,7 @@ use Rattle.rhai_lower.specs.declared.ast.AST.{AST}
 use Rattle.rhai_lower.specs.declared.ast.ScriptFuncDef.{ScriptFuncDef}
 use Rattle.rhai_lower.specs.declared.ast.Stmt.{Stmt}
 use Rattle.rhai_grammar.specs.Causes.{Refusal, refusal_of, is_for_memory}
-use Rattle.rhai_grammar.specs.Delivered.{code, Taken, Point, is_memory}
+use Rattle.rhai_grammar.specs.Delivered.{Mode, text, Taken, Point, is_memory}
 use Rattle.rhai_grammar.specs.Cursors.{Cursor, asked}
 use Rattle.rhai_grammar.specs.Seen.{Gives, leads, TakenIn, mode_after, latest_first, BeginsWith}
 use Rattle.rhai_grammar.specs.Seen.{Readable, StandsAtLast}
@@ -71,29 +71,36 @@ pub record IsReadable (taken : List Taken) (left : Cursor) : Type 0 where
   pub tokens : Readable (latest_first taken [])
   pub peeked : left.peeked ≡ true → is_memory (asked left).lexeme ≡ false
 
+-- The mode of the next request is code mode if a token was taken, and otherwise what it was; only after a refusal it
+-- may be text mode, where a text was due and another token was peeked.
+abbrev pub EndsIn : (refused : Bool) → Mode → List Taken → Cursor → Type 0
+EndsIn false m taken left = left.mode ≡ mode_after m taken
+EndsIn true m taken left = (left.mode ≡ mode_after m taken) ⊎ ((left.mode ≡ text) × (left.peeked ≡ true))
+
 -- Some tokens were taken, and the tokenizer had memory for each of them, and for the one that is peeked, if one
--- is. The first token was taken in the mode that the stream had at the start, and each later one in code mode. The
--- mode of the next request is code mode if a token was taken, and otherwise what it was.
-pub record HasRead (start left : Cursor) : Type 0 where
+-- is. The first token was taken in the mode that the stream had at the start, and each later one in code mode, or in
+-- text mode directly after a `}`.
+pub record HasRead (start left : Cursor) (refused : Bool) : Type 0 where
   pub taken : List Taken
   pub saw : Saw taken start left
-  pub modes : TakenIn start.mode taken
-  pub mode : left.mode ≡ mode_after start.mode taken
+  pub modes : TakenIn start.mode taken left.mode
+  pub mode : EndsIn refused start.mode taken left
   pub memory : IsReadable taken left
 
--- This holds, unless memory ran out.
-abbrev pub UnlessMemory : {A : Type 0} → Type 0 → Result A ParseError → Type 0
-UnlessMemory P (Ok x) = P
-UnlessMemory P (Err e) = is_for_memory e ≡ false → P
+-- This holds of a result, which may be a refusal, unless memory ran out.
+abbrev pub UnlessMemory : {A : Type 0} → (P : (refused : Bool) → Type 0) → Result A ParseError → Type 0
+UnlessMemory P (Ok x) = P false
+UnlessMemory P (Err e) = is_for_memory e ≡ false → P true
 
 -- ---- refusals
 
--- A form misses its next demand at the place where the stream is now, with this error.
+-- A form misses its next demand at the place where the stream is now, with this error. The next request is in the mode
+-- of that demand: in text mode where a text is missed, otherwise in code mode.
 pub record IsNamed {F : Type 0} (whole : F → Demands) (taken : List Taken) (start left : Cursor) (e : Refusal) :
     Type 0
   where
     pub form : F
-    pub missed : Missed (whole form) (start_of start) e (record {
+    pub missed : Missed (whole form) (start_of start) e left.mode (record {
       tokens = left.tokens;
       taken = latest_first taken [];
     })
@@ -104,7 +111,7 @@ abbrev pub NoneBegins : {F : Type 0} → (whole : F → Demands) → List Taken 
 NoneBegins {F} whole taken left =
     (f : F) (s : Cursor) → IsWritten whole f s → BeginsWith taken left s.tokens → ⊥
 
--- A refusal after the tokens seen. The last token was peeked in code mode.
+-- a refusal after the tokens seen
 pub record IsRefused {F : Type 0} (whole : F → Demands) (taken : List Taken) (start left : Cursor) (e : Refusal) :
     Type 0
   where
@@ -112,7 +119,6 @@ pub record IsRefused {F : Type 0} (whole : F → Demands) (taken : List Taken) (
     pub named : IsNamed whole taken start left e
     pub early : NoneBegins whole taken left
     pub memory : IsReadable taken left
-    pub mode : left.mode ≡ code
 
 -- ---- the promise
 

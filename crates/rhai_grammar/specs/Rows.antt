@@ -70,7 +70,7 @@ pub record SumRow : Type 0 where
   pub tree_is : tree sum_form nothing_live ≡ sum_tree
   pub fits : Met (whole_expression sum_form (depth 3) nothing_live) (unread sum_tokens 10) (between sum_tokens [] 10)
   pub deep : Missed (whole_expression sum_form (depth 2) nothing_live) (unread sum_tokens 10)
-      (refusal cause.ExprTooDeep (place 1 5)) (between sum_tokens [] 10)
+      (refusal cause.ExprTooDeep (place 1 5)) code (between sum_tokens [] 10)
 
 -- `1 + 2` fits under the depth limit 2. Under the limit 1 it misses the raise after the 2, which is refused at the 1.
 abbrev pub pair_tokens : List (Lexeme × ℕ)
@@ -84,7 +84,7 @@ pub record PairRow : Type 0 where
       ≡ operator_call (Sign Plus) (place 1 3) (integer (pos 1) (place 1 1)) (integer (pos 2) (place 1 5))
   pub fits : Met (whole_expression pair_form (depth 2) nothing_live) (unread pair_tokens 6) (between pair_tokens [] 6)
   pub deep : Missed (whole_expression pair_form (depth 1) nothing_live) (unread pair_tokens 6)
-      (refusal cause.ExprTooDeep (place 1 1)) (between pair_tokens [] 6)
+      (refusal cause.ExprTooDeep (place 1 1)) code (between pair_tokens [] 6)
 
 -- `1 + 2 + 3` is too deep under the limit 2: each operator raises the level, and the second raise is refused at the
 -- first operator.
@@ -98,7 +98,7 @@ pub record FlatRow : Type 0 where
   pub tree_is : tree flat_form nothing_live
       ≡ operator_call (Sign Plus) (place 1 7) (tree pair_form nothing_live) (integer (pos 3) (place 1 9))
   pub deep : Missed (whole_expression flat_form (depth 2) nothing_live) (unread flat_tokens 10)
-      (refusal cause.ExprTooDeep (place 1 3)) (between flat_tokens [] 10)
+      (refusal cause.ExprTooDeep (place 1 3)) code (between flat_tokens [] 10)
 
 -- `1 + 2 + 3 * 4` fits under the depth limit 4, one more than `1 + 2 * 3`: the product is on the right of the second
 -- `+`, which begins at the level that the first `+` raised. Under the limit 3 it misses the raise for `*`, which is
@@ -125,7 +125,7 @@ pub record LateRow : Type 0 where
   pub fits : Met (whole_expression late_form (depth 4) nothing_live) (unread late_tokens 14)
       (between late_tokens [] 14)
   pub deep : Missed (whole_expression late_form (depth 3) nothing_live) (unread late_tokens 14)
-      late_refused (between late_tokens [] 14)
+      late_refused code (between late_tokens [] 14)
 
 -- a range from an omitted zero to 5, both at these columns
 abbrev pub range_tree : (left range right : ℕ) → Node
@@ -167,7 +167,7 @@ ended_form = Binary (Sign ExclusiveRange) (place 1 2) (number 5 1) (number 0 1)
 
 pub record EndedRow : Type 0 where
   pub missed : Missed (whole_expression ended_form (depth 0) nothing_live) (unread ended_tokens 4)
-      (refusal cause.UnexpectedEOF (place 1 4)) (between ended_tokens [] 4)
+      (refusal cause.UnexpectedEOF (place 1 4)) code (between ended_tokens [] 4)
 
 -- `f(1)` fits under the depth limit 3. Under the limit 2 the argument is too deep, and under the limit 1 the list of
 -- arguments, at its name.
@@ -189,9 +189,9 @@ pub record CallRow : Type 0 where
       ≡ call (function_called (codes "f") false 1) (one_node (integer (pos 1) (place 1 3)) no_nodes) (place 1 1)
   pub fits : Met (whole_expression call_form (depth 3) nothing_live) (unread call_tokens 5) (between call_tokens [] 5)
   pub argument_deep : Missed (whole_expression call_form (depth 2) nothing_live) (unread call_tokens 5)
-      (refusal cause.ExprTooDeep (place 1 3)) (between call_begun call_rest 5)
+      (refusal cause.ExprTooDeep (place 1 3)) code (between call_begun call_rest 5)
   pub list_deep : Missed (whole_expression call_form (depth 1) nothing_live) (unread call_tokens 5)
-      (refusal cause.ExprTooDeep (place 1 1)) (between call_begun call_rest 5)
+      (refusal cause.ExprTooDeep (place 1 1)) code (between call_begun call_rest 5)
 
 -- `[5..]`: the unit after the range operator is omitted, and has the position of the `]`.
 abbrev pub ranged_tokens : List (Lexeme × ℕ)
@@ -235,4 +235,4 @@ sized_refused = refusal (too_many_items 2) (place 1 8)
 
 pub record SizedRow : Type 0 where
   pub missed : Missed (whole_expression sized_form two_items nothing_live) (unread sized_tokens 10)
-      sized_refused (between sized_begun sized_rest 10)
+      sized_refused code (between sized_begun sized_rest 10)

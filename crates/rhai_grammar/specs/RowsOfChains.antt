@@ -13,6 +13,7 @@ use Rattle.rhai_grammar.specs.Contexts.{nothing_live}
 use Rattle.rhai_grammar.specs.Forms.{Links, Run, Just, Linked, NoLink, Bracket, Property, Method, Plain, Named, Group}
 use Rattle.rhai_grammar.specs.Forms.{EmptyPair}
 use Rattle.rhai_grammar.specs.Trees.{variable_of, tree}
+use Rattle.rhai_grammar.specs.Delivered.{code}
 use Rattle.rhai_grammar.specs.Demands.{Missed}
 use Rattle.rhai_grammar.specs.Written.{whole_expression}
 use Rattle.rhai_grammar.specs.Rows.{unread, between, depth, Fits}
@@ -168,4 +169,4 @@ capture_refused = refusal cause.MalformedCapture (place 1 3)
 
 pub record CaptureRow : Type 0 where
   pub missed : Missed (whole_expression capture_form (depth 64) nothing_live) (unread capture_tokens 9)
-      capture_refused (between capture_tokens [] 9)
+      capture_refused code (between capture_tokens [] 9)

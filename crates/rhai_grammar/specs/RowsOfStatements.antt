@@ -16,6 +16,7 @@ use Rattle.rhai_grammar.specs.Forms.{Statement, Expression, Define, Block}
 use Rattle.rhai_grammar.specs.Forms.{Statements, NoStatement, LastStatement, Ended, Standing, Many}
 use Rattle.rhai_grammar.specs.Statements.{keyword_of}
 use Rattle.rhai_grammar.specs.Trees.{variable_of, statement_trees, tree}
+use Rattle.rhai_grammar.specs.Delivered.{code}
 use Rattle.rhai_grammar.specs.Demands.{Met, Missed}
 use Rattle.rhai_grammar.specs.Written.{whole_expression, whole_script}
 use Rattle.rhai_grammar.specs.Rows.{unread, between, depth, number, plain}
@@ -150,7 +151,7 @@ constant_refused = refusal (cause.AssignmentToConstant (codes "x")) (place 1 14)
 
 pub record ConstantRow : Type 0 where
   pub missed : Missed (whole_script constant_form (depth 64) nothing_live) (unread constant_tokens 20)
-      constant_refused (between constant_begun constant_rest 20)
+      constant_refused code (between constant_begun constant_rest 20)
 
 -- `{ 1`: the end mark is refused in place of a `;`. `{ 1;`: it is refused in place of the `}`.
 abbrev pub open_tokens : List (Lexeme × ℕ)
@@ -171,9 +172,9 @@ ended_form = block_alone (ended (evaluates (number 1 3)) 4 NoStatement) 5
 
 pub record OpenBlockRow : Type 0 where
   pub missed : Missed (whole_script open_form (depth 64) nothing_live) (unread open_tokens 4)
-      (refusal (cause.MissingToken (codes ";")) (place 1 4)) (between open_tokens [] 4)
+      (refusal (cause.MissingToken (codes ";")) (place 1 4)) code (between open_tokens [] 4)
   pub ended_missed : Missed (whole_script ended_form (depth 64) nothing_live) (unread ended_tokens 5)
-      (refusal (cause.MissingToken (codes "}")) (place 1 5)) (between ended_tokens [] 5)
+      (refusal (cause.MissingToken (codes "}")) (place 1 5)) code (between ended_tokens [] 5)
 
 -- ---- blocks of one expression
 
@@ -204,7 +205,7 @@ value_block =
 
 pub record SingleRow : Type 0 where
   pub missed : Missed (whole_script single_form single_blocks nothing_live) (unread (open_tokens ++ single_rest) 9)
-      (refusal (cause.MissingToken (codes "}")) (place 1 4)) (between open_tokens single_rest 9)
+      (refusal (cause.MissingToken (codes "}")) (place 1 4)) code (between open_tokens single_rest 9)
   pub fits : Met (whole_expression value_form block_values nothing_live) (unread value_tokens 6)
       (between value_tokens [] 6)
   pub tree_is : tree value_form nothing_live ≡ node.block_value value_block
@@ -228,6 +229,6 @@ let_whole = let_begun ++ let_rest
 pub record LetRow : Type 0 where
   pub fits : Met (whole_script let_form (depth 3) nothing_live) (unread let_whole 11) (between let_whole [] 11)
   pub value_deep : Missed (whole_script let_form (depth 2) nothing_live) (unread let_whole 11)
-      (refusal cause.ExprTooDeep (place 1 9)) (between let_begun let_rest 11)
+      (refusal cause.ExprTooDeep (place 1 9)) code (between let_begun let_rest 11)
   pub deep : Missed (whole_script let_form (depth 1) nothing_live) (unread let_whole 11)
-      (refusal cause.ExprTooDeep (place 1 1)) (between let_begun let_rest 11)
+      (refusal cause.ExprTooDeep (place 1 1)) code (between let_begun let_rest 11)

@@ -1,8 +1,8 @@
 -- What was seen of a stream.
 use Rattle.std.specs.Prelude.{◌≡◌, Bool, true, false, List, [], ◌∷◌, refl}
 use Rattle.rhai_lower.specs.Positions.{place}
-use Rattle.rhai_lower.specs.Lexemes.{Sign}
-use Rattle.rhai_lower.specs.declared.token.Token.TheVariants.{Plus}
+use Rattle.rhai_lower.specs.Lexemes.{Lexeme, Sign}
+use Rattle.rhai_lower.specs.declared.token.Token.TheVariants.{Plus, RightBrace}
 use Rattle.rhai_grammar.specs.Causes as cause
 use Rattle.rhai_grammar.specs.Causes.{Cause, Refusal}
 use Rattle.rhai_grammar.specs.Delivered.{Mode, code, text, item, Tokens, Taken, ask, later, is_memory}
@@ -27,12 +27,23 @@ abbrev pub latest_first : List Taken → List Taken → List Taken
 latest_first [] before = before
 latest_first (k ∷ taken) before = latest_first taken (k ∷ before)
 
--- The first of these tokens was requested in this mode, and each later one in code mode.
-abbrev pub TakenIn : Mode → List Taken → Type 0
-TakenIn m [] = Unit {0}
-TakenIn m (k ∷ taken) = (k.mode ≡ m) × TakenIn code taken
+-- Directly after this token the next one may be requested in this mode: in text mode only after a `}`.
+abbrev pub MayFollow : Lexeme → Mode → Type 0
+MayFollow l code = Unit {0}
+MayFollow l text = l ≡ Sign RightBrace
 
--- the mode of the next request after these, if that of the first one is this mode
+-- After a token, each of these was requested in a mode that may follow, and so may the next request be.
+abbrev pub TakenAfter : Lexeme → List Taken → (upcoming : Mode) → Type 0
+TakenAfter l [] upcoming = MayFollow l upcoming
+TakenAfter l (k ∷ taken) upcoming = MayFollow l k.mode × TakenAfter k.item.lexeme taken upcoming
+
+-- The first of these tokens was requested in this mode, and each later one in code mode, or in text mode directly after
+-- a `}`. So it is with the next request; where no token was taken, its mode is that of the first.
+abbrev pub TakenIn : Mode → List Taken → (upcoming : Mode) → Type 0
+TakenIn m [] upcoming = upcoming ≡ m
+TakenIn m (k ∷ taken) upcoming = (k.mode ≡ m) × TakenAfter k.item.lexeme taken upcoming
+
+-- the mode of the next request after these, if that of the first one is this mode and no text is due
 abbrev pub mode_after : Mode → List Taken → Mode
 mode_after m [] = m
 mode_after m (k ∷ taken) = code
@@ -55,9 +66,9 @@ StandsAtLast e left = is_at_last e.cause ≡ true → (left.peeked ≡ true) × 
 abbrev example_taken : List Taken
 example_taken =
     record { mode = text; item = item (Sign Plus) (place 1 1) }
-    ∷ record { mode = code; item = item (Sign Plus) (place 1 2) } ∷ []
+    ∷ record { mode = code; item = item (Sign RightBrace) (place 1 2) } ∷ []
 
--- Of two tokens the first one was requested in text mode, and the second in code mode, as the next one will be. Where
--- no token was taken, the mode stays.
-example : TakenIn text example_taken × (mode_after text example_taken ≡ code) × (mode_after text [] ≡ text)
-example = ((refl, (refl, tt)), refl, refl)
+-- Of two tokens the first one was requested in text mode, and the second in code mode. This is a `}`, so the next
+-- request may be in either mode. Where no token was taken, the mode stays.
+example : TakenIn text example_taken text × TakenIn text example_taken code × TakenIn text [] text
+example = ((refl, (tt, refl)), (refl, (tt, tt)), refl)

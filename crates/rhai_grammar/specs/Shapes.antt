@@ -11,7 +11,7 @@ use Rattle.rhai_grammar.specs.Slots.{number}
 use Rattle.rhai_grammar.specs.Trees.{tree}
 use Rattle.rhai_grammar.specs.Forms as form
 use Rattle.rhai_grammar.specs.Forms.{Arguments, Base, Body, Elements, ExprStatement, Fields, Initializer, Items, Links}
-use Rattle.rhai_grammar.specs.Forms.{Operand, Primary, Run}
+use Rattle.rhai_grammar.specs.Forms.{JumpValue, Operand, Primary, Run, Segments}
 
 -- ---- trees
 
@@ -111,6 +111,7 @@ abbrev mutual
   primary_shape (form.Group opening inside closing) = form.Group nowhere (run_shape inside) nowhere
   primary_shape (form.Array opening elements) = form.Array nowhere (elements_shape elements)
   primary_shape (form.Map opening fields) = form.Map nowhere (fields_shape fields)
+  primary_shape (form.Interpolated first at segments) = form.Interpolated first nowhere (segments_shape segments)
   primary_shape (form.BlockValue opening body) = form.BlockValue nowhere (body_shape body)
   primary_shape (form.Zero range at) = form.Zero range nowhere
 
@@ -130,6 +131,7 @@ abbrev mutual
   operand_shape (form.Linked x links) = form.Linked (base_shape x) (links_shape links)
   operand_shape (form.Signed sign at x) = form.Signed sign nowhere (operand_shape x)
   operand_shape (form.NoOperand token at) = form.NoOperand token nowhere
+  operand_shape (form.Jump throws at value) = form.Jump throws nowhere (jump_shape value)
 
   pub arguments_shape : Arguments → Arguments
   arguments_shape (form.EmptyPair at) = form.EmptyPair nowhere
@@ -152,6 +154,11 @@ abbrev mutual
   fields_shape (form.Field key at colon f comma fields) =
       form.Field key nowhere nowhere (run_shape f) nowhere (fields_shape fields)
 
+  pub segments_shape : Segments → Segments
+  segments_shape (form.LastSegment opening body text at) = form.LastSegment nowhere (body_shape body) text nowhere
+  segments_shape (form.Segment opening body text at rest) =
+      form.Segment nowhere (body_shape body) text nowhere (segments_shape rest)
+
   pub run_shape : Run → Run
   run_shape (form.Just x) = form.Just (operand_shape x)
   run_shape (form.Binary op at l r) = form.Binary op nowhere (run_shape l) (run_shape r)
@@ -164,12 +171,17 @@ abbrev mutual
   initializer_shape form.NoValue = form.NoValue
   initializer_shape (form.Valued equals f) = form.Valued nowhere (run_shape f)
 
+  pub jump_shape : JumpValue → JumpValue
+  jump_shape form.Absent = form.Absent
+  jump_shape (form.Present f) = form.Present (run_shape f)
+
   pub written_shape : form.Statement → form.Statement
   written_shape (form.EmptyStatement at) = form.EmptyStatement nowhere
   written_shape (form.Expression x) = form.Expression (evaluation_shape x)
   written_shape (form.Define constant at name name_at value) =
       form.Define constant nowhere name nowhere (initializer_shape value)
   written_shape (form.Block opening body) = form.Block nowhere (body_shape body)
+  written_shape (form.Return throws at value) = form.Return throws nowhere (jump_shape value)
 
   pub script_shape : form.Statements → form.Statements
   script_shape form.NoStatement = form.NoStatement

@@ -2,17 +2,22 @@
 use Rattle.std.specs.Prelude.{◌≡◌, Bool, true, false, Option, Some, None, List, [], ◌∷◌, ◌++◌, pos, codes, refl}
 use Rattle.rhai_lower.specs.Names.{is_identifier}
 use Rattle.rhai_lower.specs.Positions.{place}
-use Rattle.rhai_lower.specs.Lexemes.{Lexeme, Integer, Name, Reserved, Sign}
+use Rattle.rhai_lower.specs.Lexemes.{Lexeme, Integer, Interpolated, Name, Reserved, Sign, String}
 use Rattle.rhai_lower.specs.declared.position.Position.{Position}
 use Rattle.rhai_lower.specs.declared.token.Token.TheVariants.{EOF, LeftParen, RightParen, LeftBracket, RightBracket}
 use Rattle.rhai_lower.specs.declared.token.Token.TheVariants.{MapStart, LeftBrace, RightBrace, Colon, Comma, Bang}
 use Rattle.rhai_lower.specs.declared.token.Token.TheVariants.{Equals, SemiColon}
 use Rattle.rhai_lower.specs.declared.token.Token.TheVariants as token
-use Rattle.rhai_grammar.specs.Delivered.{code, item, Tokens, Ends, Then, Taken}
+use Rattle.rhai_grammar.specs.Delivered.{code, text, item, Tokens, Ends, Then, Taken}
 use Rattle.rhai_grammar.specs.Forms as form
 use Rattle.rhai_grammar.specs.Forms.{Primary, Base, Links, Operand, Arguments, Items, Elements, Fields, Run}
-use Rattle.rhai_grammar.specs.Forms.{Body, ExprStatement, Initializer, Statement, Statements}
+use Rattle.rhai_grammar.specs.Forms.{Body, ExprStatement, Initializer, JumpValue, Segments, Statement, Statements}
+use Rattle.rhai_grammar.specs.Starts.{jump_token}
 use Rattle.rhai_grammar.specs.Statements.{keyword_of}
+
+-- a token at a position, requested in text mode
+abbrev pub in_text : Lexeme → Position → Taken
+in_text l at = record { mode = text; item = item l at }
 
 -- a token at a position, requested in code mode
 abbrev pub in_code : Lexeme → Position → Taken
@@ -34,6 +39,7 @@ abbrev mutual
       in_code (Sign LeftParen) opening ∷ (spelling inside ++ (in_code (Sign RightParen) closing ∷ []))
   primary_spelling (form.Array opening elements) = in_code (Sign LeftBracket) opening ∷ element_spelling elements
   primary_spelling (form.Map opening fields) = in_code (Sign MapStart) opening ∷ field_spelling fields
+  primary_spelling (form.Interpolated first at list) = in_code (Interpolated first) at ∷ segment_spelling list
   primary_spelling (form.BlockValue opening body) = in_code (Sign LeftBrace) opening ∷ body_spelling body
   primary_spelling (form.Zero range at) = []
 
@@ -54,6 +60,7 @@ abbrev mutual
   operand_spelling (form.Linked x links) = base_spelling x ++ link_spelling links
   operand_spelling (form.Signed sign at x) = in_code sign at ∷ operand_spelling x
   operand_spelling (form.NoOperand token at) = []
+  operand_spelling (form.Jump throws at value) = in_code (Sign (jump_token throws)) at ∷ jump_spelling value
 
   pub argument_spelling : Arguments → List Taken
   argument_spelling (form.EmptyPair at) = in_code (Sign token.Unit) at ∷ []
@@ -79,6 +86,13 @@ abbrev mutual
   field_spelling (form.Field key at colon f comma rest) =
       in_code key at ∷ in_code (Sign Colon) colon ∷ (spelling f ++ (in_code (Sign Comma) comma ∷ field_spelling rest))
 
+  pub segment_spelling : Segments → List Taken
+  segment_spelling (form.LastSegment opening body last at) =
+      in_code (Sign LeftBrace) opening ∷ (body_spelling body ++ (in_text (String last) at ∷ []))
+  segment_spelling (form.Segment opening body next at rest) =
+      in_code (Sign LeftBrace) opening
+      ∷ (body_spelling body ++ (in_text (Interpolated next) at ∷ segment_spelling rest))
+
   pub spelling : Run → List Taken
   spelling (form.Just x) = operand_spelling x
   spelling (form.Binary op at l r) = spelling l ++ (in_code op at ∷ spelling r)
@@ -91,12 +105,17 @@ abbrev mutual
   initializer_spelling form.NoValue = []
   initializer_spelling (form.Valued equals f) = in_code (Sign Equals) equals ∷ spelling f
 
+  pub jump_spelling : JumpValue → List Taken
+  jump_spelling form.Absent = []
+  jump_spelling (form.Present f) = spelling f
+
   pub statement_spelling : Statement → List Taken
   statement_spelling (form.EmptyStatement at) = in_code (Sign SemiColon) at ∷ []
   statement_spelling (form.Expression x) = evaluation_spelling x
   statement_spelling (form.Define constant at name name_at value) =
       in_code (Sign (keyword_of constant)) at ∷ in_code (Name name) name_at ∷ initializer_spelling value
   statement_spelling (form.Block opening body) = in_code (Sign LeftBrace) opening ∷ body_spelling body
+  statement_spelling (form.Return throws at value) = in_code (Sign (jump_token throws)) at ∷ jump_spelling value
 
   pub script_spelling : Statements → List Taken
   script_spelling form.NoStatement = []

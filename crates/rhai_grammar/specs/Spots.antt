@@ -1,10 +1,12 @@
 -- The place of a run and of a link: the settings under which they are parsed, and what stands around them.
-use Rattle.std.specs.Prelude.{Bool, true, false, Option, Some, None, List, [], ◌∷◌, ◌++◌}
+use Rattle.std.specs.Prelude.{Bool, true, Option, Some, None, List, [], ◌∷◌, ◌++◌}
 use Rattle.rhai_lower.specs.Lexemes.{Lexeme}
 use Rattle.rhai_lower.specs.Nodes.{Node, position_of}
 use Rattle.rhai_lower.specs.declared.position.Position.{Position}
 use Rattle.rhai_grammar.specs.Contexts.{Context, Live, level_up}
-use Rattle.rhai_grammar.specs.Beginnings.{beginning, is_range}
+use Rattle.rhai_grammar.specs.Starts.{place_after}
+use Rattle.rhai_grammar.specs.declared.role.OperandPlace.{OperandPlace}
+use Rattle.rhai_grammar.specs.declared.role.OperandPlace.TheVariants.{Elsewhere}
 use Rattle.rhai_grammar.specs.Strengths.{Follower, follower_of, left_of}
 use Rattle.rhai_grammar.specs.Strengths.{right_of}
 use Rattle.rhai_grammar.specs.Forms as form
@@ -48,10 +50,10 @@ height_after spot (form.Just x) = record { settings = spot.begins; at = position
 height_after spot (form.Binary op at left right) =
     record { settings = level_up (height_after spot left).settings; at = at }
 
--- an operand directly after a range operator
-abbrev pub is_ranged : Side → Bool
-is_ranged Outermost = false
-is_ranged (RightOf op height) = is_range (beginning op)
+-- where the first operand of a run stands
+abbrev pub place_of : Side → OperandPlace
+place_of Outermost = Elsewhere
+place_of (RightOf op height) = place_after op
 
 abbrev pub side_fits : Side → Follower → Bool
 side_fits Outermost inner = true

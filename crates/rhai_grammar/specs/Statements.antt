@@ -25,6 +25,8 @@ sign_start token.SemiColon = start.Empty
 sign_start token.LeftBrace = start.Block
 sign_start token.Let = start.Let
 sign_start token.Const = start.Const
+sign_start token.Return = start.Return
+sign_start token.Throw = start.Throw
 sign_start _ = start.Expression
 
 -- what a token begins where a statement is expected

@@ -9,7 +9,8 @@ use Rattle.rhai_lower.specs.Lexemes.{Lexeme, Integer, Sign, text_of}
 use Rattle.rhai_lower.specs.Nodes.{Called, Node, Nodes, Properties, unit, integer, array, object_map, variable, this}
 use Rattle.rhai_lower.specs.Nodes.{call, method_call, property, no_nodes, one_node, no_properties, one_property}
 use Rattle.rhai_lower.specs.Nodes.{position_of, noop, expression, assignment, block_statement, block_value}
-use Rattle.rhai_lower.specs.Nodes.{braces, no_statements, one_statement, var_statement}
+use Rattle.rhai_lower.specs.Nodes.{braces, interpolated, no_statements, one_statement, var_statement}
+use Rattle.rhai_lower.specs.Nodes.{Optional, absent, block_of_one, present, return_statement}
 use Rattle.rhai_lower.specs.Nodes as node
 use Rattle.rhai_lower.specs.declared.position.Position.{Position}
 use Rattle.rhai_lower.specs.declared.token.Token.TheVariants.{Plus, UnaryMinus}
@@ -20,10 +21,11 @@ use Rattle.rhai_grammar.specs.Operators.{operator_tree, operator_call}
 use Rattle.rhai_grammar.specs.Slots.{number}
 use Rattle.rhai_grammar.specs.Contexts.{Live, in_block, nothing_live}
 use Rattle.rhai_grammar.specs.Definitions.{after_statement, reused}
+use Rattle.rhai_grammar.specs.Interpolations.{with_text}
 use Rattle.rhai_grammar.specs.Targets.{update_of}
 use Rattle.rhai_grammar.specs.Forms as form
 use Rattle.rhai_grammar.specs.Forms.{Primary, Base, Links, Operand, Arguments, Items, Elements, Fields, Run}
-use Rattle.rhai_grammar.specs.Forms.{Body, ExprStatement, Initializer, Statement, Statements}
+use Rattle.rhai_grammar.specs.Forms.{Body, ExprStatement, Initializer, JumpValue, Segments, Statement, Statements}
 
 -- ---- names and calls
 
@@ -121,6 +123,8 @@ abbrev mutual
   primary_tree (form.Group opening inside closing) live called = tree inside live
   primary_tree (form.Array opening elements) live called = array (element_trees elements live) opening
   primary_tree (form.Map opening fields) live called = object_map (field_trees fields live) opening
+  primary_tree (form.Interpolated first at segments) live called =
+      interpolated (with_text first at (segment_trees segments live)) at
   primary_tree (form.BlockValue opening body) live called = block_value (block_tree opening body live)
   primary_tree (form.Zero range at) live called = integer (pos 0) at
 
@@ -143,6 +147,8 @@ abbrev mutual
   operand_tree (form.Linked x links) live = chained (base_tree x live) (link_list links live)
   operand_tree (form.Signed sign at x) live = signed sign at (operand_tree x live)
   operand_tree (form.NoOperand token at) live = unit at
+  operand_tree (form.Jump throws at value) live =
+      block_value (block_of_one (return_statement (jump_result value live) throws at))
 
   pub argument_trees : Arguments → Live → Nodes
   argument_trees (form.EmptyPair at) live = no_nodes
@@ -165,6 +171,12 @@ abbrev mutual
   field_trees (form.Field key at colon f comma fields) live =
       one_property (text_of key) at (tree f live) (field_trees fields live)
 
+  pub segment_trees : Segments → Live → Nodes
+  segment_trees (form.LastSegment opening body text at) live =
+      one_node (block_value (block_tree opening body live)) (with_text text at no_nodes)
+  segment_trees (form.Segment opening body text at rest) live =
+      one_node (block_value (block_tree opening body live)) (with_text text at (segment_trees rest live))
+
   pub tree : Run → Live → Node
   tree (form.Just x) live = operand_tree x live
   tree (form.Binary op at l r) live = operator_tree op at (tree l live) (tree r live)
@@ -178,12 +190,17 @@ abbrev mutual
   value_tree form.NoValue live = unit nowhere
   value_tree (form.Valued equals f) live = tree f live
 
+  pub jump_result : JumpValue → Live → Optional
+  jump_result form.Absent live = absent
+  jump_result (form.Present f) live = present (tree f live)
+
   pub statement_tree : Statement → Live → node.Statement
   statement_tree (form.EmptyStatement at) live = noop at
   statement_tree (form.Expression x) live = statement_of x live
   statement_tree (form.Define constant at name name_at value) live =
       definition_tree constant at name (value_tree value live) live
   statement_tree (form.Block opening body) live = block_statement (block_tree opening body live)
+  statement_tree (form.Return throws at value) live = return_statement (jump_result value live) throws at
 
   pub statement_trees : Statements → Live → node.Statements
   statement_trees form.NoStatement live = no_statements

@@ -11,11 +11,12 @@ use Rattle.rhai_grammar.specs.Delivered.{is_end}
 use Rattle.rhai_grammar.specs.Settings.{Settings, in_function, quoted_keys}
 use Rattle.rhai_grammar.specs.DueTokens.{is_due, not_due}
 use Rattle.rhai_grammar.specs.declared.due.DueToken.{DueToken}
-use Rattle.rhai_grammar.specs.Contexts.{Context, full, has_block_values, has_room}
-use Rattle.rhai_grammar.specs.declared.role.Beginning.{Beginning}
-use Rattle.rhai_grammar.specs.declared.role.Beginning.TheVariants as begin
+use Rattle.rhai_grammar.specs.Contexts.{Context, full, has_room}
 use Rattle.rhai_grammar.specs.Beginnings.{beginning, no_operand, unexpected, missing}
-use Rattle.rhai_grammar.specs.Beginnings.{omits_operand}
+use Rattle.rhai_grammar.specs.Starts.{begins, operand_start}
+use Rattle.rhai_grammar.specs.declared.role.OperandPlace.{OperandPlace}
+use Rattle.rhai_grammar.specs.declared.role.OperandStart.{OperandStart}
+use Rattle.rhai_grammar.specs.declared.role.OperandStart.TheVariants as start
 use Rattle.rhai_grammar.specs.Beginnings.{calling, calls, is_list, may_be_called, is_this, linking}
 use Rattle.rhai_grammar.specs.Beginnings.{is_link}
 use Rattle.rhai_grammar.specs.Beginnings.{MemberPlace, AMember, NoMember, member_place}
@@ -38,15 +39,15 @@ use Rattle.rhai_grammar.specs.Demands.{Verdict, Fine, Wrong, Blames, Otherwise}
 abbrev pub unless_due : DueToken → Lexeme → Verdict
 unless_due wanted token = if is_due wanted token then Otherwise else Wrong (not_due wanted token)
 
--- where an operand is expected; after a range operator, some tokens say that it is omitted
-abbrev pub beginning_due : Context → Lexeme → Beginning → Verdict
-beginning_due context token begin.Nothing = Wrong (no_operand token)
-beginning_due context token begin.Block = if has_block_values context then Otherwise else Wrong (no_operand token)
+-- Where an operand is expected. After a range operator some tokens say that it is omitted, and after `??` a jump may
+-- stand.
+abbrev pub beginning_due : Context → Lexeme → OperandStart → Verdict
+beginning_due context token start.Written =
+    if begins context (beginning token) then Otherwise else Wrong (no_operand token)
 beginning_due context token _ = Otherwise
 
-abbrev pub operand_due : Context → (ranged : Bool) → Lexeme → Verdict
-operand_due context ranged token =
-    if ranged && omits_operand token then Otherwise else beginning_due context token (beginning token)
+abbrev pub operand_due : Context → OperandPlace → Lexeme → Verdict
+operand_due context place token = beginning_due context token (operand_start place token)
 
 abbrev pub anything : Lexeme → Verdict
 anything token = Otherwise

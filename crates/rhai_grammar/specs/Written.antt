@@ -1,7 +1,7 @@
 -- What each written form demands of the stream, followed by what comes after it demands (the last argument, `more`).
-use Rattle.std.specs.Prelude.{ℕ, ◌+◌, Bool, true, false, not, Option, Some, None, ◌&&◌}
+use Rattle.std.specs.Prelude.{ℕ, ◌+◌, true, false, not, Option, Some, None}
 use Rattle.rhai_lower.specs.Texts.{Text}
-use Rattle.rhai_lower.specs.Lexemes.{Lexeme, Name, Reserved, Sign, text_of}
+use Rattle.rhai_lower.specs.Lexemes.{Lexeme, Interpolated, Name, Reserved, Sign, String, text_of}
 use Rattle.rhai_lower.specs.Nodes.{Node, Properties, no_properties, with_property, property, position_of}
 use Rattle.rhai_lower.specs.declared.position.Position.{Position}
 use Rattle.rhai_lower.specs.declared.token.Token.TheVariants.{Unit, LeftParen, RightParen, LeftBracket, RightBracket}
@@ -9,13 +9,16 @@ use Rattle.rhai_lower.specs.declared.token.Token.TheVariants.{MapStart, LeftBrac
 use Rattle.rhai_lower.specs.declared.token.Token.TheVariants.{Bang, Equals}
 use Rattle.rhai_grammar.specs.Causes as cause
 use Rattle.rhai_grammar.specs.Causes.{Refusal, refusal}
-use Rattle.rhai_grammar.specs.Delivered.{code, item}
+use Rattle.rhai_grammar.specs.Delivered.{code, text, item}
 use Rattle.rhai_grammar.specs.DueTokens.{token_of}
 use Rattle.rhai_grammar.specs.declared.due.DueToken.{DueToken}
 use Rattle.rhai_grammar.specs.declared.due.DueToken.TheVariants as due
 use Rattle.rhai_grammar.specs.Contexts.{Context, Live, has_block_values, has_room, has_single_blocks, in_block, level_up}
 use Rattle.rhai_grammar.specs.Beginnings.{beginning, is_value, is_sign, is_range}
-use Rattle.rhai_grammar.specs.Beginnings.{omits_operand}
+use Rattle.rhai_grammar.specs.Starts.{is_jump, is_omitted, jump_token, no_value_follows, operand_start, value_follows}
+use Rattle.rhai_grammar.specs.Interpolations.{text_due}
+use Rattle.rhai_grammar.specs.declared.role.OperandPlace.{OperandPlace}
+use Rattle.rhai_grammar.specs.declared.role.OperandPlace.TheVariants.{Elsewhere}
 use Rattle.rhai_grammar.specs.Beginnings.{linking, is_bracket, is_dot}
 use Rattle.rhai_grammar.specs.Beginnings.{member_place, is_member}
 use Rattle.rhai_grammar.specs.declared.list.CommaList.{CommaList}
@@ -28,7 +31,7 @@ use Rattle.rhai_grammar.specs.Operators.{boolean_holds, mismatched}
 use Rattle.rhai_grammar.specs.Strengths.{follower_of, is_operator}
 use Rattle.rhai_grammar.specs.Forms as form
 use Rattle.rhai_grammar.specs.Forms.{Primary, Base, Links, Operand, Arguments, Items, Elements, Fields, Run}
-use Rattle.rhai_grammar.specs.Forms.{Body, ExprStatement, Initializer, Statement, Statements}
+use Rattle.rhai_grammar.specs.Forms.{Body, ExprStatement, Initializer, JumpValue, Segments, Statement, Statements}
 use Rattle.rhai_grammar.specs.Definitions.{after_statement, may_define}
 use Rattle.rhai_grammar.specs.Targets.{is_assignment, is_constant_use, target_fault}
 use Rattle.rhai_grammar.specs.Statements.{closed_due, ends_itself, expression_begins, keyword_of, list_ends, name_due}
@@ -44,7 +47,7 @@ use Rattle.rhai_grammar.specs.Verdicts.{unless_due, operand_due, anything, after
 use Rattle.rhai_grammar.specs.Verdicts.{uncalled_member, after_method, list_due, close_or_argument, argument_due}
 use Rattle.rhai_grammar.specs.Verdicts.{argument_follows, following_due, item_due, no_item_due, next_key, key_due}
 use Rattle.rhai_grammar.specs.Verdicts.{value_due, operator_known, run_ends, side_ends, room_due, end_due}
-use Rattle.rhai_grammar.specs.Spots.{Height, Side, Spot, outermost, right_side, height_after, is_ranged, side_fits}
+use Rattle.rhai_grammar.specs.Spots.{Height, Side, Spot, outermost, right_side, height_after, place_of, side_fits}
 use Rattle.rhai_grammar.specs.Spots.{left_fits, LinkSpot, spot_after_operand, spot_after_bracket, spot_after_dot}
 use Rattle.rhai_grammar.specs.Spots.{Outermost, RightOf}
 
@@ -124,38 +127,41 @@ block_at opening context more = raise_at context opening (raise_at (level_up con
 -- ---- the forms
 
 abbrev mutual
-  pub primary : Primary → Context → Live → (ranged : Bool) → Demands → Demands
-  primary (form.Value token at) context live ranged more =
-      Shape (is_value (beginning token)) ▸ Tok code (item token at) (operand_due context ranged) ▸ more
-  primary (form.Named name at) context live ranged more =
-      Tok code (item (Name name) at) (operand_due context ranged) ▸ more
-  primary (form.Word word at) context live ranged more =
-      Tok code (item (Reserved word) at) (operand_due context ranged) ▸ Next (after_word context word at) ▸ more
-  primary (form.Group opening inside closing) context live ranged more =
-      Tok code (item (Sign LeftParen) opening) (operand_due context ranged) ▸ raise_at context opening (
+  pub primary : Primary → Context → Live → OperandPlace → Demands → Demands
+  primary (form.Value token at) context live place more =
+      Shape (is_value (beginning token)) ▸ Tok code (item token at) (operand_due context place) ▸ more
+  primary (form.Named name at) context live place more =
+      Tok code (item (Name name) at) (operand_due context place) ▸ more
+  primary (form.Word word at) context live place more =
+      Tok code (item (Reserved word) at) (operand_due context place) ▸ Next (after_word context word at) ▸ more
+  primary (form.Group opening inside closing) context live place more =
+      Tok code (item (Sign LeftParen) opening) (operand_due context place) ▸ raise_at context opening (
       as_expression (run inside) (level_up context) live (due_token due.RightParen closing more))
-  primary (form.Array opening list) context live ranged more =
-      Tok code (item (Sign LeftBracket) opening) (operand_due context ranged) ▸ raise_at context opening (
+  primary (form.Array opening list) context live place more =
+      Tok code (item (Sign LeftBracket) opening) (operand_due context place) ▸ raise_at context opening (
       elements list 0 (level_up context) live opening more)
-  primary (form.Map opening list) context live ranged more =
-      Tok code (item (Sign MapStart) opening) (operand_due context ranged) ▸ raise_at context opening (
+  primary (form.Map opening list) context live place more =
+      Tok code (item (Sign MapStart) opening) (operand_due context place) ▸ raise_at context opening (
       fields list no_properties (level_up context) live opening more)
-  primary (form.BlockValue opening body) context live ranged more =
-      Shape (has_block_values context) ▸ Tok code (item (Sign LeftBrace) opening) (operand_due context ranged) ▸
+  primary (form.Interpolated first at list) context live place more =
+      Tok code (item (Interpolated first) at) (operand_due context place) ▸ raise_at context at (
+      segments list (level_up context) live at more)
+  primary (form.BlockValue opening body) context live place more =
+      Shape (has_block_values context) ▸ Tok code (item (Sign LeftBrace) opening) (operand_due context place) ▸
       block_at opening context (block body (level_up (level_up context)) live more)
-  primary (form.Zero range at) context live ranged more =
-      Shape (is_range (beginning range)) ▸ Ahead (item range at) (operand_due context ranged) ▸ more
+  primary (form.Zero range at) context live place more =
+      Shape (is_range (beginning range)) ▸ Ahead (item range at) (operand_due context place) ▸ more
 
   -- A variable that is called is the name of a call. Only what calls it may follow a reserved word other than `this`.
-  pub base : Base → Context → Live → (ranged : Bool) → Demands → Demands
-  base (form.Plain x) context live ranged more =
-      primary x context live ranged (Next (uncalled (primary_tree x live false)) ▸ more)
-  base (form.Call x None args) context live ranged more =
-      primary x context live ranged (
+  pub base : Base → Context → Live → OperandPlace → Demands → Demands
+  base (form.Plain x) context live place more =
+      primary x context live place (Next (uncalled (primary_tree x live false)) ▸ more)
+  base (form.Call x None args) context live place more =
+      primary x context live place (
       Shape (is_variable (primary_tree x live true)) ▸
       arguments args anything context live (position_of (primary_tree x live true)) more)
-  base (form.Call x (Some bang) args) context live ranged more =
-      primary x context live ranged (
+  base (form.Call x (Some bang) args) context live place more =
+      primary x context live place (
       Shape (is_variable (primary_tree x live true)) ▸ Tok code (item (Sign Bang) bang) anything ▸
       arguments args list_due context live (position_of (primary_tree x live true)) more)
 
@@ -186,16 +192,21 @@ abbrev mutual
       Tok code (item (Sign Bang) bang) anything ▸ arguments args list_due (level_up spot.settings) live name_at (
       links rest (spot_after_dot spot (member_link dot at called)) live more))
 
-  pub operand : Operand → Context → Live → (ranged : Bool) → Demands → Demands
-  operand (form.Linked x list) context live ranged more =
-      base x context live ranged (links list (spot_after_operand context (base_tree x live)) live more)
-  operand (form.Signed sign at x) context live ranged more =
-      Shape (is_sign (beginning sign)) ▸ Tok code (item sign at) (operand_due context ranged) ▸
+  pub operand : Operand → Context → Live → OperandPlace → Demands → Demands
+  operand (form.Linked x list) context live place more =
+      base x context live place (links list (spot_after_operand context (base_tree x live)) live more)
+  operand (form.Signed sign at x) context live place more =
+      Shape (is_sign (beginning sign)) ▸ Tok code (item sign at) (operand_due context place) ▸
       raise_at context at (
-      operand x (level_up context) live false (
+      operand x (level_up context) live Elsewhere (
       Test (sign_holds sign (operand_tree x live)) (malformed at (operand_tree x live)) ▸ more))
-  operand (form.NoOperand token at) context live ranged more =
-      Shape (ranged && omits_operand token) ▸ Ahead (item token at) (operand_due context ranged) ▸ more
+  operand (form.NoOperand token at) context live place more =
+      Shape (is_omitted (operand_start place token)) ▸ Ahead (item token at) (operand_due context place) ▸ more
+  -- A jump in place of an operand is demanded as the statement is.
+  operand (form.Jump throws at value) context live place more =
+      Shape (is_jump (operand_start place (Sign (jump_token throws)))) ▸
+      Tok code (item (Sign (jump_token throws)) at) (operand_due context place) ▸
+      jump_value value context live at more
 
   -- The level of arguments is raised once for all of them; the refusal has the position of the name that is called.
   pub arguments : Arguments → (others : Lexeme → Verdict) → Context → Live → Position → Demands → Demands
@@ -242,11 +253,22 @@ abbrev mutual
       comma_at lists.Map comma (
       fields rest (with_property before (text_of key) at (tree f live)) context live opening more)))
 
+  -- Each block of an interpolated string raises the level after its `{`; the refusal is at the first text, `start`. The
+  -- text after a block is requested in text mode.
+  pub segments : Segments → Context → Live → (start : Position) → Demands → Demands
+  segments (form.LastSegment opening body last at) context live start more =
+      due_token due.LeftBrace opening (raise_at context start (
+      block body (level_up context) live (Tok text (item (String last) at) text_due ▸ more)))
+  segments (form.Segment opening body next at rest) context live start more =
+      due_token due.LeftBrace opening (raise_at context start (
+      block body (level_up context) live (
+      Tok text (item (Interpolated next) at) text_due ▸ segments rest context live start more)))
+
   -- No operand is followed by a reserved symbol. An operator is between a left run and a right one, whose own operators
   -- bind as the strengths say.
   pub run : Run → Spot → Demands → Demands
   run (form.Just x) spot more =
-      operand x spot.first spot.live (is_ranged spot.side) (Next operator_known ▸ raise_after spot.side more)
+      operand x spot.first spot.live (place_of spot.side) (Next operator_known ▸ raise_after spot.side more)
   run (form.Binary op at left right) spot more =
       run left spot (
       Shape (is_operator (follower_of op)) ▸ Shape (left_fits (follower_of op) left) ▸
@@ -270,6 +292,13 @@ abbrev mutual
       Tok code (item (Sign Equals) equals) anything ▸ raise_at context at (
       as_expression (run f) (level_up context) live more)
 
+  -- After `return` or `throw` stands a value exactly where the next token begins an expression. The level is raised at
+  -- the keyword, with or without a value.
+  pub jump_value : JumpValue → Context → Live → (at : Position) → Demands → Demands
+  jump_value form.Absent context live at more = Next (no_value_follows context) ▸ raise_at context at more
+  jump_value (form.Present f) context live at more =
+      Next (value_follows context) ▸ raise_at context at (as_expression (run f) (level_up context) live more)
+
   -- A statement raises the level at its first token; a block raises it once more.
   pub statement : Statement → Context → Live → Demands → Demands
   statement (form.EmptyStatement at) context live more = Tok code (item (Sign SemiColon) at) anything ▸ more
@@ -281,6 +310,8 @@ abbrev mutual
   statement (form.Block opening body) context live more =
       Tok code (item (Sign LeftBrace) opening) anything ▸
       block_at opening context (block body (level_up (level_up context)) live more)
+  statement (form.Return throws at value) context live more =
+      Tok code (item (Sign (jump_token throws)) at) anything ▸ jump_value value context live at more
 
   -- A `;` is between two statements, unless the first ends by itself.
   pub statements : Statements → Closing → Context → Live → Demands → Demands

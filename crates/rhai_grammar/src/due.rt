@@ -9,6 +9,8 @@ pub enum DueToken {
     RightBracket,
     /// `:`, between the key of a property and its value.
     Colon,
-    /// `}`, which ends a block of one expression.
+    /// `{`, which begins a block.
+    LeftBrace,
+    /// `}`, which ends a block.
     RightBrace,
 }

@@ -6,7 +6,9 @@ ghost use Rattle.rhai_grammar.specs.Rows.{CallRow, EndedRow, FlatRow, LateRow, M
 ghost use Rattle.rhai_grammar.specs.Rows.{PairRow, RangedRow, SizedRow, SumRow};
 ghost use Rattle.rhai_grammar.specs.RowsOfChains.{CaptureRow, GroupedRow, JoinedRow, QuestionedRow};
 ghost use Rattle.rhai_grammar.specs.RowsOfStatements.{AgainRow, ConstantRow, LetRow, OpenBlockRow, ScopesRow, SingleRow};
+ghost use Rattle.rhai_grammar.specs.RowsOfStrings.{JumpRow, ReturnRow, StringRow};
 ghost use Rattle.rhai_grammar.specs.SlotLaws.{NoSlot, NumberedSlot, Reuse, ScopesClose};
+ghost use Rattle.rhai_grammar.specs.StartLaws.{StartsOfExpressions};
 
 /// A form whose demands are met is spelled by the tokens that were taken.
 #[tactic(auto, using(crate::proofs::SpellingLemmas::forms_are_spelled))]
@@ -48,6 +50,13 @@ pub fn trees_keep_shape()
 #[tactic(auto, using(crate::proofs::ChainLemmas::chains_are_joined))]
 pub fn chains_are_joined()
     ensures { ChainsAreJoined }
+{}
+
+/// A token begins an expression exactly where some expression that fits begins with it, or it is a reserved word or
+/// symbol, or an error of the tokenizer.
+#[tactic(auto, using(crate::proofs::StartLemmas::starts_of_expressions))]
+pub fn starts_of_expressions()
+    ensures { StartsOfExpressions }
 {}
 
 /// `1 + 2 * 3` fits under the depth limit 3, with the product as the sum's right operand, and is too deep under the
@@ -174,6 +183,26 @@ pub fn single_row()
 #[tactic(auto, using(crate::proofs::StatementRowLemmas::let_row))]
 pub fn let_row()
     ensures { LetRow }
+{}
+
+/// `` `a${b}c` `` is a string of a text, a block and a text. The text after the block is requested in text mode, where
+/// a name is refused.
+#[tactic(auto, using(crate::proofs::StringRowLemmas::string_row))]
+pub fn string_row()
+    ensures { StringRow }
+{}
+
+/// `a ?? return 1` fits under the depth limit 3, with the `return` in a block of its own. Under the limit 2 its value
+/// is too deep, and under the limit 1 the `return`.
+#[tactic(auto, using(crate::proofs::StringRowLemmas::jump_row))]
+pub fn jump_row()
+    ensures { JumpRow }
+{}
+
+/// `return )` is refused at the `)` for want of a `;`.
+#[tactic(auto, using(crate::proofs::StringRowLemmas::return_row))]
+pub fn return_row()
+    ensures { ReturnRow }
 {}
 
 /// A name that has a number in its tree is not called, and the slot with that number is the latest of the name.

@@ -17,5 +17,5 @@ pub use key::FnKey;
 pub use list::{AfterPart, CommaList};
 pub use role::{
     AfterStatement, Beginning, Calling, Closing, Effect, ItemPlace, Joining, Linking, ListKind,
-    StatementPlace, StatementStart,
+    OperandPlace, OperandStart, StatementPlace, StatementStart,
 };

@@ -15,6 +15,8 @@ pub enum Beginning {
     Array,
     /// An object map.
     Map,
+    /// The first text of an interpolated string.
+    Interpolated,
     /// A block, which is an operand only under `STMT_EXPR`.
     Block,
     /// A sign before an operand.
@@ -23,6 +25,28 @@ pub enum Beginning {
     Range,
     /// No operand.
     Nothing,
+}
+
+/// Where an operand stands.
+#[derive(Clone, Copy, PartialEq, Eq, Debug)]
+pub enum OperandPlace {
+    /// Directly after a range operator, where it may be omitted.
+    AfterRange,
+    /// Directly after `??`, where a `return` or `throw` may stand.
+    AfterCoalesce,
+    /// Anywhere else.
+    Elsewhere,
+}
+
+/// What a token is where an operand is expected, at its place.
+#[derive(Clone, Copy, PartialEq, Eq, Debug)]
+pub enum OperandStart {
+    /// A token after which the operand is omitted; it is not taken.
+    Omitted,
+    /// `return` or `throw` in place of an operand.
+    Jump,
+    /// The beginning of a written operand, or no operand.
+    Written,
 }
 
 /// How a token calls the name before it.
@@ -106,6 +130,10 @@ pub enum StatementStart {
     Let,
     /// `const`, which begins the definition of a constant.
     Const,
+    /// `return`.
+    Return,
+    /// `throw`.
+    Throw,
     /// An expression, or nothing that may stand there.
     Expression,
 }

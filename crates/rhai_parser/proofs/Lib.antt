@@ -1,6 +1,1 @@
-pub mod LiteralLemmas
-pub mod AnswerLemmas
-pub mod RunLemmas
 pub mod PromiseLemmas
-pub mod ChainLemmas
-pub mod Readers

@@ -1,5 +1,5 @@
 -- From what the reading program gives to what is promised.
-use Rattle.std.proofs.Common.{◌≡◌, Bool, true, false, List, [], ◌∷◌, refl, sym, ap, ◌∙◌, subst, Result, Ok, Err, IfErr, IfOk}
+use Rattle.std.proofs.Common.{inl, ◌≡◌, Bool, true, false, List, [], ◌∷◌, refl, sym, ap, ◌∙◌, subst, Result, Ok, Err, IfErr, IfOk}
 use Rattle.std.specs.Prelude.{Vec, map}
 use Rattle.std.specs.declared.alloc.Global.{Global}
 use Rattle.std.specs.declared.rc.Rc.{Rc}
@@ -37,6 +37,11 @@ pub ran_out : {X : Type 0} (Is : X → Type 0) (result : Result X ParseError) �
     → IfErr result (λ e. is_for_memory e ≡ true)
 ran_out Is (Ok x) is = tt
 ran_out Is (Err e) is = is
+
+-- what is said of a result may be said of a refusal
+read_so : (s left : Cursor) → HasRead s left false → HasRead s left true
+read_so s left h =
+    record { taken = h.taken; saw = h.saw; modes = h.modes; mode = inl h.mode; memory = h.memory }
 
 module _ {L F X : Type 0} {g : Goal} {whole : F → Demands} {tree_of : F → Val g} (E : Entry g whole tree_of)
     (Is : F → X → Type 0) (library : List L) (s left : Cursor) where
@@ -76,11 +81,12 @@ module _ {F X : Type 0} {g : Goal} {whole : F → Demands} {tree_of : F → Val 
   pub has_read_done : (v : Val g) (result : Result X ParseError) → result_of g s ≡ Done v left
       → UnlessMemory (HasRead s left) result
   has_read_done v (Ok x) e = M.done_read E s left v e
-  has_read_done v (Err d) e = λ other. M.done_read E s left v e
+  has_read_done v (Err d) e = λ other. read_so s left (M.done_read E s left v e)
 
 module _ {F : Type 0} {g : Goal} {whole : F → Demands} {tree_of : F → Val g} (E : Entry g whole tree_of)
     (s left : Cursor) where
-  pub has_read_fails : (e : ParseError) → Fails (result_of g s) e left → is_for_memory e ≡ false → HasRead s left
+  pub has_read_fails : (e : ParseError) → Fails (result_of g s) e left → is_for_memory e ≡ false
+      → HasRead s left true
   has_read_fails e fails other = M.refused_read E s left (refusal_of e) (fails.0 other) (memory_kind e.0 ∙ other)
 
 -- ---- the two entries

@@ -1,25 +1,15 @@
--- An engine as contracts see it.
+-- An engine as contracts see it: by the options and limits of its language.
 use Rattle.std.specs.Prelude.{ℕ, Bool, List, [], ◌-◌, ◌^◌, if◌then◌else◌}
 use Rattle.std.specs.Int.RustNames.{bit_or}
 use Rattle.bitflags.specs.Sets.{without}
 use Rattle.std.specs.List.{list_any}
 use Rattle.rhai_lower.specs.Texts.{Text, same_text}
 use Rattle.rhai_lower.specs.Positions.{place}
-use Rattle.rhai_grammar.specs.Contexts.{Sizes}
 use Rattle.rhai_base.specs.declared.settings.ParseSettings.{ParseSettings}
-
--- the bits of its options, its limits, and the names of its modules
-pub record EngineValue : Type 0 where
-  pub options : ℕ
-  pub max_expr_depth : ℕ
-  pub max_function_expr_depth : ℕ
-  pub max_functions : ℕ
-  pub max_array_size : ℕ
-  pub max_map_size : ℕ
-  pub sub_modules : List Text
+use Rattle.rhai_readers.specs.Languages.{LanguageValue}
 
 -- a new engine: all options but STRICT_VAR
-abbrev pub fresh_engine : EngineValue
+abbrev pub fresh_engine : LanguageValue
 fresh_engine = record {
   options = 191;
   max_expr_depth = 64;
@@ -30,17 +20,13 @@ fresh_engine = record {
   sub_modules = [];
 }
 
--- how large the literals of arrays and of object maps may be
-abbrev pub sizes_of : EngineValue → Sizes
-sizes_of e = record { array = e.max_array_size; map = e.max_map_size }
-
 -- a set of bits with some set or not
 abbrev pub with_bits : ℕ → ℕ → Bool → ℕ
 with_bits options bits enable = if enable then bit_or options bits else without 8 options bits
 
 -- The settings that one expression is read under, before the caller changes them: the flags GLOBAL_LEVEL and
 -- DISALLOW_STATEMENTS_IN_BLOCKS, and the engine's options without STMT_EXPR and LOOP_EXPR.
-abbrev pub expr_settings : EngineValue → ParseSettings
+abbrev pub expr_settings : LanguageValue → ParseSettings
 expr_settings e = record {
   flags = record { 0 = 17 };
   options = record { 0 = without 8 (without 8 e.options 8) 4 };
@@ -50,7 +36,7 @@ expr_settings e = record {
 }
 
 -- the settings that a script is read under, before the caller changes them: the flag GLOBAL_LEVEL
-abbrev pub script_settings : EngineValue → ParseSettings
+abbrev pub script_settings : LanguageValue → ParseSettings
 script_settings e = record {
   flags = record { 0 = 1 };
   options = record { 0 = e.options };

@@ -1,4 +1,2 @@
-pub mod Asks
 pub mod Engines
-pub mod Frames
-pub mod Readers
+pub mod Starts

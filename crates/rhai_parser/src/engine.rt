@@ -13,16 +13,17 @@ ghost use Rattle.rhai_grammar.specs.Delivered.{code};
 ghost use Rattle.rhai_grammar.specs.declared.key.FnKey.{FnKey};
 ghost use Rattle.rhai_grammar.specs.Promises.{Accepts, HasRead, ReadsExpression, UnlessMemory};
 ghost use Rattle.rhai_base.specs.States.{IsFresh};
-ghost use Rattle.rhai_parser.specs.Frames.{context_of, live_in, live_of, starts_in};
+ghost use Rattle.rhai_readers.specs.Frames.{context_of, live_of};
+ghost use Rattle.rhai_parser.specs.Starts.{live_in, starts_in};
 ghost use Rattle.rhai_parser.specs.Engines.{fresh_engine, with_bits, expr_settings, has_module};
 
-use crate::shared::Shared;
 use bitflags::Flags;
 use rhai_base::{Frame, LangOptions, ParseSettingFlags, ParseSettings, ParseState};
 use rhai_grammar::ParseResult;
 use rhai_lower::{
     AST, Expr, OptimizationLevel, Position, Scope, Stmt, TokenStream, optimize_into_ast,
 };
+use rhai_readers::{Language, Shared};
 use std::alloc::{AllocError, Global};
 use std::marker::Model;
 use std::rc::RcStr;
@@ -30,33 +31,15 @@ use std::rc::RcStr;
 /// Language options and limits that scripts are read under.
 #[derive(Drop)]
 pub struct Engine {
-    alloc: Global,
-    options: LangOptions,
-    max_expr_depth: usize,
-    max_function_expr_depth: usize,
-    max_functions: usize,
-    max_array_size: usize,
-    max_map_size: usize,
-    // The names of the modules that scripts find without importing them.
-    sub_modules: Vec<RcStr>,
+    language: Language,
 }
 
 impl Model for Engine {
-    ghost use Rattle.std.specs.Prelude.{map};
-    ghost use Rattle.std.specs.Rc.{rc_str_bytes};
-    ghost use Rattle.rhai_parser.specs.Engines.{EngineValue};
+    ghost use Rattle.rhai_readers.specs.Languages.{LanguageValue};
 
-    ghost Value = { EngineValue };
+    ghost Value = { LanguageValue };
 
-    ghost view = { λ e. record {
-      options = e.options.0;
-      max_expr_depth = e.max_expr_depth;
-      max_function_expr_depth = e.max_function_expr_depth;
-      max_functions = e.max_functions;
-      max_array_size = e.max_array_size;
-      max_map_size = e.max_map_size;
-      sub_modules = map rc_str_bytes e.sub_modules.items;
-    } };
+    ghost view = { λ e. e.language };
 }
 
 impl Engine {
@@ -66,41 +49,50 @@ impl Engine {
         ensures { result ≡ fresh_engine }
     {
         Engine {
-            alloc,
-            options: !LangOptions::STRICT_VAR,
-            max_expr_depth: 64,
-            max_function_expr_depth: 32,
-            max_functions: usize::MAX,
-            max_array_size: 0,
-            max_map_size: 0,
-            sub_modules: Vec::new(alloc),
+            language: Language {
+                alloc,
+                options: !LangOptions::STRICT_VAR,
+                max_expr_depth: 64,
+                max_function_expr_depth: 32,
+                max_functions: usize::MAX,
+                max_array_size: 0,
+                max_map_size: 0,
+                sub_modules: Vec::new(alloc),
+            },
         }
     }
 
-    /// Where the readers take memory from.
+    // What scripts are read under.
+    pub(crate) fn language(&self) -> &Language
+        ensures { result.now ≡ self.now }
+    {
+        &self.language
+    }
+
+    // Where the readers take memory from.
     pub(crate) fn alloc(&self) -> Global {
-        self.alloc
+        self.language.alloc
     }
 
     /// The language options.
     pub fn options(&self) -> LangOptions
         ensures { result.0 ≡ self.now.options }
     {
-        self.options
+        self.language.options
     }
 
     /// Sets the language options.
     pub fn set_options(&mut self, options: LangOptions)
         ensures { self.new ≡ record self.old { options = options.0 } }
     {
-        self.options = options;
+        self.language.options = options;
     }
 
     /// Whether scripts may have loops.
     pub fn allow_looping(&self) -> bool
         ensures { result ≡ (bit_and self.now.options 32 == 32) }
     {
-        self.options.contains(LangOptions::LOOPING)
+        self.language.options.contains(LangOptions::LOOPING)
     }
 
     /// Sets whether scripts may have loops.
@@ -108,9 +100,9 @@ impl Engine {
         ensures { self.new ≡ record self.old { options = with_bits self.old.options 32 enable } }
     {
         if enable {
-            self.options |= LangOptions::LOOPING;
+            self.language.options |= LangOptions::LOOPING;
         } else {
-            self.options -= LangOptions::LOOPING;
+            self.language.options -= LangOptions::LOOPING;
         }
     }
 
@@ -118,7 +110,7 @@ impl Engine {
     pub fn allow_shadowing(&self) -> bool
         ensures { result ≡ (bit_and self.now.options 128 == 128) }
     {
-        self.options.contains(LangOptions::SHADOWING)
+        self.language.allow_shadowing()
     }
 
     /// Sets whether a script may define a variable of a name that is there already.
@@ -126,9 +118,9 @@ impl Engine {
         ensures { self.new ≡ record self.old { options = with_bits self.old.options 128 enable } }
     {
         if enable {
-            self.options |= LangOptions::SHADOWING;
+            self.language.options |= LangOptions::SHADOWING;
         } else {
-            self.options -= LangOptions::SHADOWING;
+            self.language.options -= LangOptions::SHADOWING;
         }
     }
 
@@ -136,77 +128,77 @@ impl Engine {
     pub fn max_expr_depth(&self) -> usize
         ensures { result ≡ self.now.max_expr_depth }
     {
-        self.max_expr_depth
+        self.language.max_expr_depth
     }
 
     /// Sets the greatest level of nesting in a script outside its functions; 0 is no limit.
     pub fn set_max_expr_depth(&mut self, depth: usize)
         ensures { self.new ≡ record self.old { max_expr_depth = depth } }
     {
-        self.max_expr_depth = depth;
+        self.language.max_expr_depth = depth;
     }
 
     /// The greatest level of nesting in a function; 0 is no limit.
     pub fn max_function_expr_depth(&self) -> usize
         ensures { result ≡ self.now.max_function_expr_depth }
     {
-        self.max_function_expr_depth
+        self.language.max_function_expr_depth
     }
 
     /// Sets the greatest level of nesting in a function; 0 is no limit.
     pub fn set_max_function_expr_depth(&mut self, depth: usize)
         ensures { self.new ≡ record self.old { max_function_expr_depth = depth } }
     {
-        self.max_function_expr_depth = depth;
+        self.language.max_function_expr_depth = depth;
     }
 
     /// The greatest number of functions and closures of a script; 0 allows none.
     pub fn max_functions(&self) -> usize
         ensures { result ≡ self.now.max_functions }
     {
-        self.max_functions
+        self.language.max_functions
     }
 
     /// Sets the greatest number of functions and closures of a script; 0 allows none.
     pub fn set_max_functions(&mut self, count: usize)
         ensures { self.new ≡ record self.old { max_functions = count } }
     {
-        self.max_functions = count;
+        self.language.max_functions = count;
     }
 
     /// The greatest number of items of an array literal; 0 is no limit.
     pub fn max_array_size(&self) -> usize
         ensures { result ≡ self.now.max_array_size }
     {
-        self.max_array_size
+        self.language.max_array_size
     }
 
     /// Sets the greatest number of items of an array literal; 0 is no limit.
     pub fn set_max_array_size(&mut self, size: usize)
         ensures { self.new ≡ record self.old { max_array_size = size } }
     {
-        self.max_array_size = size;
+        self.language.max_array_size = size;
     }
 
     /// The greatest number of properties of an object map literal; 0 is no limit.
     pub fn max_map_size(&self) -> usize
         ensures { result ≡ self.now.max_map_size }
     {
-        self.max_map_size
+        self.language.max_map_size
     }
 
     /// Sets the greatest number of properties of an object map literal; 0 is no limit.
     pub fn set_max_map_size(&mut self, size: usize)
         ensures { self.new ≡ record self.old { max_map_size = size } }
     {
-        self.max_map_size = size;
+        self.language.max_map_size = size;
     }
 
     /// Whether scripts find a module of this name without importing it. It does not allocate.
     pub fn has_sub_module(&self, name: &str) -> bool
         ensures { result ≡ has_module name.now self.now.sub_modules }
     {
-        for module in &self.sub_modules {
+        for module in &self.language.sub_modules {
             if module.as_str() == name {
                 return true;
             }
@@ -220,8 +212,8 @@ impl Engine {
         ensures ok { OnOk result (self.new ≡ record self.old { sub_modules = self.old.sub_modules ++ name.now ∷ [] }) }
         ensures err { OnErr result (self.new ≡ self.old) }
     {
-        let name = RcStr::from_str(self.alloc, name)?;
-        self.sub_modules.push(name)?;
+        let name = RcStr::from_str(self.language.alloc, name)?;
+        self.language.sub_modules.push(name)?;
         Ok(())
     }
 
@@ -232,10 +224,10 @@ impl Engine {
         ParseSettings {
             flags: ParseSettingFlags::GLOBAL_LEVEL
                 | ParseSettingFlags::DISALLOW_STATEMENTS_IN_BLOCKS,
-            options: self.options - LangOptions::STMT_EXPR - LangOptions::LOOP_EXPR,
+            options: self.language.options - LangOptions::STMT_EXPR - LangOptions::LOOP_EXPR,
             level: 0,
             pos: Position::START,
-            max_expr_depth: self.max_expr_depth,
+            max_expr_depth: self.language.max_expr_depth,
         }
     }
 
@@ -250,10 +242,10 @@ impl Engine {
         ensures script { Accepts (view expr) result }
         ensures nowhere { IfErr result MemoryIsNowhere }
     {
-        let statement = Stmt::Expr(Box::new(self.alloc, expr)?);
-        let statements = vec![in self.alloc; statement]?;
-        let functions = Vec::new(self.alloc);
-        Ok(optimize_into_ast(self.alloc, constants, statements, functions, level)?)
+        let statement = Stmt::Expr(Box::new(self.language.alloc, expr)?);
+        let statements = vec![in self.language.alloc; statement]?;
+        let functions = Vec::new(self.language.alloc);
+        Ok(optimize_into_ast(self.language.alloc, constants, statements, functions, level)?)
     }
 
     // Reads the script of one expression that a whole stream is.
@@ -273,7 +265,7 @@ impl Engine {
         ensures nowhere { IfErr result MemoryIsNowhere }
     {
         let mut shared = Shared { input };
-        match self.parse_whole_expr(&mut shared, frame, settings) {
+        match self.language.parse_whole_expr(&mut shared, frame, settings) {
             Ok(expr) => self.make_script(expr, constants, level),
             Err(error) => Err(error),
         }

@@ -1,14 +1,8 @@
 //! The parser: from a stream of tokens to the tree of a script.
 #![tactic(auto)]
 
-mod asks;
-mod chain;
 pub mod engine;
-mod expr;
-mod literals;
 mod script;
-mod shared;
-mod stmt;
 
 pub use engine::Engine;
 pub use rhai_base::{

@@ -11,14 +11,15 @@ ghost use Rattle.rhai_reading.specs.Reading.{Script};
 ghost use Rattle.rhai_reading.specs.Running.{Gives, result_of};
 ghost use Rattle.rhai_base.specs.States.{IsFresh};
 ghost use Rattle.rhai_parser.specs.Engines.{script_settings};
-ghost use Rattle.rhai_parser.specs.Frames.{context_of, live_in, starts_in};
+ghost use Rattle.rhai_readers.specs.Frames.{context_of};
+ghost use Rattle.rhai_parser.specs.Starts.{live_in, starts_in};
 
 use crate::engine::Engine;
-use crate::shared::Shared;
 use rhai_base::library::functions;
 use rhai_base::{FnLib, Frame, ParseSettingFlags, ParseSettings, ParseState};
 use rhai_grammar::{Closing, ParseResult};
 use rhai_lower::{Position, Scope, ScriptFuncDef, Stmt, StmtBlockContainer, TokenStream};
+use rhai_readers::Shared;
 use std::mem;
 use std::rc::Rc;
 
@@ -53,7 +54,13 @@ impl Engine {
         let slots = mem::replace(stack, Scope::new(self.alloc()));
         let mut frame = Frame::new(slots, block);
         let mut shared = Shared { input };
-        let statements = self.parse_statements(&mut shared, &mut frame, settings, Closing::EndMark);
+        let language = self.language();
+        let statements = language.parse_statements(
+            &mut shared,
+            &mut frame,
+            settings,
+            Closing::EndMark,
+        );
         *stack = frame.into_stack();
         statements
     }

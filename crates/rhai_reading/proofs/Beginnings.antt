@@ -1,6 +1,13 @@
 -- Which token it is that a view of one found.
-use Rattle.std.proofs.Common.{◌≡◌, ℕ, Bool, true, false, refl, subst, if◌then◌else◌}
-use Rattle.rhai_lower.specs.Lexemes.{Lexeme, Name, Reserved, Sign, String, text_of}
+use Rattle.std.proofs.Common.{◌≡◌, ℕ, Bool, true, false, refl, sym, ap, ◌∙◌, subst, if◌then◌else◌}
+use Rattle.rhai_lower.specs.Lexemes.{Lexeme, Interpolated, Name, Reserved, Sign, String, text_of}
+use Rattle.rhai_grammar.specs.Beginnings.{omits_operand}
+use Rattle.rhai_grammar.specs.Interpolations.{is_last_text, is_text}
+use Rattle.rhai_grammar.specs.Starts.{is_jump, is_throw, jump_token, operand_start}
+use Rattle.rhai_grammar.specs.declared.role.OperandPlace.{OperandPlace}
+use Rattle.rhai_grammar.specs.declared.role.OperandPlace.TheVariants as after_op
+use Rattle.rhai_grammar.specs.declared.role.OperandStart.TheVariants as first
+use Rattle.rhai_reading.proofs.FormKinds.{text_token}
 use Rattle.rhai_lower.specs.declared.position.Position.{Position}
 use Rattle.rhai_lower.specs.declared.token.Token.TheVariants as token
 use Rattle.rhai_grammar.specs.Causes as cause
@@ -35,12 +42,14 @@ Begins begin.Word i = i ≡ item (Reserved (text_of i.lexeme)) i.at
 Begins begin.Group i = i ≡ item (Sign token.LeftParen) i.at
 Begins begin.Array i = i ≡ item (Sign token.LeftBracket) i.at
 Begins begin.Map i = i ≡ item (Sign token.MapStart) i.at
+Begins begin.Interpolated i = i ≡ item (Interpolated (text_of i.lexeme)) i.at
 Begins begin.Block i = i ≡ item (Sign token.LeftBrace) i.at
 Begins _ i = Unit {0}
 
 begins : (l : Lexeme) (p : Position) → Begins (beginning l) (item l p)
 begins (Name t) p = refl
 begins (Reserved t) p = refl
+begins (Interpolated t) p = refl
 begins (Sign token.LeftParen) p = refl
 begins (Sign token.LeftBracket) p = refl
 begins (Sign token.MapStart) p = refl
@@ -112,6 +121,8 @@ Starts start.Empty i = i ≡ item (Sign token.SemiColon) i.at
 Starts start.Block i = i ≡ item (Sign token.LeftBrace) i.at
 Starts start.Let i = i ≡ item (Sign (keyword_of false)) i.at
 Starts start.Const i = i ≡ item (Sign (keyword_of true)) i.at
+Starts start.Return i = i ≡ item (Sign (jump_token false)) i.at
+Starts start.Throw i = i ≡ item (Sign (jump_token true)) i.at
 Starts start.Expression i = Unit {0}
 
 starts : (l : Lexeme) (p : Position) → Starts (statement_start l) (item l p)
@@ -119,6 +130,8 @@ starts (Sign token.SemiColon) p = refl
 starts (Sign token.LeftBrace) p = refl
 starts (Sign token.Let) p = refl
 starts (Sign token.Const) p = refl
+starts (Sign token.Return) p = refl
+starts (Sign token.Throw) p = refl
 starts _ p = tt
 
 pub started : {v : StatementStart} (s : Point) → statement_start (op_at s) ≡ v → Starts v (next_at code s)
@@ -139,6 +152,34 @@ separates EndMark _ p = tt
 pub separated : {v : AfterStatement} (closing : Closing) (s : Point) → after_statement closing (op_at s) ≡ v
     → Separates v (next_at code s)
 separated closing s e = subst (λ v. Separates v (next_at code s)) e (separates closing (op_at s) (pos_at s))
+
+-- ---- jumps, and texts
+
+-- a jump in place of an operand
+pub jump_is : (o : OperandPlace) (l : Lexeme) (p : Position) → operand_start o l ≡ first.Jump
+    → item l p ≡ item (Sign (jump_token (is_throw l))) p
+jump_is after_op.AfterCoalesce (Sign token.Return) p e = refl
+jump_is after_op.AfterCoalesce (Sign token.Throw) p e = refl
+jump_is after_op.AfterCoalesce _ p e = absurd cc
+jump_is after_op.AfterRange l p e = by (omits_operand l) e
+  where
+    by : (b : Bool) → (if b then first.Omitted else first.Written) ≡ first.Jump
+        → item l p ≡ item (Sign (jump_token (is_throw l))) p
+    by true e = absurd cc
+    by false e = absurd cc
+jump_is after_op.Elsewhere l p e = absurd cc
+
+pub jump_stands : (o : OperandPlace) (s : Point) → operand_start o (op_at s) ≡ first.Jump
+    → is_jump (operand_start o (Sign (jump_token (is_throw (op_at s))))) ≡ true
+jump_stands o s e =
+    let same : op_at s ≡ Sign (jump_token (is_throw (op_at s))) =
+    ap (λ (i : Item). i.lexeme) (jump_is o (op_at s) (pos_at s) e) in
+    ap (λ l. is_jump (operand_start o l)) (sym same) ∙ ap is_jump e
+
+pub text_is : (l : Lexeme) (p : Position) → is_text l ≡ true → item l p ≡ item (text_token (is_last_text l) (text_of l)) p
+text_is (String t) p e = refl
+text_is (Interpolated t) p e = refl
+text_is _ p e = absurd cc
 
 -- ---- one token
 

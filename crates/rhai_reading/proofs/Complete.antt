@@ -28,7 +28,8 @@ use Rattle.rhai_reading.proofs.Rules.{at}
 use Rattle.rhai_reading.proofs.Complete.Law.{PrimaryRead, BaseRead, LinksRead, OperandRead, ArgumentsRead, ItemsRead}
 use Rattle.rhai_reading.proofs.Complete.Law.{ElementsRead, FieldsRead, RunRead}
 use Rattle.rhai_reading.proofs.Complete.Law.{ExprStatementRead, InitializerRead, StatementRead, StatementsRead, BodyRead}
-use Rattle.rhai_grammar.specs.Forms.{Body, ExprStatement, Initializer, Statement}
+use Rattle.rhai_grammar.specs.Forms.{Body, ExprStatement, Initializer, JumpValue, Segments, Statement}
+use Rattle.rhai_reading.proofs.Complete.Law.{InsideRead, JumpRead, SegmentsRead}
 use Rattle.rhai_reading.proofs.Complete.Operands as O
 use Rattle.rhai_reading.proofs.Complete.Calls as C
 use Rattle.rhai_reading.proofs.Complete.Literals as L
@@ -45,6 +46,7 @@ mutual
   primary (form.Group opening inside closing) = O.group opening inside closing (expression inside (run inside))
   primary (form.Array opening list) = L.array opening list (elements list)
   primary (form.Map opening list) = L.object_map opening list (fields list)
+  primary (form.Interpolated first pos list) = T.interpolated first pos list (segments list)
   primary (form.BlockValue opening f) = T.block_value opening f (block f)
   primary (form.Zero range pos) = O.zero range pos
 
@@ -64,6 +66,7 @@ mutual
   operand (form.Linked x list) = O.linked x list (base x) (links list)
   operand (form.Signed sign pos x) = O.signed sign pos x (operand x)
   operand (form.NoOperand token pos) = O.no_operand token pos
+  operand (form.Jump throws pos x) = O.jump throws pos x (jump x)
 
   arguments : (x : Arguments) → ArgumentsRead x
   arguments (form.EmptyPair pos) = C.empty_pair pos
@@ -86,6 +89,10 @@ mutual
   fields (form.Field key pos colon f comma rest) =
       L.more_fields key pos colon f comma rest (expression f (run f)) (fields rest)
 
+  segments : (x : Segments) → SegmentsRead x
+  segments (form.LastSegment opening f text pos) = T.last_segment opening f text pos (within f)
+  segments (form.Segment opening f text pos rest) = T.more_segments opening f text pos rest (within f) (segments rest)
+
   run : (f : Run) → RunRead f
   run (Just x) = N.just x (operand x)
   run (Binary op pos l r) = N.binary op pos l r (run l) (run r)
@@ -99,12 +106,17 @@ mutual
   initializer form.NoValue = T.no_value
   initializer (form.Valued equals f) = T.valued equals f (expression f (run f))
 
+  jump : (x : JumpValue) → JumpRead x
+  jump form.Absent = T.absent
+  jump (form.Present f) = T.present f (expression f (run f))
+
   statement : (x : Statement) → StatementRead x
   statement (form.EmptyStatement pos) = T.empty_statement pos
   statement (form.Expression x) = T.expression_statement x (expr_statement x)
   statement (form.Define constant pos name name_at value) =
       T.define constant pos name name_at value (initializer value)
   statement (form.Block opening f) = T.block_statement opening f (block f)
+  statement (form.Return throws pos x) = T.return throws pos x (jump x)
 
   statements : (x : form.Statements) → StatementsRead x
   statements form.NoStatement = T.no_statements
@@ -112,9 +124,13 @@ mutual
   statements (form.Ended f semicolon rest) = T.ended f semicolon rest (statement f) (statements rest)
   statements (form.Standing f rest) = T.standing f rest (statement f) (statements rest)
 
+  within : (x : Body) → InsideRead x
+  within (form.Many fs closing) = T.many fs closing (statements fs)
+  within (form.Single x closing) = T.single x closing (expr_statement x)
+
   block : (x : Body) → BodyRead x
-  block (form.Many fs closing) = T.many fs closing (statements fs)
-  block (form.Single x closing) = T.single x closing (expr_statement x)
+  block (form.Many fs closing) = T.block (form.Many fs closing) (T.many fs closing (statements fs))
+  block (form.Single x closing) = T.block (form.Single x closing) (T.single x closing (expr_statement x))
 
 pub complete : (c : Context) (w : Live) (f : Run) (s t : Point) (b : Bool) → Met (W.whole_expression f c w) s t
     → H.Runs (body (R.Whole c w)) (at s b) (Done (tree f w) (at t true))

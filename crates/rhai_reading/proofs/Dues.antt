@@ -21,10 +21,11 @@ use Rattle.rhai_reading.proofs.Looks.{op_at, pos_at}
 use Rattle.rhai_reading.proofs.Paths.{Way, Lost}
 use Rattle.rhai_reading.proofs.Shows.{Histories, Kind, Shows, Halts, look, check, take, refuse, wrong}
 
-stands : (d : DueToken) (l : Lexeme) (p : Position) → is_due d l ≡ true → item l p ≡ item (Sign (token_of d)) p
+pub stands : (d : DueToken) (l : Lexeme) (p : Position) → is_due d l ≡ true → item l p ≡ item (Sign (token_of d)) p
 stands due.RightParen (Sign token.RightParen) p e = refl
 stands due.RightBracket (Sign token.RightBracket) p e = refl
 stands due.Colon (Sign token.Colon) p e = refl
+stands due.LeftBrace (Sign token.LeftBrace) p e = refl
 stands due.RightBrace (Sign token.RightBrace) p e = refl
 stands _ _ p e = absurd cc
 

@@ -1,17 +1,17 @@
 -- The forms that each reader reads, with their trees and demands.
-use Rattle.std.proofs.Common.{◌≡◌, Bool, true, List, ◌++◌}
+use Rattle.std.proofs.Common.{◌≡◌, Bool, true, false, List, ◌++◌}
 use Rattle.std.specs.Prelude.{Option, Some, None, not}
 use Rattle.std.specs.Option.{is_some}
 use Rattle.rhai_lower.specs.Texts.{Text}
-use Rattle.rhai_lower.specs.Lexemes.{Lexeme, Name, Sign, text_of}
+use Rattle.rhai_lower.specs.Lexemes.{Lexeme, Interpolated, Name, Sign, String, text_of}
 use Rattle.rhai_lower.specs.Nodes.{Node, Nodes, no_nodes, Properties, property}
 use Rattle.rhai_lower.specs.declared.position.Position.{Position}
 use Rattle.rhai_lower.specs.declared.token.Token.TheVariants as token
 use Rattle.rhai_grammar.specs.declared.due.DueToken.TheVariants as due
 use Rattle.rhai_grammar.specs.Causes as cause
 use Rattle.rhai_grammar.specs.Causes.{Refusal, refusal}
-use Rattle.rhai_grammar.specs.Delivered.{code, item, Point}
-use Rattle.rhai_grammar.specs.Contexts.{Context, Live, level_up}
+use Rattle.rhai_grammar.specs.Delivered.{code, text, item, Point}
+use Rattle.rhai_grammar.specs.Contexts.{Context, Live, has_single_blocks, in_block, level_up}
 use Rattle.rhai_grammar.specs.Beginnings.{calls, member_place, is_member}
 use Rattle.rhai_grammar.specs.Literals.{is_key, has_key, property_count}
 use Rattle.rhai_grammar.specs.Chains.{Link, index_refusal}
@@ -26,10 +26,13 @@ use Rattle.rhai_grammar.specs.Verdicts.{operator_known}
 use Rattle.rhai_grammar.specs.Spots.{LinkSpot, Spot}
 use Rattle.rhai_lower.specs.Nodes as node
 use Rattle.rhai_grammar.specs.Forms as form
-use Rattle.rhai_grammar.specs.Forms.{Body, ExprStatement, Initializer, Statement, Statements}
+use Rattle.rhai_grammar.specs.Forms.{Body, ExprStatement, Initializer, JumpValue, Segments, Statement, Statements}
 use Rattle.rhai_grammar.specs.Definitions.{after_statement, after_statements}
-use Rattle.rhai_grammar.specs.Trees.{block_tree, statement_of, statement_tree, statement_trees, value_tree}
+use Rattle.rhai_grammar.specs.Trees.{block_tree, jump_result, segment_trees, statement_of, statement_tree, statement_trees, value_tree}
 use Rattle.rhai_grammar.specs.declared.role.Closing.{Closing}
+use Rattle.rhai_grammar.specs.declared.role.Closing.TheVariants.{Brace}
+use Rattle.rhai_grammar.specs.Interpolations.{text_due}
+use Rattle.rhai_grammar.specs.declared.role.OperandPlace.{OperandPlace}
 use Rattle.rhai_reading.proofs.Lists.{joined_properties, joined_statements}
 use Rattle.rhai_reading.proofs.Looks.{op_at}
 use Rattle.rhai_reading.proofs.Shows.{Kind}
@@ -39,18 +42,18 @@ use Rattle.rhai_reading.proofs.Shows.{Kind}
 abbrev pub expressions : Context → Live → Kind Run Node
 expressions c w = record { tree = λ t f. tree f w; demands = λ f k. W.expression f c w k }
 
-abbrev pub operands : Context → Live → Bool → Kind Operand Node
-operands c w ranged = record { tree = λ t x. operand_tree x w; demands = λ x k. W.operand x c w ranged k }
+abbrev pub operands : Context → Live → OperandPlace → Kind Operand Node
+operands c w place = record { tree = λ t x. operand_tree x w; demands = λ x k. W.operand x c w place k }
 
 -- the token behind a primary may call it
 abbrev pub tree_before : Live → Point → Primary → Node
 tree_before w t x = primary_tree x w (calls (op_at t))
 
-abbrev pub primaries : Context → Live → Bool → Kind Primary Node
-primaries c w ranged = record { tree = tree_before w; demands = λ x k. W.primary x c w ranged k }
+abbrev pub primaries : Context → Live → OperandPlace → Kind Primary Node
+primaries c w place = record { tree = tree_before w; demands = λ x k. W.primary x c w place k }
 
-abbrev pub bases : Context → Live → Bool → Kind Base Node
-bases c w ranged = record { tree = λ t x. base_tree x w; demands = λ x k. W.base x c w ranged k }
+abbrev pub bases : Context → Live → OperandPlace → Kind Base Node
+bases c w place = record { tree = λ t x. base_tree x w; demands = λ x k. W.base x c w place k }
 
 abbrev pub items : Context → Live → (before : Nodes) → Kind Items Nodes
 items c w before = record { tree = λ t list. joined before (item_trees list w); demands = λ list k. W.items list c w k }
@@ -161,6 +164,63 @@ members c w = record { tree = λ t f. member_tree w f; demands = member_of c w }
 abbrev pub wholes : Context → Live → Kind Run Node
 wholes c w = record { tree = λ t f. tree f w; demands = λ f k. W.whole_expression f c w }
 
+-- ---- interpolated strings
+
+-- the statements of a block, without its `}`
+pub data InsideForm : Type 0 where
+  ManyInside : Statements → InsideForm
+  SingleInside : ExprStatement → InsideForm
+
+abbrev pub inside_of : Context → Live → InsideForm → Demands → Demands
+inside_of c w (ManyInside fs) k = Shape (not (has_single_blocks c)) ▸ W.statements fs Brace c (in_block w) k
+inside_of c w (SingleInside x) k = Shape (has_single_blocks c) ▸ W.expr_statement x c w k
+
+abbrev pub inside_statements : Live → InsideForm → node.Statements
+inside_statements w (ManyInside fs) = statement_trees fs (in_block w)
+inside_statements w (SingleInside x) = node.one_statement (statement_of x w) node.no_statements
+
+-- with its `}`
+abbrev pub body_form : InsideForm → Position → Body
+body_form (ManyInside fs) closing = form.Many fs closing
+body_form (SingleInside x) closing = form.Single x closing
+
+abbrev pub insides : Context → Live → Kind InsideForm node.Statements
+insides c w = record { tree = λ t f. inside_statements w f; demands = λ f k. inside_of c w f k }
+
+-- the `}` of a block, and the text after it
+pub record TextForm : Type 0 where
+  pub closing : Position
+  pub content : Text
+  pub last : Bool
+  pub at : Position
+
+abbrev pub text_token : (last : Bool) → Text → Lexeme
+text_token true t = String t
+text_token false t = Interpolated t
+
+abbrev pub text_of_form : TextForm → Demands → Demands
+text_of_form f k =
+    W.due_token due.RightBrace f.closing (Tok text (item (text_token f.last f.content) f.at) text_due ▸ k)
+
+abbrev pub text_afters : Kind TextForm (Position × Text × Bool × Position)
+text_afters = record { tree = λ t f. (f.closing, f.content, f.last, f.at); demands = text_of_form }
+
+abbrev pub segments : Context → Live → (start : Position) → (before : Nodes) → Kind Segments Nodes
+segments c w start before = record {
+  tree = λ t list. joined before (segment_trees list w);
+  demands = λ list k. W.segments list c w start k;
+}
+
+-- a block and the text after it, which is the last one or is followed by others
+abbrev pub segment_form : (last : Bool) → (opening : Position) → Body → Text → Position → (rest : Segments) → Segments
+segment_form true opening body t at rest = form.LastSegment opening body t at
+segment_form false opening body t at rest = form.Segment opening body t at rest
+
+-- ---- jumps
+
+abbrev pub jump_values : Context → Live → Position → Kind JumpValue node.Optional
+jump_values c w at = record { tree = λ t f. jump_result f w; demands = λ f k. W.jump_value f c w at k }
+
 -- ---- statements
 
 abbrev pub expr_statements : Context → Live → Kind ExprStatement node.Statement
@@ -190,6 +250,10 @@ definitions c w at constant = record {
   tree = λ t f. (statement_tree (definition_of constant at f) w, after_statement (definition_of constant at f) w);
   demands = λ f k. W.new_name f.name.name f.name.at c w (W.definition_value f.value c w at k);
 }
+
+-- the position of the `{` of a block
+abbrev pub block_starts : Kind Position Position
+block_starts = record { tree = λ t opening. opening; demands = λ opening k. W.due_token due.LeftBrace opening k }
 
 -- the position of the `}` of a block
 abbrev pub block_ends : Position → node.Statements → Kind Position node.Block

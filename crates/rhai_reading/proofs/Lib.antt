@@ -17,3 +17,9 @@ pub mod Modes
 pub mod Dues
 pub mod Sound
 pub mod Main
+pub mod Outcomes
+pub mod RunSteps
+pub mod WordSteps
+pub mod TextSteps
+pub mod ChainSteps
+pub mod FieldSteps

@@ -1,9 +1,10 @@
 -- Lists that grow by one at their end.
 use Rattle.std.proofs.Common.{◌≡◌, ◌+◌, List, [], ◌∷◌, ◌++◌, refl, sym, ap, ◌∙◌, append_assoc}
 use Rattle.rhai_lower.specs.Texts.{Text}
-use Rattle.rhai_lower.specs.Nodes.{Node, Nodes, no_nodes, one_node, with_node, Properties, no_properties, one_property}
+use Rattle.rhai_lower.specs.Nodes.{Node, Nodes, no_nodes, one_node, string, with_node, Properties, no_properties, one_property}
 use Rattle.rhai_lower.specs.Nodes.{with_property, Statement, Statements, noop, no_statements, one_statement, with_statement}
 use Rattle.rhai_lower.specs.declared.position.Position.{Position}
+use Rattle.rhai_grammar.specs.Interpolations.{added_text, with_text}
 use Rattle.rhai_grammar.specs.Operators.{joined}
 use Rattle.rhai_grammar.specs.Trees.{kept, node_count, with_kept}
 
@@ -19,6 +20,24 @@ added_last (one_node n ns) x = ap (one_node n) (added_last ns x)
 pub added_none : (ns : Nodes) → joined ns no_nodes ≡ ns
 added_none no_nodes = refl
 added_none (one_node n ns) = ap (one_node n) (added_none ns)
+
+-- a text, which leaves no segment where it is empty
+pub text_added : (ns : Nodes) (t : Text) (pos : Position) (ms : Nodes)
+    → joined (added_text ns t pos) ms ≡ joined ns (with_text t pos ms)
+text_added ns [] pos ms = refl
+text_added ns (c ∷ t) pos ms = added ns (string (c ∷ t) pos) ms
+
+-- a block and the text after it, before other segments, and as the last one
+pub segment_added : (ns : Nodes) (x : Node) (t : Text) (pos : Position) (ms : Nodes)
+    → joined (added_text (with_node ns x) t pos) ms ≡ joined ns (one_node x (with_text t pos ms))
+segment_added ns x t pos ms = text_added (with_node ns x) t pos ms ∙ added ns x (with_text t pos ms)
+
+pub segment_last : (ns : Nodes) (x : Node) (t : Text) (pos : Position)
+    → added_text (with_node ns x) t pos ≡ joined ns (one_node x (with_text t pos no_nodes))
+segment_last ns x t pos = sym (added_none (added_text (with_node ns x) t pos)) ∙ segment_added ns x t pos no_nodes
+
+pub first_text : (t : Text) (pos : Position) (ms : Nodes) → joined (added_text no_nodes t pos) ms ≡ with_text t pos ms
+first_text t pos ms = text_added no_nodes t pos ms
 
 pub one_more_node : (ns : Nodes) (x : Node) → node_count (with_node ns x) ≡ node_count ns + 1
 one_more_node no_nodes x = refl

@@ -4,17 +4,21 @@ use Rattle.rhai_lower.specs.Lexemes.{Lexeme}
 use Rattle.rhai_lower.specs.declared.position.Position.{Position}
 use Rattle.rhai_grammar.specs.Causes as cause
 use Rattle.rhai_grammar.specs.Causes.{Cause, Refusal, refusal, out_of_memory, is_memory_cause}
-use Rattle.rhai_grammar.specs.Delivered.{code, Item, Point, next_at, past, is_memory}
+use Rattle.rhai_grammar.specs.Beginnings.{unexpected}
+use Rattle.rhai_grammar.specs.DueTokens.{is_due, not_due}
+use Rattle.rhai_grammar.specs.Interpolations.{is_text}
+use Rattle.rhai_grammar.specs.declared.due.DueToken.TheVariants.{RightBrace}
+use Rattle.rhai_grammar.specs.Delivered.{code, text, Item, Point, next_at, past, is_memory}
 use Rattle.rhai_grammar.specs.Seen.{StandsAtLast, is_at_last}
 use Rattle.rhai_grammar.specs.Contexts.{Context, has_room}
 use Rattle.rhai_grammar.specs.Demands as D
 use Rattle.rhai_grammar.specs.Demands.{Verdict, Fine, Wrong, Blames, Otherwise, Demands, ◌▸◌, Tok, Next, Test, verdict}
-use Rattle.rhai_reading.specs.Reading.{Goal, Val, Prog, Ret, Fail, Peek, Take, Call}
-use Rattle.rhai_reading.specs.Histories.{State, Outcome, Done, Refused, Unfinished, and_then, exec}
+use Rattle.rhai_reading.specs.Reading.{Goal, Val, Prog, Ret, Fail, Peek, Take, TakeText, Call}
+use Rattle.rhai_reading.specs.Histories.{State, Outcome, Done, Refused, Unfinished, after_brace, and_then, exec, looking}
 use Rattle.rhai_reading.proofs.Joins.{cursor}
 use Rattle.rhai_reading.proofs.Rules.{at}
 use Rattle.rhai_reading.proofs.Looks.{op_at, pos_at}
-use Rattle.rhai_reading.proofs.Paths.{Fits, Aim, Way, lost, Passes, Lost}
+use Rattle.rhai_reading.proofs.Paths.{Fits, Aim, Way, lost, Passes, Astray, Lost}
 
 abbrev pub Histories : Type 0
 Histories = (g : Goal) → State → Outcome (Val g)
@@ -56,7 +60,7 @@ pub record Read {F A : Type 0} (K : Kind F A) (s : Point) (x : A) (t : Point) : 
 -- a form misses a demand
 pub record Halts {F A : Type 0} (K : Kind F A) (s : Point) (e : Refusal) (u : State) : Type 0 where
   pub form : F
-  pub stops : {k : Demands} → Way (K.demands form k) s (Lost e u.point)
+  pub stops : {k : Demands} → Way (K.demands form k) s (Astray e u.mode u.point)
   pub last : StandsAtLast e (cursor u)
 
 -- what a reader of forms shows of a call, and on its way
@@ -71,9 +75,13 @@ Goes call K from p s b = Shows call (Read K from) (Halts K from) p s b
 pub judged : (v : Lexeme → Verdict) (l : Lexeme) (w : Verdict) → is_memory l ≡ false → v l ≡ w → verdict v l ≡ w
 judged v l w m e = ap (λ b. if b then Otherwise else v l) m ∙ e
 
+pub lost_to : (v : Lexeme → Verdict) (i : Item) (w : Verdict) (e : Refusal) → is_memory i.lexeme ≡ false
+    → v i.lexeme ≡ w → D.Refuses w i.at e → D.Refused v i e
+lost_to v i w e m is r = subst (λ x. D.Refuses x i.at e) (sym (judged v i.lexeme w m is)) r
+
 pub lost_at : (v : Lexeme → Verdict) (s : Point) (w : Verdict) (e : Refusal) → is_memory (op_at s) ≡ false
     → v (op_at s) ≡ w → D.Refuses w (pos_at s) e → D.Refused v (next_at code s) e
-lost_at v s w e m is r = subst (λ x. D.Refuses x (pos_at s) e) (sym (judged v (op_at s) w m is)) r
+lost_at v s w e m is r = lost_to v (next_at code s) w e m is r
 
 -- another token is due
 pub wrong : {i : Item} {v : Lexeme → Verdict} {ds : Demands} {s : Point} {c : Cause} → is_memory (op_at s) ≡ false
@@ -107,6 +115,15 @@ readable : {A : Type 0} (Q : A → Point → Type 0) (N : Refusal → State → 
 readable Q N true o s h = λ w. absurd cc
 readable Q N false o s h = h refl
 
+-- the text after the `}` at a point
+abbrev pub text_at : Point → Item
+text_at s = next_at text (past code s)
+
+chosen : {A : Type 0} (Q : A → Point → Type 0) (N : Refusal → State → Type 0) (c : Bool) (o p : Outcome A)
+    → (c ≡ true → Ensures Q N o) → (c ≡ false → Ensures Q N p) → Ensures Q N (if c then o else p)
+chosen Q N true o p f g = f refl
+chosen Q N false o p f g = g refl
+
 module _ {A : Type 0} {call : Histories} {Q : A → Point → Type 0} {N : Refusal → State → Type 0} where
   pub ret : {x : A} {s : Point} {b : Bool} → Q x s → Shows call Q N (Ret x) s b
   ret h = record { shown = (refl, h) }
@@ -122,6 +139,23 @@ module _ {A : Type 0} {call : Histories} {Q : A → Point → Type 0} {N : Refus
       → (t ≡ false → Shows call Q N q s b) → Shows call Q N (if t then p else q) s b
   either true yes_ no_ = record { shown = (yes_ refl).shown }
   either false yes_ no_ = record { shown = (no_ refl).shown }
+
+  -- a `}` and the text after it
+  pub text_taken : {k : Position → Lexeme → Position → Prog A} {s : Point} {b : Bool}
+      → (is_memory (op_at s) ≡ false → is_due RightBrace (op_at s) ≡ false
+      → N (refusal (not_due RightBrace (op_at s)) (pos_at s)) (looking (at s b)))
+      → (is_due RightBrace (op_at s) ≡ true → is_memory (text_at s).lexeme ≡ false → is_text (text_at s).lexeme ≡ false
+      → N (refusal (unexpected (text_at s).lexeme) (text_at s).at) (looking (after_brace (at s b))))
+      → (is_due RightBrace (op_at s) ≡ true → is_text (text_at s).lexeme ≡ true
+      → Shows call Q N (k (pos_at s) (text_at s).lexeme (text_at s).at) (past text (past code s)) false)
+      → Shows call Q N (TakeText k) s b
+  text_taken {s = s} {b = b} brace other on = record {
+    shown = readable Q N _ _ _ (λ m. chosen Q N (is_due RightBrace (op_at s)) _
+        (Refused (refusal (not_due RightBrace (op_at s)) (pos_at s)) (looking (at s b)))
+        (λ due. readable Q N _ _ _ (λ n. chosen Q N (is_text (text_at s).lexeme) _
+        (Refused (refusal (unexpected (text_at s).lexeme) (text_at s).at) (looking (after_brace (at s b))))
+        (λ is. (on due is).shown) (λ none w. other due n none))) (λ none w. brace m none));
+  }
 
   after : {B : Type 0} {P : B → Point → Type 0} {M : Refusal → State → Type 0} (k : B → Prog A) (o : Outcome B)
       → Ensures P M o → ((e : Refusal) (t : State) → M e t → N e t)

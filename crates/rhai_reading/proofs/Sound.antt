@@ -37,9 +37,9 @@ use Rattle.rhai_reading.proofs.Sound.Whole as H
 step : {call : Histories} → AllSound call → (g : Goal) (s : Point) (b : Bool) → Sound g s (exec call (body g) (at s b))
 step ih (R.Whole c w) s b = H.whole ih c w s b
 step ih (R.Expression c w) s b = tells (H.expression ih c w s b)
-step ih (R.Operand c w ranged) s b = tells (O.operand ih c w ranged s b)
-step ih (R.Primary c w) s b = λ ranged written sign. tells (O.primary ih c w ranged s b written sign)
-step ih (R.Postfix c w x) s b = λ ranged from p is G. tells (C.postfix ih c w ranged from p s G x b is)
+step ih (R.Operand c w place) s b = tells (O.operand ih c w place s b)
+step ih (R.Primary c w) s b = λ place written sign. tells (O.primary ih c w place s b written sign)
+step ih (R.Postfix c w x) s b = λ place from p is G. tells (C.postfix ih c w place from p s G x b is)
 step ih (R.Called c w name) s b = λ on. tells (C.calling_by ih c w name s b on)
 step ih (R.Links w q) s b = tells (K.link_chain ih w q s b)
 step ih (R.Index c w indexed) s b = tells (K.index ih c w indexed s b)
@@ -48,6 +48,9 @@ step ih (R.Arguments c w name) s b = tells (C.arguments ih c w name s b)
 step ih (R.Items c w before) s b = tells (C.item_list ih c w before s b)
 step ih (R.Elements c w opening before) s b = tells (L.element_list ih c w opening before s b)
 step ih (R.Fields c w opening before) s b = tells (L.field_list ih c w opening before s b)
+step ih (R.Segments c w start before) s b = tells (L.segment_list ih c w start before s b)
+step {call = call} ih R.TextAfter s b = tells (L.text_after call s b)
+step ih (R.Jump c w pos) s b = tells (T.jump ih c w s pos b)
 step ih (R.NextKey c before) s b = tells (L.next_key _ c before s b)
 step ih R.NextOperator s b = tells (N.next_operator _ s b)
 step ih (R.ExprStatement c w) s b = tells (T.evaluated ih c w s b)
@@ -56,6 +59,8 @@ step ih (R.Initializer c w pos) s b = tells (T.initializer ih c w s pos b)
 step ih (R.Definition c w pos constant) s b = tells (T.definition ih c w s pos constant b)
 step ih (R.Statement c w) s b = tells (T.statement ih c w s b)
 step ih (R.Statements closing c w before) s b = tells (T.list_of ih closing c w before s b)
+step {call = call} ih R.BlockStart s b = tells (L.block_start call s b)
+step ih (R.Inside c w) s b = tells (T.inside ih c w s b)
 step ih (R.Block c w opening) s b = tells (T.block ih c w opening s b)
 step ih (R.BlockEnd opening fs) s b = tells (T.block_end _ opening fs s b)
 step ih (R.BinaryOp c w pos p lhs) s b =
@@ -65,8 +70,8 @@ step ih (R.BinaryOp c w pos p lhs) s b =
 -- before any call is made
 none : (g : Goal) (s : Point) (b : Bool) → Sound g s (deep zero g (at s b))
 none (R.Whole c w) s b = tt
-none (R.Primary c w) s b = λ ranged written sign. record { told = tt }
-none (R.Postfix c w x) s b = λ ranged from p is G. record { told = tt }
+none (R.Primary c w) s b = λ place written sign. record { told = tt }
+none (R.Postfix c w x) s b = λ place from p is G. record { told = tt }
 none (R.Called c w name) s b = λ on. record { told = tt }
 none (R.Member c w) s b = λ is. record { told = tt }
 none (R.BinaryOp c w pos p lhs) s b = λ q from L live is height suits ended stands. record { told = tt }
@@ -80,6 +85,6 @@ sound (suc n) g s b = step (record { of = sound n }) g s b
 pub script : (n : ℕ) (c : Context) (w : Live) (s : Point) (b : Bool)
     → Ensures (λ x t. (fs : F.Statements) × ((statement_trees fs w, after_statements fs w) ≡ x)
     × Met (W.whole_script fs c w) s t)
-    (λ e u. (fs : F.Statements) × Missed (W.whole_script fs c w) s e u.point × StandsAtLast e (cursor u))
+    (λ e u. (fs : F.Statements) × Missed (W.whole_script fs c w) s e u.mode u.point × StandsAtLast e (cursor u))
     (deep n (R.Script c w) (at s b))
 script n c w s b = H.script c w s _ (sound n (R.Script c w) s b)

@@ -1,3 +1,4 @@
+pub mod Goals
 pub mod Reading
 pub mod Running
 pub mod Histories

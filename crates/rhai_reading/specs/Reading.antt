@@ -6,7 +6,8 @@ use Rattle.rhai_lower.specs.Texts.{Text}
 use Rattle.rhai_lower.specs.Lexemes.{Lexeme, text_of}
 use Rattle.rhai_lower.specs.Nodes.{Node, Nodes, Properties, unit, integer, array, object_map, property, this, no_nodes}
 use Rattle.rhai_lower.specs.Nodes.{with_node, no_properties, with_property, position_of, noop, expression, assignment}
-use Rattle.rhai_lower.specs.Nodes.{block_statement, block_value, braces, no_statements, one_statement}
+use Rattle.rhai_lower.specs.Nodes.{block_statement, block_value, braces, no_statements, one_statement, Optional, absent}
+use Rattle.rhai_lower.specs.Nodes.{block_of_one, interpolated, present, return_statement}
 use Rattle.rhai_lower.specs.Nodes as node
 use Rattle.rhai_lower.specs.Positions.{nowhere}
 use Rattle.rhai_lower.specs.declared.position.Position.{Position}
@@ -14,30 +15,25 @@ use Rattle.rhai_grammar.specs.Causes as cause
 use Rattle.rhai_grammar.specs.Causes.{Refusal, refusal}
 use Rattle.rhai_grammar.specs.Delivered.{is_end}
 use Rattle.rhai_grammar.specs.Settings.{in_function}
-use Rattle.rhai_grammar.specs.DueTokens.{is_due, not_due}
-use Rattle.rhai_grammar.specs.declared.due.DueToken.{DueToken}
 use Rattle.rhai_grammar.specs.declared.due.DueToken.TheVariants as due
-use Rattle.rhai_grammar.specs.Contexts.{Context, Live, full, has_block_values, has_room, has_single_blocks, in_block, level_up}
+use Rattle.rhai_grammar.specs.Contexts.{Context, Live, full, has_block_values, has_single_blocks, in_block}
 use Rattle.rhai_grammar.specs.Definitions.{defined, may_define}
 use Rattle.rhai_grammar.specs.Targets.{is_assignment, is_constant_use, is_equals, target_fault, update_of}
 use Rattle.rhai_grammar.specs.Statements.{after_statement, ends_itself, no_variable, statement_place, statement_start}
 use Rattle.rhai_grammar.specs.declared.role.AfterStatement.{AfterStatement}
 use Rattle.rhai_grammar.specs.declared.role.AfterStatement.TheVariants as ends
 use Rattle.rhai_grammar.specs.declared.role.Closing.{Closing}
-use Rattle.rhai_grammar.specs.declared.role.Closing.TheVariants.{Brace, EndMark}
+use Rattle.rhai_grammar.specs.declared.role.Closing.TheVariants.{Brace}
 use Rattle.rhai_grammar.specs.declared.role.StatementPlace.{StatementPlace}
 use Rattle.rhai_grammar.specs.declared.role.StatementPlace.TheVariants as stands
 use Rattle.rhai_grammar.specs.declared.role.StatementStart.{StatementStart}
 use Rattle.rhai_grammar.specs.declared.role.StatementStart.TheVariants as start
-use Rattle.rhai_grammar.specs.declared.list.AfterPart.{AfterPart}
-use Rattle.rhai_grammar.specs.declared.list.AfterPart.TheVariants as after
-use Rattle.rhai_grammar.specs.declared.list.CommaList.{CommaList}
 use Rattle.rhai_grammar.specs.declared.list.CommaList.TheVariants as lists
-use Rattle.rhai_grammar.specs.CommaLists.{after_part, is_close, not_after, no_argument}
+use Rattle.rhai_grammar.specs.CommaLists.{after_part, is_close, no_argument}
 use Rattle.rhai_grammar.specs.declared.role.ItemPlace.{ItemPlace}
 use Rattle.rhai_grammar.specs.declared.role.ItemPlace.TheVariants as place
-use Rattle.rhai_grammar.specs.Literals.{item_place, no_item, KeyPlace, FieldsEnd, AKey, NoKey, has_key}
-use Rattle.rhai_grammar.specs.Literals.{property_count, too_many_fields}
+use Rattle.rhai_grammar.specs.Literals.{item_place, no_item, KeyPlace, FieldsEnd, AKey, NoKey, has_key, property_count}
+use Rattle.rhai_grammar.specs.Literals.{too_many_fields}
 use Rattle.rhai_grammar.specs.Verdicts.{next_key}
 use Rattle.rhai_grammar.specs.Spots.{LinkSpot, spot_after_operand, spot_after_bracket, spot_after_dot}
 use Rattle.rhai_grammar.specs.Chains.{Link, chained, index_refusal, last_fault}
@@ -47,125 +43,27 @@ use Rattle.rhai_grammar.specs.declared.role.Calling.{Calling}
 use Rattle.rhai_grammar.specs.declared.role.Calling.TheVariants as calls_by
 use Rattle.rhai_grammar.specs.declared.role.Linking.{Linking}
 use Rattle.rhai_grammar.specs.declared.role.Linking.TheVariants as link
-use Rattle.rhai_grammar.specs.Beginnings.{beginning, value_of, no_operand, unexpected, missing, is_range}
-use Rattle.rhai_grammar.specs.Beginnings.{omits_operand}
-use Rattle.rhai_grammar.specs.Beginnings.{calling}
-use Rattle.rhai_grammar.specs.Beginnings.{calls, may_be_called, is_this, linking, is_name}
-use Rattle.rhai_grammar.specs.Beginnings.{MemberPlace, AMember, NoMember, member_place}
+use Rattle.rhai_grammar.specs.Beginnings.{beginning, value_of, no_operand, unexpected, missing, calling, calls}
+use Rattle.rhai_grammar.specs.Beginnings.{may_be_called, is_this, linking, is_name, MemberPlace, AMember, NoMember}
+use Rattle.rhai_grammar.specs.Beginnings.{member_place}
+use Rattle.rhai_grammar.specs.Interpolations.{added_text, is_last_text}
+use Rattle.rhai_grammar.specs.Starts.{is_throw, operand_start, place_after, starts}
+use Rattle.rhai_grammar.specs.declared.role.OperandPlace.TheVariants.{Elsewhere}
+use Rattle.rhai_grammar.specs.declared.role.OperandStart.{OperandStart}
+use Rattle.rhai_grammar.specs.declared.role.OperandStart.TheVariants as first
 use Rattle.rhai_grammar.specs.Signs.{signed, sign_holds, malformed}
 use Rattle.rhai_grammar.specs.Operators.{operator_tree, boolean_holds, mismatched}
 use Rattle.rhai_grammar.specs.Strengths.{Follower, Operator, Unknown, Other, follower_of}
 use Rattle.rhai_grammar.specs.Trees.{name_tree, variable_of, is_variable, node_count, call_tree, bracket_link}
 use Rattle.rhai_grammar.specs.Trees.{member_link, method_tree, definition_tree, with_kept}
-
--- What is read by a call: a constructor for each reader of the code, with what it is given.
-pub data Goal : Type 0 where
-  -- an expression up to the end mark
-  Whole : Context → Live → Goal
-  Expression : Context → Live → Goal
-  -- an operand with its signs and its call; whether it stands directly after a range operator
-  Operand : Context → Live → (ranged : Bool) → Goal
-  Primary : Context → Live → Goal
-  -- what calls a name: whether it has a `!`, and the arguments; at is where the raise of their level is refused
-  Called : Context → Live → (at : Position) → Goal
-  -- the links after an operand, up to what is no link
-  Links : Live → LinkSpot → Goal
-  -- the index in a bracket up to the `]`; whose index it is, if that is tested
-  Index : Context → Live → (indexed : Option Node) → Goal
-  -- the member after a dot
-  Member : Context → Live → Goal
-  -- what calls an operand, if it is a variable
-  Postfix : Context → Live → (operand : Node) → Goal
-  -- the arguments after a `(`; at is where the raise of their level is refused
-  Arguments : Context → Live → (at : Position) → Goal
-  -- an argument, and those that follow, after these
-  Items : Context → Live → (before : Nodes) → Goal
-  -- the items of an array, after these, up to the `]`; at is where the raise of each level is refused
-  Elements : Context → Live → (at : Position) (before : Nodes) → Goal
-  -- the properties of an object map, after these, up to the `}`
-  Fields : Context → Live → (at : Position) (before : Properties) → Goal
-  -- the key of one more property, with its colon; none where the `}` is
-  NextKey : Context → (before : Properties) → Goal
-  -- what stands after an operand: an operator's strength, and whether equal ones group to the right
-  NextOperator : Goal
-  -- the operators after a left operand that go on with a run of this strength; at is where the next raise is refused
-  BinaryOp : Context → Live → (at : Position) (parent : ℕ) (lhs : Node) → Goal
-  -- an expression or an assignment
-  ExprStatement : Context → Live → Goal
-  -- the name of a definition
-  VarName : Context → Live → Goal
-  -- the value of a definition, which is unit where it is absent; at is where the raise of its level is refused
-  Initializer : Context → Live → (at : Position) → Goal
-  -- a definition after its keyword, which is at a position
-  Definition : Context → Live → (at : Position) (constant : Bool) → Goal
-  Statement : Context → Live → Goal
-  -- the statements of a list, after these, up to the token that closes it
-  Statements : Closing → Context → Live → (before : node.Statements) → Goal
-  -- a block after its `{`, which is at a position
-  Block : Context → Live → (at : Position) → Goal
-  -- the `}` of a block of these statements
-  BlockEnd : (at : Position) (fs : node.Statements) → Goal
-
--- a script, up to the end mark
-abbrev pub Script : Context → Live → Goal
-Script c w = Statements EndMark c w no_statements
-
--- what it gives
-abbrev pub Val : Goal → Type 0
-Val (Whole c w) = Node
-Val (Expression c w) = Node
-Val (Operand c w ranged) = Node
-Val (Primary c w) = Node
-Val (Called c w at) = Bool × Nodes
-Val (Links w q) = List Link
-Val (Index c w indexed) = Node
-Val (Member c w) = Node
-Val (Postfix c w x) = Node
-Val (Arguments c w at) = Nodes
-Val (Items c w before) = Nodes
-Val (Elements c w at before) = Nodes
-Val (Fields c w at before) = Properties
-Val (NextKey c before) = Option (Text × Position)
-Val NextOperator = Option (ℕ × Bool)
-Val (BinaryOp c w at parent lhs) = Node
-Val (ExprStatement c w) = node.Statement
-Val (VarName c w) = Text × Position
-Val (Initializer c w at) = Node
-Val (Definition c w at constant) = node.Statement × Live
-Val (Statement c w) = node.Statement × Live
-Val (Statements closing c w before) = node.Statements × Live
-Val (Block c w at) = node.Block
-Val (BlockEnd at fs) = node.Block
-
--- a reader that gives an A
-pub data Prog (A : Type 0) : Type 0 where
-  Ret : A → Prog A
-  Fail : Refusal → Prog A
-  -- looks at the next token
-  Peek : (Lexeme → Position → Prog A) → Prog A
-  -- takes it
-  Take : Prog A → Prog A
-  Call : (g : Goal) → (Val g → Prog A) → Prog A
+pub use Rattle.rhai_reading.specs.Goals.{Goal, Whole, Expression, Operand, Primary, Called, Links, Index, Member}
+pub use Rattle.rhai_reading.specs.Goals.{Postfix, Arguments, Items, Elements, Fields, Segments, TextAfter, Jump}
+pub use Rattle.rhai_reading.specs.Goals.{NextKey, NextOperator, BinaryOp, ExprStatement, VarName, Initializer}
+pub use Rattle.rhai_reading.specs.Goals.{Definition, Statement, Statements, BlockStart, Inside, Block, BlockEnd}
+pub use Rattle.rhai_reading.specs.Goals.{Ret, Fail, Peek, Take, TakeText, Call, Script, Val, Prog}
+pub use Rattle.rhai_reading.specs.Goals.{after_a_part, match_token, part_next, raised}
 
 -- ---- each reader
-
--- the level is raised, or that is refused at a position
-abbrev pub raised : {A : Type 0} → Context → Position → (Context → Prog A) → Prog A
-raised c at k = if has_room c then k (level_up c) else Fail (refusal cause.ExprTooDeep at)
-
--- this token is due, or what else is there is refused
-abbrev pub match_token : {A : Type 0} → DueToken → Prog A → Prog A
-match_token d p = Peek (λ l at. if is_due d l then Take p else Fail (refusal (not_due d l) at))
-
--- After a part of a list: on after a comma, end after the token that closes the list, or what else is there is
--- refused.
-abbrev pub part_next : {A : Type 0} → CommaList → (on end : Prog A) → Lexeme → Position → AfterPart → Prog A
-part_next parts on end l at after.Comma = Take on
-part_next parts on end l at after.Close = Take end
-part_next parts on end l at after.Nothing = Fail (refusal (not_after parts l) at)
-
-abbrev pub after_a_part : {A : Type 0} → CommaList → (on end : Prog A) → Prog A
-after_a_part parts on end = Peek (λ l at. part_next parts on end l at (after_part parts l))
 
 abbrev pub whole_at : Node → Lexeme → Position → Prog Node
 whole_at e l at = if is_end l then Ret e else Fail (refusal (unexpected l) at)
@@ -193,6 +91,9 @@ primary_at c w l at begin.Group =
 primary_at c w l at begin.Array = Take (raised c at (λ d. Call (Elements d w at no_nodes) (λ ns. Ret (array ns at))))
 primary_at c w l at begin.Map =
     Take (raised c at (λ d. Call (Fields d w at no_properties) (λ ps. Ret (object_map ps at))))
+primary_at c w l at begin.Interpolated =
+    Take (raised c at (λ d. Call (Segments d w at (added_text no_nodes (text_of l) at)) (λ ns.
+    Ret (interpolated ns at))))
 primary_at c w l at begin.Block =
     if has_block_values c then Take (raised c at (λ d. raised d at (λ e.
     Call (Block e w at) (λ b. Ret (block_value b)))))
@@ -201,18 +102,38 @@ primary_at c w l at begin.Sign = Fail (refusal (unexpected l) at)
 primary_at c w l at begin.Range = Ret (integer (lib.IntN.pos 0) at)
 primary_at c w l at begin.Nothing = Fail (refusal (no_operand l) at)
 
+-- after the `{` of a block in an interpolated string: the block, and the text after it
+abbrev pub text_on : Context → Live → (start opening : Position) → Nodes → node.Statements
+    → Position × Text × Bool × Position → Prog Nodes
+text_on c w start opening before fs part =
+    let block = block_value (braces fs opening part.0) in
+    let segments = added_text (with_node before block) part.1 part.3 in
+    if part.2 then Ret segments else Call (Segments c w start segments) Ret
+
+abbrev pub segment_on : Context → Live → (start opening : Position) → Nodes → Prog Nodes
+segment_on c w start opening before =
+    raised c start (λ d. Call (Inside d w) (λ fs. Call TextAfter (text_on c w start opening before fs)))
+
+-- after `return` or `throw`
+abbrev pub jump_at : Context → Live → (at : Position) → (valued : Bool) → Prog Optional
+jump_at c w at valued =
+    raised c at (λ d. if valued then Call (Expression d w) (λ x. Ret (present x)) else Ret absent)
+
 -- after the operand of a sign
 abbrev pub sign_on : Lexeme → Position → Node → Prog Node
 sign_on sign at x = if sign_holds sign x then Ret (signed sign at x) else Fail (malformed at x)
 
 abbrev pub operand_by : Context → Live → Lexeme → Position → Beginning → Prog Node
-operand_by c w l at begin.Sign = Take (raised c at (λ d. Call (Operand d w false) (sign_on l at)))
+operand_by c w l at begin.Sign = Take (raised c at (λ d. Call (Operand d w Elsewhere) (sign_on l at)))
 operand_by c w l at _ =
     Call (Primary c w) (λ x. Call (Postfix c w x) (λ y.
     Call (Links w (spot_after_operand c y)) (λ ls. Ret (chained y ls))))
 
-abbrev pub operand_at : Context → Live → (ranged : Bool) → Lexeme → Position → Prog Node
-operand_at c w ranged l at = if ranged && omits_operand l then Ret (unit at) else operand_by c w l at (beginning l)
+abbrev pub operand_at : Context → Live → Lexeme → Position → OperandStart → Prog Node
+operand_at c w l at first.Omitted = Ret (unit at)
+operand_at c w l at first.Jump =
+    Take (Call (Jump c w at) (λ value. Ret (block_value (block_of_one (return_statement value (is_throw l) at)))))
+operand_at c w l at first.Written = operand_by c w l at (beginning l)
 
 -- ---- calls
 
@@ -348,7 +269,7 @@ binary_right c w at parent lhs strength op pos rhs =
 -- after an operator
 abbrev pub binary_on : Context → Live → Position → ℕ → Node → ℕ → Lexeme → Position → Prog Node
 binary_on c w at parent lhs strength op pos =
-    Take (Call (Operand c w (is_range (beginning op))) (binary_right c w at parent lhs strength op pos))
+    Take (Call (Operand c w (place_after op)) (binary_right c w at parent lhs strength op pos))
 
 abbrev pub binary_at : Context → Live → Position → ℕ → Node → Option (ℕ × Bool) → Prog Node
 binary_at c w at parent lhs None = Ret lhs
@@ -385,6 +306,10 @@ value_at c w at l pos =
 abbrev pub definition_on : Context → Live → Position → (constant : Bool) → Prog (node.Statement × Live)
 definition_on c w at constant = Take (raised c at (λ d. Call (Definition d w at constant) Ret))
 
+-- where a jump stands
+abbrev pub jump_on : Context → Live → Position → (throws : Bool) → Prog (node.Statement × Live)
+jump_on c w at throws = Take (Call (Jump c w at) (λ value. Ret (return_statement value throws at, w)))
+
 -- where a statement begins
 abbrev pub statement_at : Context → Live → Position → StatementStart → Prog (node.Statement × Live)
 statement_at c w at start.Empty = Take (Ret (noop at, w))
@@ -392,6 +317,8 @@ statement_at c w at start.Block =
     Take (raised c at (λ d. raised d at (λ e. Call (Block e w at) (λ b. Ret (block_statement b, w)))))
 statement_at c w at start.Let = definition_on c w at false
 statement_at c w at start.Const = definition_on c w at true
+statement_at c w at start.Return = jump_on c w at false
+statement_at c w at start.Throw = jump_on c w at true
 statement_at c w at start.Expression = raised c at (λ d. Call (ExprStatement d w) (λ f. Ret (f, w)))
 
 -- after a statement that does not end by itself
@@ -416,15 +343,16 @@ statements_at closing c w before l at stands.Statement =
     Call (Statement c w) (λ f. statements_on closing c f.1 (with_kept before f.0) (ends_itself f.0))
 statements_at closing c w before l at stands.Nothing = Fail (refusal (missing (codes "}") l) at)
 
-abbrev pub block_on : Context → Live → Position → (single : Bool) → Prog node.Block
-block_on c w at true = Call (ExprStatement c w) (λ f. Call (BlockEnd at (one_statement f no_statements)) Ret)
-block_on c w at false = Call (Statements Brace c (in_block w) no_statements) (λ fs. Call (BlockEnd at fs.0) Ret)
+abbrev pub inside_on : Context → Live → (single : Bool) → Prog node.Statements
+inside_on c w true = Call (ExprStatement c w) (λ f. Ret (one_statement f no_statements))
+inside_on c w false = Call (Statements Brace c (in_block w) no_statements) (λ fs. Ret fs.0)
 
 abbrev pub body : (g : Goal) → Prog (Val g)
 body (Whole c w) = Call (Expression c w) (λ e. Peek (whole_at e))
 body (Expression c w) =
-    Peek (λ l at. raised c at (λ d. Call (Operand d w false) (λ lhs. Call (BinaryOp d w (position_of lhs) 1 lhs) Ret)))
-body (Operand c w ranged) = Peek (operand_at c w ranged)
+    Peek (λ l at. raised c at (λ d. Call (Operand d w Elsewhere) (λ lhs.
+    Call (BinaryOp d w (position_of lhs) 1 lhs) Ret)))
+body (Operand c w place) = Peek (λ l at. operand_at c w l at (operand_start place l))
 body (Primary c w) = Peek (λ l at. primary_at c w l at (beginning l))
 body (Called c w name) = Peek (λ l at. called_at c w name (calling l))
 body (Links w q) = Peek (λ l at. links_at w q l at (linking l))
@@ -436,6 +364,9 @@ body (Items c w before) = Call (Expression c w) (λ x. items_at c w (with_node b
 body (Elements c w opening before) =
     Peek (λ l at. element_at c w opening before l at (item_place c.sizes.array (node_count before) l))
 body (Fields c w opening before) = Call (NextKey c before) (field_on c w opening before)
+body (Segments c w start before) = Call BlockStart (λ opening. segment_on c w start opening before)
+body TextAfter = TakeText (λ end l at. Ret (end, text_of l, is_last_text l, at))
+body (Jump c w at) = Peek (λ l pos. jump_at c w at (starts c l))
 body (NextKey c before) = Peek (λ l at. key_on c before at (next_key c.settings before l))
 body NextOperator = Peek (λ l at. next_operator_at at (follower_of l))
 body (BinaryOp c w at parent lhs) = Call NextOperator (binary_at c w at parent lhs)
@@ -448,5 +379,7 @@ body (Definition c w at constant) =
 body (Statement c w) = Peek (λ l at. statement_at c w at (statement_start l))
 body (Statements closing c w before) =
     Peek (λ l at. statements_at closing c w before l at (statement_place closing l))
-body (Block c w at) = block_on c w at (has_single_blocks c)
+body BlockStart = Peek (λ l at. match_token due.LeftBrace (Ret at))
+body (Inside c w) = inside_on c w (has_single_blocks c)
+body (Block c w at) = Call (Inside c w) (λ fs. Call (BlockEnd at fs) Ret)
 body (BlockEnd at fs) = Peek (λ l end. match_token due.RightBrace (Ret (braces fs at end)))

@@ -1,14 +1,20 @@
 -- What the reader does, as a function: a fixed point of its rules, guarded by what is left to read.
 use Rattle.std.specs.Prelude.{◌≡◌, ℕ, zero, suc, ◌+◌, ◌*◌, false, Result, Ok, Err, nat_lt, if◌then◌else◌}
-use Rattle.rhai_grammar.specs.Causes.{Refusal, refusal_of, is_for_memory, MemoryIsNowhere, out_of_memory}
-use Rattle.rhai_grammar.specs.Delivered.{is_memory}
+use Rattle.rhai_lower.specs.Lexemes.{Lexeme}
+use Rattle.rhai_lower.specs.declared.position.Position.{Position}
+use Rattle.rhai_grammar.specs.Beginnings.{unexpected}
+use Rattle.rhai_grammar.specs.Causes.{Refusal, refusal, refusal_of, is_for_memory, MemoryIsNowhere, out_of_memory}
+use Rattle.rhai_grammar.specs.Delivered.{text, is_memory}
+use Rattle.rhai_grammar.specs.DueTokens.{is_due, not_due}
+use Rattle.rhai_grammar.specs.Interpolations.{is_text}
+use Rattle.rhai_grammar.specs.declared.due.DueToken.TheVariants.{RightBrace}
 use Rattle.rhai_grammar.specs.Cursors.{Cursor, asked, looking, taking, left}
 use Rattle.rhai_grammar.specs.declared.error.ParseError.{ParseError}
 use Rattle.rhai_reading.specs.Reading.{Goal, Whole, Expression, Operand, Primary, Postfix, Arguments, Items, Elements}
 use Rattle.rhai_reading.specs.Reading.{Fields, NextKey, Called, Links, Index, Member, NextOperator, BinaryOp, Val}
 use Rattle.rhai_reading.specs.Reading.{ExprStatement, VarName, Initializer, Definition, Statement, Statements, Block}
-use Rattle.rhai_reading.specs.Reading.{BlockEnd, Prog}
-use Rattle.rhai_reading.specs.Reading.{Ret, Fail, Peek, Take, Call, body}
+use Rattle.rhai_reading.specs.Reading.{BlockEnd, BlockStart, Inside, Jump, Prog, Segments, TextAfter}
+use Rattle.rhai_reading.specs.Reading.{Ret, Fail, Peek, Take, TakeText, Call, body}
 
 -- what came of a reader, with the cursor that it left
 pub data Out (A : Type 0) : Type 0 where
@@ -21,6 +27,16 @@ and_then (Done x s) f = f x s
 and_then (Refused e s) f = Refused e s
 and_then Unfinished f = Unfinished
 
+-- the next request is one in text mode, directly after a `}` was taken
+abbrev pub after_brace : Cursor → Cursor
+after_brace s = record (taking s) { mode = text }
+
+-- what a text that is taken goes on with, where the next request is in text mode
+abbrev pub text_from : {A : Type 0} → (Lexeme → Position → Cursor → Out A) → Cursor → Out A
+text_from go s = if is_memory (asked s).lexeme then Refused out_of_memory (looking s)
+    else if is_text (asked s).lexeme then go (asked s).lexeme (asked s).at (taking s)
+    else Refused (refusal (unexpected (asked s).lexeme) (asked s).at) (looking s)
+
 abbrev pub Caller : Type 0
 Caller = (g : Goal) → Cursor → Out (Val g)
 
@@ -32,19 +48,26 @@ exec call (Fail e) s = Refused e s
 exec call (Peek k) s = if is_memory (asked s).lexeme then Refused out_of_memory (looking s)
     else exec call (k (asked s).lexeme (asked s).at) (looking s)
 exec call (Take p) s = if is_memory (asked s).lexeme then Refused out_of_memory (looking s) else exec call p (taking s)
+exec call (TakeText k) s = if is_memory (asked s).lexeme then Refused out_of_memory (looking s)
+    else if is_due RightBrace (asked s).lexeme
+    then text_from (λ l at t. exec call (k (asked s).at l at) t) (after_brace s)
+    else Refused (refusal (not_due RightBrace (asked s).lexeme) (asked s).at) (looking s)
 exec call (Call g k) s = and_then (call g s) (λ v t. exec call (k v) t)
 
 -- A call at the same token is one to a goal of lower rank.
 abbrev pub rank : Goal → ℕ
 rank (Whole c w) = 5
 rank (Expression c w) = 3
-rank (Operand c w ranged) = 2
+rank (Operand c w place) = 2
 rank (Primary c w) = 1
 rank (Postfix c w x) = 1
 rank (Arguments c w at) = 5
 rank (Items c w before) = 4
 rank (Elements c w at before) = 4
 rank (Fields c w at before) = 4
+rank (Segments c w start before) = 1
+rank TextAfter = 0
+rank (Jump c w at) = 4
 rank (NextKey c before) = 0
 rank (Called c w at) = 0
 rank (Links w q) = 1
@@ -58,7 +81,9 @@ rank (Initializer c w at) = 0
 rank (Definition c w at constant) = 1
 rank (Statement c w) = 5
 rank (Statements closing c w before) = 6
-rank (Block c w at) = 7
+rank BlockStart = 0
+rank (Inside c w) = 7
+rank (Block c w at) = 8
 rank (BlockEnd at fs) = 0
 
 -- the work that is left, above every rank for each token

@@ -1,4 +1,4 @@
-//! Text mode, in which no form that is parsed so far asks for a token.
+//! Text mode: it holds for one request.
 
 ghost use Rattle.std.specs.Prelude.{◌≡◌, false};
 

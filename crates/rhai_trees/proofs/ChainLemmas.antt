@@ -7,7 +7,7 @@ use Rattle.rhai_lower.specs.declared.ast.Expr.{Expr}
 use Rattle.rhai_grammar.specs.Causes.{Refusal}
 use Rattle.rhai_grammar.specs.Chains as chain
 use Rattle.rhai_grammar.specs.Chains.{chain_of, chained, last_fault, link_fault, link_node, nest}
-use Rattle.rhai_trees.specs.Chains.{are_none, link_view, link_views, nest_until, open_links, with_next}
+use Rattle.rhai_trees.specs.Chains.{are_none, indexed_by, link_view, link_views, nest_until, open_links, with_next}
 use Rattle.rhai_trees.specs.declared.chain.Link.{Link}
 use Rattle.rhai_trees.specs.declared.chain.OpenLink.{OpenLink}
 
@@ -77,3 +77,13 @@ last_fault_push (k ∷ ls) l =
     or_or (Some r) b c = refl
 
 pub ruleset joins = (chained_none, chained_some, views_append)
+
+-- ---- one more link
+
+pub links_push : (ls : List Link) (l : Link) → link_views (ls ++ (l ∷ [])) ≡ link_views ls ++ (link_view l ∷ [])
+links_push [] l = refl
+links_push (m ∷ ls) l = ap (λ r. link_view m ∷ r) (links_push ls l)
+
+pub indexed_after : (x : Node) (ls : List chain.Link) (l : chain.Link) → indexed_by x (ls ++ (l ∷ [])) ≡ None
+indexed_after x [] l = refl
+indexed_after x (m ∷ ls) l = refl

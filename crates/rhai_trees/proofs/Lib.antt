@@ -3,3 +3,4 @@ pub mod OperatorLemmas
 pub mod KindLemmas
 pub mod ChainLemmas
 pub mod StatementLemmas
+pub mod StringLemmas

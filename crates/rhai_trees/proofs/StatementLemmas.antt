@@ -1,7 +1,7 @@
--- Lists of statements with one more.
+-- Lists of statements with one more, and jumps.
 use Rattle.std.proofs.Common.{◌≡◌, true, false, refl}
 use Rattle.rhai_lower.specs.Nodes.{Statement, Statements, noop, with_statement}
-use Rattle.rhai_lower.proofs.Views.{statement_views_push}
+use Rattle.rhai_lower.proofs.Views.{statement_views_push, view_return, view_return_alone}
 use Rattle.rhai_grammar.specs.Trees.{with_kept}
 use Rattle.rhai_trees.specs.Statements.{is_empty}
 
@@ -14,3 +14,6 @@ kept_one ss (noop p) e = absurd cc
 kept_one ss _ e = refl
 
 pub ruleset kept = (kept_none, kept_one, statement_views_push)
+
+-- jumps with and without a value
+pub ruleset jumps = (view_return, view_return_alone)

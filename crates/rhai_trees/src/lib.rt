@@ -1,5 +1,5 @@
-//! Operations on trees that do not use the stream: signs, operators and links with their operands, statements, and
-//! tests on trees.
+//! Operations on trees that do not use the stream: signs, operators and links with their operands, statements, segments
+//! of interpolated strings, and tests on trees.
 #![tactic(auto)]
 
 mod call;
@@ -8,6 +8,7 @@ pub mod kind;
 pub mod operator;
 pub mod sign;
 pub mod statement;
+pub mod strings;
 pub mod target;
 
 pub use chain::{Link, LinkKind, indexed_operand, make_chain, test_index, test_links};
@@ -16,6 +17,7 @@ pub use operator::make_binary;
 pub use sign::make_unary;
 pub use statement::{
     ends_itself, make_assignment, make_block, make_block_statement, make_block_value,
-    make_definition, make_expression, push_statement,
+    make_definition, make_expression, make_jump, make_jump_value, push_statement,
 };
+pub use strings::{push_segment, push_text};
 pub use target::{slot_of, test_target};

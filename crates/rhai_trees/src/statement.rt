@@ -1,15 +1,16 @@
-//! Statements: which end by themselves, lists of them, and the nodes of definitions, assignments and blocks.
+//! Statements: which end by themselves, lists of them, and the nodes of definitions, assignments, blocks and jumps.
 
 ghost use Rattle.std.specs.Prelude.{◌≡◌, IfOk, OnOk, false, option_map};
 ghost use Rattle.std.specs.Int.NonZero.{non_zero_usize_get};
 ghost use Rattle.std.specs.Rc.{rc_str_bytes};
 ghost use Rattle.rhai_lower.specs.Lexemes.{lexeme};
-ghost use Rattle.rhai_lower.specs.Nodes.{assignment, block_statement, block_value, braces, expression, var_statement};
+ghost use Rattle.rhai_lower.specs.Nodes.{assignment, block_of_one, block_statement, block_value, braces, expression};
+ghost use Rattle.rhai_lower.specs.Nodes.{return_statement, var_statement};
 ghost use Rattle.rhai_lower.specs.View.{block_view, statement_view, statement_views, view};
 ghost use Rattle.rhai_grammar.specs.Statements.{ends_itself};
 ghost use Rattle.rhai_grammar.specs.Targets.{update_of};
 ghost use Rattle.rhai_grammar.specs.Trees.{with_kept};
-ghost use Rattle.rhai_trees.specs.Statements.{is_empty};
+ghost use Rattle.rhai_trees.specs.Statements.{is_empty, optional_view};
 
 use rhai_lower::{BinaryExpr, Expr, Position, Stmt, StmtBlock, Token};
 use std::alloc::{AllocError, Global};
@@ -162,4 +163,37 @@ pub fn make_block_value(alloc: Global, block: StmtBlock) -> Result<Expr, AllocEr
     ensures { IfOk result (λ e. view e ≡ block_value (block_view block)) }
 {
     Ok(Expr::Stmt(Box::new(alloc, block)?))
+}
+
+/// A `return`, or with `throws` a `throw`, which is at `pos`, with its value, if it has one. Returns `AllocError` if
+/// memory runs out.
+#[tactic(auto, using(crate::proofs::StatementLemmas::jumps))]
+pub fn make_jump(
+    alloc: Global,
+    value: Option<Expr>,
+    throws: bool,
+    pos: Position,
+) -> Result<Stmt, AllocError>
+    ensures { IfOk result (λ s. statement_view s ≡ return_statement (optional_view value) throws pos) }
+{
+    let value = match value {
+        Some(value) => Some(Box::new(alloc, value)?),
+        None => None,
+    };
+    Ok(Stmt::Return { value, throws, pos })
+}
+
+/// A `return` or `throw` as an operand: a block of this one statement, which starts at it and has no end. The arguments
+/// are those of `make_jump`. Returns `AllocError` if memory runs out.
+pub fn make_jump_value(
+    alloc: Global,
+    value: Option<Expr>,
+    throws: bool,
+    pos: Position,
+) -> Result<Expr, AllocError>
+    ensures { IfOk result (λ e. view e
+        ≡ block_value (block_of_one (return_statement (optional_view value) throws pos))) }
+{
+    let jump = make_jump(alloc, value, throws, pos)?;
+    make_block_value(alloc, StmtBlock::from_stmt(alloc, jump)?)
 }

@@ -1,6 +1,6 @@
 //! Tokens that are due: one that is taken, the arguments after the `!` of a call, and the end mark.
 
-ghost use Rattle.std.specs.Prelude.{◌≡◌, ◌≤◌, IfErr, IfOk, OnOk, codes, false, true};
+ghost use Rattle.std.specs.Prelude.{◌≡◌, ◌+◌, ◌≤◌, IfErr, IfOk, IsTrue, OnOk, codes, false, true};
 ghost use Rattle.rhai_lower.specs.Lexemes.{lexeme};
 ghost use Rattle.rhai_grammar.specs.Beginnings.{calling, is_list, missing, unexpected};
 ghost use Rattle.rhai_grammar.specs.Causes.{MemoryIsNowhere, is_for_memory, refusal, refusal_of};
@@ -24,18 +24,21 @@ fn text_of_due(due: DueToken) -> &'static str
         DueToken::RightParen => ")",
         DueToken::RightBracket => "]",
         DueToken::Colon => ":",
+        DueToken::LeftBrace => "{",
         DueToken::RightBrace => "}",
     }
 }
 
 // Whether a token is the one that is due.
 fn is_due(due: DueToken, token: &Token) -> bool
-    ensures { result ≡ is_due due (lexeme token.now) }
+    ensures due { result ≡ is_due due (lexeme token.now) }
+    ensures more { IsTrue result → is_end (lexeme token.now) ≡ false }
 {
     match due {
         DueToken::RightParen => matches!(token, Token::RightParen),
         DueToken::RightBracket => matches!(token, Token::RightBracket),
         DueToken::Colon => matches!(token, Token::Colon),
+        DueToken::LeftBrace => matches!(token, Token::LeftBrace),
         DueToken::RightBrace => matches!(token, Token::RightBrace),
     }
 }
@@ -53,6 +56,7 @@ pub fn match_token(
     ensures passes { Passes due (cursor_of input.old) result (cursor_of input.new) }
     ensures nowhere { IfErr result MemoryIsNowhere }
     ensures shorter { left (cursor_of input.new).tokens ≤ left (cursor_of input.old).tokens }
+    ensures shrinks { OnOk result (left (cursor_of input.new).tokens + 1 ≤ left (cursor_of input.old).tokens) }
 {
     let (token, pos) = peek(input)?;
     if is_due(due, token) {

@@ -32,6 +32,8 @@ pub fn what_starts(token: &Token) -> StatementStart
         Token::LeftBrace => StatementStart::Block,
         Token::Let => StatementStart::Let,
         Token::Const => StatementStart::Const,
+        Token::Return => StatementStart::Return,
+        Token::Throw => StatementStart::Throw,
         _ => StatementStart::Expression,
     }
 }

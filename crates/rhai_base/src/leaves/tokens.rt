@@ -5,11 +5,16 @@ ghost use Rattle.rhai_lower.specs.Lexemes.{lexeme};
 ghost use Rattle.rhai_lower.specs.View.{view};
 ghost use Rattle.rhai_grammar.specs.Delivered.{is_end, is_memory};
 ghost use Rattle.rhai_grammar.specs.Cursors.{asked, cursor_of, looking};
-ghost use Rattle.rhai_grammar.specs.Beginnings.{beginning, calling, calls, omits_operand, is_begun, is_call, is_range};
-ghost use Rattle.rhai_grammar.specs.Beginnings.{is_sign, value_of};
+ghost use Rattle.rhai_grammar.specs.Beginnings.{beginning, calling, calls, omits_operand, is_begun, is_call, is_sign};
+ghost use Rattle.rhai_grammar.specs.Beginnings.{value_of};
 ghost use Rattle.rhai_grammar.specs.CommaLists.{no_argument};
+ghost use Rattle.rhai_grammar.specs.Contexts.{Context};
+ghost use Rattle.rhai_grammar.specs.Starts.{is_jump, is_throw, jumps, operand_start, place_after, starts};
+ghost use Rattle.rhai_base.specs.Settings.{settings_of};
 
 use crate::cursor::peek;
+use crate::settings::{LangOptions, ParseSettings};
+use rhai_grammar::role::{OperandPlace, OperandStart};
 use rhai_grammar::{Beginning, Calling};
 use rhai_lower::{Expr, Position, Token, TokenStream};
 use std::alloc::AllocError;
@@ -31,6 +36,7 @@ pub fn what_begins(token: &Token) -> Beginning
         Token::LeftParen => Beginning::Group,
         Token::LeftBracket => Beginning::Array,
         Token::MapStart => Beginning::Map,
+        Token::InterpolatedString(_) => Beginning::Interpolated,
         Token::LeftBrace => Beginning::Block,
         Token::Minus | Token::UnaryMinus | Token::Plus | Token::UnaryPlus | Token::Bang => {
             Beginning::Sign
@@ -86,15 +92,58 @@ pub fn is_sign(token: &Token) -> bool
     )
 }
 
-/// Whether a token is a range operator.
-pub fn is_range(token: &Token) -> bool
-    ensures { result ≡ is_range (beginning (lexeme token.now)) }
+/// Whether a token begins an expression under these settings, so that it is the value of the `return` or `throw` before
+/// it. A block begins one only where it may be an operand. An error of the tokenizer counts as a beginning.
+pub fn starts_expression(settings: ParseSettings, token: &Token) -> bool
+    ensures { (context : Context) → context.settings ≡ settings_of settings
+        → result ≡ starts context (lexeme token.now) }
 {
-    matches!(token, Token::ExclusiveRange | Token::InclusiveRange)
+    if matches!(token, Token::LexError(_)) {
+        return true;
+    }
+    match what_begins(token) {
+        Beginning::Nothing => false,
+        Beginning::Block => settings.has_option(LangOptions::STMT_EXPR),
+        Beginning::Value
+        | Beginning::Name
+        | Beginning::Word
+        | Beginning::Group
+        | Beginning::Array
+        | Beginning::Map
+        | Beginning::Interpolated
+        | Beginning::Sign
+        | Beginning::Range => true,
+    }
 }
 
-/// Whether a token stands for the right operand of the range operator before it, which is not written then.
-pub fn omits_operand(token: &Token) -> bool
+/// The place of the operand that is directly after this operator.
+pub fn place_after(op: &Token) -> OperandPlace
+    ensures { result ≡ place_after (lexeme op.now) }
+{
+    match op {
+        Token::ExclusiveRange | Token::InclusiveRange => OperandPlace::AfterRange,
+        Token::DoubleQuestion => OperandPlace::AfterCoalesce,
+        _ => OperandPlace::Elsewhere,
+    }
+}
+
+/// What a token is where an operand is due, at its place: after a range operator the operand may be omitted, and after
+/// `??` there may be a `return` or `throw`.
+pub fn what_operand(place: OperandPlace, token: &Token) -> OperandStart
+    ensures operand { result ≡ operand_start place (lexeme token.now) }
+    ensures more { is_jump result ≡ true → is_end (lexeme token.now) ≡ false }
+{
+    match place {
+        OperandPlace::AfterRange if omits_operand(token) => OperandStart::Omitted,
+        OperandPlace::AfterCoalesce if jumps(token) => OperandStart::Jump,
+        OperandPlace::AfterRange | OperandPlace::AfterCoalesce | OperandPlace::Elsewhere => {
+            OperandStart::Written
+        }
+    }
+}
+
+// Whether a token stands for the right operand of the range operator before it, which is not written then.
+fn omits_operand(token: &Token) -> bool
     ensures { result ≡ omits_operand (lexeme token.now) }
 {
     matches!(
@@ -106,6 +155,20 @@ pub fn omits_operand(token: &Token) -> bool
             | Token::SemiColon
             | Token::DoubleArrow
     )
+}
+
+// Whether a token is `return` or `throw`.
+fn jumps(token: &Token) -> bool
+    ensures { result ≡ jumps (lexeme token.now) }
+{
+    matches!(token, Token::Return | Token::Throw)
+}
+
+/// Whether a token is `throw`.
+pub fn is_throw(token: &Token) -> bool
+    ensures { result ≡ is_throw (lexeme token.now) }
+{
+    matches!(token, Token::Throw)
 }
 
 /// Whether no argument, nor the end of the arguments, may begin with a token.

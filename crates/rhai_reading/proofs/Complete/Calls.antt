@@ -17,6 +17,7 @@ use Rattle.rhai_grammar.specs.Trees.{argument_trees, item_trees, primary_tree, i
 use Rattle.rhai_grammar.specs.Demands.{Fine, Demands, Shape, ◌▸◌, verdict, Met}
 use Rattle.rhai_grammar.specs.Verdicts as V
 use Rattle.rhai_grammar.specs.Written as W
+use Rattle.rhai_grammar.specs.declared.role.OperandPlace.{OperandPlace}
 use Rattle.rhai_reading.specs.Reading as R
 use Rattle.rhai_reading.specs.Reading.{called_at, bang_at, body}
 use Rattle.rhai_reading.proofs.FormKinds.{By, call_of}
@@ -59,12 +60,12 @@ call_here None (form.Empty opening closing) c w name k s t m = calling_is s m.0 
 call_here None (form.Listed opening list) c w name k s t m = calling_is s m.0 refl refl
 call_here (Some bang) args c w name k s t m = calling_is s m.0 refl refl
 
-call_met : (x : Primary) (bang : Option Position) (args : Arguments) (c : Context) (w : Live) (ranged : Bool)
-    (k : Demands) (s t : Point) → Met (W.base (form.Call x bang args) c w ranged k) s t
-    → Met (W.primary x c w ranged (Shape (is_variable (primary_tree x w true)) ▸ call_of c w
+call_met : (x : Primary) (bang : Option Position) (args : Arguments) (c : Context) (w : Live) (place : OperandPlace)
+    (k : Demands) (s t : Point) → Met (W.base (form.Call x bang args) c w place k) s t
+    → Met (W.primary x c w place (Shape (is_variable (primary_tree x w true)) ▸ call_of c w
     (position_of (primary_tree x w true)) (By bang args) k)) s t
-call_met x None args c w ranged k s t m = m
-call_met x (Some bang) args c w ranged k s t m = m
+call_met x None args c w place k s t m = m
+call_met x (Some bang) args c w place k s t m = m
 
 -- from what its arguments come to
 pub called_by : (bang : Option Position) (args : Arguments) → ArgumentsRead args
@@ -81,17 +82,17 @@ called_by (Some bang) args arguments c w name k s t b m =
 -- ---- operands without links
 
 pub plain : (x : Primary) → PrimaryRead x → BaseRead (form.Plain x)
-plain x primary c w ranged k j s t y rest m on =
+plain x primary c w place k j s t y rest m on =
     let n = primary_tree x w false in
-    part (primary c w ranged false _ s t true m (λ u h. free n (op_at u) h.0))
+    part (primary c w place false _ s t true m (λ u h. free n (op_at u) h.0))
     (λ u l h. part (postfix_stops c w n (free n (op_at u) h.0) h.1) on)
 
 pub call : (x : Primary) (bang : Option Position) (args : Arguments) → PrimaryRead x → ArgumentsRead args
     → BaseRead (form.Call x bang args)
-call x bang args primary arguments c w ranged k j s t y rest m on =
+call x bang args primary arguments c w place k j s t y rest m on =
     let n = primary_tree x w true in
     let here = call_here bang args c w (position_of n) k in
-    part (primary c w ranged true _ s t true (call_met x bang args c w ranged k s t m)
+    part (primary c w place true _ s t true (call_met x bang args c w place k s t m)
     (λ u h. let e = here u t h.1 in (e.0, λ z. e.1))) (λ u l h.
     part (postfix_calls c w n h.0 (here u t h.1) (called_by bang args arguments c w (position_of n) k u t true h.1)) on)
 

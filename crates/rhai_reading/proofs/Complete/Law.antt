@@ -14,7 +14,7 @@ use Rattle.rhai_grammar.specs.Forms.{Binary}
 use Rattle.rhai_grammar.specs.Trees.{is_variable, primary_tree, base_tree, argument_trees, tree}
 use Rattle.rhai_grammar.specs.Demands.{Verdict, Fine, Demands, verdict, Met}
 use Rattle.rhai_grammar.specs.Written as W
-use Rattle.rhai_grammar.specs.Spots.{LinkSpot, Height, Side, Outermost, RightOf, Spot, height_after, is_ranged}
+use Rattle.rhai_grammar.specs.Spots.{LinkSpot, Height, Side, Outermost, RightOf, Spot, height_after, place_of}
 use Rattle.rhai_grammar.specs.Verdicts.{operator_known}
 use Rattle.rhai_grammar.specs.Spots.{side_fits, left_fits}
 use Rattle.rhai_reading.specs.Reading as R
@@ -25,7 +25,10 @@ use Rattle.rhai_reading.proofs.Shows.{Kind}
 use Rattle.rhai_reading.proofs.FormKinds.{expressions, operands, items, elements, fields, links}
 use Rattle.rhai_reading.proofs.FormKinds.{expr_statements, initializers, statements, statement_lists, blocks}
 use Rattle.rhai_lower.specs.Nodes as node
-use Rattle.rhai_grammar.specs.Forms.{Body, ExprStatement, Initializer, Statement, Statements}
+use Rattle.rhai_grammar.specs.Forms as form
+use Rattle.rhai_grammar.specs.Forms.{Body, ExprStatement, Initializer, JumpValue, Segments, Statement, Statements}
+use Rattle.rhai_grammar.specs.declared.role.OperandPlace.{OperandPlace}
+use Rattle.rhai_reading.proofs.FormKinds.{InsideForm, ManyInside, SingleInside, insides, jump_values, segments}
 use Rattle.rhai_grammar.specs.declared.role.Closing.{Closing}
 use Rattle.rhai_reading.proofs.Reaches.{Reaches}
 use Rattle.rhai_reading.proofs.Looks.{op_at, follower_at, climb}
@@ -75,7 +78,7 @@ pub record Reads (f : Run) (q : Spot) (k : Demands) (s : Point) (b : Bool) (t : 
   pub end : Point
   pub met : Met k end t
   pub looked : Bool
-  pub operand : Runs (body (R.Operand q.first q.live (is_ranged q.side))) (at s b) (Done first (at rest looked))
+  pub operand : Runs (body (R.Operand q.first q.live (place_of q.side))) (at s b) (Done first (at rest looked))
   pub known_rest : verdict operator_known (next_at code rest).lexeme ≡ Fine
   pub known_end : verdict operator_known (next_at code end).lexeme ≡ Fine
   pub entered : Entered q.side
@@ -95,21 +98,21 @@ abbrev pub ExpressionRead : Run → Type 0
 ExpressionRead f = (c : Context) (w : Live) → IsRead (R.Expression c w) (expressions c w) f
 
 abbrev pub OperandRead : Operand → Type 0
-OperandRead x = (c : Context) (w : Live) (ranged : Bool) → IsRead (R.Operand c w ranged) (operands c w ranged) x
+OperandRead x = (c : Context) (w : Live) (place : OperandPlace) → IsRead (R.Operand c w place) (operands c w place) x
 
 -- where no token behind it is in the way
 abbrev pub PrimaryRead : Primary → Type 0
 PrimaryRead x =
-    (c : Context) (w : Live) (ranged called : Bool) (k : Demands) (s t : Point) (b : Bool)
-    → Met (W.primary x c w ranged k) s t
+    (c : Context) (w : Live) (place : OperandPlace) (called : Bool) (k : Demands) (s t : Point) (b : Bool)
+    → Met (W.primary x c w place k) s t
     → ((u : Point) → Met k u t → Usable (primary_tree x w called) called (op_at u))
     → Reaches (body (R.Primary c w)) s b (primary_tree x w called) k t
 
 -- with what comes after it
 abbrev pub BaseRead : Base → Type 0
 BaseRead x =
-    (c : Context) (w : Live) (ranged : Bool) (k j : Demands) (s t : Point) (y : Node) (rest : Node → Prog Node)
-    → Met (W.base x c w ranged k) s t
+    (c : Context) (w : Live) (place : OperandPlace) (k j : Demands) (s t : Point) (y : Node) (rest : Node → Prog Node)
+    → Met (W.base x c w place k) s t
     → ((u : Point) (l : Bool) → Met k u t → Reaches (rest (base_tree x w)) u l y j t)
     → Reaches (Call (R.Primary c w) (λ n. Call (R.Postfix c w n) rest)) s true y j t
 
@@ -133,6 +136,26 @@ abbrev pub FieldsRead : Fields → Type 0
 FieldsRead x =
     (c : Context) (w : Live) (opening : Position) (before : Properties)
     → IsRead (R.Fields c w opening before) (fields c w opening before) x
+
+abbrev pub SegmentsRead : Segments → Type 0
+SegmentsRead x =
+    (c : Context) (w : Live) (start : Position) (before : Nodes)
+    → IsRead (R.Segments c w start before) (segments c w start before) x
+
+abbrev pub JumpRead : JumpValue → Type 0
+JumpRead x = (c : Context) (w : Live) (at : Position) → IsRead (R.Jump c w at) (jump_values c w at) x
+
+-- a block up to its `}`, and where that stands
+abbrev pub inside_part : Body → InsideForm
+inside_part (form.Many fs closing) = ManyInside fs
+inside_part (form.Single x closing) = SingleInside x
+
+abbrev pub closing_at : Body → Position
+closing_at (form.Many fs closing) = closing
+closing_at (form.Single x closing) = closing
+
+abbrev pub InsideRead : Body → Type 0
+InsideRead x = (c : Context) (w : Live) → IsRead (R.Inside c w) (insides c w) (inside_part x)
 
 abbrev pub LinksRead : Links → Type 0
 LinksRead x = (q : LinkSpot) (w : Live) → IsRead (R.Links w q) (links w q) x

@@ -56,7 +56,7 @@ more_elements f comma rest expression elements c w opening before k s t b m =
     (λ v a i. gives (added before (tree f w) (element_trees rest w)) i)))
 
 pub array : (opening : Position) (list : Elements) → ElementsRead list → PrimaryRead (form.Array opening list)
-array opening list elements c w ranged called k s t b m behind =
+array opening list elements c w place called k s t b m behind =
     due m.0 refl refl (if_true _ m.1.0 (part (elements (level_up c) w opening no_nodes k (past code s) t false m.1.1)
     (λ u l n. ret n)))
 
@@ -98,6 +98,6 @@ more_fields key pos colon f comma rest expression fields c w opening before k s 
     (λ z d h. gives (added_property before (text_of key) pos (tree f w) (field_trees rest w)) h)))))
 
 pub object_map : (opening : Position) (list : Fields) → FieldsRead list → PrimaryRead (form.Map opening list)
-object_map opening list fields c w ranged called k s t b m behind =
+object_map opening list fields c w place called k s t b m behind =
     due m.0 refl refl (if_true _ m.1.0 (part (fields (level_up c) w opening no_properties k (past code s) t false m.1.1)
     (λ u l n. ret n)))

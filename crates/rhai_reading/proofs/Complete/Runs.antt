@@ -7,7 +7,6 @@ use Rattle.rhai_grammar.specs.Causes as cause
 use Rattle.rhai_grammar.specs.Causes.{Cause, Refusal, refusal}
 use Rattle.rhai_grammar.specs.Delivered.{code, Item, item, Point, next_at, past}
 use Rattle.rhai_grammar.specs.Contexts.{Context, Live, level_up}
-use Rattle.rhai_grammar.specs.Beginnings.{beginning, is_range}
 use Rattle.rhai_grammar.specs.Operators.{operator_tree}
 use Rattle.rhai_grammar.specs.Strengths.{Follower, Operator, Unknown, Other, follower_of, is_operator, strength, is_right}
 use Rattle.rhai_grammar.specs.Forms.{Operand, Run, Just, Binary}
@@ -17,8 +16,9 @@ use Rattle.rhai_grammar.specs.Verdicts as V
 use Rattle.rhai_grammar.specs.Spots.{Height, Side, Outermost, RightOf, Spot, right_side, height_after}
 use Rattle.rhai_grammar.specs.Written.{raise_after, operands_fit}
 use Rattle.rhai_grammar.specs.Verdicts.{run_ends}
-use Rattle.rhai_grammar.specs.Spots.{is_ranged, left_fits}
+use Rattle.rhai_grammar.specs.Spots.{left_fits, place_of}
 use Rattle.rhai_grammar.specs.Verdicts.{operator_known, room_due, end_due}
+use Rattle.rhai_grammar.specs.Starts.{place_after}
 use Rattle.rhai_reading.specs.Reading as R
 use Rattle.rhai_reading.specs.Reading.{Goal, Whole, Expression, NextOperator, BinaryOp, Prog, Ret, Fail, Take, Call}
 use Rattle.rhai_reading.specs.Reading.{continues, next_operator_at, operand_by, primary_at, list_on, called_at, bang_at}
@@ -137,7 +137,7 @@ step q op pos l r k p s t o is on stands right shut stop h b =
     (λ c. climb_stops w (height_after side r) n y right.end c right.known_end stop) true in
     goes w u p x op pos s o stands is on
     (runs_take (item op pos) stands (operator_readable op is)
-    (runs_call (R.Operand u.settings w (is_range (beginning op))) _ right.operand
+    (runs_call (R.Operand u.settings w (place_after op)) _ right.operand
     (runs_call NextOperator _ (next_operator right.rest right.looked right.known_rest)
     (runs_then (Fail (refusal cause.ExprTooDeep u.at)) right.entered
     (runs_call (climb (begins side right.first) w n right.first) (binary_next (level_up u.settings) w p x op pos) tighter
@@ -157,7 +157,7 @@ down o op u pos l (Binary inner at a b) e h =
 
 pub just : (x : Operand) → OperandRead x → RunRead (Just x)
 just x operand q k s t b m =
-    let g = operand q.first q.live (is_ranged q.side) _ s t b m in
+    let g = operand q.first q.live (place_of q.side) _ s t b m in
     let e = entering q.side k g.end t g.met.1 in
     record {
       first = operand_tree x q.live;

@@ -1,20 +1,25 @@
 -- Statements, their lists, and blocks: the steps to what is written.
-use Rattle.std.proofs.Common.{◌≡◌, Bool, true, false, Option, Some, None, refl, sym, ap}
+use Rattle.std.proofs.Common.{◌≡◌, Bool, true, false, Option, Some, None, refl, sym, ap, ◌∙◌, if◌then◌else◌}
 use Rattle.rhai_lower.specs.Texts.{Text}
 use Rattle.rhai_lower.specs.Lexemes.{Lexeme, Sign}
 use Rattle.rhai_lower.specs.Nodes as node
+use Rattle.rhai_lower.specs.Nodes.{Nodes, with_node}
+use Rattle.rhai_grammar.specs.Interpolations.{added_text, text_due, with_text}
+use Rattle.rhai_grammar.specs.Operators.{joined}
+use Rattle.rhai_grammar.specs.Starts.{jump_token, no_value_follows, starts, value_follows}
+use Rattle.rhai_grammar.specs.declared.due.DueToken.TheVariants as due
 use Rattle.rhai_lower.specs.declared.position.Position.{Position}
 use Rattle.rhai_lower.specs.declared.token.Token.TheVariants as token
 use Rattle.rhai_grammar.specs.Causes.{Refusal}
-use Rattle.rhai_grammar.specs.Delivered.{code, Point, past}
+use Rattle.rhai_grammar.specs.Delivered.{code, item, text, Point, past}
 use Rattle.rhai_grammar.specs.Contexts.{Context, Live, has_room, in_block, level_up}
 use Rattle.rhai_grammar.specs.Definitions as walk
-use Rattle.rhai_grammar.specs.Demands.{Fine, Demands, Met, Next, ◌▸◌}
+use Rattle.rhai_grammar.specs.Demands.{Fine, Otherwise, Demands, Met, Next, Tok, ◌▸◌}
 use Rattle.rhai_grammar.specs.Forms as form
-use Rattle.rhai_grammar.specs.Forms.{Body, ExprStatement, Initializer, Run, Statement, Statements}
+use Rattle.rhai_grammar.specs.Forms.{Body, ExprStatement, Initializer, JumpValue, Run, Segments, Statement, Statements}
 use Rattle.rhai_grammar.specs.Statements as V
 use Rattle.rhai_grammar.specs.Targets.{is_assignment, is_constant_use, is_equals, target_fault, update_of}
-use Rattle.rhai_grammar.specs.Trees.{statement_of, statement_tree, statement_trees, tree, with_kept}
+use Rattle.rhai_grammar.specs.Trees.{block_tree, segment_trees, statement_tree, statement_trees, tree, with_kept}
 use Rattle.rhai_grammar.specs.Verdicts.{room_due}
 use Rattle.rhai_grammar.specs.Written as W
 use Rattle.rhai_grammar.specs.Written.{unfaulted}
@@ -30,10 +35,11 @@ use Rattle.rhai_reading.specs.Reading as R
 use Rattle.rhai_reading.specs.Reading.{body}
 use Rattle.rhai_reading.proofs.Complete.Law.{ExpressionRead, ExprStatementRead, InitializerRead, StatementRead}
 use Rattle.rhai_reading.proofs.Complete.Law.{StatementsRead, BodyRead, IsRead, PrimaryRead}
-use Rattle.rhai_reading.proofs.FormKinds.{NameForm, block_ends, definitions, var_names}
-use Rattle.rhai_reading.proofs.Lists.{kept_statement, last_kept, no_statement}
+use Rattle.rhai_reading.proofs.Complete.Law.{InsideRead, JumpRead, SegmentsRead, closing_at, inside_part}
+use Rattle.rhai_reading.proofs.FormKinds.{NameForm, block_ends, block_starts, definitions, inside_of, inside_statements, text_afters, text_token, var_names}
+use Rattle.rhai_reading.proofs.Lists.{first_text, kept_statement, last_kept, no_statement, segment_added, segment_last}
 use Rattle.rhai_reading.proofs.Looks.{op_at, pos_at, fine, no_other, or_wrong}
-use Rattle.rhai_reading.proofs.Reaches.{Reaches, seen, next, ret, gives, peek, take, due, if_true, if_false, part}
+use Rattle.rhai_reading.proofs.Reaches.{Reaches, seen, next, ret, gives, peek, take, text_taken, due, if_true, if_false, part}
 use Rattle.rhai_reading.proofs.Strengths.{not_true}
 use Rattle.rhai_reading.proofs.Tokens.{readable}
 
@@ -185,18 +191,107 @@ block_end : (at : Position) (fs : node.Statements) (closing : Position)
     → IsRead (R.BlockEnd at fs) (block_ends at fs) closing
 block_end at fs closing k s t b m = peek m.0 refl (due m.0 refl refl (ret m.1))
 
-pub many : (fs : Statements) (closing : Position) → StatementsRead fs → BodyRead (form.Many fs closing)
-many fs closing reads c w at k s t b m =
-    seen (not_true _ m.0) (R.block_on c w at) (part (reads Brace c (in_block w) node.no_statements _ s t b m.1)
-    (λ u l n. part (block_end at (statement_trees fs (in_block w)) closing k u t l n) (λ v a i. ret i)))
+pub many : (fs : Statements) (closing : Position) → StatementsRead fs → InsideRead (form.Many fs closing)
+many fs closing reads c w k s t b m =
+    seen (not_true _ m.0) (R.inside_on c w) (part (reads Brace c (in_block w) node.no_statements _ s t b m.1)
+    (λ u l n. ret n))
 
-pub single : (x : ExprStatement) (closing : Position) → ExprStatementRead x → BodyRead (form.Single x closing)
-single x closing reads c w at k s t b m =
-    seen m.0 (R.block_on c w at) (part (reads c w _ s t b m.1)
-    (λ u l n. part (block_end at (node.one_statement (statement_of x w) node.no_statements) closing k u t l n)
-    (λ v a i. ret i)))
+pub single : (x : ExprStatement) (closing : Position) → ExprStatementRead x → InsideRead (form.Single x closing)
+single x closing reads c w k s t b m =
+    seen m.0 (R.inside_on c w) (part (reads c w _ s t b m.1) (λ u l n. ret n))
+
+body_met : (f : Body) (c : Context) (w : Live) (k : Demands) (s t : Point) → Met (W.block f c w k) s t
+    → Met (inside_of c w (inside_part f) (W.due_token due.RightBrace (closing_at f) k)) s t
+body_met (form.Many fs closing) c w k s t m = m
+body_met (form.Single x closing) c w k s t m = m
+
+body_tree : (opening : Position) (f : Body) (w : Live)
+    → node.braces (inside_statements w (inside_part f)) opening (closing_at f) ≡ block_tree opening f w
+body_tree opening (form.Many fs closing) w = refl
+body_tree opening (form.Single x closing) w = refl
+
+pub block : (f : Body) → InsideRead f → BodyRead f
+block f inside c w at k s t b m =
+    part (inside c w _ s t b (body_met f c w k s t m))
+    (λ u l n. part (block_end at (inside_statements w (inside_part f)) (closing_at f) k u t l n)
+    (λ v a i. gives (body_tree at f w) i))
 
 pub block_value : (opening : Position) (f : Body) → BodyRead f → PrimaryRead (form.BlockValue opening f)
-block_value opening f reads c w ranged called k s t b m behind =
+block_value opening f reads c w o called k s t b m behind =
     peek m.1.0 refl (if_true _ m.0 (take m.1.0 refl (if_true _ m.1.1.0 (if_true _ m.1.1.1.0
     (part (reads (level_up (level_up c)) w opening k (past code s) t false m.1.1.1.1) (λ u l n. ret n))))))
+
+-- ---- interpolated strings
+
+block_start : (opening : Position) → IsRead R.BlockStart block_starts opening
+block_start opening k s t b m = peek m.0 refl (due m.0 refl refl (ret m.1))
+
+text_read : (last : Bool) (closing : Position) (content : Text) (at : Position) → IsRead R.TextAfter text_afters
+    (record { closing = closing; content = content; last = last; at = at })
+text_read true closing content at k s t b m = text_taken m.0 m.1.0 refl (ret m.1.1)
+text_read false closing content at k s t b m = text_taken m.0 m.1.0 refl (ret m.1.1)
+
+module _ (opening : Position) (f : Body) (content : Text) (at : Position) (inside : InsideRead f) (c : Context)
+    (w : Live) (start : Position) (before : Nodes) {k : Demands} {s t : Point} {b : Bool} {all : Nodes} where
+  -- a block and the text after it, and what comes then
+  segment : (last : Bool) (j : Demands) → Met (W.due_token due.LeftBrace opening (W.raise_at c start (
+      W.block f (level_up c) w (Tok text (item (text_token last content) at) text_due ▸ j)))) s t
+      → ((u : Point) (l : Bool) → Met j u t → Reaches (R.text_on c w start opening before
+      (inside_statements w (inside_part f)) (closing_at f, content, last, at)) u l all k t)
+      → Reaches (body (R.Segments c w start before)) s b all k t
+  segment last j m on =
+      part (block_start opening (W.raise_at c start (W.block f (level_up c) w
+      (Tok text (item (text_token last content) at) text_due ▸ j))) s t b m) (λ v a h. if_true _ h.0
+      (part (inside (level_up c) w _ v t a (body_met f (level_up c) w _ v t h.1))
+      (λ u l n. part (text_read last (closing_at f) content at _ u t l n) on)))
+
+pub last_segment : (opening : Position) (f : Body) (content : Text) (at : Position) → InsideRead f
+    → SegmentsRead (form.LastSegment opening f content at)
+last_segment opening f content at inside c w start before k s t b m =
+    segment opening f content at inside c w start before true k m (λ u l n.
+    gives (segment_last before (node.block_value (node.braces (inside_statements w (inside_part f)) opening (closing_at f)))
+    content at ∙ ap (λ x. joined before (node.one_node (node.block_value x) (with_text content at node.no_nodes)))
+    (body_tree opening f w)) n)
+
+pub more_segments : (opening : Position) (f : Body) (content : Text) (at : Position) (rest : Segments) → InsideRead f
+    → SegmentsRead rest → SegmentsRead (form.Segment opening f content at rest)
+more_segments opening f content at rest inside more c w start before k s t b m =
+    let x = node.block_value (node.braces (inside_statements w (inside_part f)) opening (closing_at f)) in
+    segment opening f content at inside c w start before false (W.segments rest c w start k) m (λ u l n.
+    part (more c w start (added_text (with_node before x) content at) k u t l n) (λ v a i.
+    gives (segment_added before x content at (segment_trees rest w)
+    ∙ ap (λ y. joined before (node.one_node (node.block_value y) (with_text content at (segment_trees rest w))))
+    (body_tree opening f w)) i))
+
+pub interpolated : (first : Text) (pos : Position) (list : Segments) → SegmentsRead list
+    → PrimaryRead (form.Interpolated first pos list)
+interpolated first pos list reads c w o called k s t b m behind =
+    due m.0 refl refl (if_true _ m.1.0
+    (part (reads (level_up c) w pos (added_text node.no_nodes first pos) k (past code s) t false m.1.1)
+    (λ u l n. gives (ap (λ ns. node.interpolated ns pos) (first_text first pos (segment_trees list w))) n)))
+
+-- ---- jumps
+
+starts_so : (b : Bool) → (if b then Fine else Otherwise) ≡ Fine → b ≡ true
+starts_so true e = refl
+starts_so false e = absurd cc
+
+pub absent : JumpRead form.Absent
+absent c w at k s t b m =
+    next (no_value_follows c) m.0 (λ e.
+    seen (no_other (starts c (op_at s)) e).0 (R.jump_at c w at) (if_true _ m.1.0 (ret m.1.1)))
+
+pub present : (f : Run) → ExpressionRead f → JumpRead (form.Present f)
+present f expression c w at k s t b m =
+    next (value_follows c) m.0 (λ e.
+    seen (starts_so (starts c (op_at s)) e) (R.jump_at c w at)
+    (if_true _ m.1.0 (part (expression (level_up c) w k s t true m.1.1) (λ u l n. ret n))))
+
+returns_is : (c : Context) (w : Live) (at : Position) (throws : Bool)
+    → R.statement_at c w at (V.statement_start (Sign (jump_token throws))) ≡ R.jump_on c w at throws
+returns_is c w at true = refl
+returns_is c w at false = refl
+
+pub return : (throws : Bool) (at : Position) (x : JumpValue) → JumpRead x → StatementRead (form.Return throws at x)
+return throws at x reads c w k s t b m =
+    due m.0 refl (returns_is c w at throws) (part (reads c w at k (past code s) t false m.1) (λ u l n. ret n))

@@ -20,6 +20,7 @@ use Rattle.rhai_grammar.specs.Trees.{primary_tree, base_tree, argument_trees, it
 use Rattle.rhai_grammar.specs.Demands.{Verdict, Demands}
 use Rattle.rhai_grammar.specs.Verdicts as V
 use Rattle.rhai_grammar.specs.Written as W
+use Rattle.rhai_grammar.specs.declared.role.OperandPlace.{OperandPlace}
 use Rattle.rhai_reading.specs.Reading as R
 use Rattle.rhai_reading.specs.Reading.{Ret, Take, body}
 use Rattle.rhai_reading.proofs.Beginnings.{called}
@@ -105,21 +106,22 @@ same_tree (form.Word word pos) w true e = refl
 same_tree (form.Group opening inside closing) w true e = refl
 same_tree (form.Array opening list) w true e = refl
 same_tree (form.Map opening list) w true e = refl
+same_tree (form.Interpolated first pos list) w true e = refl
 same_tree (form.BlockValue opening f) w true e = refl
 same_tree (form.Zero range pos) w true e = refl
 
-module _ {call : Histories} (ih : AllSound call) (c : Context) (w : Live) (ranged : Bool) (from : Point)
-    (p : Primary) (s : Point) (G : Passed (primaries c w ranged) p from s) where
+module _ {call : Histories} (ih : AllSound call) (c : Context) (w : Live) (place : OperandPlace) (from : Point)
+    (p : Primary) (s : Point) (G : Passed (primaries c w place) p from s) where
   call_way : is_variable (primary_tree p w true) ≡ true → (f : CallForm) (k : Demands) (o : Aim)
       → Way (call_of c w (position_of (primary_tree p w true)) f k) s o
-      → Way (W.base (with_call p f) c w ranged k) from o
+      → Way (W.base (with_call p f) c w place k) from o
   call_way v (By None args) k o r = G.on (v ▹ r)
   call_way v (By (Some bang) args) k o r = G.on (v ▹ r)
 
   -- whether something calls it, and whether it is a variable
   postfix_by : (b v : Bool) → calls (op_at s) ≡ b → is_variable (primary_tree p w b) ≡ v → is_memory (op_at s) ≡ false
       → let x = primary_tree p w b in
-      Goes call (bases c w ranged) from
+      Goes call (bases c w place) from
       (if v && b then R.Call (R.Called c w (position_of x)) (λ a. Ret (call_tree x a.0 a.1)) else Ret x) s true
   postfix_by true true e v m =
       ends (ih.of (R.Called c w (position_of (primary_tree p w true))) s true e) (with_call p)
@@ -130,9 +132,9 @@ module _ {call : Histories} (ih : AllSound call) (c : Context) (w : Live) (range
       gives (form.Plain p) same (λ k o r. G.on (fine m (simp (ap is_variable same ∙ v)) ▹ r))
 
   pub postfix : (x : Node) (b : Bool) → tree_before w s p ≡ x
-      → Goes call (bases c w ranged) from (body (R.Postfix c w x)) s b
+      → Goes call (bases c w place) from (body (R.Postfix c w x)) s b
   postfix x b is =
-      subst (λ y. Goes call (bases c w ranged) from (body (R.Postfix c w y)) s b) is
+      subst (λ y. Goes call (bases c w place) from (body (R.Postfix c w y)) s b) is
       (look (λ m. postfix_by (calls (op_at s)) (is_variable (tree_before w s p)) refl refl m))
 
 -- ---- arguments

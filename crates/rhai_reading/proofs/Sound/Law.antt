@@ -1,18 +1,20 @@
 -- What each reader shows.
-use Rattle.std.proofs.Common.{◌≡◌, ℕ, Bool, true, false}
-use Rattle.std.specs.Prelude.{◌&&◌}
+use Rattle.std.proofs.Common.{◌≡◌, ℕ, Bool, true, false, []}
 use Rattle.rhai_lower.specs.Lexemes.{Lexeme, Integer}
 use Rattle.rhai_lower.specs.Positions.{nowhere}
 use Rattle.rhai_lower.specs.Nodes.{Node}
 use Rattle.rhai_grammar.specs.Causes.{Refusal}
-use Rattle.rhai_grammar.specs.Delivered.{Point}
+use Rattle.rhai_grammar.specs.Delivered.{code, Point}
 use Rattle.rhai_grammar.specs.Seen.{StandsAtLast}
 use Rattle.rhai_grammar.specs.Contexts.{Context, Live}
-use Rattle.rhai_grammar.specs.Beginnings.{beginning, is_sign, omits_operand, calls, member_place, is_member}
+use Rattle.rhai_grammar.specs.Beginnings.{beginning, is_sign, calls, member_place, is_member}
+use Rattle.rhai_grammar.specs.Starts.{operand_start}
+use Rattle.rhai_grammar.specs.declared.role.OperandPlace.{OperandPlace}
+use Rattle.rhai_grammar.specs.declared.role.OperandStart.TheVariants as first
 use Rattle.rhai_grammar.specs.Strengths.{Follower, follower_of, strength}
 use Rattle.rhai_grammar.specs.Forms as form
 use Rattle.rhai_grammar.specs.Forms.{Primary, Base, Links, Operand, Arguments, Items, Elements, Fields, Run, Just}
-use Rattle.rhai_grammar.specs.Forms.{Binary}
+use Rattle.rhai_grammar.specs.Forms.{Binary, Body, Segments}
 use Rattle.rhai_grammar.specs.Trees.{tree}
 use Rattle.rhai_grammar.specs.Demands.{Demands, Next, Met, Missed}
 use Rattle.rhai_grammar.specs.Written as W
@@ -27,7 +29,7 @@ use Rattle.rhai_reading.proofs.Strengths.{next_continues}
 use Rattle.rhai_reading.proofs.FormKinds.{runs, operands, primaries, tree_before, bases, expressions, enclosed, items}
 use Rattle.rhai_reading.proofs.FormKinds.{callings, elements, fields, next_keys, links, indices, members}
 use Rattle.rhai_reading.proofs.FormKinds.{expr_statements, var_names, initializers, statements, statement_lists, blocks}
-use Rattle.rhai_reading.proofs.FormKinds.{block_ends, definitions}
+use Rattle.rhai_reading.proofs.FormKinds.{block_ends, block_starts, definitions, insides, jump_values, segments, text_afters}
 use Rattle.rhai_reading.proofs.Looks.{op_at, follower_at, operator_in}
 use Rattle.rhai_reading.proofs.Paths.{Fits, Fails, Way, Lost}
 use Rattle.rhai_reading.proofs.Shows.{Histories, Ensures, Tells, Halts, Answers, Passed}
@@ -62,20 +64,20 @@ abbrev pub WholeRead : Context → Live → Point → Node → Point → Type 0
 WholeRead c w s x t = (f : Run) × (tree f w ≡ x) × Met (W.whole_expression f c w) s t
 
 abbrev pub WholeHalts : Context → Live → Point → Refusal → State → Type 0
-WholeHalts c w s e u = (f : Run) × Missed (W.whole_expression f c w) s e u.point × StandsAtLast e (cursor u)
+WholeHalts c w s e u = (f : Run) × Missed (W.whole_expression f c w) s e u.mode u.point × StandsAtLast e (cursor u)
 
 -- ---- the law
 
 abbrev pub Sound : (g : Goal) → Point → Outcome (Val g) → Type 0
 Sound (R.Whole c w) s o = Ensures (WholeRead c w s) (WholeHalts c w s) o
 Sound (R.Expression c w) s o = Answers (expressions c w) s o
-Sound (R.Operand c w ranged) s o = Answers (operands c w ranged) s o
+Sound (R.Operand c w place) s o = Answers (operands c w place) s o
 Sound (R.Primary c w) s o =
-    (ranged : Bool) → (ranged && omits_operand (op_at s)) ≡ false → is_sign (beginning (op_at s)) ≡ false
-    → Answers (primaries c w ranged) s o
+    (place : OperandPlace) → operand_start place (op_at s) ≡ first.Written → is_sign (beginning (op_at s)) ≡ false
+    → Answers (primaries c w place) s o
 Sound (R.Postfix c w x) s o =
-    (ranged : Bool) (from : Point) (p : Primary) → tree_before w s p ≡ x → Passed (primaries c w ranged) p from s
-    → Answers (bases c w ranged) from o
+    (place : OperandPlace) (from : Point) (p : Primary) → tree_before w s p ≡ x
+    → Passed (primaries c w place) p from s → Answers (bases c w place) from o
 Sound (R.Called c w name) s o = calls (op_at s) ≡ true → Answers (callings c w name) s o
 Sound (R.Links w q) s o = Answers (links w q) s o
 Sound (R.Index c w indexed) s o = Answers (indices c w indexed) s o
@@ -84,10 +86,13 @@ Sound (R.Arguments c w name) s o = Answers (enclosed c w name) s o
 Sound (R.Items c w before) s o = Answers (items c w before) s o
 Sound (R.Elements c w opening before) s o = Answers (elements c w opening before) s o
 Sound (R.Fields c w opening before) s o = Answers (fields c w opening before) s o
+Sound (R.Segments c w start before) s o = Answers (segments c w start before) s o
+Sound R.TextAfter s o = Answers text_afters s o
+Sound (R.Jump c w pos) s o = Answers (jump_values c w pos) s o
 Sound (R.NextKey c before) s o = Answers (next_keys c before) s o
 Sound R.NextOperator s o =
     Tells (λ v t. (t ≡ s) × (v ≡ operator_in (follower_at s)) × Fits operator_known s)
-    (λ e u. Fails (Next operator_known) s e × (u.point ≡ s) × StandsAtLast e (cursor u)) o
+    (λ e u. Fails (Next operator_known) s e × (u.mode ≡ code) × (u.point ≡ s) × StandsAtLast e (cursor u)) o
 Sound (R.BinaryOp c w pos p lhs) s o =
     (q : Spot) (from : Point) (L : Run) → q.live ≡ w → tree L q.live ≡ lhs
     → height_after q L ≡ record { settings = c; at = pos } → Suits p q.side → Ended L (follower_at s) → Stands q from L s
@@ -98,6 +103,8 @@ Sound (R.Initializer c w pos) s o = Answers (initializers c w pos) s o
 Sound (R.Definition c w pos constant) s o = Answers (definitions c w pos constant) s o
 Sound (R.Statement c w) s o = Answers (statements c w) s o
 Sound (R.Statements closing c w before) s o = Answers (statement_lists closing c w before) s o
+Sound R.BlockStart s o = Answers block_starts s o
+Sound (R.Inside c w) s o = Answers (insides c w) s o
 Sound (R.Block c w opening) s o = Answers (blocks c w opening) s o
 Sound (R.BlockEnd opening fs) s o = Answers (block_ends opening fs) s o
 
@@ -117,3 +124,9 @@ any_run = Just any_operand
 
 abbrev pub any_items : Items
 any_items = form.Last any_run nowhere
+
+abbrev pub any_body : Body
+any_body = form.Many form.NoStatement nowhere
+
+abbrev pub any_segments : Segments
+any_segments = form.LastSegment nowhere any_body [] nowhere

@@ -1,35 +1,43 @@
 -- Arrays and object maps.
-use Rattle.std.proofs.Common.{◌≡◌, Bool, true, false, refl, sym, ap, subst}
+use Rattle.std.proofs.Common.{◌≡◌, Bool, true, false, [], refl, sym, ap, ◌∙◌, subst, if◌then◌else◌}
 use Rattle.std.specs.Prelude.{not}
 use Rattle.rhai_lower.specs.Lexemes.{text_of}
 use Rattle.rhai_lower.specs.Positions.{nowhere}
 use Rattle.rhai_lower.specs.Nodes.{Nodes, with_node, Properties, with_property}
 use Rattle.rhai_lower.specs.declared.position.Position.{Position}
 use Rattle.rhai_grammar.specs.declared.due.DueToken.TheVariants as due
-use Rattle.rhai_grammar.specs.Delivered.{code, Point, past, is_memory}
-use Rattle.rhai_grammar.specs.Contexts.{Context, Live, full, level_up}
+use Rattle.rhai_grammar.specs.Delivered.{code, item, text, Point, past, is_memory}
+use Rattle.rhai_grammar.specs.Contexts.{Context, Live, full, has_room, level_up}
 use Rattle.rhai_grammar.specs.declared.list.CommaList.TheVariants as lists
 use Rattle.rhai_grammar.specs.declared.role.ItemPlace.{ItemPlace}
 use Rattle.rhai_grammar.specs.declared.role.ItemPlace.TheVariants as place
 use Rattle.rhai_grammar.specs.Literals.{item_place, KeyPlace, FieldsEnd, AKey, NoKey, is_key, has_key, property_count}
 use Rattle.rhai_grammar.specs.Forms as form
-use Rattle.rhai_grammar.specs.Forms.{Fields}
-use Rattle.rhai_grammar.specs.Trees.{element_trees, field_trees, tree, node_count}
-use Rattle.rhai_grammar.specs.Demands.{Demands}
+use Rattle.rhai_grammar.specs.Forms.{Fields, Segments}
+use Rattle.rhai_grammar.specs.Beginnings.{unexpected}
+use Rattle.rhai_grammar.specs.Interpolations.{added_text, is_last_text, text_due, with_text}
+use Rattle.rhai_grammar.specs.Operators.{joined}
+use Rattle.rhai_lower.specs.Texts.{Text}
+use Rattle.rhai_lower.specs.Nodes as node
+use Rattle.rhai_lower.specs.Nodes.{Node, no_nodes}
+use Rattle.rhai_grammar.specs.Trees.{block_tree, segment_trees, element_trees, field_trees, tree, node_count}
+use Rattle.rhai_grammar.specs.Demands.{Demands, Tok, Wrong, ◌▸◌}
 use Rattle.rhai_grammar.specs.Verdicts as V
 use Rattle.rhai_grammar.specs.Written as W
 use Rattle.rhai_reading.specs.Reading as R
 use Rattle.rhai_reading.specs.Reading.{body}
-use Rattle.rhai_reading.proofs.Beginnings.{placed, keyed}
-use Rattle.rhai_reading.proofs.Dues.{expect, separated}
+use Rattle.rhai_reading.proofs.Beginnings.{placed, keyed, text_is}
+use Rattle.rhai_reading.proofs.Dues.{expect, separated, stands}
 use Rattle.rhai_reading.proofs.Lists.{added, added_last, added_none, one_more_node, added_property, last_property}
-use Rattle.rhai_reading.proofs.Lists.{no_property}
+use Rattle.rhai_reading.proofs.Lists.{no_property, segment_added, segment_last}
 use Rattle.rhai_reading.proofs.Looks.{op_at, pos_at}
-use Rattle.rhai_reading.proofs.Paths.{Fits, Aim, Way, ◌▹◌}
+use Rattle.rhai_reading.proofs.Paths.{Fits, Aim, Way, lost, ◌▹◌}
 use Rattle.rhai_reading.proofs.Shows.{Histories, Goes, wrong, ill, fine, fails, take, look, either, gives, done, refuse}
-use Rattle.rhai_reading.proofs.Shows.{halt, raise, part, ends, Passed}
+use Rattle.rhai_reading.proofs.Shows.{halt, lost_to, raise, part, ends, text_at, text_taken, Passed}
 use Rattle.rhai_reading.proofs.FormKinds.{elements, fields, KeyForm, NoMore, Keyed, key_answer, key_of, next_keys}
-use Rattle.rhai_reading.proofs.Sound.Law.{AllSound, any_run}
+use Rattle.rhai_reading.proofs.FormKinds.{block_starts, InsideForm, ManyInside, SingleInside, TextForm, body_form, inside_of, insides}
+use Rattle.rhai_reading.proofs.FormKinds.{inside_statements, segment_form, segments, text_afters, text_token}
+use Rattle.rhai_reading.proofs.Sound.Law.{AllSound, any_body, any_run, any_segments}
 
 module _ {call : Histories} (ih : AllSound call) (c : Context) (w : Live) (opening : Position) (before : Nodes)
     (s : Point) where
@@ -108,3 +116,108 @@ module _ {call : Histories} (ih : AllSound call) (c : Context) (w : Live) (openi
 
   pub field_list : (b : Bool) → Goes call (fields c w opening before) s (body (R.Fields c w opening before)) s b
   field_list b = part (ih.of (R.NextKey c before) s b) with_key key_way field_by
+
+-- ---- interpolated strings
+
+pub block_start : (call : Histories) (s : Point) (b : Bool) → Goes call block_starts s (body R.BlockStart) s b
+block_start call s b =
+    look (λ m. expect due.LeftBrace nowhere (λ missing k. missing.way) (λ brace.
+    done (pos_at s) (λ k o r. brace ▹ r)))
+
+pub text_after : (call : Histories) (s : Point) (b : Bool) → Goes call text_afters s (body R.TextAfter) s b
+text_after call s b = text_taken
+    (λ m none. record {
+      form = record { closing = nowhere; content = []; last = true; at = nowhere };
+      stops = wrong m (rw none);
+      last = λ z. (refl, refl);
+    })
+    (λ brace m none. record {
+      form = record { closing = pos_at s; content = []; last = true; at = nowhere };
+      stops = stands due.RightBrace (op_at s) (pos_at s) brace
+          ▹ lost (lost_to text_due (text_at s) (Wrong (unexpected (text_at s).lexeme)) _ m (rw none) refl);
+      last = λ z. (refl, refl);
+    })
+    (λ brace is. let l = (text_at s).lexeme in
+    done (record { closing = pos_at s; content = text_of l; last = is_last_text l; at = (text_at s).at })
+    (λ k o r. stands due.RightBrace (op_at s) (pos_at s) brace ▹ text_is l (text_at s).at is ▹ r))
+
+-- what stands after a text
+abbrev after_text : (last : Bool) → Context → Live → Position → Segments → Demands → Demands
+after_text true c w start list k = k
+after_text false c w start list k = W.segments list c w start k
+
+-- a block in an interpolated string, and the text after it
+segment_way : (last : Bool) (f : InsideForm) (closing : Position) (t : Text) (pos : Position) (list : Segments)
+    (c : Context) (w : Live) (start : Position) (k : Demands) {opening : Position} {s u : Point} {o : Aim} → Passed block_starts opening s u → has_room c ≡ true
+    → Way (inside_of (level_up c) w f (W.due_token due.RightBrace closing
+    (Tok text (item (text_token last t) pos) text_due ▸ after_text last c w start list k))) u o
+    → Way (W.segments (segment_form last opening (body_form f closing) t pos list) c w start k) s o
+segment_way true (ManyInside fs) closing t pos list c w start k brace below r = brace.on (below ▹ r)
+segment_way true (SingleInside x) closing t pos list c w start k brace below r = brace.on (below ▹ r)
+segment_way false (ManyInside fs) closing t pos list c w start k brace below r = brace.on (below ▹ r)
+segment_way false (SingleInside x) closing t pos list c w start k brace below r = brace.on (below ▹ r)
+
+-- its node
+pub inside_block : (opening : Position) (f : InsideForm) (closing : Position) (w : Live)
+    → block_tree opening (body_form f closing) w ≡ node.braces (inside_statements w f) opening closing
+inside_block opening (ManyInside fs) closing w = refl
+inside_block opening (SingleInside x) closing w = refl
+
+module _ {call : Histories} (ih : AllSound call) (c : Context) (w : Live) (start : Position) (before : Nodes)
+    (s : Point) where
+  abbrev block_of : Position → InsideForm → Position → Node
+  block_of p f closing = node.block_value (node.braces (inside_statements w f) p closing)
+
+  abbrev with_block : Position → InsideForm → Position → Text → Position → Nodes
+  with_block p f closing t pos = added_text (with_node before (block_of p f closing)) t pos
+
+  segment_is : (last : Bool) (p : Position) (f : InsideForm) (closing : Position) (t : Text) (pos : Position)
+      (list : Segments)
+      → joined before (segment_trees (segment_form last p (body_form f closing) t pos list) w)
+      ≡ joined before (node.one_node (block_of p f closing)
+      (with_text t pos (if last then no_nodes else segment_trees list w)))
+  segment_is true p f closing t pos list =
+      ap (λ x. joined before (node.one_node (node.block_value x) (with_text t pos no_nodes))) (inside_block p f closing w)
+  segment_is false p f closing t pos list =
+      ap (λ x. joined before (node.one_node (node.block_value x) (with_text t pos (segment_trees list w))))
+      (inside_block p f closing w)
+
+  -- after the text
+  texted : (last : Bool) (f : InsideForm) (p : Position) (v : Point) (x : TextForm) (t u : Point) (b : Bool)
+      → x.last ≡ last → Passed block_starts p s v → has_room c ≡ true → Passed (insides (level_up c) w) f v t
+      → Passed text_afters x t u → Goes call (segments c w start before) s
+      (if last then R.Ret (with_block p f x.closing x.content x.at)
+      else R.Call (R.Segments c w start (with_block p f x.closing x.content x.at)) R.Ret) u b
+  texted true f p v x t u b e brace below G H =
+      gives (segment_form true p (body_form f x.closing) x.content x.at any_segments)
+      (segment_is true p f x.closing x.content x.at any_segments
+      ∙ sym (segment_last before (block_of p f x.closing) x.content x.at))
+      (λ k o r. segment_way true f x.closing x.content x.at any_segments c w start k brace below (G.on (subst
+      (λ b. Way (W.due_token due.RightBrace x.closing (Tok text (item (text_token b x.content) x.at) text_due ▸ k)) t o)
+      e (H.on r))))
+  texted false f p v x t u b e brace below G H =
+      ends (ih.of (R.Segments c w start (with_block p f x.closing x.content x.at)) u b)
+      (segment_form false p (body_form f x.closing) x.content x.at)
+      (λ z list. segment_is false p f x.closing x.content x.at list
+      ∙ sym (segment_added before (block_of p f x.closing) x.content x.at (segment_trees list w)))
+      (λ list k o r. segment_way false f x.closing x.content x.at list c w start k brace below (G.on (subst
+      (λ b. Way (W.due_token due.RightBrace x.closing (Tok text (item (text_token b x.content) x.at) text_due
+      ▸ W.segments list c w start k)) t o) e (H.on r))))
+
+  -- after the `{`, at a point
+  segment_from : (p : Position) (u : Point) (a : Bool) → Passed block_starts p s u → Goes call (segments c w start before) s
+      (R.segment_on c w start p before) u a
+  segment_from p u a B =
+      raise c (form.LastSegment p any_body [] nowhere) (λ high k. B.on (fails high)) (λ below.
+      part (ih.of (R.Inside (level_up c) w) u a)
+      (λ f. segment_form true p (body_form f nowhere) [] nowhere any_segments)
+      (λ f k o r. segment_way true f nowhere [] nowhere any_segments c w start k B below (r _)) (λ f t a G.
+      part (ih.of R.TextAfter t a)
+      (λ x. segment_form x.last p (body_form f x.closing) x.content x.at any_segments)
+      (λ x k o r. segment_way x.last f x.closing x.content x.at any_segments c w start k B below (G.on (r _)))
+      (λ x v d H. texted x.last f p u x t v d refl B below G H)))
+
+  pub segment_list : (b : Bool) → Goes call (segments c w start before) s (body (R.Segments c w start before)) s b
+  segment_list b =
+      part (ih.of R.BlockStart s b) (λ p. form.LastSegment p any_body [] nowhere) (λ p k o r. r _)
+      (λ p u a B. segment_from p u a B)

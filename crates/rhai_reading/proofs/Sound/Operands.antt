@@ -1,5 +1,5 @@
 -- Primaries, and operands with their signs.
-use Rattle.std.proofs.Common.{◌≡◌, Bool, true, false, refl, ap}
+use Rattle.std.proofs.Common.{◌≡◌, Bool, true, false, refl, sym, ap}
 use Rattle.std.specs.Prelude.{◌&&◌}
 use Rattle.rhai_lower.specs.Lexemes.{text_of}
 use Rattle.rhai_lower.specs.Positions.{nowhere}
@@ -10,13 +10,24 @@ use Rattle.rhai_grammar.specs.Settings.{in_function}
 use Rattle.rhai_grammar.specs.Contexts.{Context, Live, has_block_values, level_up}
 use Rattle.rhai_grammar.specs.declared.role.Beginning.{Beginning}
 use Rattle.rhai_grammar.specs.declared.role.Beginning.TheVariants as begin
-use Rattle.rhai_grammar.specs.Beginnings.{beginning, is_value, is_sign, is_range, omits_operand, calls}
+use Rattle.rhai_grammar.specs.Beginnings.{beginning, is_value, is_sign, is_range, calls}
 use Rattle.rhai_grammar.specs.Beginnings.{may_be_called, is_this}
 use Rattle.rhai_grammar.specs.Signs.{sign_holds}
 use Rattle.rhai_grammar.specs.Forms as form
 use Rattle.rhai_grammar.specs.Trees.{base_tree, operand_tree}
 use Rattle.rhai_grammar.specs.Chains.{chained}
 use Rattle.rhai_grammar.specs.Spots.{spot_after_operand}
+use Rattle.rhai_grammar.specs.Interpolations.{added_text}
+use Rattle.rhai_grammar.specs.Starts.{is_omitted, is_throw, operand_start}
+use Rattle.rhai_grammar.specs.Trees.{segment_trees}
+use Rattle.rhai_grammar.specs.declared.role.OperandPlace.{OperandPlace}
+use Rattle.rhai_grammar.specs.declared.role.OperandPlace.TheVariants.{Elsewhere}
+use Rattle.rhai_grammar.specs.declared.role.OperandStart.{OperandStart}
+use Rattle.rhai_grammar.specs.declared.role.OperandStart.TheVariants as first
+use Rattle.rhai_lower.specs.Nodes.{interpolated}
+use Rattle.rhai_reading.proofs.Beginnings.{jump_is, jump_stands}
+use Rattle.rhai_reading.proofs.Lists.{first_text}
+use Rattle.rhai_reading.proofs.Sound.Law.{any_segments}
 use Rattle.rhai_reading.specs.Reading as R
 use Rattle.rhai_reading.specs.Reading.{Prog, body}
 use Rattle.rhai_reading.proofs.Beginnings.{begun}
@@ -29,10 +40,10 @@ use Rattle.rhai_reading.proofs.Shows.{refuse, halt, test, raise, part, first, en
 use Rattle.rhai_reading.proofs.FormKinds.{tree_before, operands, primaries}
 use Rattle.rhai_reading.proofs.Sound.Law.{AllSound, any_primary, any_operand, any_run}
 
-module _ {call : Histories} (ih : AllSound call) (c : Context) (w : Live) (ranged : Bool) (s : Point) where
-  primary_by : (v : Beginning) → beginning (op_at s) ≡ v → (ranged && omits_operand (op_at s)) ≡ false → is_sign v ≡ false
+module _ {call : Histories} (ih : AllSound call) (c : Context) (w : Live) (place : OperandPlace) (s : Point) where
+  primary_by : (v : Beginning) → beginning (op_at s) ≡ v → operand_start place (op_at s) ≡ first.Written → is_sign v ≡ false
       → is_memory (op_at s) ≡ false
-      → Goes call (primaries c w ranged) s (R.primary_at c w (op_at s) (pos_at s) v) s true
+      → Goes call (primaries c w place) s (R.primary_at c w (op_at s) (pos_at s) v) s true
   primary_by begin.Value e written sign m =
       take (done (form.Value (op_at s) (pos_at s)) (λ k o r. ap is_value e ▹ refl ▹ r))
   primary_by begin.Name e written sign m =
@@ -67,6 +78,15 @@ module _ {call : Histories} (ih : AllSound call) (c : Context) (w : Live) (range
       take (raise c (form.Map (pos_at s) (form.NoField nowhere)) (λ high k. here ▹ fails high) (λ below.
       ends (ih.of (R.Fields (level_up c) w (pos_at s) no_properties) (past code s) false) (form.Map (pos_at s))
       (λ t list. refl) (λ list k o r. here ▹ below ▹ r)))
+  primary_by begin.Interpolated e written sign m =
+      let here = begun s e in
+      let t = text_of (op_at s) in
+      take (raise c (form.Interpolated t (pos_at s) any_segments) (λ high k. here ▹ fails high) (λ below.
+      ends {v = λ ns. interpolated ns (pos_at s)}
+      (ih.of (R.Segments (level_up c) w (pos_at s) (added_text no_nodes t (pos_at s))) (past code s) false)
+      (form.Interpolated t (pos_at s))
+      (λ v list. ap (λ ns. interpolated ns (pos_at s)) (sym (first_text t (pos_at s) (segment_trees list w))))
+      (λ list k o r. here ▹ below ▹ r)))
   primary_by begin.Block e written sign m =
       let start = begun s e in
       let any = form.BlockValue (pos_at s) (form.Many form.NoStatement nowhere) in
@@ -81,34 +101,41 @@ module _ {call : Histories} (ih : AllSound call) (c : Context) (w : Live) (range
   primary_by begin.Nothing e written sign m = refuse any_primary (λ k. refl ▹ wrong m (rw (written, e)))
 
   -- an operand without a sign
-  unsigned : (ranged && omits_operand (op_at s)) ≡ false → is_sign (beginning (op_at s)) ≡ false
-      → Goes call (operands c w ranged) s (R.Call (R.Primary c w)
+  unsigned : operand_start place (op_at s) ≡ first.Written → is_sign (beginning (op_at s)) ≡ false
+      → Goes call (operands c w place) s (R.Call (R.Primary c w)
       (λ x. R.Call (R.Postfix c w x) (λ y. R.Call (R.Links w (spot_after_operand c y))
       (λ ls. R.Ret (chained y ls))))) s true
   unsigned written sign =
-      part (ih.of (R.Primary c w) s true ranged written sign) (λ x. form.Linked (form.Plain x) form.NoLink)
+      part (ih.of (R.Primary c w) s true place written sign) (λ x. form.Linked (form.Plain x) form.NoLink)
       (λ x k o r. r _) (λ x t b G.
-      first (ih.of (R.Postfix c w (tree_before w t x)) t b ranged s x refl G) form.Linked form.NoLink
+      first (ih.of (R.Postfix c w (tree_before w t x)) t b place s x refl G) form.Linked form.NoLink
       (λ y list k o r. r) (λ y u a.
       ends (ih.of (R.Links w (spot_after_operand c (base_tree y w))) u a) (λ list. list) (λ v list. refl)
       (λ list k o r. r)))
 
-  operand_by : (v : Beginning) → beginning (op_at s) ≡ v → (ranged && omits_operand (op_at s)) ≡ false
-      → Goes call (operands c w ranged) s (R.operand_by c w (op_at s) (pos_at s) v) s true
+  operand_by : (v : Beginning) → beginning (op_at s) ≡ v → operand_start place (op_at s) ≡ first.Written
+      → Goes call (operands c w place) s (R.operand_by c w (op_at s) (pos_at s) v) s true
   operand_by begin.Sign e written =
       let sign = ap is_sign e in
       take (raise c (form.Signed (op_at s) (pos_at s) any_operand) (λ high k. sign ▹ refl ▹ fails high) (λ below.
-      first (ih.of (R.Operand (level_up c) w false) (past code s) false)
+      first (ih.of (R.Operand (level_up c) w Elsewhere) (past code s) false)
       (λ x (h : Unit {0}). form.Signed (op_at s) (pos_at s) x) tt (λ x h k o r. sign ▹ refl ▹ below ▹ r) (λ x t b.
       test (sign_holds (op_at s) (operand_tree x w)) tt refl (λ least k. fails least) (λ holds.
       done tt (λ k o r. holds ▹ r)))))
   operand_by _ e written = unsigned written (ap is_sign e)
 
-  pub operand : (b : Bool) → Goes call (operands c w ranged) s (body (R.Operand c w ranged)) s b
-  operand b = look (λ m. either (ranged && omits_operand (op_at s))
-      (λ omitted. done (form.NoOperand (op_at s) (pos_at s)) (λ k o r. omitted ▹ refl ▹ r))
-      (λ written. operand_by (beginning (op_at s)) refl written))
+  -- by what the token there is at this place
+  starts_by : (v : OperandStart) → operand_start place (op_at s) ≡ v
+      → Goes call (operands c w place) s (R.operand_at c w (op_at s) (pos_at s) v) s true
+  starts_by first.Omitted e = done (form.NoOperand (op_at s) (pos_at s)) (λ k o r. ap is_omitted e ▹ refl ▹ r)
+  starts_by first.Jump e =
+      take (ends (ih.of (R.Jump c w (pos_at s)) (past code s) false) (form.Jump (is_throw (op_at s)) (pos_at s))
+      (λ v f. refl) (λ f k o r. jump_stands place s e ▹ jump_is place (op_at s) (pos_at s) e ▹ r))
+  starts_by first.Written e = operand_by (beginning (op_at s)) refl e
 
-  pub primary : (b : Bool) → (ranged && omits_operand (op_at s)) ≡ false → is_sign (beginning (op_at s)) ≡ false
-      → Goes call (primaries c w ranged) s (body (R.Primary c w)) s b
+  pub operand : (b : Bool) → Goes call (operands c w place) s (body (R.Operand c w place)) s b
+  operand b = look (λ m. starts_by (operand_start place (op_at s)) refl)
+
+  pub primary : (b : Bool) → operand_start place (op_at s) ≡ first.Written → is_sign (beginning (op_at s)) ≡ false
+      → Goes call (primaries c w place) s (body (R.Primary c w)) s b
   primary b written sign = look (λ m. primary_by (beginning (op_at s)) refl written sign m)

@@ -8,7 +8,6 @@ use Rattle.rhai_grammar.specs.Causes.{Refusal}
 use Rattle.rhai_grammar.specs.Delivered.{code, Point, past, is_memory}
 use Rattle.rhai_grammar.specs.Seen.{StandsAtLast}
 use Rattle.rhai_grammar.specs.Contexts.{Context, Live}
-use Rattle.rhai_grammar.specs.Beginnings.{beginning, is_range}
 use Rattle.rhai_grammar.specs.Operators.{boolean_holds}
 use Rattle.rhai_grammar.specs.Strengths.{Follower, Operator, Unknown, Other, follower_of, is_operator, strength, right_of}
 use Rattle.rhai_grammar.specs.Forms.{Run, Just, Binary}
@@ -19,13 +18,14 @@ use Rattle.rhai_grammar.specs.Verdicts as V
 use Rattle.rhai_grammar.specs.Written as W
 use Rattle.rhai_grammar.specs.Verdicts.{operator_known}
 use Rattle.rhai_grammar.specs.Spots.{Height, Spot, right_side, height_after, left_fits}
+use Rattle.rhai_grammar.specs.Starts.{place_after}
 use Rattle.rhai_reading.specs.Reading as R
 use Rattle.rhai_reading.specs.Reading.{Prog, Ret, Call, continues, next_operator_at, binary_at, binary_on, binary_right}
 use Rattle.rhai_reading.specs.Reading.{binary_next, raised, body}
 use Rattle.rhai_reading.proofs.Joins.{cursor}
 use Rattle.rhai_reading.proofs.Strengths.{Sensible, sensible, next_continues, right_is, left_is, goes_operator, true_not}
 use Rattle.rhai_reading.proofs.Looks.{op_at, pos_at, follower_at, operator_in, climb, fine as known_fine}
-use Rattle.rhai_reading.proofs.Paths.{Fits, Fails, Aim, Way, ◌▹◌, lost, Lost}
+use Rattle.rhai_reading.proofs.Paths.{Astray, Fits, Fails, Aim, Way, ◌▹◌, lost, Lost}
 use Rattle.rhai_reading.proofs.Shows.{Histories, over, Shows, Halts, fine, fails, ret, take, look, either, test, raise}
 use Rattle.rhai_reading.proofs.Shows.{called, tail, part, lost_at, Kind, Passed}
 use Rattle.rhai_reading.proofs.FormKinds.{runs}
@@ -35,16 +35,16 @@ use Rattle.rhai_reading.proofs.Sound.Law.{AllSound, Ended, Suits, Stands, RunRea
 
 pub next_operator : (call : Histories) (s : Point) (b : Bool)
     → Shows call (λ v t. (t ≡ s) × (v ≡ operator_in (follower_at s)) × Fits operator_known s)
-    (λ e u. Fails (Next operator_known) s e × (u.point ≡ s) × StandsAtLast e (cursor u)) (body R.NextOperator) s b
+    (λ e u. Fails (Next operator_known) s e × (u.mode ≡ code) × (u.point ≡ s) × StandsAtLast e (cursor u)) (body R.NextOperator) s b
 next_operator call s b = look (λ m. by (follower_at s) refl m)
   where
     by : (v : Follower) → follower_at s ≡ v → is_memory (op_at s) ≡ false
         → Shows call (λ v t. (t ≡ s) × (v ≡ operator_in (follower_at s)) × Fits operator_known s)
-        (λ e u. Fails (Next operator_known) s e × (u.point ≡ s) × StandsAtLast e (cursor u))
+        (λ e u. Fails (Next operator_known) s e × (u.mode ≡ code) × (u.point ≡ s) × StandsAtLast e (cursor u))
         (next_operator_at (pos_at s) v) s true
     by (Operator n right) e m = ret (refl, ap operator_in (sym e), fine m (rw e))
     by (Unknown t) e m =
-        record { shown = λ w. (lost_at operator_known s _ _ m (ap V.known_follower e) refl, refl, λ z. (refl, refl)) }
+        record { shown = λ w. (lost_at operator_known s _ _ m (ap V.known_follower e) refl, refl, refl, λ z. (refl, refl)) }
     by Other e m = ret (refl, ap operator_in (sym e), fine m (rw e))
 
 -- ---- runs
@@ -105,8 +105,10 @@ module _ {call : Histories} (ih : AllSound call) where
       → Shows call Q (Halts K from) (Call R.NextOperator k) s b
   operator_part {K = K} {from = from} {Q = Q} {k = k} {s = s} {b = b} f way on =
       called (ih.of R.NextOperator s b) (λ e t r. let stops = subst
-      (λ u. (k : Demands) → Way (K.demands f k) from (Lost e u)) (sym r.1)
-      (way e r.0) in record { form = f; stops = stops _; last = r.2 })
+      (λ u. (k : Demands) → Way (K.demands f k) from (Lost e u)) (sym r.2)
+      (way e r.0) in let asks = subst
+      (λ n. (k : Demands) → Way (K.demands f k) from (Astray e n t.point)) (sym r.1) stops in
+      record { form = f; stops = asks _; last = r.3 })
       (λ v t a r. subst (λ u. Shows call Q (Halts K from) (k v) u a) (sym r.0)
       (subst (λ v. Shows call Q (Halts K from) (k v) s a) (sym r.1) (on r.2 a)))
 
@@ -121,7 +123,7 @@ module _ {call : Histories} (ih : AllSound call) where
         let op = op_at s in
         let binary = Binary op (pos_at s) L in
         let q2 = right_side op u w in
-        take (part (ih.of (R.Operand u.settings w (is_range (beginning op))) (past code s) false) (λ x. binary (Just x))
+        take (part (ih.of (R.Operand u.settings w (place_after op)) (past code s) false) (λ x. binary (Just x))
         (λ x k o r. h.right (Just x) k o (r _)) (λ x t a X.
         operator_part (binary (Just x)) (λ e r k. h.right (Just x) k _ (X.on (lost r))) (λ known c.
         raise u.settings (binary (Just x)) (λ high k. h.right (Just x) k _ (X.on (known ▹ fails high))) (λ below.

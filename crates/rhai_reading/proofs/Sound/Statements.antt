@@ -18,7 +18,7 @@ use Rattle.rhai_grammar.specs.Chains.{Bracket, Chain, Dotted, Link, LinkKind, ch
 use Rattle.rhai_grammar.specs.Kinds.{is_constant}
 use Rattle.rhai_grammar.specs.Targets.{chain_fault, invalid, is_assignment, is_constant_use, is_equals, item_fault, links_fault, root_fault}
 use Rattle.rhai_grammar.specs.Targets.{target_fault, update_of, value_fault}
-use Rattle.rhai_grammar.specs.Trees.{definition_tree, statement_of, statement_tree, statement_trees, tree, with_kept}
+use Rattle.rhai_grammar.specs.Trees.{definition_tree, statement_tree, statement_trees, tree, with_kept}
 use Rattle.rhai_grammar.specs.declared.due.DueToken.TheVariants as due
 use Rattle.rhai_grammar.specs.declared.role.AfterStatement.{AfterStatement}
 use Rattle.rhai_grammar.specs.declared.role.AfterStatement.TheVariants as after
@@ -33,10 +33,15 @@ use Rattle.rhai_reading.specs.Reading.{body}
 use Rattle.rhai_reading.proofs.Beginnings.{equals_is, name_is, no_name, separated, started}
 use Rattle.rhai_reading.proofs.Dues.{expect}
 use Rattle.rhai_reading.proofs.FormKinds.{expressions, expr_statements, NameForm, var_names, initializers, statements}
-use Rattle.rhai_reading.proofs.FormKinds.{statement_lists, blocks, block_ends, definition_of, definitions}
+use Rattle.rhai_reading.proofs.FormKinds.{statement_lists, blocks, block_ends, body_form, definition_of, definitions}
+use Rattle.rhai_reading.proofs.FormKinds.{InsideForm, ManyInside, SingleInside, inside_of, inside_statements, insides, jump_values}
+use Rattle.rhai_reading.proofs.Sound.Literals.{inside_block}
+use Rattle.rhai_grammar.specs.Starts.{jump_token, no_value_follows, starts, value_follows}
+use Rattle.rhai_grammar.specs.Demands.{Demands}
+use Rattle.rhai_grammar.specs.Written as W
 use Rattle.rhai_reading.proofs.Lists.{kept_statement, last_kept, no_statement}
 use Rattle.rhai_reading.proofs.Looks.{op_at, pos_at}
-use Rattle.rhai_reading.proofs.Paths.{Fits, ◌▹◌}
+use Rattle.rhai_reading.proofs.Paths.{Aim, Fits, Way, ◌▹◌}
 use Rattle.rhai_reading.proofs.Shows.{Histories, Goes, ill, wrong, fine, fails, take, look, either, gives, done, refuse}
 use Rattle.rhai_reading.proofs.Shows.{halt, test, raise, part, first, ends, Passed}
 use Rattle.rhai_reading.proofs.Sound.Chains.{Early, early, early_if, early_or, faulted, unfaulted}
@@ -132,6 +137,28 @@ module _ {call : Histories} (ih : AllSound call) (c : Context) (w : Live) (s : P
       ends (ih.of (R.Definition (level_up c) w (pos_at s) constant) (past code s) false) (definition_of constant (pos_at s))
       (λ v f. refl) (λ f k o r. here ▹ below ▹ r)))
 
+  -- ---- jumps
+
+  jump_by : (pos : Position) (valued : Bool) → starts c (op_at s) ≡ valued → is_memory (op_at s) ≡ false
+      → Goes call (jump_values c w pos) s (R.jump_at c w pos valued) s true
+  jump_by pos true e m =
+      let follows : Fits (value_follows c) s = fine m (rw e) in
+      raise c (form.Present any_run) (λ high k. follows ▹ fails high) (λ below.
+      ends (ih.of (R.Expression (level_up c) w) s true) form.Present (λ v f. refl) (λ f k o r. follows ▹ below ▹ r))
+  jump_by pos false e m =
+      let none : Fits (no_value_follows c) s = fine m (rw e) in
+      raise c form.Absent (λ high k. none ▹ fails high) (λ below. done form.Absent (λ k o r. none ▹ below ▹ r))
+
+  pub jump : (pos : Position) (b : Bool) → Goes call (jump_values c w pos) s (body (R.Jump c w pos)) s b
+  jump pos b = look (λ m. jump_by pos (starts c (op_at s)) refl m)
+
+  jumped : (throws : Bool) → next_at code s ≡ item (Sign (jump_token throws)) (pos_at s)
+      → Goes call (statements c w) s (R.jump_on c w (pos_at s) throws) s true
+  jumped throws here =
+      take (ends {v = λ value. (node.return_statement value throws (pos_at s), w)}
+      (ih.of (R.Jump c w (pos_at s)) (past code s) false) (form.Return throws (pos_at s)) (λ v f. refl)
+      (λ f k o r. here ▹ r))
+
   -- ---- statements
 
   statement_by : (v : StatementStart) → V.statement_start (op_at s) ≡ v → is_memory (op_at s) ≡ false
@@ -146,6 +173,8 @@ module _ {call : Histories} (ih : AllSound call) (c : Context) (w : Live) (s : P
       (λ v f. refl) (λ f k o r. here ▹ below ▹ deeper ▹ r))))
   statement_by start.Let e m = defined false (started s e)
   statement_by start.Const e m = defined true (started s e)
+  statement_by start.Return e m = jumped false (started s e)
+  statement_by start.Throw e m = jumped true (started s e)
   statement_by start.Expression e m =
       let begins : Fits V.expression_begins s = fine m (rw e) in
       raise c (form.Expression (form.Evaluate any_run)) (λ high k. begins ▹ ill m (rw high)) (λ below.
@@ -206,17 +235,27 @@ block_end call at fs s b =
     look (λ m. expect due.RightBrace nowhere (λ missing k. missing.way) (λ close.
     done (pos_at s) (λ k o r. close ▹ r)))
 
-module _ {call : Histories} (ih : AllSound call) (c : Context) (w : Live) (at : Position) (s : Point) where
-  block_by : (single : Bool) → has_single_blocks c ≡ single → (b : Bool)
-      → Goes call (blocks c w at) s (R.block_on c w at single) s b
-  block_by true e b =
-      first (ih.of (R.ExprStatement c w) s b) form.Single nowhere (λ f p k o r. e ▹ r) (λ f t a.
-      ends (ih.of (R.BlockEnd at (node.one_statement (statement_of f w) node.no_statements)) t a) (λ p. p) (λ v p. refl)
-      (λ p k o r. r))
-  block_by false e b =
-      first (ih.of (R.Statements Brace c (in_block w) node.no_statements) s b) form.Many nowhere
-      (λ f p k o r. ap not e ▹ r) (λ f t a.
-      ends (ih.of (R.BlockEnd at (statement_trees f (in_block w))) t a) (λ p. p) (λ v p. refl) (λ p k o r. r))
+module _ {call : Histories} (ih : AllSound call) (c : Context) (w : Live) (s : Point) where
+  inside_by : (single : Bool) → has_single_blocks c ≡ single → (b : Bool)
+      → Goes call (insides c w) s (R.inside_on c w single) s b
+  inside_by true e b =
+      ends {v = λ f. node.one_statement f node.no_statements} (ih.of (R.ExprStatement c w) s b) SingleInside
+      (λ v f. refl) (λ f k o r. e ▹ r)
+  inside_by false e b =
+      ends {v = λ fs. fs.0} (ih.of (R.Statements Brace c (in_block w) node.no_statements) s b) ManyInside
+      (λ v f. refl) (λ f k o r. ap not e ▹ r)
 
-  pub block : (b : Bool) → Goes call (blocks c w at) s (body (R.Block c w at)) s b
-  block b = block_by (has_single_blocks c) refl b
+  pub inside : (b : Bool) → Goes call (insides c w) s (body (R.Inside c w)) s b
+  inside b = inside_by (has_single_blocks c) refl b
+
+-- a block, from its statements and its `}`
+body_way : (f : InsideForm) (c : Context) (w : Live) (closing : Position) (k : Demands) {s : Point} {o : Aim}
+    → Way (inside_of c w f (W.due_token due.RightBrace closing k)) s o → Way (W.block (body_form f closing) c w k) s o
+body_way (ManyInside fs) c w closing k r = r
+body_way (SingleInside x) c w closing k r = r
+
+pub block : {call : Histories} → AllSound call → (c : Context) (w : Live) (at : Position) (s : Point) (b : Bool)
+    → Goes call (blocks c w at) s (body (R.Block c w at)) s b
+block ih c w at s b =
+    first (ih.of (R.Inside c w) s b) body_form nowhere (λ f p k o r. body_way f c w p k r) (λ f t a.
+    ends (ih.of (R.BlockEnd at (inside_statements w f)) t a) (λ p. p) (λ v p. inside_block at f p w) (λ p k o r. r))

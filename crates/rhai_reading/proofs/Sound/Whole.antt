@@ -11,6 +11,7 @@ use Rattle.rhai_grammar.specs.Verdicts as V
 use Rattle.rhai_grammar.specs.Written as W
 use Rattle.rhai_grammar.specs.Verdicts.{run_ends, operator_known}
 use Rattle.rhai_grammar.specs.Spots.{outermost}
+use Rattle.rhai_grammar.specs.declared.role.OperandPlace.TheVariants.{Elsewhere}
 use Rattle.rhai_reading.specs.Reading as R
 use Rattle.rhai_reading.specs.Reading.{body}
 use Rattle.rhai_reading.specs.Histories.{exec, Outcome, Done, Refused, Unfinished}
@@ -44,7 +45,7 @@ module _ {call : Histories} (ih : AllSound call) (c : Context) (w : Live) (s : P
   pub expression : (b : Bool) → Goes call (expressions c w) s (body (R.Expression c w)) s b
   expression b = look (λ m.
       raise c any_run (λ high k. ill m (rw high)) (λ below.
-      part (ih.of (R.Operand (level_up c) w false) s true) Just (λ x k o r. fine m (rw below) ▹ r _) (λ x t a X.
+      part (ih.of (R.Operand (level_up c) w Elsewhere) s true) Just (λ x k o r. fine m (rw below) ▹ r _) (λ x t a X.
       run_part ih (outermost (level_up c) w) s (Just x) refl refl refl (λ l e. refl) tt
       (record { passes = λ known. over (λ k o r. X.on (known ▹ r)); stops = λ e r k. X.on (lost r) })
       (λ f. f) (λ f k o r. fine m (rw below) ▹ r _) (λ f u d G off known.
@@ -78,7 +79,7 @@ pub script : (c : Context) (w : Live) (s : Point) (o : Outcome (node.Statements 
     → Answers (statement_lists EndMark c w no_statements) s o
     → Ensures (λ x t. (fs : Statements) × ((statement_trees fs w, after_statements fs w) ≡ x)
     × Met (W.whole_script fs c w) s t)
-    (λ e u. (fs : Statements) × Missed (W.whole_script fs c w) s e u.point × StandsAtLast e (cursor u)) o
+    (λ e u. (fs : Statements) × Missed (W.whole_script fs c w) s e u.mode u.point × StandsAtLast e (cursor u)) o
 script c w s (Done x t) h = let r = h.told in (r.0, (r.1.form, r.1.is, reached (r.1.passes.on here)))
 script c w s (Refused e t) h = λ z. let r = h.told z in (r.form, reached (r.stops {k = Nothing}), r.last)
 script c w s Unfinished h = tt

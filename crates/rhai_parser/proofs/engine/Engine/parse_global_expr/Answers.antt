@@ -2,7 +2,7 @@ use Rattle.std.proofs.Common.{ap, rules, subst}
 use Rattle.rhai_grammar.specs.Contexts.{Live}
 use Rattle.rhai_grammar.specs.Cursors.{cursor_of, mode_by}
 use Rattle.rhai_grammar.specs.Promises.{ReadsExpression}
-use Rattle.rhai_parser.specs.Frames.{context_of, live_of}
+use Rattle.rhai_readers.specs.Frames.{context_of, live_of}
 use Rattle.rhai_parser.proofs.engine.Engine.parse_global_expr.Goals as goal
 
 pub returns-clause-reads : goal.returns-clause-reads

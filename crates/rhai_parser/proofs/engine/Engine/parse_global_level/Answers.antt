@@ -1,7 +1,8 @@
 use Rattle.std.proofs.Common.{ap, rules, sym}
 use Rattle.rhai_lower.specs.View.{statement_views}
 use Rattle.rhai_grammar.specs.Cursors.{mode_by}
-use Rattle.rhai_parser.specs.Frames.{context_of, live_in}
+use Rattle.rhai_readers.specs.Frames.{context_of}
+use Rattle.rhai_parser.specs.Starts.{live_in}
 use Rattle.rhai_parser.proofs.PromiseLemmas.{script_done, script_fails, has_read_done, has_read_fails}
 use Rattle.rhai_reading.proofs.Main.{script_entry}
 use Rattle.rhai_parser.proofs.engine.Engine.parse_global_level.Goals as goal

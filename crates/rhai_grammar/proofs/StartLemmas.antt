@@ -1,0 +1,176 @@
+-- Which tokens begin an expression.
+use Rattle.std.proofs.Common.{◌≡◌, ◌⊎◌, inl, inr, ℕ, Bool, true, false, not, List, [], ◌∷◌, ◌++◌, None, Some, pos, refl, sym, ap, subst}
+use Rattle.rhai_lower.specs.Texts.{Text}
+use Rattle.rhai_lower.specs.Positions.{place}
+use Rattle.rhai_lower.specs.Lexemes.{Lexeme, Character, Comment, Faulty, Integer, Interpolated, Name, Reserved, Sign, String}
+use Rattle.rhai_lower.specs.declared.position.Position.{Position}
+use Rattle.rhai_lower.specs.declared.token.Token.{Token}
+use Rattle.rhai_lower.specs.declared.token.Token.TheVariants as token
+use Rattle.rhai_grammar.specs.declared.role.Beginning.{Beginning}
+use Rattle.rhai_grammar.specs.declared.role.Beginning.TheVariants as begin
+use Rattle.rhai_grammar.specs.declared.role.OperandPlace.TheVariants.{Elsewhere}
+use Rattle.rhai_grammar.specs.Beginnings.{beginning, is_range, is_sign, is_value}
+use Rattle.rhai_grammar.specs.Contexts.{Context, Live, has_block_values, has_single_blocks, level_up}
+use Rattle.rhai_grammar.specs.Delivered.{code, text, item, next_at, past, Ends, Point, Then, Tokens}
+use Rattle.rhai_grammar.specs.Demands.{Demands, Met, Nothing}
+use Rattle.rhai_grammar.specs.Forms as form
+use Rattle.rhai_grammar.specs.Forms.{Base, Body, Operand, Primary, Run}
+use Rattle.rhai_grammar.specs.Spots.{outermost}
+use Rattle.rhai_grammar.specs.StartLaws.{IsBegun, StartsOfExpressions, is_added}
+use Rattle.rhai_grammar.specs.Starts.{begins, starts}
+use Rattle.rhai_grammar.specs.Written as W
+
+-- ---- an expression that fits begins with a token that begins one
+
+started : (c : Context) (l : Lexeme) → begins c (beginning l) ≡ true → starts c l ≡ true
+started c (Faulty f) e = refl
+started c _ e = e
+
+value_begins : (c : Context) (b : Beginning) → is_value b ≡ true → begins c b ≡ true
+value_begins c begin.Value e = refl
+value_begins c _ e = absurd cc
+
+sign_begins : (c : Context) (b : Beginning) → is_sign b ≡ true → begins c b ≡ true
+sign_begins c begin.Sign e = refl
+sign_begins c _ e = absurd cc
+
+range_begins : (c : Context) (b : Beginning) → is_range b ≡ true → begins c b ≡ true
+range_begins c begin.Range e = refl
+range_begins c _ e = absurd cc
+
+-- where this token comes next
+next_is : (c : Context) (s : Point) (l : Lexeme) (at : Position) → next_at code s ≡ item l at → begins c (beginning l) ≡ true → starts c (next_at code s).lexeme ≡ true
+next_is c s l at e h = subst (λ i. starts c i.lexeme ≡ true) (sym e) (started c l h)
+
+primary : (x : Primary) (c : Context) (w : Live) (k : Demands) (s t : Point) → Met (W.primary x c w Elsewhere k) s t → starts c (next_at code s).lexeme ≡ true
+primary (form.Value l at) c w k s t m = next_is c s l at m.1.0 (value_begins c (beginning l) m.0)
+primary (form.Named name at) c w k s t m = next_is c s (Name name) at m.0 refl
+primary (form.Word word at) c w k s t m = next_is c s (Reserved word) at m.0 refl
+primary (form.Group opening inside closing) c w k s t m = next_is c s (Sign token.LeftParen) opening m.0 refl
+primary (form.Array opening list) c w k s t m = next_is c s (Sign token.LeftBracket) opening m.0 refl
+primary (form.Map opening list) c w k s t m = next_is c s (Sign token.MapStart) opening m.0 refl
+primary (form.Interpolated first at list) c w k s t m = next_is c s (Interpolated first) at m.0 refl
+primary (form.BlockValue opening body) c w k s t m = next_is c s (Sign token.LeftBrace) opening m.1.0 m.0
+primary (form.Zero range at) c w k s t m = next_is c s range at m.1.0 (range_begins c (beginning range) m.0)
+
+base : (x : Base) (c : Context) (w : Live) (k : Demands) (s t : Point) → Met (W.base x c w Elsewhere k) s t → starts c (next_at code s).lexeme ≡ true
+base (form.Plain x) c w k s t m = primary x c w _ s t m
+base (form.Call x None args) c w k s t m = primary x c w _ s t m
+base (form.Call x (Some bang) args) c w k s t m = primary x c w _ s t m
+
+operand : (x : Operand) (c : Context) (w : Live) (k : Demands) (s t : Point) → Met (W.operand x c w Elsewhere k) s t → starts c (next_at code s).lexeme ≡ true
+operand (form.Linked x list) c w k s t m = base x c w _ s t m
+operand (form.Signed sign at x) c w k s t m = next_is c s sign at m.1.0 (sign_begins c (beginning sign) m.0)
+operand (form.NoOperand l at) c w k s t m = let e = m.0 in absurd cc
+operand (form.Jump throws at value) c w k s t m = let e = m.0 in absurd cc
+
+run : (f : Run) (c : Context) (w : Live) (k : Demands) (s t : Point) → Met (W.run f (outermost c w) k) s t → starts c (next_at code s).lexeme ≡ true
+run (form.Just x) c w k s t m = operand x c w _ s t m
+run (form.Binary op at left right) c w k s t m = run left c w _ s t m
+
+-- ---- a token that begins an expression is the first one of an expression that fits
+
+abbrev here : Position
+here = place 1 1
+
+-- tokens in written order, the same in both modes
+abbrev stream : List Lexeme → Tokens
+stream [] = Ends here
+stream (l ∷ ls) = let rest = stream ls in Then (item l here) (item l here) rest rest
+
+abbrev unread : List Lexeme → Point
+unread ls = record { tokens = stream ls; taken = [] }
+
+-- the point after as many tokens in code mode
+abbrev after : List Lexeme → Point → Point
+after [] s = s
+after (l ∷ ls) s = after ls (past code s)
+
+abbrev limited : Context → ℕ → Context
+limited c n = record c { settings = record c.settings { limit = n } }
+
+abbrev unlimited : Context → Context
+unlimited c = limited c 0
+
+abbrev Starts : Context → Live → Lexeme → Type 0
+Starts c w l = (is_added l ≡ true) ⊎ IsBegun c w l
+
+begun_by : (c : Context) (w : Live) (l : Lexeme) (f : Run) (ls : List Lexeme) → Met (W.expression f (unlimited c) w Nothing) (unread (l ∷ ls)) (after (l ∷ ls) (unread (l ∷ ls))) → Starts (unlimited c) w l
+begun_by c w l f ls m = inr (f, unread (l ∷ ls), after (l ∷ ls) (unread (l ∷ ls)), refl, m)
+
+abbrev plain : Primary → Run
+plain x = form.Just (form.Linked (form.Plain x) form.NoLink)
+
+abbrev value : Lexeme → Run
+value l = plain (form.Value l here)
+
+abbrev one : Lexeme
+one = Integer (pos 1)
+
+abbrev signed : Lexeme → Run
+signed l = form.Just (form.Signed l here (form.Linked (form.Plain (form.Value one here)) form.NoLink))
+
+abbrev range : Lexeme → Run
+range l = form.Binary l here (plain (form.Zero l here)) (value one)
+
+-- under each kind of blocks, a block
+abbrev single : Body
+single = form.Single (form.Evaluate (value one)) here
+
+abbrev many : Body
+many = form.Many form.NoStatement here
+
+block : (c : Context) (w : Live) (b : Bool) → has_single_blocks c ≡ b → has_block_values c ≡ true → Starts (unlimited c) w (Sign token.LeftBrace)
+block c w true e h = begun_by c w (Sign token.LeftBrace) (plain (form.BlockValue here single)) (one ∷ Sign token.RightBrace ∷ []) (refl, (h, (refl, (refl, (refl, (e, (refl, (refl, (refl, (refl, (refl, (refl, (refl, (refl, (refl, (refl, (refl, (refl, (refl, refl)))))))))))))))))))
+block c w false e h = begun_by c w (Sign token.LeftBrace) (plain (form.BlockValue here many)) (Sign token.RightBrace ∷ []) (refl, (h, (refl, (refl, (refl, (ap not e, (refl, (refl, (refl, (refl, (refl, (refl, refl))))))))))))
+
+-- Only the last text is requested in text mode.
+abbrev filled : Text → Body → Run
+filled a body = plain (form.Interpolated a here (form.LastSegment here body [] here))
+
+filled_by : (c : Context) (w : Live) (a : Text) (body : Body) (ls : List Lexeme) → Met (W.expression (filled a body) (unlimited c) w Nothing) (unread (Interpolated a ∷ ls ++ (String [] ∷ []))) (past text (after (Interpolated a ∷ ls) (unread (Interpolated a ∷ ls ++ (String [] ∷ []))))) → Starts (unlimited c) w (Interpolated a)
+filled_by c w a body ls m = inr (filled a body, unread (Interpolated a ∷ ls ++ (String [] ∷ [])), past text (after (Interpolated a ∷ ls) (unread (Interpolated a ∷ ls ++ (String [] ∷ [])))), refl, m)
+
+interpolated : (c : Context) (w : Live) (a : Text) (b : Bool) → has_single_blocks c ≡ b → Starts (unlimited c) w (Interpolated a)
+interpolated c w a true e = filled_by c w a single (Sign token.LeftBrace ∷ one ∷ Sign token.RightBrace ∷ []) (refl, (refl, (refl, (refl, (refl, (e, (refl, (refl, (refl, (refl, (refl, (refl, (refl, (refl, (refl, (refl, (refl, (refl, (refl, (refl, refl))))))))))))))))))))
+interpolated c w a false e = filled_by c w a many (Sign token.LeftBrace ∷ Sign token.RightBrace ∷ []) (refl, (refl, (refl, (refl, (refl, (ap not e, (refl, (refl, (refl, (refl, (refl, (refl, (refl, refl)))))))))))))
+
+sign : (c : Context) (w : Live) (l : Token) → starts (unlimited c) (Sign l) ≡ true → Starts (unlimited c) w (Sign l)
+sign c w token.Unit h = begun_by c w (Sign token.Unit) (value (Sign token.Unit)) [] (refl, (refl, (refl, (refl, (refl, (refl, (refl, refl)))))))
+sign c w token.True h = begun_by c w (Sign token.True) (value (Sign token.True)) [] (refl, (refl, (refl, (refl, (refl, (refl, (refl, refl)))))))
+sign c w token.False h = begun_by c w (Sign token.False) (value (Sign token.False)) [] (refl, (refl, (refl, (refl, (refl, (refl, (refl, refl)))))))
+sign c w token.LeftParen h = begun_by c w (Sign token.LeftParen) (plain (form.Group here (value one) here)) (one ∷ Sign token.RightParen ∷ []) (refl, (refl, (refl, (refl, (refl, (refl, (refl, (refl, (refl, (refl, (refl, (refl, (refl, (refl, (refl, refl)))))))))))))))
+sign c w token.LeftBracket h = begun_by c w (Sign token.LeftBracket) (plain (form.Array here (form.NoElement here))) (Sign token.RightBracket ∷ []) (refl, (refl, (refl, (refl, (refl, (refl, (refl, (refl, refl))))))))
+sign c w token.MapStart h = begun_by c w (Sign token.MapStart) (plain (form.Map here (form.NoField here))) (Sign token.RightBrace ∷ []) (refl, (refl, (refl, (refl, (refl, (refl, (refl, (refl, refl))))))))
+sign c w token.LeftBrace h = block c w (has_single_blocks c) refl h
+sign c w token.Minus h = begun_by c w (Sign token.Minus) (signed (Sign token.Minus)) (one ∷ []) (refl, (refl, (refl, (refl, (refl, (refl, (refl, (refl, (refl, (refl, (refl, refl)))))))))))
+sign c w token.UnaryMinus h = begun_by c w (Sign token.UnaryMinus) (signed (Sign token.UnaryMinus)) (one ∷ []) (refl, (refl, (refl, (refl, (refl, (refl, (refl, (refl, (refl, (refl, (refl, refl)))))))))))
+sign c w token.Plus h = begun_by c w (Sign token.Plus) (signed (Sign token.Plus)) (one ∷ []) (refl, (refl, (refl, (refl, (refl, (refl, (refl, (refl, (refl, (refl, (refl, refl)))))))))))
+sign c w token.UnaryPlus h = begun_by c w (Sign token.UnaryPlus) (signed (Sign token.UnaryPlus)) (one ∷ []) (refl, (refl, (refl, (refl, (refl, (refl, (refl, (refl, (refl, (refl, (refl, refl)))))))))))
+sign c w token.Bang h = begun_by c w (Sign token.Bang) (signed (Sign token.Bang)) (one ∷ []) (refl, (refl, (refl, (refl, (refl, (refl, (refl, (refl, (refl, (refl, (refl, refl)))))))))))
+sign c w token.ExclusiveRange h = begun_by c w (Sign token.ExclusiveRange) (range (Sign token.ExclusiveRange)) (one ∷ []) (refl, (refl, (refl, (refl, (refl, (refl, (refl, (refl, (refl, (refl, (refl, (refl, (refl, (refl, (refl, (refl, (refl, (refl, (refl, (refl, refl))))))))))))))))))))
+sign c w token.InclusiveRange h = begun_by c w (Sign token.InclusiveRange) (range (Sign token.InclusiveRange)) (one ∷ []) (refl, (refl, (refl, (refl, (refl, (refl, (refl, (refl, (refl, (refl, (refl, (refl, (refl, (refl, (refl, (refl, (refl, (refl, (refl, (refl, refl))))))))))))))))))))
+sign c w _ h = absurd cc
+
+any : (c : Context) (w : Live) (l : Lexeme) → starts (unlimited c) l ≡ true → Starts (unlimited c) w l
+any c w (Integer n) h = begun_by c w (Integer n) (value (Integer n)) [] (refl, (refl, (refl, (refl, (refl, (refl, (refl, refl)))))))
+any c w (Character n) h = begun_by c w (Character n) (value (Character n)) [] (refl, (refl, (refl, (refl, (refl, (refl, (refl, refl)))))))
+any c w (String a) h = begun_by c w (String a) (value (String a)) [] (refl, (refl, (refl, (refl, (refl, (refl, (refl, refl)))))))
+any c w (Interpolated a) h = interpolated c w a (has_single_blocks c) refl
+any c w (Name a) h = begun_by c w (Name a) (plain (form.Named a here)) [] (refl, (refl, (refl, (refl, (refl, (refl, refl))))))
+any c w (Reserved a) h = inl refl
+any c w (Faulty f) h = inl refl
+any c w (Comment a) h = absurd cc
+any c w (Sign l) h = sign c w l h
+
+added : (c : Context) (l : Lexeme) → is_added l ≡ true → starts c l ≡ true
+added c (Reserved a) e = refl
+added c (Faulty f) e = refl
+added c _ e = absurd cc
+
+pub starts_of_expressions : StartsOfExpressions
+starts_of_expressions = record {
+  only = λ c w f s t m. run f (level_up c) w _ s t m.1;
+  added = added;
+  begins = λ c w l e. subst (λ n. starts (limited c n) l ≡ true → Starts (limited c n) w l) (sym e) (any c w l);
+}

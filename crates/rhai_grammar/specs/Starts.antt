@@ -1,0 +1,94 @@
+-- Which tokens begin an expression, and what a `return` or `throw` makes of that: it has a value exactly where the next
+-- token begins one.
+use Rattle.std.specs.Prelude.{◌≡◌, Bool, true, false, if◌then◌else◌, refl}
+use Rattle.rhai_lower.specs.Lexemes.{Lexeme, Faulty, Sign, UnterminatedString}
+use Rattle.rhai_lower.specs.declared.token.Token.{Token}
+use Rattle.rhai_lower.specs.declared.token.Token.TheVariants as token
+use Rattle.rhai_grammar.specs.Beginnings.{beginning, omits_operand}
+use Rattle.rhai_grammar.specs.Contexts.{Context, has_block_values}
+use Rattle.rhai_grammar.specs.Demands.{Verdict, Fine, Otherwise}
+use Rattle.rhai_grammar.specs.declared.role.Beginning.{Beginning}
+use Rattle.rhai_grammar.specs.declared.role.Beginning.TheVariants as begin
+use Rattle.rhai_grammar.specs.declared.role.OperandPlace.{OperandPlace}
+use Rattle.rhai_grammar.specs.declared.role.OperandPlace.TheVariants as place
+use Rattle.rhai_grammar.specs.declared.role.OperandStart.{OperandStart}
+use Rattle.rhai_grammar.specs.declared.role.OperandStart.TheVariants as start
+
+-- An operand begins so under this context: a block only where it may be a value.
+abbrev pub begins : Context → Beginning → Bool
+begins context begin.Nothing = false
+begins context begin.Block = has_block_values context
+begins context _ = true
+
+-- A token begins an expression if it begins an operand. An error of the tokenizer counts as a beginning too, so that it
+-- is this error that is refused after `return`.
+abbrev pub starts : Context → Lexeme → Bool
+starts context (Faulty f) = true
+starts context token = begins context (beginning token)
+
+-- ---- the place of an operand
+
+abbrev pub sign_place : Token → OperandPlace
+sign_place token.ExclusiveRange = place.AfterRange
+sign_place token.InclusiveRange = place.AfterRange
+sign_place token.DoubleQuestion = place.AfterCoalesce
+sign_place _ = place.Elsewhere
+
+-- the place directly after an operator
+abbrev pub place_after : Lexeme → OperandPlace
+place_after (Sign t) = sign_place t
+place_after _ = place.Elsewhere
+
+abbrev pub sign_jumps : Token → Bool
+sign_jumps token.Return = true
+sign_jumps token.Throw = true
+sign_jumps _ = false
+
+-- `return` or `throw`
+abbrev pub jumps : Lexeme → Bool
+jumps (Sign t) = sign_jumps t
+jumps _ = false
+
+abbrev pub sign_throws : Token → Bool
+sign_throws token.Throw = true
+sign_throws _ = false
+
+abbrev pub is_throw : Lexeme → Bool
+is_throw (Sign t) = sign_throws t
+is_throw _ = false
+
+-- its token
+abbrev pub jump_token : (throws : Bool) → Token
+jump_token true = token.Throw
+jump_token false = token.Return
+
+-- What a token is at a place: directly after a range operator some tokens say that the operand is omitted, and directly
+-- after `??` a jump may stand.
+abbrev pub operand_start : OperandPlace → Lexeme → OperandStart
+operand_start place.AfterRange token = if omits_operand token then start.Omitted else start.Written
+operand_start place.AfterCoalesce token = if jumps token then start.Jump else start.Written
+operand_start place.Elsewhere token = start.Written
+
+abbrev pub is_omitted : OperandStart → Bool
+is_omitted start.Omitted = true
+is_omitted _ = false
+
+abbrev pub is_jump : OperandStart → Bool
+is_jump start.Jump = true
+is_jump _ = false
+
+-- ---- the value of a jump
+
+-- an absent one is followed by what begins no expression
+abbrev pub no_value_follows : Context → Lexeme → Verdict
+no_value_follows context token = if starts context token then Otherwise else Fine
+
+abbrev pub value_follows : Context → Lexeme → Verdict
+value_follows context token = if starts context token then Fine else Otherwise
+
+-- `return` stands in place of an operand after `??` alone, and an error of the tokenizer begins an expression.
+example : (operand_start (place_after (Sign token.DoubleQuestion)) (Sign token.Return) ≡ start.Jump)
+    × (operand_start (place_after (Sign token.Plus)) (Sign token.Return) ≡ start.Written)
+    × ((context : Context) → starts context (Faulty UnterminatedString) ≡ true)
+    × ((context : Context) → starts context (Sign token.RightParen) ≡ false)
+example = (refl, refl, λ context. refl, λ context. refl)

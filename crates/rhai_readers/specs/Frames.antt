@@ -1,0 +1,18 @@
+-- What a form stands in where a reader reads it.
+use Rattle.rhai_grammar.specs.Contexts.{Context, Live}
+use Rattle.rhai_base.specs.Frames.{FrameValue}
+use Rattle.rhai_base.specs.Settings.{settings_of}
+use Rattle.rhai_base.specs.declared.settings.ParseSettings.{ParseSettings}
+use Rattle.rhai_readers.specs.Languages.{LanguageValue, sizes_of}
+
+-- what goes down into it, where it is read under these settings
+abbrev pub context_of : LanguageValue → ParseSettings → Context
+context_of language settings = record {
+  settings = settings_of settings;
+  options = language.options;
+  sizes = sizes_of language;
+}
+
+-- what was defined before it
+abbrev pub live_of : FrameValue → Live
+live_of frame = frame.live

@@ -1,0 +1,4 @@
+pub mod Asks
+pub mod Frames
+pub mod Languages
+pub mod Readers

@@ -1,0 +1,182 @@
+-- How the contracts of the readers speak of what they read and what they leave.
+use Rattle.std.specs.Prelude.{◌≡◌, ◌≤◌, ℕ, Bool, List, Option, Result, Vec}
+use Rattle.std.specs.declared.alloc.Global.{Global}
+use Rattle.std.specs.declared.rc.RcStr.{RcStr}
+use Rattle.std.specs.Rc.{rc_str_bytes}
+use Rattle.rhai_lower.specs.Texts.{Text}
+use Rattle.rhai_lower.specs.Nodes.{Node, Nodes, Properties, Statements}
+use Rattle.rhai_lower.specs.View.{property_views, statement_views, views}
+use Rattle.rhai_lower.specs.declared.ast.Expr.{Expr}
+use Rattle.rhai_lower.specs.declared.ast.Ident.{Ident}
+use Rattle.rhai_lower.specs.declared.ast.Stmt.{Stmt}
+use Rattle.rhai_lower.specs.declared.position.Position.{Position}
+use Rattle.rhai_grammar.specs.Contexts.{Live}
+use Rattle.rhai_grammar.specs.declared.role.Closing.{Closing}
+use Rattle.rhai_grammar.specs.declared.role.OperandPlace.{OperandPlace}
+use Rattle.rhai_grammar.specs.Chains as chain
+use Rattle.rhai_grammar.specs.Cursors.{Cursor, cursor_of, left}
+use Rattle.rhai_grammar.specs.Spots.{spot_after_operand}
+use Rattle.rhai_grammar.specs.declared.error.ParseError.{ParseError}
+use Rattle.rhai_reading.specs.Reading as reading
+use Rattle.rhai_reading.specs.Reading.{Goal, Val}
+use Rattle.rhai_reading.specs.Running.{Gives, result_of}
+use Rattle.rhai_trees.specs.Chains.{link_views}
+use Rattle.rhai_trees.specs.declared.chain.Link.{Link}
+use Rattle.rhai_base.specs.Frames.{FrameValue}
+use Rattle.rhai_base.specs.declared.leaves.names.Call.{Call}
+use Rattle.rhai_base.specs.declared.leaves.strings.TextPart.{TextPart}
+use Rattle.rhai_base.specs.declared.settings.ParseSettings.{ParseSettings}
+use Rattle.rhai_readers.specs.Languages.{LanguageValue}
+use Rattle.rhai_readers.specs.Frames.{context_of, live_of}
+use Rattle.rhai_readers.specs.declared.shared.Shared.{Shared}
+
+-- ---- what is read, by the language, the frame and the settings that it is read under
+
+-- an expression up to the end mark
+abbrev pub whole : LanguageValue → FrameValue → ParseSettings → Goal
+whole language frame settings = reading.Whole (context_of language settings) (live_of frame)
+
+abbrev pub expression : LanguageValue → FrameValue → ParseSettings → Goal
+expression language frame settings = reading.Expression (context_of language settings) (live_of frame)
+
+-- an operand with its signs and its call, at this place
+abbrev pub operand : LanguageValue → FrameValue → ParseSettings → OperandPlace → Goal
+operand language frame settings place = reading.Operand (context_of language settings) (live_of frame) place
+
+abbrev pub primary : LanguageValue → FrameValue → ParseSettings → Goal
+primary language frame settings = reading.Primary (context_of language settings) (live_of frame)
+
+-- what calls an operand, if it is a variable
+abbrev pub postfix : LanguageValue → FrameValue → ParseSettings → (operand : Node) → Goal
+postfix language frame settings operand = reading.Postfix (context_of language settings) (live_of frame) operand
+
+-- what calls a name
+abbrev pub called : LanguageValue → FrameValue → ParseSettings → Goal
+called language frame settings = reading.Called (context_of language settings) (live_of frame) settings.pos
+
+-- the arguments after a `(`
+abbrev pub arguments : LanguageValue → FrameValue → ParseSettings → Goal
+arguments language frame settings = reading.Arguments (context_of language settings) (live_of frame) settings.pos
+
+-- an argument, and those that follow, after these
+abbrev pub items : LanguageValue → FrameValue → ParseSettings → (before : Nodes) → Goal
+items language frame settings before = reading.Items (context_of language settings) (live_of frame) before
+
+-- the items of an array, after these
+abbrev pub elements : LanguageValue → FrameValue → ParseSettings → (before : Nodes) → Goal
+elements language frame settings before =
+    reading.Elements (context_of language settings) (live_of frame) settings.pos before
+
+-- the properties of an object map, after these
+abbrev pub fields : LanguageValue → FrameValue → ParseSettings → (before : Properties) → Goal
+fields language frame settings before =
+    reading.Fields (context_of language settings) (live_of frame) settings.pos before
+
+-- the blocks and texts of an interpolated string, after these segments
+abbrev pub segments : LanguageValue → FrameValue → ParseSettings → (before : Nodes) → Goal
+segments language frame settings before =
+    reading.Segments (context_of language settings) (live_of frame) settings.pos before
+
+-- what follows `return` or `throw`
+abbrev pub jump : LanguageValue → FrameValue → ParseSettings → Goal
+jump language frame settings = reading.Jump (context_of language settings) (live_of frame) settings.pos
+
+-- the links after an operand
+abbrev pub links : LanguageValue → FrameValue → ParseSettings → (root : Node) → Goal
+links language frame settings root =
+    reading.Links (live_of frame) (spot_after_operand (context_of language settings) root)
+
+-- the index in a bracket; whose index it is, if that is tested
+abbrev pub index : LanguageValue → FrameValue → ParseSettings → (indexed : Option Node) → Goal
+index language frame settings indexed = reading.Index (context_of language settings) (live_of frame) indexed
+
+-- the member after a dot
+abbrev pub member : LanguageValue → FrameValue → ParseSettings → Goal
+member language frame settings = reading.Member (context_of language settings) (live_of frame)
+
+-- the operators after a left operand that go on with a run of this strength
+abbrev pub binary_op : LanguageValue → FrameValue → ParseSettings → (at : Position) (parent : ℕ) (lhs : Node)
+    → Goal
+binary_op language frame settings at parent lhs =
+    reading.BinaryOp (context_of language settings) (live_of frame) at parent lhs
+
+-- an expression or an assignment
+abbrev pub expr_statement : LanguageValue → FrameValue → ParseSettings → Goal
+expr_statement language frame settings = reading.ExprStatement (context_of language settings) (live_of frame)
+
+-- the name of a definition
+abbrev pub var_name : LanguageValue → FrameValue → ParseSettings → Goal
+var_name language frame settings = reading.VarName (context_of language settings) (live_of frame)
+
+-- the value of a definition
+abbrev pub initializer : LanguageValue → FrameValue → ParseSettings → Goal
+initializer language frame settings = reading.Initializer (context_of language settings) (live_of frame) settings.pos
+
+-- a definition after its keyword
+abbrev pub definition : LanguageValue → FrameValue → ParseSettings → (constant : Bool) → Goal
+definition language frame settings constant =
+    reading.Definition (context_of language settings) (live_of frame) settings.pos constant
+
+abbrev pub statement : LanguageValue → FrameValue → ParseSettings → Goal
+statement language frame settings = reading.Statement (context_of language settings) (live_of frame)
+
+-- the statements of a list, after these
+abbrev pub statements : LanguageValue → FrameValue → ParseSettings → Closing → (before : Statements) → Goal
+statements language frame settings closing before =
+    reading.Statements closing (context_of language settings) (live_of frame) before
+
+-- the statements of a block, up to its `}`
+abbrev pub inside : LanguageValue → FrameValue → ParseSettings → Goal
+inside language frame settings = reading.Inside (context_of language settings) (live_of frame)
+
+-- a block after its `{`
+abbrev pub block : LanguageValue → FrameValue → ParseSettings → Goal
+block language frame settings = reading.Block (context_of language settings) (live_of frame) settings.pos
+
+-- ---- what comes of it
+
+-- lists of the code's nodes, properties and links
+abbrev pub views_of : Vec Expr Global → Nodes
+views_of es = views es.items
+
+abbrev pub properties_of : Vec (Ident × Expr) Global → Properties
+properties_of ps = property_views ps.items
+
+abbrev pub linked : Vec Link Global → List chain.Link
+linked ls = link_views ls.items
+
+-- the `}` of a block in an interpolated string, and the text after it
+abbrev pub text_view : TextPart → Position × Text × Bool × Position
+text_view part = (part.end, rc_str_bytes part.text, part.last, part.pos)
+
+-- what calls a name: whether it has a `!`, and the arguments
+abbrev pub call_view : Call → Bool × Nodes
+call_view c = (c.bang, views_of c.args)
+
+abbrev pub statements_of : Vec Stmt Global → Statements
+statements_of ss = statement_views ss.items
+
+-- what a reader returned, and what is live after it
+abbrev pub with_live : {X A : Type 0} → (X → A) → FrameValue → X → A × Live
+with_live view frame x = (view x, live_of frame)
+
+-- a name and its position
+abbrev pub name_view : RcStr Global × Position → Text × Position
+name_view n = (rc_str_bytes n.0, n.1)
+
+-- what is left to read
+abbrev pub state_of : Shared → Cursor
+state_of s = cursor_of s.input.now
+
+-- Each reference is still the one that was lent.
+pub record SameLoans (old new : Shared) : Type 0 where
+  pub input : new.input.ghost_name ≡ old.input.ghost_name
+
+-- Each reference is still the one that was lent, and no more is left to read.
+pub record GoesOn (old new : Shared) : Type 0 where
+  pub same : SameLoans old new
+  pub shorter : left (state_of new).tokens ≤ left (state_of old).tokens
+
+-- What a reader returned, seen by view, is what the goal gives, and so is what it left; unless memory ran out.
+abbrev pub Reads : {X : Type 0} (g : Goal) → (X → Val g) → Shared → Result X ParseError → Shared → Type 0
+Reads g view old result new = Gives view (result_of g (state_of old)) result (state_of new)

@@ -1,0 +1,165 @@
+//! Chains: the brackets and dots after an operand, and calls.
+
+ghost use Rattle.std.specs.Prelude.{◌≡◌, false, option_map};
+ghost use Rattle.rhai_lower.specs.View.{view};
+ghost use Rattle.rhai_grammar.specs.Cursors.{asked, cursor_of};
+ghost use Rattle.rhai_grammar.specs.Delivered.{is_end};
+ghost use Rattle.rhai_readers.specs.Readers.{GoesOn, Reads, call_view, called, index, links, linked, member};
+
+use crate::asks::end_index;
+use crate::language::Language;
+use crate::shared::Shared;
+use rhai_base::cursor::{peek, skip};
+use rhai_base::leaves::due::arguments_due;
+use rhai_base::leaves::links::{is_name, is_negated, member_due, what_links};
+use rhai_base::leaves::names::{Call, make_method};
+use rhai_base::leaves::refusals::reserved;
+use rhai_base::leaves::tokens::{is_called, what_calls};
+use rhai_base::{Frame, ParseSettings};
+use rhai_grammar::{Calling, Linking, ParseResult};
+use rhai_lower::Expr;
+use rhai_trees::{Link, LinkKind, indexed_operand, test_links};
+
+#[tactic(auto, using(crate::proofs::Readers::chains))]
+impl Language {
+    /// Reads what calls the name before it; without that, there is no `!` and no argument. A raise of the arguments'
+    /// level is refused where the settings stand.
+    #[cycle(parser)]
+    pub(crate) fn parse_call(
+        &self,
+        shared: &mut Shared<'_>,
+        frame: &Frame<'_>,
+        settings: ParseSettings,
+    ) -> ParseResult<Call>
+        ensures goes_on { GoesOn shared.old shared.new }
+        ensures reads { Reads (called self.now frame.now settings) call_view shared.old result shared.new }
+    {
+        let (token, _) = peek(shared.input)?;
+        let mut calling = what_calls(token);
+        let bang = matches!(calling, Calling::Bang);
+        if bang {
+            skip(shared.input);
+            calling = arguments_due(self.alloc(), shared.input)?;
+        }
+        match calling {
+            Calling::Pair => {
+                skip(shared.input);
+                Ok(Call {
+                    bang,
+                    args: Vec::new(self.alloc()),
+                })
+            }
+            Calling::List => {
+                skip(shared.input);
+                let args = self.parse_fn_call_args(shared, frame, settings)?;
+                Ok(Call { bang, args })
+            }
+            Calling::Bang | Calling::Nothing => Ok(Call {
+                bang,
+                args: Vec::new(self.alloc()),
+            }),
+        }
+    }
+
+    /// Reads the brackets and dots after the operand `lhs`, up to what is none. A bracket raises the level, and its
+    /// index once more; a dot raises that of all to its right.
+    #[cycle(parser)]
+    pub(crate) fn parse_links(
+        &self,
+        shared: &mut Shared<'_>,
+        frame: &Frame<'_>,
+        settings: ParseSettings,
+        lhs: &Expr,
+    ) -> ParseResult<Vec<Link>>
+        ensures goes_on { GoesOn shared.old shared.new }
+        ensures reads { Reads (links self.now frame.now settings (view lhs.now)) linked shared.old result shared.new }
+    {
+        let mut settings = settings;
+        let mut brackets = settings;
+        let mut links = Vec::new(self.alloc());
+        loop {
+            let (token, pos) = peek(shared.input)?;
+            let pos = *pos;
+            let negated = is_negated(token);
+            match what_links(token) {
+                Linking::Bracket => {
+                    skip(shared.input);
+                    brackets = brackets.at(pos).level_up()?;
+                    let deeper = brackets.level_up()?;
+                    let indexed = indexed_operand(lhs, &links);
+                    let item = self.parse_index(shared, frame, deeper, indexed)?;
+                    links.push(Link {
+                        kind: LinkKind::Index,
+                        negated,
+                        pos,
+                        item,
+                    })?;
+                    continue;
+                }
+                Linking::Dot => {
+                    skip(shared.input);
+                    member_due(shared.input)?;
+                    settings = settings.at(pos).level_up()?;
+                    brackets = settings;
+                    let item = self.parse_member(shared, frame, settings)?;
+                    links.push(Link {
+                        kind: LinkKind::Dot,
+                        negated,
+                        pos,
+                        item,
+                    })?;
+                    continue;
+                }
+                Linking::Nothing => {
+                    test_links(self.alloc(), &links)?;
+                    return Ok(links);
+                }
+            }
+        }
+    }
+
+    /// Reads the index in a bracket, up to the `]`. It is tested for the operand that the bracket stands after, if
+    /// there is one.
+    #[cycle(parser)]
+    fn parse_index(
+        &self,
+        shared: &mut Shared<'_>,
+        frame: &Frame<'_>,
+        settings: ParseSettings,
+        indexed: Option<&Expr>,
+    ) -> ParseResult<Expr>
+        ensures goes_on { GoesOn shared.old shared.new }
+        ensures reads { Reads (index self.now frame.now settings (option_map (λ x.
+            view x.now) indexed.entry)) view shared.old result shared.new }
+    {
+        let index = self.parse_expr(shared, frame, settings)?;
+        end_index(self.alloc(), shared.input, indexed, index)
+    }
+
+    /// Reads the member after a dot: a property, or a call of a method. The caller has looked at it.
+    #[cycle(parser)]
+    fn parse_member(
+        &self,
+        shared: &mut Shared<'_>,
+        frame: &Frame<'_>,
+        settings: ParseSettings,
+    ) -> ParseResult<Expr>
+        requires { is_end (asked (cursor_of shared.now.input.now)).lexeme ≡ false }
+        ensures goes_on { GoesOn shared.old shared.new }
+        ensures reads { Reads (member self.now frame.now settings) view shared.old result shared.new }
+    {
+        let (token, pos) = peek(shared.input)?;
+        let pos = *pos;
+        let name = token.text(self.alloc())?;
+        let is_name = is_name(token);
+        skip(shared.input);
+        if is_called(shared.input)? {
+            let call = self.parse_call(shared, frame, settings.at(pos))?;
+            return Ok(make_method(self.alloc(), name, pos, call)?);
+        }
+        if is_name {
+            return Ok(Expr::Property(name, pos));
+        }
+        Err(reserved(name, pos))
+    }
+}

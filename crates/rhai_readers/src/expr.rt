@@ -1,0 +1,275 @@
+//! Expressions: operands with their signs and calls, joined by binary operators.
+
+ghost use Rattle.rhai_lower.specs.Nodes.{no_nodes, position_of};
+ghost use Rattle.rhai_lower.specs.View.{view};
+ghost use Rattle.rhai_readers.specs.Readers.{GoesOn, Reads, arguments, binary_op, expression, items, operand, postfix};
+ghost use Rattle.rhai_readers.specs.Readers.{primary, views_of, whole};
+
+use crate::asks::next_operator;
+use crate::language::Language;
+use crate::shared::Shared;
+use rhai_base::cursor::{peek, skip, take};
+use rhai_base::leaves::due::{end_due, match_token};
+use rhai_base::leaves::lists::{closes_list, list_continues};
+use rhai_base::leaves::names::{as_variable, make_call, name_node, word_node};
+use rhai_base::leaves::refusals::{missing, no_operand};
+use rhai_base::leaves::tokens::{
+    is_called, is_no_argument, is_sign, is_throw, place_after, value_of, what_begins, what_operand,
+};
+use rhai_base::{Frame, LangOptions, ParseSettings};
+use rhai_grammar::{Beginning, CommaList, DueToken, OperandPlace, OperandStart, ParseResult};
+use rhai_lower::Expr;
+use rhai_trees::{make_binary, make_block_value, make_chain, make_jump_value, make_unary};
+
+#[tactic(auto, using(crate::proofs::Readers::expressions))]
+impl Language {
+    /// Reads an operand without its sign, and without what calls it.
+    #[cycle(parser)]
+    fn parse_primary(
+        &self,
+        shared: &mut Shared<'_>,
+        frame: &Frame<'_>,
+        settings: ParseSettings,
+    ) -> ParseResult<Expr>
+        ensures goes_on { GoesOn shared.old shared.new }
+        ensures reads { Reads (primary self.now frame.now settings) view shared.old result shared.new }
+    {
+        let (token, pos) = peek(shared.input)?;
+        let pos = *pos;
+        match what_begins(token) {
+            Beginning::Value => {
+                let value = value_of(token, pos)?;
+                skip(shared.input);
+                Ok(value)
+            }
+            Beginning::Name => {
+                let name = token.text(self.alloc())?;
+                skip(shared.input);
+                let called = is_called(shared.input)?;
+                Ok(name_node(self.alloc(), frame, name, called, pos)?)
+            }
+            Beginning::Word => {
+                let word = token.text(self.alloc())?;
+                skip(shared.input);
+                let called = is_called(shared.input)?;
+                word_node(self.alloc(), settings, word, called, pos)
+            }
+            Beginning::Group => {
+                skip(shared.input);
+                let deeper = settings.at(pos).level_up()?;
+                let inside = self.parse_expr(shared, frame, deeper)?;
+                let note = "to close the parentheses";
+                match_token(self.alloc(), shared.input, DueToken::RightParen, note)?;
+                Ok(inside)
+            }
+            Beginning::Array => {
+                skip(shared.input);
+                let deeper = settings.at(pos).level_up()?;
+                let items = self.parse_array_literal(shared, frame, deeper)?;
+                Ok(Expr::Array(items, pos))
+            }
+            Beginning::Map => {
+                skip(shared.input);
+                let deeper = settings.at(pos).level_up()?;
+                let properties = self.parse_map_literal(shared, frame, deeper)?;
+                Ok(Expr::Map(properties, pos))
+            }
+            Beginning::Interpolated => {
+                let first = token.text(self.alloc())?;
+                skip(shared.input);
+                let deeper = settings.at(pos).level_up()?;
+                let segments = self.parse_interpolated_string(shared, frame, deeper, first)?;
+                Ok(Expr::InterpolatedString(segments, pos))
+            }
+            Beginning::Block => {
+                if !settings.has_option(LangOptions::STMT_EXPR) {
+                    return Err(no_operand(self.alloc(), token, pos));
+                }
+                skip(shared.input);
+                let deeper = settings.at(pos).level_up()?.level_up()?;
+                let block = self.parse_block(shared, frame, deeper)?;
+                Ok(make_block_value(self.alloc(), block)?)
+            }
+            Beginning::Range => Ok(Expr::IntegerConstant(0, pos)),
+            Beginning::Sign | Beginning::Nothing => Err(no_operand(self.alloc(), token, pos)),
+        }
+    }
+
+    /// Reads what calls an operand, if it is a name.
+    #[cycle(parser)]
+    fn parse_postfix(
+        &self,
+        shared: &mut Shared<'_>,
+        frame: &Frame<'_>,
+        settings: ParseSettings,
+        operand: Expr,
+    ) -> ParseResult<Expr>
+        ensures goes_on { GoesOn shared.old shared.new }
+        ensures reads { Reads (postfix self.now frame.now settings (view operand)) view shared.old result shared.new }
+    {
+        if !is_called(shared.input)? {
+            return Ok(operand);
+        }
+        let (name, pos) = match as_variable(operand) {
+            Ok(variable) => variable,
+            Err(other) => return Ok(other),
+        };
+        let call = self.parse_call(shared, frame, settings.at(pos))?;
+        Ok(make_call(self.alloc(), name, pos, call)?)
+    }
+
+    /// Reads the arguments after the `(` of a call. A raise of their level is refused where the settings stand.
+    #[cycle(parser)]
+    pub(crate) fn parse_fn_call_args(
+        &self,
+        shared: &mut Shared<'_>,
+        frame: &Frame<'_>,
+        settings: ParseSettings,
+    ) -> ParseResult<Vec<Expr>>
+        ensures goes_on { GoesOn shared.old shared.new }
+        ensures reads { Reads (arguments self.now frame.now settings) views_of shared.old result shared.new }
+    {
+        let (token, pos) = peek(shared.input)?;
+        if is_no_argument(token) {
+            let note = "to close the arguments of a call";
+            return Err(missing(self.alloc(), ")", note, token, *pos));
+        }
+        if closes_list(CommaList::Arguments, token) {
+            skip(shared.input);
+            return Ok(Vec::new(self.alloc()));
+        }
+        let settings = settings.level_up()?;
+        self.parse_items(shared, frame, settings)
+    }
+
+    /// Reads an argument, and those that follow, up to the `)`.
+    #[cycle(parser)]
+    fn parse_items(
+        &self,
+        shared: &mut Shared<'_>,
+        frame: &Frame<'_>,
+        settings: ParseSettings,
+    ) -> ParseResult<Vec<Expr>>
+        ensures goes_on { GoesOn shared.old shared.new }
+        ensures reads { Reads (items self.now frame.now settings no_nodes) views_of shared.old result shared.new }
+    {
+        let mut items = Vec::new(self.alloc());
+        loop {
+            let item = self.parse_expr(shared, frame, settings)?;
+            items.push(item)?;
+            if !list_continues(self.alloc(), shared.input, CommaList::Arguments)? {
+                return Ok(items);
+            }
+            let (token, _) = peek(shared.input)?;
+            if closes_list(CommaList::Arguments, token) {
+                skip(shared.input);
+                return Ok(items);
+            }
+        }
+    }
+
+    /// Reads an operand with its signs and its call. What it may be depends on its place:
+    /// after a range operator it may be missing, and after `??` a jump may stand.
+    #[cycle(parser)]
+    fn parse_unary(
+        &self,
+        shared: &mut Shared<'_>,
+        frame: &Frame<'_>,
+        settings: ParseSettings,
+        place: OperandPlace,
+    ) -> ParseResult<Expr>
+        ensures goes_on { GoesOn shared.old shared.new }
+        ensures reads { Reads (operand self.now frame.now settings place) view shared.old result shared.new }
+    {
+        let (token, pos) = peek(shared.input)?;
+        match what_operand(place, token) {
+            OperandStart::Omitted => return Ok(Expr::Unit(*pos)),
+            OperandStart::Jump => {
+                let (jump, pos) = take(shared.input);
+                let value = self.parse_jump(shared, frame, settings.at(pos))?;
+                return Ok(make_jump_value(self.alloc(), value, is_throw(&jump), pos)?);
+            }
+            OperandStart::Written => {}
+        }
+        if is_sign(token) {
+            let (sign, pos) = take(shared.input);
+            let settings = settings.at(pos).level_up()?;
+            let operand = self.parse_unary(shared, frame, settings, OperandPlace::Elsewhere)?;
+            return make_unary(self.alloc(), sign, pos, operand);
+        }
+        let primary = self.parse_primary(shared, frame, settings)?;
+        let operand = self.parse_postfix(shared, frame, settings, primary)?;
+        let links = self.parse_links(shared, frame, settings, &operand)?;
+        Ok(make_chain(self.alloc(), operand, links)?)
+    }
+
+    /// Reads the operators and operands after `lhs` that go on with a run on the right of an operator of strength
+    /// `parent`. A raise of the level is refused at `lhs`, and from the first operator on at the one before.
+    #[cycle(parser)]
+    fn parse_binary_op(
+        &self,
+        shared: &mut Shared<'_>,
+        frame: &Frame<'_>,
+        settings: ParseSettings,
+        parent: u8,
+        lhs: Expr,
+    ) -> ParseResult<Expr>
+        ensures goes_on { GoesOn shared.old shared.new }
+        ensures reads { Reads (binary_op self.now frame.now settings (position_of (view lhs)) parent (view lhs)) view
+            shared.old result shared.new }
+    {
+        let mut settings = settings.at(lhs.position());
+        let mut lhs = lhs;
+        loop {
+            let Some(operator) = next_operator(self.alloc(), shared.input)? else {
+                return Ok(lhs);
+            };
+            if !operator.continues(parent) {
+                return Ok(lhs);
+            }
+            let (op_token, pos) = take(shared.input);
+            let rhs = self.parse_unary(shared, frame, settings, place_after(&op_token))?;
+            // A reserved symbol after the operand is refused before the level is raised.
+            next_operator(self.alloc(), shared.input)?;
+            let deeper = settings.level_up_in_run(pos)?;
+            let rhs = self.parse_binary_op(shared, frame, deeper.side, operator.strength, rhs)?;
+            lhs = match make_binary(self.alloc(), op_token, pos, lhs, rhs) {
+                Ok(joined) => joined,
+                Err(error) => return Err(error),
+            };
+            settings = deeper.next;
+        }
+    }
+
+    /// Reads an expression. The level is raised at its first token.
+    #[cycle(parser)]
+    pub(crate) fn parse_expr(
+        &self,
+        shared: &mut Shared<'_>,
+        frame: &Frame<'_>,
+        settings: ParseSettings,
+    ) -> ParseResult<Expr>
+        ensures goes_on { GoesOn shared.old shared.new }
+        ensures reads { Reads (expression self.now frame.now settings) view shared.old result shared.new }
+    {
+        let (_, pos) = peek(shared.input)?;
+        let settings = settings.at(*pos).level_up()?;
+        let lhs = self.parse_unary(shared, frame, settings, OperandPlace::Elsewhere)?;
+        self.parse_binary_op(shared, frame, settings, 1, lhs)
+    }
+
+    /// Reads an expression that the end mark follows.
+    pub fn parse_whole_expr(
+        &self,
+        shared: &mut Shared<'_>,
+        frame: &Frame<'_>,
+        settings: ParseSettings,
+    ) -> ParseResult<Expr>
+        ensures goes_on { GoesOn shared.old shared.new }
+        ensures reads { Reads (whole self.now frame.now settings) view shared.old result shared.new }
+    {
+        let expr = self.parse_expr(shared, frame, settings)?;
+        end_due(self.alloc(), shared.input)?;
+        Ok(expr)
+    }
+}

@@ -1,0 +1,13 @@
+//! The readers: what takes tokens and may come to read an expression. The parser's entries stand on them.
+#![tactic(auto)]
+
+mod asks;
+mod chain;
+mod expr;
+pub mod language;
+mod literals;
+pub mod shared;
+mod stmt;
+
+pub use language::Language;
+pub use shared::Shared;

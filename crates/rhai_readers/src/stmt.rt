@@ -1,0 +1,229 @@
+//! Statements: their lists, definitions and blocks.
+
+ghost use Rattle.std.specs.Prelude.{◌≡◌, ◌+◌, ◌≤◌, IfOk, false, true};
+ghost use Rattle.rhai_lower.specs.Nodes.{no_statements};
+ghost use Rattle.rhai_lower.specs.View.{block_view, statement_view, view};
+ghost use Rattle.rhai_readers.specs.Readers.{GoesOn, Reads, block, definition, expr_statement, initializer, statement};
+ghost use Rattle.rhai_grammar.specs.Cursors.{left};
+ghost use Rattle.rhai_grammar.specs.Statements.{ends_itself};
+ghost use Rattle.rhai_readers.specs.Readers.{inside, jump, state_of, statements, statements_of, with_live};
+ghost use Rattle.rhai_trees.specs.Statements.{optional_view};
+
+use crate::asks::{end_assignment, end_block, next_var_name};
+use crate::language::Language;
+use crate::shared::Shared;
+use rhai_base::cursor::{peek, skip, take};
+use rhai_base::leaves::statements::{
+    assigns, has_value, list_ends, statement_continues, what_starts,
+};
+use rhai_base::leaves::tokens::starts_expression;
+use rhai_base::{Frame, ParseSettingFlags, ParseSettings};
+use rhai_grammar::{Closing, ParseResult, StatementStart};
+use rhai_lower::{Expr, Position, Stmt, StmtBlock};
+use rhai_trees::{
+    ends_itself, make_block_statement, make_definition, make_expression, make_jump, push_statement,
+};
+
+#[tactic(auto, using(crate::proofs::Readers::statements))]
+impl Language {
+    /// Reads the statements of a list, up to the token that closes it, which stays. The definitions among them are
+    /// made in the frame.
+    #[cycle(parser)]
+    pub fn parse_statements(
+        &self,
+        shared: &mut Shared<'_>,
+        frame: &mut Frame<'_>,
+        settings: ParseSettings,
+        closing: Closing,
+    ) -> ParseResult<Vec<Stmt>>
+        ensures goes_on { GoesOn shared.old shared.new }
+        ensures depth { frame.new.depth ≡ frame.old.depth }
+        ensures reads { Reads (statements self.now frame.old settings closing no_statements)
+            (with_live statements_of frame.new) shared.old result shared.new }
+    {
+        let mut statements = Vec::new(self.alloc());
+        loop {
+            if list_ends(self.alloc(), shared.input, closing)? {
+                return Ok(statements);
+            }
+            let statement = self.parse_stmt(shared, frame, settings)?;
+            let ended = ends_itself(&statement);
+            push_statement(&mut statements, statement)?;
+            if ended {
+                continue;
+            }
+            if statement_continues(self.alloc(), shared.input, closing)? {
+                continue;
+            }
+            return Ok(statements);
+        }
+    }
+
+    /// Reads a statement. The level is raised at its first token.
+    #[cycle(parser)]
+    fn parse_stmt(
+        &self,
+        shared: &mut Shared<'_>,
+        frame: &mut Frame<'_>,
+        settings: ParseSettings,
+    ) -> ParseResult<Stmt>
+        ensures goes_on { GoesOn shared.old shared.new }
+        ensures depth { frame.new.depth ≡ frame.old.depth }
+        ensures reads { Reads (statement self.now frame.old settings) (with_live statement_view frame.new) shared.old
+            result shared.new }
+        ensures takes { IfOk result (λ s. ends_itself (statement_view s) ≡ true
+            → left (state_of shared.new).tokens + 1 ≤ left (state_of shared.old).tokens) }
+    {
+        let (token, pos) = peek(shared.input)?;
+        let settings = settings.at(*pos);
+        match what_starts(token) {
+            StatementStart::Empty => {
+                skip(shared.input);
+                Ok(Stmt::Noop(settings.pos))
+            }
+            StatementStart::Block => {
+                skip(shared.input);
+                let deeper = settings.level_up()?.level_up()?;
+                let block = self.parse_block(shared, frame, deeper)?;
+                Ok(make_block_statement(self.alloc(), block)?)
+            }
+            StatementStart::Let => {
+                skip(shared.input);
+                self.parse_let(shared, frame, settings.level_up()?, false)
+            }
+            StatementStart::Const => {
+                skip(shared.input);
+                self.parse_let(shared, frame, settings.level_up()?, true)
+            }
+            StatementStart::Return => {
+                skip(shared.input);
+                let value = self.parse_jump(shared, frame, settings)?;
+                Ok(make_jump(self.alloc(), value, false, settings.pos)?)
+            }
+            StatementStart::Throw => {
+                skip(shared.input);
+                let value = self.parse_jump(shared, frame, settings)?;
+                Ok(make_jump(self.alloc(), value, true, settings.pos)?)
+            }
+            StatementStart::Expression => {
+                self.parse_expr_stmt(shared, frame, settings.level_up()?)
+            }
+        }
+    }
+
+    /// Reads a definition after its keyword, where the settings stand. Its slot is made after its value is read.
+    #[cycle(parser)]
+    fn parse_let(
+        &self,
+        shared: &mut Shared<'_>,
+        frame: &mut Frame<'_>,
+        settings: ParseSettings,
+        constant: bool,
+    ) -> ParseResult<Stmt>
+        ensures goes_on { GoesOn shared.old shared.new }
+        ensures depth { frame.new.depth ≡ frame.old.depth }
+        ensures reads { Reads (definition self.now frame.old settings constant) (with_live statement_view frame.new)
+            shared.old result shared.new }
+    {
+        let (name, _) = next_var_name(self, shared.input, frame, settings)?;
+        let value = self.parse_initializer(shared, frame, settings)?;
+        let number = frame.define(&name, constant)?;
+        Ok(make_definition(self.alloc(), name, value, number, constant, settings.pos)?)
+    }
+
+    /// Reads the value of a definition; without one it is unit. A raise of its level is refused where the settings
+    /// stand.
+    #[cycle(parser)]
+    fn parse_initializer(
+        &self,
+        shared: &mut Shared<'_>,
+        frame: &Frame<'_>,
+        settings: ParseSettings,
+    ) -> ParseResult<Expr>
+        ensures goes_on { GoesOn shared.old shared.new }
+        ensures reads { Reads (initializer self.now frame.now settings) view shared.old result shared.new }
+    {
+        if !has_value(shared.input)? {
+            return Ok(Expr::Unit(Position::NONE));
+        }
+        skip(shared.input);
+        self.parse_expr(shared, frame, settings.level_up()?)
+    }
+
+    /// Reads an expression or an assignment. What is assigned to is tested after the value is read.
+    #[cycle(parser)]
+    fn parse_expr_stmt(
+        &self,
+        shared: &mut Shared<'_>,
+        frame: &Frame<'_>,
+        settings: ParseSettings,
+    ) -> ParseResult<Stmt>
+        ensures goes_on { GoesOn shared.old shared.new }
+        ensures reads { Reads (expr_statement self.now frame.now settings) statement_view shared.old result shared.new }
+        ensures open { IfOk result (λ s. ends_itself (statement_view s) ≡ false) }
+    {
+        let target = self.parse_expr(shared, frame, settings)?;
+        if !assigns(shared.input)? {
+            return Ok(make_expression(self.alloc(), target)?);
+        }
+        let (op, pos) = take(shared.input);
+        let value = self.parse_expr(shared, frame, settings)?;
+        end_assignment(self.alloc(), frame, op, pos, target, value)
+    }
+
+    /// Reads a block after its `{`, where the settings stand, up to its `}`. Its definitions end with it.
+    #[cycle(parser)]
+    pub(crate) fn parse_block(
+        &self,
+        shared: &mut Shared<'_>,
+        frame: &Frame<'_>,
+        settings: ParseSettings,
+    ) -> ParseResult<StmtBlock>
+        ensures goes_on { GoesOn shared.old shared.new }
+        ensures reads { Reads (block self.now frame.now settings) block_view shared.old result shared.new }
+    {
+        let statements = self.parse_block_inside(shared, frame, settings)?;
+        end_block(self.alloc(), shared.input, statements, settings.pos)
+    }
+
+    /// Reads the statements of a block up to its `}`, which stays. Its definitions end with it.
+    #[cycle(parser)]
+    pub(crate) fn parse_block_inside(
+        &self,
+        shared: &mut Shared<'_>,
+        frame: &Frame<'_>,
+        settings: ParseSettings,
+    ) -> ParseResult<Vec<Stmt>>
+        ensures goes_on { GoesOn shared.old shared.new }
+        ensures reads { Reads (inside self.now frame.now settings) statements_of shared.old result shared.new }
+    {
+        if settings.has_flag(ParseSettingFlags::DISALLOW_STATEMENTS_IN_BLOCKS) {
+            let statement = self.parse_expr_stmt(shared, frame, settings)?;
+            return Ok(vec![in self.alloc(); statement]?);
+        }
+        let mut inner = frame.inner(self.alloc());
+        self.parse_statements(shared, &mut inner, settings, Closing::Brace)
+    }
+
+    /// Reads what follows `return` or `throw`, where the settings stand: a value, exactly where the next token begins
+    /// an expression. The level is raised with or without one.
+    #[cycle(parser)]
+    pub(crate) fn parse_jump(
+        &self,
+        shared: &mut Shared<'_>,
+        frame: &Frame<'_>,
+        settings: ParseSettings,
+    ) -> ParseResult<Option<Expr>>
+        ensures goes_on { GoesOn shared.old shared.new }
+        ensures reads { Reads (jump self.now frame.now settings) optional_view shared.old result shared.new }
+    {
+        let (token, _) = peek(shared.input)?;
+        let valued = starts_expression(settings, token);
+        let deeper = settings.level_up()?;
+        if !valued {
+            return Ok(None);
+        }
+        let value = self.parse_expr(shared, frame, deeper)?;
+        Ok(Some(value))
+    }
+}

@@ -1,0 +1,94 @@
+-- A dot with its member, as the reading program takes it.
+use Rattle.std.proofs.Common.{◌≡◌, ◌+◌, ◌≤◌, true, false, None, [], ◌∷◌, ◌++◌, sym, ap, ◌∙◌, subst, arith, if◌then◌else◌}
+use Rattle.rhai_lower.specs.Lexemes.{Lexeme}
+use Rattle.rhai_lower.specs.Nodes.{Node}
+use Rattle.rhai_lower.specs.declared.position.Position.{Position}
+use Rattle.rhai_grammar.specs.declared.role.Linking.TheVariants as link
+use Rattle.rhai_grammar.specs.Beginnings.{AMember, linking, member_place}
+use Rattle.rhai_grammar.specs.Causes.{refusal, ExprTooDeep, out_of_memory}
+use Rattle.rhai_grammar.specs.Contexts.{Context, Live, has_room, level_up}
+use Rattle.rhai_grammar.specs.Cursors.{Cursor, asked, looking, taking, left}
+use Rattle.rhai_grammar.specs.Delivered.{Item, item, is_end, is_memory}
+use Rattle.rhai_grammar.specs.Trees.{member_link}
+use Rattle.rhai_grammar.specs.Spots.{LinkSpot, spot_after_dot}
+use Rattle.rhai_reading.specs.Reading.{Fail, Ret, Call, Links, Member, dot_at, links_at}
+use Rattle.rhai_reading.specs.Running as R
+use Rattle.rhai_reading.specs.Running.{exec, result_of, guarded}
+use Rattle.rhai_reading.proofs.Steps.{step_links, guarded_is, and_then_done}
+
+-- From s a dot stands, whose member x ends at t.
+pub record TakesDot (w : Live) (q : LinkSpot) (x : Node) (s t : Cursor) : Type 0 where
+  pub readable : is_memory (asked s).lexeme ≡ false
+  pub dot : linking (asked s).lexeme ≡ link.Dot
+  pub readable_on : is_memory (asked (taking s)).lexeme ≡ false
+  pub due : member_place (asked (taking s)).lexeme ≡ AMember
+  pub room : has_room q.settings ≡ true
+  pub member : result_of (Member (level_up q.settings) w) (looking (taking s)) ≡ R.Done x t
+  pub after_dot : left (taking s).tokens + 1 ≤ left s.tokens
+  pub after_member : left t.tokens + 1 ≤ left s.tokens
+
+pub dot_taken : (w : Live) (q : LinkSpot) (x : Node) (s t : Cursor) → TakesDot w q x s t → result_of (Links w q) s ≡ result_of (Links w (spot_after_dot q (member_link (asked s).lexeme (asked s).at x))) t
+dot_taken w q x s t h =
+    let g = Links w q in
+    let call = guarded g s in
+    let l = (asked s).lexeme in
+    let at = (asked s).at in
+    let u = taking s in
+    let inner = guarded_is g s (Member (level_up q.settings) w) (looking u) (omega (arith, h.after_dot)) ∙ h.member in
+    let on = Links w (spot_after_dot q (member_link l at x)) in
+    step_links w q s
+    ∙ ap (λ m. if m then R.Refused out_of_memory (looking s) else exec call (links_at w q l at (linking l)) (looking s)) h.readable
+    ∙ ap (λ b. exec call (links_at w q l at b) (looking s)) h.dot
+    ∙ ap (λ m. if m then R.Refused out_of_memory (looking (looking s)) else (if is_memory (asked u).lexeme then R.Refused out_of_memory (looking u) else exec call (dot_at w q l at (asked u).at (member_place (asked u).lexeme)) (looking u))) h.readable
+    ∙ ap (λ m. if m then R.Refused out_of_memory (looking u) else exec call (dot_at w q l at (asked u).at (member_place (asked u).lexeme)) (looking u)) h.readable_on
+    ∙ ap (λ b. exec call (dot_at w q l at (asked u).at b) (looking u)) h.due
+    ∙ ap (λ b. exec call (if b then Call (Member (level_up q.settings) w) (λ y. Call (Links w (spot_after_dot q (member_link l at y))) Ret) else Fail (refusal ExprTooDeep at)) (looking u)) h.room
+    ∙ ap (λ o. R.and_then o (λ y v. exec call (Call (Links w (spot_after_dot q (member_link l at y))) Ret) v)) inner
+    ∙ and_then_done (call on t)
+    ∙ guarded_is g s on t (omega (arith, h.after_member))
+
+-- A dot with its member, as the code takes it: each step leaves a cursor, and none leaves more tokens than there were.
+pub record DotTaken (d : Context) (w : Live) (q next : LinkSpot) (l : Lexeme) (at : Position) (x : Node) (s s1 s2 s3 t : Cursor) : Type 0 where
+  pub token : item l at ≡ asked s
+  pub readable : is_memory (asked s).lexeme ≡ false
+  pub dot : linking l ≡ link.Dot
+  pub more : is_end l ≡ false
+  pub look : s1 ≡ looking s
+  pub took : s2 ≡ taking s1
+  pub shrinks : is_end (asked s1).lexeme ≡ false → left s2.tokens + 1 ≤ left s1.tokens
+  pub readable_on : is_memory (asked s2).lexeme ≡ false
+  pub due : member_place (asked s2).lexeme ≡ AMember
+  pub look_on : s3 ≡ looking s2
+  pub room : has_room q.settings ≡ true
+  pub deeper : d ≡ level_up q.settings
+  pub member : result_of (Member d w) s3 ≡ R.Done x t
+  pub member_short : left t.tokens ≤ left s3.tokens
+  pub joined : next ≡ record { settings = d; brackets = d; indexed = None; before = q.before ++ (member_link l at x ∷ []) }
+
+pub dot_short : {d : Context} {w : Live} {q next : LinkSpot} {l : Lexeme} {at : Position} {x : Node} {s s1 s2 s3 t : Cursor} → DotTaken d w q next l at x s s1 s2 s3 t → (left s2.tokens + 1 ≤ left s.tokens) × (left t.tokens + 1 ≤ left s.tokens)
+dot_short {d} {w} {q} {next} {l} {at} {x} {s} {s1} {s2} {s3} {t} h =
+    let more : is_end (asked s1).lexeme ≡ false = ap (λ (u : Cursor). is_end (asked u).lexeme) h.look ∙ ap (λ (i : Item). is_end i.lexeme) (sym h.token) ∙ h.more in
+    let same : left s1.tokens ≡ left s.tokens = ap (λ (u : Cursor). left u.tokens) h.look in
+    let same_on : left s3.tokens ≡ left s2.tokens = ap (λ (u : Cursor). left u.tokens) h.look_on in
+    let less = h.shrinks more in
+    (omega (arith, same, less), omega (arith, same, less, same_on, h.member_short))
+
+pub dot_goes_on : {d : Context} {w : Live} {q next : LinkSpot} {l : Lexeme} {at : Position} {x : Node} {s s1 s2 s3 t : Cursor} → DotTaken d w q next l at x s s1 s2 s3 t → result_of (Links w q) s ≡ result_of (Links w next) t
+dot_goes_on {d} {w} {q} {next} {l} {at} {x} {s} {s1} {s2} {s3} {t} h =
+    let there : s2 ≡ taking s = h.took ∙ ap taking h.look in
+    let looked : s3 ≡ looking (taking s) = h.look_on ∙ ap looking there in
+    let short = dot_short h in
+    let taken : TakesDot w q x s t = record {
+      readable = h.readable;
+      dot = ap (λ (i : Item). linking i.lexeme) (sym h.token) ∙ h.dot;
+      readable_on = ap (λ (u : Cursor). is_memory (asked u).lexeme) (sym there) ∙ h.readable_on;
+      due = ap (λ (u : Cursor). member_place (asked u).lexeme) (sym there) ∙ h.due;
+      room = h.room;
+      member = ap (λ (f : Context). result_of (Member f w) (looking (taking s))) (sym h.deeper) ∙ ap (result_of (Member d w)) (sym looked) ∙ h.member;
+      after_dot = subst (λ (u : Cursor). left u.tokens + 1 ≤ left s.tokens) there short.0;
+      after_member = short.1;
+    } in
+    dot_taken w q x s t taken
+    ∙ ap (λ (i : Item). result_of (Links w (spot_after_dot q (member_link i.lexeme i.at x))) t) (sym h.token)
+    ∙ ap (λ (f : Context). result_of (Links w (record { settings = f; brackets = f; indexed = None; before = q.before ++ (member_link l at x ∷ []) })) t) (sym h.deeper)
+    ∙ ap (λ p. result_of (Links w p) t) (sym h.joined)

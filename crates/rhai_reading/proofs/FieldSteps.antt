@@ -1,0 +1,83 @@
+-- The properties of an object map: the key first, and one more of them with the comma after it.
+use Rattle.std.proofs.Common.{◌≡◌, ◌+◌, ◌≤◌, true, false, Some, sym, ap, ◌∙◌, subst, arith, if◌then◌else◌}
+use Rattle.rhai_lower.specs.Texts.{Text}
+use Rattle.rhai_lower.specs.Nodes.{Node, Properties, with_property}
+use Rattle.rhai_lower.specs.declared.position.Position.{Position}
+use Rattle.rhai_grammar.specs.CommaLists.{after_part}
+use Rattle.rhai_grammar.specs.declared.list.AfterPart.TheVariants.{Comma}
+use Rattle.rhai_grammar.specs.declared.list.CommaList.TheVariants as lists
+use Rattle.rhai_grammar.specs.Causes.{ExprTooDeep, refusal, out_of_memory}
+use Rattle.rhai_grammar.specs.Contexts.{Context, Live, has_room, level_up}
+use Rattle.rhai_grammar.specs.Cursors.{Cursor, asked, looking, taking, left}
+use Rattle.rhai_grammar.specs.Delivered.{is_memory}
+use Rattle.rhai_reading.specs.Reading.{Ret, Fail, Call, Expression, Fields, NextKey, part_next, field_next, field_on}
+use Rattle.rhai_reading.specs.Running as R
+use Rattle.rhai_reading.specs.Running.{exec, result_of, guarded}
+use Rattle.rhai_reading.proofs.Steps.{step_fields, guarded_is, and_then_done}
+
+-- the equation of the properties of an object map, with the key as the code asks for it
+pub step_fields_key : (c : Context) (w : Live) (at : Position) (before : Properties) (s : Cursor)
+    → result_of (Fields c w at before) s ≡ R.and_then (result_of (NextKey c before) s) (λ v t. exec (guarded (Fields c w at before) s) (field_on c w at before v) t)
+step_fields_key c w at before s =
+    let g = Fields c w at before in
+    step_fields c w at before s
+    ∙ ap (λ o. R.and_then o (λ v t. exec (guarded g s) (field_on c w at before v) t)) (guarded_is g s (NextKey c before) s (omega arith))
+
+-- From s a property with this key and the value x stands, and a comma after it, after which the code is at t.
+pub record TakesField (c : Context) (w : Live) (before : Properties) (key : Text × Position) (x : Node) (s s1 s2 : Cursor) : Type 0 where
+  pub key_read : result_of (NextKey c before) s ≡ R.Done (Some key) s1
+  pub room : has_room c ≡ true
+  pub value : result_of (Expression (level_up c) w) s1 ≡ R.Done x s2
+  pub readable : is_memory (asked s2).lexeme ≡ false
+  pub comma : after_part lists.Map (asked s2).lexeme ≡ Comma
+  pub after_key : left s1.tokens ≤ left s.tokens
+  pub after_comma : left (taking s2).tokens + 1 ≤ left s.tokens
+
+pub field_taken : (c : Context) (w : Live) (opening : Position) (before : Properties) (key : Text × Position) (x : Node) (s s1 s2 : Cursor) → TakesField c w before key x s s1 s2 → result_of (Fields c w opening before) s ≡ result_of (Fields c w opening (with_property before key.0 key.1 x)) (taking s2)
+field_taken c w opening before key x s s1 s2 h =
+    let g = Fields c w opening before in
+    let call = guarded g s in
+    let ps = with_property before key.0 key.1 x in
+    let inner = guarded_is g s (Expression (level_up c) w) s1 (omega (arith, h.after_key)) ∙ h.value in
+    let on = Fields c w opening ps in
+    step_fields_key c w opening before s
+    ∙ ap (λ o. R.and_then o (λ v u. exec call (field_on c w opening before v) u)) h.key_read
+    ∙ ap (λ b. exec call (if b then Call (Expression (level_up c) w) (λ y. field_next c w opening (with_property before key.0 key.1 y)) else Fail (refusal ExprTooDeep opening)) s1) h.room
+    ∙ ap (λ o. R.and_then o (λ y u. exec call (field_next c w opening (with_property before key.0 key.1 y)) u)) inner
+    ∙ ap (λ m. if m then R.Refused out_of_memory (looking s2) else exec call (part_next lists.Map (Call on Ret) (Ret ps) (asked s2).lexeme (asked s2).at (after_part lists.Map (asked s2).lexeme)) (looking s2)) h.readable
+    ∙ ap (λ b. exec call (part_next lists.Map (Call on Ret) (Ret ps) (asked s2).lexeme (asked s2).at b) (looking s2)) h.comma
+    ∙ ap (λ m. if m then R.Refused out_of_memory (looking (looking s2)) else exec call (Call on Ret) (taking s2)) h.readable
+    ∙ and_then_done (call on (taking s2))
+    ∙ guarded_is g s on (taking s2) (omega (arith, h.after_comma))
+
+-- The same as the code takes it: each step leaves a cursor, and none leaves more tokens than there were.
+pub record FieldTaken (c d : Context) (w : Live) (before after : Properties) (key : Text × Position) (x : Node) (s s1 s2 t : Cursor) : Type 0 where
+  pub key_read : result_of (NextKey c before) s ≡ R.Done (Some key) s1
+  pub key_short : left s1.tokens ≤ left s.tokens
+  pub room : has_room c ≡ true
+  pub deeper : d ≡ level_up c
+  pub value : result_of (Expression d w) s1 ≡ R.Done x s2
+  pub value_short : left s2.tokens ≤ left s1.tokens
+  pub readable : is_memory (asked s2).lexeme ≡ false
+  pub comma : after_part lists.Map (asked s2).lexeme ≡ Comma
+  pub took : t ≡ taking s2
+  pub shrinks : left t.tokens + 1 ≤ left s2.tokens
+  pub joined : after ≡ with_property before key.0 key.1 x
+
+pub field_short : {c d : Context} {w : Live} {before after : Properties} {key : Text × Position} {x : Node} {s s1 s2 t : Cursor} → FieldTaken c d w before after key x s s1 s2 t → left t.tokens + 1 ≤ left s.tokens
+field_short h = omega (arith, h.key_short, h.value_short, h.shrinks)
+
+pub field_goes_on : {c d : Context} {w : Live} (opening : Position) {before after : Properties} {key : Text × Position} {x : Node} {s s1 s2 t : Cursor} → FieldTaken c d w before after key x s s1 s2 t → result_of (Fields c w opening before) s ≡ result_of (Fields c w opening after) t
+field_goes_on {c} {d} {w} opening {before} {after} {key} {x} {s} {s1} {s2} {t} h =
+    let taken : TakesField c w before key x s s1 s2 = record {
+      key_read = h.key_read;
+      room = h.room;
+      value = ap (λ (e : Context). result_of (Expression e w) s1) (sym h.deeper) ∙ h.value;
+      readable = h.readable;
+      comma = h.comma;
+      after_key = h.key_short;
+      after_comma = subst (λ (u : Cursor). left u.tokens + 1 ≤ left s.tokens) h.took (field_short h);
+    } in
+    field_taken c w opening before key x s s1 s2 taken
+    ∙ ap (λ ps. result_of (Fields c w opening ps) (taking s2)) (sym h.joined)
+    ∙ ap (result_of (Fields c w opening after)) (sym h.took)

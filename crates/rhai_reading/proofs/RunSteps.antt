@@ -1,0 +1,123 @@
+-- One operator of a run, with its right side, as the reading program takes it.
+use Rattle.std.proofs.Common.{◌≡◌, ℕ, ◌+◌, ◌≤◌, Bool, true, false, Option, Some, Ok, Err, sym, ap, ◌∙◌, subst, arith, if◌then◌else◌}
+use Rattle.rhai_lower.specs.Lexemes.{Lexeme}
+use Rattle.rhai_lower.specs.Nodes.{Node, position_of}
+use Rattle.rhai_lower.specs.declared.position.Position.{Position}
+use Rattle.rhai_grammar.specs.Starts.{place_after}
+use Rattle.rhai_grammar.specs.declared.role.OperandPlace.{OperandPlace}
+use Rattle.rhai_grammar.specs.Causes.{Refusal, refusal, ExprTooDeep, out_of_memory}
+use Rattle.rhai_grammar.specs.Cursors.{Cursor, asked, looking, taking, left}
+use Rattle.rhai_grammar.specs.Delivered.{Item, item, is_end, is_memory}
+use Rattle.rhai_grammar.specs.Operators.{operator_result}
+use Rattle.rhai_grammar.specs.Contexts.{Context, Live, has_room, level_up}
+use Rattle.rhai_reading.specs.Reading.{Ret, Fail, Peek, Call, NextOperator, Operand, BinaryOp, continues, raised, binary_at, binary_on, binary_right, binary_next}
+use Rattle.rhai_reading.specs.Running as R
+use Rattle.rhai_reading.specs.Running.{exec, result_of, guarded}
+use Rattle.rhai_reading.proofs.Steps.{step_binary_op, guarded_is, and_then_done}
+use Rattle.rhai_reading.proofs.Outcomes.{binary_done, binary_refused}
+
+-- From s an operator of strength n stands after the left operand, and its right side y ends at t.
+pub record TakesOne (c : Context) (w : Live) (parent n : ℕ) (right : Bool) (next : Option (ℕ × Bool)) (x y : Node) (s s1 s2 s3 t : Cursor) : Type 0 where
+  pub operator : result_of NextOperator s ≡ R.Done (Some (n, right)) s1
+  pub goes : continues parent n right ≡ true
+  pub readable : is_memory (asked s1).lexeme ≡ false
+  pub operand : result_of (Operand c w (place_after (asked s1).lexeme)) (taking s1) ≡ R.Done x s2
+  pub known : result_of NextOperator s2 ≡ R.Done next s3
+  pub room : has_room c ≡ true
+  pub side : result_of (BinaryOp (level_up c) w (position_of x) n x) s3 ≡ R.Done y t
+  pub after_operator : left (taking s1).tokens + 1 ≤ left s.tokens
+  pub after_operand : left s2.tokens + 1 ≤ left s.tokens
+  pub after_look : left s3.tokens + 1 ≤ left s.tokens
+  pub after_side : left t.tokens + 1 ≤ left s.tokens
+
+one_operator : (c : Context) (w : Live) (at : Position) (parent : ℕ) (lhs : Node) (n : ℕ) (right : Bool) (next : Option (ℕ × Bool)) (x y : Node) (s s1 s2 s3 t : Cursor) → TakesOne c w parent n right next x y s s1 s2 s3 t → result_of (BinaryOp c w at parent lhs) s ≡ exec (guarded (BinaryOp c w at parent lhs) s) (binary_next (level_up c) w parent lhs (asked s1).lexeme (asked s1).at y) t
+one_operator c w at parent lhs n right next x y s s1 s2 s3 t h =
+    let g = BinaryOp c w at parent lhs in
+    let first = guarded_is g s NextOperator s (omega arith) ∙ h.operator in
+    let second = guarded_is g s (Operand c w (place_after (asked s1).lexeme)) (taking s1) (omega (arith, h.after_operator)) ∙ h.operand in
+    let third = guarded_is g s NextOperator s2 (omega (arith, h.after_operand)) ∙ h.known in
+    let fourth = guarded_is g s (BinaryOp (level_up c) w (position_of x) n x) s3 (omega (arith, h.after_look)) ∙ h.side in
+    let call = guarded g s in
+    let op = (asked s1).lexeme in
+    let pos = (asked s1).at in
+    step_binary_op c w at parent lhs s
+    ∙ ap (λ o. R.and_then o (λ v u. exec call (binary_at c w at parent lhs v) u)) first
+    ∙ ap (λ b. exec call (if b then Peek (binary_on c w at parent lhs n) else Ret lhs) s1) h.goes
+    ∙ ap (λ m. if m then R.Refused out_of_memory (looking s1) else (if m then R.Refused out_of_memory (looking s1) else exec call (Call (Operand c w (place_after op)) (binary_right c w at parent lhs n op pos)) (taking s1))) h.readable
+    ∙ ap (λ o. R.and_then o (λ v u. exec call (binary_right c w at parent lhs n op pos v) u)) second
+    ∙ ap (λ o. R.and_then o (λ v u. exec call (raised c at (λ d. Call (BinaryOp d w (position_of x) n x) (binary_next d w parent lhs op pos))) u)) third
+    ∙ ap (λ b. exec call (if b then Call (BinaryOp (level_up c) w (position_of x) n x) (binary_next (level_up c) w parent lhs op pos) else Fail (refusal ExprTooDeep at)) s3) h.room
+    ∙ ap (λ o. R.and_then o (λ v u. exec call (binary_next (level_up c) w parent lhs op pos v) u)) fourth
+
+pub operator_taken : (c : Context) (w : Live) (at : Position) (parent : ℕ) (lhs : Node) (n : ℕ) (right : Bool) (next : Option (ℕ × Bool)) (x y z : Node) (s s1 s2 s3 t : Cursor) → TakesOne c w parent n right next x y s s1 s2 s3 t → operator_result (asked s1).lexeme (asked s1).at lhs y ≡ Ok z → result_of (BinaryOp c w at parent lhs) s ≡ result_of (BinaryOp (level_up c) w (asked s1).at parent z) t
+operator_taken c w at parent lhs n right next x y z s s1 s2 s3 t h e =
+    let g = BinaryOp c w at parent lhs in
+    one_operator c w at parent lhs n right next x y s s1 s2 s3 t h
+    ∙ binary_done (guarded g s) (level_up c) w parent lhs (asked s1).lexeme (asked s1).at y z t e
+    ∙ and_then_done (guarded g s (BinaryOp (level_up c) w (asked s1).at parent z) t)
+    ∙ guarded_is g s (BinaryOp (level_up c) w (asked s1).at parent z) t (omega (arith, h.after_side))
+
+pub operator_refused : (c : Context) (w : Live) (at : Position) (parent : ℕ) (lhs : Node) (n : ℕ) (right : Bool) (next : Option (ℕ × Bool)) (x y : Node) (r : Refusal) (s s1 s2 s3 t : Cursor) → TakesOne c w parent n right next x y s s1 s2 s3 t → operator_result (asked s1).lexeme (asked s1).at lhs y ≡ Err r → result_of (BinaryOp c w at parent lhs) s ≡ R.Refused r t
+operator_refused c w at parent lhs n right next x y r s s1 s2 s3 t h e =
+    one_operator c w at parent lhs n right next x y s s1 s2 s3 t h
+    ∙ binary_refused (guarded (BinaryOp c w at parent lhs) s) (level_up c) w parent lhs (asked s1).lexeme (asked s1).at y r t e
+
+-- An operator of a run with its right side, as the code takes it: each step leaves a cursor, and none leaves more tokens than were there.
+pub record Walked (c : Context) (w : Live) (parent n : ℕ) (right : Bool) (place : OperandPlace) (next : Option (ℕ × Bool)) (op : Lexeme) (pos : Position) (x y : Node) (d : Context) (s s1 s2 s3 s4 t : Cursor) : Type 0 where
+  pub operator : result_of NextOperator s ≡ R.Done (Some (n, right)) s1
+  pub goes : continues parent n right ≡ true
+  pub readable : is_memory (asked s).lexeme ≡ false
+  pub more : is_end (asked s).lexeme ≡ false
+  pub look : s1 ≡ looking s
+  pub token : item op pos ≡ asked s1
+  pub took : s2 ≡ taking s1
+  pub shrinks : is_end (asked s1).lexeme ≡ false → left s2.tokens + 1 ≤ left s1.tokens
+  pub stands : place ≡ place_after op
+  pub operand : result_of (Operand c w place) s2 ≡ R.Done x s3
+  pub operand_short : left s3.tokens ≤ left s2.tokens
+  pub known : result_of NextOperator s3 ≡ R.Done next s4
+  pub look_on : s4 ≡ looking s3
+  pub room : has_room c ≡ true
+  pub deeper : d ≡ level_up c
+  pub side : result_of (BinaryOp d w (position_of x) n x) s4 ≡ R.Done y t
+  pub side_short : left t.tokens ≤ left s4.tokens
+
+-- what is left after each step
+left_after : (s s1 s2 s3 s4 t : Cursor) → s1 ≡ looking s → left s2.tokens + 1 ≤ left s1.tokens → left s3.tokens ≤ left s2.tokens → s4 ≡ looking s3 → left t.tokens ≤ left s4.tokens → (left s2.tokens + 1 ≤ left s.tokens) × (left s3.tokens + 1 ≤ left s.tokens) × (left s4.tokens + 1 ≤ left s.tokens) × (left t.tokens + 1 ≤ left s.tokens)
+left_after s s1 s2 s3 s4 t look a b on e =
+    let first : left s1.tokens ≡ left s.tokens = ap (λ (u : Cursor). left u.tokens) look in
+    let second : left s4.tokens ≡ left s3.tokens = ap (λ (u : Cursor). left u.tokens) on in
+    (omega (arith, first, a), omega (arith, first, a, b), omega (arith, first, a, b, second), omega (arith, first, a, b, second, e))
+
+module _ {c : Context} {w : Live} {parent n : ℕ} {right : Bool} {place : OperandPlace} {next : Option (ℕ × Bool)} {op : Lexeme} {pos : Position} {x y : Node} {d : Context} {s s1 s2 s3 s4 t : Cursor} (h : Walked c w parent n right place next op pos x y d s s1 s2 s3 s4 t) where
+  walked_takes : TakesOne c w parent n right next x y s s1 s3 s4 t
+  walked_takes =
+      let more : is_end (asked s1).lexeme ≡ false = ap (λ (u : Cursor). is_end (asked u).lexeme) h.look ∙ h.more in
+      let behind = left_after s s1 s2 s3 s4 t h.look (h.shrinks more) h.operand_short h.look_on h.side_short in
+      let place_is : place_after (asked s1).lexeme ≡ place = ap (λ (i : Item). place_after i.lexeme) (sym h.token) ∙ sym h.stands in
+      record {
+        operator = h.operator;
+        goes = h.goes;
+        readable = ap (λ (u : Cursor). is_memory (asked u).lexeme) h.look ∙ h.readable;
+        operand = ap (λ b. result_of (Operand c w b) (taking s1)) place_is ∙ ap (result_of (Operand c w place)) (sym h.took) ∙ h.operand;
+        known = h.known;
+        room = h.room;
+        side = ap (λ e. result_of (BinaryOp e w (position_of x) n x) s4) (sym h.deeper) ∙ h.side;
+        after_operator = subst (λ (u : Cursor). left u.tokens + 1 ≤ left s.tokens) h.took behind.0;
+        after_operand = behind.1;
+        after_look = behind.2;
+        after_side = behind.3;
+      }
+
+  pub walked_on : (at : Position) (lhs : Node) {p : Position} {z : Node} {e : Context} → operator_result op pos lhs y ≡ Ok z → e ≡ d → p ≡ pos → result_of (BinaryOp c w at parent lhs) s ≡ result_of (BinaryOp e w p parent z) t
+  walked_on at lhs {p} {z} {e} joined same there =
+      operator_taken c w at parent lhs n right next x y z s s1 s3 s4 t walked_takes (ap (λ (i : Item). operator_result i.lexeme i.at lhs y) (sym h.token) ∙ joined)
+      ∙ ap (λ (v : Context). result_of (BinaryOp v w (asked s1).at parent z) t) (sym (same ∙ h.deeper))
+      ∙ ap (λ q. result_of (BinaryOp e w q parent z) t) (ap (λ (i : Item). i.at) (sym h.token) ∙ sym there)
+
+  pub walked_refused : (at : Position) (lhs : Node) {r : Refusal} → operator_result op pos lhs y ≡ Err r → result_of (BinaryOp c w at parent lhs) s ≡ R.Refused r t
+  walked_refused at lhs {r} refused =
+      operator_refused c w at parent lhs n right next x y r s s1 s3 s4 t walked_takes (ap (λ (i : Item). operator_result i.lexeme i.at lhs y) (sym h.token) ∙ refused)
+
+  pub walked_short : left t.tokens + 1 ≤ left s.tokens
+  walked_short = walked_takes.after_side
