@@ -90,7 +90,8 @@ IsFair (Shape holds ▸ ds) = holds ≡ true → IsFair ds
 -- there.
 pub record AreFair {F : Type 0} (whole : F → Demands) : Type 0 where
   pub fair : (f : F) → IsFair (whole f)
-  pub apart : (f : F) (s t u : Point) (e : Refusal) (n : Mode) → Met (whole f) s t → Missed (whole f) s e n u → ⊥
+  pub apart : (f : F) (s t u : Point) (e : Refusal) (n : Mode) → Met (whole f) s t
+      → Missed (whole f) s e n u → ⊥
 
 pub record FormsAreFair : Type 0 where
   pub expression : (context : Context) (live : Live) → AreFair (expressions context live)
