@@ -21,10 +21,12 @@ pub mod Targets
 pub mod Interpolations
 pub mod Trees
 pub mod Demands
+pub mod Constructs
 pub mod Statements
 pub mod Starts
 pub mod Verdicts
 pub mod Spots
+pub mod Parts
 pub mod Written
 pub mod Promises
 pub mod Spelling
@@ -34,6 +36,7 @@ pub mod Rows
 pub mod RowsOfChains
 pub mod RowsOfStatements
 pub mod RowsOfStrings
+pub mod RowsOfConstructs
 pub mod StartLaws
 pub mod SlotLaws
 pub mod Imports
