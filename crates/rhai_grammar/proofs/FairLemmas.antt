@@ -8,27 +8,30 @@ use Rattle.rhai_lower.specs.declared.token.Token.TheVariants as token
 use Rattle.rhai_grammar.specs.declared.role.Beginning.{Beginning}
 use Rattle.rhai_grammar.specs.declared.role.Beginning.TheVariants as begin
 use Rattle.rhai_grammar.specs.Beginnings.{beginning, no_operand, is_range, is_sign, is_value}
-use Rattle.rhai_grammar.specs.Starts.{begins, is_jump, is_omitted, jump_token, operand_start}
+use Rattle.rhai_grammar.specs.Constructs.{construct_token, do_end_due, do_token, guard_fault, iterated_fault, kind_of, may_be_value}
+use Rattle.rhai_grammar.specs.Starts.{begins, is_omitted, jump_token, operand_start}
+use Rattle.rhai_grammar.specs.declared.role.Construct.{Construct as Kind}
+use Rattle.rhai_grammar.specs.declared.role.Construct.TheVariants as kind
 use Rattle.rhai_grammar.specs.declared.role.OperandPlace.{OperandPlace}
 use Rattle.rhai_grammar.specs.declared.role.OperandPlace.TheVariants as place
 use Rattle.rhai_grammar.specs.declared.role.OperandStart.{OperandStart}
 use Rattle.rhai_grammar.specs.declared.role.OperandStart.TheVariants as start
 use Rattle.rhai_grammar.specs.Causes.{Refusal}
 use Rattle.rhai_grammar.specs.Chains.{index_refusal, last_fault}
-use Rattle.rhai_grammar.specs.Contexts.{Context, Live, in_block, level_up}
+use Rattle.rhai_grammar.specs.Contexts.{Context, Live, in_block, level_up, loop_body}
 use Rattle.rhai_grammar.specs.Delivered as M
 use Rattle.rhai_grammar.specs.Delivered.{Item, Mode, Point, is_memory, next_at, past}
 use Rattle.rhai_grammar.specs.Demands.{◌▸◌, Ahead, Blames, Demands, Fine, Met, Missed, Next, Nothing, Otherwise, Refused, Refuses, Shape, Test, Tok, Verdict, Wrong, verdict}
 use Rattle.rhai_grammar.specs.Forms as form
-use Rattle.rhai_grammar.specs.Forms.{Arguments, Base, Body, Elements, ExprStatement, Fields, Initializer, Items, JumpValue, Links, Operand, Primary, Run, Segments, Statement, Statements}
-use Rattle.rhai_grammar.specs.Definitions.{after_statement}
+use Rattle.rhai_grammar.specs.Forms.{Arguments, Base, Body, Branch, CatchName, Conditional, Construct, Elements, ExprStatement, Fields, Initializer, Items, JumpValue, Links, LoopNames, Operand, Primary, Run, Segments, Statement, Statements}
+use Rattle.rhai_grammar.specs.Definitions.{after_statement, catch_live, loop_live}
 use Rattle.rhai_grammar.specs.Statements as S
 use Rattle.rhai_grammar.specs.Targets.{is_constant_use, target_fault}
 use Rattle.rhai_grammar.specs.declared.role.Closing.{Closing}
 use Rattle.rhai_grammar.specs.declared.role.Closing.TheVariants.{Brace, EndMark}
 use Rattle.rhai_grammar.specs.Laws.{FormsAreFair, IsFair, is_refused}
 use Rattle.rhai_grammar.specs.Literals.{KeyPlace, NoKey, is_key}
-use Rattle.rhai_grammar.specs.Trees.{argument_trees, base_tree, bracket_link, member_link, method_tree, primary_tree, tree}
+use Rattle.rhai_grammar.specs.Trees.{argument_trees, base_tree, bracket_link, caught, caught_name, counter_of, loop_name, member_link, method_tree, primary_tree, tree}
 use Rattle.rhai_grammar.specs.Verdicts as V
 use Rattle.rhai_grammar.specs.Written as W
 use Rattle.rhai_grammar.specs.Written.{operands_fit}
@@ -65,14 +68,19 @@ range_begins : (c : Context) (b : Beginning) → is_range b ≡ true → begins 
 range_begins c begin.Range e = refl
 range_begins c _ e = absurd cc
 
+construct_begins : (c : Context) (k : Kind) → may_be_value c k ≡ true → begins c (beginning (Sign (construct_token k))) ≡ true
+construct_begins c kind.Try e = absurd cc
+construct_begins c kind.Block e = e
+construct_begins c kind.If e = e
+construct_begins c kind.While e = e
+construct_begins c kind.Loop e = e
+construct_begins c kind.Do e = e
+construct_begins c kind.For e = e
+
 -- where none is written
 omitted_due : (c : Context) (l : Lexeme) (v : OperandStart) → is_omitted v ≡ true → is_refused (V.beginning_due c l v) ≡ false
 omitted_due c l start.Omitted e = refl
 omitted_due c l _ e = absurd cc
-
-jump_due : (c : Context) (l : Lexeme) (v : OperandStart) → is_jump v ≡ true → is_refused (V.beginning_due c l v) ≡ false
-jump_due c l start.Jump e = refl
-jump_due c l _ e = absurd cc
 
 key_due : (k : KeyPlace) → is_key k ≡ true → is_refused (V.key_at k) ≡ false
 key_due (NoKey why) e = absurd cc
@@ -92,6 +100,24 @@ raised : (side : Side) (k : Demands) → IsFair k → IsFair (W.raise_after side
 raised Outermost k h = h
 raised (RightOf op height) k h = h
 
+-- a guard
+guarded : (f : Run) (c : Context) (w : Live) (k : Demands)
+    → ((j : Demands) → IsFair j → IsFair (W.run f (outermost (level_up c) w) j)) → IsFair k
+    → IsFair (W.as_guard (W.run f) (tree f w) c w k)
+guarded f c w k fair h = fair _ (unfaulted (guard_fault (tree f w)) _ h)
+
+do_ends : (negated : Bool) → is_refused (verdict do_end_due (Sign (do_token negated))) ≡ false
+do_ends true = refl
+do_ends false = refl
+
+named : (x : LoopNames) (k : Demands) → IsFair k → IsFair (W.loop_names x k)
+named (form.Variable name at) k h = (refl, h)
+named (form.Counted opening name at comma counter counter_at closing) k h = (refl, (refl, (refl, (refl, (refl, h)))))
+
+caught_by : (x : CatchName) (k : Demands) → IsFair k → IsFair (W.catch_name x k)
+caught_by form.NoName k h = h
+caught_by (form.Caught opening name at closing) k h = (refl, (refl, (refl, h)))
+
 mutual
   primary : (x : Primary) (c : Context) (w : Live) (p : OperandPlace) (k : Demands) → IsFair k → IsFair (W.primary x c w p k)
   primary (form.Value token at) c w p k h = λ e. (operand_due c p token (value_begins c (beginning token) e), h)
@@ -105,8 +131,10 @@ mutual
       (operand_due c p (Sign token.MapStart) refl, fields list no_properties (level_up c) w opening k h)
   primary (form.Interpolated first at list) c w p k h =
       (operand_due c p (Interpolated first) refl, segments list (level_up c) w at k h)
-  primary (form.BlockValue opening f) c w p k h = λ on.
-      (operand_due c p (Sign token.LeftBrace) on, block f (level_up (level_up c)) w k h)
+  primary (form.CompoundValue at x) c w p k h = λ e. (
+    operand_due c p (Sign (construct_token (kind_of x))) (construct_begins c (kind_of x) e),
+    construct x (level_up (level_up c)) w at k h,
+  )
   primary (form.Zero range at) c w p k h = λ e. (operand_due c p range (range_begins c (beginning range) e), h)
 
   base : (x : Base) (c : Context) (w : Live) (p : OperandPlace) (k : Demands) → IsFair k → IsFair (W.base x c w p k)
@@ -139,9 +167,7 @@ mutual
       (operand_due c p sign (sign_begins c (beginning sign) e), operand x (level_up c) w place.Elsewhere _ h)
   operand (form.NoOperand token at) c w p k h = λ e.
       (unless (is_memory token) (V.operand_due c p token) (omitted_due c token (operand_start p token) e), h)
-  operand (form.Jump throws at x) c w p k h = λ e.
-      let l = Sign (jump_token throws) in
-      (unless (is_memory l) (V.operand_due c p l) (jump_due c l (operand_start p l) e), jump_value x c w at k h)
+  operand (form.Jump x) c w p k h = statement x c w k h
 
   arguments : (x : Arguments) (others : Lexeme → Verdict) → is_refused (verdict others (Sign token.Unit)) ≡ false → is_refused (verdict others (Sign token.LeftParen)) ≡ false → (c : Context) (w : Live) (name : Position) (k : Demands) → IsFair k → IsFair (W.arguments x others c w name k)
   arguments (form.EmptyPair at) others pair list c w name k h = (pair, h)
@@ -200,8 +226,35 @@ mutual
   statement (form.EmptyStatement at) c w k h = (refl, h)
   statement (form.Expression x) c w k h = evaluation x (level_up c) w k h
   statement (form.Define constant at name name_at x) c w k h = (refl, (refl, initializer x (level_up c) w at k h))
-  statement (form.Block opening f) c w k h = (refl, block f (level_up (level_up c)) w k h)
+  statement (form.Compound at x) c w k h = λ e.
+      (anything (Sign (construct_token (kind_of x))), construct x (level_up (level_up c)) w at k h)
   statement (form.Return throws at x) c w k h = (anything (Sign (jump_token throws)), jump_value x c w at k h)
+  statement (form.Break at x) c w k h = λ e. (refl, jump_value x c w at k h)
+  statement (form.Continue at) c w k h = λ e. (refl, h)
+
+  construct : (x : Construct) (c : Context) (w : Live) (at : Position) (k : Demands) → IsFair k → IsFair (W.construct x c w at k)
+  construct (form.Block f) c w at k h = block f c w k h
+  construct (form.If x) c w at k h = conditional x c w at k h
+  construct (form.While guard opening f) c w at k h =
+      guarded guard c w _ (run guard _) (refl, block f (level_up (loop_body c)) w k h)
+  construct (form.Loop opening f) c w at k h = (refl, block f (level_up (loop_body c)) w k h)
+  construct (form.Do opening f negated do_at guard) c w at k h =
+      (refl, block f (level_up (loop_body c)) w _ (do_ends negated, guarded guard c w k (run guard _) h))
+  construct (form.For names in_at over opening f) c w at k h =
+      let inner = loop_live (loop_name names) (counter_of names) w in
+      named names _ (refl, run over _ _ (unfaulted (iterated_fault (tree over w)) _ (refl, block f (level_up (loop_body c)) inner k h)))
+  construct (form.Try opening f catch_at name catch_opening g) c w at k h =
+      let inner = catch_live (caught_name (caught name)) w in
+      (refl, block f (level_up c) w _ (refl, caught_by name _ (refl, block g (level_up c) inner k h)))
+
+  conditional : (x : Conditional) (c : Context) (w : Live) (at : Position) (k : Demands) → IsFair k → IsFair (W.conditional x c w at k)
+  conditional (form.Guarded guard opening f rest) c w at k h =
+      guarded guard c w _ (run guard _) (refl, block f (level_up c) w _ (branch rest c w at k h))
+
+  branch : (x : Branch) (c : Context) (w : Live) (at : Position) (k : Demands) → IsFair k → IsFair (W.branch x c w at k)
+  branch form.NoElse c w at k h = h
+  branch (form.Else else_at opening f) c w at k h = (refl, (refl, block f (level_up c) w k h))
+  branch (form.ElseIf else_at if_at x) c w at k h = (refl, (refl, conditional x (level_up c) w if_at k h))
 
   statements : (xs : Statements) (closing : Closing) (c : Context) (w : Live) (k : Demands) → IsFair k → IsFair (W.statements xs closing c w k)
   statements form.NoStatement closing c w k h = h

@@ -11,22 +11,25 @@ use Rattle.rhai_grammar.specs.declared.role.OperandPlace.{OperandPlace}
 use Rattle.rhai_grammar.specs.declared.role.OperandPlace.TheVariants as place
 use Rattle.rhai_grammar.specs.Causes.{Refusal}
 use Rattle.rhai_grammar.specs.Chains.{index_refusal, last_fault}
-use Rattle.rhai_grammar.specs.Contexts.{Context, Live, in_block, level_up}
-use Rattle.rhai_grammar.specs.Definitions.{after_statement}
+use Rattle.rhai_grammar.specs.Constructs.{guard_fault, iterated_fault}
+use Rattle.rhai_grammar.specs.Contexts.{Context, Live, in_block, level_up, loop_body}
+use Rattle.rhai_grammar.specs.Definitions.{after_statement, catch_live, loop_live}
 use Rattle.rhai_grammar.specs.Delivered.{Mode, code, Item, Taken, is_end}
 use Rattle.rhai_grammar.specs.Demands.{◌▸◌, Ahead, Demands, Next, Shape, Test, Tok, Verdict}
 use Rattle.rhai_grammar.specs.Forms as form
 use Rattle.rhai_grammar.specs.Forms.{Arguments, Base, Body, Elements, ExprStatement, Fields, Initializer, Items, Links}
-use Rattle.rhai_grammar.specs.Forms.{JumpValue, Operand, Primary, Run, Segments, Statement, Statements}
+use Rattle.rhai_grammar.specs.Forms.{Branch, CatchName, Conditional, Construct, JumpValue, LoopNames, Operand, Primary}
+use Rattle.rhai_grammar.specs.Forms.{Run, Segments, Statement, Statements}
 use Rattle.rhai_grammar.specs.Spelling.{argument_spelling, base_spelling, body_spelling, element_spelling}
 use Rattle.rhai_grammar.specs.Spelling.{evaluation_spelling, field_spelling, initializer_spelling, item_spelling}
 use Rattle.rhai_grammar.specs.Spelling.{jump_spelling, link_spelling, operand_spelling, primary_spelling, script_spelling, segment_spelling, spelling}
-use Rattle.rhai_grammar.specs.Spelling.{statement_spelling}
+use Rattle.rhai_grammar.specs.Spelling.{branch_spelling, catch_spelling, conditional_spelling, construct_spelling}
+use Rattle.rhai_grammar.specs.Spelling.{names_spelling, statement_spelling}
 use Rattle.rhai_grammar.specs.Spots.{LinkSpot, Outermost, RightOf, Side, Spot, height_after, outermost, place_of}
 use Rattle.rhai_grammar.specs.Spots.{right_side, spot_after_bracket, spot_after_dot, spot_after_operand}
 use Rattle.rhai_grammar.specs.Targets.{is_constant_use, target_fault}
 use Rattle.rhai_grammar.specs.Trees.{argument_trees, base_tree, bracket_link, member_link, method_tree, primary_tree}
-use Rattle.rhai_grammar.specs.Trees.{tree}
+use Rattle.rhai_grammar.specs.Trees.{caught, caught_name, counter_of, loop_name, tree}
 use Rattle.rhai_grammar.specs.Verdicts as V
 use Rattle.rhai_grammar.specs.Written as W
 use Rattle.rhai_grammar.specs.declared.role.Closing.{Closing}
@@ -89,6 +92,26 @@ pub expressed : (f : Run) (c : Context) (w : Live) {k : Demands}
     → Leads code code (spelling f) (W.expression f c w k) k
 expressed f c w h = next (all_of (on h (next here)))
 
+-- a guard, and what `for` goes over
+guarded : (f : Run) (c : Context) (w : Live) {k : Demands}
+    → ((j : Demands) → Leads code code (spelling f) (W.run f (outermost (level_up c) w) j) j)
+    → Leads code code (spelling f) (W.as_guard (W.run f) (tree f w) c w k) k
+guarded f c w h =
+    next (all_of (on (expressed f c w (h _)) (unfaulted (guard_fault (tree f w)) (next here))))
+
+iterated : (f : Run) (c : Context) (w : Live) {k : Demands}
+    → ((j : Demands) → Leads code code (spelling f) (W.run f (outermost (level_up c) w) j) j)
+    → Leads code code (spelling f) (W.as_iterated (W.run f) (tree f w) c w k) k
+iterated f c w h = next (all_of (on (expressed f c w (h _)) (unfaulted (iterated_fault (tree f w)) here)))
+
+named : (x : LoopNames) (k : Demands) → Leads code code (names_spelling x) (W.loop_names x k) k
+named (form.Variable name at) k = tok here
+named (form.Counted opening name at comma counter counter_at closing) k = tok (tok (tok (tok (test (tok here)))))
+
+caught_by : (x : CatchName) (k : Demands) → Leads code code (catch_spelling x) (W.catch_name x k) k
+caught_by form.NoName k = next here
+caught_by (form.Caught opening name at closing) k = tok (tok (tok here))
+
 mutual
   pub primary : (x : Primary) (c : Context) (w : Live) (p : OperandPlace) (k : Demands)
       → Leads code code (primary_spelling x) (W.primary x c w p k) k
@@ -99,8 +122,8 @@ mutual
   primary (form.Array opening list) c w p k = tok (test (elements list 0 (level_up c) w opening k))
   primary (form.Map opening list) c w p k = tok (test (fields list no_properties (level_up c) w opening k))
   primary (form.Interpolated first at list) c w p k = tok (test (segments list (level_up c) w at k))
-  primary (form.BlockValue opening f) c w p k =
-      shape (λ e. tok (test (test (block f (level_up (level_up c)) w k))))
+  primary (form.CompoundValue at x) c w p k =
+      shape (λ e. tok (test (test (construct x (level_up (level_up c)) w at k))))
   primary (form.Zero range at) c w p k = shape (λ e. ahead (range_goes_on range e) here)
 
   pub base : (x : Base) (c : Context) (w : Live) (p : OperandPlace) (k : Demands)
@@ -138,7 +161,7 @@ mutual
   operand (form.Signed sign at x) c w p k =
       shape (λ e. tok (test (all_of (on (operand x (level_up c) w place.Elsewhere _) (test here)))))
   operand (form.NoOperand token at) c w p k = shape (λ e. ahead (omitted_goes_on p token e) here)
-  operand (form.Jump throws at x) c w p k = shape (λ e. tok (jump_value x c w at k))
+  operand (form.Jump x) c w p k = next (statement x c w k)
 
   pub arguments : (x : Arguments) (others : Lexeme → Verdict) (c : Context) (w : Live) (name : Position) (k : Demands)
       → Leads code code (argument_spelling x) (W.arguments x others c w name k) k
@@ -204,8 +227,37 @@ mutual
   statement (form.Expression x) c w k = next (next (evaluation x (level_up c) w k))
   statement (form.Define constant at name name_at value) c w k =
       tok (test (tok (test (initializer value (level_up c) w at k))))
-  statement (form.Block opening f) c w k = tok (test (test (block f (level_up (level_up c)) w k)))
+  statement (form.Compound at x) c w k = shape (λ e. tok (test (test (construct x (level_up (level_up c)) w at k))))
   statement (form.Return throws at x) c w k = tok (jump_value x c w at k)
+  statement (form.Break at x) c w k = shape (λ e. tok (test (jump_value x c w at k)))
+  statement (form.Continue at) c w k = shape (λ e. tok (test here))
+
+  pub construct : (x : Construct) (c : Context) (w : Live) (at : Position) (k : Demands)
+      → Leads code code (construct_spelling x) (W.construct x c w at k) k
+  construct (form.Block f) c w at k = block f c w k
+  construct (form.If x) c w at k = conditional x c w at k
+  construct (form.While guard opening f) c w at k =
+      on (guarded guard c w (run guard _)) (tok (test (block f (level_up (loop_body c)) w k)))
+  construct (form.Loop opening f) c w at k = tok (test (block f (level_up (loop_body c)) w k))
+  construct (form.Do opening f negated do_at guard) c w at k =
+      tok (test (on (block f (level_up (loop_body c)) w _) (tok (guarded guard c w (run guard _)))))
+  construct (form.For names in_at over opening f) c w at k =
+      let inner = loop_live (loop_name names) (counter_of names) w in
+      on (named names _) (tok (on (iterated over c w (run over _)) (tok (test (block f (level_up (loop_body c)) inner k)))))
+  construct (form.Try opening f catch_at name catch_opening g) c w at k =
+      let inner = catch_live (caught_name (caught name)) w in
+      tok (test (on (block f (level_up c) w _) (tok (on (caught_by name _) (tok (test (block g (level_up c) inner k)))))))
+
+  pub conditional : (x : Conditional) (c : Context) (w : Live) (at : Position) (k : Demands)
+      → Leads code code (conditional_spelling x) (W.conditional x c w at k) k
+  conditional (form.Guarded guard opening f rest) c w at k =
+      on (guarded guard c w (run guard _)) (tok (test (on (block f (level_up c) w _) (branch rest c w at k))))
+
+  pub branch : (x : Branch) (c : Context) (w : Live) (at : Position) (k : Demands)
+      → Leads code code (branch_spelling x) (W.branch x c w at k) k
+  branch form.NoElse c w at k = next here
+  branch (form.Else else_at opening f) c w at k = tok (next (tok (test (block f (level_up c) w k))))
+  branch (form.ElseIf else_at if_at x) c w at k = tok (tok (test (conditional x (level_up c) w if_at k)))
 
   pub statements : (xs : Statements) (closing : Closing) (c : Context) (w : Live) (k : Demands)
       → Leads code code (script_spelling xs) (W.statements xs closing c w k) k

@@ -13,8 +13,8 @@ use Rattle.rhai_grammar.specs.Beginnings.{is_this, value_of}
 use Rattle.rhai_grammar.specs.Chains.{Bracket, Chain, Dotted, Link, LinkKind, chain_of, chained, is_last, link_node, nest}
 use Rattle.rhai_grammar.specs.Contexts.{Live, in_block}
 use Rattle.rhai_grammar.specs.Forms as form
-use Rattle.rhai_grammar.specs.Forms.{Arguments, Base, Body, Elements, ExprStatement, Fields, Initializer, Items, JumpValue, Links, Operand, Primary, Run, Segments, Statement, Statements}
-use Rattle.rhai_grammar.specs.Definitions.{after_statement}
+use Rattle.rhai_grammar.specs.Forms.{Arguments, Base, Body, Branch, Conditional, Construct, Elements, ExprStatement, Fields, Initializer, Items, JumpValue, Links, Operand, Primary, Run, Segments, Statement, Statements}
+use Rattle.rhai_grammar.specs.Definitions.{after_statement, catch_live, loop_live}
 use Rattle.rhai_grammar.specs.Interpolations.{with_text}
 use Rattle.rhai_grammar.specs.Laws.{TreesKeepShape}
 use Rattle.rhai_grammar.specs.Operators as O
@@ -187,8 +187,35 @@ live_after : (f : Statement) (w : Live) → after_statement (shape.written_shape
 live_after (form.Define constant at text text_at x) w = refl
 live_after (form.EmptyStatement at) w = refl
 live_after (form.Expression x) w = refl
-live_after (form.Block opening f) w = refl
+live_after (form.Compound at x) w = refl
 live_after (form.Return throws at x) w = refl
+live_after (form.Break at x) w = refl
+live_after (form.Continue at) w = refl
+
+named : (x : form.LoopNames) → T.loop_name (shape.names_shape x) ≡ T.loop_name x
+named (form.Variable t at) = refl
+named (form.Counted opening t at comma counter counter_at closing) = refl
+
+counted : (x : form.LoopNames) → T.counter_of (shape.names_shape x) ≡ T.counter_of x
+counted (form.Variable t at) = refl
+counted (form.Counted opening t at comma counter counter_at closing) = refl
+
+caught : (x : form.CatchName) → T.caught_name (T.caught (shape.catch_shape x)) ≡ T.caught_name (T.caught x)
+caught form.NoName = refl
+caught (form.Caught opening t at closing) = refl
+
+catch_variable : (x : form.CatchName) → node_shape (T.catch_node (T.caught x)) ≡ T.catch_node (T.caught (shape.catch_shape x))
+catch_variable form.NoName = refl
+catch_variable (form.Caught opening t at closing) = refl
+
+-- a statement as a value
+made : (f : node.Statement) → shape.block_shape (node.made_block f) ≡ node.made_block (shape.statement_shape f)
+made (node.expression x) = let e = stands x in cc
+made (node.block_statement b) = refl
+made _ = refl
+
+value_of_statement : (f g : node.Statement) → shape.statement_shape f ≡ g → node_shape (node.block_value (node.made_block f)) ≡ node.block_value (node.made_block g)
+value_of_statement f g e = ap node.block_value (made f ∙ ap node.made_block e)
 
 mutual
   primary : (x : Primary) (w : Live) (called : Bool) → node_shape (primary_tree x w called) ≡ primary_tree (shape.primary_shape x) w called
@@ -200,7 +227,7 @@ mutual
   primary (form.Map opening list) w called = let e = fields list w in cc
   primary (form.Interpolated first at list) w called =
       let e = segments list w in texted first at (T.segment_trees list w) ∙ (cc)
-  primary (form.BlockValue opening f) w called = let e = body opening f w in cc
+  primary (form.CompoundValue at x) w called = value_of_statement (T.construct_tree x w at) _ (construct x w at)
   primary (form.Zero range at) w called = refl
 
   base : (x : Base) (w : Live) → node_shape (base_tree x w) ≡ base_tree (shape.base_shape x) w
@@ -229,7 +256,7 @@ mutual
       chains (base_tree x w) (link_list list w) ∙ (cc)
   operand (form.Signed sign at x) w = sign_effect (effect sign) (plain_sign sign) at (operand_tree x w) ∙ ap (λ n. signed sign nowhere n) (operand x w)
   operand (form.NoOperand token at) w = refl
-  operand (form.Jump throws at x) w = let e = jump x w in cc
+  operand (form.Jump x) w = value_of_statement (T.statement_tree x w) _ (statement x w)
 
   arguments : (x : Arguments) (w : Live) → nodes_shape (argument_trees x w) ≡ argument_trees (shape.arguments_shape x) w
   arguments (form.EmptyPair at) w = refl
@@ -280,8 +307,44 @@ mutual
   statement (form.EmptyStatement at) w = refl
   statement (form.Expression x) w = evaluation x w
   statement (form.Define constant at text text_at x) w = let e = initializer x w in cc
-  statement (form.Block opening f) w = let e = body opening f w in cc
+  statement (form.Compound at x) w = construct x w at
   statement (form.Return throws at x) w = let e = jump x w in cc
+  statement (form.Break at x) w = let e = jump x w in cc
+  statement (form.Continue at) w = refl
+
+  construct : (x : Construct) (w : Live) (at : Position) → shape.statement_shape (T.construct_tree x w at) ≡ T.construct_tree (shape.construct_shape x) w nowhere
+  construct (form.Block f) w at = let e = body at f w in cc
+  construct (form.If x) w at = conditional x w at
+  construct (form.While guard opening f) w at = let e = run guard w in let g = body opening f w in cc
+  construct (form.Loop opening f) w at = let g = body opening f w in cc
+  construct (form.Do opening f negated do_at guard) w at = let e = run guard w in let g = body opening f w in cc
+  construct (form.For names in_at over opening f) w at =
+      let inner = loop_live (T.loop_name names) (T.counter_of names) w in
+      let e = run over w in
+      let g = body opening f inner in
+      let h = named names in
+      let i = counted names in
+      ap (λ x. node.for_statement (T.loop_name names) (T.counter_of names) x (shape.block_shape (T.block_tree opening f inner)) nowhere) e
+      ∙ ap (λ b. node.for_statement (T.loop_name names) (T.counter_of names) (tree (shape.run_shape over) w) b nowhere) g
+      ∙ ap (λ (n : Text). node.for_statement n (T.counter_of names) (tree (shape.run_shape over) w) (T.block_tree nowhere (shape.body_shape f) (loop_live n (T.counter_of names) w)) nowhere) (sym h)
+      ∙ ap (λ (n : Option Text). node.for_statement (T.loop_name (shape.names_shape names)) n (tree (shape.run_shape over) w) (T.block_tree nowhere (shape.body_shape f) (loop_live (T.loop_name (shape.names_shape names)) n w)) nowhere) (sym i)
+  construct (form.Try opening f catch_at name catch_opening x) w at =
+      let e = body opening f w in
+      let g = body catch_opening x (catch_live (T.caught_name (T.caught name)) w) in
+      let h = caught name in
+      ap (λ b. node.try_catch b (node_shape (T.catch_node (T.caught name))) (shape.block_shape (T.block_tree catch_opening x (catch_live (T.caught_name (T.caught name)) w))) nowhere) e
+      ∙ ap (λ b. node.try_catch (T.block_tree nowhere (shape.body_shape f) w) (node_shape (T.catch_node (T.caught name))) b nowhere) g
+      ∙ ap (λ n. node.try_catch (T.block_tree nowhere (shape.body_shape f) w) n (T.block_tree nowhere (shape.body_shape x) (catch_live (T.caught_name (T.caught name)) w)) nowhere) (catch_variable name)
+      ∙ ap (λ n. node.try_catch (T.block_tree nowhere (shape.body_shape f) w) (T.catch_node (T.caught (shape.catch_shape name))) (T.block_tree nowhere (shape.body_shape x) (catch_live n w)) nowhere) (sym h)
+
+  conditional : (x : Conditional) (w : Live) (at : Position) → shape.statement_shape (T.conditional_tree x w at) ≡ T.conditional_tree (shape.conditional_shape x) w nowhere
+  conditional (form.Guarded guard opening f rest) w at =
+      let e = run guard w in let g = body opening f w in let h = branch rest w in cc
+
+  branch : (x : Branch) (w : Live) → shape.block_shape (T.branch_tree x w) ≡ T.branch_tree (shape.branch_shape x) w
+  branch form.NoElse w = refl
+  branch (form.Else at opening f) w = body opening f w
+  branch (form.ElseIf at if_at (form.Guarded guard opening f rest)) w = let e = conditional (form.Guarded guard opening f rest) w if_at in cc
 
   statements : (xs : Statements) (w : Live) → shape.statements_shape (T.statement_trees xs w) ≡ T.statement_trees (shape.script_shape xs) w
   statements form.NoStatement w = refl

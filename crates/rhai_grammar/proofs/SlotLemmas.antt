@@ -10,7 +10,7 @@ use Rattle.rhai_lower.specs.Names.{is_identifier}
 use Rattle.rhai_lower.specs.Slots.{SlotValue, fresh_slot, slot_at, with_constant, with_slot}
 use Rattle.rhai_lower.specs.declared.position.Position.{Position}
 use Rattle.rhai_grammar.specs.Contexts.{Live, in_block}
-use Rattle.rhai_grammar.specs.Definitions.{after_statement, after_statements, define_at, is_exported, is_in_block, is_reusable, reused, reused_at}
+use Rattle.rhai_grammar.specs.Definitions.{after_statement, after_statements, catch_live, define_at, is_exported, is_in_block, is_reusable, loop_live, reused, reused_at}
 use Rattle.rhai_grammar.specs.Forms as form
 use Rattle.rhai_grammar.specs.Forms.{Statement, Statements}
 use Rattle.rhai_grammar.specs.SlotLaws.{IsDefined, IsReusable, NoSlot, NumberedSlot, Reuse, ScopesClose}
@@ -226,8 +226,10 @@ start_of : (f : Statement) (live : Live) → (after_statement f live).block ≡ 
 start_of (form.EmptyStatement at) live = refl
 start_of (form.Expression x) live = refl
 start_of (form.Define constant at name name_at value) live = refl
-start_of (form.Block opening body) live = refl
+start_of (form.Compound at x) live = refl
 start_of (form.Return throws at x) live = refl
+start_of (form.Break at x) live = refl
+start_of (form.Continue at) live = refl
 
 starts : (fs : Statements) (live : Live) → (after_statements fs live).block ≡ live.block
 starts form.NoStatement live = refl
@@ -241,8 +243,10 @@ keeps (form.EmptyStatement at) live l = (refl, l)
 keeps (form.Expression x) live l = (refl, l)
 keeps (form.Define constant at name name_at value) live l =
     defined_keeps live.block name constant live.slots (reused live.block name live.slots) refl l
-keeps (form.Block opening body) live l = (refl, l)
+keeps (form.Compound at x) live l = (refl, l)
 keeps (form.Return throws at x) live l = (refl, l)
+keeps (form.Break at x) live l = (refl, l)
+keeps (form.Continue at) live l = (refl, l)
 
 abbrev StatementsKeep : Statements → Live → Type 0
 StatementsKeep fs live =
@@ -267,12 +271,39 @@ all_keep (form.Standing f rest) live l =
     let w = after_statement f live in
     followed live rest w (start_of f live) (keeps f live l) (all_keep rest w)
 
+-- one more slot is above those that were there
+above : (slots more : List SlotValue) → take (length slots) (slots ++ more) ≡ slots
+above slots more =
+    take-append-le (length slots) slots more (omega arith) ∙ take_all (length slots) slots (omega arith)
+
+loop_above : (name : Text) (counter : Option Text) (live : Live)
+    → take (length live.slots) (loop_live name counter live).slots ≡ live.slots
+loop_above name None live = above live.slots (fresh_slot name false ∷ [])
+loop_above name (Some counter) live =
+    let first = fresh_slot counter false ∷ [] in
+    take-append-le (length live.slots) (live.slots ++ first) (fresh_slot name false ∷ []) (omega (arith, length-append live.slots first))
+    ∙ above live.slots first
+
+loop_block : (name : Text) (counter : Option Text) (live : Live) → (loop_live name counter live).block ≡ length live.slots
+loop_block name None live = refl
+loop_block name (Some counter) live = refl
+
+catch_above : (name : Option Text) (live : Live) → take (length live.slots) (catch_live name live).slots ≡ live.slots
+catch_above None live = take_all (length live.slots) live.slots (omega arith)
+catch_above (Some name) live = above live.slots (fresh_slot name false ∷ [])
+
+catch_block : (name : Option Text) (live : Live) → (catch_live name live).block ≡ length live.slots
+catch_block None live = refl
+catch_block (Some name) live = refl
+
 pub scopes_close : ScopesClose
 scopes_close = record {
-  block = λ opening body live. refl;
+  construct = λ at x live. refl;
   expression = λ x live. refl;
   start = starts;
   before = λ fs live l. (all_keep fs live l).0;
   given_back = λ fs live.
       (all_keep fs (in_block live) (omega arith)).0 ∙ take_all (length live.slots) live.slots (omega arith);
+  loop = λ name counter live. (loop_block name counter live, loop_above name counter live);
+  handler = λ name live. (catch_block name live, catch_above name live);
 }

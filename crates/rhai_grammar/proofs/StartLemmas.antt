@@ -1,5 +1,5 @@
 -- Which tokens begin an expression.
-use Rattle.std.proofs.Common.{◌≡◌, ◌⊎◌, inl, inr, ℕ, Bool, true, false, not, List, [], ◌∷◌, ◌++◌, None, Some, pos, refl, sym, ap, subst}
+use Rattle.std.proofs.Common.{◌≡◌, ◌⊎◌, inl, inr, ℕ, Bool, true, false, not, List, [], ◌∷◌, ◌++◌, None, Some, pos, refl, sym, ap, subst, if◌then◌else◌}
 use Rattle.rhai_lower.specs.Texts.{Text}
 use Rattle.rhai_lower.specs.Positions.{place}
 use Rattle.rhai_lower.specs.Lexemes.{Lexeme, Character, Comment, Faulty, Integer, Interpolated, Name, Reserved, Sign, String}
@@ -8,11 +8,14 @@ use Rattle.rhai_lower.specs.declared.token.Token.{Token}
 use Rattle.rhai_lower.specs.declared.token.Token.TheVariants as token
 use Rattle.rhai_grammar.specs.declared.role.Beginning.{Beginning}
 use Rattle.rhai_grammar.specs.declared.role.Beginning.TheVariants as begin
+use Rattle.rhai_grammar.specs.declared.role.Construct.{Construct as Kind}
+use Rattle.rhai_grammar.specs.declared.role.Construct.TheVariants as construct
 use Rattle.rhai_grammar.specs.declared.role.OperandPlace.TheVariants.{Elsewhere}
 use Rattle.rhai_grammar.specs.Beginnings.{beginning, is_range, is_sign, is_value}
-use Rattle.rhai_grammar.specs.Contexts.{Context, Live, has_block_values, has_single_blocks, level_up}
-use Rattle.rhai_grammar.specs.Delivered.{code, text, item, next_at, past, Ends, Point, Then, Tokens}
-use Rattle.rhai_grammar.specs.Demands.{Demands, Met, Nothing}
+use Rattle.rhai_grammar.specs.Constructs.{construct_token, kind_of, may_be_value}
+use Rattle.rhai_grammar.specs.Contexts.{Context, Live, has_block_values, has_if_values, has_loop_values, has_single_blocks, level_up, loop_body}
+use Rattle.rhai_grammar.specs.Delivered.{code, text, is_memory, item, next_at, past, Ends, Point, Then, Tokens}
+use Rattle.rhai_grammar.specs.Demands.{Demands, Fine, Met, Nothing, Otherwise}
 use Rattle.rhai_grammar.specs.Forms as form
 use Rattle.rhai_grammar.specs.Forms.{Base, Body, Operand, Primary, Run}
 use Rattle.rhai_grammar.specs.Spots.{outermost}
@@ -34,6 +37,15 @@ sign_begins : (c : Context) (b : Beginning) → is_sign b ≡ true → begins c 
 sign_begins c begin.Sign e = refl
 sign_begins c _ e = absurd cc
 
+construct_begins : (c : Context) (k : Kind) → may_be_value c k ≡ true → begins c (beginning (Sign (construct_token k))) ≡ true
+construct_begins c construct.Try e = absurd cc
+construct_begins c construct.Block e = e
+construct_begins c construct.If e = e
+construct_begins c construct.While e = e
+construct_begins c construct.Loop e = e
+construct_begins c construct.Do e = e
+construct_begins c construct.For e = e
+
 range_begins : (c : Context) (b : Beginning) → is_range b ≡ true → begins c b ≡ true
 range_begins c begin.Range e = refl
 range_begins c _ e = absurd cc
@@ -50,7 +62,7 @@ primary (form.Group opening inside closing) c w k s t m = next_is c s (Sign toke
 primary (form.Array opening list) c w k s t m = next_is c s (Sign token.LeftBracket) opening m.0 refl
 primary (form.Map opening list) c w k s t m = next_is c s (Sign token.MapStart) opening m.0 refl
 primary (form.Interpolated first at list) c w k s t m = next_is c s (Interpolated first) at m.0 refl
-primary (form.BlockValue opening body) c w k s t m = next_is c s (Sign token.LeftBrace) opening m.1.0 m.0
+primary (form.CompoundValue at x) c w k s t m = next_is c s (Sign (construct_token (kind_of x))) at m.1.0 (construct_begins c (kind_of x) m.0)
 primary (form.Zero range at) c w k s t m = next_is c s range at m.1.0 (range_begins c (beginning range) m.0)
 
 base : (x : Base) (c : Context) (w : Live) (k : Demands) (s t : Point) → Met (W.base x c w Elsewhere k) s t → starts c (next_at code s).lexeme ≡ true
@@ -58,11 +70,15 @@ base (form.Plain x) c w k s t m = primary x c w _ s t m
 base (form.Call x None args) c w k s t m = primary x c w _ s t m
 base (form.Call x (Some bang) args) c w k s t m = primary x c w _ s t m
 
+no_jump : {A : Type 0} (b : Bool) → (if b then Otherwise else Otherwise) ≡ Fine → A
+no_jump true e = absurd cc
+no_jump false e = absurd cc
+
 operand : (x : Operand) (c : Context) (w : Live) (k : Demands) (s t : Point) → Met (W.operand x c w Elsewhere k) s t → starts c (next_at code s).lexeme ≡ true
 operand (form.Linked x list) c w k s t m = base x c w _ s t m
 operand (form.Signed sign at x) c w k s t m = next_is c s sign at m.1.0 (sign_begins c (beginning sign) m.0)
 operand (form.NoOperand l at) c w k s t m = let e = m.0 in absurd cc
-operand (form.Jump throws at value) c w k s t m = let e = m.0 in absurd cc
+operand (form.Jump x) c w k s t m = no_jump (is_memory (next_at code s).lexeme) m.0
 
 run : (f : Run) (c : Context) (w : Live) (k : Demands) (s t : Point) → Met (W.run f (outermost c w) k) s t → starts c (next_at code s).lexeme ≡ true
 run (form.Just x) c w k s t m = operand x c w _ s t m
@@ -121,8 +137,32 @@ abbrev many : Body
 many = form.Many form.NoStatement here
 
 block : (c : Context) (w : Live) (b : Bool) → has_single_blocks c ≡ b → has_block_values c ≡ true → Starts (unlimited c) w (Sign token.LeftBrace)
-block c w true e h = begun_by c w (Sign token.LeftBrace) (plain (form.BlockValue here single)) (one ∷ Sign token.RightBrace ∷ []) (refl, (h, (refl, (refl, (refl, (e, (refl, (refl, (refl, (refl, (refl, (refl, (refl, (refl, (refl, (refl, (refl, (refl, (refl, refl)))))))))))))))))))
-block c w false e h = begun_by c w (Sign token.LeftBrace) (plain (form.BlockValue here many)) (Sign token.RightBrace ∷ []) (refl, (h, (refl, (refl, (refl, (ap not e, (refl, (refl, (refl, (refl, (refl, (refl, refl))))))))))))
+block c w true e h = begun_by c w (Sign token.LeftBrace) (plain (form.CompoundValue here (form.Block single))) (one ∷ Sign token.RightBrace ∷ []) (refl, (h, (refl, (refl, (refl, (e, (refl, (refl, (refl, (refl, (refl, (refl, (refl, (refl, (refl, (refl, (refl, (refl, (refl, refl)))))))))))))))))))
+block c w false e h = begun_by c w (Sign token.LeftBrace) (plain (form.CompoundValue here (form.Block many))) (Sign token.RightBrace ∷ []) (refl, (h, (refl, (refl, (refl, (ap not e, (refl, (refl, (refl, (refl, (refl, (refl, refl))))))))))))
+
+-- the other constructs
+abbrev true_value : Run
+true_value = value (Sign token.True)
+
+if_begins : (c : Context) (w : Live) (b : Bool) → has_single_blocks c ≡ b → has_if_values c ≡ true → Starts (unlimited c) w (Sign token.If)
+if_begins c w true e h = begun_by c w (Sign token.If) (plain (form.CompoundValue here (form.If (form.Guarded true_value here single form.NoElse)))) (Sign token.True ∷ Sign token.LeftBrace ∷ one ∷ Sign token.RightBrace ∷ []) (refl, (h, (refl, (refl, (refl, (refl, (refl, (refl, (refl, (refl, (refl, (refl, (refl, (refl, (refl, (refl, (e, (refl, (refl, (refl, (refl, (refl, (refl, (refl, (refl, (refl, (refl, (refl, (refl, (refl, (refl, refl)))))))))))))))))))))))))))))))
+if_begins c w false e h = begun_by c w (Sign token.If) (plain (form.CompoundValue here (form.If (form.Guarded true_value here many form.NoElse)))) (Sign token.True ∷ Sign token.LeftBrace ∷ Sign token.RightBrace ∷ []) (refl, (h, (refl, (refl, (refl, (refl, (refl, (refl, (refl, (refl, (refl, (refl, (refl, (refl, (refl, (refl, (ap not e, (refl, (refl, (refl, (refl, (refl, (refl, (refl, refl))))))))))))))))))))))))
+
+while_begins : (c : Context) (w : Live) (b : Bool) → has_single_blocks (loop_body c) ≡ b → has_loop_values c ≡ true → Starts (unlimited c) w (Sign token.While)
+while_begins c w true e h = begun_by c w (Sign token.While) (plain (form.CompoundValue here (form.While true_value here single))) (Sign token.True ∷ Sign token.LeftBrace ∷ one ∷ Sign token.RightBrace ∷ []) (refl, (h, (refl, (refl, (refl, (refl, (refl, (refl, (refl, (refl, (refl, (refl, (refl, (refl, (refl, (refl, (e, (refl, (refl, (refl, (refl, (refl, (refl, (refl, (refl, (refl, (refl, (refl, (refl, (refl, refl))))))))))))))))))))))))))))))
+while_begins c w false e h = begun_by c w (Sign token.While) (plain (form.CompoundValue here (form.While true_value here many))) (Sign token.True ∷ Sign token.LeftBrace ∷ Sign token.RightBrace ∷ []) (refl, (h, (refl, (refl, (refl, (refl, (refl, (refl, (refl, (refl, (refl, (refl, (refl, (refl, (refl, (refl, (ap not e, (refl, (refl, (refl, (refl, (refl, (refl, refl)))))))))))))))))))))))
+
+loop_begins : (c : Context) (w : Live) (b : Bool) → has_single_blocks (loop_body c) ≡ b → has_loop_values c ≡ true → Starts (unlimited c) w (Sign token.Loop)
+loop_begins c w true e h = begun_by c w (Sign token.Loop) (plain (form.CompoundValue here (form.Loop here single))) (Sign token.LeftBrace ∷ one ∷ Sign token.RightBrace ∷ []) (refl, (h, (refl, (refl, (refl, (refl, (refl, (e, (refl, (refl, (refl, (refl, (refl, (refl, (refl, (refl, (refl, (refl, (refl, (refl, (refl, refl)))))))))))))))))))))
+loop_begins c w false e h = begun_by c w (Sign token.Loop) (plain (form.CompoundValue here (form.Loop here many))) (Sign token.LeftBrace ∷ Sign token.RightBrace ∷ []) (refl, (h, (refl, (refl, (refl, (refl, (refl, (ap not e, (refl, (refl, (refl, (refl, (refl, (refl, refl))))))))))))))
+
+do_begins : (c : Context) (w : Live) (b : Bool) → has_single_blocks (loop_body c) ≡ b → has_loop_values c ≡ true → Starts (unlimited c) w (Sign token.Do)
+do_begins c w true e h = begun_by c w (Sign token.Do) (plain (form.CompoundValue here (form.Do here single false here true_value))) (Sign token.LeftBrace ∷ one ∷ Sign token.RightBrace ∷ Sign token.While ∷ Sign token.True ∷ []) (refl, (h, (refl, (refl, (refl, (refl, (refl, (e, (refl, (refl, (refl, (refl, (refl, (refl, (refl, (refl, (refl, (refl, (refl, (refl, (refl, (refl, (refl, (refl, (refl, (refl, (refl, (refl, (refl, (refl, (refl, refl)))))))))))))))))))))))))))))))
+do_begins c w false e h = begun_by c w (Sign token.Do) (plain (form.CompoundValue here (form.Do here many false here true_value))) (Sign token.LeftBrace ∷ Sign token.RightBrace ∷ Sign token.While ∷ Sign token.True ∷ []) (refl, (h, (refl, (refl, (refl, (refl, (refl, (ap not e, (refl, (refl, (refl, (refl, (refl, (refl, (refl, (refl, (refl, (refl, (refl, (refl, (refl, (refl, (refl, (refl, refl))))))))))))))))))))))))
+
+for_begins : (c : Context) (w : Live) (b : Bool) → has_single_blocks (loop_body c) ≡ b → has_loop_values c ≡ true → Starts (unlimited c) w (Sign token.For)
+for_begins c w true e h = begun_by c w (Sign token.For) (plain (form.CompoundValue here (form.For (form.Variable [] here) here (value (String [])) here single))) (Name [] ∷ Sign token.In ∷ String [] ∷ Sign token.LeftBrace ∷ one ∷ Sign token.RightBrace ∷ []) (refl, (h, (refl, (refl, (refl, (refl, (refl, (refl, (refl, (refl, (refl, (refl, (refl, (refl, (refl, (refl, (refl, (e, (refl, (refl, (refl, (refl, (refl, (refl, (refl, (refl, (refl, (refl, (refl, (refl, (refl, refl)))))))))))))))))))))))))))))))
+for_begins c w false e h = begun_by c w (Sign token.For) (plain (form.CompoundValue here (form.For (form.Variable [] here) here (value (String [])) here many))) (Name [] ∷ Sign token.In ∷ String [] ∷ Sign token.LeftBrace ∷ Sign token.RightBrace ∷ []) (refl, (h, (refl, (refl, (refl, (refl, (refl, (refl, (refl, (refl, (refl, (refl, (refl, (refl, (refl, (refl, (refl, (ap not e, (refl, (refl, (refl, (refl, (refl, (refl, refl))))))))))))))))))))))))
 
 -- Only the last text is requested in text mode.
 abbrev filled : Text → Body → Run
@@ -143,6 +183,11 @@ sign c w token.LeftParen h = begun_by c w (Sign token.LeftParen) (plain (form.Gr
 sign c w token.LeftBracket h = begun_by c w (Sign token.LeftBracket) (plain (form.Array here (form.NoElement here))) (Sign token.RightBracket ∷ []) (refl, (refl, (refl, (refl, (refl, (refl, (refl, (refl, refl))))))))
 sign c w token.MapStart h = begun_by c w (Sign token.MapStart) (plain (form.Map here (form.NoField here))) (Sign token.RightBrace ∷ []) (refl, (refl, (refl, (refl, (refl, (refl, (refl, (refl, refl))))))))
 sign c w token.LeftBrace h = block c w (has_single_blocks c) refl h
+sign c w token.If h = if_begins c w (has_single_blocks c) refl h
+sign c w token.While h = while_begins c w (has_single_blocks (loop_body c)) refl h
+sign c w token.Loop h = loop_begins c w (has_single_blocks (loop_body c)) refl h
+sign c w token.Do h = do_begins c w (has_single_blocks (loop_body c)) refl h
+sign c w token.For h = for_begins c w (has_single_blocks (loop_body c)) refl h
 sign c w token.Minus h = begun_by c w (Sign token.Minus) (signed (Sign token.Minus)) (one ∷ []) (refl, (refl, (refl, (refl, (refl, (refl, (refl, (refl, (refl, (refl, (refl, refl)))))))))))
 sign c w token.UnaryMinus h = begun_by c w (Sign token.UnaryMinus) (signed (Sign token.UnaryMinus)) (one ∷ []) (refl, (refl, (refl, (refl, (refl, (refl, (refl, (refl, (refl, (refl, (refl, refl)))))))))))
 sign c w token.Plus h = begun_by c w (Sign token.Plus) (signed (Sign token.Plus)) (one ∷ []) (refl, (refl, (refl, (refl, (refl, (refl, (refl, (refl, (refl, (refl, (refl, refl)))))))))))

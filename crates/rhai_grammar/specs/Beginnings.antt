@@ -12,11 +12,13 @@ use Rattle.rhai_lower.specs.declared.token.Token.TheVariants.{RightBracket, Ques
 use Rattle.rhai_lower.specs.declared.token.Token.TheVariants.{LeftBrace, RightBrace, Comma, SemiColon, DoubleArrow, Minus}
 use Rattle.rhai_lower.specs.declared.token.Token.TheVariants.{UnaryMinus, Plus, UnaryPlus, Bang, ExclusiveRange}
 use Rattle.rhai_lower.specs.declared.token.Token.TheVariants.{InclusiveRange}
+use Rattle.rhai_lower.specs.declared.token.Token.TheVariants as token
 use Rattle.rhai_grammar.specs.Causes as cause
 use Rattle.rhai_grammar.specs.Causes.{Cause}
 use Rattle.rhai_grammar.specs.Delivered.{is_end}
 use Rattle.rhai_grammar.specs.declared.role.Beginning.{Beginning}
 use Rattle.rhai_grammar.specs.declared.role.Beginning.TheVariants as begin
+use Rattle.rhai_grammar.specs.declared.role.Construct.TheVariants as construct
 use Rattle.rhai_grammar.specs.declared.role.Calling.{Calling}
 use Rattle.rhai_grammar.specs.declared.role.Calling.TheVariants as call
 use Rattle.rhai_grammar.specs.declared.role.Linking.{Linking}
@@ -41,7 +43,12 @@ sign_beginning False = begin.Value
 sign_beginning LeftParen = begin.Group
 sign_beginning LeftBracket = begin.Array
 sign_beginning MapStart = begin.Map
-sign_beginning LeftBrace = begin.Block
+sign_beginning LeftBrace = begin.Construct construct.Block
+sign_beginning token.If = begin.Construct construct.If
+sign_beginning token.While = begin.Construct construct.While
+sign_beginning token.Loop = begin.Construct construct.Loop
+sign_beginning token.Do = begin.Construct construct.Do
+sign_beginning token.For = begin.Construct construct.For
 sign_beginning Minus = begin.Sign
 sign_beginning UnaryMinus = begin.Sign
 sign_beginning Plus = begin.Sign

@@ -36,9 +36,28 @@ in_block live = record live { block = length live.slots }
 abbrev pub allows_shadowing : Context → Bool
 allows_shadowing context = bit_and context.options 128 == 128
 
+-- the engine lets scripts have loops
+abbrev pub allows_looping : Context → Bool
+allows_looping context = bit_and context.options 32 == 32
+
 -- a block is an operand
 abbrev pub has_block_values : Context → Bool
 has_block_values context = settings.block_values context.settings
+
+-- an `if` is an operand
+abbrev pub has_if_values : Context → Bool
+has_if_values context = settings.if_values context.settings
+
+-- a loop is an operand
+abbrev pub has_loop_values : Context → Bool
+has_loop_values context = allows_looping context && settings.loop_values context.settings
+
+-- in the body of a loop, which `break` and `continue` leave
+abbrev pub is_in_loop : Context → Bool
+is_in_loop context = settings.in_loop context.settings
+
+abbrev pub loop_body : Context → Context
+loop_body context = record context { settings = settings.loop_body context.settings }
 
 -- a block is one expression or assignment
 abbrev pub has_single_blocks : Context → Bool

@@ -5,7 +5,7 @@ use Rattle.std.specs.Prelude.{length, nat_lt, codes, refl}
 use Rattle.std.specs.Prelude.{if◌then◌else◌}
 use Rattle.rhai_lower.specs.Texts.{Text}
 use Rattle.rhai_lower.specs.Slots.{SlotValue, fresh_slot, with_slot, with_constant}
-use Rattle.rhai_grammar.specs.Contexts.{Context, Live, allows_shadowing}
+use Rattle.rhai_grammar.specs.Contexts.{Context, Live, allows_shadowing, in_block}
 use Rattle.rhai_grammar.specs.Slots.{number, slot_from_latest}
 use Rattle.rhai_grammar.specs.Forms as form
 use Rattle.rhai_grammar.specs.Forms.{Statement, Statements}
@@ -53,7 +53,21 @@ may_define context name live = allows_shadowing context || is_none (number name 
 abbrev pub defined : Text → (constant : Bool) → Live → Live
 defined name constant live = record live { slots = define live.block name constant live.slots }
 
--- what is live after a statement; a block gives back what it found
+-- what is live with one more slot, which has this name, whether there is one of that name already or not
+abbrev pub declared : Text → Live → Live
+declared name live = record live { slots = with_slot live.slots name false }
+
+-- what is live in the body of `for`: in a block of their own, the counter, if there is one, and then the variable
+abbrev pub loop_live : Text → (counter : Option Text) → Live → Live
+loop_live name None live = declared name (in_block live)
+loop_live name (Some counter) live = declared name (declared counter (in_block live))
+
+-- what is live in the block of `catch`: in a block of its own, its variable, if it has one
+abbrev pub catch_live : Option Text → Live → Live
+catch_live None live = in_block live
+catch_live (Some name) live = declared name (in_block live)
+
+-- what is live after a statement; a construct gives back what it found
 abbrev pub after_statement : Statement → Live → Live
 after_statement (form.Define constant at name name_at value) live = defined name constant live
 after_statement _ live = live

@@ -1,4 +1,4 @@
--- Tokens that are required where a construct continues or ends, and the error for another token in their place.
+-- Tokens that continue or end a construct, and the error for another token in their place.
 use Rattle.std.specs.Prelude.{◌≡◌, Bool, true, false, codes, refl}
 use Rattle.rhai_lower.specs.Texts.{Text}
 use Rattle.rhai_lower.specs.Lexemes.{Lexeme, Sign}
@@ -8,29 +8,51 @@ use Rattle.rhai_grammar.specs.Beginnings.{missing}
 use Rattle.rhai_grammar.specs.Causes as cause
 use Rattle.rhai_grammar.specs.Causes.{Cause}
 use Rattle.rhai_grammar.specs.declared.due.DueToken.{DueToken}
-use Rattle.rhai_grammar.specs.declared.due.DueToken.TheVariants.{RightParen, RightBracket, Colon, LeftBrace, RightBrace}
+use Rattle.rhai_grammar.specs.declared.due.DueToken.TheVariants.{LeftParen, RightParen, RightBracket, Colon, LeftBrace}
+use Rattle.rhai_grammar.specs.declared.due.DueToken.TheVariants.{RightBrace, Comma, Equals, In, If, Else, Catch}
 
 abbrev pub token_of : DueToken → Token
+token_of LeftParen = token.LeftParen
 token_of RightParen = token.RightParen
 token_of RightBracket = token.RightBracket
 token_of Colon = token.Colon
 token_of LeftBrace = token.LeftBrace
 token_of RightBrace = token.RightBrace
+token_of Comma = token.Comma
+token_of Equals = token.Equals
+token_of In = token.In
+token_of If = token.If
+token_of Else = token.Else
+token_of Catch = token.Catch
 
 -- how it is written
 abbrev pub text_of_due : DueToken → Text
+text_of_due LeftParen = codes "("
 text_of_due RightParen = codes ")"
 text_of_due RightBracket = codes "]"
 text_of_due Colon = codes ":"
 text_of_due LeftBrace = codes "{"
 text_of_due RightBrace = codes "}"
+text_of_due Comma = codes ","
+text_of_due Equals = codes "="
+text_of_due In = codes "in"
+text_of_due If = codes "if"
+text_of_due Else = codes "else"
+text_of_due Catch = codes "catch"
 
 abbrev is_due_sign : DueToken → Token → Bool
+is_due_sign LeftParen token.LeftParen = true
 is_due_sign RightParen token.RightParen = true
 is_due_sign RightBracket token.RightBracket = true
 is_due_sign Colon token.Colon = true
 is_due_sign LeftBrace token.LeftBrace = true
 is_due_sign RightBrace token.RightBrace = true
+is_due_sign Comma token.Comma = true
+is_due_sign Equals token.Equals = true
+is_due_sign In token.In = true
+is_due_sign If token.If = true
+is_due_sign Else token.Else = true
+is_due_sign Catch token.Catch = true
 is_due_sign _ _ = false
 
 -- a token is the required one

@@ -4,6 +4,18 @@ use Rattle.rhai_lower.specs.Texts.{Text}
 use Rattle.rhai_lower.specs.Lexemes.{Lexeme}
 use Rattle.rhai_lower.specs.declared.position.Position.{Position}
 
+-- the variables of `for`
+pub data LoopNames : Type 0 where
+  Variable : (name : Text) (at : Position) → LoopNames
+  -- the variable and the counter, in parentheses
+  Counted : (opening : Position) (name : Text) (at comma : Position) (counter : Text) (counter_at closing : Position)
+      → LoopNames
+
+-- the variable of `catch`, in parentheses
+pub data CatchName : Type 0 where
+  NoName : CatchName
+  Caught : (opening : Position) (name : Text) (at closing : Position) → CatchName
+
 mutual
   -- an operand without signs, call and links
   pub data Primary : Type 0 where
@@ -21,8 +33,8 @@ mutual
     Map : (opening : Position) (fields : Fields) → Primary
     -- an interpolated string, from its first text
     Interpolated : (first : Text) (at : Position) → Segments → Primary
-    -- a block as a value
-    BlockValue : (opening : Position) → Body → Primary
+    -- a construct as a value
+    CompoundValue : (at : Position) → Construct → Primary
     -- the omitted zero before a range operator; it names the operator, which is not one of this form's tokens
     Zero : (range : Lexeme) (at : Position) → Primary
 
@@ -49,8 +61,8 @@ mutual
     Signed : (sign : Lexeme) (at : Position) (operand : Operand) → Operand
     -- the omitted unit after a range operator; it names the token there, which is not one of this form's tokens
     NoOperand : (token : Lexeme) (at : Position) → Operand
-    -- a `return` or `throw` after `??`
-    Jump : (throws : Bool) (at : Position) → JumpValue → Operand
+    -- the statement of a jump after `??`
+    Jump : Statement → Operand
 
   pub data Arguments : Type 0 where
     -- `()` as one token
@@ -101,7 +113,7 @@ mutual
     NoValue : Initializer
     Valued : (equals : Position) → Run → Initializer
 
-  -- what a `return` or `throw` gives
+  -- what a `return`, `throw` or `break` gives
   pub data JumpValue : Type 0 where
     Absent : JumpValue
     Present : Run → JumpValue
@@ -112,9 +124,34 @@ mutual
     Expression : ExprStatement → Statement
     -- `let` or `const`
     Define : (constant : Bool) (at : Position) (name : Text) (name_at : Position) → Initializer → Statement
-    Block : (opening : Position) → Body → Statement
+    -- a construct, whose first token is at a position
+    Compound : (at : Position) → Construct → Statement
     -- `return` or `throw`
     Return : (throws : Bool) (at : Position) → JumpValue → Statement
+    Break : (at : Position) → JumpValue → Statement
+    Continue : (at : Position) → Statement
+
+  -- a construct after its first token
+  pub data Construct : Type 0 where
+    Block : Body → Construct
+    If : Conditional → Construct
+    While : (guard : Run) (opening : Position) → Body → Construct
+    Loop : (opening : Position) → Body → Construct
+    -- with `while`, or with `until`, which negates the guard
+    Do : (opening : Position) → Body → (negated : Bool) (at : Position) (guard : Run) → Construct
+    For : LoopNames → (in_at : Position) (over : Run) (opening : Position) → Body → Construct
+    Try : (opening : Position) → Body → (catch_at : Position) → CatchName → (catch_opening : Position) → Body
+        → Construct
+
+  -- a guard with its block, after `if`, and what follows
+  pub data Conditional : Type 0 where
+    Guarded : (guard : Run) (opening : Position) → Body → Branch → Conditional
+
+  -- what follows the block of an `if`
+  pub data Branch : Type 0 where
+    NoElse : Branch
+    Else : (at opening : Position) → Body → Branch
+    ElseIf : (at if_at : Position) → Conditional → Branch
 
   -- the statements of a block or of a script, up to what closes it
   pub data Statements : Type 0 where

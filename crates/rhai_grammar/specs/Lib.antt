@@ -21,10 +21,12 @@ pub mod Targets
 pub mod Interpolations
 pub mod Trees
 pub mod Demands
+pub mod Constructs
 pub mod Statements
 pub mod Starts
 pub mod Verdicts
 pub mod Spots
+pub mod Parts
 pub mod Written
 pub mod Promises
 pub mod Spelling

@@ -11,8 +11,8 @@ use Rattle.rhai_grammar.specs.Causes as cause
 use Rattle.rhai_grammar.specs.Causes.{Refusal, refusal}
 use Rattle.rhai_grammar.specs.Contexts.{Context, nothing_live}
 use Rattle.rhai_grammar.specs.Definitions.{after_statements}
-use Rattle.rhai_grammar.specs.Forms.{Run, Just, Named, BlockValue, Evaluate, Assign, Single, Valued}
-use Rattle.rhai_grammar.specs.Forms.{Statement, Expression, Define, Block}
+use Rattle.rhai_grammar.specs.Forms.{Run, Just, Named, CompoundValue, Evaluate, Assign, Single, Valued}
+use Rattle.rhai_grammar.specs.Forms.{Statement, Expression, Define, Block, Compound}
 use Rattle.rhai_grammar.specs.Forms.{Statements, NoStatement, LastStatement, Ended, Standing, Many}
 use Rattle.rhai_grammar.specs.Statements.{keyword_of}
 use Rattle.rhai_grammar.specs.Trees.{variable_of, statement_trees, tree}
@@ -83,7 +83,7 @@ abbrev pub scopes_form : Statements
 scopes_form =
     ended (defines false 1 (codes "x") 5 7 (number 1 9)) 10 (
     ended (defines false 12 (codes "y") 16 18 (number 2 20)) 21 (
-    Standing (Block (place 1 23) (Many scopes_inner (place 1 38))) NoStatement))
+    Standing (Compound (place 1 23) (Block (Many scopes_inner (place 1 38)))) NoStatement))
 
 abbrev pub scopes_inner_tree : node.Statements
 scopes_inner_tree =
@@ -162,7 +162,7 @@ ended_tokens = open_tokens ++ ((Sign token.SemiColon, 4) ∷ [])
 
 -- a block from the first column on as a whole script
 abbrev pub block_alone : Statements → (closing : ℕ) → Statements
-block_alone fs closing = Standing (Block (place 1 1) (Many fs (place 1 closing))) NoStatement
+block_alone fs closing = Standing (Compound (place 1 1) (Block (Many fs (place 1 closing)))) NoStatement
 
 abbrev pub open_form : Statements
 open_form = block_alone (LastStatement (evaluates (number 1 3))) 4
@@ -183,7 +183,8 @@ abbrev pub single_rest : List (Lexeme × ℕ)
 single_rest = (Sign token.SemiColon, 4) ∷ (Integer (pos 2), 6) ∷ (Sign token.RightBrace, 8) ∷ []
 
 abbrev pub single_form : Statements
-single_form = Standing (Block (place 1 1) (Single (Evaluate (number 1 3)) (place 1 4))) NoStatement
+single_form =
+    Standing (Compound (place 1 1) (Block (Single (Evaluate (number 1 3)) (place 1 4)))) NoStatement
 
 -- under the flag that makes a block one expression
 abbrev pub single_blocks : Context
@@ -191,7 +192,8 @@ single_blocks = record (depth 64) { settings = record { flags = 16; options = 0;
 
 -- `{ 1 }` as an operand, where the options allow that and a block is one expression
 abbrev pub value_form : Run
-value_form = Just (plain (BlockValue (place 1 1) (Single (Evaluate (number 1 3)) (place 1 5))))
+value_form =
+    Just (plain (CompoundValue (place 1 1) (Block (Single (Evaluate (number 1 3)) (place 1 5)))))
 
 abbrev pub value_tokens : List (Lexeme × ℕ)
 value_tokens = open_tokens ++ ((Sign token.RightBrace, 5) ∷ [])

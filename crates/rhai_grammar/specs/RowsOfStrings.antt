@@ -92,7 +92,7 @@ jump_tokens = jump_begun ++ jump_rest
 abbrev pub jump_form : Run
 jump_form =
     Binary (Sign token.DoubleQuestion) (place 1 3) (named (codes "a") 1) (
-    Just (form.Jump false (place 1 6) (form.Present (number 1 13))))
+    Just (form.Jump (form.Return false (place 1 6) (form.Present (number 1 13)))))
 
 abbrev pub jump_tree : Node
 jump_tree =

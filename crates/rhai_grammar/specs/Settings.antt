@@ -1,7 +1,7 @@
 -- The settings under which a construct is parsed, as plain numbers: the bits of the flags and of the options, the
 -- level, and its limit (0 means none). Their position is left out.
 use Rattle.std.specs.Prelude.{◌≡◌, ℕ, ◌+◌, ◌-◌, ◌^◌, ◌==◌, ◌||◌, Bool, true, false, nat_lt, min, refl}
-use Rattle.std.specs.Int.RustNames.{bit_and}
+use Rattle.std.specs.Int.RustNames.{bit_and, bit_or}
 
 pub record Settings : Type 0 where
   pub flags : ℕ
@@ -13,6 +13,14 @@ pub record Settings : Type 0 where
 abbrev pub in_function : Settings → Bool
 in_function settings = bit_and settings.flags 2 == 2
 
+-- the bit of the flags that says that a loop's body is parsed
+abbrev pub in_loop : Settings → Bool
+in_loop settings = bit_and settings.flags 8 == 8
+
+-- the settings in a loop's body
+abbrev pub loop_body : Settings → Settings
+loop_body settings = record settings { flags = bit_or settings.flags 8 }
+
 -- the bit of the flags that makes a block one expression or assignment
 abbrev pub single_blocks : Settings → Bool
 single_blocks settings = bit_and settings.flags 16 == 16
@@ -20,6 +28,14 @@ single_blocks settings = bit_and settings.flags 16 == 16
 -- the bit of the flags that requires strings as keys of object maps
 abbrev pub quoted_keys : Settings → Bool
 quoted_keys settings = bit_and settings.flags 32 == 32
+
+-- the bit of the options that makes an `if` an operand
+abbrev pub if_values : Settings → Bool
+if_values settings = bit_and settings.options 1 == 1
+
+-- the bit of the options that makes a loop an operand
+abbrev pub loop_values : Settings → Bool
+loop_values settings = bit_and settings.options 4 == 4
 
 -- the bit of the options that makes a block an operand
 abbrev pub block_values : Settings → Bool

@@ -11,7 +11,8 @@ use Rattle.rhai_grammar.specs.Slots.{number}
 use Rattle.rhai_grammar.specs.Trees.{tree}
 use Rattle.rhai_grammar.specs.Forms as form
 use Rattle.rhai_grammar.specs.Forms.{Arguments, Base, Body, Elements, ExprStatement, Fields, Initializer, Items, Links}
-use Rattle.rhai_grammar.specs.Forms.{JumpValue, Operand, Primary, Run, Segments}
+use Rattle.rhai_grammar.specs.Forms.{Branch, CatchName, Conditional, Construct, JumpValue, LoopNames, Operand}
+use Rattle.rhai_grammar.specs.Forms.{Primary, Run, Segments}
 
 -- ---- trees
 
@@ -103,6 +104,15 @@ abbrev mutual
 abbrev pub bang_shape : Option Position → Option Position
 bang_shape bang = option_map (λ at. nowhere) bang
 
+abbrev pub names_shape : LoopNames → LoopNames
+names_shape (form.Variable name at) = form.Variable name nowhere
+names_shape (form.Counted opening name at comma counter counter_at closing) =
+    form.Counted nowhere name nowhere nowhere counter nowhere nowhere
+
+abbrev pub catch_shape : CatchName → CatchName
+catch_shape form.NoName = form.NoName
+catch_shape (form.Caught opening name at closing) = form.Caught nowhere name nowhere nowhere
+
 abbrev mutual
   pub primary_shape : Primary → Primary
   primary_shape (form.Value token at) = form.Value token nowhere
@@ -112,7 +122,7 @@ abbrev mutual
   primary_shape (form.Array opening elements) = form.Array nowhere (elements_shape elements)
   primary_shape (form.Map opening fields) = form.Map nowhere (fields_shape fields)
   primary_shape (form.Interpolated first at segments) = form.Interpolated first nowhere (segments_shape segments)
-  primary_shape (form.BlockValue opening body) = form.BlockValue nowhere (body_shape body)
+  primary_shape (form.CompoundValue at x) = form.CompoundValue nowhere (construct_shape x)
   primary_shape (form.Zero range at) = form.Zero range nowhere
 
   pub base_shape : Base → Base
@@ -131,7 +141,7 @@ abbrev mutual
   operand_shape (form.Linked x links) = form.Linked (base_shape x) (links_shape links)
   operand_shape (form.Signed sign at x) = form.Signed sign nowhere (operand_shape x)
   operand_shape (form.NoOperand token at) = form.NoOperand token nowhere
-  operand_shape (form.Jump throws at value) = form.Jump throws nowhere (jump_shape value)
+  operand_shape (form.Jump x) = form.Jump (written_shape x)
 
   pub arguments_shape : Arguments → Arguments
   arguments_shape (form.EmptyPair at) = form.EmptyPair nowhere
@@ -180,8 +190,31 @@ abbrev mutual
   written_shape (form.Expression x) = form.Expression (evaluation_shape x)
   written_shape (form.Define constant at name name_at value) =
       form.Define constant nowhere name nowhere (initializer_shape value)
-  written_shape (form.Block opening body) = form.Block nowhere (body_shape body)
+  written_shape (form.Compound at x) = form.Compound nowhere (construct_shape x)
   written_shape (form.Return throws at value) = form.Return throws nowhere (jump_shape value)
+  written_shape (form.Break at value) = form.Break nowhere (jump_shape value)
+  written_shape (form.Continue at) = form.Continue nowhere
+
+  pub construct_shape : Construct → Construct
+  construct_shape (form.Block body) = form.Block (body_shape body)
+  construct_shape (form.If x) = form.If (conditional_shape x)
+  construct_shape (form.While guard opening body) = form.While (run_shape guard) nowhere (body_shape body)
+  construct_shape (form.Loop opening body) = form.Loop nowhere (body_shape body)
+  construct_shape (form.Do opening body negated at guard) =
+      form.Do nowhere (body_shape body) negated nowhere (run_shape guard)
+  construct_shape (form.For names in_at over opening body) =
+      form.For (names_shape names) nowhere (run_shape over) nowhere (body_shape body)
+  construct_shape (form.Try opening body catch_at name catch_opening handler) =
+      form.Try nowhere (body_shape body) nowhere (catch_shape name) nowhere (body_shape handler)
+
+  pub conditional_shape : Conditional → Conditional
+  conditional_shape (form.Guarded guard opening body rest) =
+      form.Guarded (run_shape guard) nowhere (body_shape body) (branch_shape rest)
+
+  pub branch_shape : Branch → Branch
+  branch_shape form.NoElse = form.NoElse
+  branch_shape (form.Else at opening body) = form.Else nowhere nowhere (body_shape body)
+  branch_shape (form.ElseIf at if_at x) = form.ElseIf nowhere nowhere (conditional_shape x)
 
   pub script_shape : form.Statements → form.Statements
   script_shape form.NoStatement = form.NoStatement

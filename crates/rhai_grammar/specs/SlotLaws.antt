@@ -1,6 +1,6 @@
 -- Laws of names and slots that users rely on: which slot a use refers to, what a definition does, and where a scope
 -- ends.
-use Rattle.std.specs.Prelude.{◌≡◌, ℕ, ◌+◌, ◌-◌, ◌≤◌, ◌↔◌, ◌⊎◌, Bool, true, false, List, [], ◌∷◌, Some, None}
+use Rattle.std.specs.Prelude.{◌≡◌, ℕ, ◌+◌, ◌-◌, ◌≤◌, ◌↔◌, ◌⊎◌, Bool, true, false, List, [], ◌∷◌, Option, Some, None}
 use Rattle.std.specs.Prelude.{length, take, codes, refl}
 use Rattle.rhai_lower.specs.Texts.{Text}
 use Rattle.rhai_lower.specs.Names.{is_identifier}
@@ -8,9 +8,10 @@ use Rattle.rhai_lower.specs.Positions.{place}
 use Rattle.rhai_lower.specs.Slots.{SlotValue, fresh_slot}
 use Rattle.rhai_lower.specs.declared.position.Position.{Position}
 use Rattle.rhai_grammar.specs.Contexts.{Live, in_block}
-use Rattle.rhai_grammar.specs.Definitions.{after_statement, after_statements, define, is_exported, reused}
+use Rattle.rhai_grammar.specs.Definitions.{after_statement, after_statements, catch_live, define, is_exported}
+use Rattle.rhai_grammar.specs.Definitions.{loop_live, reused}
 use Rattle.rhai_grammar.specs.Forms as form
-use Rattle.rhai_grammar.specs.Forms.{Body, ExprStatement, Named, Statements}
+use Rattle.rhai_grammar.specs.Forms.{Construct, ExprStatement, Named, Statements}
 use Rattle.rhai_grammar.specs.Slots.{IsLatest, is_barrier, number, slot_from_latest}
 use Rattle.rhai_grammar.specs.Trees.{primary_tree, variable_of}
 
@@ -56,17 +57,23 @@ pub record Reuse : Type 0 where
   pub identifier : (name : Text) (constant : Bool) →
       is_identifier name ≡ true → is_barrier (fresh_slot name constant) ≡ false
 
--- A block and an expression leave live what was live before them. Statements leave the slots before their block as they
--- were, so a block's end gives back the slots that the block found.
+-- A construct and an expression leave live what was live before them. Statements leave the slots before their block as
+-- they were, so a block's end gives back the slots that the block found. The variables of `for` and of `catch` are above
+-- all that were there.
 pub record ScopesClose : Type 0 where
-  pub block : (opening : Position) (body : Body) (live : Live) →
-      after_statement (form.Block opening body) live ≡ live
+  pub construct : (at : Position) (x : Construct) (live : Live) → after_statement (form.Compound at x) live ≡ live
   pub expression : (x : ExprStatement) (live : Live) → after_statement (form.Expression x) live ≡ live
   pub start : (fs : Statements) (live : Live) → (after_statements fs live).block ≡ live.block
   pub before : (fs : Statements) (live : Live) → live.block ≤ length live.slots →
       take live.block (after_statements fs live).slots ≡ take live.block live.slots
   pub given_back : (fs : Statements) (live : Live) →
       take (length live.slots) (after_statements fs (in_block live)).slots ≡ live.slots
+  pub loop : (name : Text) (counter : Option Text) (live : Live) →
+      (loop_live name counter live).block ≡ length live.slots
+      × take (length live.slots) (loop_live name counter live).slots ≡ live.slots
+  pub handler : (name : Option Text) (live : Live) →
+      (catch_live name live).block ≡ length live.slots
+      × take (length live.slots) (catch_live name live).slots ≡ live.slots
 
 -- Two variables of one name are live, the second in a block: a use refers to the second, and a definition uses its slot
 -- again.

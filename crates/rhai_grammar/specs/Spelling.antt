@@ -11,7 +11,9 @@ use Rattle.rhai_lower.specs.declared.token.Token.TheVariants as token
 use Rattle.rhai_grammar.specs.Delivered.{code, text, item, Tokens, Ends, Then, Taken}
 use Rattle.rhai_grammar.specs.Forms as form
 use Rattle.rhai_grammar.specs.Forms.{Primary, Base, Links, Operand, Arguments, Items, Elements, Fields, Run}
-use Rattle.rhai_grammar.specs.Forms.{Body, ExprStatement, Initializer, JumpValue, Segments, Statement, Statements}
+use Rattle.rhai_grammar.specs.Forms.{Body, Branch, CatchName, Conditional, Construct, ExprStatement, Initializer}
+use Rattle.rhai_grammar.specs.Forms.{JumpValue, LoopNames, Segments, Statement, Statements}
+use Rattle.rhai_grammar.specs.Constructs.{construct_token, do_token, kind_of}
 use Rattle.rhai_grammar.specs.Starts.{jump_token}
 use Rattle.rhai_grammar.specs.Statements.{keyword_of}
 
@@ -28,6 +30,17 @@ abbrev pub bang_spelling : Option Position → List Taken
 bang_spelling None = []
 bang_spelling (Some at) = in_code (Sign Bang) at ∷ []
 
+abbrev pub names_spelling : LoopNames → List Taken
+names_spelling (form.Variable name at) = in_code (Name name) at ∷ []
+names_spelling (form.Counted opening name at comma counter counter_at closing) =
+    in_code (Sign LeftParen) opening ∷ in_code (Name name) at ∷ in_code (Sign Comma) comma
+    ∷ in_code (Name counter) counter_at ∷ in_code (Sign RightParen) closing ∷ []
+
+abbrev pub catch_spelling : CatchName → List Taken
+catch_spelling form.NoName = []
+catch_spelling (form.Caught opening name at closing) =
+    in_code (Sign LeftParen) opening ∷ in_code (Name name) at ∷ in_code (Sign RightParen) closing ∷ []
+
 -- A form's tokens in written order, each with the mode in which it is requested. The omitted zero and the omitted unit
 -- have none.
 abbrev mutual
@@ -40,7 +53,7 @@ abbrev mutual
   primary_spelling (form.Array opening elements) = in_code (Sign LeftBracket) opening ∷ element_spelling elements
   primary_spelling (form.Map opening fields) = in_code (Sign MapStart) opening ∷ field_spelling fields
   primary_spelling (form.Interpolated first at list) = in_code (Interpolated first) at ∷ segment_spelling list
-  primary_spelling (form.BlockValue opening body) = in_code (Sign LeftBrace) opening ∷ body_spelling body
+  primary_spelling (form.CompoundValue at x) = in_code (Sign (construct_token (kind_of x))) at ∷ construct_spelling x
   primary_spelling (form.Zero range at) = []
 
   pub base_spelling : Base → List Taken
@@ -60,7 +73,7 @@ abbrev mutual
   operand_spelling (form.Linked x links) = base_spelling x ++ link_spelling links
   operand_spelling (form.Signed sign at x) = in_code sign at ∷ operand_spelling x
   operand_spelling (form.NoOperand token at) = []
-  operand_spelling (form.Jump throws at value) = in_code (Sign (jump_token throws)) at ∷ jump_spelling value
+  operand_spelling (form.Jump x) = statement_spelling x
 
   pub argument_spelling : Arguments → List Taken
   argument_spelling (form.EmptyPair at) = in_code (Sign token.Unit) at ∷ []
@@ -114,8 +127,36 @@ abbrev mutual
   statement_spelling (form.Expression x) = evaluation_spelling x
   statement_spelling (form.Define constant at name name_at value) =
       in_code (Sign (keyword_of constant)) at ∷ in_code (Name name) name_at ∷ initializer_spelling value
-  statement_spelling (form.Block opening body) = in_code (Sign LeftBrace) opening ∷ body_spelling body
+  statement_spelling (form.Compound at x) = in_code (Sign (construct_token (kind_of x))) at ∷ construct_spelling x
   statement_spelling (form.Return throws at value) = in_code (Sign (jump_token throws)) at ∷ jump_spelling value
+  statement_spelling (form.Break at value) = in_code (Sign token.Break) at ∷ jump_spelling value
+  statement_spelling (form.Continue at) = in_code (Sign token.Continue) at ∷ []
+
+  pub construct_spelling : Construct → List Taken
+  construct_spelling (form.Block body) = body_spelling body
+  construct_spelling (form.If x) = conditional_spelling x
+  construct_spelling (form.While guard opening body) =
+      spelling guard ++ (in_code (Sign LeftBrace) opening ∷ body_spelling body)
+  construct_spelling (form.Loop opening body) = in_code (Sign LeftBrace) opening ∷ body_spelling body
+  construct_spelling (form.Do opening body negated do_at guard) =
+      in_code (Sign LeftBrace) opening ∷ (body_spelling body ++ (in_code (Sign (do_token negated)) do_at ∷ spelling guard))
+  construct_spelling (form.For names in_at over opening body) =
+      names_spelling names
+      ++ (in_code (Sign token.In) in_at ∷ (spelling over ++ (in_code (Sign LeftBrace) opening ∷ body_spelling body)))
+  construct_spelling (form.Try opening body catch_at name catch_opening handler) =
+      in_code (Sign LeftBrace) opening ∷ (body_spelling body ++ (in_code (Sign token.Catch) catch_at
+      ∷ (catch_spelling name ++ (in_code (Sign LeftBrace) catch_opening ∷ body_spelling handler))))
+
+  pub conditional_spelling : Conditional → List Taken
+  conditional_spelling (form.Guarded guard opening body rest) =
+      spelling guard ++ (in_code (Sign LeftBrace) opening ∷ (body_spelling body ++ branch_spelling rest))
+
+  pub branch_spelling : Branch → List Taken
+  branch_spelling form.NoElse = []
+  branch_spelling (form.Else else_at opening body) =
+      in_code (Sign token.Else) else_at ∷ in_code (Sign LeftBrace) opening ∷ body_spelling body
+  branch_spelling (form.ElseIf else_at if_at x) =
+      in_code (Sign token.Else) else_at ∷ in_code (Sign token.If) if_at ∷ conditional_spelling x
 
   pub script_spelling : Statements → List Taken
   script_spelling form.NoStatement = []

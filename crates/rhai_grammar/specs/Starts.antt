@@ -1,11 +1,12 @@
--- Which tokens begin an expression, and what a `return` or `throw` makes of that: it has a value exactly where the next
--- token begins one.
+-- Which tokens begin an expression, and what a jump makes of that: `return`, `throw` and `break` have a value exactly
+-- where the next token begins one.
 use Rattle.std.specs.Prelude.{◌≡◌, Bool, true, false, if◌then◌else◌, refl}
 use Rattle.rhai_lower.specs.Lexemes.{Lexeme, Faulty, Sign, UnterminatedString}
 use Rattle.rhai_lower.specs.declared.token.Token.{Token}
 use Rattle.rhai_lower.specs.declared.token.Token.TheVariants as token
 use Rattle.rhai_grammar.specs.Beginnings.{beginning, omits_operand}
-use Rattle.rhai_grammar.specs.Contexts.{Context, has_block_values}
+use Rattle.rhai_grammar.specs.Constructs.{may_be_value}
+use Rattle.rhai_grammar.specs.Contexts.{Context}
 use Rattle.rhai_grammar.specs.Demands.{Verdict, Fine, Otherwise}
 use Rattle.rhai_grammar.specs.declared.role.Beginning.{Beginning}
 use Rattle.rhai_grammar.specs.declared.role.Beginning.TheVariants as begin
@@ -14,10 +15,10 @@ use Rattle.rhai_grammar.specs.declared.role.OperandPlace.TheVariants as place
 use Rattle.rhai_grammar.specs.declared.role.OperandStart.{OperandStart}
 use Rattle.rhai_grammar.specs.declared.role.OperandStart.TheVariants as start
 
--- An operand begins so under this context: a block only where it may be a value.
+-- An operand begins so under this context: a construct only where it may be a value.
 abbrev pub begins : Context → Beginning → Bool
 begins context begin.Nothing = false
-begins context begin.Block = has_block_values context
+begins context (begin.Construct kind) = may_be_value context kind
 begins context _ = true
 
 -- A token begins an expression if it begins an operand. An error of the tokenizer counts as a beginning too, so that it
@@ -42,22 +43,16 @@ place_after _ = place.Elsewhere
 abbrev pub sign_jumps : Token → Bool
 sign_jumps token.Return = true
 sign_jumps token.Throw = true
+sign_jumps token.Break = true
+sign_jumps token.Continue = true
 sign_jumps _ = false
 
--- `return` or `throw`
+-- the keyword of a jump
 abbrev pub jumps : Lexeme → Bool
 jumps (Sign t) = sign_jumps t
 jumps _ = false
 
-abbrev pub sign_throws : Token → Bool
-sign_throws token.Throw = true
-sign_throws _ = false
-
-abbrev pub is_throw : Lexeme → Bool
-is_throw (Sign t) = sign_throws t
-is_throw _ = false
-
--- its token
+-- the token of `return` or `throw`
 abbrev pub jump_token : (throws : Bool) → Token
 jump_token true = token.Throw
 jump_token false = token.Return
@@ -73,9 +68,13 @@ abbrev pub is_omitted : OperandStart → Bool
 is_omitted start.Omitted = true
 is_omitted _ = false
 
-abbrev pub is_jump : OperandStart → Bool
-is_jump start.Jump = true
-is_jump _ = false
+-- a jump in place of an operand
+abbrev pub jump_at : OperandStart → Verdict
+jump_at start.Jump = Fine
+jump_at _ = Otherwise
+
+abbrev pub jump_stands : OperandPlace → Lexeme → Verdict
+jump_stands place token = jump_at (operand_start place token)
 
 -- ---- the value of a jump
 

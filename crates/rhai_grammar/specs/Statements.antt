@@ -1,6 +1,9 @@
 -- What a token does where a statement begins, in a definition, and after a statement; and which tokens are refused
 -- there.
 use Rattle.std.specs.Prelude.{◌≡◌, Bool, true, false, codes, if◌then◌else◌, refl}
+use Rattle.rhai_grammar.specs.Constructs.{may_stand}
+use Rattle.rhai_grammar.specs.Contexts.{Context, allows_looping}
+use Rattle.rhai_grammar.specs.declared.role.Construct.TheVariants as construct
 use Rattle.rhai_lower.specs.Names.{is_identifier}
 use Rattle.rhai_lower.specs.Lexemes.{Lexeme, Faulty, Name, Reserved, Sign}
 use Rattle.rhai_lower.specs.Nodes as node
@@ -10,6 +13,8 @@ use Rattle.rhai_grammar.specs.Causes as cause
 use Rattle.rhai_grammar.specs.Causes.{Cause}
 use Rattle.rhai_grammar.specs.Beginnings.{missing}
 use Rattle.rhai_grammar.specs.Demands.{Verdict, Fine, Wrong, Otherwise}
+use Rattle.rhai_grammar.specs.DueTokens.{is_due}
+use Rattle.rhai_grammar.specs.declared.due.DueToken.TheVariants as due
 use Rattle.rhai_grammar.specs.Targets.{is_assignment, is_equals}
 use Rattle.rhai_grammar.specs.declared.role.AfterStatement.{AfterStatement}
 use Rattle.rhai_grammar.specs.declared.role.AfterStatement.TheVariants as after
@@ -22,17 +27,36 @@ use Rattle.rhai_grammar.specs.declared.role.StatementStart.TheVariants as start
 
 abbrev pub sign_start : Token → StatementStart
 sign_start token.SemiColon = start.Empty
-sign_start token.LeftBrace = start.Block
+sign_start token.LeftBrace = start.Construct construct.Block
+sign_start token.If = start.Construct construct.If
+sign_start token.While = start.Construct construct.While
+sign_start token.Loop = start.Construct construct.Loop
+sign_start token.Do = start.Construct construct.Do
+sign_start token.For = start.Construct construct.For
+sign_start token.Try = start.Construct construct.Try
 sign_start token.Let = start.Let
 sign_start token.Const = start.Const
 sign_start token.Return = start.Return
 sign_start token.Throw = start.Throw
+sign_start token.Break = start.Break
+sign_start token.Continue = start.Continue
 sign_start _ = start.Expression
 
+-- what a token begins where a statement is expected, if the engine lets scripts have loops
+abbrev pub any_start : Lexeme → StatementStart
+any_start (Sign t) = sign_start t
+any_start _ = start.Expression
+
+-- A start that is not allowed is an expression's: that is what is then expected there.
+abbrev pub allowed_start : Context → StatementStart → StatementStart
+allowed_start context (start.Construct kind) = if may_stand context kind then start.Construct kind else start.Expression
+allowed_start context start.Break = if allows_looping context then start.Break else start.Expression
+allowed_start context start.Continue = if allows_looping context then start.Continue else start.Expression
+allowed_start context other = other
+
 -- what a token begins where a statement is expected
-abbrev pub statement_start : Lexeme → StatementStart
-statement_start (Sign t) = sign_start t
-statement_start _ = start.Expression
+abbrev pub statement_start : Context → Lexeme → StatementStart
+statement_start context token = allowed_start context (any_start token)
 
 abbrev pub sign_place : Closing → Token → StatementPlace
 sign_place Brace token.RightBrace = place.Close
@@ -59,10 +83,15 @@ abbrev pub after_statement : Closing → Lexeme → AfterStatement
 after_statement closing (Sign t) = sign_after closing t
 after_statement closing _ = after.Nothing
 
--- An empty statement and a block end by themselves: no `;` has to follow them.
+-- An empty statement and a construct end by themselves: no `;` has to follow them. Only `do` ends with its guard.
 abbrev pub ends_itself : node.Statement → Bool
 ends_itself (node.noop p) = true
 ends_itself (node.block_statement b) = true
+ends_itself (node.if_statement guard body branch p) = true
+ends_itself (node.while_statement guard body p) = true
+ends_itself (node.for_statement name counter over body p) = true
+ends_itself (node.try_catch body name branch p) = true
+ends_itself (node.switch_statement item arms cases ranges default p) = true
 ends_itself _ = false
 
 -- the token of a definition
@@ -118,8 +147,8 @@ abbrev pub expression_at : StatementStart → Verdict
 expression_at start.Expression = Fine
 expression_at _ = Otherwise
 
-abbrev pub expression_begins : Lexeme → Verdict
-expression_begins token = expression_at (statement_start token)
+abbrev pub expression_begins : Context → Lexeme → Verdict
+expression_begins context token = expression_at (statement_start context token)
 
 -- after an expression statement: no assignment
 abbrev pub unassigned : Lexeme → Verdict
@@ -129,6 +158,10 @@ unassigned token = if is_assignment token then Otherwise else Fine
 abbrev pub name_due : Lexeme → Verdict
 name_due (Name t) = Otherwise
 name_due token = Wrong (no_variable token)
+
+-- after `for`: a name, or the `(` before two names
+abbrev pub loop_variable_due : Lexeme → Verdict
+loop_variable_due token = if is_due due.LeftParen token then Otherwise else name_due token
 
 -- after the name of a definition without a value
 abbrev pub without_value : Lexeme → Verdict

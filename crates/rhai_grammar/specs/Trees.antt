@@ -10,7 +10,8 @@ use Rattle.rhai_lower.specs.Nodes.{Called, Node, Nodes, Properties, unit, intege
 use Rattle.rhai_lower.specs.Nodes.{call, method_call, property, no_nodes, one_node, no_properties, one_property}
 use Rattle.rhai_lower.specs.Nodes.{position_of, noop, expression, assignment, block_statement, block_value}
 use Rattle.rhai_lower.specs.Nodes.{braces, interpolated, no_statements, one_statement, var_statement}
-use Rattle.rhai_lower.specs.Nodes.{Optional, absent, block_of_one, present, return_statement}
+use Rattle.rhai_lower.specs.Nodes.{Optional, absent, block_of_one, break_loop, do_statement, for_statement}
+use Rattle.rhai_lower.specs.Nodes.{if_statement, made_block, present, return_statement, try_catch, while_statement}
 use Rattle.rhai_lower.specs.Nodes as node
 use Rattle.rhai_lower.specs.declared.position.Position.{Position}
 use Rattle.rhai_lower.specs.declared.token.Token.TheVariants.{Plus, UnaryMinus}
@@ -20,12 +21,13 @@ use Rattle.rhai_grammar.specs.Signs.{signed}
 use Rattle.rhai_grammar.specs.Operators.{operator_tree, operator_call}
 use Rattle.rhai_grammar.specs.Slots.{number}
 use Rattle.rhai_grammar.specs.Contexts.{Live, in_block, nothing_live}
-use Rattle.rhai_grammar.specs.Definitions.{after_statement, reused}
+use Rattle.rhai_grammar.specs.Definitions.{after_statement, catch_live, loop_live, reused}
 use Rattle.rhai_grammar.specs.Interpolations.{with_text}
 use Rattle.rhai_grammar.specs.Targets.{update_of}
 use Rattle.rhai_grammar.specs.Forms as form
 use Rattle.rhai_grammar.specs.Forms.{Primary, Base, Links, Operand, Arguments, Items, Elements, Fields, Run}
-use Rattle.rhai_grammar.specs.Forms.{Body, ExprStatement, Initializer, JumpValue, Segments, Statement, Statements}
+use Rattle.rhai_grammar.specs.Forms.{Body, Branch, CatchName, Conditional, Construct, ExprStatement, Initializer}
+use Rattle.rhai_grammar.specs.Forms.{JumpValue, LoopNames, Segments, Statement, Statements}
 
 -- ---- names and calls
 
@@ -113,6 +115,35 @@ abbrev pub with_kept : node.Statements → node.Statement → node.Statements
 with_kept before (noop at) = before
 with_kept before f = node.with_statement before f
 
+-- ---- constructs
+
+abbrev pub loop_name : LoopNames → Text
+loop_name (form.Variable name at) = name
+loop_name (form.Counted opening name at comma counter counter_at closing) = name
+
+-- the name of the counter, if there is one
+abbrev pub counter_of : LoopNames → Option Text
+counter_of (form.Variable name at) = None
+counter_of (form.Counted opening name at comma counter counter_at closing) = Some counter
+
+-- the name of the variable of `catch` with its position, if it has one
+abbrev pub caught : CatchName → Option (Text × Position)
+caught form.NoName = None
+caught (form.Caught opening name at closing) = Some (name, at)
+
+abbrev pub caught_name : Option (Text × Position) → Option Text
+caught_name None = None
+caught_name (Some name) = Some name.0
+
+-- the node of that variable, which has no number
+abbrev pub catch_node : Option (Text × Position) → Node
+catch_node None = unit nowhere
+catch_node (Some name) = variable_of None name.0 name.1
+
+-- the block of an absent `else`
+abbrev pub no_block : node.Block
+no_block = braces no_statements nowhere nowhere
+
 -- ---- forms
 
 abbrev mutual
@@ -125,7 +156,7 @@ abbrev mutual
   primary_tree (form.Map opening fields) live called = object_map (field_trees fields live) opening
   primary_tree (form.Interpolated first at segments) live called =
       interpolated (with_text first at (segment_trees segments live)) at
-  primary_tree (form.BlockValue opening body) live called = block_value (block_tree opening body live)
+  primary_tree (form.CompoundValue at x) live called = block_value (made_block (construct_tree x live at))
   primary_tree (form.Zero range at) live called = integer (pos 0) at
 
   pub base_tree : Base → Live → Node
@@ -147,8 +178,7 @@ abbrev mutual
   operand_tree (form.Linked x links) live = chained (base_tree x live) (link_list links live)
   operand_tree (form.Signed sign at x) live = signed sign at (operand_tree x live)
   operand_tree (form.NoOperand token at) live = unit at
-  operand_tree (form.Jump throws at value) live =
-      block_value (block_of_one (return_statement (jump_result value live) throws at))
+  operand_tree (form.Jump x) live = block_value (made_block (statement_tree x live))
 
   pub argument_trees : Arguments → Live → Nodes
   argument_trees (form.EmptyPair at) live = no_nodes
@@ -199,8 +229,35 @@ abbrev mutual
   statement_tree (form.Expression x) live = statement_of x live
   statement_tree (form.Define constant at name name_at value) live =
       definition_tree constant at name (value_tree value live) live
-  statement_tree (form.Block opening body) live = block_statement (block_tree opening body live)
+  statement_tree (form.Compound at x) live = construct_tree x live at
   statement_tree (form.Return throws at value) live = return_statement (jump_result value live) throws at
+  statement_tree (form.Break at value) live = break_loop (jump_result value live) true at
+  statement_tree (form.Continue at) live = break_loop absent false at
+
+  -- of a construct whose first token is at a position
+  pub construct_tree : Construct → Live → Position → node.Statement
+  construct_tree (form.Block body) live at = block_statement (block_tree at body live)
+  construct_tree (form.If x) live at = conditional_tree x live at
+  construct_tree (form.While guard opening body) live at =
+      while_statement (tree guard live) (block_tree opening body live) at
+  construct_tree (form.Loop opening body) live at = while_statement (unit nowhere) (block_tree opening body live) at
+  construct_tree (form.Do opening body negated do_at guard) live at =
+      do_statement (tree guard live) (block_tree opening body live) negated at
+  construct_tree (form.For names in_at over opening body) live at =
+      for_statement (loop_name names) (counter_of names) (tree over live)
+      (block_tree opening body (loop_live (loop_name names) (counter_of names) live)) at
+  construct_tree (form.Try opening body catch_at name catch_opening branch) live at =
+      try_catch (block_tree opening body live) (catch_node (caught name))
+      (block_tree catch_opening branch (catch_live (caught_name (caught name)) live)) at
+
+  pub conditional_tree : Conditional → Live → Position → node.Statement
+  conditional_tree (form.Guarded guard opening body branch) live at =
+      if_statement (tree guard live) (block_tree opening body live) (branch_tree branch live) at
+
+  pub branch_tree : Branch → Live → node.Block
+  branch_tree form.NoElse live = no_block
+  branch_tree (form.Else at opening body) live = block_tree opening body live
+  branch_tree (form.ElseIf at if_at x) live = block_of_one (conditional_tree x live if_at)
 
   pub statement_trees : Statements → Live → node.Statements
   statement_trees form.NoStatement live = no_statements

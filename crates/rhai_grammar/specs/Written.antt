@@ -1,40 +1,29 @@
 -- What each written form demands of the stream, followed by what comes after it demands (the last argument, `more`).
-use Rattle.std.specs.Prelude.{ℕ, ◌+◌, true, false, not, Option, Some, None}
-use Rattle.rhai_lower.specs.Texts.{Text}
+use Rattle.std.specs.Prelude.{ℕ, ◌+◌, true, false, not, Some, None}
 use Rattle.rhai_lower.specs.Lexemes.{Lexeme, Interpolated, Name, Reserved, Sign, String, text_of}
-use Rattle.rhai_lower.specs.Nodes.{Node, Properties, no_properties, with_property, property, position_of}
+use Rattle.rhai_lower.specs.Nodes.{Properties, no_properties, with_property, property, position_of}
 use Rattle.rhai_lower.specs.declared.position.Position.{Position}
 use Rattle.rhai_lower.specs.declared.token.Token.TheVariants.{Unit, LeftParen, RightParen, LeftBracket, RightBracket}
-use Rattle.rhai_lower.specs.declared.token.Token.TheVariants.{MapStart, LeftBrace, RightBrace, Comma, SemiColon}
+use Rattle.rhai_lower.specs.declared.token.Token.TheVariants.{MapStart, RightBrace, SemiColon}
 use Rattle.rhai_lower.specs.declared.token.Token.TheVariants.{Bang, Equals}
-use Rattle.rhai_grammar.specs.Causes as cause
-use Rattle.rhai_grammar.specs.Causes.{Refusal, refusal}
 use Rattle.rhai_grammar.specs.Delivered.{code, text, item}
-use Rattle.rhai_grammar.specs.DueTokens.{token_of}
-use Rattle.rhai_grammar.specs.declared.due.DueToken.{DueToken}
 use Rattle.rhai_grammar.specs.declared.due.DueToken.TheVariants as due
-use Rattle.rhai_grammar.specs.Contexts.{Context, Live, has_block_values, has_room, has_single_blocks, in_block, level_up}
+use Rattle.rhai_grammar.specs.Contexts.{Context, Live, has_single_blocks, in_block, level_up}
 use Rattle.rhai_grammar.specs.Beginnings.{beginning, is_value, is_sign, is_range}
-use Rattle.rhai_grammar.specs.Starts.{is_jump, is_omitted, jump_token, no_value_follows, operand_start, value_follows}
+use Rattle.rhai_grammar.specs.Starts.{is_omitted, jump_token, no_value_follows, operand_start, value_follows}
 use Rattle.rhai_grammar.specs.Interpolations.{text_due}
 use Rattle.rhai_grammar.specs.declared.role.OperandPlace.{OperandPlace}
 use Rattle.rhai_grammar.specs.declared.role.OperandPlace.TheVariants.{Elsewhere}
 use Rattle.rhai_grammar.specs.Beginnings.{linking, is_bracket, is_dot}
-use Rattle.rhai_grammar.specs.Beginnings.{member_place, is_member}
-use Rattle.rhai_grammar.specs.declared.list.CommaList.{CommaList}
 use Rattle.rhai_grammar.specs.declared.list.CommaList.TheVariants as lists
-use Rattle.rhai_grammar.specs.CommaLists.{closing_of}
-use Rattle.rhai_grammar.specs.Literals.{is_key, has_key}
-use Rattle.rhai_grammar.specs.Literals.{property_count}
 use Rattle.rhai_grammar.specs.Signs.{sign_holds, malformed}
-use Rattle.rhai_grammar.specs.Operators.{boolean_holds, mismatched}
 use Rattle.rhai_grammar.specs.Strengths.{follower_of, is_operator}
 use Rattle.rhai_grammar.specs.Forms as form
 use Rattle.rhai_grammar.specs.Forms.{Primary, Base, Links, Operand, Arguments, Items, Elements, Fields, Run}
 use Rattle.rhai_grammar.specs.Forms.{Body, ExprStatement, Initializer, JumpValue, Segments, Statement, Statements}
-use Rattle.rhai_grammar.specs.Definitions.{after_statement, may_define}
+use Rattle.rhai_grammar.specs.Definitions.{after_statement}
 use Rattle.rhai_grammar.specs.Targets.{is_assignment, is_constant_use, target_fault}
-use Rattle.rhai_grammar.specs.Statements.{closed_due, ends_itself, expression_begins, keyword_of, list_ends, name_due}
+use Rattle.rhai_grammar.specs.Statements.{closed_due, ends_itself, expression_begins, keyword_of, list_ends}
 use Rattle.rhai_grammar.specs.Statements.{semicolon_due, statement_begins, unassigned, without_value}
 use Rattle.rhai_grammar.specs.declared.role.Closing.{Closing}
 use Rattle.rhai_grammar.specs.declared.role.Closing.TheVariants.{Brace, EndMark}
@@ -43,86 +32,23 @@ use Rattle.rhai_grammar.specs.Trees.{argument_trees, operand_tree, statement_tre
 use Rattle.rhai_grammar.specs.Chains.{index_refusal, last_fault}
 use Rattle.rhai_grammar.specs.Demands.{Verdict, Demands, Nothing, Tok, Ahead, Next}
 use Rattle.rhai_grammar.specs.Demands.{Test, Shape, ◌▸◌}
-use Rattle.rhai_grammar.specs.Verdicts.{unless_due, operand_due, anything, after_word, uncalled, unlinked, member_due}
-use Rattle.rhai_grammar.specs.Verdicts.{uncalled_member, after_method, list_due, close_or_argument, argument_due}
-use Rattle.rhai_grammar.specs.Verdicts.{argument_follows, following_due, item_due, no_item_due, next_key, key_due}
-use Rattle.rhai_grammar.specs.Verdicts.{value_due, operator_known, run_ends, side_ends, room_due, end_due}
-use Rattle.rhai_grammar.specs.Spots.{Height, Side, Spot, outermost, right_side, height_after, place_of, side_fits}
+use Rattle.rhai_grammar.specs.Verdicts.{operand_due, anything, after_word, uncalled, unlinked, member_due}
+use Rattle.rhai_grammar.specs.Verdicts.{uncalled_member, list_due, close_or_argument, argument_due}
+use Rattle.rhai_grammar.specs.Verdicts.{argument_follows, item_due, no_item_due, key_due}
+use Rattle.rhai_grammar.specs.Verdicts.{operator_known, end_due}
+use Rattle.rhai_grammar.specs.Spots.{Spot, right_side, height_after, place_of, side_fits}
 use Rattle.rhai_grammar.specs.Spots.{left_fits, LinkSpot, spot_after_operand, spot_after_bracket, spot_after_dot}
-use Rattle.rhai_grammar.specs.Spots.{Outermost, RightOf}
-
--- ---- demands that several forms have
-
-abbrev pub due_token : DueToken → Position → Demands → Demands
-due_token wanted at more = Tok code (item (Sign (token_of wanted)) at) (unless_due wanted) ▸ more
-
-abbrev pub comma_at : CommaList → Position → Demands → Demands
-comma_at parts at more = Tok code (item (Sign Comma) at) (following_due parts) ▸ more
-
-abbrev pub closed_at : CommaList → Position → Demands → Demands
-closed_at parts at more = Tok code (item (Sign (closing_of parts)) at) (following_due parts) ▸ more
-
--- the level is raised, or that is refused
-abbrev pub raise : Height → Demands → Demands
-raise height more = Test (has_room height.settings) (refusal cause.ExprTooDeep height.at) ▸ more
-
-abbrev pub raise_at : Context → Position → Demands → Demands
-raise_at context at more = Test (has_room context) (refusal cause.ExprTooDeep at) ▸ more
-
--- After an operator's right operand its level is raised: for the nested run that begins there, and for what follows.
-abbrev pub raise_after : Side → Demands → Demands
-raise_after Outermost more = more
-raise_after (RightOf op height) more = raise height more
-
--- the two ends of an expression
-abbrev pub begun : Context → Demands → Demands
-begun context more = Next (room_due context) ▸ more
-
-abbrev pub ended : Demands → Demands
-ended more = Next run_ends ▸ more
-
--- An expression raises the level at its first token, and ends where no operator continues it. `inside` is what its run
--- demands at the spot of an expression.
-abbrev pub as_expression : (inside : Spot → Demands → Demands) → Context → Live → Demands → Demands
-as_expression inside context live more = begun context (inside (outermost (level_up context) live) (ended more))
-
--- After its whole right side an operator joins its operands: for `&&` and `||` both have to be possible booleans.
-abbrev pub operands_fit : Lexeme → Node → Node → Demands → Demands
-operands_fit op x y more =
-    Next (side_ends op) ▸ Test (boolean_holds op x) (mismatched x) ▸ Test (boolean_holds op y) (mismatched y)
-    ▸ more
-
--- A property up to its value: no earlier property has its key.
-abbrev pub field : (key : Lexeme) (at colon : Position) (before : Properties) → Context → (opening : Position)
-    → Demands → Demands
-field key at colon before context opening more =
-    Shape (is_key (next_key context.settings before key)) ▸
-    Tok code (item key at) (key_due context before) ▸
-    Test (not (has_key (text_of key) before)) (refusal (cause.DuplicatedProperty (text_of key)) at) ▸
-    due_token due.Colon colon (
-    Next (value_due context.sizes.map (property_count before)) ▸ raise_at context opening more)
-
--- the error, if there is one
-abbrev pub unfaulted : Option Refusal → Demands → Demands
-unfaulted None more = more
-unfaulted (Some e) more = Test false e ▸ more
-
--- a dot with the name of a method
-abbrev pub method : (dot : Lexeme) (at : Position) (name : Lexeme) (name_at : Position) → LinkSpot → Demands → Demands
-method dot at name name_at spot more =
-    Shape (is_dot (linking dot)) ▸ Shape (is_member (member_place name)) ▸
-    Tok code (item dot at) anything ▸ Next member_due ▸ raise_at spot.settings at (
-    Tok code (item name name_at) anything ▸ Next (after_method name name_at) ▸ more)
-
--- A name that is defined, and may be.
-abbrev pub new_name : (name : Text) → Position → Context → Live → Demands → Demands
-new_name name at context live more =
-    Tok code (item (Name name) at) name_due ▸
-    Test (may_define context name live) (refusal (cause.VariableExists name) at) ▸ more
-
--- The level is raised at the `{` of a block, and once more after it.
-abbrev pub block_at : (opening : Position) → Context → Demands → Demands
-block_at opening context more = raise_at context opening (raise_at (level_up context) opening more)
+use Rattle.rhai_grammar.specs.Contexts.{allows_looping, loop_body}
+use Rattle.rhai_grammar.specs.Constructs.{absent, construct_token, do_end_due}
+use Rattle.rhai_grammar.specs.Constructs.{do_token, kind_of, may_be_value, may_stand}
+use Rattle.rhai_grammar.specs.Definitions.{catch_live, loop_live}
+use Rattle.rhai_grammar.specs.Forms.{Branch, Conditional, Construct}
+use Rattle.rhai_grammar.specs.Starts.{jump_stands}
+use Rattle.rhai_grammar.specs.Trees.{caught, caught_name, counter_of, loop_name}
+use Rattle.rhai_lower.specs.declared.token.Token.TheVariants as token
+pub use Rattle.rhai_grammar.specs.Parts.{due_token, comma_at, closed_at, raise, raise_at, raise_after, begun, ended}
+pub use Rattle.rhai_grammar.specs.Parts.{as_expression, operands_fit, field, unfaulted, method, new_name, inside_at}
+pub use Rattle.rhai_grammar.specs.Parts.{in_braces, as_guard, as_iterated, loop_names, catch_name, loop_at}
 
 -- ---- the forms
 
@@ -146,9 +72,10 @@ abbrev mutual
   primary (form.Interpolated first at list) context live place more =
       Tok code (item (Interpolated first) at) (operand_due context place) ▸ raise_at context at (
       segments list (level_up context) live at more)
-  primary (form.BlockValue opening body) context live place more =
-      Shape (has_block_values context) ▸ Tok code (item (Sign LeftBrace) opening) (operand_due context place) ▸
-      block_at opening context (block body (level_up (level_up context)) live more)
+  primary (form.CompoundValue at x) context live place more =
+      Shape (may_be_value context (kind_of x)) ▸
+      Tok code (item (Sign (construct_token (kind_of x))) at) (operand_due context place) ▸
+      inside_at at context (construct x (level_up (level_up context)) live at more)
   primary (form.Zero range at) context live place more =
       Shape (is_range (beginning range)) ▸ Ahead (item range at) (operand_due context place) ▸ more
 
@@ -202,11 +129,7 @@ abbrev mutual
       Test (sign_holds sign (operand_tree x live)) (malformed at (operand_tree x live)) ▸ more))
   operand (form.NoOperand token at) context live place more =
       Shape (is_omitted (operand_start place token)) ▸ Ahead (item token at) (operand_due context place) ▸ more
-  -- A jump in place of an operand is demanded as the statement is.
-  operand (form.Jump throws at value) context live place more =
-      Shape (is_jump (operand_start place (Sign (jump_token throws)))) ▸
-      Tok code (item (Sign (jump_token throws)) at) (operand_due context place) ▸
-      jump_value value context live at more
+  operand (form.Jump x) context live place more = Next (jump_stands place) ▸ statement x context live more
 
   -- The level of arguments is raised once for all of them; the refusal has the position of the name that is called.
   pub arguments : Arguments → (others : Lexeme → Verdict) → Context → Live → Position → Demands → Demands
@@ -257,12 +180,10 @@ abbrev mutual
   -- text after a block is requested in text mode.
   pub segments : Segments → Context → Live → (start : Position) → Demands → Demands
   segments (form.LastSegment opening body last at) context live start more =
-      due_token due.LeftBrace opening (raise_at context start (
-      block body (level_up context) live (Tok text (item (String last) at) text_due ▸ more)))
+      in_braces opening (block body) context live start (Tok text (item (String last) at) text_due ▸ more)
   segments (form.Segment opening body next at rest) context live start more =
-      due_token due.LeftBrace opening (raise_at context start (
-      block body (level_up context) live (
-      Tok text (item (Interpolated next) at) text_due ▸ segments rest context live start more)))
+      in_braces opening (block body) context live start (
+      Tok text (item (Interpolated next) at) text_due ▸ segments rest context live start more)
 
   -- No operand is followed by a reserved symbol. An operator is between a left run and a right one, whose own operators
   -- bind as the strengths say.
@@ -292,26 +213,69 @@ abbrev mutual
       Tok code (item (Sign Equals) equals) anything ▸ raise_at context at (
       as_expression (run f) (level_up context) live more)
 
-  -- After `return` or `throw` stands a value exactly where the next token begins an expression. The level is raised at
+  -- After `return`, `throw` or `break` stands a value exactly where the next token begins an expression. The level is raised at
   -- the keyword, with or without a value.
   pub jump_value : JumpValue → Context → Live → (at : Position) → Demands → Demands
   jump_value form.Absent context live at more = Next (no_value_follows context) ▸ raise_at context at more
   jump_value (form.Present f) context live at more =
       Next (value_follows context) ▸ raise_at context at (as_expression (run f) (level_up context) live more)
 
-  -- A statement raises the level at its first token; a block raises it once more.
+  -- A statement raises the level at its first token; a construct raises it once more.
   pub statement : Statement → Context → Live → Demands → Demands
   statement (form.EmptyStatement at) context live more = Tok code (item (Sign SemiColon) at) anything ▸ more
   statement (form.Expression x) context live more =
-      Next expression_begins ▸ begun context (expr_statement x (level_up context) live more)
+      Next (expression_begins context) ▸ begun context (expr_statement x (level_up context) live more)
   statement (form.Define constant at name name_at value) context live more =
       Tok code (item (Sign (keyword_of constant)) at) anything ▸ raise_at context at (
       new_name name name_at (level_up context) live (definition_value value (level_up context) live at more))
-  statement (form.Block opening body) context live more =
-      Tok code (item (Sign LeftBrace) opening) anything ▸
-      block_at opening context (block body (level_up (level_up context)) live more)
+  statement (form.Compound at x) context live more =
+      Shape (may_stand context (kind_of x)) ▸ Tok code (item (Sign (construct_token (kind_of x))) at) anything ▸
+      inside_at at context (construct x (level_up (level_up context)) live at more)
   statement (form.Return throws at value) context live more =
       Tok code (item (Sign (jump_token throws)) at) anything ▸ jump_value value context live at more
+  statement (form.Break at value) context live more =
+      Shape (allows_looping context) ▸ Tok code (item (Sign token.Break) at) anything ▸
+      loop_at context at (jump_value value context live at more)
+  statement (form.Continue at) context live more =
+      Shape (allows_looping context) ▸ Tok code (item (Sign token.Continue) at) anything ▸ loop_at context at more
+
+  -- A construct after its first token, which is at a position. Only its body is in a loop.
+  pub construct : Construct → Context → Live → (at : Position) → Demands → Demands
+  construct (form.Block body) context live at more = block body context live more
+  construct (form.If x) context live at more = conditional x context live at more
+  construct (form.While guard opening body) context live at more =
+      as_guard (run guard) (tree guard live) context live (
+      in_braces opening (block body) (loop_body context) live at more)
+  construct (form.Loop opening body) context live at more =
+      in_braces opening (block body) (loop_body context) live at more
+  construct (form.Do opening body negated do_at guard) context live at more =
+      in_braces opening (block body) (loop_body context) live at (
+      Tok code (item (Sign (do_token negated)) do_at) do_end_due ▸
+      as_guard (run guard) (tree guard live) context live more)
+  construct (form.For names in_at over opening body) context live at more =
+      loop_names names (due_token due.In in_at (
+      as_iterated (run over) (tree over live) context live (
+      in_braces opening (block body) (loop_body context) (loop_live (loop_name names) (counter_of names) live) at more)))
+  construct (form.Try opening body catch_at name catch_opening handler) context live at more =
+      in_braces opening (block body) context live at (
+      due_token due.Catch catch_at (catch_name name (
+      in_braces catch_opening (block handler) context (catch_live (caught_name (caught name)) live) at more)))
+
+  -- After `if`, which is at a position.
+  pub conditional : Conditional → Context → Live → (at : Position) → Demands → Demands
+  conditional (form.Guarded guard opening body rest) context live at more =
+      as_guard (run guard) (tree guard live) context live (
+      in_braces opening (block body) context live at (branch rest context live at more))
+
+  -- An `if` after `else` raises the level once, which is refused at the `if` before.
+  pub branch : Branch → Context → Live → (at : Position) → Demands → Demands
+  branch form.NoElse context live at more = Next (absent due.Else) ▸ more
+  branch (form.Else else_at opening body) context live at more =
+      Tok code (item (Sign token.Else) else_at) anything ▸ Next (absent due.If) ▸
+      in_braces opening (block body) context live at more
+  branch (form.ElseIf else_at if_at x) context live at more =
+      Tok code (item (Sign token.Else) else_at) anything ▸ Tok code (item (Sign token.If) if_at) anything ▸
+      raise_at context at (conditional x (level_up context) live if_at more)
 
   -- A `;` is between two statements, unless the first ends by itself.
   pub statements : Statements → Closing → Context → Live → Demands → Demands

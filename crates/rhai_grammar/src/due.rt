@@ -1,8 +1,10 @@
-//! Tokens that are required where a construct continues or ends.
+//! Tokens that continue or end a construct.
 
-/// A required token: any other token in its place is refused.
+/// A token that continues or ends a construct. Where it is required, any other token in its place is refused.
 #[derive(Clone, Copy, PartialEq, Eq, Debug)]
 pub enum DueToken {
+    /// `(`, before the variables of `for`, and before that of `catch`.
+    LeftParen,
     /// `)`, which ends parentheses.
     RightParen,
     /// `]`, which ends an index.
@@ -13,4 +15,16 @@ pub enum DueToken {
     LeftBrace,
     /// `}`, which ends a block.
     RightBrace,
+    /// `,`, between the variables of `for`.
+    Comma,
+    /// `=`, which may not follow a guard.
+    Equals,
+    /// `in`, after the variables of `for`.
+    In,
+    /// `if`, directly after `else`.
+    If,
+    /// `else`, after a block of `if`.
+    Else,
+    /// `catch`, after the block of `try`.
+    Catch,
 }

@@ -1,5 +1,24 @@
 //! What a token is where it stands: one type for each place.
 
+/// A construct that begins with `{` or with a keyword. It is a statement; most may be operands, if the options allow it.
+#[derive(Clone, Copy, PartialEq, Eq, Debug)]
+pub enum Construct {
+    /// A block.
+    Block,
+    /// `if`
+    If,
+    /// `while`
+    While,
+    /// `loop`
+    Loop,
+    /// `do`, with `while` or `until` after its block.
+    Do,
+    /// `for`
+    For,
+    /// `try`, with `catch`, which is never an operand.
+    Try,
+}
+
 /// What a token begins where an operand is expected.
 #[derive(Clone, Copy, PartialEq, Eq, Debug)]
 pub enum Beginning {
@@ -17,8 +36,8 @@ pub enum Beginning {
     Map,
     /// The first text of an interpolated string.
     Interpolated,
-    /// A block, which is an operand only under `STMT_EXPR`.
-    Block,
+    /// A construct, which is an operand only where the options allow it.
+    Construct(Construct),
     /// A sign before an operand.
     Sign,
     /// A range whose left operand is omitted.
@@ -32,7 +51,7 @@ pub enum Beginning {
 pub enum OperandPlace {
     /// Directly after a range operator, where it may be omitted.
     AfterRange,
-    /// Directly after `??`, where a `return` or `throw` may stand.
+    /// Directly after `??`, where a jump may stand: `return`, `throw`, `break` or `continue`.
     AfterCoalesce,
     /// Anywhere else.
     Elsewhere,
@@ -43,7 +62,7 @@ pub enum OperandPlace {
 pub enum OperandStart {
     /// A token after which the operand is omitted; it is not taken.
     Omitted,
-    /// `return` or `throw` in place of an operand.
+    /// The keyword of a jump: a statement stands in place of an operand.
     Jump,
     /// The beginning of a written operand, or no operand.
     Written,
@@ -124,8 +143,8 @@ pub enum Joining {
 pub enum StatementStart {
     /// `;`, which is an empty statement.
     Empty,
-    /// `{`, which begins a block.
-    Block,
+    /// A construct.
+    Construct(Construct),
     /// `let`, which begins the definition of a variable.
     Let,
     /// `const`, which begins the definition of a constant.
@@ -134,6 +153,10 @@ pub enum StatementStart {
     Return,
     /// `throw`.
     Throw,
+    /// `break`.
+    Break,
+    /// `continue`.
+    Continue,
     /// An expression, or nothing that may stand there.
     Expression,
 }

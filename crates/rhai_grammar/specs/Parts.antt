@@ -1,0 +1,149 @@
+-- Demands that several forms have.
+use Rattle.std.specs.Prelude.{false, not, Option, Some, None}
+use Rattle.rhai_lower.specs.Texts.{Text}
+use Rattle.rhai_lower.specs.Lexemes.{Lexeme, Name, Sign, text_of}
+use Rattle.rhai_lower.specs.Nodes.{Node, Properties}
+use Rattle.rhai_lower.specs.declared.position.Position.{Position}
+use Rattle.rhai_lower.specs.declared.token.Token.TheVariants.{LeftParen}
+use Rattle.rhai_lower.specs.declared.token.Token.TheVariants.{Comma}
+use Rattle.rhai_grammar.specs.Causes as cause
+use Rattle.rhai_grammar.specs.Causes.{Refusal, refusal}
+use Rattle.rhai_grammar.specs.Delivered.{code, item}
+use Rattle.rhai_grammar.specs.DueTokens.{token_of}
+use Rattle.rhai_grammar.specs.declared.due.DueToken.{DueToken}
+use Rattle.rhai_grammar.specs.declared.due.DueToken.TheVariants as due
+use Rattle.rhai_grammar.specs.Contexts.{Context, Live, has_room, level_up}
+use Rattle.rhai_grammar.specs.Beginnings.{linking, is_dot}
+use Rattle.rhai_grammar.specs.Beginnings.{member_place, is_member}
+use Rattle.rhai_grammar.specs.declared.list.CommaList.{CommaList}
+use Rattle.rhai_grammar.specs.CommaLists.{closing_of}
+use Rattle.rhai_grammar.specs.Literals.{is_key, has_key}
+use Rattle.rhai_grammar.specs.Literals.{property_count}
+use Rattle.rhai_grammar.specs.Operators.{boolean_holds, mismatched}
+use Rattle.rhai_grammar.specs.Forms as form
+use Rattle.rhai_grammar.specs.Definitions.{may_define}
+use Rattle.rhai_grammar.specs.Statements.{name_due}
+use Rattle.rhai_grammar.specs.Demands.{Demands, Tok, Next}
+use Rattle.rhai_grammar.specs.Demands.{Test, Shape, ◌▸◌}
+use Rattle.rhai_grammar.specs.Verdicts.{unless_due, anything, member_due}
+use Rattle.rhai_grammar.specs.Verdicts.{after_method}
+use Rattle.rhai_grammar.specs.Verdicts.{following_due, next_key, key_due}
+use Rattle.rhai_grammar.specs.Verdicts.{value_due, run_ends, side_ends, room_due}
+use Rattle.rhai_grammar.specs.Spots.{Height, Side, Spot, outermost}
+use Rattle.rhai_grammar.specs.Spots.{LinkSpot}
+use Rattle.rhai_grammar.specs.Spots.{Outermost, RightOf}
+use Rattle.rhai_lower.specs.Texts.{same_text}
+use Rattle.rhai_grammar.specs.Contexts.{is_in_loop}
+use Rattle.rhai_grammar.specs.Constructs.{absent, guard_begins, guard_ends, guard_fault, iterated_fault}
+use Rattle.rhai_grammar.specs.Statements.{loop_variable_due}
+use Rattle.rhai_grammar.specs.Forms.{CatchName, LoopNames}
+
+abbrev pub due_token : DueToken → Position → Demands → Demands
+due_token wanted at more = Tok code (item (Sign (token_of wanted)) at) (unless_due wanted) ▸ more
+
+abbrev pub comma_at : CommaList → Position → Demands → Demands
+comma_at parts at more = Tok code (item (Sign Comma) at) (following_due parts) ▸ more
+
+abbrev pub closed_at : CommaList → Position → Demands → Demands
+closed_at parts at more = Tok code (item (Sign (closing_of parts)) at) (following_due parts) ▸ more
+
+-- the level is raised, or that is refused
+abbrev pub raise : Height → Demands → Demands
+raise height more = Test (has_room height.settings) (refusal cause.ExprTooDeep height.at) ▸ more
+
+abbrev pub raise_at : Context → Position → Demands → Demands
+raise_at context at more = Test (has_room context) (refusal cause.ExprTooDeep at) ▸ more
+
+-- After an operator's right operand its level is raised: for the nested run that begins there, and for what follows.
+abbrev pub raise_after : Side → Demands → Demands
+raise_after Outermost more = more
+raise_after (RightOf op height) more = raise height more
+
+-- the two ends of an expression
+abbrev pub begun : Context → Demands → Demands
+begun context more = Next (room_due context) ▸ more
+
+abbrev pub ended : Demands → Demands
+ended more = Next run_ends ▸ more
+
+-- An expression raises the level at its first token, and ends where no operator continues it. `inside` is what its run
+-- demands at the spot of an expression.
+abbrev pub as_expression : (inside : Spot → Demands → Demands) → Context → Live → Demands → Demands
+as_expression inside context live more = begun context (inside (outermost (level_up context) live) (ended more))
+
+-- After its whole right side an operator joins its operands: for `&&` and `||` both have to be possible booleans.
+abbrev pub operands_fit : Lexeme → Node → Node → Demands → Demands
+operands_fit op x y more =
+    Next (side_ends op) ▸ Test (boolean_holds op x) (mismatched x) ▸ Test (boolean_holds op y) (mismatched y)
+    ▸ more
+
+-- A property up to its value: no earlier property has its key.
+abbrev pub field : (key : Lexeme) (at colon : Position) (before : Properties) → Context → (opening : Position)
+    → Demands → Demands
+field key at colon before context opening more =
+    Shape (is_key (next_key context.settings before key)) ▸
+    Tok code (item key at) (key_due context before) ▸
+    Test (not (has_key (text_of key) before)) (refusal (cause.DuplicatedProperty (text_of key)) at) ▸
+    due_token due.Colon colon (
+    Next (value_due context.sizes.map (property_count before)) ▸ raise_at context opening more)
+
+-- the error, if there is one
+abbrev pub unfaulted : Option Refusal → Demands → Demands
+unfaulted None more = more
+unfaulted (Some e) more = Test false e ▸ more
+
+-- a dot with the name of a method
+abbrev pub method : (dot : Lexeme) (at : Position) (name : Lexeme) (name_at : Position) → LinkSpot → Demands → Demands
+method dot at name name_at spot more =
+    Shape (is_dot (linking dot)) ▸ Shape (is_member (member_place name)) ▸
+    Tok code (item dot at) anything ▸ Next member_due ▸ raise_at spot.settings at (
+    Tok code (item name name_at) anything ▸ Next (after_method name name_at) ▸ more)
+
+-- A name that is defined, and may be.
+abbrev pub new_name : (name : Text) → Position → Context → Live → Demands → Demands
+new_name name at context live more =
+    Tok code (item (Name name) at) name_due ▸
+    Test (may_define context name live) (refusal (cause.VariableExists name) at) ▸ more
+
+-- ---- constructs
+
+-- The level is raised at the first token of a construct, and once more inside it.
+abbrev pub inside_at : (at : Position) → Context → Demands → Demands
+inside_at at context more = raise_at context at (raise_at (level_up context) at more)
+
+-- A block of a construct raises the level after its `{`; that is refused at the construct's first token, which is at a
+-- position. `inside` is what the block demands after that.
+abbrev pub in_braces : (opening : Position) → (inside : Context → Live → Demands → Demands) → Context → Live
+    → (at : Position) → Demands → Demands
+in_braces opening inside context live at more =
+    due_token due.LeftBrace opening (raise_at context at (inside (level_up context) live more))
+
+-- A guard does not begin with `{`, may be a boolean, and is not assigned to; what `for` goes over does not begin with
+-- `{` either, and may be iterable. `x` is the expression's tree.
+abbrev pub as_guard : (inside : Spot → Demands → Demands) → (x : Node) → Context → Live → Demands → Demands
+as_guard inside x context live more =
+    Next guard_begins ▸ as_expression inside context live (unfaulted (guard_fault x) (Next guard_ends ▸ more))
+
+abbrev pub as_iterated : (inside : Spot → Demands → Demands) → (x : Node) → Context → Live → Demands → Demands
+as_iterated inside x context live more =
+    Next guard_begins ▸ as_expression inside context live (unfaulted (iterated_fault x) more)
+
+-- the variables of `for`
+abbrev pub loop_names : LoopNames → Demands → Demands
+loop_names (form.Variable name at) more = Tok code (item (Name name) at) loop_variable_due ▸ more
+loop_names (form.Counted opening name at comma counter counter_at closing) more =
+    Tok code (item (Sign LeftParen) opening) loop_variable_due ▸ Tok code (item (Name name) at) name_due ▸
+    due_token due.Comma comma (Tok code (item (Name counter) counter_at) name_due ▸
+    Test (not (same_text name counter)) (refusal (cause.DuplicatedVariable counter) counter_at) ▸
+    due_token due.RightParen closing more)
+
+-- the variable of `catch`
+abbrev pub catch_name : CatchName → Demands → Demands
+catch_name form.NoName more = Next (absent due.LeftParen) ▸ more
+catch_name (form.Caught opening name at closing) more =
+    Tok code (item (Sign LeftParen) opening) anything ▸ Tok code (item (Name name) at) name_due ▸
+    due_token due.RightParen closing more
+
+-- `break` and `continue` stand in a loop
+abbrev pub loop_at : Context → Position → Demands → Demands
+loop_at context at more = Test (is_in_loop context) (refusal cause.LoopBreak at) ▸ more
