@@ -167,7 +167,7 @@ mutual
       (operand_due c p sign (sign_begins c (beginning sign) e), operand x (level_up c) w place.Elsewhere _ h)
   operand (form.NoOperand token at) c w p k h = λ e.
       (unless (is_memory token) (V.operand_due c p token) (omitted_due c token (operand_start p token) e), h)
-  operand (form.Jump x) c w p k h = statement x c w k h
+  operand (form.Jump x) c w p k h = statement x c (in_block w) k h
 
   arguments : (x : Arguments) (others : Lexeme → Verdict) → is_refused (verdict others (Sign token.Unit)) ≡ false → is_refused (verdict others (Sign token.LeftParen)) ≡ false → (c : Context) (w : Live) (name : Position) (k : Demands) → IsFair k → IsFair (W.arguments x others c w name k)
   arguments (form.EmptyPair at) others pair list c w name k h = (pair, h)

@@ -161,7 +161,7 @@ mutual
   operand (form.Signed sign at x) c w p k =
       shape (λ e. tok (test (all_of (on (operand x (level_up c) w place.Elsewhere _) (test here)))))
   operand (form.NoOperand token at) c w p k = shape (λ e. ahead (omitted_goes_on p token e) here)
-  operand (form.Jump x) c w p k = next (statement x c w k)
+  operand (form.Jump x) c w p k = next (statement x c (in_block w) k)
 
   pub arguments : (x : Arguments) (others : Lexeme → Verdict) (c : Context) (w : Live) (name : Position) (k : Demands)
       → Leads code code (argument_spelling x) (W.arguments x others c w name k) k

@@ -256,7 +256,7 @@ mutual
       chains (base_tree x w) (link_list list w) ∙ (cc)
   operand (form.Signed sign at x) w = sign_effect (effect sign) (plain_sign sign) at (operand_tree x w) ∙ ap (λ n. signed sign nowhere n) (operand x w)
   operand (form.NoOperand token at) w = refl
-  operand (form.Jump x) w = value_of_statement (T.statement_tree x w) _ (statement x w)
+  operand (form.Jump x) w = value_of_statement (T.statement_tree x (in_block w)) _ (statement x (in_block w))
 
   arguments : (x : Arguments) (w : Live) → nodes_shape (argument_trees x w) ≡ argument_trees (shape.arguments_shape x) w
   arguments (form.EmptyPair at) w = refl

@@ -178,7 +178,7 @@ abbrev mutual
   operand_tree (form.Linked x links) live = chained (base_tree x live) (link_list links live)
   operand_tree (form.Signed sign at x) live = signed sign at (operand_tree x live)
   operand_tree (form.NoOperand token at) live = unit at
-  operand_tree (form.Jump x) live = block_value (made_block (statement_tree x live))
+  operand_tree (form.Jump x) live = block_value (made_block (statement_tree x (in_block live)))
 
   pub argument_trees : Arguments → Live → Nodes
   argument_trees (form.EmptyPair at) live = no_nodes

@@ -129,7 +129,8 @@ abbrev mutual
       Test (sign_holds sign (operand_tree x live)) (malformed at (operand_tree x live)) ▸ more))
   operand (form.NoOperand token at) context live place more =
       Shape (is_omitted (operand_start place token)) ▸ Ahead (item token at) (operand_due context place) ▸ more
-  operand (form.Jump x) context live place more = Next (jump_stands place) ▸ statement x context live more
+  operand (form.Jump x) context live place more =
+      Next (jump_stands place) ▸ statement x context (in_block live) more
 
   -- The level of arguments is raised once for all of them; the refusal has the position of the name that is called.
   pub arguments : Arguments → (others : Lexeme → Verdict) → Context → Live → Position → Demands → Demands

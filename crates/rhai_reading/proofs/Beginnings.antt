@@ -1,12 +1,9 @@
 -- Which token it is that a view of one found.
-use Rattle.std.proofs.Common.{◌≡◌, ℕ, Bool, true, false, refl, sym, ap, ◌∙◌, subst, if◌then◌else◌}
+use Rattle.std.proofs.Common.{◌≡◌, ℕ, Bool, true, false, refl, ap, ◌∙◌, subst, if◌then◌else◌}
 use Rattle.rhai_lower.specs.Lexemes.{Lexeme, Interpolated, Name, Reserved, Sign, String, text_of}
-use Rattle.rhai_grammar.specs.Beginnings.{omits_operand}
 use Rattle.rhai_grammar.specs.Interpolations.{is_last_text, is_text}
-use Rattle.rhai_grammar.specs.Starts.{is_jump, is_throw, jump_token, operand_start}
-use Rattle.rhai_grammar.specs.declared.role.OperandPlace.{OperandPlace}
-use Rattle.rhai_grammar.specs.declared.role.OperandPlace.TheVariants as after_op
-use Rattle.rhai_grammar.specs.declared.role.OperandStart.TheVariants as first
+use Rattle.rhai_grammar.specs.Starts.{jump_token}
+use Rattle.std.specs.Prelude.{Some}
 use Rattle.rhai_reading.proofs.FormKinds.{text_token}
 use Rattle.rhai_lower.specs.declared.position.Position.{Position}
 use Rattle.rhai_lower.specs.declared.token.Token.TheVariants as token
@@ -25,7 +22,13 @@ use Rattle.rhai_grammar.specs.Beginnings.{beginning, calling, is_name, member_pl
 use Rattle.rhai_grammar.specs.Literals.{item_place, KeyPlace, FieldsEnd, AKey, key_place}
 use Rattle.rhai_grammar.specs.Verdicts.{no_method}
 use Rattle.rhai_grammar.specs.Targets.{is_equals}
-use Rattle.rhai_grammar.specs.Statements.{after_statement, keyword_of, name_due, no_variable, statement_start}
+use Rattle.rhai_grammar.specs.Statements.{after_statement, allowed_start, any_start, keyword_of, name_due, no_variable}
+use Rattle.rhai_grammar.specs.Statements.{statement_start}
+use Rattle.rhai_grammar.specs.Constructs.{construct_token, do_end, do_token, may_be_value, may_stand}
+use Rattle.rhai_grammar.specs.Contexts.{Context, allows_looping}
+use Rattle.rhai_grammar.specs.Delivered.{is_memory}
+use Rattle.rhai_grammar.specs.declared.role.Construct.{Construct as Kind}
+use Rattle.rhai_grammar.specs.declared.role.Construct.TheVariants as kind
 use Rattle.rhai_grammar.specs.declared.role.AfterStatement.{AfterStatement}
 use Rattle.rhai_grammar.specs.declared.role.AfterStatement.TheVariants as after
 use Rattle.rhai_grammar.specs.declared.role.Closing.{Closing}
@@ -43,7 +46,7 @@ Begins begin.Group i = i ≡ item (Sign token.LeftParen) i.at
 Begins begin.Array i = i ≡ item (Sign token.LeftBracket) i.at
 Begins begin.Map i = i ≡ item (Sign token.MapStart) i.at
 Begins begin.Interpolated i = i ≡ item (Interpolated (text_of i.lexeme)) i.at
-Begins begin.Block i = i ≡ item (Sign token.LeftBrace) i.at
+Begins (begin.Construct k) i = i ≡ item (Sign (construct_token k)) i.at
 Begins _ i = Unit {0}
 
 begins : (l : Lexeme) (p : Position) → Begins (beginning l) (item l p)
@@ -54,6 +57,11 @@ begins (Sign token.LeftParen) p = refl
 begins (Sign token.LeftBracket) p = refl
 begins (Sign token.MapStart) p = refl
 begins (Sign token.LeftBrace) p = refl
+begins (Sign token.If) p = refl
+begins (Sign token.While) p = refl
+begins (Sign token.Loop) p = refl
+begins (Sign token.Do) p = refl
+begins (Sign token.For) p = refl
 begins _ p = tt
 
 pub begun : {v : Beginning} (s : Point) → beginning (op_at s) ≡ v → Begins v (next_at code s)
@@ -118,24 +126,92 @@ keyed quoted first s e = subst (λ v. Keys v (next_at code s)) e (keys quoted fi
 
 abbrev pub Starts : StatementStart → Item → Type 0
 Starts start.Empty i = i ≡ item (Sign token.SemiColon) i.at
-Starts start.Block i = i ≡ item (Sign token.LeftBrace) i.at
+Starts (start.Construct k) i = i ≡ item (Sign (construct_token k)) i.at
 Starts start.Let i = i ≡ item (Sign (keyword_of false)) i.at
 Starts start.Const i = i ≡ item (Sign (keyword_of true)) i.at
 Starts start.Return i = i ≡ item (Sign (jump_token false)) i.at
 Starts start.Throw i = i ≡ item (Sign (jump_token true)) i.at
+Starts start.Break i = i ≡ item (Sign token.Break) i.at
+Starts start.Continue i = i ≡ item (Sign token.Continue) i.at
 Starts start.Expression i = Unit {0}
 
-starts : (l : Lexeme) (p : Position) → Starts (statement_start l) (item l p)
+starts : (l : Lexeme) (p : Position) → Starts (any_start l) (item l p)
 starts (Sign token.SemiColon) p = refl
 starts (Sign token.LeftBrace) p = refl
+starts (Sign token.If) p = refl
+starts (Sign token.While) p = refl
+starts (Sign token.Loop) p = refl
+starts (Sign token.Do) p = refl
+starts (Sign token.For) p = refl
+starts (Sign token.Try) p = refl
 starts (Sign token.Let) p = refl
 starts (Sign token.Const) p = refl
 starts (Sign token.Return) p = refl
 starts (Sign token.Throw) p = refl
+starts (Sign token.Break) p = refl
+starts (Sign token.Continue) p = refl
 starts _ p = tt
 
-pub started : {v : StatementStart} (s : Point) → statement_start (op_at s) ≡ v → Starts v (next_at code s)
-started s e = subst (λ v. Starts v (next_at code s)) e (starts (op_at s) (pos_at s))
+-- and the engine allows it
+abbrev pub IsAllowed : Context → StatementStart → Type 0
+IsAllowed c (start.Construct k) = may_stand c k ≡ true
+IsAllowed c start.Break = allows_looping c ≡ true
+IsAllowed c start.Continue = allows_looping c ≡ true
+IsAllowed c _ = Unit {0}
+
+abbrev Allowed : Context → StatementStart → Item → Type 0
+Allowed c v i = IsAllowed c v × Starts v i
+
+-- a start that is allowed, or an expression
+or_expression : (c : Context) (v : StatementStart) (i : Item) (b : Bool) → (b ≡ true → Allowed c v i)
+    → Allowed c (if b then v else start.Expression) i
+or_expression c v i true h = h refl
+or_expression c v i false h = (tt, tt)
+
+allowed : (c : Context) (v : StatementStart) (i : Item) → Starts v i → Allowed c (allowed_start c v) i
+allowed c (start.Construct k) i h = or_expression c (start.Construct k) i (may_stand c k) (λ e. (e, h))
+allowed c start.Break i h = or_expression c start.Break i (allows_looping c) (λ e. (e, h))
+allowed c start.Continue i h = or_expression c start.Continue i (allows_looping c) (λ e. (e, h))
+allowed c start.Empty i h = (tt, h)
+allowed c start.Let i h = (tt, h)
+allowed c start.Const i h = (tt, h)
+allowed c start.Return i h = (tt, h)
+allowed c start.Throw i h = (tt, h)
+allowed c start.Expression i h = (tt, h)
+
+pub started : {v : StatementStart} (c : Context) (s : Point) → statement_start c (op_at s) ≡ v
+    → IsAllowed c v × Starts v (next_at code s)
+started c s e =
+    subst (λ v. IsAllowed c v × Starts v (next_at code s)) e
+    (allowed c (any_start (op_at s)) (next_at code s) (starts (op_at s) (pos_at s)))
+
+-- the other way round
+pub starts_value : (c : Context) (k : Kind) → may_be_value c k ≡ true
+    → beginning (Sign (construct_token k)) ≡ begin.Construct k
+starts_value c kind.Try e = absurd cc
+starts_value c kind.Block e = refl
+starts_value c kind.If e = refl
+starts_value c kind.While e = refl
+starts_value c kind.Loop e = refl
+starts_value c kind.Do e = refl
+starts_value c kind.For e = refl
+
+any_construct_starts : (k : Kind) → any_start (Sign (construct_token k)) ≡ start.Construct k
+any_construct_starts kind.Block = refl
+any_construct_starts kind.If = refl
+any_construct_starts kind.While = refl
+any_construct_starts kind.Loop = refl
+any_construct_starts kind.Do = refl
+any_construct_starts kind.For = refl
+any_construct_starts kind.Try = refl
+
+pub starts_construct : (c : Context) (k : Kind) → may_stand c k ≡ true
+    → statement_start c (Sign (construct_token k)) ≡ start.Construct k
+starts_construct c k e =
+    ap (allowed_start c) (any_construct_starts k) ∙ ap (λ b. if b then start.Construct k else start.Expression) e
+
+pub construct_readable : (k : Kind) → is_memory (Sign (construct_token k)) ≡ false
+construct_readable k = refl
 
 abbrev pub Separates : AfterStatement → Item → Type 0
 Separates after.SemiColon i = i ≡ item (Sign token.SemiColon) i.at
@@ -153,33 +229,24 @@ pub separated : {v : AfterStatement} (closing : Closing) (s : Point) → after_s
     → Separates v (next_at code s)
 separated closing s e = subst (λ v. Separates v (next_at code s)) e (separates closing (op_at s) (pos_at s))
 
--- ---- jumps, and texts
-
--- a jump in place of an operand
-pub jump_is : (o : OperandPlace) (l : Lexeme) (p : Position) → operand_start o l ≡ first.Jump
-    → item l p ≡ item (Sign (jump_token (is_throw l))) p
-jump_is after_op.AfterCoalesce (Sign token.Return) p e = refl
-jump_is after_op.AfterCoalesce (Sign token.Throw) p e = refl
-jump_is after_op.AfterCoalesce _ p e = absurd cc
-jump_is after_op.AfterRange l p e = by (omits_operand l) e
-  where
-    by : (b : Bool) → (if b then first.Omitted else first.Written) ≡ first.Jump
-        → item l p ≡ item (Sign (jump_token (is_throw l))) p
-    by true e = absurd cc
-    by false e = absurd cc
-jump_is after_op.Elsewhere l p e = absurd cc
-
-pub jump_stands : (o : OperandPlace) (s : Point) → operand_start o (op_at s) ≡ first.Jump
-    → is_jump (operand_start o (Sign (jump_token (is_throw (op_at s))))) ≡ true
-jump_stands o s e =
-    let same : op_at s ≡ Sign (jump_token (is_throw (op_at s))) =
-    ap (λ (i : Item). i.lexeme) (jump_is o (op_at s) (pos_at s) e) in
-    ap (λ l. is_jump (operand_start o l)) (sym same) ∙ ap is_jump e
+-- ---- texts, and the end of `do`
 
 pub text_is : (l : Lexeme) (p : Position) → is_text l ≡ true → item l p ≡ item (text_token (is_last_text l) (text_of l)) p
 text_is (String t) p e = refl
 text_is (Interpolated t) p e = refl
 text_is _ p e = absurd cc
+
+pub do_is : (l : Lexeme) (p : Position) (negated : Bool) → do_end l ≡ Some negated
+    → item l p ≡ item (Sign (do_token negated)) p
+do_is (Sign token.While) p true e = absurd cc
+do_is (Sign token.While) p false e = refl
+do_is (Sign token.Until) p true e = refl
+do_is (Sign token.Until) p false e = absurd cc
+do_is _ p negated e = absurd cc
+
+pub ends_do : (negated : Bool) → do_end (Sign (do_token negated)) ≡ Some negated
+ends_do true = refl
+ends_do false = refl
 
 -- ---- one token
 

@@ -6,6 +6,7 @@ pub mod Literals
 pub mod Chains
 pub mod Runs
 pub mod Statements
+pub mod Constructs
 pub mod Whole
 use Rattle.std.proofs.Common.{Bool, true}
 use Rattle.rhai_grammar.specs.Delivered.{Point}
@@ -28,14 +29,17 @@ use Rattle.rhai_reading.proofs.Rules.{at}
 use Rattle.rhai_reading.proofs.Complete.Law.{PrimaryRead, BaseRead, LinksRead, OperandRead, ArgumentsRead, ItemsRead}
 use Rattle.rhai_reading.proofs.Complete.Law.{ElementsRead, FieldsRead, RunRead}
 use Rattle.rhai_reading.proofs.Complete.Law.{ExprStatementRead, InitializerRead, StatementRead, StatementsRead, BodyRead}
-use Rattle.rhai_grammar.specs.Forms.{Body, ExprStatement, Initializer, JumpValue, Segments, Statement}
-use Rattle.rhai_reading.proofs.Complete.Law.{InsideRead, JumpRead, SegmentsRead}
+use Rattle.rhai_grammar.specs.Forms.{Body, Branch, Conditional, Construct, ExprStatement, Initializer, JumpValue}
+use Rattle.rhai_grammar.specs.Forms.{Segments, Statement}
+use Rattle.rhai_reading.proofs.Complete.Law.{BranchRead, ConditionalRead, ConstructRead, InsideRead, JumpRead}
+use Rattle.rhai_reading.proofs.Complete.Law.{SegmentsRead}
 use Rattle.rhai_reading.proofs.Complete.Operands as O
 use Rattle.rhai_reading.proofs.Complete.Calls as C
 use Rattle.rhai_reading.proofs.Complete.Literals as L
 use Rattle.rhai_reading.proofs.Complete.Chains as K
 use Rattle.rhai_reading.proofs.Complete.Runs as N
 use Rattle.rhai_reading.proofs.Complete.Statements as T
+use Rattle.rhai_reading.proofs.Complete.Constructs as B
 use Rattle.rhai_reading.proofs.Complete.Whole.{expression, whole}
 
 mutual
@@ -47,7 +51,7 @@ mutual
   primary (form.Array opening list) = L.array opening list (elements list)
   primary (form.Map opening list) = L.object_map opening list (fields list)
   primary (form.Interpolated first pos list) = T.interpolated first pos list (segments list)
-  primary (form.BlockValue opening f) = T.block_value opening f (block f)
+  primary (form.CompoundValue pos x) = T.compound_value pos x (construct x)
   primary (form.Zero range pos) = O.zero range pos
 
   base : (x : Base) → BaseRead x
@@ -66,7 +70,7 @@ mutual
   operand (form.Linked x list) = O.linked x list (base x) (links list)
   operand (form.Signed sign pos x) = O.signed sign pos x (operand x)
   operand (form.NoOperand token pos) = O.no_operand token pos
-  operand (form.Jump throws pos x) = O.jump throws pos x (jump x)
+  operand (form.Jump x) = O.jump x (statement x)
 
   arguments : (x : Arguments) → ArgumentsRead x
   arguments (form.EmptyPair pos) = C.empty_pair pos
@@ -115,8 +119,29 @@ mutual
   statement (form.Expression x) = T.expression_statement x (expr_statement x)
   statement (form.Define constant pos name name_at value) =
       T.define constant pos name name_at value (initializer value)
-  statement (form.Block opening f) = T.block_statement opening f (block f)
+  statement (form.Compound pos x) = T.compound pos x (construct x)
   statement (form.Return throws pos x) = T.return throws pos x (jump x)
+  statement (form.Break pos x) = T.break pos x (jump x)
+  statement (form.Continue pos) = T.continue pos
+
+  construct : (x : Construct) → ConstructRead x
+  construct (form.Block f) = B.block f (block f)
+  construct (form.If x) = B.if_ x (conditional x)
+  construct (form.While f opening g) = B.while f opening g (expression f (run f)) (block g)
+  construct (form.Loop opening g) = B.loop opening g (block g)
+  construct (form.Do opening g negated pos f) = B.do_while opening g negated pos f (block g) (expression f (run f))
+  construct (form.For names in_at f opening g) = B.for names in_at f opening g (expression f (run f)) (block g)
+  construct (form.Try opening g pos name handler_at h) =
+      B.try opening g pos name handler_at h (block g) (block h)
+
+  conditional : (x : Conditional) → ConditionalRead x
+  conditional (form.Guarded f opening g rest) =
+      B.conditional f opening g rest (expression f (run f)) (block g) (branch rest)
+
+  branch : (x : Branch) → BranchRead x
+  branch form.NoElse = B.no_else
+  branch (form.Else pos opening g) = B.else_block pos opening g (block g)
+  branch (form.ElseIf pos if_at x) = B.else_if pos if_at x (conditional x)
 
   statements : (x : form.Statements) → StatementsRead x
   statements form.NoStatement = T.no_statements

@@ -1,6 +1,9 @@
 -- A token that is due, and what follows a part of a list: what is shown there, whatever the token and the list are.
 use Rattle.std.proofs.Common.{◌≡◌, Bool, true, false, refl, subst}
-use Rattle.rhai_lower.specs.Lexemes.{Lexeme, Sign}
+use Rattle.rhai_lower.specs.Lexemes.{Lexeme, Name, Sign, text_of}
+use Rattle.rhai_lower.specs.Texts.{Text}
+use Rattle.rhai_grammar.specs.Beginnings.{is_name}
+use Rattle.rhai_grammar.specs.Statements.{name_due, no_variable}
 use Rattle.rhai_lower.specs.declared.position.Position.{Position}
 use Rattle.rhai_lower.specs.declared.token.Token.TheVariants as token
 use Rattle.rhai_grammar.specs.Causes.{refusal}
@@ -16,17 +19,25 @@ use Rattle.rhai_grammar.specs.declared.list.CommaList.{CommaList}
 use Rattle.rhai_grammar.specs.declared.list.CommaList.TheVariants as lists
 use Rattle.rhai_grammar.specs.Verdicts as V
 use Rattle.rhai_grammar.specs.Written as W
-use Rattle.rhai_reading.specs.Reading.{Prog, match_token, part_next, after_a_part}
+use Rattle.rhai_reading.specs.Reading.{Prog, match_name, match_token, part_next, after_a_part}
+use Rattle.rhai_reading.proofs.Beginnings.{name_is, no_name}
 use Rattle.rhai_reading.proofs.Looks.{op_at, pos_at}
 use Rattle.rhai_reading.proofs.Paths.{Way, Lost}
 use Rattle.rhai_reading.proofs.Shows.{Histories, Kind, Shows, Halts, look, check, take, refuse, wrong}
 
 pub stands : (d : DueToken) (l : Lexeme) (p : Position) → is_due d l ≡ true → item l p ≡ item (Sign (token_of d)) p
+stands due.LeftParen (Sign token.LeftParen) p e = refl
 stands due.RightParen (Sign token.RightParen) p e = refl
 stands due.RightBracket (Sign token.RightBracket) p e = refl
 stands due.Colon (Sign token.Colon) p e = refl
 stands due.LeftBrace (Sign token.LeftBrace) p e = refl
 stands due.RightBrace (Sign token.RightBrace) p e = refl
+stands due.Comma (Sign token.Comma) p e = refl
+stands due.Equals (Sign token.Equals) p e = refl
+stands due.In (Sign token.In) p e = refl
+stands due.If (Sign token.If) p e = refl
+stands due.Else (Sign token.Else) p e = refl
+stands due.Catch (Sign token.Catch) p e = refl
 stands _ _ p e = absurd cc
 
 -- the token that is due is missed at a point
@@ -43,6 +54,22 @@ module _ {A F B : Type 0} {call : Histories} {Q : A → Point → Type 0} {K : K
   expect d f {s = s} way on =
       look (λ m. check (is_due d (op_at s)) f (λ other k. way (record { way = wrong m (rw other) }) k)
       (λ here. take (on (stands d (op_at s) (pos_at s) here))))
+
+-- a name that is due is missed at a point
+pub record Nameless (s : Point) : Type 0 where
+  pub way : {i : Item} {ds : Demands}
+      → Way (Tok code i name_due ▸ ds) s (Lost (refusal (no_variable (op_at s)) (pos_at s)) s)
+
+module _ {A F B : Type 0} {call : Histories} {Q : A → Point → Type 0} {K : Kind F B} {from : Point} where
+  pub expect_name : (f : F) (k : Text → Position → Prog A) {s : Point} {b : Bool}
+      → (Nameless s → (k : Demands)
+      → Way (K.demands f k) from (Lost (refusal (no_variable (op_at s)) (pos_at s)) s))
+      → (next_at code s ≡ item (Name (text_of (op_at s))) (pos_at s)
+      → Shows call Q (Halts K from) (k (text_of (op_at s)) (pos_at s)) (past code s) false)
+      → Shows call Q (Halts K from) (match_name k) s b
+  expect_name f k {s = s} way on =
+      look (λ m. check (is_name (op_at s)) f (λ other k. way (record { way = wrong m (no_name (op_at s) other) }) k)
+      (λ here. take (on (name_is (op_at s) (pos_at s) here))))
 
 -- ---- after a part of a list
 

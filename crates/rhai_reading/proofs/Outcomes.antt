@@ -14,7 +14,6 @@ use Rattle.rhai_grammar.specs.declared.role.Calling.{Calling}
 use Rattle.rhai_grammar.specs.declared.role.Calling.TheVariants as calls_by
 use Rattle.rhai_grammar.specs.Beginnings.{is_sign, is_list, missing}
 use Rattle.rhai_grammar.specs.Spots.{spot_after_operand}
-use Rattle.rhai_grammar.specs.declared.role.OperandPlace.TheVariants.{Elsewhere}
 use Rattle.rhai_grammar.specs.Chains.{chained}
 use Rattle.rhai_grammar.specs.Signs.{sign_result, sign_holds, signed, malformed}
 use Rattle.rhai_grammar.specs.Operators.{operator_result, operator_tree, boolean_holds, mismatched}
@@ -45,7 +44,7 @@ exec_answered call (Err e) t = refl
 
 -- ---- signs
 
-pub operand_sign : (c : Context) (w : Live) (l : Lexeme) (at : Position) (b : Beginning) → is_sign b ≡ true → operand_by c w l at b ≡ Take (raised c at (λ d. Call (Operand d w Elsewhere) (sign_on l at)))
+pub operand_sign : (c : Context) (w : Live) (l : Lexeme) (at : Position) (b : Beginning) → is_sign b ≡ true → operand_by c w l at b ≡ Take (raised c at (λ d. Call (Operand d w) (sign_on l at)))
 operand_sign c w l at begin.Sign e = refl
 operand_sign c w l at _ e = absurd cc
 

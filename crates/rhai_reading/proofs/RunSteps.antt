@@ -10,7 +10,7 @@ use Rattle.rhai_grammar.specs.Cursors.{Cursor, asked, looking, taking, left}
 use Rattle.rhai_grammar.specs.Delivered.{Item, item, is_end, is_memory}
 use Rattle.rhai_grammar.specs.Operators.{operator_result}
 use Rattle.rhai_grammar.specs.Contexts.{Context, Live, has_room, level_up}
-use Rattle.rhai_reading.specs.Reading.{Ret, Fail, Peek, Call, NextOperator, Operand, BinaryOp, continues, raised, binary_at, binary_on, binary_right, binary_next}
+use Rattle.rhai_reading.specs.Reading.{Ret, Fail, Peek, Call, NextOperator, RightOperand, BinaryOp, continues, raised, binary_at, binary_on, binary_right, binary_next}
 use Rattle.rhai_reading.specs.Running as R
 use Rattle.rhai_reading.specs.Running.{exec, result_of, guarded}
 use Rattle.rhai_reading.proofs.Steps.{step_binary_op, guarded_is, and_then_done}
@@ -21,7 +21,7 @@ pub record TakesOne (c : Context) (w : Live) (parent n : ℕ) (right : Bool) (ne
   pub operator : result_of NextOperator s ≡ R.Done (Some (n, right)) s1
   pub goes : continues parent n right ≡ true
   pub readable : is_memory (asked s1).lexeme ≡ false
-  pub operand : result_of (Operand c w (place_after (asked s1).lexeme)) (taking s1) ≡ R.Done x s2
+  pub operand : result_of (RightOperand c w (place_after (asked s1).lexeme)) (taking s1) ≡ R.Done x s2
   pub known : result_of NextOperator s2 ≡ R.Done next s3
   pub room : has_room c ≡ true
   pub side : result_of (BinaryOp (level_up c) w (position_of x) n x) s3 ≡ R.Done y t
@@ -34,7 +34,7 @@ one_operator : (c : Context) (w : Live) (at : Position) (parent : ℕ) (lhs : No
 one_operator c w at parent lhs n right next x y s s1 s2 s3 t h =
     let g = BinaryOp c w at parent lhs in
     let first = guarded_is g s NextOperator s (omega arith) ∙ h.operator in
-    let second = guarded_is g s (Operand c w (place_after (asked s1).lexeme)) (taking s1) (omega (arith, h.after_operator)) ∙ h.operand in
+    let second = guarded_is g s (RightOperand c w (place_after (asked s1).lexeme)) (taking s1) (omega (arith, h.after_operator)) ∙ h.operand in
     let third = guarded_is g s NextOperator s2 (omega (arith, h.after_operand)) ∙ h.known in
     let fourth = guarded_is g s (BinaryOp (level_up c) w (position_of x) n x) s3 (omega (arith, h.after_look)) ∙ h.side in
     let call = guarded g s in
@@ -43,7 +43,7 @@ one_operator c w at parent lhs n right next x y s s1 s2 s3 t h =
     step_binary_op c w at parent lhs s
     ∙ ap (λ o. R.and_then o (λ v u. exec call (binary_at c w at parent lhs v) u)) first
     ∙ ap (λ b. exec call (if b then Peek (binary_on c w at parent lhs n) else Ret lhs) s1) h.goes
-    ∙ ap (λ m. if m then R.Refused out_of_memory (looking s1) else (if m then R.Refused out_of_memory (looking s1) else exec call (Call (Operand c w (place_after op)) (binary_right c w at parent lhs n op pos)) (taking s1))) h.readable
+    ∙ ap (λ m. if m then R.Refused out_of_memory (looking s1) else (if m then R.Refused out_of_memory (looking s1) else exec call (Call (RightOperand c w (place_after op)) (binary_right c w at parent lhs n op pos)) (taking s1))) h.readable
     ∙ ap (λ o. R.and_then o (λ v u. exec call (binary_right c w at parent lhs n op pos v) u)) second
     ∙ ap (λ o. R.and_then o (λ v u. exec call (raised c at (λ d. Call (BinaryOp d w (position_of x) n x) (binary_next d w parent lhs op pos))) u)) third
     ∙ ap (λ b. exec call (if b then Call (BinaryOp (level_up c) w (position_of x) n x) (binary_next (level_up c) w parent lhs op pos) else Fail (refusal ExprTooDeep at)) s3) h.room
@@ -73,7 +73,7 @@ pub record Walked (c : Context) (w : Live) (parent n : ℕ) (right : Bool) (plac
   pub took : s2 ≡ taking s1
   pub shrinks : is_end (asked s1).lexeme ≡ false → left s2.tokens + 1 ≤ left s1.tokens
   pub stands : place ≡ place_after op
-  pub operand : result_of (Operand c w place) s2 ≡ R.Done x s3
+  pub operand : result_of (RightOperand c w place) s2 ≡ R.Done x s3
   pub operand_short : left s3.tokens ≤ left s2.tokens
   pub known : result_of NextOperator s3 ≡ R.Done next s4
   pub look_on : s4 ≡ looking s3
@@ -99,7 +99,7 @@ module _ {c : Context} {w : Live} {parent n : ℕ} {right : Bool} {place : Opera
         operator = h.operator;
         goes = h.goes;
         readable = ap (λ (u : Cursor). is_memory (asked u).lexeme) h.look ∙ h.readable;
-        operand = ap (λ b. result_of (Operand c w b) (taking s1)) place_is ∙ ap (result_of (Operand c w place)) (sym h.took) ∙ h.operand;
+        operand = ap (λ b. result_of (RightOperand c w b) (taking s1)) place_is ∙ ap (result_of (RightOperand c w place)) (sym h.took) ∙ h.operand;
         known = h.known;
         room = h.room;
         side = ap (λ e. result_of (BinaryOp e w (position_of x) n x) s4) (sym h.deeper) ∙ h.side;

@@ -6,6 +6,7 @@ pub mod Literals
 pub mod Chains
 pub mod Runs
 pub mod Statements
+pub mod Constructs
 pub mod Whole
 use Rattle.std.proofs.Common.{◌≡◌, ℕ, zero, suc, Bool}
 use Rattle.rhai_grammar.specs.Contexts.{Context, Live}
@@ -31,13 +32,15 @@ use Rattle.rhai_reading.proofs.Sound.Literals as L
 use Rattle.rhai_reading.proofs.Sound.Chains as K
 use Rattle.rhai_reading.proofs.Sound.Runs as N
 use Rattle.rhai_reading.proofs.Sound.Statements as T
+use Rattle.rhai_reading.proofs.Sound.Constructs as B
 use Rattle.rhai_reading.proofs.Sound.Whole as H
 
 -- one step, where all calls are sound
 step : {call : Histories} → AllSound call → (g : Goal) (s : Point) (b : Bool) → Sound g s (exec call (body g) (at s b))
 step ih (R.Whole c w) s b = H.whole ih c w s b
 step ih (R.Expression c w) s b = tells (H.expression ih c w s b)
-step ih (R.Operand c w place) s b = tells (O.operand ih c w place s b)
+step ih (R.Operand c w) s b = λ place written. tells (O.operand ih c w place s b written)
+step ih (R.RightOperand c w place) s b = tells (O.right_operand ih c w place s b)
 step ih (R.Primary c w) s b = λ place written sign. tells (O.primary ih c w place s b written sign)
 step ih (R.Postfix c w x) s b = λ place from p is G. tells (C.postfix ih c w place from p s G x b is)
 step ih (R.Called c w name) s b = λ on. tells (C.calling_by ih c w name s b on)
@@ -59,6 +62,15 @@ step ih (R.Initializer c w pos) s b = tells (T.initializer ih c w s pos b)
 step ih (R.Definition c w pos constant) s b = tells (T.definition ih c w s pos constant b)
 step ih (R.Statement c w) s b = tells (T.statement ih c w s b)
 step ih (R.Statements closing c w before) s b = tells (T.list_of ih closing c w before s b)
+step ih (R.Construct c w pos kind) s b = tells (B.construct ih c w pos s b kind)
+step ih (R.Braced c w pos) s b = tells (B.in_braces ih c w s pos b)
+step ih (R.Guard c w) s b = tells (B.guard ih c w s b)
+step ih (R.Iterated c w) s b = tells (B.iterated ih c w s b)
+step ih (R.Conditional c w pos) s b = tells (B.conditional ih c w s pos b)
+step ih (R.Branch c w pos) s b = tells (B.branch ih c w s pos b)
+step {call = call} ih R.LoopNames s b = tells (B.loop_names call s b)
+step {call = call} ih R.Catch s b = tells (B.catch_name call s b)
+step {call = call} ih R.DoEnd s b = tells (B.end_of_do call s b)
 step {call = call} ih R.BlockStart s b = tells (L.block_start call s b)
 step ih (R.Inside c w) s b = tells (T.inside ih c w s b)
 step ih (R.Block c w opening) s b = tells (T.block ih c w opening s b)
@@ -70,6 +82,7 @@ step ih (R.BinaryOp c w pos p lhs) s b =
 -- before any call is made
 none : (g : Goal) (s : Point) (b : Bool) → Sound g s (deep zero g (at s b))
 none (R.Whole c w) s b = tt
+none (R.Operand c w) s b = λ place written. record { told = tt }
 none (R.Primary c w) s b = λ place written sign. record { told = tt }
 none (R.Postfix c w x) s b = λ place from p is G. record { told = tt }
 none (R.Called c w name) s b = λ on. record { told = tt }

@@ -22,15 +22,21 @@ use Rattle.rhai_grammar.specs.declared.role.Closing.{Closing}
 use Rattle.rhai_grammar.specs.declared.role.Closing.TheVariants.{EndMark}
 use Rattle.rhai_grammar.specs.Spots.{LinkSpot}
 use Rattle.rhai_grammar.specs.Chains.{Link}
+use Rattle.rhai_grammar.specs.declared.role.Construct.{Construct as Kind}
 use Rattle.rhai_grammar.specs.declared.role.OperandPlace.{OperandPlace}
+use Rattle.rhai_grammar.specs.Beginnings.{is_name}
+use Rattle.rhai_grammar.specs.Statements.{no_variable}
+use Rattle.rhai_lower.specs.Lexemes.{text_of}
 
 -- What is read by a call: a constructor for each reader of the code, with what it is given.
 pub data Goal : Type 0 where
   -- an expression up to the end mark
   Whole : Context → Live → Goal
   Expression : Context → Live → Goal
-  -- an operand with its signs and its call, at this place
-  Operand : Context → Live → OperandPlace → Goal
+  -- a written operand with its signs and its call
+  Operand : Context → Live → Goal
+  -- an operand at this place after an operator
+  RightOperand : Context → Live → OperandPlace → Goal
   Primary : Context → Live → Goal
   -- what calls a name: whether it has a `!`, and the arguments; at is where the raise of their level is refused
   Called : Context → Live → (at : Position) → Goal
@@ -54,7 +60,7 @@ pub data Goal : Type 0 where
   Segments : Context → Live → (start : Position) (before : Nodes) → Goal
   -- the `}` of a block in an interpolated string, and the text after it
   TextAfter : Goal
-  -- what follows `return` or `throw`, which is at a position: a value, or nothing
+  -- what follows `return`, `throw` or `break`, which is at a position: a value, or nothing
   Jump : Context → Live → (at : Position) → Goal
   -- the key of one more property, with its colon; none where the `}` is
   NextKey : Context → (before : Properties) → Goal
@@ -81,6 +87,24 @@ pub data Goal : Type 0 where
   Block : Context → Live → (at : Position) → Goal
   -- the `}` of a block of these statements
   BlockEnd : (at : Position) (fs : node.Statements) → Goal
+  -- a construct of this kind after its first token, which is at a position
+  Construct : Context → Live → (at : Position) → Kind → Goal
+  -- a block from its `{`, of a construct that is at a position
+  Braced : Context → Live → (at : Position) → Goal
+  -- a guard
+  Guard : Context → Live → Goal
+  -- what `for` goes over
+  Iterated : Context → Live → Goal
+  -- what follows `if`, which is at a position
+  Conditional : Context → Live → (at : Position) → Goal
+  -- what follows the block of an `if`, which is at a position
+  Branch : Context → Live → (at : Position) → Goal
+  -- the variables of `for`, and its `in`
+  LoopNames : Goal
+  -- `catch`, and its variable
+  Catch : Goal
+  -- the `while` or `until` after the block of `do`
+  DoEnd : Goal
 
 -- a script, up to the end mark
 abbrev pub Script : Context → Live → Goal
@@ -90,7 +114,8 @@ Script c w = Statements EndMark c w no_statements
 abbrev pub Val : Goal → Type 0
 Val (Whole c w) = Node
 Val (Expression c w) = Node
-Val (Operand c w place) = Node
+Val (Operand c w) = Node
+Val (RightOperand c w place) = Node
 Val (Primary c w) = Node
 Val (Called c w at) = Bool × Nodes
 Val (Links w q) = List Link
@@ -117,6 +142,15 @@ Val BlockStart = Position
 Val (Inside c w) = node.Statements
 Val (Block c w at) = node.Block
 Val (BlockEnd at fs) = node.Block
+Val (Construct c w at kind) = node.Statement
+Val (Braced c w at) = node.Block
+Val (Guard c w) = Node
+Val (Iterated c w) = Node
+Val (Conditional c w at) = node.Statement
+Val (Branch c w at) = node.Block
+Val LoopNames = Text × Option Text
+Val Catch = Option (Text × Position)
+Val DoEnd = Bool
 
 -- a reader that gives an A
 pub data Prog (A : Type 0) : Type 0 where
@@ -139,6 +173,14 @@ raised c at k = if has_room c then k (level_up c) else Fail (refusal cause.ExprT
 -- this token is due, or what else is there is refused
 abbrev pub match_token : {A : Type 0} → DueToken → Prog A → Prog A
 match_token d p = Peek (λ l at. if is_due d l then Take p else Fail (refusal (not_due d l) at))
+
+-- where a construct stands: its first token, with a raise there and one more inside
+abbrev pub construct_on : {A : Type 0} → Context → Live → Position → Kind → (node.Statement → Prog A) → Prog A
+construct_on c w at kind k = Take (raised c at (λ d. raised d at (λ e. Call (Construct e w at kind) k)))
+
+-- a name is due, or what else is there is refused
+abbrev pub match_name : {A : Type 0} → (Text → Position → Prog A) → Prog A
+match_name k = Peek (λ l at. if is_name l then Take (k (text_of l) at) else Fail (refusal (no_variable l) at))
 
 -- After a part of a list: on after a comma, end after the token that closes the list, or what else is there is
 -- refused.

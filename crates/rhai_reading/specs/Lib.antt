@@ -1,4 +1,5 @@
 pub mod Goals
+pub mod ReadingStatements
 pub mod Reading
 pub mod Running
 pub mod Histories

@@ -4,35 +4,29 @@ use Rattle.std.specs.Prelude.{ℕ, Bool, true, false, Option, Some, None, List, 
 use Rattle.std.specs.Prelude.{if◌then◌else◌}
 use Rattle.rhai_lower.specs.Texts.{Text}
 use Rattle.rhai_lower.specs.Lexemes.{Lexeme, text_of}
-use Rattle.rhai_lower.specs.Nodes.{Node, Nodes, Properties, unit, integer, array, object_map, property, this, no_nodes}
-use Rattle.rhai_lower.specs.Nodes.{with_node, no_properties, with_property, position_of, noop, expression, assignment}
-use Rattle.rhai_lower.specs.Nodes.{block_statement, block_value, braces, no_statements, one_statement, Optional, absent}
-use Rattle.rhai_lower.specs.Nodes.{block_of_one, interpolated, present, return_statement}
+use Rattle.rhai_lower.specs.Nodes.{Node, Nodes, Properties, unit, integer, array, object_map, property, this}
+use Rattle.rhai_lower.specs.Nodes.{no_nodes}
+use Rattle.rhai_lower.specs.Nodes.{with_node, no_properties, with_property, position_of}
+use Rattle.rhai_lower.specs.Nodes.{block_value, braces, Optional, absent}
+use Rattle.rhai_lower.specs.Nodes.{if_statement, interpolated}
+use Rattle.rhai_lower.specs.Nodes.{made_block, present}
 use Rattle.rhai_lower.specs.Nodes as node
-use Rattle.rhai_lower.specs.Positions.{nowhere}
 use Rattle.rhai_lower.specs.declared.position.Position.{Position}
 use Rattle.rhai_grammar.specs.Causes as cause
 use Rattle.rhai_grammar.specs.Causes.{Refusal, refusal}
 use Rattle.rhai_grammar.specs.Delivered.{is_end}
 use Rattle.rhai_grammar.specs.Settings.{in_function}
 use Rattle.rhai_grammar.specs.declared.due.DueToken.TheVariants as due
-use Rattle.rhai_grammar.specs.Contexts.{Context, Live, full, has_block_values, has_single_blocks, in_block}
-use Rattle.rhai_grammar.specs.Definitions.{defined, may_define}
-use Rattle.rhai_grammar.specs.Targets.{is_assignment, is_constant_use, is_equals, target_fault, update_of}
-use Rattle.rhai_grammar.specs.Statements.{after_statement, ends_itself, no_variable, statement_place, statement_start}
-use Rattle.rhai_grammar.specs.declared.role.AfterStatement.{AfterStatement}
-use Rattle.rhai_grammar.specs.declared.role.AfterStatement.TheVariants as ends
-use Rattle.rhai_grammar.specs.declared.role.Closing.{Closing}
-use Rattle.rhai_grammar.specs.declared.role.Closing.TheVariants.{Brace}
-use Rattle.rhai_grammar.specs.declared.role.StatementPlace.{StatementPlace}
-use Rattle.rhai_grammar.specs.declared.role.StatementPlace.TheVariants as stands
-use Rattle.rhai_grammar.specs.declared.role.StatementStart.{StatementStart}
-use Rattle.rhai_grammar.specs.declared.role.StatementStart.TheVariants as start
+use Rattle.rhai_grammar.specs.Contexts.{Context, Live, full, has_single_blocks, in_block}
+use Rattle.rhai_grammar.specs.Constructs.{do_end, guard_fault, iterated_fault, may_be_value}
+use Rattle.rhai_grammar.specs.Definitions.{defined}
+use Rattle.rhai_grammar.specs.Statements.{statement_place, statement_start}
 use Rattle.rhai_grammar.specs.declared.list.CommaList.TheVariants as lists
 use Rattle.rhai_grammar.specs.CommaLists.{after_part, is_close, no_argument}
 use Rattle.rhai_grammar.specs.declared.role.ItemPlace.{ItemPlace}
 use Rattle.rhai_grammar.specs.declared.role.ItemPlace.TheVariants as place
-use Rattle.rhai_grammar.specs.Literals.{item_place, no_item, KeyPlace, FieldsEnd, AKey, NoKey, has_key, property_count}
+use Rattle.rhai_grammar.specs.Literals.{item_place, no_item, KeyPlace, FieldsEnd, AKey, NoKey, has_key}
+use Rattle.rhai_grammar.specs.Literals.{property_count}
 use Rattle.rhai_grammar.specs.Literals.{too_many_fields}
 use Rattle.rhai_grammar.specs.Verdicts.{next_key}
 use Rattle.rhai_grammar.specs.Spots.{LinkSpot, spot_after_operand, spot_after_bracket, spot_after_dot}
@@ -47,21 +41,27 @@ use Rattle.rhai_grammar.specs.Beginnings.{beginning, value_of, no_operand, unexp
 use Rattle.rhai_grammar.specs.Beginnings.{may_be_called, is_this, linking, is_name, MemberPlace, AMember, NoMember}
 use Rattle.rhai_grammar.specs.Beginnings.{member_place}
 use Rattle.rhai_grammar.specs.Interpolations.{added_text, is_last_text}
-use Rattle.rhai_grammar.specs.Starts.{is_throw, operand_start, place_after, starts}
-use Rattle.rhai_grammar.specs.declared.role.OperandPlace.TheVariants.{Elsewhere}
+use Rattle.rhai_grammar.specs.Starts.{operand_start, place_after, starts}
 use Rattle.rhai_grammar.specs.declared.role.OperandStart.{OperandStart}
 use Rattle.rhai_grammar.specs.declared.role.OperandStart.TheVariants as first
 use Rattle.rhai_grammar.specs.Signs.{signed, sign_holds, malformed}
 use Rattle.rhai_grammar.specs.Operators.{operator_tree, boolean_holds, mismatched}
 use Rattle.rhai_grammar.specs.Strengths.{Follower, Operator, Unknown, Other, follower_of}
 use Rattle.rhai_grammar.specs.Trees.{name_tree, variable_of, is_variable, node_count, call_tree, bracket_link}
-use Rattle.rhai_grammar.specs.Trees.{member_link, method_tree, definition_tree, with_kept}
+use Rattle.rhai_grammar.specs.Trees.{definition_tree, member_link, method_tree}
 pub use Rattle.rhai_reading.specs.Goals.{Goal, Whole, Expression, Operand, Primary, Called, Links, Index, Member}
 pub use Rattle.rhai_reading.specs.Goals.{Postfix, Arguments, Items, Elements, Fields, Segments, TextAfter, Jump}
 pub use Rattle.rhai_reading.specs.Goals.{NextKey, NextOperator, BinaryOp, ExprStatement, VarName, Initializer}
 pub use Rattle.rhai_reading.specs.Goals.{Definition, Statement, Statements, BlockStart, Inside, Block, BlockEnd}
+pub use Rattle.rhai_reading.specs.Goals.{Branch, Braced, Catch, Conditional, Construct, DoEnd, Guard, Iterated}
+pub use Rattle.rhai_reading.specs.Goals.{LoopNames, RightOperand}
 pub use Rattle.rhai_reading.specs.Goals.{Ret, Fail, Peek, Take, TakeText, Call, Script, Val, Prog}
-pub use Rattle.rhai_reading.specs.Goals.{after_a_part, match_token, part_next, raised}
+pub use Rattle.rhai_reading.specs.Goals.{after_a_part, construct_on, match_name, match_token, part_next, raised}
+pub use Rattle.rhai_reading.specs.ReadingStatements.{assigned_on, evaluated_at, var_name_at, value_at, definition_on}
+pub use Rattle.rhai_reading.specs.ReadingStatements.{jump_on, loop_at, statement_at, separated_at, statements_on}
+pub use Rattle.rhai_reading.specs.ReadingStatements.{statements_at, inside_on, inside_construct, guard_on}
+pub use Rattle.rhai_reading.specs.ReadingStatements.{iterated_on, no_brace, else_at, branch_at, counted_on}
+pub use Rattle.rhai_reading.specs.ReadingStatements.{first_of_two, loop_names_at, catch_at, do_end_at}
 
 -- ---- each reader
 
@@ -94,9 +94,8 @@ primary_at c w l at begin.Map =
 primary_at c w l at begin.Interpolated =
     Take (raised c at (λ d. Call (Segments d w at (added_text no_nodes (text_of l) at)) (λ ns.
     Ret (interpolated ns at))))
-primary_at c w l at begin.Block =
-    if has_block_values c then Take (raised c at (λ d. raised d at (λ e.
-    Call (Block e w at) (λ b. Ret (block_value b)))))
+primary_at c w l at (begin.Construct kind) =
+    if may_be_value c kind then construct_on c w at kind (λ f. Ret (block_value (made_block f)))
     else Fail (refusal (no_operand l) at)
 primary_at c w l at begin.Sign = Fail (refusal (unexpected l) at)
 primary_at c w l at begin.Range = Ret (integer (lib.IntN.pos 0) at)
@@ -114,7 +113,7 @@ abbrev pub segment_on : Context → Live → (start opening : Position) → Node
 segment_on c w start opening before =
     raised c start (λ d. Call (Inside d w) (λ fs. Call TextAfter (text_on c w start opening before fs)))
 
--- after `return` or `throw`
+-- after `return`, `throw` or `break`
 abbrev pub jump_at : Context → Live → (at : Position) → (valued : Bool) → Prog Optional
 jump_at c w at valued =
     raised c at (λ d. if valued then Call (Expression d w) (λ x. Ret (present x)) else Ret absent)
@@ -124,16 +123,16 @@ abbrev pub sign_on : Lexeme → Position → Node → Prog Node
 sign_on sign at x = if sign_holds sign x then Ret (signed sign at x) else Fail (malformed at x)
 
 abbrev pub operand_by : Context → Live → Lexeme → Position → Beginning → Prog Node
-operand_by c w l at begin.Sign = Take (raised c at (λ d. Call (Operand d w Elsewhere) (sign_on l at)))
+operand_by c w l at begin.Sign = Take (raised c at (λ d. Call (Operand d w) (sign_on l at)))
 operand_by c w l at _ =
     Call (Primary c w) (λ x. Call (Postfix c w x) (λ y.
     Call (Links w (spot_after_operand c y)) (λ ls. Ret (chained y ls))))
 
-abbrev pub operand_at : Context → Live → Lexeme → Position → OperandStart → Prog Node
-operand_at c w l at first.Omitted = Ret (unit at)
-operand_at c w l at first.Jump =
-    Take (Call (Jump c w at) (λ value. Ret (block_value (block_of_one (return_statement value (is_throw l) at)))))
-operand_at c w l at first.Written = operand_by c w l at (beginning l)
+-- after an operator
+abbrev pub right_at : Context → Live → Position → OperandStart → Prog Node
+right_at c w at first.Omitted = Ret (unit at)
+right_at c w at first.Jump = Call (Statement c (in_block w)) (λ f. Ret (block_value (made_block f.0)))
+right_at c w at first.Written = Call (Operand c w) Ret
 
 -- ---- calls
 
@@ -269,90 +268,20 @@ binary_right c w at parent lhs strength op pos rhs =
 -- after an operator
 abbrev pub binary_on : Context → Live → Position → ℕ → Node → ℕ → Lexeme → Position → Prog Node
 binary_on c w at parent lhs strength op pos =
-    Take (Call (Operand c w (place_after op)) (binary_right c w at parent lhs strength op pos))
+    Take (Call (RightOperand c w (place_after op)) (binary_right c w at parent lhs strength op pos))
 
 abbrev pub binary_at : Context → Live → Position → ℕ → Node → Option (ℕ × Bool) → Prog Node
 binary_at c w at parent lhs None = Ret lhs
 binary_at c w at parent lhs (Some op) =
     if continues parent op.0 op.1 then Peek (binary_on c w at parent lhs op.0) else Ret lhs
 
--- ---- statements
-
--- after the value of an assignment, whose target may be refused
-abbrev pub assigned_on : node.Statement → Option Refusal → Prog node.Statement
-assigned_on f None = Ret f
-assigned_on f (Some e) = Fail e
-
--- after an expression
-abbrev pub evaluated_at : Context → Live → Node → Lexeme → Position → Prog node.Statement
-evaluated_at c w x l at =
-    if is_assignment l then Take (Call (Expression c w) (λ y.
-    assigned_on (assignment (update_of l) x y at) (target_fault (is_constant_use w.slots x) l at x)))
-    else Ret (expression x)
-
--- where the name of a definition is due
-abbrev pub var_name_at : Context → Live → Lexeme → Position → Prog (Text × Position)
-var_name_at c w l at =
-    if is_name l then Take (if may_define c (text_of l) w then Ret (text_of l, at)
-    else Fail (refusal (cause.VariableExists (text_of l)) at))
-    else Fail (refusal (no_variable l) at)
-
--- after the name of a definition
-abbrev pub value_at : Context → Live → Position → Lexeme → Position → Prog Node
-value_at c w at l pos =
-    if is_equals l then Take (raised c at (λ d. Call (Expression d w) Ret)) else Ret (unit nowhere)
-
--- where a definition stands
-abbrev pub definition_on : Context → Live → Position → (constant : Bool) → Prog (node.Statement × Live)
-definition_on c w at constant = Take (raised c at (λ d. Call (Definition d w at constant) Ret))
-
--- where a jump stands
-abbrev pub jump_on : Context → Live → Position → (throws : Bool) → Prog (node.Statement × Live)
-jump_on c w at throws = Take (Call (Jump c w at) (λ value. Ret (return_statement value throws at, w)))
-
--- where a statement begins
-abbrev pub statement_at : Context → Live → Position → StatementStart → Prog (node.Statement × Live)
-statement_at c w at start.Empty = Take (Ret (noop at, w))
-statement_at c w at start.Block =
-    Take (raised c at (λ d. raised d at (λ e. Call (Block e w at) (λ b. Ret (block_statement b, w)))))
-statement_at c w at start.Let = definition_on c w at false
-statement_at c w at start.Const = definition_on c w at true
-statement_at c w at start.Return = jump_on c w at false
-statement_at c w at start.Throw = jump_on c w at true
-statement_at c w at start.Expression = raised c at (λ d. Call (ExprStatement d w) (λ f. Ret (f, w)))
-
--- after a statement that does not end by itself
-abbrev pub separated_at : Closing → Context → Live → node.Statements → Lexeme → Position → AfterStatement
-    → Prog (node.Statements × Live)
-separated_at closing c w before l at ends.SemiColon = Take (Call (Statements closing c w before) Ret)
-separated_at closing c w before l at ends.Close = Ret (before, w)
-separated_at closing c w before l at ends.Nothing = Fail (refusal (missing (codes ";") l) at)
-
--- after a statement
-abbrev pub statements_on : Closing → Context → Live → node.Statements → (ends : Bool)
-    → Prog (node.Statements × Live)
-statements_on closing c w before ends =
-    if ends then Call (Statements closing c w before) Ret
-    else Peek (λ l at. separated_at closing c w before l at (after_statement closing l))
-
--- where a statement of a list may begin
-abbrev pub statements_at : Closing → Context → Live → node.Statements → Lexeme → Position → StatementPlace
-    → Prog (node.Statements × Live)
-statements_at closing c w before l at stands.Close = Ret (before, w)
-statements_at closing c w before l at stands.Statement =
-    Call (Statement c w) (λ f. statements_on closing c f.1 (with_kept before f.0) (ends_itself f.0))
-statements_at closing c w before l at stands.Nothing = Fail (refusal (missing (codes "}") l) at)
-
-abbrev pub inside_on : Context → Live → (single : Bool) → Prog node.Statements
-inside_on c w true = Call (ExprStatement c w) (λ f. Ret (one_statement f no_statements))
-inside_on c w false = Call (Statements Brace c (in_block w) no_statements) (λ fs. Ret fs.0)
-
 abbrev pub body : (g : Goal) → Prog (Val g)
 body (Whole c w) = Call (Expression c w) (λ e. Peek (whole_at e))
 body (Expression c w) =
-    Peek (λ l at. raised c at (λ d. Call (Operand d w Elsewhere) (λ lhs.
+    Peek (λ l at. raised c at (λ d. Call (Operand d w) (λ lhs.
     Call (BinaryOp d w (position_of lhs) 1 lhs) Ret)))
-body (Operand c w place) = Peek (λ l at. operand_at c w l at (operand_start place l))
+body (Operand c w) = Peek (λ l at. operand_by c w l at (beginning l))
+body (RightOperand c w place) = Peek (λ l at. right_at c w at (operand_start place l))
 body (Primary c w) = Peek (λ l at. primary_at c w l at (beginning l))
 body (Called c w name) = Peek (λ l at. called_at c w name (calling l))
 body (Links w q) = Peek (λ l at. links_at w q l at (linking l))
@@ -376,10 +305,20 @@ body (Initializer c w at) = Peek (value_at c w at)
 body (Definition c w at constant) =
     Call (VarName c w) (λ name. Call (Initializer c w at) (λ x.
     Ret (definition_tree constant at name.0 x w, defined name.0 constant w)))
-body (Statement c w) = Peek (λ l at. statement_at c w at (statement_start l))
+body (Statement c w) = Peek (λ l at. statement_at c w at (statement_start c l))
 body (Statements closing c w before) =
     Peek (λ l at. statements_at closing c w before l at (statement_place closing l))
 body BlockStart = Peek (λ l at. match_token due.LeftBrace (Ret at))
 body (Inside c w) = inside_on c w (has_single_blocks c)
 body (Block c w at) = Call (Inside c w) (λ fs. Call (BlockEnd at fs) Ret)
 body (BlockEnd at fs) = Peek (λ l end. match_token due.RightBrace (Ret (braces fs at end)))
+body (Construct c w at kind) = inside_construct c w at kind
+body (Braced c w at) = Call BlockStart (λ opening. raised c at (λ d. Call (Block d w opening) Ret))
+body (Guard c w) = no_brace (Call (Expression c w) (λ x. guard_on x (guard_fault x)))
+body (Iterated c w) = no_brace (Call (Expression c w) (λ x. iterated_on x (iterated_fault x)))
+body (Conditional c w at) =
+    Call (Guard c w) (λ x. Call (Braced c w at) (λ b. Call (Branch c w at) (λ d. Ret (if_statement x b d at))))
+body (Branch c w at) = Peek (λ l pos. branch_at c w at l)
+body LoopNames = Peek (λ l at. loop_names_at l)
+body Catch = match_token due.Catch (Peek (λ l at. catch_at l))
+body DoEnd = Peek (λ l at. do_end_at l at (do_end l))

@@ -14,6 +14,8 @@ use Rattle.rhai_reading.specs.Reading.{Goal, Whole, Expression, Operand, Primary
 use Rattle.rhai_reading.specs.Reading.{Fields, NextKey, Called, Links, Index, Member, NextOperator, BinaryOp, Val}
 use Rattle.rhai_reading.specs.Reading.{ExprStatement, VarName, Initializer, Definition, Statement, Statements, Block}
 use Rattle.rhai_reading.specs.Reading.{BlockEnd, BlockStart, Inside, Jump, Prog, Segments, TextAfter}
+use Rattle.rhai_reading.specs.Reading.{Branch, Braced, Catch, Conditional, Construct, DoEnd, Guard, Iterated, LoopNames}
+use Rattle.rhai_reading.specs.Reading.{RightOperand}
 use Rattle.rhai_reading.specs.Reading.{Ret, Fail, Peek, Take, TakeText, Call, body}
 
 -- what came of a reader, with the cursor that it left
@@ -58,7 +60,8 @@ exec call (Call g k) s = and_then (call g s) (λ v t. exec call (k v) t)
 abbrev pub rank : Goal → ℕ
 rank (Whole c w) = 5
 rank (Expression c w) = 3
-rank (Operand c w place) = 2
+rank (Operand c w) = 2
+rank (RightOperand c w place) = 6
 rank (Primary c w) = 1
 rank (Postfix c w x) = 1
 rank (Arguments c w at) = 5
@@ -85,6 +88,15 @@ rank BlockStart = 0
 rank (Inside c w) = 7
 rank (Block c w at) = 8
 rank (BlockEnd at fs) = 0
+rank (Construct c w at kind) = 9
+rank (Braced c w at) = 1
+rank (Guard c w) = 4
+rank (Iterated c w) = 4
+rank (Conditional c w at) = 5
+rank (Branch c w at) = 2
+rank LoopNames = 0
+rank Catch = 0
+rank DoEnd = 0
 
 -- the work that is left, above every rank for each token
 abbrev pub work : ℕ → ℕ → ℕ

@@ -1,5 +1,5 @@
 -- What is said of the written forms: that each is read.
-use Rattle.std.proofs.Common.{◌≡◌, ℕ, Bool, true, false}
+use Rattle.std.proofs.Common.{◌≡◌, ℕ, Bool, true, false, refl}
 use Rattle.rhai_lower.specs.Lexemes.{Lexeme}
 use Rattle.rhai_lower.specs.Nodes.{Node, Nodes, no_nodes, Properties, position_of}
 use Rattle.rhai_lower.specs.declared.position.Position.{Position}
@@ -26,7 +26,10 @@ use Rattle.rhai_reading.proofs.FormKinds.{expressions, operands, items, elements
 use Rattle.rhai_reading.proofs.FormKinds.{expr_statements, initializers, statements, statement_lists, blocks}
 use Rattle.rhai_lower.specs.Nodes as node
 use Rattle.rhai_grammar.specs.Forms as form
-use Rattle.rhai_grammar.specs.Forms.{Body, ExprStatement, Initializer, JumpValue, Segments, Statement, Statements}
+use Rattle.rhai_grammar.specs.Forms.{Body, Branch, Conditional, Construct, ExprStatement, Initializer, JumpValue}
+use Rattle.rhai_grammar.specs.Forms.{Segments, Statement, Statements}
+use Rattle.rhai_grammar.specs.Constructs.{kind_of}
+use Rattle.rhai_reading.proofs.FormKinds.{branches, conditionals, constructs}
 use Rattle.rhai_grammar.specs.declared.role.OperandPlace.{OperandPlace}
 use Rattle.rhai_reading.proofs.FormKinds.{InsideForm, ManyInside, SingleInside, insides, jump_values, segments}
 use Rattle.rhai_grammar.specs.declared.role.Closing.{Closing}
@@ -78,7 +81,7 @@ pub record Reads (f : Run) (q : Spot) (k : Demands) (s : Point) (b : Bool) (t : 
   pub end : Point
   pub met : Met k end t
   pub looked : Bool
-  pub operand : Runs (body (R.Operand q.first q.live (place_of q.side))) (at s b) (Done first (at rest looked))
+  pub operand : Runs (body (R.RightOperand q.first q.live (place_of q.side))) (at s b) (Done first (at rest looked))
   pub known_rest : verdict operator_known (next_at code rest).lexeme ≡ Fine
   pub known_end : verdict operator_known (next_at code end).lexeme ≡ Fine
   pub entered : Entered q.side
@@ -98,7 +101,8 @@ abbrev pub ExpressionRead : Run → Type 0
 ExpressionRead f = (c : Context) (w : Live) → IsRead (R.Expression c w) (expressions c w) f
 
 abbrev pub OperandRead : Operand → Type 0
-OperandRead x = (c : Context) (w : Live) (place : OperandPlace) → IsRead (R.Operand c w place) (operands c w place) x
+OperandRead x =
+    (c : Context) (w : Live) (place : OperandPlace) → IsRead (R.RightOperand c w place) (operands c w place) x
 
 -- where no token behind it is in the way
 abbrev pub PrimaryRead : Primary → Type 0
@@ -178,6 +182,17 @@ abbrev pub StatementsRead : Statements → Type 0
 StatementsRead x =
     (closing : Closing) (c : Context) (w : Live) (before : node.Statements)
     → IsRead (R.Statements closing c w before) (statement_lists closing c w before) x
+
+abbrev pub ConstructRead : Construct → Type 0
+ConstructRead x =
+    (c : Context) (w : Live) (at : Position)
+    → IsRead (R.Construct c w at (kind_of x)) (constructs c w at (kind_of x)) (record { construct = x; is = refl })
+
+abbrev pub ConditionalRead : Conditional → Type 0
+ConditionalRead x = (c : Context) (w : Live) (at : Position) → IsRead (R.Conditional c w at) (conditionals c w at) x
+
+abbrev pub BranchRead : Branch → Type 0
+BranchRead x = (c : Context) (w : Live) (at : Position) → IsRead (R.Branch c w at) (branches c w at) x
 
 abbrev pub BodyRead : Body → Type 0
 BodyRead x = (c : Context) (w : Live) (at : Position) → IsRead (R.Block c w at) (blocks c w at) x

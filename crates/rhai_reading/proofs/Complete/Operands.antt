@@ -1,5 +1,8 @@
 -- Primaries, and operands with their signs: the steps to what is written.
-use Rattle.std.proofs.Common.{◌≡◌, Bool, true, false, Some, None, refl, ap, ◌∙◌, if◌then◌else◌}
+use Rattle.std.proofs.Common.{◌≡◌, ℕ, suc, Bool, true, false, Some, None, refl, ap, ◌∙◌, arith, if◌then◌else◌}
+use Rattle.rhai_grammar.specs.Causes.{out_of_memory}
+use Rattle.rhai_grammar.specs.Delivered.{is_memory}
+use Rattle.rhai_reading.specs.Histories.{State, Outcome, Done, Refused, Unfinished, Runs, and_then, asked, calls, exec, looking}
 use Rattle.rhai_lower.specs.Texts.{Text}
 use Rattle.rhai_lower.specs.Lexemes.{Lexeme}
 use Rattle.rhai_lower.specs.Nodes.{Node}
@@ -7,7 +10,7 @@ use Rattle.rhai_lower.specs.declared.position.Position.{Position}
 use Rattle.rhai_grammar.specs.Causes.{Refusal}
 use Rattle.rhai_grammar.specs.Chains.{chained}
 use Rattle.rhai_grammar.specs.Delivered.{code, Item, Point, next_at, past}
-use Rattle.rhai_grammar.specs.Contexts.{Context, Live, level_up}
+use Rattle.rhai_grammar.specs.Contexts.{Context, Live, in_block, level_up}
 use Rattle.rhai_grammar.specs.declared.role.Beginning.{Beginning}
 use Rattle.rhai_grammar.specs.declared.role.Beginning.TheVariants as begin
 use Rattle.rhai_grammar.specs.Beginnings.{beginning}
@@ -26,14 +29,12 @@ use Rattle.rhai_reading.proofs.Looks.{op_at, pos_at}
 use Rattle.rhai_reading.proofs.Tokens.{is_primary, value_is, range_is, sign_is, value_primary, range_primary}
 use Rattle.rhai_reading.proofs.Tokens.{primary_begun, sign_begun, begun_readable, written, unwritten_readable, jump_start_is, omitted_is}
 use Rattle.rhai_reading.proofs.Tokens.{called_no_this}
-use Rattle.rhai_reading.proofs.Complete.Law.{PrimaryRead, BaseRead, JumpRead, LinksRead, OperandRead, ExpressionRead}
-use Rattle.rhai_lower.specs.Lexemes.{Sign}
-use Rattle.rhai_lower.specs.Nodes.{block_of_one, block_value, return_statement}
-use Rattle.rhai_grammar.specs.Starts.{is_throw, jump_token, operand_start}
-use Rattle.rhai_grammar.specs.Trees.{jump_result}
-use Rattle.rhai_grammar.specs.Forms.{JumpValue}
+use Rattle.rhai_reading.proofs.Complete.Law.{PrimaryRead, BaseRead, LinksRead, OperandRead, ExpressionRead, StatementRead}
+use Rattle.rhai_grammar.specs.Constructs.{kind_of}
+use Rattle.rhai_grammar.specs.Starts.{jump_stands, operand_start}
+use Rattle.rhai_grammar.specs.Forms.{Statement}
+use Rattle.rhai_reading.proofs.Beginnings.{starts_value}
 use Rattle.rhai_grammar.specs.declared.role.OperandPlace.TheVariants.{Elsewhere}
-use Rattle.rhai_grammar.specs.Delivered.{is_memory}
 
 -- what a test says of the token that stands at a point
 looks : (f : Lexeme → Bool) (s : Point) (i : Item) → next_at code s ≡ i → f i.lexeme ≡ true → f (op_at s) ≡ true
@@ -50,7 +51,8 @@ begins_here (form.Group opening inside closing) c w place k s t m = looks (λ l.
 begins_here (form.Array opening list) c w place k s t m = looks (λ l. is_primary (beginning l)) s _ m.0 refl
 begins_here (form.Map opening list) c w place k s t m = looks (λ l. is_primary (beginning l)) s _ m.0 refl
 begins_here (form.Interpolated first pos list) c w place k s t m = looks (λ l. is_primary (beginning l)) s _ m.0 refl
-begins_here (form.BlockValue opening f) c w place k s t m = looks (λ l. is_primary (beginning l)) s _ m.1.0 refl
+begins_here (form.CompoundValue pos x) c w place k s t m =
+    looks (λ l. is_primary (beginning l)) s _ m.1.0 (ap is_primary (starts_value c (kind_of x) m.0))
 begins_here (form.Zero range pos) c w place k s t m =
     looks (λ l. is_primary (beginning l)) s _ m.1.0 (range_primary (beginning range) m.0)
 
@@ -81,11 +83,12 @@ links_on c w y = Call (R.Links w (spot_after_operand c y)) (λ ls. Ret (chained 
 opened : (c : Context) (w : Live) (place : OperandPlace) {s : Point} {b : Bool} {x : Node} {k : Demands} {t : Point}
     → is_primary (beginning (op_at s)) ≡ true
     → Reaches (Call (R.Primary c w) (λ x. Call (R.Postfix c w x) (links_on c w))) s true x k t
-    → Reaches (body (R.Operand c w place)) s b x k t
+    → Reaches (body (R.RightOperand c w place)) s b x k t
 opened c w place {s = s} {x = x} {k = k} {t = t} e r =
     let g = primary_begun (beginning (op_at s)) e in
-    look (begun_readable (op_at s) g) (seen (written place (op_at s) g) (R.operand_at c w (op_at s) (pos_at s))
-    (plain (beginning (op_at s)) e))
+    let can = begun_readable (op_at s) g in
+    look can (seen (written place (op_at s) g) (R.right_at c w (pos_at s))
+    (part (look can (plain (beginning (op_at s)) e)) (λ u l n. ret n)))
   where
     plain : (v : Beginning) → is_primary v ≡ true → Reaches (operand_by c w (op_at s) (pos_at s) v) s true x k t
     plain begin.Sign e = absurd cc
@@ -122,6 +125,34 @@ zero range pos c w place called k s t b m behind =
 
 -- ---- operands
 
+-- An operand that is no right side is a written one.
+only_done : (o : Outcome Node) {x : Node} {t : State} → and_then o (λ v u. Done v u) ≡ Done x t → o ≡ Done x t
+only_done (Done y u) e = e
+only_done (Refused d u) e = e
+only_done Unfinished e = e
+
+pub begins_written : {c : Context} {w : Live} {s : State} {x : Node} {t : State}
+    → Runs (body (R.RightOperand c w Elsewhere)) s (Done x t) → Runs (body (R.Operand c w)) s (Done x t)
+begins_written {c = c} {w = w} {s = s} {x = x} {t = t} r = record {
+  depth = r.depth;
+  same = λ n h. memory_of n (r.same (suc n) (omega (arith, h)));
+}
+  where
+    memory_of : (n : ℕ) → exec (calls (suc n)) (body (R.RightOperand c w Elsewhere)) s ≡ Done x t
+        → exec (calls n) (body (R.Operand c w)) s ≡ Done x t
+    memory_of n e = by (is_memory (asked s).lexeme) e
+      where
+        by : (m : Bool) → (if m then Refused out_of_memory (looking s) else and_then (if m then Refused out_of_memory (looking s)
+            else exec (calls n) (operand_by c w (asked s).lexeme (asked s).at (beginning (asked s).lexeme)) (looking s)) (λ v u. Done v u)) ≡ Done x t
+            → (if m then Refused out_of_memory (looking s)
+            else exec (calls n) (operand_by c w (asked s).lexeme (asked s).at (beginning (asked s).lexeme)) (looking s)) ≡ Done x t
+        by true e = e
+        by false e = only_done _ e
+
+written_read : {c : Context} {w : Live} {s : Point} {b : Bool} {x : Node} {k : Demands} {t : Point}
+    → Reaches (body (R.RightOperand c w Elsewhere)) s b x k t → Reaches (body (R.Operand c w)) s b x k t
+written_read r = record { end = r.end; met = r.met; looked = r.looked; runs = begins_written r.runs }
+
 pub linked : (x : Base) (list : Links) → BaseRead x → LinksRead list → OperandRead (form.Linked x list)
 linked x list base links c w place k s t b m =
     opened c w place (base_begins x c w place _ s t m) (base c w place _ k s t _ (links_on c w) m (λ u l h.
@@ -131,27 +162,19 @@ pub signed : (sign : Lexeme) (pos : Position) (x : Operand) → OperandRead x �
 signed sign pos x operand c w place k s t b m =
     let can = sign_begun (beginning sign) m.0 in
     let reads = begun_readable sign can in
-    peek m.1.0 reads (seen (written place sign can) (R.operand_at c w sign pos)
-    (seen (sign_is (beginning sign) m.0) (R.operand_by c w sign pos)
-    (take m.1.0 reads (if_true _ m.1.1.0 (part (operand (level_up c) w Elsewhere _ (past code s) t false m.1.1.1)
-    (λ u l n. if_true _ n.0 (ret n.1)))))))
+    peek m.1.0 reads (seen (written place sign can) (R.right_at c w pos)
+    (part (peek m.1.0 reads (seen (sign_is (beginning sign) m.0) (R.operand_by c w sign pos)
+    (take m.1.0 reads (if_true _ m.1.1.0
+    (part (written_read (operand (level_up c) w Elsewhere _ (past code s) t false m.1.1.1))
+    (λ u l n. if_true _ n.0 (ret n.1))))))) (λ u l n. ret n)))
 
 pub no_operand : (token : Lexeme) (pos : Position) → OperandRead (form.NoOperand token pos)
 no_operand token pos c w place k s t b m =
     peek m.1.0 (unwritten_readable place token m.0)
-    (seen (omitted_is (operand_start place token) m.0) (R.operand_at c w token pos) (ret m.1.1))
+    (seen (omitted_is (operand_start place token) m.0) (R.right_at c w pos) (ret m.1.1))
 
-throws_is : (throws : Bool) → is_throw (Sign (jump_token throws)) ≡ throws
-throws_is true = refl
-throws_is false = refl
-
-jump_readable : (throws : Bool) → is_memory (Sign (jump_token throws)) ≡ false
-jump_readable throws = refl
-
-pub jump : (throws : Bool) (pos : Position) (x : JumpValue) → JumpRead x → OperandRead (form.Jump throws pos x)
-jump throws pos x reads c w place k s t b m =
-    let l = Sign (jump_token throws) in
-    peek m.1.0 (jump_readable throws) (seen (jump_start_is (operand_start place l) m.0) (R.operand_at c w l pos)
-    (take m.1.0 (jump_readable throws) (part (reads c w pos k (past code s) t false m.1.1)
-    (λ u a n. gives (ap (λ b. block_value (block_of_one (return_statement (jump_result x w) b pos))) (throws_is throws))
-    n))))
+pub jump : (x : Statement) → StatementRead x → OperandRead (form.Jump x)
+jump x reads c w place k s t b m =
+    next (jump_stands place) m.0 (λ e.
+    seen (jump_start_is (operand_start place (op_at s)) e) (R.right_at c w (pos_at s))
+    (part (reads c (in_block w) k s t true m.1) (λ u l n. ret n)))

@@ -137,7 +137,7 @@ step q op pos l r k p s t o is on stands right shut stop h b =
     (λ c. climb_stops w (height_after side r) n y right.end c right.known_end stop) true in
     goes w u p x op pos s o stands is on
     (runs_take (item op pos) stands (operator_readable op is)
-    (runs_call (R.Operand u.settings w (place_after op)) _ right.operand
+    (runs_call (R.RightOperand u.settings w (place_after op)) _ right.operand
     (runs_call NextOperator _ (next_operator right.rest right.looked right.known_rest)
     (runs_then (Fail (refusal cause.ExprTooDeep u.at)) right.entered
     (runs_call (climb (begins side right.first) w n right.first) (binary_next (level_up u.settings) w p x op pos) tighter

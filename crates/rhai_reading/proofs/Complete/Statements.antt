@@ -12,11 +12,14 @@ use Rattle.rhai_lower.specs.declared.position.Position.{Position}
 use Rattle.rhai_lower.specs.declared.token.Token.TheVariants as token
 use Rattle.rhai_grammar.specs.Causes.{Refusal}
 use Rattle.rhai_grammar.specs.Delivered.{code, item, text, Point, past}
-use Rattle.rhai_grammar.specs.Contexts.{Context, Live, has_room, in_block, level_up}
+use Rattle.rhai_grammar.specs.Contexts.{Context, Live, allows_looping, has_room, in_block, level_up}
 use Rattle.rhai_grammar.specs.Definitions as walk
 use Rattle.rhai_grammar.specs.Demands.{Fine, Otherwise, Demands, Met, Next, Tok, ◌▸◌}
 use Rattle.rhai_grammar.specs.Forms as form
-use Rattle.rhai_grammar.specs.Forms.{Body, ExprStatement, Initializer, JumpValue, Run, Segments, Statement, Statements}
+use Rattle.rhai_grammar.specs.Forms.{Body, Construct, ExprStatement, Initializer, JumpValue, Run, Segments, Statement}
+use Rattle.rhai_grammar.specs.Forms.{Statements}
+use Rattle.rhai_grammar.specs.Constructs.{construct_token, kind_of}
+use Rattle.rhai_reading.proofs.Beginnings.{construct_readable, starts_construct, starts_value}
 use Rattle.rhai_grammar.specs.Statements as V
 use Rattle.rhai_grammar.specs.Targets.{is_assignment, is_constant_use, is_equals, target_fault, update_of}
 use Rattle.rhai_grammar.specs.Trees.{block_tree, segment_trees, statement_tree, statement_trees, tree, with_kept}
@@ -34,7 +37,7 @@ use Rattle.rhai_grammar.specs.declared.role.StatementStart.TheVariants as start
 use Rattle.rhai_reading.specs.Reading as R
 use Rattle.rhai_reading.specs.Reading.{body}
 use Rattle.rhai_reading.proofs.Complete.Law.{ExpressionRead, ExprStatementRead, InitializerRead, StatementRead}
-use Rattle.rhai_reading.proofs.Complete.Law.{StatementsRead, BodyRead, IsRead, PrimaryRead}
+use Rattle.rhai_reading.proofs.Complete.Law.{ConstructRead, StatementsRead, BodyRead, IsRead, PrimaryRead}
 use Rattle.rhai_reading.proofs.Complete.Law.{InsideRead, JumpRead, SegmentsRead, closing_at, inside_part}
 use Rattle.rhai_reading.proofs.FormKinds.{NameForm, block_ends, block_starts, definitions, inside_of, inside_statements, text_afters, text_token, var_names}
 use Rattle.rhai_reading.proofs.Lists.{first_text, kept_statement, last_kept, no_statement, segment_added, segment_last}
@@ -107,13 +110,13 @@ empty_statement at c w k s t b m = due m.0 refl refl (ret m.1)
 
 pub expression_statement : (x : ExprStatement) → ExprStatementRead x → StatementRead (form.Expression x)
 expression_statement x reads c w k s t b m =
-    next V.expression_begins m.0 (λ e.
-    seen (expression_is (V.statement_start (op_at s)) e) (R.statement_at c w (pos_at s))
+    next (V.expression_begins c) m.0 (λ e.
+    seen (expression_is (V.statement_start c (op_at s)) e) (R.statement_at c w (pos_at s))
     (if_true _ (or_wrong (has_room c) _ (fine (room_due c) (op_at s) m.1.0).1)
     (part (reads (level_up c) w k s t true m.1.1) (λ u l n. ret n))))
 
 define_is : (c : Context) (w : Live) (at : Position) (constant : Bool)
-    → R.statement_at c w at (V.statement_start (Sign (V.keyword_of constant))) ≡ R.definition_on c w at constant
+    → R.statement_at c w at (V.statement_start c (Sign (V.keyword_of constant))) ≡ R.definition_on c w at constant
 define_is c w at true = refl
 define_is c w at false = refl
 
@@ -130,10 +133,31 @@ define constant at name name_at value reads c w k s t b m =
     (part (definition (level_up c) w at constant (record { name = name; at = name_at }) value reads k (past code s) t false
     m.1.1) (λ u l n. ret n)))
 
-pub block_statement : (opening : Position) (f : Body) → BodyRead f → StatementRead (form.Block opening f)
-block_statement opening f reads c w k s t b m =
-    due m.0 refl refl (if_true _ m.1.0 (if_true _ m.1.1.0
-    (part (reads (level_up (level_up c)) w opening k (past code s) t false m.1.1.1) (λ u l n. ret n))))
+abbrev two_up : Context → Context
+two_up c = level_up (level_up c)
+
+pub compound : (pos : Position) (x : Construct) → ConstructRead x → StatementRead (form.Compound pos x)
+compound pos x reads c w k s t b m =
+    let can = construct_readable (kind_of x) in
+    peek m.1.0 can (seen (starts_construct c (kind_of x) m.0) (R.statement_at c w pos)
+    (take m.1.0 can (if_true _ m.1.1.0 (if_true _ m.1.1.1.0
+    (part (reads (two_up c) w pos k (past code s) t false m.1.1.1.1) (λ u l n. ret n))))))
+
+break_is : (c : Context) (w : Live) (at : Position) → allows_looping c ≡ true
+    → R.statement_at c w at (V.statement_start c (Sign token.Break)) ≡ R.statement_at c w at start.Break
+break_is c w at e = ap (λ b. R.statement_at c w at (if b then start.Break else start.Expression)) e
+
+continue_is : (c : Context) (w : Live) (at : Position) → allows_looping c ≡ true
+    → R.statement_at c w at (V.statement_start c (Sign token.Continue)) ≡ R.statement_at c w at start.Continue
+continue_is c w at e = ap (λ b. R.statement_at c w at (if b then start.Continue else start.Expression)) e
+
+pub break : (pos : Position) (x : JumpValue) → JumpRead x → StatementRead (form.Break pos x)
+break pos x reads c w k s t b m =
+    due m.1.0 refl (break_is c w pos m.0) (if_true _ m.1.1.0
+    (part (reads c w pos k (past code s) t false m.1.1.1) (λ u l n. ret n)))
+
+pub continue : (pos : Position) → StatementRead (form.Continue pos)
+continue pos c w k s t b m = due m.1.0 refl (continue_is c w pos m.0) (if_true _ m.1.1.0 (ret m.1.1.1))
 
 -- ---- lists of statements
 
@@ -216,14 +240,17 @@ block f inside c w at k s t b m =
     (λ u l n. part (block_end at (inside_statements w (inside_part f)) (closing_at f) k u t l n)
     (λ v a i. gives (body_tree at f w) i))
 
-pub block_value : (opening : Position) (f : Body) → BodyRead f → PrimaryRead (form.BlockValue opening f)
-block_value opening f reads c w o called k s t b m behind =
-    peek m.1.0 refl (if_true _ m.0 (take m.1.0 refl (if_true _ m.1.1.0 (if_true _ m.1.1.1.0
-    (part (reads (level_up (level_up c)) w opening k (past code s) t false m.1.1.1.1) (λ u l n. ret n))))))
+pub compound_value : (pos : Position) (x : Construct) → ConstructRead x → PrimaryRead (form.CompoundValue pos x)
+compound_value pos x reads c w o called k s t b m behind =
+    let can = construct_readable (kind_of x) in
+    let l = Sign (construct_token (kind_of x)) in
+    peek m.1.0 can (seen (starts_value c (kind_of x) m.0) (R.primary_at c w l pos)
+    (if_true _ m.0 (take m.1.0 can (if_true _ m.1.1.0 (if_true _ m.1.1.1.0
+    (part (reads (two_up c) w pos k (past code s) t false m.1.1.1.1) (λ u l n. ret n)))))))
 
 -- ---- interpolated strings
 
-block_start : (opening : Position) → IsRead R.BlockStart block_starts opening
+pub block_start : (opening : Position) → IsRead R.BlockStart block_starts opening
 block_start opening k s t b m = peek m.0 refl (due m.0 refl refl (ret m.1))
 
 text_read : (last : Bool) (closing : Position) (content : Text) (at : Position) → IsRead R.TextAfter text_afters
@@ -288,7 +315,7 @@ present f expression c w at k s t b m =
     (if_true _ m.1.0 (part (expression (level_up c) w k s t true m.1.1) (λ u l n. ret n))))
 
 returns_is : (c : Context) (w : Live) (at : Position) (throws : Bool)
-    → R.statement_at c w at (V.statement_start (Sign (jump_token throws))) ≡ R.jump_on c w at throws
+    → R.statement_at c w at (V.statement_start c (Sign (jump_token throws))) ≡ R.jump_on c w at throws
 returns_is c w at true = refl
 returns_is c w at false = refl
 

@@ -12,7 +12,6 @@ use Rattle.rhai_grammar.specs.Spots.{Outermost, outermost}
 use Rattle.rhai_grammar.specs.Spots.{height_after}
 use Rattle.rhai_grammar.specs.Written.{ended}
 use Rattle.rhai_grammar.specs.Verdicts.{run_ends, operator_known, room_due, end_due}
-use Rattle.rhai_grammar.specs.declared.role.OperandPlace.TheVariants.{Elsewhere}
 use Rattle.rhai_reading.specs.Reading as R
 use Rattle.rhai_reading.specs.Reading.{Goal, Whole, Expression, NextOperator, BinaryOp, Prog, Ret, Fail, Take, Call}
 use Rattle.rhai_reading.specs.Reading.{continues, next_operator_at, operand_by, primary_at, list_on, called_at, bang_at}
@@ -22,6 +21,7 @@ use Rattle.rhai_reading.proofs.Rules.{at, runs_ret, runs_look, runs_call, runs_t
 use Rattle.rhai_reading.proofs.Reaches.{Reaches}
 use Rattle.rhai_grammar.specs.Verdicts as V
 use Rattle.rhai_reading.proofs.Complete.Law.{ExpressionRead, RunRead, Agrees, begins}
+use Rattle.rhai_reading.proofs.Complete.Operands.{begins_written}
 use Rattle.rhai_reading.proofs.Complete.Runs.{none_goes, shut_none, climb_stops}
 use Rattle.rhai_reading.proofs.Looks.{op_at, follower_at, climb, fine, or_wrong}
 use Rattle.rhai_reading.proofs.Strengths.{sensible, outer}
@@ -45,7 +45,7 @@ expression f run c w k s t b m =
       met = reads.met.1;
       looked = true;
       runs = runs_look room.0 (runs_then _ (or_wrong (has_room c) _ room.1)
-          (runs_call (R.Operand (level_up c) w Elsewhere) _ reads.operand
+          (runs_call (R.Operand (level_up c) w) _ (begins_written reads.operand)
           (runs_tail (climb (begins q reads.first) w 1 reads.first)
           (reads.climbs (shut_none f (follower_at reads.end) ends) 1 agrees _
           (λ a. climb_stops w (height_after q f) 1 (tree f w) reads.end a reads.known_end stop) reads.looked))));

@@ -1,5 +1,5 @@
 -- What each reader shows.
-use Rattle.std.proofs.Common.{◌≡◌, ℕ, Bool, true, false, []}
+use Rattle.std.proofs.Common.{◌≡◌, ℕ, Bool, true, false, [], refl}
 use Rattle.rhai_lower.specs.Lexemes.{Lexeme, Integer}
 use Rattle.rhai_lower.specs.Positions.{nowhere}
 use Rattle.rhai_lower.specs.Nodes.{Node}
@@ -14,7 +14,9 @@ use Rattle.rhai_grammar.specs.declared.role.OperandStart.TheVariants as first
 use Rattle.rhai_grammar.specs.Strengths.{Follower, follower_of, strength}
 use Rattle.rhai_grammar.specs.Forms as form
 use Rattle.rhai_grammar.specs.Forms.{Primary, Base, Links, Operand, Arguments, Items, Elements, Fields, Run, Just}
-use Rattle.rhai_grammar.specs.Forms.{Binary, Body, Segments}
+use Rattle.rhai_grammar.specs.Forms.{Binary, Body, Conditional, Segments}
+use Rattle.rhai_grammar.specs.declared.role.Construct.{Construct as Kind}
+use Rattle.rhai_grammar.specs.declared.role.Construct.TheVariants as kind
 use Rattle.rhai_grammar.specs.Trees.{tree}
 use Rattle.rhai_grammar.specs.Demands.{Demands, Next, Met, Missed}
 use Rattle.rhai_grammar.specs.Written as W
@@ -30,6 +32,8 @@ use Rattle.rhai_reading.proofs.FormKinds.{runs, operands, primaries, tree_before
 use Rattle.rhai_reading.proofs.FormKinds.{callings, elements, fields, next_keys, links, indices, members}
 use Rattle.rhai_reading.proofs.FormKinds.{expr_statements, var_names, initializers, statements, statement_lists, blocks}
 use Rattle.rhai_reading.proofs.FormKinds.{block_ends, block_starts, definitions, insides, jump_values, segments, text_afters}
+use Rattle.rhai_reading.proofs.FormKinds.{BracedForm, CatchForm, DoForm, LoopForm, OfKind, braced, branches, catches}
+use Rattle.rhai_reading.proofs.FormKinds.{conditionals, constructs, do_ends, guards, iterated_values, loops}
 use Rattle.rhai_reading.proofs.Looks.{op_at, follower_at, operator_in}
 use Rattle.rhai_reading.proofs.Paths.{Fits, Fails, Way, Lost}
 use Rattle.rhai_reading.proofs.Shows.{Histories, Ensures, Tells, Halts, Answers, Passed}
@@ -71,7 +75,9 @@ WholeHalts c w s e u = (f : Run) × Missed (W.whole_expression f c w) s e u.mode
 abbrev pub Sound : (g : Goal) → Point → Outcome (Val g) → Type 0
 Sound (R.Whole c w) s o = Ensures (WholeRead c w s) (WholeHalts c w s) o
 Sound (R.Expression c w) s o = Answers (expressions c w) s o
-Sound (R.Operand c w place) s o = Answers (operands c w place) s o
+Sound (R.Operand c w) s o =
+    (place : OperandPlace) → operand_start place (op_at s) ≡ first.Written → Answers (operands c w place) s o
+Sound (R.RightOperand c w place) s o = Answers (operands c w place) s o
 Sound (R.Primary c w) s o =
     (place : OperandPlace) → operand_start place (op_at s) ≡ first.Written → is_sign (beginning (op_at s)) ≡ false
     → Answers (primaries c w place) s o
@@ -107,6 +113,15 @@ Sound R.BlockStart s o = Answers block_starts s o
 Sound (R.Inside c w) s o = Answers (insides c w) s o
 Sound (R.Block c w opening) s o = Answers (blocks c w opening) s o
 Sound (R.BlockEnd opening fs) s o = Answers (block_ends opening fs) s o
+Sound (R.Construct c w at kind) s o = Answers (constructs c w at kind) s o
+Sound (R.Braced c w at) s o = Answers (braced c w at) s o
+Sound (R.Guard c w) s o = Answers (guards c w) s o
+Sound (R.Iterated c w) s o = Answers (iterated_values c w) s o
+Sound (R.Conditional c w at) s o = Answers (conditionals c w at) s o
+Sound (R.Branch c w at) s o = Answers (branches c w at) s o
+Sound R.LoopNames s o = Answers loops s o
+Sound R.Catch s o = Answers catches s o
+Sound R.DoEnd s o = Answers do_ends s o
 
 pub record AllSound (call : Histories) : Type 0 where
   pub of : (g : Goal) (s : Point) (b : Bool) → Sound g s (call g (at s b))
@@ -130,3 +145,29 @@ any_body = form.Many form.NoStatement nowhere
 
 abbrev pub any_segments : Segments
 any_segments = form.LastSegment nowhere any_body [] nowhere
+
+abbrev pub any_braced : BracedForm
+any_braced = record { opening = nowhere; body = any_body }
+
+abbrev pub any_conditional : Conditional
+any_conditional = form.Guarded any_run nowhere any_body form.NoElse
+
+abbrev pub any_loop : LoopForm
+any_loop = record { names = form.Variable [] nowhere; in_at = nowhere }
+
+abbrev pub any_catch : CatchForm
+any_catch = record { at = nowhere; name = form.NoName }
+
+abbrev pub any_do_end : DoForm
+any_do_end = record { negated = false; at = nowhere }
+
+abbrev pub any_construct : (kind : Kind) → OfKind kind
+any_construct kind.Block = record { construct = form.Block any_body; is = refl }
+any_construct kind.If = record { construct = form.If any_conditional; is = refl }
+any_construct kind.While = record { construct = form.While any_run nowhere any_body; is = refl }
+any_construct kind.Loop = record { construct = form.Loop nowhere any_body; is = refl }
+any_construct kind.Do = record { construct = form.Do nowhere any_body false nowhere any_run; is = refl }
+any_construct kind.For =
+    record { construct = form.For (form.Variable [] nowhere) nowhere any_run nowhere any_body; is = refl }
+any_construct kind.Try =
+    record { construct = form.Try nowhere any_body nowhere form.NoName nowhere any_body; is = refl }

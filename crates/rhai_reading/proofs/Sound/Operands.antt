@@ -7,7 +7,8 @@ use Rattle.rhai_lower.specs.Nodes.{no_nodes, no_properties}
 use Rattle.rhai_grammar.specs.declared.due.DueToken.TheVariants as due
 use Rattle.rhai_grammar.specs.Delivered.{code, Point, past, is_memory}
 use Rattle.rhai_grammar.specs.Settings.{in_function}
-use Rattle.rhai_grammar.specs.Contexts.{Context, Live, has_block_values, level_up}
+use Rattle.rhai_grammar.specs.Constructs.{construct_token, kind_of, may_be_value}
+use Rattle.rhai_grammar.specs.Contexts.{Context, Live, in_block, level_up}
 use Rattle.rhai_grammar.specs.declared.role.Beginning.{Beginning}
 use Rattle.rhai_grammar.specs.declared.role.Beginning.TheVariants as begin
 use Rattle.rhai_grammar.specs.Beginnings.{beginning, is_value, is_sign, is_range, calls}
@@ -18,14 +19,16 @@ use Rattle.rhai_grammar.specs.Trees.{base_tree, operand_tree}
 use Rattle.rhai_grammar.specs.Chains.{chained}
 use Rattle.rhai_grammar.specs.Spots.{spot_after_operand}
 use Rattle.rhai_grammar.specs.Interpolations.{added_text}
-use Rattle.rhai_grammar.specs.Starts.{is_omitted, is_throw, operand_start}
+use Rattle.rhai_grammar.specs.Starts.{is_omitted, operand_start}
 use Rattle.rhai_grammar.specs.Trees.{segment_trees}
 use Rattle.rhai_grammar.specs.declared.role.OperandPlace.{OperandPlace}
 use Rattle.rhai_grammar.specs.declared.role.OperandPlace.TheVariants.{Elsewhere}
 use Rattle.rhai_grammar.specs.declared.role.OperandStart.{OperandStart}
 use Rattle.rhai_grammar.specs.declared.role.OperandStart.TheVariants as first
-use Rattle.rhai_lower.specs.Nodes.{interpolated}
-use Rattle.rhai_reading.proofs.Beginnings.{jump_is, jump_stands}
+use Rattle.rhai_lower.specs.Nodes.{block_value, interpolated, made_block}
+use Rattle.rhai_lower.specs.Lexemes.{Sign}
+use Rattle.rhai_grammar.specs.Delivered.{item, next_at}
+use Rattle.rhai_reading.proofs.FormKinds.{OfKind, of_kind}
 use Rattle.rhai_reading.proofs.Lists.{first_text}
 use Rattle.rhai_reading.proofs.Sound.Law.{any_segments}
 use Rattle.rhai_reading.specs.Reading as R
@@ -38,7 +41,7 @@ use Rattle.rhai_reading.proofs.Paths.{◌▹◌}
 use Rattle.rhai_reading.proofs.Shows.{Histories, Goes, wrong, blamed, fine, fails, take, look, either, gives, done}
 use Rattle.rhai_reading.proofs.Shows.{refuse, halt, test, raise, part, first, ends}
 use Rattle.rhai_reading.proofs.FormKinds.{tree_before, operands, primaries}
-use Rattle.rhai_reading.proofs.Sound.Law.{AllSound, any_primary, any_operand, any_run}
+use Rattle.rhai_reading.proofs.Sound.Law.{AllSound, any_construct, any_primary, any_operand, any_run}
 
 module _ {call : Histories} (ih : AllSound call) (c : Context) (w : Live) (place : OperandPlace) (s : Point) where
   primary_by : (v : Beginning) → beginning (op_at s) ≡ v → operand_start place (op_at s) ≡ first.Written → is_sign v ≡ false
@@ -87,14 +90,19 @@ module _ {call : Histories} (ih : AllSound call) (c : Context) (w : Live) (place
       (form.Interpolated t (pos_at s))
       (λ v list. ap (λ ns. interpolated ns (pos_at s)) (sym (first_text t (pos_at s) (segment_trees list w))))
       (λ list k o r. here ▹ below ▹ r)))
-  primary_by begin.Block e written sign m =
-      let start = begun s e in
-      let any = form.BlockValue (pos_at s) (form.Many form.NoStatement nowhere) in
-      either (has_block_values c)
-      (λ values. take (raise c any (λ high k. values ▹ start ▹ fails high) (λ below.
-      raise (level_up c) any (λ high k. values ▹ start ▹ below ▹ fails high) (λ deeper.
-      ends (ih.of (R.Block (level_up (level_up c)) w (pos_at s)) (past code s) false) (form.BlockValue (pos_at s))
-      (λ t f. refl) (λ f k o r. values ▹ start ▹ below ▹ deeper ▹ r)))))
+  primary_by (begin.Construct kind) e written sign m =
+      let any = form.CompoundValue (pos_at s) (any_construct kind).construct in
+      let may : (f : OfKind kind) → may_be_value c kind ≡ true → may_be_value c (kind_of f.construct) ≡ true =
+      λ f. of_kind (λ j. may_be_value c j ≡ true) f in
+      let here : (f : OfKind kind) → next_at code s ≡ item (Sign (construct_token (kind_of f.construct))) (pos_at s) =
+      λ f. of_kind (λ j. next_at code s ≡ item (Sign (construct_token j)) (pos_at s)) f (begun s e) in
+      either (may_be_value c kind)
+      (λ value. take (raise c any (λ high k. may (any_construct kind) value ▹ here (any_construct kind) ▹ fails high) (λ below.
+      raise (level_up c) any (λ high k. may (any_construct kind) value ▹ here (any_construct kind) ▹ below ▹ fails high) (λ deeper.
+      ends {v = λ f. block_value (made_block f)}
+      (ih.of (R.Construct (level_up (level_up c)) w (pos_at s) kind) (past code s) false)
+      (λ f. form.CompoundValue (pos_at s) f.construct)
+      (λ t f. refl) (λ f k o r. may f value ▹ here f ▹ below ▹ deeper ▹ r)))))
       (λ none. refuse any_primary (λ k. refl ▹ wrong m (rw (written, e, none))))
   primary_by begin.Sign e written sign m = absurd cc
   primary_by begin.Range e written sign m = done (form.Zero (op_at s) (pos_at s)) (λ k o r. ap is_range e ▹ refl ▹ r)
@@ -118,23 +126,27 @@ module _ {call : Histories} (ih : AllSound call) (c : Context) (w : Live) (place
   operand_by begin.Sign e written =
       let sign = ap is_sign e in
       take (raise c (form.Signed (op_at s) (pos_at s) any_operand) (λ high k. sign ▹ refl ▹ fails high) (λ below.
-      first (ih.of (R.Operand (level_up c) w Elsewhere) (past code s) false)
+      first (ih.of (R.Operand (level_up c) w) (past code s) false Elsewhere refl)
       (λ x (h : Unit {0}). form.Signed (op_at s) (pos_at s) x) tt (λ x h k o r. sign ▹ refl ▹ below ▹ r) (λ x t b.
       test (sign_holds (op_at s) (operand_tree x w)) tt refl (λ least k. fails least) (λ holds.
       done tt (λ k o r. holds ▹ r)))))
   operand_by _ e written = unsigned written (ap is_sign e)
 
   -- by what the token there is at this place
-  starts_by : (v : OperandStart) → operand_start place (op_at s) ≡ v
-      → Goes call (operands c w place) s (R.operand_at c w (op_at s) (pos_at s) v) s true
-  starts_by first.Omitted e = done (form.NoOperand (op_at s) (pos_at s)) (λ k o r. ap is_omitted e ▹ refl ▹ r)
-  starts_by first.Jump e =
-      take (ends (ih.of (R.Jump c w (pos_at s)) (past code s) false) (form.Jump (is_throw (op_at s)) (pos_at s))
-      (λ v f. refl) (λ f k o r. jump_stands place s e ▹ jump_is place (op_at s) (pos_at s) e ▹ r))
-  starts_by first.Written e = operand_by (beginning (op_at s)) refl e
+  starts_by : (v : OperandStart) → operand_start place (op_at s) ≡ v → is_memory (op_at s) ≡ false
+      → Goes call (operands c w place) s (R.right_at c w (pos_at s) v) s true
+  starts_by first.Omitted e m = done (form.NoOperand (op_at s) (pos_at s)) (λ k o r. ap is_omitted e ▹ refl ▹ r)
+  starts_by first.Jump e m =
+      ends {v = λ f. block_value (made_block f.0)} (ih.of (R.Statement c (in_block w)) s true) form.Jump
+      (λ v f. refl) (λ f k o r. fine m (rw e) ▹ r)
+  starts_by first.Written e m = ends (ih.of (R.Operand c w) s true place e) (λ x. x) (λ v x. refl) (λ x k o r. r)
 
-  pub operand : (b : Bool) → Goes call (operands c w place) s (body (R.Operand c w place)) s b
-  operand b = look (λ m. starts_by (operand_start place (op_at s)) refl)
+  pub operand : (b : Bool) → operand_start place (op_at s) ≡ first.Written
+      → Goes call (operands c w place) s (body (R.Operand c w)) s b
+  operand b written = look (λ m. operand_by (beginning (op_at s)) refl written)
+
+  pub right_operand : (b : Bool) → Goes call (operands c w place) s (body (R.RightOperand c w place)) s b
+  right_operand b = look (λ m. starts_by (operand_start place (op_at s)) refl m)
 
   pub primary : (b : Bool) → operand_start place (op_at s) ≡ first.Written → is_sign (beginning (op_at s)) ≡ false
       → Goes call (primaries c w place) s (body (R.Primary c w)) s b

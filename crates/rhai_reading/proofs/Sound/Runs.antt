@@ -123,7 +123,7 @@ module _ {call : Histories} (ih : AllSound call) where
         let op = op_at s in
         let binary = Binary op (pos_at s) L in
         let q2 = right_side op u w in
-        take (part (ih.of (R.Operand u.settings w (place_after op)) (past code s) false) (λ x. binary (Just x))
+        take (part (ih.of (R.RightOperand u.settings w (place_after op)) (past code s) false) (λ x. binary (Just x))
         (λ x k o r. h.right (Just x) k o (r _)) (λ x t a X.
         operator_part (binary (Just x)) (λ e r k. h.right (Just x) k _ (X.on (lost r))) (λ known c.
         raise u.settings (binary (Just x)) (λ high k. h.right (Just x) k _ (X.on (known ▹ fails high))) (λ below.

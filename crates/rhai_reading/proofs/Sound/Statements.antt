@@ -8,7 +8,7 @@ use Rattle.rhai_lower.specs.Nodes as node
 use Rattle.rhai_lower.specs.declared.position.Position.{Position}
 use Rattle.rhai_grammar.specs.Causes.{AssignmentToConstant, Refusal, refusal}
 use Rattle.rhai_grammar.specs.Delivered.{code, item, Point, next_at, past, is_memory}
-use Rattle.rhai_grammar.specs.Contexts.{Context, Live, has_single_blocks, in_block, level_up}
+use Rattle.rhai_grammar.specs.Contexts.{Context, Live, has_single_blocks, in_block, is_in_loop, level_up}
 use Rattle.rhai_grammar.specs.Beginnings.{is_name}
 use Rattle.rhai_grammar.specs.Definitions as walk
 use Rattle.rhai_grammar.specs.Forms as form
@@ -45,7 +45,9 @@ use Rattle.rhai_reading.proofs.Paths.{Aim, Fits, Way, ◌▹◌}
 use Rattle.rhai_reading.proofs.Shows.{Histories, Goes, ill, wrong, fine, fails, take, look, either, gives, done, refuse}
 use Rattle.rhai_reading.proofs.Shows.{halt, test, raise, part, first, ends, Passed}
 use Rattle.rhai_reading.proofs.Sound.Chains.{Early, early, early_if, early_or, faulted, unfaulted}
-use Rattle.rhai_reading.proofs.Sound.Law.{AllSound, any_run}
+use Rattle.rhai_reading.proofs.Sound.Law.{AllSound, any_construct, any_run}
+use Rattle.rhai_grammar.specs.Constructs.{construct_token, kind_of, may_stand}
+use Rattle.rhai_reading.proofs.FormKinds.{OfKind, of_kind}
 
 -- ---- targets
 
@@ -161,28 +163,41 @@ module _ {call : Histories} (ih : AllSound call) (c : Context) (w : Live) (s : P
 
   -- ---- statements
 
-  statement_by : (v : StatementStart) → V.statement_start (op_at s) ≡ v → is_memory (op_at s) ≡ false
+  statement_by : (v : StatementStart) → V.statement_start c (op_at s) ≡ v → is_memory (op_at s) ≡ false
       → Goes call (statements c w) s (R.statement_at c w (pos_at s) v) s true
-  statement_by start.Empty e m = take (done (form.EmptyStatement (pos_at s)) (λ k o r. started s e ▹ r))
-  statement_by start.Block e m =
-      let here = started s e in
-      let any = form.Block (pos_at s) (form.Many form.NoStatement nowhere) in
-      take (raise c any (λ high k. here ▹ fails high) (λ below.
-      raise (level_up c) any (λ high k. here ▹ below ▹ fails high) (λ deeper.
-      ends (ih.of (R.Block (level_up (level_up c)) w (pos_at s)) (past code s) false) (form.Block (pos_at s))
-      (λ v f. refl) (λ f k o r. here ▹ below ▹ deeper ▹ r))))
-  statement_by start.Let e m = defined false (started s e)
-  statement_by start.Const e m = defined true (started s e)
-  statement_by start.Return e m = jumped false (started s e)
-  statement_by start.Throw e m = jumped true (started s e)
+  statement_by start.Empty e m = take (done (form.EmptyStatement (pos_at s)) (λ k o r. (started c s e).1 ▹ r))
+  statement_by (start.Construct kind) e m =
+      let any = any_construct kind in
+      let may : (f : OfKind kind) → may_stand c (kind_of f.construct) ≡ true =
+      λ f. of_kind (λ j. may_stand c j ≡ true) f (started c s e).0 in
+      let here : (f : OfKind kind) → next_at code s ≡ item (Sign (construct_token (kind_of f.construct))) (pos_at s) =
+      λ f. of_kind (λ j. next_at code s ≡ item (Sign (construct_token j)) (pos_at s)) f (started c s e).1 in
+      take (raise c (form.Compound (pos_at s) any.construct) (λ high k. may any ▹ here any ▹ fails high) (λ below.
+      raise (level_up c) (form.Compound (pos_at s) any.construct) (λ high k. may any ▹ here any ▹ below ▹ fails high) (λ deeper.
+      ends {v = λ f. (f, w)} (ih.of (R.Construct (level_up (level_up c)) w (pos_at s) kind) (past code s) false)
+      (λ f. form.Compound (pos_at s) f.construct)
+      (λ v f. refl) (λ f k o r. may f ▹ here f ▹ below ▹ deeper ▹ r))))
+  statement_by start.Let e m = defined false (started c s e).1
+  statement_by start.Const e m = defined true (started c s e).1
+  statement_by start.Return e m = jumped false (started c s e).1
+  statement_by start.Throw e m = jumped true (started c s e).1
+  statement_by start.Break e m =
+      let h = started c s e in
+      take (test (is_in_loop c) (form.Break (pos_at s) form.Absent) refl (λ out k. h.0 ▹ h.1 ▹ fails out) (λ within.
+      ends {v = λ value. (node.break_loop value true (pos_at s), w)} (ih.of (R.Jump c w (pos_at s)) (past code s) false)
+      (form.Break (pos_at s)) (λ v f. refl) (λ f k o r. h.0 ▹ h.1 ▹ within ▹ r)))
+  statement_by start.Continue e m =
+      let h = started c s e in
+      take (test (is_in_loop c) (form.Continue (pos_at s)) refl (λ out k. h.0 ▹ h.1 ▹ fails out) (λ within.
+      done (form.Continue (pos_at s)) (λ k o r. h.0 ▹ h.1 ▹ within ▹ r)))
   statement_by start.Expression e m =
-      let begins : Fits V.expression_begins s = fine m (rw e) in
+      let begins : Fits (V.expression_begins c) s = fine m (rw e) in
       raise c (form.Expression (form.Evaluate any_run)) (λ high k. begins ▹ ill m (rw high)) (λ below.
       ends (ih.of (R.ExprStatement (level_up c) w) s true) form.Expression (λ v f. refl)
       (λ f k o r. begins ▹ fine m (rw below) ▹ r))
 
   pub statement : (b : Bool) → Goes call (statements c w) s (body (R.Statement c w)) s b
-  statement b = look (λ m. statement_by (V.statement_start (op_at s)) refl m)
+  statement b = look (λ m. statement_by (V.statement_start c (op_at s)) refl m)
 
 -- ---- lists of statements
 

@@ -45,7 +45,7 @@ module _ {call : Histories} (ih : AllSound call) (c : Context) (w : Live) (s : P
   pub expression : (b : Bool) → Goes call (expressions c w) s (body (R.Expression c w)) s b
   expression b = look (λ m.
       raise c any_run (λ high k. ill m (rw high)) (λ below.
-      part (ih.of (R.Operand (level_up c) w Elsewhere) s true) Just (λ x k o r. fine m (rw below) ▹ r _) (λ x t a X.
+      part (ih.of (R.Operand (level_up c) w) s true Elsewhere refl) Just (λ x k o r. fine m (rw below) ▹ r _) (λ x t a X.
       run_part ih (outermost (level_up c) w) s (Just x) refl refl refl (λ l e. refl) tt
       (record { passes = λ known. over (λ k o r. X.on (known ▹ r)); stops = λ e r k. X.on (lost r) })
       (λ f. f) (λ f k o r. fine m (rw below) ▹ r _) (λ f u d G off known.
