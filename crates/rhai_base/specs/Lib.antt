@@ -1,5 +1,6 @@
 pub mod ClosureNames
 pub mod CommaLists
+pub mod Constructs
 pub mod Counts
 pub mod DueTokens
 pub mod FlagNames

@@ -1,4 +1,4 @@
--- The settings of the code as the definitions see them, and what a raise of the level makes of them.
+-- The settings of the code as the definitions see them, what a raise of the level makes of them, and what they refuse.
 use Rattle.std.specs.Prelude.{◌≡◌, ℕ, true, false, Result, Ok, Err, refl}
 use Rattle.rhai_lower.specs.Positions.{place}
 use Rattle.rhai_lower.specs.declared.position.Position.{Position}
@@ -15,6 +15,10 @@ settings_of c = record { flags = c.flags.0; options = c.options.0; level = c.lev
 -- the error of a refused raise
 abbrev pub too_deep : Position → ParseError
 too_deep at = record { 0 = error.ExprTooDeep; 1 = at }
+
+-- the error of a `break` or `continue` outside of loops
+abbrev pub no_loop : Position → ParseError
+no_loop at = record { 0 = error.LoopBreak; 1 = at }
 
 -- A raise is possible and gives the settings one level deeper, at this position; or it is not possible and is refused
 -- at the old position.

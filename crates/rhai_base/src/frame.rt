@@ -5,7 +5,7 @@ ghost use Rattle.std.specs.Int.NonZero.{non_zero_usize_get};
 ghost use Rattle.std.specs.Rc.{rc_str_bytes};
 ghost use Rattle.rhai_grammar.specs.Causes.{MemoryIsNowhere, VariableExists, is_for_memory, refusal, refusal_of};
 ghost use Rattle.rhai_grammar.specs.Contexts.{in_block};
-ghost use Rattle.rhai_grammar.specs.Definitions.{defined, is_none, reused};
+ghost use Rattle.rhai_grammar.specs.Definitions.{declared, defined, is_none, reused};
 ghost use Rattle.rhai_grammar.specs.Slots.{number};
 ghost use Rattle.rhai_grammar.specs.Targets.{is_constant_at};
 
@@ -145,6 +145,18 @@ impl<'p> Frame<'p> {
             return Err(AllocError);
         }
         define(&mut self.stack, self.block, name, constant)
+    }
+
+    /// Adds a slot for a variable of this name, whether there is one of the name already or not: the variables of `for`
+    /// and of `catch` get one each. The error is that there is no memory for it.
+    pub fn declare(&mut self, name: &RcStr) -> Result<(), AllocError>
+        ensures ok { OnOk result (self.new.live ≡ declared (rc_str_bytes name.now) self.old.live) }
+        ensures depth { self.new.depth ≡ self.old.depth }
+    {
+        if self.len() == usize::MAX {
+            return Err(AllocError);
+        }
+        self.stack.push(name.clone()?, false)
     }
 
     /// Refuses a definition of a name that a slot of this frame or of one around it has, unless shadowing is allowed.

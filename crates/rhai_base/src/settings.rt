@@ -3,6 +3,7 @@
 ghost use Rattle.std.specs.Prelude.{⊤, ◌≡◌, ◌==◌};
 ghost use Rattle.std.specs.Int.RustNames.{bit_and, bit_or, bit_xor};
 ghost use Rattle.bitflags.specs.Sets.{without};
+ghost use Rattle.rhai_grammar.specs.Settings.{loop_body};
 ghost use Rattle.rhai_base.specs.FlagNames.{flag_names, option_names};
 ghost use Rattle.rhai_base.specs.Settings.{settings_of, Raises, RaisesInRun};
 
@@ -414,6 +415,17 @@ impl ParseSettings {
             side,
             next: side.at(pos),
         })
+    }
+
+    /// The settings in the body of a loop, which `break` and `continue` can leave. Does not allocate.
+    pub fn loop_body(&self) -> Self
+        ensures settings { settings_of result ≡ loop_body (settings_of self.now) }
+        ensures position { result.pos ≡ self.now.pos }
+    {
+        ParseSettings {
+            flags: self.flags | ParseSettingFlags::BREAKABLE,
+            ..*self
+        }
     }
 
     /// The same settings at position `pos`. Does not allocate.

@@ -1,4 +1,5 @@
-//! Tokens that are due: one that is taken, the arguments after the `!` of a call, and the end mark.
+//! Tokens that are due: one that is taken; one that is taken if it is there; the arguments after the `!` of a call, and
+//! the end mark.
 
 ghost use Rattle.std.specs.Prelude.{◌≡◌, ◌+◌, ◌≤◌, IfErr, IfOk, IsTrue, OnOk, codes, false, true};
 ghost use Rattle.rhai_lower.specs.Lexemes.{lexeme};
@@ -7,39 +8,53 @@ ghost use Rattle.rhai_grammar.specs.Causes.{MemoryIsNowhere, is_for_memory, refu
 ghost use Rattle.rhai_grammar.specs.Cursors.{asked, cursor_of, left, looking};
 ghost use Rattle.rhai_grammar.specs.Delivered.{is_end, is_memory};
 ghost use Rattle.rhai_grammar.specs.DueTokens.{is_due, text_of_due};
-ghost use Rattle.rhai_base.specs.DueTokens.{Passes};
+ghost use Rattle.rhai_base.specs.DueTokens.{Passes, Tries};
 
 use crate::cursor::{peek, skip};
 use crate::leaves::refusals::{missing, unexpected};
 use crate::leaves::tokens::{is_end, what_calls};
 use rhai_grammar::{Calling, DueToken, ParseResult};
 use rhai_lower::{Token, TokenStream};
-use std::alloc::Global;
+use std::alloc::{AllocError, Global};
 
 // How a due token is written.
 fn text_of_due(due: DueToken) -> &'static str
     ensures { result.now ≡ text_of_due due }
 {
     match due {
+        DueToken::LeftParen => "(",
         DueToken::RightParen => ")",
         DueToken::RightBracket => "]",
         DueToken::Colon => ":",
         DueToken::LeftBrace => "{",
         DueToken::RightBrace => "}",
+        DueToken::Comma => ",",
+        DueToken::Equals => "=",
+        DueToken::In => "in",
+        DueToken::If => "if",
+        DueToken::Else => "else",
+        DueToken::Catch => "catch",
     }
 }
 
-// Whether a token is the one that is due.
-fn is_due(due: DueToken, token: &Token) -> bool
+/// Whether a token is the one that is due.
+pub(crate) fn is_due(due: DueToken, token: &Token) -> bool
     ensures due { result ≡ is_due due (lexeme token.now) }
     ensures more { IsTrue result → is_end (lexeme token.now) ≡ false }
 {
     match due {
+        DueToken::LeftParen => matches!(token, Token::LeftParen),
         DueToken::RightParen => matches!(token, Token::RightParen),
         DueToken::RightBracket => matches!(token, Token::RightBracket),
         DueToken::Colon => matches!(token, Token::Colon),
         DueToken::LeftBrace => matches!(token, Token::LeftBrace),
         DueToken::RightBrace => matches!(token, Token::RightBrace),
+        DueToken::Comma => matches!(token, Token::Comma),
+        DueToken::Equals => matches!(token, Token::Equals),
+        DueToken::In => matches!(token, Token::In),
+        DueToken::If => matches!(token, Token::If),
+        DueToken::Else => matches!(token, Token::Else),
+        DueToken::Catch => matches!(token, Token::Catch),
     }
 }
 
@@ -64,6 +79,23 @@ pub fn match_token(
         return Ok(());
     }
     Err(missing(alloc, text_of_due(due), note, token, *pos))
+}
+
+/// Takes the next token if it is this one, and says whether it is. The error comes where the tokenizer ran out of memory
+/// at that token. What is not taken stays.
+pub fn pass_token(input: &mut TokenStream, due: DueToken) -> Result<bool, AllocError>
+    ensures tries { Tries due (cursor_of input.old) result (cursor_of input.new) }
+    ensures readable { OnOk result (is_memory (asked (cursor_of input.old)).lexeme ≡ false) }
+    ensures shorter { left (cursor_of input.new).tokens ≤ left (cursor_of input.old).tokens }
+    ensures shrinks { IfOk result (λ passed. IsTrue passed
+        → left (cursor_of input.new).tokens + 1 ≤ left (cursor_of input.old).tokens) }
+{
+    let (token, _) = peek(input)?;
+    if is_due(due, token) {
+        skip(input);
+        return Ok(true);
+    }
+    Ok(false)
 }
 
 /// Looks at the arguments that are due after the `!` of a call; their token stays.

@@ -4,38 +4,73 @@ ghost use Rattle.std.specs.Prelude.{◌≡◌, ◌+◌, ◌≤◌, IfErr, IfOk, 
 ghost use Rattle.rhai_lower.specs.Lexemes.{lexeme};
 ghost use Rattle.rhai_grammar.specs.Beginnings.{missing};
 ghost use Rattle.rhai_grammar.specs.Causes.{MemoryIsNowhere, cause_of, is_for_memory, refusal, refusal_of};
+ghost use Rattle.rhai_grammar.specs.Contexts.{Context, allows_looping};
 ghost use Rattle.rhai_grammar.specs.Cursors.{asked, cursor_of, left, looking};
 ghost use Rattle.rhai_grammar.specs.Delivered.{is_end, is_memory};
-ghost use Rattle.rhai_grammar.specs.Statements.{after_statement, no_variable, statement_place, statement_start};
+ghost use Rattle.rhai_grammar.specs.Statements.{after_statement, allowed_start, any_start, no_variable};
+ghost use Rattle.rhai_grammar.specs.Statements.{statement_place, statement_start};
 ghost use Rattle.rhai_grammar.specs.Targets.{is_assignment, is_equals};
 ghost use Rattle.rhai_grammar.specs.declared.role.AfterStatement.TheVariants.{SemiColon};
 ghost use Rattle.rhai_grammar.specs.declared.role.StatementPlace.TheVariants.{Nothing, Statement};
 ghost use Rattle.rhai_base.specs.Statements.{Names, Separates, is_expression, place_found};
 
 use crate::cursor::{peek, skip};
+use crate::leaves::constructs::may_stand;
 use crate::leaves::refusals::missing;
 use rhai_grammar::{
-    AfterStatement, Closing, InputError, ParseError, ParseErrorType, ParseResult, StatementPlace,
-    StatementStart,
+    AfterStatement, Closing, Construct, InputError, ParseError, ParseErrorType, ParseResult,
+    StatementPlace, StatementStart,
 };
 use rhai_lower::{Position, Token, TokenStream, is_valid_identifier};
 use std::alloc::{AllocError, Global};
 use std::rc::RcStr;
 
-/// What a token begins where a statement is expected.
-pub fn what_starts(token: &Token) -> StatementStart
-    ensures starts { result ≡ statement_start (lexeme token.now) }
+// What a token begins where a statement is expected, if the engine lets scripts have loops.
+fn any_start(token: &Token) -> StatementStart
+    ensures starts { result ≡ any_start (lexeme token.now) }
     ensures more { is_expression result ≡ false → is_end (lexeme token.now) ≡ false }
 {
     match token {
         Token::SemiColon => StatementStart::Empty,
-        Token::LeftBrace => StatementStart::Block,
+        Token::LeftBrace => StatementStart::Construct(Construct::Block),
+        Token::If => StatementStart::Construct(Construct::If),
+        Token::While => StatementStart::Construct(Construct::While),
+        Token::Loop => StatementStart::Construct(Construct::Loop),
+        Token::Do => StatementStart::Construct(Construct::Do),
+        Token::For => StatementStart::Construct(Construct::For),
+        Token::Try => StatementStart::Construct(Construct::Try),
         Token::Let => StatementStart::Let,
         Token::Const => StatementStart::Const,
         Token::Return => StatementStart::Return,
         Token::Throw => StatementStart::Throw,
+        Token::Break => StatementStart::Break,
+        Token::Continue => StatementStart::Continue,
         _ => StatementStart::Expression,
     }
+}
+
+// A start that is not allowed where scripts have no loops is that of an expression.
+fn allowed_start(looping: bool, start: StatementStart) -> StatementStart
+    ensures allowed { (context : Context) → looping ≡ allows_looping context → result ≡ allowed_start context start }
+    ensures more { is_expression result ≡ false → is_expression start ≡ false }
+{
+    match start {
+        StatementStart::Construct(construct) if !may_stand(looping, construct) => {
+            StatementStart::Expression
+        }
+        StatementStart::Break | StatementStart::Continue if !looping => StatementStart::Expression,
+        _ => start,
+    }
+}
+
+/// What a token begins where a statement is expected. `looping` is whether the engine lets scripts have loops; without
+/// loops, a token of a loop, `break` or `continue` is taken for the beginning of an expression, which it is not.
+pub fn what_starts(looping: bool, token: &Token) -> StatementStart
+    ensures starts { (context : Context) → looping ≡ allows_looping context
+        → result ≡ statement_start context (lexeme token.now) }
+    ensures more { is_expression result ≡ false → is_end (lexeme token.now) ≡ false }
+{
+    allowed_start(looping, any_start(token))
 }
 
 // What a token is where a statement of a list may begin.

@@ -8,14 +8,16 @@ ghost use Rattle.rhai_grammar.specs.Cursors.{asked, cursor_of, looking};
 ghost use Rattle.rhai_grammar.specs.Beginnings.{beginning, calling, calls, omits_operand, is_begun, is_call, is_sign};
 ghost use Rattle.rhai_grammar.specs.Beginnings.{value_of};
 ghost use Rattle.rhai_grammar.specs.CommaLists.{no_argument};
-ghost use Rattle.rhai_grammar.specs.Contexts.{Context};
-ghost use Rattle.rhai_grammar.specs.Starts.{is_jump, is_throw, jumps, operand_start, place_after, starts};
+ghost use Rattle.rhai_grammar.specs.Contexts.{Context, allows_looping};
+ghost use Rattle.rhai_grammar.specs.Starts.{jumps, operand_start, place_after, starts};
+ghost use Rattle.rhai_grammar.specs.declared.role.OperandStart.TheVariants.{Jump};
 ghost use Rattle.rhai_base.specs.Settings.{settings_of};
 
 use crate::cursor::peek;
-use crate::settings::{LangOptions, ParseSettings};
+use crate::leaves::constructs::may_be_value;
+use crate::settings::ParseSettings;
 use rhai_grammar::role::{OperandPlace, OperandStart};
-use rhai_grammar::{Beginning, Calling};
+use rhai_grammar::{Beginning, Calling, Construct};
 use rhai_lower::{Expr, Position, Token, TokenStream};
 use std::alloc::AllocError;
 
@@ -37,7 +39,12 @@ pub fn what_begins(token: &Token) -> Beginning
         Token::LeftBracket => Beginning::Array,
         Token::MapStart => Beginning::Map,
         Token::InterpolatedString(_) => Beginning::Interpolated,
-        Token::LeftBrace => Beginning::Block,
+        Token::LeftBrace => Beginning::Construct(Construct::Block),
+        Token::If => Beginning::Construct(Construct::If),
+        Token::While => Beginning::Construct(Construct::While),
+        Token::Loop => Beginning::Construct(Construct::Loop),
+        Token::Do => Beginning::Construct(Construct::Do),
+        Token::For => Beginning::Construct(Construct::For),
         Token::Minus | Token::UnaryMinus | Token::Plus | Token::UnaryPlus | Token::Bang => {
             Beginning::Sign
         }
@@ -92,10 +99,11 @@ pub fn is_sign(token: &Token) -> bool
     )
 }
 
-/// Whether a token begins an expression under these settings, so that it is the value of the `return` or `throw` before
-/// it. A block begins one only where it may be an operand. An error of the tokenizer counts as a beginning.
-pub fn starts_expression(settings: ParseSettings, token: &Token) -> bool
-    ensures { (context : Context) → context.settings ≡ settings_of settings
+/// Whether a token begins an expression under these settings, so that it is the value of the `return`, `throw` or
+/// `break` before it. `looping` is whether the engine lets scripts have loops. A construct begins an expression only
+/// where it may be an operand. An error of the tokenizer counts as a beginning.
+pub fn starts_expression(settings: ParseSettings, looping: bool, token: &Token) -> bool
+    ensures { (context : Context) → context.settings ≡ settings_of settings → looping ≡ allows_looping context
         → result ≡ starts context (lexeme token.now) }
 {
     if matches!(token, Token::LexError(_)) {
@@ -103,7 +111,7 @@ pub fn starts_expression(settings: ParseSettings, token: &Token) -> bool
     }
     match what_begins(token) {
         Beginning::Nothing => false,
-        Beginning::Block => settings.has_option(LangOptions::STMT_EXPR),
+        Beginning::Construct(construct) => may_be_value(settings, looping, construct),
         Beginning::Value
         | Beginning::Name
         | Beginning::Word
@@ -128,10 +136,10 @@ pub fn place_after(op: &Token) -> OperandPlace
 }
 
 /// What a token is where an operand is due, at its place: after a range operator the operand may be omitted, and after
-/// `??` there may be a `return` or `throw`.
+/// `??` there may be a `return`, `throw`, `break` or `continue`.
 pub fn what_operand(place: OperandPlace, token: &Token) -> OperandStart
     ensures operand { result ≡ operand_start place (lexeme token.now) }
-    ensures more { is_jump result ≡ true → is_end (lexeme token.now) ≡ false }
+    ensures more { result ≡ Jump → is_end (lexeme token.now) ≡ false }
 {
     match place {
         OperandPlace::AfterRange if omits_operand(token) => OperandStart::Omitted,
@@ -157,18 +165,14 @@ fn omits_operand(token: &Token) -> bool
     )
 }
 
-// Whether a token is `return` or `throw`.
+// Whether a token is the keyword of a jump.
 fn jumps(token: &Token) -> bool
     ensures { result ≡ jumps (lexeme token.now) }
 {
-    matches!(token, Token::Return | Token::Throw)
-}
-
-/// Whether a token is `throw`.
-pub fn is_throw(token: &Token) -> bool
-    ensures { result ≡ is_throw (lexeme token.now) }
-{
-    matches!(token, Token::Throw)
+    matches!(
+        token,
+        Token::Return | Token::Throw | Token::Break | Token::Continue
+    )
 }
 
 /// Whether no argument, nor the end of the arguments, may begin with a token.
