@@ -257,7 +257,7 @@ abbrev mutual
   pub branch_tree : Branch → Live → node.Block
   branch_tree form.NoElse live = no_block
   branch_tree (form.Else at opening body) live = block_tree opening body live
-  branch_tree (form.ElseIf at if_at x) live = block_of_one (conditional_tree x live if_at)
+  branch_tree (form.ElseIf at if_at x) live = made_block (conditional_tree x live if_at)
 
   pub statement_trees : Statements → Live → node.Statements
   statement_trees form.NoStatement live = no_statements

@@ -1,5 +1,5 @@
 -- How the contracts of the readers speak of what they read and what they leave.
-use Rattle.std.specs.Prelude.{◌≡◌, ◌≤◌, ℕ, Bool, List, Option, Result, Vec}
+use Rattle.std.specs.Prelude.{◌≡◌, ◌≤◌, ℕ, Bool, List, Option, Result, Vec, option_map}
 use Rattle.std.specs.declared.alloc.Global.{Global}
 use Rattle.std.specs.declared.rc.RcStr.{RcStr}
 use Rattle.std.specs.Rc.{rc_str_bytes}
@@ -12,6 +12,7 @@ use Rattle.rhai_lower.specs.declared.ast.Stmt.{Stmt}
 use Rattle.rhai_lower.specs.declared.position.Position.{Position}
 use Rattle.rhai_grammar.specs.Contexts.{Live}
 use Rattle.rhai_grammar.specs.declared.role.Closing.{Closing}
+use Rattle.rhai_grammar.specs.declared.role.Construct.{Construct}
 use Rattle.rhai_grammar.specs.declared.role.OperandPlace.{OperandPlace}
 use Rattle.rhai_grammar.specs.Chains as chain
 use Rattle.rhai_grammar.specs.Cursors.{Cursor, cursor_of, left}
@@ -28,6 +29,7 @@ use Rattle.rhai_base.specs.declared.leaves.strings.TextPart.{TextPart}
 use Rattle.rhai_base.specs.declared.settings.ParseSettings.{ParseSettings}
 use Rattle.rhai_readers.specs.Languages.{LanguageValue}
 use Rattle.rhai_readers.specs.Frames.{context_of, live_of}
+use Rattle.rhai_readers.specs.declared.control.LoopNames.{LoopNames}
 use Rattle.rhai_readers.specs.declared.shared.Shared.{Shared}
 
 -- ---- what is read, by the language, the frame and the settings that it is read under
@@ -39,9 +41,14 @@ whole language frame settings = reading.Whole (context_of language settings) (li
 abbrev pub expression : LanguageValue → FrameValue → ParseSettings → Goal
 expression language frame settings = reading.Expression (context_of language settings) (live_of frame)
 
--- an operand with its signs and its call, at this place
-abbrev pub operand : LanguageValue → FrameValue → ParseSettings → OperandPlace → Goal
-operand language frame settings place = reading.Operand (context_of language settings) (live_of frame) place
+-- a written operand with its signs and its call
+abbrev pub operand : LanguageValue → FrameValue → ParseSettings → Goal
+operand language frame settings = reading.Operand (context_of language settings) (live_of frame)
+
+-- an operand at this place after an operator
+abbrev pub right_operand : LanguageValue → FrameValue → ParseSettings → OperandPlace → Goal
+right_operand language frame settings place =
+    reading.RightOperand (context_of language settings) (live_of frame) place
 
 abbrev pub primary : LanguageValue → FrameValue → ParseSettings → Goal
 primary language frame settings = reading.Primary (context_of language settings) (live_of frame)
@@ -77,7 +84,7 @@ abbrev pub segments : LanguageValue → FrameValue → ParseSettings → (before
 segments language frame settings before =
     reading.Segments (context_of language settings) (live_of frame) settings.pos before
 
--- what follows `return` or `throw`
+-- what follows `return`, `throw` or `break`
 abbrev pub jump : LanguageValue → FrameValue → ParseSettings → Goal
 jump language frame settings = reading.Jump (context_of language settings) (live_of frame) settings.pos
 
@@ -133,6 +140,30 @@ inside language frame settings = reading.Inside (context_of language settings) (
 abbrev pub block : LanguageValue → FrameValue → ParseSettings → Goal
 block language frame settings = reading.Block (context_of language settings) (live_of frame) settings.pos
 
+-- a construct of this kind after its first token
+abbrev pub construct : LanguageValue → FrameValue → ParseSettings → Construct → Goal
+construct language frame settings kind =
+    reading.Construct (context_of language settings) (live_of frame) settings.pos kind
+
+-- a block of a construct from its `{`
+abbrev pub braced : LanguageValue → FrameValue → ParseSettings → Goal
+braced language frame settings = reading.Braced (context_of language settings) (live_of frame) settings.pos
+
+abbrev pub guard : LanguageValue → FrameValue → ParseSettings → Goal
+guard language frame settings = reading.Guard (context_of language settings) (live_of frame)
+
+-- what `for` goes over
+abbrev pub iterated : LanguageValue → FrameValue → ParseSettings → Goal
+iterated language frame settings = reading.Iterated (context_of language settings) (live_of frame)
+
+-- what follows `if`
+abbrev pub conditional : LanguageValue → FrameValue → ParseSettings → Goal
+conditional language frame settings = reading.Conditional (context_of language settings) (live_of frame) settings.pos
+
+-- what follows the block of an `if`
+abbrev pub branch : LanguageValue → FrameValue → ParseSettings → Goal
+branch language frame settings = reading.Branch (context_of language settings) (live_of frame) settings.pos
+
 -- ---- what comes of it
 
 -- lists of the code's nodes, properties and links
@@ -163,6 +194,10 @@ with_live view frame x = (view x, live_of frame)
 -- a name and its position
 abbrev pub name_view : RcStr Global × Position → Text × Position
 name_view n = (rc_str_bytes n.0, n.1)
+
+-- the variables of `for`
+abbrev pub loop_view : LoopNames → Text × Option Text
+loop_view names = (rc_str_bytes names.name, option_map rc_str_bytes names.counter)
 
 -- what is left to read
 abbrev pub state_of : Shared → Cursor

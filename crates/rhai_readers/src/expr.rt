@@ -3,7 +3,7 @@
 ghost use Rattle.rhai_lower.specs.Nodes.{no_nodes, position_of};
 ghost use Rattle.rhai_lower.specs.View.{view};
 ghost use Rattle.rhai_readers.specs.Readers.{GoesOn, Reads, arguments, binary_op, expression, items, operand, postfix};
-ghost use Rattle.rhai_readers.specs.Readers.{primary, views_of, whole};
+ghost use Rattle.rhai_readers.specs.Readers.{primary, right_operand, views_of, whole};
 
 use crate::asks::next_operator;
 use crate::language::Language;
@@ -13,13 +13,14 @@ use rhai_base::leaves::due::{end_due, match_token};
 use rhai_base::leaves::lists::{closes_list, list_continues};
 use rhai_base::leaves::names::{as_variable, make_call, name_node, word_node};
 use rhai_base::leaves::refusals::{missing, no_operand};
+use rhai_base::leaves::constructs::may_be_value;
 use rhai_base::leaves::tokens::{
-    is_called, is_no_argument, is_sign, is_throw, place_after, value_of, what_begins, what_operand,
+    is_called, is_no_argument, is_sign, place_after, value_of, what_begins, what_operand,
 };
-use rhai_base::{Frame, LangOptions, ParseSettings};
+use rhai_base::{Frame, ParseSettings};
 use rhai_grammar::{Beginning, CommaList, DueToken, OperandPlace, OperandStart, ParseResult};
 use rhai_lower::Expr;
-use rhai_trees::{make_binary, make_block_value, make_chain, make_jump_value, make_unary};
+use rhai_trees::{make_binary, make_chain, make_statement_value, make_unary};
 
 #[tactic(auto, using(crate::proofs::Readers::expressions))]
 impl Language {
@@ -81,14 +82,14 @@ impl Language {
                 let segments = self.parse_interpolated_string(shared, frame, deeper, first)?;
                 Ok(Expr::InterpolatedString(segments, pos))
             }
-            Beginning::Block => {
-                if !settings.has_option(LangOptions::STMT_EXPR) {
+            Beginning::Construct(kind) => {
+                if !may_be_value(settings, self.allow_looping(), kind) {
                     return Err(no_operand(self.alloc(), token, pos));
                 }
                 skip(shared.input);
                 let deeper = settings.at(pos).level_up()?.level_up()?;
-                let block = self.parse_block(shared, frame, deeper)?;
-                Ok(make_block_value(self.alloc(), block)?)
+                let statement = self.parse_construct(shared, frame, deeper, kind)?;
+                Ok(make_statement_value(self.alloc(), statement)?)
             }
             Beginning::Range => Ok(Expr::IntegerConstant(0, pos)),
             Beginning::Sign | Beginning::Nothing => Err(no_operand(self.alloc(), token, pos)),
@@ -168,10 +169,10 @@ impl Language {
         }
     }
 
-    /// Reads an operand with its signs and its call. What it may be depends on its place:
-    /// after a range operator it may be missing, and after `??` a jump may stand.
+    /// Reads an operand after an operator. What it may be depends on its place: after a range operator it may be
+    /// missing, and after `??` a jump may stand.
     #[cycle(parser)]
-    fn parse_unary(
+    fn parse_right_operand(
         &self,
         shared: &mut Shared<'_>,
         frame: &Frame<'_>,
@@ -179,22 +180,36 @@ impl Language {
         place: OperandPlace,
     ) -> ParseResult<Expr>
         ensures goes_on { GoesOn shared.old shared.new }
-        ensures reads { Reads (operand self.now frame.now settings place) view shared.old result shared.new }
+        ensures reads { Reads (right_operand self.now frame.now settings place) view shared.old result shared.new }
     {
         let (token, pos) = peek(shared.input)?;
         match what_operand(place, token) {
-            OperandStart::Omitted => return Ok(Expr::Unit(*pos)),
+            OperandStart::Omitted => Ok(Expr::Unit(*pos)),
             OperandStart::Jump => {
-                let (jump, pos) = take(shared.input);
-                let value = self.parse_jump(shared, frame, settings.at(pos))?;
-                return Ok(make_jump_value(self.alloc(), value, is_throw(&jump), pos)?);
+                let mut inner = frame.inner(self.alloc());
+                let jump = self.parse_stmt(shared, &mut inner, settings)?;
+                Ok(make_statement_value(self.alloc(), jump)?)
             }
-            OperandStart::Written => {}
+            OperandStart::Written => self.parse_unary(shared, frame, settings),
         }
+    }
+
+    /// Reads a written operand with its signs and its call.
+    #[cycle(parser)]
+    fn parse_unary(
+        &self,
+        shared: &mut Shared<'_>,
+        frame: &Frame<'_>,
+        settings: ParseSettings,
+    ) -> ParseResult<Expr>
+        ensures goes_on { GoesOn shared.old shared.new }
+        ensures reads { Reads (operand self.now frame.now settings) view shared.old result shared.new }
+    {
+        let (token, _) = peek(shared.input)?;
         if is_sign(token) {
             let (sign, pos) = take(shared.input);
             let settings = settings.at(pos).level_up()?;
-            let operand = self.parse_unary(shared, frame, settings, OperandPlace::Elsewhere)?;
+            let operand = self.parse_unary(shared, frame, settings)?;
             return make_unary(self.alloc(), sign, pos, operand);
         }
         let primary = self.parse_primary(shared, frame, settings)?;
@@ -228,7 +243,8 @@ impl Language {
                 return Ok(lhs);
             }
             let (op_token, pos) = take(shared.input);
-            let rhs = self.parse_unary(shared, frame, settings, place_after(&op_token))?;
+            let place = place_after(&op_token);
+            let rhs = self.parse_right_operand(shared, frame, settings, place)?;
             // A reserved symbol after the operand is refused before the level is raised.
             next_operator(self.alloc(), shared.input)?;
             let deeper = settings.level_up_in_run(pos)?;
@@ -254,7 +270,7 @@ impl Language {
     {
         let (_, pos) = peek(shared.input)?;
         let settings = settings.at(*pos).level_up()?;
-        let lhs = self.parse_unary(shared, frame, settings, OperandPlace::Elsewhere)?;
+        let lhs = self.parse_unary(shared, frame, settings)?;
         self.parse_binary_op(shared, frame, settings, 1, lhs)
     }
 

@@ -47,6 +47,13 @@ impl Language {
         self.alloc
     }
 
+    /// Whether scripts may have loops.
+    pub fn allow_looping(&self) -> bool
+        ensures { result ≡ (bit_and self.now.options 32 == 32) }
+    {
+        self.options.contains(LangOptions::LOOPING)
+    }
+
     /// Whether a script may define a variable of a name that is there already.
     pub fn allow_shadowing(&self) -> bool
         ensures { result ≡ (bit_and self.now.options 128 == 128) }

@@ -3,6 +3,8 @@
 
 mod asks;
 mod chain;
+mod construct;
+pub mod control;
 mod expr;
 pub mod language;
 mod literals;

@@ -13,6 +13,7 @@ use crate::asks::{end_assignment, end_block, next_var_name};
 use crate::language::Language;
 use crate::shared::Shared;
 use rhai_base::cursor::{peek, skip, take};
+use rhai_base::leaves::constructs::test_loop;
 use rhai_base::leaves::statements::{
     assigns, has_value, list_ends, statement_continues, what_starts,
 };
@@ -21,7 +22,8 @@ use rhai_base::{Frame, ParseSettingFlags, ParseSettings};
 use rhai_grammar::{Closing, ParseResult, StatementStart};
 use rhai_lower::{Expr, Position, Stmt, StmtBlock};
 use rhai_trees::{
-    ends_itself, make_block_statement, make_definition, make_expression, make_jump, push_statement,
+    ends_itself, make_break, make_continue, make_definition, make_expression, make_jump,
+    push_statement,
 };
 
 #[tactic(auto, using(crate::proofs::Readers::statements))]
@@ -61,7 +63,7 @@ impl Language {
 
     /// Reads a statement. The level is raised at its first token.
     #[cycle(parser)]
-    fn parse_stmt(
+    pub(crate) fn parse_stmt(
         &self,
         shared: &mut Shared<'_>,
         frame: &mut Frame<'_>,
@@ -76,16 +78,15 @@ impl Language {
     {
         let (token, pos) = peek(shared.input)?;
         let settings = settings.at(*pos);
-        match what_starts(token) {
+        match what_starts(self.allow_looping(), token) {
             StatementStart::Empty => {
                 skip(shared.input);
                 Ok(Stmt::Noop(settings.pos))
             }
-            StatementStart::Block => {
+            StatementStart::Construct(kind) => {
                 skip(shared.input);
                 let deeper = settings.level_up()?.level_up()?;
-                let block = self.parse_block(shared, frame, deeper)?;
-                Ok(make_block_statement(self.alloc(), block)?)
+                self.parse_construct(shared, frame, deeper, kind)
             }
             StatementStart::Let => {
                 skip(shared.input);
@@ -104,6 +105,17 @@ impl Language {
                 skip(shared.input);
                 let value = self.parse_jump(shared, frame, settings)?;
                 Ok(make_jump(self.alloc(), value, true, settings.pos)?)
+            }
+            StatementStart::Break => {
+                skip(shared.input);
+                test_loop(settings, settings.pos)?;
+                let value = self.parse_jump(shared, frame, settings)?;
+                Ok(make_break(self.alloc(), value, settings.pos)?)
+            }
+            StatementStart::Continue => {
+                skip(shared.input);
+                test_loop(settings, settings.pos)?;
+                Ok(make_continue(settings.pos))
             }
             StatementStart::Expression => {
                 self.parse_expr_stmt(shared, frame, settings.level_up()?)
@@ -205,7 +217,7 @@ impl Language {
         self.parse_statements(shared, &mut inner, settings, Closing::Brace)
     }
 
-    /// Reads what follows `return` or `throw`, where the settings stand: a value, exactly where the next token begins
+    /// Reads what follows `return`, `throw` or `break`, where the settings stand: a value, exactly where the next token begins
     /// an expression. The level is raised with or without one.
     #[cycle(parser)]
     pub(crate) fn parse_jump(
@@ -218,7 +230,7 @@ impl Language {
         ensures reads { Reads (jump self.now frame.now settings) optional_view shared.old result shared.new }
     {
         let (token, _) = peek(shared.input)?;
-        let valued = starts_expression(settings, token);
+        let valued = starts_expression(settings, self.allow_looping(), token);
         let deeper = settings.level_up()?;
         if !valued {
             return Ok(None);

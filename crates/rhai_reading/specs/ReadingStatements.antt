@@ -6,7 +6,7 @@ use Rattle.rhai_lower.specs.Lexemes.{Lexeme, text_of}
 use Rattle.rhai_lower.specs.Nodes.{Node, unit}
 use Rattle.rhai_lower.specs.Nodes.{noop, expression, assignment}
 use Rattle.rhai_lower.specs.Nodes.{block_statement, no_statements, one_statement, absent}
-use Rattle.rhai_lower.specs.Nodes.{block_of_one, break_loop, do_statement, for_statement}
+use Rattle.rhai_lower.specs.Nodes.{made_block, break_loop, do_statement, for_statement}
 use Rattle.rhai_lower.specs.Nodes.{return_statement, try_catch, while_statement}
 use Rattle.rhai_lower.specs.Nodes as node
 use Rattle.rhai_lower.specs.Positions.{nowhere}
@@ -153,7 +153,7 @@ no_brace p = Peek (λ l at. if is_due due.LeftBrace l then Fail (refusal no_bloc
 -- after `else`
 abbrev pub else_at : Context → Live → (at : Position) → Lexeme → Position → Prog node.Block
 else_at c w at l pos =
-    if is_due due.If l then Take (raised c at (λ d. Call (Conditional d w pos) (λ f. Ret (block_of_one f))))
+    if is_due due.If l then Take (raised c at (λ d. Call (Conditional d w pos) (λ f. Ret (made_block f))))
     else Call (Braced c w at) Ret
 
 -- after the block of an `if`

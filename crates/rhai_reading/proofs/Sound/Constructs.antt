@@ -106,7 +106,7 @@ module _ {call : Histories} (ih : AllSound call) (c : Context) (w : Live) (s : P
       (λ again.
       let there = stands due.If (op_at t) (pos_at t) again in
       take (raise c (form.ElseIf (pos_at s) (pos_at t) any_conditional) (λ high k. here ▹ there ▹ fails high) (λ below.
-      ends {v = node.block_of_one} (ih.of (R.Conditional (level_up c) w (pos_at t)) (past code t) false)
+      ends {v = node.made_block} (ih.of (R.Conditional (level_up c) w (pos_at t)) (past code t) false)
       (form.ElseIf (pos_at s) (pos_at t)) (λ v f. refl) (λ f k o r. here ▹ there ▹ below ▹ r))))
       (λ none. ends (ih.of (R.Braced c w at) t true) (λ f. form.Else (pos_at s) f.opening f.body) (λ v f. refl)
       (λ f k o r. here ▹ fine n (rw none) ▹ r)))))

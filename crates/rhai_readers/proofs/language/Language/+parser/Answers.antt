@@ -25,7 +25,7 @@ use Rattle.rhai_readers.proofs.language.Language.+parser.Goals.{parse_binary_op-
 
 -- an operator of a run with its right side
 walked : (t : _) (c : parse_binary_op-After-make_binary t) → Walked (context_of c.args.self.now c.loop-lhs.settings) (live_of c.args.frame.now) c.args.parent c.in-Some.operator.strength c.in-Some.operator.right c.place_after.result (option_map operator_pair c.in_ok-next_operator.field-0) (lexeme c.take-op_token.result.0) c.take-op_token.result.1 (view c.in_ok-rhs.rhs) (view c.in_ok-rhs-2.rhs) (context_of c.args.self.now c.in_ok-deeper.deeper.side)
-    (state_of c.loop-lhs.shared) (cursor_of c.next_operator.new.input) (cursor_of c.take-op_token.new.input) (state_of c.parse_unary.new.shared) (cursor_of c.next_operator-in-loop-lhs.new.input) (state_of c.parse_binary_op.new.shared)
+    (state_of c.loop-lhs.shared) (cursor_of c.next_operator.new.input) (cursor_of c.take-op_token.new.input) (state_of c.parse_right_operand.new.shared) (cursor_of c.next_operator-in-loop-lhs.new.input) (state_of c.parse_binary_op.new.shared)
 walked t c = record {
   operator = search rules;
   goes = search rules;
@@ -78,7 +78,7 @@ pub parse_unary-returns-then-is_sign-clause-reads : goal.parse_unary-returns-the
 parse_unary-returns-then-is_sign-clause-reads t c =
     let due = sign_result (lexeme c.take-sign.result.0) c.take-sign.result.1 (view c.in_ok-operand.operand) in
     let left = state_of c.parse_unary.new.shared in
-    let same : result_of (operand c.args.self.now c.args.frame.now c.args.settings c.args.place) (state_of c.args.shared.now) ≡ outcome due left = grind (arith, operands) in
+    let same : result_of (operand c.args.self.now c.args.frame.now c.args.settings) (state_of c.args.shared.now) ≡ outcome due left = grind (arith, operands) in
     answer_given view due left c.make_unary.result same c.make_unary.ensures.answers c.make_unary.ensures.nowhere
 
 pub parse_unary-returns-in_err-links-clause-reads : goal.parse_unary-returns-in_err-links-clause-reads

@@ -1,21 +1,22 @@
-use Rattle.std.proofs.Common.{◌≡◌, option_map}
+use Rattle.std.proofs.Common.{◌≡◌, ◌+◌, option_map}
 use Rattle.rhai_lower.specs.Nodes.{no_nodes, no_properties, no_statements, position_of}
 use Rattle.rhai_lower.specs.View.{view}
 use Rattle.rhai_grammar.specs.Cursors.{left}
+use Rattle.rhai_grammar.specs.declared.role.Construct.TheVariants as kind
 use Rattle.rhai_grammar.specs.Interpolations.{added_text}
 use Rattle.std.specs.Rc.{rc_str_bytes}
 use Rattle.rhai_reading.specs.Reading.{Links}
 use Rattle.rhai_reading.specs.Running.{need, result_of}
 use Rattle.rhai_trees.specs.Chains.{indexed_by}
 use Rattle.rhai_readers.specs.Frames.{context_of, live_of}
-use Rattle.rhai_readers.specs.Readers.{GoesOn, arguments, binary_op, block, called, definition, expr_statement, initializer, inside, jump, segments, statement, statements, statements_of, elements, expression, fields, index, items, links, linked, member, operand, postfix, primary, properties_of, state_of, views_of}
+use Rattle.rhai_readers.specs.Readers.{GoesOn, arguments, binary_op, block, braced, branch, conditional, construct, guard, iterated, right_operand, called, definition, expr_statement, initializer, inside, jump, segments, statement, statements, statements_of, elements, expression, fields, index, items, links, linked, member, operand, postfix, primary, properties_of, state_of, views_of}
 use Rattle.rhai_readers.proofs.language.Language.+parser.Given as goal
 
 abbrev pub decreases-parse_expr : goal.decreases-parse_expr
 decreases-parse_expr l = need (expression l.self.now l.frame.now l.settings) (state_of l.shared.now)
 
 abbrev pub decreases-parse_unary : goal.decreases-parse_unary
-decreases-parse_unary l = need (operand l.self.now l.frame.now l.settings l.place) (state_of l.shared.now)
+decreases-parse_unary l = need (operand l.self.now l.frame.now l.settings) (state_of l.shared.now)
 
 abbrev pub decreases-parse_primary : goal.decreases-parse_primary
 decreases-parse_primary l = need (primary l.self.now l.frame.now l.settings) (state_of l.shared.now)
@@ -140,3 +141,40 @@ invariant-parse_statements-loop-statements l = record {
 
 abbrev pub decreases-parse_statements-loop-statements : goal.decreases-parse_statements-loop-statements
 decreases-parse_statements-loop-statements l = left (state_of l.shared).tokens
+
+abbrev pub decreases-parse_right_operand : goal.decreases-parse_right_operand
+decreases-parse_right_operand l = need (right_operand l.self.now l.frame.now l.settings l.place) (state_of l.shared.now)
+
+-- a construct is read by the reader of its kind
+abbrev pub decreases-parse_construct : goal.decreases-parse_construct
+decreases-parse_construct l = need (construct l.self.now l.frame.now l.settings l.kind) (state_of l.shared.now) + 1
+
+abbrev pub decreases-parse_if : goal.decreases-parse_if
+decreases-parse_if l = need (conditional l.self.now l.frame.now l.settings) (state_of l.shared.now)
+
+abbrev pub decreases-parse_else : goal.decreases-parse_else
+decreases-parse_else l = need (branch l.self.now l.frame.now l.settings) (state_of l.shared.now)
+
+abbrev pub decreases-parse_guard : goal.decreases-parse_guard
+decreases-parse_guard l = need (guard l.self.now l.frame.now l.settings) (state_of l.shared.now)
+
+abbrev pub decreases-parse_iterated : goal.decreases-parse_iterated
+decreases-parse_iterated l = need (iterated l.self.now l.frame.now l.settings) (state_of l.shared.now)
+
+abbrev pub decreases-parse_braces : goal.decreases-parse_braces
+decreases-parse_braces l = need (braced l.self.now l.frame.now l.settings) (state_of l.shared.now)
+
+abbrev pub decreases-parse_while : goal.decreases-parse_while
+decreases-parse_while l = need (construct l.self.now l.frame.now l.settings kind.While) (state_of l.shared.now)
+
+abbrev pub decreases-parse_loop : goal.decreases-parse_loop
+decreases-parse_loop l = need (construct l.self.now l.frame.now l.settings kind.Loop) (state_of l.shared.now)
+
+abbrev pub decreases-parse_do : goal.decreases-parse_do
+decreases-parse_do l = need (construct l.self.now l.frame.now l.settings kind.Do) (state_of l.shared.now)
+
+abbrev pub decreases-parse_for : goal.decreases-parse_for
+decreases-parse_for l = need (construct l.self.now l.frame.now l.settings kind.For) (state_of l.shared.now)
+
+abbrev pub decreases-parse_try : goal.decreases-parse_try
+decreases-parse_try l = need (construct l.self.now l.frame.now l.settings kind.Try) (state_of l.shared.now)
