@@ -1,5 +1,5 @@
 #!/usr/bin/env bash
-# Prints how many microseconds a token takes, in scripts of 10,000, 100,000 and 1,000,000 tokens of four kinds, for the
+# Prints how many microseconds a token takes, in scripts of 10,000, 100,000 and 1,000,000 tokens of six kinds, for the
 # program and for another one that is given, run in turn. It is no part of the gate. It fails if a token of the longest
 # script takes the program more than twice the time of one of the shortest.
 #
@@ -37,6 +37,23 @@ make_list() {
                     for (i = 0; i < 20; i++) { put("sym {"); put("sym let"); put("id x"); put("sym ;") }
                     for (i = 0; i < 20; i++) put("sym }")
                 }
+                if (kind == "conditions") {
+                    for (i = 0; i < 50; i++) {
+                        if (i > 0) put("sym else")
+                        put("sym if"); put("id x"); put("sym {"); put("id y"); put("sym ="); put("int 1"); put("sym }")
+                    }
+                    put("sym else"); put("sym {"); put("sym }")
+                }
+                if (kind == "loops") {
+                    for (i = 0; i < 6; i++) {
+                        put("sym for"); put("sym ("); put("id x"); put("sym ,"); put("id i"); put("sym )")
+                        put("sym in"); put("id x"); put("sym {")
+                        put("sym while"); put("id i"); put("sym {")
+                        put("sym loop"); put("sym {")
+                    }
+                    put("id i"); put("sym ??"); put("sym break"); put("id x")
+                    for (i = 0; i < 18; i++) put("sym }")
+                }
                 if (kind == "lists") { put("int 1"); put("sym ,") }
             }
             if (kind == "lists") { put("sym ]"); put("sym ;") }
@@ -63,7 +80,7 @@ time_of() {
 printf '%-12s %9s' kind tokens
 for program in "${programs[@]}"; do printf '  %12s' "${program##*/}"; done
 echo
-for kind in statements variables blocks lists; do
+for kind in statements variables blocks conditions loops lists; do
     for tokens in 10000 100000 1000000; do
         make_list "$kind" "$tokens" >"$folder/list"
         count=$(($(wc -l <"$folder/list") - 1))
