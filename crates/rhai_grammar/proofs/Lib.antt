@@ -6,6 +6,7 @@ pub mod StreamLemmas
 pub mod RowLemmas
 pub mod StatementRowLemmas
 pub mod StringRowLemmas
+pub mod ConstructRowLemmas
 pub mod StartLemmas
 pub mod SlotLemmas
 pub mod ChainLemmas

@@ -36,6 +36,7 @@ pub mod Rows
 pub mod RowsOfChains
 pub mod RowsOfStatements
 pub mod RowsOfStrings
+pub mod RowsOfConstructs
 pub mod StartLaws
 pub mod SlotLaws
 pub mod Imports

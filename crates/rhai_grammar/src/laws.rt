@@ -5,6 +5,7 @@ ghost use Rattle.rhai_grammar.specs.Laws.{FormsAreSpelled, FormsFitWhereverSpell
 ghost use Rattle.rhai_grammar.specs.Rows.{CallRow, EndedRow, FlatRow, LateRow, MinusRow, OpenRow};
 ghost use Rattle.rhai_grammar.specs.Rows.{PairRow, RangedRow, SizedRow, SumRow};
 ghost use Rattle.rhai_grammar.specs.RowsOfChains.{CaptureRow, GroupedRow, JoinedRow, QuestionedRow};
+ghost use Rattle.rhai_grammar.specs.RowsOfConstructs.{BreakRow, LoopRow};
 ghost use Rattle.rhai_grammar.specs.RowsOfStatements.{AgainRow, ConstantRow, LetRow, OpenBlockRow, ScopesRow, SingleRow};
 ghost use Rattle.rhai_grammar.specs.RowsOfStrings.{JumpRow, ReturnRow, StringRow};
 ghost use Rattle.rhai_grammar.specs.SlotLaws.{NoSlot, NumberedSlot, Reuse, ScopesClose};
@@ -203,6 +204,19 @@ pub fn jump_row()
 #[tactic(auto, using(crate::proofs::StringRowLemmas::return_row))]
 pub fn return_row()
     ensures { ReturnRow }
+{}
+
+/// In `for (a, i) in 0..3 { a + i }` the variable has number 1 and the counter number 2, and nothing is left live after
+/// the loop.
+#[tactic(auto, using(crate::proofs::ConstructRowLemmas::loop_row))]
+pub fn loop_row()
+    ensures { LoopRow }
+{}
+
+/// `break;` is refused outside of a loop, and fits where the settings say that the script is in one.
+#[tactic(auto, using(crate::proofs::ConstructRowLemmas::break_row))]
+pub fn break_row()
+    ensures { BreakRow }
 {}
 
 /// A name that has a number in its tree is not called, and the slot with that number is the latest of the name.
