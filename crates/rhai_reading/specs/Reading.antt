@@ -60,7 +60,7 @@ pub use Rattle.rhai_reading.specs.Goals.{Goal, Whole, Expression, Operand, Prima
 pub use Rattle.rhai_reading.specs.Goals.{Postfix, Arguments, Items, Elements, Fields, Segments, TextAfter, Jump}
 pub use Rattle.rhai_reading.specs.Goals.{NextKey, NextOperator, BinaryOp, ExprStatement, VarName, Initializer}
 pub use Rattle.rhai_reading.specs.Goals.{Definition, Statement, Statements, BlockStart, Inside, Block, BlockEnd}
-pub use Rattle.rhai_reading.specs.Goals.{Ret, Fail, Peek, Take, TakeText, Call, Script, Val, Prog}
+pub use Rattle.rhai_reading.specs.Goals.{Ret, Fail, Peek, Take, TakeText, Call, CallLiteral, Script, Val, Prog}
 pub use Rattle.rhai_reading.specs.Goals.{after_a_part, match_token, part_next, raised}
 
 -- ---- each reader
