@@ -6,6 +6,7 @@ pub mod Beginnings
 pub mod Tokens
 pub mod Lists
 pub mod Looks
+pub mod Recasts
 pub mod Paths
 pub mod Shows
 pub mod FormKinds

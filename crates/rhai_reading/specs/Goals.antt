@@ -163,6 +163,8 @@ pub data Prog (A : Type 0) : Type 0 where
   -- Takes the `}` that is due and then, in text mode, the text that is due after it; another token there is refused.
   TakeText : (Position → Lexeme → Position → Prog A) → Prog A
   Call : (g : Goal) → (Val g → Prog A) → Prog A
+  -- calls a reader, and reports what it refuses as a missing literal
+  CallLiteral : (g : Goal) → (Val g → Prog A) → Prog A
 
 -- ---- terms that several readers have
 

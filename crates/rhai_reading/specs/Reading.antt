@@ -55,7 +55,7 @@ pub use Rattle.rhai_reading.specs.Goals.{NextKey, NextOperator, BinaryOp, ExprSt
 pub use Rattle.rhai_reading.specs.Goals.{Definition, Statement, Statements, BlockStart, Inside, Block, BlockEnd}
 pub use Rattle.rhai_reading.specs.Goals.{Branch, Braced, Catch, Conditional, Construct, DoEnd, Guard, Iterated}
 pub use Rattle.rhai_reading.specs.Goals.{LoopNames, RightOperand}
-pub use Rattle.rhai_reading.specs.Goals.{Ret, Fail, Peek, Take, TakeText, Call, Script, Val, Prog}
+pub use Rattle.rhai_reading.specs.Goals.{Ret, Fail, Peek, Take, TakeText, Call, CallLiteral, Script, Val, Prog}
 pub use Rattle.rhai_reading.specs.Goals.{after_a_part, construct_on, match_name, match_token, part_next, raised}
 pub use Rattle.rhai_reading.specs.ReadingStatements.{assigned_on, evaluated_at, var_name_at, value_at, definition_on}
 pub use Rattle.rhai_reading.specs.ReadingStatements.{jump_on, loop_at, statement_at, separated_at, statements_on}
