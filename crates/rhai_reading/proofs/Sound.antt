@@ -55,7 +55,7 @@ step ih (R.Segments c w start before) s b = tells (L.segment_list ih c w start b
 step {call = call} ih R.TextAfter s b = tells (L.text_after call s b)
 step ih (R.Jump c w pos) s b = tells (T.jump ih c w s pos b)
 step ih (R.NextKey c before) s b = tells (L.next_key _ c before s b)
-step ih R.NextOperator s b = tells (N.next_operator _ s b)
+step {call = call} ih (R.NextOperator filter) s b = tells (N.next_operator call filter s b)
 step ih (R.ExprStatement c w) s b = tells (T.evaluated ih c w s b)
 step ih (R.VarName c w) s b = tells (T.var_name ih c w s b)
 step ih (R.Initializer c w pos) s b = tells (T.initializer ih c w s pos b)
@@ -76,8 +76,8 @@ step ih (R.Inside c w) s b = tells (T.inside ih c w s b)
 step ih (R.Block c w opening) s b = tells (T.block ih c w opening s b)
 step ih (R.BlockEnd opening fs) s b = tells (T.block_end _ opening fs s b)
 step ih (R.BinaryOp c w pos p lhs) s b =
-    λ q from L live is height suits ended stands. tells
-    (N.run ih c w pos p lhs s b q from L live is height suits ended stands)
+    λ q from L live is height same suits ended stands. tells
+    (N.run ih c w pos p lhs s b q from L live is height same suits ended stands)
 
 -- before any call is made
 none : (g : Goal) (s : Point) (b : Bool) → Sound g s (deep zero g (at s b))
@@ -87,7 +87,7 @@ none (R.Primary c w) s b = λ place written sign. record { told = tt }
 none (R.Postfix c w x) s b = λ place from p is G. record { told = tt }
 none (R.Called c w name) s b = λ on. record { told = tt }
 none (R.Member c w) s b = λ is. record { told = tt }
-none (R.BinaryOp c w pos p lhs) s b = λ q from L live is height suits ended stands. record { told = tt }
+none (R.BinaryOp c w pos p lhs) s b = λ q from L live is height same suits ended stands. record { told = tt }
 none _ s b = record { told = tt }
 
 pub sound : (n : ℕ) (g : Goal) (s : Point) (b : Bool) → Sound g s (deep n g (at s b))

@@ -5,6 +5,7 @@ use Rattle.rhai_grammar.specs.Causes as cause
 use Rattle.rhai_grammar.specs.Causes.{Refusal, refusal}
 use Rattle.rhai_grammar.specs.DueTokens.{is_due, not_due}
 use Rattle.rhai_grammar.specs.declared.due.DueToken.{DueToken}
+use Rattle.rhai_grammar.specs.declared.filter.ExprFilter.{ExprFilter}
 use Rattle.rhai_grammar.specs.Contexts.{Context, Live, has_room, level_up}
 use Rattle.rhai_grammar.specs.declared.list.AfterPart.{AfterPart}
 use Rattle.rhai_grammar.specs.declared.list.AfterPart.TheVariants as after
@@ -64,8 +65,8 @@ pub data Goal : Type 0 where
   Jump : Context → Live → (at : Position) → Goal
   -- the key of one more property, with its colon; none where the `}` is
   NextKey : Context → (before : Properties) → Goal
-  -- what stands after an operand: an operator's strength, and whether equal ones group to the right
-  NextOperator : Goal
+  -- what stands after an operand under a filter: an operator's strength, and whether equal ones group to the right
+  NextOperator : ExprFilter → Goal
   -- the operators after a left operand that go on with a run of this strength; at is where the next raise is refused
   BinaryOp : Context → Live → (at : Position) (parent : ℕ) (lhs : Node) → Goal
   -- an expression or an assignment
@@ -130,7 +131,7 @@ Val (Segments c w start before) = Nodes
 Val TextAfter = Position × Text × Bool × Position
 Val (Jump c w at) = Optional
 Val (NextKey c before) = Option (Text × Position)
-Val NextOperator = Option (ℕ × Bool)
+Val (NextOperator filter) = Option (ℕ × Bool)
 Val (BinaryOp c w at parent lhs) = Node
 Val (ExprStatement c w) = node.Statement
 Val (VarName c w) = Text × Position

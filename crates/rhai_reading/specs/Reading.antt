@@ -262,7 +262,7 @@ binary_next d w parent lhs op pos rhs =
 -- after an operator's right operand: the tighter run that begins there, if one does
 abbrev pub binary_right : Context → Live → Position → ℕ → Node → ℕ → Lexeme → Position → Node → Prog Node
 binary_right c w at parent lhs strength op pos rhs =
-    Call NextOperator (λ next. raised c at (λ d.
+    Call (NextOperator c.filter) (λ next. raised c at (λ d.
     Call (BinaryOp d w (position_of rhs) strength rhs) (binary_next d w parent lhs op pos)))
 
 -- after an operator
@@ -297,8 +297,8 @@ body (Segments c w start before) = Call BlockStart (λ opening. segment_on c w s
 body TextAfter = TakeText (λ end l at. Ret (end, text_of l, is_last_text l, at))
 body (Jump c w at) = Peek (λ l pos. jump_at c w at (starts c l))
 body (NextKey c before) = Peek (λ l at. key_on c before at (next_key c.settings before l))
-body NextOperator = Peek (λ l at. next_operator_at at (follower_of l))
-body (BinaryOp c w at parent lhs) = Call NextOperator (binary_at c w at parent lhs)
+body (NextOperator filter) = Peek (λ l at. next_operator_at at (follower_of filter l))
+body (BinaryOp c w at parent lhs) = Call (NextOperator c.filter) (binary_at c w at parent lhs)
 body (ExprStatement c w) = Call (Expression c w) (λ x. Peek (evaluated_at c w x))
 body (VarName c w) = Peek (var_name_at c w)
 body (Initializer c w at) = Peek (value_at c w at)

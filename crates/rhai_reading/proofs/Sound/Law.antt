@@ -11,6 +11,7 @@ use Rattle.rhai_grammar.specs.Beginnings.{beginning, is_sign, calls, member_plac
 use Rattle.rhai_grammar.specs.Starts.{operand_start}
 use Rattle.rhai_grammar.specs.declared.role.OperandPlace.{OperandPlace}
 use Rattle.rhai_grammar.specs.declared.role.OperandStart.TheVariants as first
+use Rattle.rhai_grammar.specs.declared.filter.ExprFilter.{ExprFilter}
 use Rattle.rhai_grammar.specs.Strengths.{Follower, follower_of, strength}
 use Rattle.rhai_grammar.specs.Forms as form
 use Rattle.rhai_grammar.specs.Forms.{Primary, Base, Links, Operand, Arguments, Items, Elements, Fields, Run, Just}
@@ -21,7 +22,7 @@ use Rattle.rhai_grammar.specs.Trees.{tree}
 use Rattle.rhai_grammar.specs.Demands.{Demands, Next, Met, Missed}
 use Rattle.rhai_grammar.specs.Written as W
 use Rattle.rhai_grammar.specs.Verdicts.{operator_known}
-use Rattle.rhai_grammar.specs.Spots.{Side, Spot, height_after, side_fits}
+use Rattle.rhai_grammar.specs.Spots.{Side, Spot, filter_of, height_after, side_fits}
 use Rattle.rhai_reading.specs.Reading as R
 use Rattle.rhai_reading.specs.Reading.{Goal, Val}
 use Rattle.rhai_reading.specs.Histories.{State, Outcome}
@@ -41,26 +42,28 @@ use Rattle.rhai_reading.proofs.Shows.{Histories, Ensures, Tells, Halts, Answers,
 -- ---- runs
 
 -- the operator at the top doesn't go on with what stands there
-abbrev pub Ended : Run → Follower → Type 0
-Ended (Just x) v = Unit {0}
-Ended (Binary op pos l r) v = next_continues (strength (follower_of op)) v ≡ false
+abbrev pub Ended : ExprFilter → Run → Follower → Type 0
+Ended filter (Just x) v = Unit {0}
+Ended filter (Binary op pos l r) v = next_continues (strength (follower_of filter op)) v ≡ false
 
 -- what goes on with p fits on this side
-abbrev pub Suits : ℕ → Side → Type 0
-Suits p side = (l : Lexeme) → next_continues p (follower_of l) ≡ true → side_fits side (follower_of l) ≡ true
+abbrev pub Suits : ExprFilter → ℕ → Side → Type 0
+Suits filter p side =
+    (l : Lexeme) → next_continues p (follower_of filter l) ≡ true → side_fits filter side (follower_of filter l) ≡ true
 
 -- A run was read as far as s, where it is still to be seen whether a reserved symbol stands.
 pub record Stands (q : Spot) (from : Point) (L : Run) (s : Point) : Type 0 where
-  pub passes : Fits operator_known s → Passed (runs q) L from s
-  pub stops : (e : Refusal) → Fails (Next operator_known) s e → (k : Demands) → Way (W.run L q k) from (Lost e s)
+  pub passes : Fits (operator_known (filter_of q)) s → Passed (runs q) L from s
+  pub stops : (e : Refusal) → Fails (Next (operator_known (filter_of q))) s e → (k : Demands)
+      → Way (W.run L q k) from (Lost e s)
 
 -- A run was read, and nothing goes on with it.
 pub record RunRead (q : Spot) (p : ℕ) (from : Point) (x : Node) (t : Point) : Type 0 where
   pub form : Run
   pub is : tree form q.live ≡ x
   pub passes : Passed (runs q) form from t
-  pub off : next_continues p (follower_at t) ≡ false
-  pub known : Fits operator_known t
+  pub off : next_continues p (follower_at (filter_of q) t) ≡ false
+  pub known : Fits (operator_known (filter_of q)) t
 
 -- ---- the whole
 
@@ -96,13 +99,13 @@ Sound (R.Segments c w start before) s o = Answers (segments c w start before) s 
 Sound R.TextAfter s o = Answers text_afters s o
 Sound (R.Jump c w pos) s o = Answers (jump_values c w pos) s o
 Sound (R.NextKey c before) s o = Answers (next_keys c before) s o
-Sound R.NextOperator s o =
-    Tells (λ v t. (t ≡ s) × (v ≡ operator_in (follower_at s)) × Fits operator_known s)
-    (λ e u. Fails (Next operator_known) s e × (u.mode ≡ code) × (u.point ≡ s) × StandsAtLast e (cursor u)) o
+Sound (R.NextOperator filter) s o =
+    Tells (λ v t. (t ≡ s) × (v ≡ operator_in (follower_at filter s)) × Fits (operator_known filter) s)
+    (λ e u. Fails (Next (operator_known filter)) s e × (u.mode ≡ code) × (u.point ≡ s) × StandsAtLast e (cursor u)) o
 Sound (R.BinaryOp c w pos p lhs) s o =
     (q : Spot) (from : Point) (L : Run) → q.live ≡ w → tree L q.live ≡ lhs
-    → height_after q L ≡ record { settings = c; at = pos } → Suits p q.side → Ended L (follower_at s) → Stands q from L s
-    → Tells (RunRead q p from) (Halts (runs q) from) o
+    → height_after q L ≡ record { settings = c; at = pos } → filter_of q ≡ c.filter → Suits (filter_of q) p q.side
+    → Ended (filter_of q) L (follower_at (filter_of q) s) → Stands q from L s → Tells (RunRead q p from) (Halts (runs q) from) o
 Sound (R.ExprStatement c w) s o = Answers (expr_statements c w) s o
 Sound (R.VarName c w) s o = Answers (var_names c w) s o
 Sound (R.Initializer c w pos) s o = Answers (initializers c w pos) s o
