@@ -36,7 +36,7 @@ use Rattle.rhai_grammar.specs.Verdicts as V
 use Rattle.rhai_grammar.specs.Written as W
 use Rattle.rhai_grammar.specs.Written.{operands_fit}
 use Rattle.rhai_grammar.specs.Spots.{LinkSpot, Outermost, RightOf, Side, Spot, spot_after_bracket, spot_after_dot}
-use Rattle.rhai_grammar.specs.Spots.{spot_after_operand, height_after, outermost, place_of, right_side}
+use Rattle.rhai_grammar.specs.Spots.{filter_of, spot_after_operand, height_after, outermost, place_of, right_side}
 
 -- ---- one token
 
@@ -203,7 +203,7 @@ mutual
   run (form.Binary op at l r) q k h =
       run l q _ (λ a b d. (
         anything op,
-        run r (right_side op (height_after q l) q.live) (operands_fit op (tree l q.live) (tree r q.live) k) h,
+        run r (right_side op (height_after q l) q.live) (operands_fit (filter_of q) op (tree l q.live) (tree r q.live) k) h,
       ))
 
   evaluation : (x : ExprStatement) (c : Context) (w : Live) (k : Demands) → IsFair k → IsFair (W.expr_statement x c w k)

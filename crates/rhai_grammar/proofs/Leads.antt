@@ -88,7 +88,7 @@ raised (RightOf op height) h = test h
 
 -- the two ends of an expression
 pub expressed : (f : Run) (c : Context) (w : Live) {k : Demands}
-    → Leads code code (spelling f) (W.run f (outermost (level_up c) w) (W.ended k)) (W.ended k)
+    → Leads code code (spelling f) (W.run f (outermost (level_up c) w) (W.ended c k)) (W.ended c k)
     → Leads code code (spelling f) (W.expression f c w k) k
 expressed f c w h = next (all_of (on h (next here)))
 

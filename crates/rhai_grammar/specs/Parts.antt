@@ -34,6 +34,7 @@ use Rattle.rhai_grammar.specs.Spots.{LinkSpot}
 use Rattle.rhai_grammar.specs.Spots.{Outermost, RightOf}
 use Rattle.rhai_lower.specs.Texts.{same_text}
 use Rattle.rhai_grammar.specs.Contexts.{is_in_loop}
+use Rattle.rhai_grammar.specs.declared.filter.ExprFilter.{ExprFilter}
 use Rattle.rhai_grammar.specs.Constructs.{absent, guard_begins, guard_ends, guard_fault, iterated_fault}
 use Rattle.rhai_grammar.specs.Statements.{loop_variable_due}
 use Rattle.rhai_grammar.specs.Forms.{CatchName, LoopNames}
@@ -63,18 +64,19 @@ raise_after (RightOf op height) more = raise height more
 abbrev pub begun : Context → Demands → Demands
 begun context more = Next (room_due context) ▸ more
 
-abbrev pub ended : Demands → Demands
-ended more = Next run_ends ▸ more
+abbrev pub ended : Context → Demands → Demands
+ended context more = Next (run_ends context.filter) ▸ more
 
 -- An expression raises the level at its first token, and ends where no operator continues it. `inside` is what its run
 -- demands at the spot of an expression.
 abbrev pub as_expression : (inside : Spot → Demands → Demands) → Context → Live → Demands → Demands
-as_expression inside context live more = begun context (inside (outermost (level_up context) live) (ended more))
+as_expression inside context live more =
+    begun context (inside (outermost (level_up context) live) (ended context more))
 
 -- After its whole right side an operator joins its operands: for `&&` and `||` both have to be possible booleans.
-abbrev pub operands_fit : Lexeme → Node → Node → Demands → Demands
-operands_fit op x y more =
-    Next (side_ends op) ▸ Test (boolean_holds op x) (mismatched x) ▸ Test (boolean_holds op y) (mismatched y)
+abbrev pub operands_fit : ExprFilter → Lexeme → Node → Node → Demands → Demands
+operands_fit filter op x y more =
+    Next (side_ends filter op) ▸ Test (boolean_holds op x) (mismatched x) ▸ Test (boolean_holds op y) (mismatched y)
     ▸ more
 
 -- A property up to its value: no earlier property has its key.

@@ -17,7 +17,7 @@ use Rattle.rhai_grammar.specs.declared.role.OperandPlace.TheVariants.{Elsewhere}
 use Rattle.rhai_grammar.specs.Beginnings.{linking, is_bracket, is_dot}
 use Rattle.rhai_grammar.specs.declared.list.CommaList.TheVariants as lists
 use Rattle.rhai_grammar.specs.Signs.{sign_holds, malformed}
-use Rattle.rhai_grammar.specs.Strengths.{follower_of, is_operator}
+use Rattle.rhai_grammar.specs.Strengths.{is_operator}
 use Rattle.rhai_grammar.specs.Forms as form
 use Rattle.rhai_grammar.specs.Forms.{Primary, Base, Links, Operand, Arguments, Items, Elements, Fields, Run}
 use Rattle.rhai_grammar.specs.Forms.{Body, ExprStatement, Initializer, JumpValue, Segments, Statement, Statements}
@@ -36,7 +36,7 @@ use Rattle.rhai_grammar.specs.Verdicts.{operand_due, anything, after_word, uncal
 use Rattle.rhai_grammar.specs.Verdicts.{uncalled_member, list_due, close_or_argument, argument_due}
 use Rattle.rhai_grammar.specs.Verdicts.{argument_follows, item_due, no_item_due, key_due}
 use Rattle.rhai_grammar.specs.Verdicts.{operator_known, end_due}
-use Rattle.rhai_grammar.specs.Spots.{Spot, right_side, height_after, place_of, side_fits}
+use Rattle.rhai_grammar.specs.Spots.{Spot, right_side, height_after, place_of, side_fits, filter_of, follower_in}
 use Rattle.rhai_grammar.specs.Spots.{left_fits, LinkSpot, spot_after_operand, spot_after_bracket, spot_after_dot}
 use Rattle.rhai_grammar.specs.Contexts.{allows_looping, loop_body}
 use Rattle.rhai_grammar.specs.Constructs.{absent, construct_token, do_end_due}
@@ -189,13 +189,14 @@ abbrev mutual
   -- bind as the strengths say.
   pub run : Run → Spot → Demands → Demands
   run (form.Just x) spot more =
-      operand x spot.first spot.live (place_of spot.side) (Next operator_known ▸ raise_after spot.side more)
+      operand x spot.first spot.live (place_of spot.side) (
+      Next (operator_known (filter_of spot)) ▸ raise_after spot.side more)
   run (form.Binary op at left right) spot more =
       run left spot (
-      Shape (is_operator (follower_of op)) ▸ Shape (left_fits (follower_of op) left) ▸
-      Shape (side_fits spot.side (follower_of op)) ▸ Tok code (item op at) anything ▸
+      Shape (is_operator (follower_in spot op)) ▸ Shape (left_fits (filter_of spot) (follower_in spot op) left) ▸
+      Shape (side_fits (filter_of spot) spot.side (follower_in spot op)) ▸ Tok code (item op at) anything ▸
       run right (right_side op (height_after spot left) spot.live) (
-      operands_fit op (tree left spot.live) (tree right spot.live) more))
+      operands_fit (filter_of spot) op (tree left spot.live) (tree right spot.live) more))
 
   -- An expression, or an assignment. What is assigned to is tested after the value.
   pub expr_statement : ExprStatement → Context → Live → Demands → Demands
