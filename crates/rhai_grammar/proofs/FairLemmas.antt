@@ -1,5 +1,5 @@
 -- No token is both required and refused at one place.
-use Rattle.std.proofs.Common.{◌≡◌, ℕ, ◌+◌, Bool, true, false, refl, ap, subst, inl, inr, if◌then◌else◌}
+use Rattle.std.proofs.Common.{◌≡◌, ℕ, ◌+◌, Bool, true, false, refl, sym, ◌∙◌, ap, subst, inl, inr, if◌then◌else◌}
 use Rattle.std.specs.Prelude.{Option, Some, None}
 use Rattle.rhai_lower.specs.Nodes.{Properties, no_properties, position_of, property, with_property}
 use Rattle.rhai_lower.specs.Lexemes.{Lexeme, Interpolated, Name, Reserved, Sign, text_of}
@@ -21,7 +21,7 @@ use Rattle.rhai_grammar.specs.Chains.{index_refusal, last_fault}
 use Rattle.rhai_grammar.specs.Contexts.{Context, Live, in_block, level_up, loop_body}
 use Rattle.rhai_grammar.specs.Delivered as M
 use Rattle.rhai_grammar.specs.Delivered.{Item, Mode, Point, is_memory, next_at, past}
-use Rattle.rhai_grammar.specs.Demands.{◌▸◌, Ahead, Blames, Demands, Fine, Met, Missed, Next, Nothing, Otherwise, Refused, Refuses, Shape, Test, Tok, Verdict, Wrong, verdict}
+use Rattle.rhai_grammar.specs.Demands.{◌▸◌, Ahead, Blames, Demands, Fine, Literally, Met, Missed, Next, Nothing, Otherwise, Refused, Refuses, Shape, Test, Tok, Verdict, Wrong, verdict}
 use Rattle.rhai_grammar.specs.Forms as form
 use Rattle.rhai_grammar.specs.Forms.{Arguments, Base, Body, Branch, CatchName, Conditional, Construct, Elements, ExprStatement, Fields, Initializer, Items, JumpValue, Links, LoopNames, Operand, Primary, Run, Segments, Statement, Statements}
 use Rattle.rhai_grammar.specs.Definitions.{after_statement, catch_live, loop_live}
@@ -282,6 +282,18 @@ unrefused Otherwise at e h r = r
 stands : (others : Lexeme → Verdict) (i due : Item) (e : Refusal) → is_refused (verdict others due.lexeme) ≡ false → i ≡ due → Refused others i e → ⊥
 stands others i due e h same r = unrefused (verdict others due.lexeme) due.at e h (subst (λ x. Refused others x e) same r)
 
+-- demands that are met from one point on are met up to one other
+one_end : (ds : Demands) (s t u : Point) → Met ds s t → Met ds s u → t ≡ u
+one_end Nothing s t u m n = sym m ∙ n
+one_end (Tok mode i others ▸ ds) s t u m n = one_end ds (past mode s) t u m.1 n.1
+one_end (Ahead i others ▸ ds) s t u m n = one_end ds s t u m.1 n.1
+one_end (Next v ▸ ds) s t u m n = one_end ds s t u m.1 n.1
+one_end (Test holds d ▸ ds) s t u m n = one_end ds s t u m.1 n.1
+one_end (Shape holds ▸ ds) s t u m n = one_end ds s t u m.1 n.1
+one_end (Literally ds ▸ more) s t u m n =
+    let same = one_end ds s n.0 m.0 n.1 m.1 in
+    one_end more m.0 t u m.2 (subst (λ p. Met more p u) same n.2)
+
 met_or_missed : (ds : Demands) (s t u : Point) (e : Refusal) (n : Mode) → IsFair ds → Met ds s t → Missed ds s e n u → ⊥
 met_or_missed Nothing s t u e o h m n = n
 met_or_missed (Tok mode i others ▸ ds) s t u e o h m (inl r) = stands others (next_at mode s) i e h.0 m.0 r.0
@@ -295,6 +307,10 @@ met_or_missed (Next v ▸ ds) s t u e o h m (inr n) = met_or_missed ds s t u e o
 met_or_missed (Test holds d ▸ ds) s t u e o h m (inl r) = let a = m.0 in let b = r.0 in absurd cc
 met_or_missed (Test holds d ▸ ds) s t u e o h m (inr n) = met_or_missed ds s t u e o h m.1 n.1
 met_or_missed (Shape holds ▸ ds) s t u e o h m n = met_or_missed ds s t u e o (h m.0) m.1 n.1
+met_or_missed (Literally ds ▸ more) s t u e o h m (inl r) = met_or_missed ds s m.0 u r.0 o h.0 m.1 r.1
+met_or_missed (Literally ds ▸ more) s t u e o h m (inr n) =
+    let same = one_end ds s n.0 m.0 n.1 m.1 in
+    met_or_missed more m.0 t u e o h.1 m.2 (subst (λ p. Missed more p e o u) same n.2)
 
 pub forms_are_fair : FormsAreFair
 forms_are_fair = record {

@@ -1,5 +1,5 @@
 -- What each form demands leads, over the tokens of its spelling, to what comes after it.
-use Rattle.std.proofs.Common.{◌≡◌, ℕ, ◌+◌, Bool, true, false, List, [], ◌∷◌, ◌++◌, append-nil, refl, subst}
+use Rattle.std.proofs.Common.{◌≡◌, ℕ, ◌+◌, Bool, true, false, List, [], ◌∷◌, ◌++◌, append-nil, append_assoc, refl, sym, subst}
 use Rattle.std.specs.Prelude.{Option, Some, None}
 use Rattle.rhai_lower.specs.Lexemes.{Lexeme, Sign, text_of}
 use Rattle.rhai_lower.specs.Nodes.{Properties, no_properties, position_of, property, with_property}
@@ -15,7 +15,7 @@ use Rattle.rhai_grammar.specs.Constructs.{guard_fault, iterated_fault}
 use Rattle.rhai_grammar.specs.Contexts.{Context, Live, in_block, level_up, loop_body}
 use Rattle.rhai_grammar.specs.Definitions.{after_statement, catch_live, loop_live}
 use Rattle.rhai_grammar.specs.Delivered.{Mode, code, Item, Taken, is_end}
-use Rattle.rhai_grammar.specs.Demands.{◌▸◌, Ahead, Demands, Next, Shape, Test, Tok, Verdict}
+use Rattle.rhai_grammar.specs.Demands.{◌▸◌, Ahead, Demands, Literally, Next, Nothing, Shape, Test, Tok, Verdict}
 use Rattle.rhai_grammar.specs.Forms as form
 use Rattle.rhai_grammar.specs.Forms.{Arguments, Base, Body, Elements, ExprStatement, Fields, Initializer, Items, Links}
 use Rattle.rhai_grammar.specs.Forms.{Branch, CatchName, Conditional, Construct, JumpValue, LoopNames, Operand, Primary}
@@ -50,6 +50,9 @@ pub data Leads : Mode → Mode → List Taken → Demands → Demands → Type 0
       → Leads m n ts (Test b e ▸ ds) k
   shape : {m n : Mode} {ts : List Taken} {b : Bool} {ds k : Demands} → (b ≡ true → Leads m n ts ds k)
       → Leads m n ts (Shape b ▸ ds) k
+  -- what is demanded literally, up to its end, and then what comes after it
+  literally : {m n o : Mode} {a b : List Taken} {ds more k : Demands} → Leads m n a ds Nothing → Leads n o b more k
+      → Leads m o (a ++ b) (Literally ds ▸ more) k
 
 -- one after the other
 pub on : {m n o : Mode} {a b : List Taken} {ds k j : Demands} → Leads m n a ds k → Leads n o b k j
@@ -60,6 +63,8 @@ on (ahead e r) h = ahead e (on r h)
 on (next r) h = next (on r h)
 on (test r) h = test (on r h)
 on (shape f) h = shape (λ e. on (f e) h)
+on {m = m} {o = o} {b = b} {j = j} (literally {a = x} {b = y} {ds = ds} {more = more} p r) h =
+    subst (λ ts. Leads m o ts (Literally ds ▸ more) j) (sym (append_assoc x y b)) (literally p (on r h))
 
 -- followed by what has no tokens
 pub all_of : {m n : Mode} {a : List Taken} {ds k : Demands} → Leads m n (a ++ []) ds k → Leads m n a ds k
