@@ -32,6 +32,10 @@ use Rattle.rhai_grammar.specs.declared.role.Closing.TheVariants.{Brace, EndMark}
 use Rattle.rhai_grammar.specs.Laws.{FormsAreFair, IsFair, is_refused}
 use Rattle.rhai_grammar.specs.Literals.{KeyPlace, NoKey, is_key}
 use Rattle.rhai_grammar.specs.Trees.{argument_trees, base_tree, bracket_link, caught, caught_name, counter_of, loop_name, member_link, method_tree, primary_tree, tree}
+use Rattle.rhai_grammar.specs.Contexts.{in_case}
+use Rattle.rhai_grammar.specs.Forms.{Action, Arms, CaseGuard, Cases}
+use Rattle.rhai_grammar.specs.Switches.{Collected, arm_fault, nothing_collected, with_arm_collected}
+use Rattle.rhai_grammar.specs.Trees.{action_ends, action_tree, case_trees, guard_tree}
 use Rattle.rhai_grammar.specs.Verdicts as V
 use Rattle.rhai_grammar.specs.Written as W
 use Rattle.rhai_grammar.specs.Written.{operands_fit}
@@ -72,6 +76,7 @@ construct_begins : (c : Context) (k : Kind) → may_be_value c k ≡ true → be
 construct_begins c kind.Try e = absurd cc
 construct_begins c kind.Block e = e
 construct_begins c kind.If e = e
+construct_begins c kind.Switch e = e
 construct_begins c kind.While e = e
 construct_begins c kind.Loop e = e
 construct_begins c kind.Do e = e
@@ -117,6 +122,10 @@ named (form.Counted opening name at comma counter counter_at closing) k h = (ref
 caught_by : (x : CatchName) (k : Demands) → IsFair k → IsFair (W.catch_name x k)
 caught_by form.NoName k h = h
 caught_by (form.Caught opening name at closing) k h = (refl, (refl, (refl, h)))
+
+separated : (comma : Option Position) (itself : Bool) (k : Demands) → IsFair k → IsFair (W.separated comma itself k)
+separated None itself k h = h
+separated (Some at) itself k h = (refl, h)
 
 mutual
   primary : (x : Primary) (c : Context) (w : Live) (p : OperandPlace) (k : Demands) → IsFair k → IsFair (W.primary x c w p k)
@@ -235,6 +244,8 @@ mutual
   construct : (x : Construct) (c : Context) (w : Live) (at : Position) (k : Demands) → IsFair k → IsFair (W.construct x c w at k)
   construct (form.Block f) c w at k h = block f c w k h
   construct (form.If x) c w at k h = conditional x c w at k h
+  construct (form.Switch item opening list) c w at k h =
+      run item (outermost (level_up c) w) _ (refl, arms list nothing_collected c w k h)
   construct (form.While guard opening f) c w at k h =
       guarded guard c w _ (run guard _) (refl, block f (level_up (loop_body c)) w k h)
   construct (form.Loop opening f) c w at k h = (refl, block f (level_up (loop_body c)) w k h)
@@ -255,6 +266,31 @@ mutual
   branch form.NoElse c w at k h = h
   branch (form.Else else_at opening f) c w at k h = (refl, (refl, block f (level_up c) w k h))
   branch (form.ElseIf else_at if_at x) c w at k h = (refl, (refl, conditional x (level_up c) w if_at k h))
+
+  arms : (x : Arms) (b : Collected) (c : Context) (w : Live) (k : Demands) → IsFair k → IsFair (W.arms x b c w k)
+  arms (form.NoArm closing) b c w k h = (refl, h)
+  arms (form.Arm xs guard arrow does comma rest) b c w k h =
+      let next = with_arm_collected b (case_trees xs w) (guard_tree guard w) (action_tree does w) in
+      cases xs c w _ (case_guard guard c w _ (
+        refl,
+        action does c w _ (
+            unfaulted (arm_fault b (case_trees xs w)) _ (separated comma (action_ends does w) _ (arms rest next c w k h))),
+      ))
+  arms (form.DefaultArm at arrow does comma closing) b c w k h =
+      (refl, (refl, action does c w _ (separated comma (action_ends does w) _ (refl, h))))
+
+  cases : (x : Cases) (c : Context) (w : Live) (k : Demands) → IsFair k → IsFair (W.cases x c w k)
+  cases (form.LastCase f) c w k h = (run f (outermost (level_up (in_case c)) (in_block w)) _ tt, h)
+  cases (form.Case f pipe rest) c w k h =
+      (run f (outermost (level_up (in_case c)) (in_block w)) _ tt, (refl, cases rest c w k h))
+
+  case_guard : (x : CaseGuard) (c : Context) (w : Live) (k : Demands) → IsFair k → IsFair (W.case_guard x c w k)
+  case_guard form.NoGuard c w k h = h
+  case_guard (form.Guard at f) c w k h = (refl, guarded f c w k (run f _) h)
+
+  action : (x : Action) (c : Context) (w : Live) (k : Demands) → IsFair k → IsFair (W.action x c w k)
+  action (form.Does f) c w k h = λ d. statement f c (in_block w) k h
+  action (form.Gives f) c w k h = λ d. run f (outermost (level_up c) w) _ h
 
   statements : (xs : Statements) (closing : Closing) (c : Context) (w : Live) (k : Demands) → IsFair k → IsFair (W.statements xs closing c w k)
   statements form.NoStatement closing c w k h = h

@@ -51,6 +51,10 @@ has_block_values context = settings.block_values context.settings
 abbrev pub has_if_values : Context → Bool
 has_if_values context = settings.if_values context.settings
 
+-- a `switch` is an operand
+abbrev pub has_switch_values : Context → Bool
+has_switch_values context = settings.switch_values context.settings
+
 -- a loop is an operand
 abbrev pub has_loop_values : Context → Bool
 has_loop_values context = allows_looping context && settings.loop_values context.settings

@@ -8,7 +8,8 @@ use Rattle.rhai_grammar.specs.Delivered.{Mode, code, Point, Ends, Taken, ask, is
 use Rattle.rhai_grammar.specs.Cursors.{Cursor, delivered}
 use Rattle.rhai_grammar.specs.Seen.{Gives, leads}
 use Rattle.rhai_grammar.specs.Contexts.{Context, Live}
-use Rattle.rhai_grammar.specs.Forms.{Base, Links, NoLink, Bracket, Property, Method, Run, Group, Plain, Linked, Just, Statements}
+use Rattle.rhai_grammar.specs.Forms.{Base, Links, NoLink, Bracket, Property, Method, Run, Group, Plain, Linked, Just}
+use Rattle.rhai_grammar.specs.Forms.{Statements}
 use Rattle.rhai_grammar.specs.Trees.{statement_trees, tree}
 use Rattle.rhai_grammar.specs.Definitions.{after_statements}
 use Rattle.rhai_grammar.specs.Shapes.{run_shape, node_shape, script_shape, statements_shape}

@@ -1,5 +1,5 @@
 -- Demands that several forms have.
-use Rattle.std.specs.Prelude.{false, not, Option, Some, None}
+use Rattle.std.specs.Prelude.{Bool, false, not, Option, Some, None}
 use Rattle.rhai_lower.specs.Texts.{Text}
 use Rattle.rhai_lower.specs.Lexemes.{Lexeme, Name, Sign, text_of}
 use Rattle.rhai_lower.specs.Nodes.{Node, Properties}
@@ -23,7 +23,7 @@ use Rattle.rhai_grammar.specs.Operators.{boolean_holds, mismatched}
 use Rattle.rhai_grammar.specs.Forms as form
 use Rattle.rhai_grammar.specs.Definitions.{may_define}
 use Rattle.rhai_grammar.specs.Statements.{name_due}
-use Rattle.rhai_grammar.specs.Demands.{Demands, Tok, Next}
+use Rattle.rhai_grammar.specs.Demands.{Demands, Nothing, Tok, Next, Literally}
 use Rattle.rhai_grammar.specs.Demands.{Test, Shape, ◌▸◌}
 use Rattle.rhai_grammar.specs.Verdicts.{unless_due, anything, member_due}
 use Rattle.rhai_grammar.specs.Verdicts.{after_method}
@@ -38,6 +38,8 @@ use Rattle.rhai_grammar.specs.declared.filter.ExprFilter.{ExprFilter}
 use Rattle.rhai_grammar.specs.Constructs.{absent, guard_begins, guard_ends, guard_fault, iterated_fault}
 use Rattle.rhai_grammar.specs.Statements.{loop_variable_due}
 use Rattle.rhai_grammar.specs.Forms.{CatchName, LoopNames}
+use Rattle.rhai_grammar.specs.Switches.{arm_ends}
+use Rattle.rhai_grammar.specs.Contexts.{in_block, in_case}
 
 abbrev pub due_token : DueToken → Position → Demands → Demands
 due_token wanted at more = Tok code (item (Sign (token_of wanted)) at) (unless_due wanted) ▸ more
@@ -145,6 +147,15 @@ catch_name form.NoName more = Next (absent due.LeftParen) ▸ more
 catch_name (form.Caught opening name at closing) more =
     Tok code (item (Sign LeftParen) opening) anything ▸ Tok code (item (Name name) at) name_due ▸
     due_token due.RightParen closing more
+
+-- After an arm of `switch` stands a comma, or what may follow without one.
+abbrev pub separated : (comma : Option Position) → (itself : Bool) → Demands → Demands
+separated None itself more = Next (arm_ends itself) ▸ more
+separated (Some comma) itself more = Tok code (item (Sign Comma) comma) anything ▸ more
+
+-- A case is in a block of its own, with `|` between the cases, and each error in it is that of a missing literal.
+abbrev pub as_case : (inside : Spot → Demands → Demands) → Context → Live → Demands → Demands
+as_case inside context live more = Literally (as_expression inside (in_case context) (in_block live) Nothing) ▸ more
 
 -- `break` and `continue` stand in a loop
 abbrev pub loop_at : Context → Position → Demands → Demands

@@ -6,6 +6,7 @@ pub mod Literals
 pub mod Chains
 pub mod Runs
 pub mod Statements
+pub mod Switches
 pub mod Constructs
 pub mod Whole
 use Rattle.std.proofs.Common.{◌≡◌, ℕ, zero, suc, Bool}
@@ -33,6 +34,7 @@ use Rattle.rhai_reading.proofs.Sound.Chains as K
 use Rattle.rhai_reading.proofs.Sound.Runs as N
 use Rattle.rhai_reading.proofs.Sound.Statements as T
 use Rattle.rhai_reading.proofs.Sound.Constructs as B
+use Rattle.rhai_reading.proofs.Sound.Switches as X
 use Rattle.rhai_reading.proofs.Sound.Whole as H
 
 -- one step, where all calls are sound
@@ -71,6 +73,12 @@ step ih (R.Branch c w pos) s b = tells (B.branch ih c w s pos b)
 step {call = call} ih R.LoopNames s b = tells (B.loop_names call s b)
 step {call = call} ih R.Catch s b = tells (B.catch_name call s b)
 step {call = call} ih R.DoEnd s b = tells (B.end_of_do call s b)
+step ih (R.Arms c w before) s b = tells (X.arms ih c w before s b)
+step ih (R.Cases c w before) s b = tells (X.case_list ih c w s before b)
+step ih (R.CaseGuard c w) s b = tells (X.case_guard ih c w s b)
+step ih (R.Action c w) s b = tells (X.action ih c w s b)
+step {call = call} ih (R.ArmEnd itself) s b = tells (X.arm_end call itself s b)
+step {call = call} ih (R.DefaultEnd default) s b = tells (X.default_end call default s b)
 step {call = call} ih R.BlockStart s b = tells (L.block_start call s b)
 step ih (R.Inside c w) s b = tells (T.inside ih c w s b)
 step ih (R.Block c w opening) s b = tells (T.block ih c w opening s b)

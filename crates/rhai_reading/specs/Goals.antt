@@ -27,6 +27,7 @@ use Rattle.rhai_grammar.specs.declared.role.Construct.{Construct as Kind}
 use Rattle.rhai_grammar.specs.declared.role.OperandPlace.{OperandPlace}
 use Rattle.rhai_grammar.specs.Beginnings.{is_name}
 use Rattle.rhai_grammar.specs.Statements.{no_variable}
+use Rattle.rhai_grammar.specs.Switches.{Collected}
 use Rattle.rhai_lower.specs.Lexemes.{text_of}
 
 -- What is read by a call: a constructor for each reader of the code, with what it is given.
@@ -106,6 +107,18 @@ pub data Goal : Type 0 where
   Catch : Goal
   -- the `while` or `until` after the block of `do`
   DoEnd : Goal
+  -- the arms of `switch`, after those that were collected, up to the `}`
+  Arms : Context → Live → (before : Collected) → Goal
+  -- the cases of an arm, after these
+  Cases : Context → Live → (before : Nodes) → Goal
+  -- the guard of an arm, if it has one
+  CaseGuard : Context → Live → Goal
+  -- what an arm does, and whether it needs no comma after it
+  Action : Context → Live → Goal
+  -- what follows an arm: a comma, or what may stand there without one, if the arm needs none
+  ArmEnd : (itself : Bool) → Goal
+  -- the `}` after the default arm, whose `_` is at a position
+  DefaultEnd : (default : Position) → Goal
 
 -- a script, up to the end mark
 abbrev pub Script : Context → Live → Goal
@@ -152,6 +165,12 @@ Val (Branch c w at) = node.Block
 Val LoopNames = Text × Option Text
 Val Catch = Option (Text × Position)
 Val DoEnd = Bool
+Val (Arms c w before) = Collected
+Val (Cases c w before) = Nodes
+Val (CaseGuard c w) = Node
+Val (Action c w) = Node × Bool
+Val (ArmEnd itself) = Unit {0}
+Val (DefaultEnd default) = Unit {0}
 
 -- a reader that gives an A
 pub data Prog (A : Type 0) : Type 0 where

@@ -29,6 +29,9 @@ use Rattle.rhai_lower.specs.Nodes as node
 use Rattle.rhai_grammar.specs.Forms as form
 use Rattle.rhai_grammar.specs.Forms.{Body, Branch, Conditional, Construct, ExprStatement, Initializer, JumpValue}
 use Rattle.rhai_grammar.specs.Forms.{Segments, Statement, Statements}
+use Rattle.rhai_grammar.specs.Forms.{Action, Arms, CaseGuard, Cases}
+use Rattle.rhai_grammar.specs.Switches.{Collected}
+use Rattle.rhai_reading.proofs.SwitchKinds.{actions, arm_lists, case_guards, cases}
 use Rattle.rhai_grammar.specs.Constructs.{kind_of}
 use Rattle.rhai_reading.proofs.FormKinds.{branches, conditionals, constructs}
 use Rattle.rhai_grammar.specs.declared.role.OperandPlace.{OperandPlace}
@@ -200,6 +203,18 @@ ConditionalRead x = (c : Context) (w : Live) (at : Position) → IsRead (R.Condi
 
 abbrev pub BranchRead : Branch → Type 0
 BranchRead x = (c : Context) (w : Live) (at : Position) → IsRead (R.Branch c w at) (branches c w at) x
+
+abbrev pub ArmsRead : Arms → Type 0
+ArmsRead x = (c : Context) (w : Live) (before : Collected) → IsRead (R.Arms c w before) (arm_lists c w before) x
+
+abbrev pub CasesRead : Cases → Type 0
+CasesRead x = (c : Context) (w : Live) (before : Nodes) → IsRead (R.Cases c w before) (cases c w before) x
+
+abbrev pub CaseGuardRead : CaseGuard → Type 0
+CaseGuardRead x = (c : Context) (w : Live) → IsRead (R.CaseGuard c w) (case_guards c w) x
+
+abbrev pub ActionRead : Action → Type 0
+ActionRead x = (c : Context) (w : Live) → IsRead (R.Action c w) (actions c w) x
 
 abbrev pub BodyRead : Body → Type 0
 BodyRead x = (c : Context) (w : Live) (at : Position) → IsRead (R.Block c w at) (blocks c w at) x

@@ -35,6 +35,7 @@ use Rattle.rhai_reading.proofs.FormKinds.{expr_statements, var_names, initialize
 use Rattle.rhai_reading.proofs.FormKinds.{block_ends, block_starts, definitions, insides, jump_values, segments, text_afters}
 use Rattle.rhai_reading.proofs.FormKinds.{BracedForm, CatchForm, DoForm, LoopForm, OfKind, braced, branches, catches}
 use Rattle.rhai_reading.proofs.FormKinds.{conditionals, constructs, do_ends, guards, iterated_values, loops}
+use Rattle.rhai_reading.proofs.SwitchKinds.{actions, arm_ends, arm_lists, case_guards, cases, default_ends}
 use Rattle.rhai_reading.proofs.Looks.{op_at, follower_at, operator_in}
 use Rattle.rhai_reading.proofs.Paths.{Fits, Fails, Way, Lost}
 use Rattle.rhai_reading.proofs.Shows.{Histories, Ensures, Tells, Halts, Answers, Passed}
@@ -125,6 +126,12 @@ Sound (R.Branch c w at) s o = Answers (branches c w at) s o
 Sound R.LoopNames s o = Answers loops s o
 Sound R.Catch s o = Answers catches s o
 Sound R.DoEnd s o = Answers do_ends s o
+Sound (R.Arms c w before) s o = Answers (arm_lists c w before) s o
+Sound (R.Cases c w before) s o = Answers (cases c w before) s o
+Sound (R.CaseGuard c w) s o = Answers (case_guards c w) s o
+Sound (R.Action c w) s o = Answers (actions c w) s o
+Sound (R.ArmEnd itself) s o = Answers (arm_ends itself) s o
+Sound (R.DefaultEnd default) s o = Answers (default_ends default) s o
 
 pub record AllSound (call : Histories) : Type 0 where
   pub of : (g : Goal) (s : Point) (b : Bool) → Sound g s (call g (at s b))
@@ -164,9 +171,16 @@ any_catch = record { at = nowhere; name = form.NoName }
 abbrev pub any_do_end : DoForm
 any_do_end = record { negated = false; at = nowhere }
 
+abbrev pub any_arms : form.Arms
+any_arms = form.NoArm nowhere
+
+abbrev pub any_action : form.Action
+any_action = form.Does (form.EmptyStatement nowhere)
+
 abbrev pub any_construct : (kind : Kind) → OfKind kind
 any_construct kind.Block = record { construct = form.Block any_body; is = refl }
 any_construct kind.If = record { construct = form.If any_conditional; is = refl }
+any_construct kind.Switch = record { construct = form.Switch any_run nowhere any_arms; is = refl }
 any_construct kind.While = record { construct = form.While any_run nowhere any_body; is = refl }
 any_construct kind.Loop = record { construct = form.Loop nowhere any_body; is = refl }
 any_construct kind.Do = record { construct = form.Do nowhere any_body false nowhere any_run; is = refl }
