@@ -164,6 +164,10 @@ conditional language frame settings = reading.Conditional (context_of language s
 abbrev pub branch : LanguageValue → FrameValue → ParseSettings → Goal
 branch language frame settings = reading.Branch (context_of language settings) (live_of frame) settings.pos
 
+-- the variables of `for`, and its `in`
+abbrev pub loop_names : Goal
+loop_names = reading.LoopNames
+
 -- ---- what comes of it
 
 -- lists of the code's nodes, properties and links

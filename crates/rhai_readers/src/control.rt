@@ -8,9 +8,9 @@ ghost use Rattle.rhai_grammar.specs.Constructs.{guard_fault, iterated_fault};
 ghost use Rattle.rhai_grammar.specs.Cursors.{Cursor, cursor_of, left};
 ghost use Rattle.rhai_grammar.specs.Definitions.{catch_live, loop_live};
 ghost use Rattle.rhai_grammar.specs.Trees.{caught_name};
-ghost use Rattle.rhai_reading.specs.Reading.{Catch, DoEnd, LoopNames, guard_on, iterated_on};
+ghost use Rattle.rhai_reading.specs.Reading.{Catch, DoEnd, guard_on, iterated_on};
 ghost use Rattle.rhai_reading.specs.Running.{Caller, Gives, exec, result_of};
-ghost use Rattle.rhai_readers.specs.Readers.{loop_view, name_view};
+ghost use Rattle.rhai_readers.specs.Readers.{loop_names, loop_view, name_view};
 
 use rhai_base::Frame;
 use rhai_base::leaves::constructs::{end_do, guard_ends, test_counter};
@@ -23,6 +23,7 @@ use std::alloc::{AllocError, Global};
 use std::rc::RcStr;
 
 /// The variables of a `for` loop.
+#[derive(Drop)]
 pub struct LoopNames {
     /// The variable that takes the values.
     pub name: RcStr,
@@ -33,7 +34,7 @@ pub struct LoopNames {
 /// The variables of a `for` loop, and the `in` after them; all are taken.
 #[tactic(auto, using(rhai_reading::proofs::Steps::step_loop_names))]
 pub(crate) fn next_loop_names(alloc: Global, input: &mut TokenStream) -> ParseResult<LoopNames>
-    ensures gives { Gives loop_view (result_of LoopNames (cursor_of input.old)) result (cursor_of input.new) }
+    ensures gives { Gives loop_view (result_of loop_names (cursor_of input.old)) result (cursor_of input.new) }
     ensures shorter { left (cursor_of input.new).tokens ≤ left (cursor_of input.old).tokens }
 {
     let counted = pass_token(input, DueToken::LeftParen)?;
