@@ -1,9 +1,10 @@
-//! Operations on trees that do not use the stream: signs, operators and links with their operands, statements, segments
-//! of interpolated strings, and tests on trees.
+//! Operations on trees that do not use the stream: signs, operators and links with their operands, statements,
+//! constructs, segments of interpolated strings, and tests on trees.
 #![tactic(auto)]
 
 mod call;
 pub mod chain;
+pub mod construct;
 pub mod kind;
 pub mod operator;
 pub mod sign;
@@ -12,12 +13,14 @@ pub mod strings;
 pub mod target;
 
 pub use chain::{Link, LinkKind, indexed_operand, make_chain, test_index, test_links};
+pub use construct::{make_do, make_for, make_if, make_try, make_while, test_guard, test_iterated};
 pub use kind::{index_fault, is_constant, is_literal_value, not_boolean, not_iterable};
 pub use operator::make_binary;
 pub use sign::make_unary;
 pub use statement::{
-    ends_itself, make_assignment, make_block, make_block_statement, make_block_value,
-    make_definition, make_expression, make_jump, make_jump_value, push_statement,
+    ends_itself, make_assignment, make_block, make_block_statement, make_block_value, make_break,
+    make_continue, make_definition, make_expression, make_jump, make_statement_value, no_block,
+    push_statement,
 };
 pub use strings::{push_segment, push_text};
 pub use target::{slot_of, test_target};

@@ -1,37 +1,41 @@
-//! Statements: which end by themselves, lists of them, and the nodes of definitions, assignments, blocks and jumps.
+//! Statements: which end by themselves, lists of them, the nodes of definitions, assignments, blocks and jumps, and
+//! statements as operands.
 
-ghost use Rattle.std.specs.Prelude.{◌≡◌, IfOk, OnOk, false, option_map};
+ghost use Rattle.std.specs.Prelude.{◌≡◌, IfOk, OnOk, false, option_map, true};
 ghost use Rattle.std.specs.Int.NonZero.{non_zero_usize_get};
 ghost use Rattle.std.specs.Rc.{rc_str_bytes};
 ghost use Rattle.rhai_lower.specs.Lexemes.{lexeme};
-ghost use Rattle.rhai_lower.specs.Nodes.{assignment, block_of_one, block_statement, block_value, braces, expression};
-ghost use Rattle.rhai_lower.specs.Nodes.{return_statement, var_statement};
+ghost use Rattle.rhai_lower.specs.Nodes.{absent, assignment, block_statement, block_value, braces, break_loop, expression};
+ghost use Rattle.rhai_lower.specs.Nodes.{made_block, return_statement, var_statement};
 ghost use Rattle.rhai_lower.specs.View.{block_view, statement_view, statement_views, view};
 ghost use Rattle.rhai_grammar.specs.Statements.{ends_itself};
 ghost use Rattle.rhai_grammar.specs.Targets.{update_of};
 ghost use Rattle.rhai_grammar.specs.Trees.{with_kept};
-ghost use Rattle.rhai_trees.specs.Statements.{is_empty, optional_view};
+ghost use Rattle.rhai_grammar.specs.Trees as tree;
+ghost use Rattle.rhai_trees.specs.Statements.{boxed_view, is_empty, optional_view};
 
 use rhai_lower::{BinaryExpr, Expr, Position, Stmt, StmtBlock, Token};
 use std::alloc::{AllocError, Global};
 use std::num::NonZeroUsize;
 use std::rc::RcStr;
 
-/// Whether a statement ends by itself, so that no `;` has to follow it: an empty one, or a block. Does not allocate.
+/// Whether a statement ends by itself, so that no `;` has to follow it: an empty one, or a construct other than `do`,
+/// which ends with its guard. Does not allocate.
 pub fn ends_itself(statement: &Stmt) -> bool
     ensures { result ≡ ends_itself (statement_view statement.now) }
 {
     match statement {
-        Stmt::Noop(_) | Stmt::Block(_) => true,
-        Stmt::If(_, _)
+        Stmt::Noop(_)
+        | Stmt::If(_, _)
         | Stmt::Switch { .. }
         | Stmt::While(_, _)
-        | Stmt::Do { .. }
         | Stmt::For(_, _)
+        | Stmt::Block(_)
+        | Stmt::TryCatch(_, _) => true,
+        Stmt::Do { .. }
         | Stmt::Var { .. }
         | Stmt::Assignment { .. }
         | Stmt::Expr(_)
-        | Stmt::TryCatch(_, _)
         | Stmt::BreakLoop { .. }
         | Stmt::Return { .. }
         | Stmt::Import { .. }
@@ -165,6 +169,23 @@ pub fn make_block_value(alloc: Global, block: StmtBlock) -> Result<Expr, AllocEr
     Ok(Expr::Stmt(Box::new(alloc, block)?))
 }
 
+/// A block without statements and without position, which stands for an absent `else`. Does not allocate.
+pub fn no_block(alloc: Global) -> StmtBlock
+    ensures { block_view result ≡ tree.no_block }
+{
+    make_block(Vec::new(alloc), Position::NONE, Position::NONE)
+}
+
+// The value of a jump, if it has one, in a box.
+fn boxed(alloc: Global, value: Option<Expr>) -> Result<Option<Box<Expr>>, AllocError>
+    ensures { IfOk result (λ v. boxed_view v ≡ optional_view value) }
+{
+    match value {
+        Some(value) => Ok(Some(Box::new(alloc, value)?)),
+        None => Ok(None),
+    }
+}
+
 /// A `return`, or with `throws` a `throw`, which is at `pos`, with its value, if it has one. Returns `AllocError` if
 /// memory runs out.
 #[tactic(auto, using(crate::proofs::StatementLemmas::jumps))]
@@ -176,24 +197,38 @@ pub fn make_jump(
 ) -> Result<Stmt, AllocError>
     ensures { IfOk result (λ s. statement_view s ≡ return_statement (optional_view value) throws pos) }
 {
-    let value = match value {
-        Some(value) => Some(Box::new(alloc, value)?),
-        None => None,
-    };
+    let value = boxed(alloc, value)?;
     Ok(Stmt::Return { value, throws, pos })
 }
 
-/// A `return` or `throw` as an operand: a block of this one statement, which starts at it and has no end. The arguments
-/// are those of `make_jump`. Returns `AllocError` if memory runs out.
-pub fn make_jump_value(
-    alloc: Global,
-    value: Option<Expr>,
-    throws: bool,
-    pos: Position,
-) -> Result<Expr, AllocError>
-    ensures { IfOk result (λ e. view e
-        ≡ block_value (block_of_one (return_statement (optional_view value) throws pos))) }
+/// A `break` at `pos` with its value, if it has one. Returns `AllocError` if memory runs out.
+#[tactic(auto, using(crate::proofs::StatementLemmas::jumps))]
+pub fn make_break(alloc: Global, value: Option<Expr>, pos: Position) -> Result<Stmt, AllocError>
+    ensures { IfOk result (λ s. statement_view s ≡ break_loop (optional_view value) true pos) }
 {
-    let jump = make_jump(alloc, value, throws, pos)?;
-    make_block_value(alloc, StmtBlock::from_stmt(alloc, jump)?)
+    Ok(Stmt::BreakLoop {
+        value: boxed(alloc, value)?,
+        breaks: true,
+        pos,
+    })
+}
+
+/// A `continue` at `pos`. Does not allocate.
+#[tactic(auto, using(rhai_lower::proofs::Views::view_break_alone))]
+pub fn make_continue(pos: Position) -> Stmt
+    ensures { statement_view result ≡ break_loop absent false pos }
+{
+    Stmt::BreakLoop {
+        value: None,
+        breaks: false,
+        pos,
+    }
+}
+
+/// A statement as an operand: a block as it is, and any other statement as a block of this one statement, which starts
+/// at it and has no end. Returns `AllocError` if memory runs out.
+pub fn make_statement_value(alloc: Global, statement: Stmt) -> Result<Expr, AllocError>
+    ensures { IfOk result (λ e. view e ≡ block_value (made_block (statement_view statement))) }
+{
+    make_block_value(alloc, StmtBlock::from_stmt(alloc, statement)?)
 }
