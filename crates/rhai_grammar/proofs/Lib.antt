@@ -6,8 +6,10 @@ pub mod StreamLemmas
 pub mod RowLemmas
 pub mod StatementRowLemmas
 pub mod StringRowLemmas
+pub mod ConstructRowLemmas
 pub mod StartLemmas
 pub mod SlotLemmas
 pub mod ChainLemmas
 pub mod FairLemmas
+pub mod SwitchLemmas
 pub mod ShapeLemmas

@@ -45,6 +45,7 @@ sign_beginning LeftBracket = begin.Array
 sign_beginning MapStart = begin.Map
 sign_beginning LeftBrace = begin.Construct construct.Block
 sign_beginning token.If = begin.Construct construct.If
+sign_beginning token.Switch = begin.Construct construct.Switch
 sign_beginning token.While = begin.Construct construct.While
 sign_beginning token.Loop = begin.Construct construct.Loop
 sign_beginning token.Do = begin.Construct construct.Do
