@@ -30,6 +30,8 @@ fn text_of_due(due: DueToken) -> &'static str
         DueToken::RightBrace => "}",
         DueToken::Comma => ",",
         DueToken::Equals => "=",
+        DueToken::Pipe => "|",
+        DueToken::DoubleArrow => "=>",
         DueToken::In => "in",
         DueToken::If => "if",
         DueToken::Else => "else",
@@ -51,6 +53,8 @@ pub(crate) fn is_due(due: DueToken, token: &Token) -> bool
         DueToken::RightBrace => matches!(token, Token::RightBrace),
         DueToken::Comma => matches!(token, Token::Comma),
         DueToken::Equals => matches!(token, Token::Equals),
+        DueToken::Pipe => matches!(token, Token::Pipe),
+        DueToken::DoubleArrow => matches!(token, Token::DoubleArrow),
         DueToken::In => matches!(token, Token::In),
         DueToken::If => matches!(token, Token::If),
         DueToken::Else => matches!(token, Token::Else),
@@ -81,8 +85,8 @@ pub fn match_token(
     Err(missing(alloc, text_of_due(due), note, token, *pos))
 }
 
-/// Takes the next token if it is this one, and says whether it is. The error comes where the tokenizer ran out of memory
-/// at that token. What is not taken stays.
+/// Takes the next token if it is the one that `due` says; any other stays. Whether it was taken. The error comes where
+/// the tokenizer ran out of memory at that token, which stays too.
 pub fn pass_token(input: &mut TokenStream, due: DueToken) -> Result<bool, AllocError>
     ensures tries { Tries due (cursor_of input.old) result (cursor_of input.new) }
     ensures readable { OnOk result (is_memory (asked (cursor_of input.old)).lexeme ≡ false) }
