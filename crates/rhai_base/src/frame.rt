@@ -8,7 +8,7 @@ ghost use Rattle.rhai_grammar.specs.Contexts.{in_block};
 ghost use Rattle.rhai_grammar.specs.Definitions.{declared, defined, is_none, reused};
 ghost use Rattle.rhai_grammar.specs.Slots.{number};
 ghost use Rattle.rhai_grammar.specs.Targets.{is_constant_at};
-ghost use Rattle.rhai_grammar.specs.declared.filter.ExprFilter.TheVariants.{All, AllButPipe};
+ghost use Rattle.rhai_grammar.specs.declared.filter.ExprFilter.TheVariants.{AllButPipe};
 
 use crate::lookup::place_of;
 use crate::slots::define;
@@ -59,9 +59,9 @@ impl<'p> Model for Frame<'p> {
 
 impl<'p> Frame<'p> {
     /// The outermost frame, of a block that begins after the oldest `block` slots of `stack`. Its expressions may contain
-    /// every token. Does not allocate.
-    pub fn new(stack: Scope, block: usize) -> Frame<'p>
-        ensures { result ≡ record { live = record { slots = stack; block = block }; depth = 0; filter = All } }
+    /// the tokens that `filter` lets pass. Does not allocate.
+    pub fn new(stack: Scope, block: usize, filter: ExprFilter) -> Frame<'p>
+        ensures { result ≡ record { live = record { slots = stack; block = block }; depth = 0; filter = filter } }
     {
         let below = 0;
         Frame {
@@ -69,7 +69,7 @@ impl<'p> Frame<'p> {
             below,
             stack,
             block,
-            filter: ExprFilter::All,
+            filter,
         }
     }
 

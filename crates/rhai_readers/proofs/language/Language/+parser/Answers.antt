@@ -24,7 +24,7 @@ use Rattle.rhai_readers.proofs.language.Language.+parser.Goals as goal
 use Rattle.rhai_readers.proofs.language.Language.+parser.Goals.{parse_binary_op-After-make_binary}
 
 -- an operator of a run with its right side
-walked : (t : _) (c : parse_binary_op-After-make_binary t) → Walked (context_of c.args.self.now c.loop-lhs.settings) (live_of c.args.frame.now) c.args.parent c.in-Some.operator.strength c.in-Some.operator.right c.place_after.result (option_map operator_pair c.in_ok-next_operator.field-0) (lexeme c.take-op_token.result.0) c.take-op_token.result.1 (view c.in_ok-rhs.rhs) (view c.in_ok-rhs-2.rhs) (context_of c.args.self.now c.in_ok-deeper.deeper.side)
+walked : (t : _) (c : parse_binary_op-After-make_binary t) → Walked (context_of c.args.self.now c.args.frame.now.filter c.loop-lhs.settings) (live_of c.args.frame.now) c.args.parent c.in-Some.operator.strength c.in-Some.operator.right c.place_after.result (option_map operator_pair c.in_ok-next_operator.field-0) (lexeme c.take-op_token.result.0) c.take-op_token.result.1 (view c.in_ok-rhs.rhs) (view c.in_ok-rhs-2.rhs) (context_of c.args.self.now c.args.frame.now.filter c.in_ok-deeper.deeper.side)
     (state_of c.loop-lhs.shared) (cursor_of c.next_operator.new.input) (cursor_of c.take-op_token.new.input) (state_of c.parse_right_operand.new.shared) (cursor_of c.next_operator-in-loop-lhs.new.input) (state_of c.parse_binary_op.new.shared)
 walked t c = record {
   operator = search rules;
@@ -55,7 +55,7 @@ pub parse_binary_op-loop-lhs-preserved : goal.parse_binary_op-loop-lhs-preserved
 parse_binary_op-loop-lhs-preserved t c =
     let h = walked t (goal.at.parse_binary_op-loop-lhs-preserved t c).After-make_binary in
     record {
-      same = c.loop-lhs.invariant.same ∙ walked_on h _ _ c.in-Ok.ensures.answers (same_context c.args.self.now c.in_ok-deeper.deeper.next c.in_ok-deeper.deeper.side (search rules)) (search rules);
+      same = c.loop-lhs.invariant.same ∙ walked_on h _ _ c.in-Ok.ensures.answers (same_context c.args.self.now c.args.frame.now.filter c.in_ok-deeper.deeper.next c.in_ok-deeper.deeper.side (search rules)) (search rules);
       goes_on = record { same = search rules; shorter = let less = walked_short h in omega (arith, less, c.loop-lhs.invariant.goes_on.shorter) };
     }
 
@@ -89,7 +89,7 @@ parse_array_literal-returns-in_err-list_continues-clause-reads t c = let p = err
 
 pub parse_map_literal-loop-properties-preserved : goal.parse_map_literal-loop-properties-preserved
 parse_map_literal-loop-properties-preserved t c =
-    let taken : FieldTaken (context_of c.args.self.now c.args.settings) (context_of c.args.self.now c.in_ok-deeper.deeper) (live_of c.args.frame.now) (property_views c.loop-properties.properties.items) (property_views c.push.new.self.items) (rc_str_bytes c.in-Some.key.name, c.in-Some.key.pos) (view c.in_ok-value.value)
+    let taken : FieldTaken (context_of c.args.self.now c.args.frame.now.filter c.args.settings) (context_of c.args.self.now c.args.frame.now.filter c.in_ok-deeper.deeper) (live_of c.args.frame.now) (property_views c.loop-properties.properties.items) (property_views c.push.new.self.items) (rc_str_bytes c.in-Some.key.name, c.in-Some.key.pos) (view c.in_ok-value.value)
     (state_of c.loop-properties.shared) (cursor_of c.next_key.new.input) (state_of c.parse_expr.new.shared) (cursor_of c.list_continues.new.input) = record {
       key_read = search rules;
       key_short = search rules;
@@ -110,9 +110,9 @@ parse_map_literal-loop-properties-preserved t c =
 
 pub parse_links-loop-links-preserved : goal.parse_links-loop-links-preserved
 parse_links-loop-links-preserved t c =
-    let spot : LinkSpot = record { settings = context_of c.args.self.now c.loop-links.settings; brackets = context_of c.args.self.now c.loop-links.brackets; indexed = indexed_by (view c.args.lhs.now) (link_views c.loop-links.links.items); before = link_views c.loop-links.links.items } in
-    let next : LinkSpot = record { settings = context_of c.args.self.now c.in_ok-settings-in-Dot.settings; brackets = context_of c.args.self.now c.in_ok-settings-in-Dot.settings; indexed = indexed_by (view c.args.lhs.now) (link_views c.push-in-Dot.new.self.items); before = link_views c.push-in-Dot.new.self.items } in
-    let taken : DotTaken (context_of c.args.self.now c.in_ok-settings-in-Dot.settings) (live_of c.args.frame.now) spot next (lexeme c.in_ok-token.field-0.now.0) c.in_ok-token.field-0.now.1 (view c.in_ok-item-in-Dot.item)
+    let spot : LinkSpot = record { settings = context_of c.args.self.now c.args.frame.now.filter c.loop-links.settings; brackets = context_of c.args.self.now c.args.frame.now.filter c.loop-links.brackets; indexed = indexed_by (view c.args.lhs.now) (link_views c.loop-links.links.items); before = link_views c.loop-links.links.items } in
+    let next : LinkSpot = record { settings = context_of c.args.self.now c.args.frame.now.filter c.in_ok-settings-in-Dot.settings; brackets = context_of c.args.self.now c.args.frame.now.filter c.in_ok-settings-in-Dot.settings; indexed = indexed_by (view c.args.lhs.now) (link_views c.push-in-Dot.new.self.items); before = link_views c.push-in-Dot.new.self.items } in
+    let taken : DotTaken (context_of c.args.self.now c.args.frame.now.filter c.in_ok-settings-in-Dot.settings) (live_of c.args.frame.now) spot next (lexeme c.in_ok-token.field-0.now.0) c.in_ok-token.field-0.now.1 (view c.in_ok-item-in-Dot.item)
     (state_of c.loop-links.shared) (cursor_of c.peek.follows.lender-at-none) (cursor_of c.skip-in-Dot.new.input) (cursor_of c.member_due.new.input) (state_of c.parse_member.new.shared) = record {
       token = search rules;
       readable = search rules;

@@ -8,7 +8,7 @@ use Rattle.std.specs.Rc.{rc_str_bytes}
 use Rattle.rhai_reading.specs.Reading.{Links}
 use Rattle.rhai_reading.specs.Running.{need, result_of}
 use Rattle.rhai_trees.specs.Chains.{indexed_by}
-use Rattle.rhai_readers.specs.Frames.{context_of, live_of}
+use Rattle.rhai_readers.specs.Frames.{SamePlace, context_of, live_of}
 use Rattle.rhai_readers.specs.Readers.{GoesOn, arguments, binary_op, block, braced, branch, conditional, construct, guard, iterated, right_operand, called, definition, expr_statement, initializer, inside, jump, segments, statement, statements, statements_of, elements, expression, fields, index, items, links, linked, member, operand, postfix, primary, properties_of, state_of, views_of}
 use Rattle.rhai_readers.proofs.language.Language.+parser.Given as goal
 
@@ -80,7 +80,7 @@ decreases-parse_map_literal-loop-properties l = left (state_of l.shared).tokens
 
 abbrev pub invariant-parse_links-loop-links : goal.invariant-parse_links-loop-links
 invariant-parse_links-loop-links l = record {
-  same : result_of (links l.fn.self l.fn.frame l.fn.settings (view l.fn.lhs)) (state_of l.fn.shared) ≡ result_of (Links (live_of l.frame) (record { settings = context_of l.self l.settings; brackets = context_of l.self l.brackets; indexed = indexed_by (view l.fn.lhs) (linked l.links); before = linked l.links })) (state_of l.shared);
+  same : result_of (links l.fn.self l.fn.frame l.fn.settings (view l.fn.lhs)) (state_of l.fn.shared) ≡ result_of (Links (live_of l.frame) (record { settings = context_of l.self l.frame.filter l.settings; brackets = context_of l.self l.frame.filter l.brackets; indexed = indexed_by (view l.fn.lhs) (linked l.links); before = linked l.links })) (state_of l.shared);
   goes_on : GoesOn l.fn.shared l.shared;
 }
 
@@ -136,7 +136,7 @@ abbrev pub invariant-parse_statements-loop-statements : goal.invariant-parse_sta
 invariant-parse_statements-loop-statements l = record {
   same : result_of (statements l.fn.self l.fn.frame l.fn.settings l.fn.closing no_statements) (state_of l.fn.shared) ≡ result_of (statements l.self l.frame l.settings l.closing (statements_of l.statements)) (state_of l.shared);
   goes_on : GoesOn l.fn.shared l.shared;
-  depth : l.frame.depth ≡ l.fn.frame.depth;
+  place : SamePlace l.fn.frame l.frame;
 }
 
 abbrev pub decreases-parse_statements-loop-statements : goal.decreases-parse_statements-loop-statements
