@@ -17,6 +17,7 @@ use Rattle.rhai_grammar.specs.declared.role.OperandPlace.{OperandPlace}
 use Rattle.rhai_grammar.specs.Chains as chain
 use Rattle.rhai_grammar.specs.Cursors.{Cursor, cursor_of, left}
 use Rattle.rhai_grammar.specs.Spots.{spot_after_operand}
+use Rattle.rhai_grammar.specs.Switches.{Collected}
 use Rattle.rhai_grammar.specs.declared.error.ParseError.{ParseError}
 use Rattle.rhai_reading.specs.Reading as reading
 use Rattle.rhai_reading.specs.Reading.{Goal, Val}
@@ -163,6 +164,36 @@ conditional language frame settings = reading.Conditional (context_of language f
 -- what follows the block of an `if`
 abbrev pub branch : LanguageValue → FrameValue → ParseSettings → Goal
 branch language frame settings = reading.Branch (context_of language frame.filter settings) (live_of frame) settings.pos
+
+-- the arms of `switch`, after those that were collected
+abbrev pub arms : LanguageValue → FrameValue → ParseSettings → (before : Collected) → Goal
+arms language frame settings before =
+    reading.Arms (context_of language frame.filter settings) (live_of frame) before
+
+-- an arm with cases, after those that were collected
+abbrev pub arm : LanguageValue → FrameValue → ParseSettings → (before : Collected) → Goal
+arm language frame settings before = reading.Arm (context_of language frame.filter settings) (live_of frame) before
+
+-- the default arm after its `_`
+abbrev pub default_arm : LanguageValue → FrameValue → ParseSettings → (default : Position) → Goal
+default_arm language frame settings default =
+    reading.DefaultArm (context_of language frame.filter settings) (live_of frame) default
+
+-- the cases of an arm, after these
+abbrev pub cases : LanguageValue → FrameValue → ParseSettings → (before : Nodes) → Goal
+cases language frame settings before =
+    reading.Cases (context_of language frame.filter settings) (live_of frame) before
+
+abbrev pub case : LanguageValue → FrameValue → ParseSettings → Goal
+case language frame settings = reading.Case (context_of language frame.filter settings) (live_of frame)
+
+-- the guard of an arm, if it has one
+abbrev pub case_guard : LanguageValue → FrameValue → ParseSettings → Goal
+case_guard language frame settings = reading.CaseGuard (context_of language frame.filter settings) (live_of frame)
+
+-- what an arm does
+abbrev pub action : LanguageValue → FrameValue → ParseSettings → Goal
+action language frame settings = reading.Action (context_of language frame.filter settings) (live_of frame)
 
 -- the variables of `for`, and its `in`
 abbrev pub loop_names : Goal

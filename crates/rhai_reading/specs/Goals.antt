@@ -109,8 +109,14 @@ pub data Goal : Type 0 where
   DoEnd : Goal
   -- the arms of `switch`, after those that were collected, up to the `}`
   Arms : Context → Live → (before : Collected) → Goal
+  -- an arm with cases, after those that were collected
+  Arm : Context → Live → (before : Collected) → Goal
+  -- the default arm after its `_`, which is at a position, up to the `}`
+  DefaultArm : Context → Live → (default : Position) → Goal
   -- the cases of an arm, after these
   Cases : Context → Live → (before : Nodes) → Goal
+  -- one case of an arm, whose refusals are those of a missing literal
+  Case : Context → Live → Goal
   -- the guard of an arm, if it has one
   CaseGuard : Context → Live → Goal
   -- what an arm does, and whether it needs no comma after it
@@ -166,7 +172,10 @@ Val LoopNames = Text × Option Text
 Val Catch = Option (Text × Position)
 Val DoEnd = Bool
 Val (Arms c w before) = Collected
+Val (Arm c w before) = Nodes × Node × Node
+Val (DefaultArm c w default) = Node
 Val (Cases c w before) = Nodes
+Val (Case c w) = Node
 Val (CaseGuard c w) = Node
 Val (Action c w) = Node × Bool
 Val (ArmEnd itself) = Unit {0}

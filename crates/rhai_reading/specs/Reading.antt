@@ -44,7 +44,7 @@ use Rattle.rhai_grammar.specs.Interpolations.{added_text, is_last_text}
 use Rattle.rhai_grammar.specs.Starts.{operand_start, place_after, starts}
 use Rattle.rhai_grammar.specs.declared.role.OperandStart.{OperandStart}
 use Rattle.rhai_grammar.specs.declared.role.OperandStart.TheVariants as first
-use Rattle.rhai_grammar.specs.Switches.{arm_place}
+use Rattle.rhai_grammar.specs.Switches.{arm_fault, arm_place}
 use Rattle.rhai_grammar.specs.Signs.{signed, sign_holds, malformed}
 use Rattle.rhai_grammar.specs.Operators.{operator_tree, boolean_holds, mismatched}
 use Rattle.rhai_grammar.specs.Strengths.{Follower, Operator, Unknown, Other, follower_of}
@@ -56,7 +56,8 @@ pub use Rattle.rhai_reading.specs.Goals.{NextKey, NextOperator, BinaryOp, ExprSt
 pub use Rattle.rhai_reading.specs.Goals.{Definition, Statement, Statements, BlockStart, Inside, Block, BlockEnd}
 pub use Rattle.rhai_reading.specs.Goals.{Branch, Braced, Catch, Conditional, Construct, DoEnd, Guard, Iterated}
 pub use Rattle.rhai_reading.specs.Goals.{LoopNames, RightOperand}
-pub use Rattle.rhai_reading.specs.Goals.{Action, ArmEnd, Arms, CaseGuard, Cases, DefaultEnd}
+pub use Rattle.rhai_reading.specs.Goals.{Action, Arm, ArmEnd, Arms, Case, CaseGuard, Cases, DefaultArm}
+pub use Rattle.rhai_reading.specs.Goals.{DefaultEnd}
 pub use Rattle.rhai_reading.specs.Goals.{Ret, Fail, Peek, Take, TakeText, Call, CallLiteral, Script, Val, Prog}
 pub use Rattle.rhai_reading.specs.Goals.{after_a_part, construct_on, match_name, match_token, part_next, raised}
 pub use Rattle.rhai_reading.specs.ReadingStatements.{assigned_on, evaluated_at, var_name_at, value_at, definition_on}
@@ -65,7 +66,7 @@ pub use Rattle.rhai_reading.specs.ReadingStatements.{statements_at, inside_on, i
 pub use Rattle.rhai_reading.specs.ReadingStatements.{iterated_on, no_brace, else_at, branch_at, counted_on}
 pub use Rattle.rhai_reading.specs.ReadingStatements.{first_of_two, loop_names_at, catch_at, do_end_at}
 pub use Rattle.rhai_reading.specs.ReadingSwitches.{cases_at, case_guard_at, action_at, action_on, arm_end_at}
-pub use Rattle.rhai_reading.specs.ReadingSwitches.{default_end_at, arm_on, default_at, arms_at}
+pub use Rattle.rhai_reading.specs.ReadingSwitches.{default_end_at, arm_on, default_at, default_on, arms_at}
 
 -- ---- each reader
 
@@ -327,8 +328,12 @@ body LoopNames = Peek (λ l at. loop_names_at l)
 body Catch = match_token due.Catch (Peek (λ l at. catch_at l))
 body DoEnd = Peek (λ l at. do_end_at l at (do_end l))
 body (Arms c w before) = Peek (λ l at. arms_at c w before l at (arm_place l))
-body (Cases c w before) =
-    CallLiteral (Expression (in_case c) (in_block w)) (λ x. Peek (λ l at. cases_at c w (with_node before x) l))
+body (Arm c w before) =
+    Call (Cases c w no_nodes) (λ xs. Call (CaseGuard c w) (λ guard. match_token due.DoubleArrow (
+    Call (Action c w) (λ does. arm_on xs guard does (arm_fault before xs)))))
+body (DefaultArm c w default) = Peek (default_at c w default)
+body (Cases c w before) = Call (Case c w) (λ x. Peek (λ l at. cases_at c w (with_node before x) l))
+body (Case c w) = CallLiteral (Expression (in_case c) (in_block w)) Ret
 body (CaseGuard c w) = Peek (λ l at. case_guard_at c w l)
 body (Action c w) = action_on c w (has_single_blocks c)
 body (ArmEnd itself) = Peek (λ l at. arm_end_at itself l at (after_part lists.Arms l))

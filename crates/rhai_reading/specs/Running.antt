@@ -16,7 +16,7 @@ use Rattle.rhai_reading.specs.Reading.{Fields, NextKey, Called, Links, Index, Me
 use Rattle.rhai_reading.specs.Reading.{ExprStatement, VarName, Initializer, Definition, Statement, Statements, Block}
 use Rattle.rhai_reading.specs.Reading.{BlockEnd, BlockStart, Inside, Jump, Prog, Segments, TextAfter}
 use Rattle.rhai_reading.specs.Reading.{Branch, Braced, Catch, Conditional, Construct, DoEnd, Guard, Iterated, LoopNames}
-use Rattle.rhai_reading.specs.Reading.{Action, ArmEnd, Arms, CaseGuard, Cases, DefaultEnd, RightOperand}
+use Rattle.rhai_reading.specs.Reading.{Action, Arm, ArmEnd, Arms, Case, CaseGuard, Cases, DefaultArm, DefaultEnd, RightOperand}
 use Rattle.rhai_reading.specs.Reading.{Ret, Fail, Peek, Take, TakeText, Call, CallLiteral, body}
 
 -- what came of a reader, with the cursor that it left
@@ -105,8 +105,11 @@ rank (Branch c w at) = 2
 rank LoopNames = 0
 rank Catch = 0
 rank DoEnd = 0
-rank (Arms c w before) = 5
-rank (Cases c w before) = 4
+rank (Arms c w before) = 7
+rank (Arm c w before) = 6
+rank (DefaultArm c w default) = 0
+rank (Cases c w before) = 5
+rank (Case c w) = 4
 rank (CaseGuard c w) = 0
 rank (Action c w) = 6
 rank (ArmEnd itself) = 0

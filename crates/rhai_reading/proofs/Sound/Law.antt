@@ -1,5 +1,5 @@
 -- What each reader shows.
-use Rattle.std.proofs.Common.{◌≡◌, ℕ, Bool, true, false, [], refl}
+use Rattle.std.proofs.Common.{◌≡◌, ℕ, Bool, true, false, None, [], refl}
 use Rattle.rhai_lower.specs.Lexemes.{Lexeme, Integer}
 use Rattle.rhai_lower.specs.Positions.{nowhere}
 use Rattle.rhai_lower.specs.Nodes.{Node}
@@ -36,6 +36,7 @@ use Rattle.rhai_reading.proofs.FormKinds.{block_ends, block_starts, definitions,
 use Rattle.rhai_reading.proofs.FormKinds.{BracedForm, CatchForm, DoForm, LoopForm, OfKind, braced, branches, catches}
 use Rattle.rhai_reading.proofs.FormKinds.{conditionals, constructs, do_ends, guards, iterated_values, loops}
 use Rattle.rhai_reading.proofs.SwitchKinds.{actions, arm_ends, arm_lists, case_guards, cases, default_ends}
+use Rattle.rhai_reading.proofs.SwitchKinds.{DefaultForm, arms_with_cases, default_arms, one_cases}
 use Rattle.rhai_reading.proofs.Looks.{op_at, follower_at, operator_in}
 use Rattle.rhai_reading.proofs.Paths.{Fits, Fails, Way, Lost}
 use Rattle.rhai_reading.proofs.Shows.{Histories, Ensures, Tells, Halts, Answers, Passed}
@@ -127,6 +128,9 @@ Sound R.LoopNames s o = Answers loops s o
 Sound R.Catch s o = Answers catches s o
 Sound R.DoEnd s o = Answers do_ends s o
 Sound (R.Arms c w before) s o = Answers (arm_lists c w before) s o
+Sound (R.Case c w) s o = Answers (one_cases c w) s o
+Sound (R.Arm c w before) s o = Answers (arms_with_cases c w before) s o
+Sound (R.DefaultArm c w default) s o = Answers (default_arms c w default) s o
 Sound (R.Cases c w before) s o = Answers (cases c w before) s o
 Sound (R.CaseGuard c w) s o = Answers (case_guards c w) s o
 Sound (R.Action c w) s o = Answers (actions c w) s o
@@ -188,3 +192,7 @@ any_construct kind.For =
     record { construct = form.For (form.Variable [] nowhere) nowhere any_run nowhere any_body; is = refl }
 any_construct kind.Try =
     record { construct = form.Try nowhere any_body nowhere form.NoName nowhere any_body; is = refl }
+
+
+abbrev pub any_default : DefaultForm
+any_default = record { arrow = nowhere; action = any_action; comma = None; closing = nowhere }

@@ -19,7 +19,7 @@ use Rattle.rhai_grammar.specs.Kinds.{is_literal_value}
 use Rattle.rhai_grammar.specs.Switches as S
 use Rattle.rhai_grammar.specs.Switches.{Collected, action_due, arm_begins, arm_fault, arm_place, case_fault, ends_arm, fault_from}
 use Rattle.rhai_grammar.specs.Switches.{has_ranges, is_integer, unguarded, with_arm_collected, with_case, with_default_collected}
-use Rattle.rhai_grammar.specs.Trees.{action_ends, action_tree, case_trees, collected, guard_tree, tree}
+use Rattle.rhai_grammar.specs.Trees.{action_ends, action_tree, case_trees, guard_tree, tree}
 use Rattle.rhai_grammar.specs.Written as W
 use Rattle.rhai_grammar.specs.declared.due.DueToken.TheVariants as due
 use Rattle.rhai_grammar.specs.declared.list.AfterPart.{AfterPart}
@@ -35,10 +35,11 @@ use Rattle.rhai_reading.proofs.Lists.{added, added_last}
 use Rattle.rhai_reading.proofs.Looks.{op_at, pos_at}
 use Rattle.rhai_reading.proofs.Paths.{Fits, ◌▹◌, lost}
 use Rattle.rhai_reading.proofs.Shows.{Histories, Goes, Kind, done, either, ends, fine, first, gives, halt, ill, look}
-use Rattle.rhai_reading.proofs.Shows.{lost_at, part_literal, refuse, take, wrong}
-use Rattle.rhai_reading.proofs.SwitchKinds.{actions, arm_ends, arm_lists, case_guards, cases, default_ends}
+use Rattle.rhai_reading.proofs.Shows.{ends_literal, lost_at, part, refuse, take, wrong}
+use Rattle.rhai_reading.proofs.SwitchKinds.{ArmForm, DefaultForm, actions, arm_ends, arm_lists, arms_with_cases, case_guards}
+use Rattle.rhai_reading.proofs.SwitchKinds.{cases, default_arms, default_ends, one_cases}
 use Rattle.rhai_reading.proofs.Sound.Chains.{Early, early, early_if, early_or, faulted, unfaulted}
-use Rattle.rhai_reading.proofs.Sound.Law.{AllSound, any_action, any_arms}
+use Rattle.rhai_reading.proofs.Sound.Law.{AllSound, any_action, any_arms, any_default}
 
 -- ---- tests that refuse
 
@@ -66,9 +67,13 @@ some_action _ e = refl
 -- ---- the parts of an arm
 
 module _ {call : Histories} (ih : AllSound call) (c : Context) (w : Live) (s : Point) where
+  pub one_case : (b : Bool) → Goes call (one_cases c w) s (body (R.Case c w)) s b
+  one_case b =
+      ends_literal (ih.of (R.Expression (in_case c) (in_block w)) s b) (λ f. f) (λ t f. refl) (λ f k o r. r)
+
   pub case_list : (before : Nodes) (b : Bool) → Goes call (cases c w before) s (body (R.Cases c w before)) s b
   case_list before b =
-      part_literal (ih.of (R.Expression (in_case c) (in_block w)) s b) form.LastCase (λ f k o r. r _) (λ f t a G.
+      part (ih.of (R.Case c w) s b) form.LastCase (λ f k o r. r _) (λ f t a G.
       let x = tree f (in_block w) in
       look (λ m. either (is_due due.Pipe (op_at t))
       (λ is. take (ends (ih.of (R.Cases c w (with_node before x)) (past code t) false) (form.Case f (pos_at t))
@@ -128,66 +133,76 @@ module _ (call : Histories) (default : Position) (s : Point) where
 
 -- ---- arms
 
--- what is left of an arm behind what it does, and the arms behind it
-abbrev Rest : Type 0
-Rest = Option Position × form.Arms
+-- an arm with these parts
+abbrev arm_form : Cases → CaseGuard → Position → Action → (comma : Option Position) → ArmForm
+arm_form xs guard arrow does comma =
+    record { cases = xs; guard = guard; arrow = arrow; action = does; comma = comma }
 
-module _ {call : Histories} (ih : AllSound call) (c : Context) (w : Live) (before : Collected) where
-  -- what is left behind an arm with cases
-  abbrev behind : (xs : Cases) (guard : CaseGuard) (does : Action) → Kind Rest Collected
-  behind xs guard does =
-      let next = with_arm_collected before (case_trees xs w) (guard_tree guard w) (action_tree does w) in
-      record {
-        tree = λ t h. collected h.1 w next;
-        demands = λ h k. W.unfaulted (arm_fault before (case_trees xs w)) (W.separated h.0 (action_ends does w)
-            (W.arms h.1 next c w k));
-      }
+abbrev default_form : Position → Action → (comma : Option Position) → Position → DefaultForm
+default_form arrow does comma closing =
+    record { arrow = arrow; action = does; comma = comma; closing = closing }
 
-  arm_by : (xs : Cases) (guard : CaseGuard) (does : Action) (s : Point) (b : Bool) (v : Option Refusal)
+module _ {call : Histories} (ih : AllSound call) (c : Context) (w : Live) (before : Collected) (s : Point) where
+  -- what is left of an arm after what it does
+  abbrev left : (xs : Cases) (guard : CaseGuard) (does : Action) → Kind (Option Position) (Nodes × Node × Node)
+  left xs guard does = record {
+    tree = λ t comma. (case_trees xs w, guard_tree guard w, action_tree does w);
+    demands = λ comma k. W.unfaulted (arm_fault before (case_trees xs w)) (W.separated comma (action_ends does w) k);
+  }
+
+  arm_by : (xs : Cases) (guard : CaseGuard) (does : Action) (t : Point) (b : Bool) (v : Option Refusal)
       → arm_fault before (case_trees xs w) ≡ v
-      → Goes call (behind xs guard does) s (R.arm_on c w before (case_trees xs w) (guard_tree guard w)
-      (action_tree does w, action_ends does w) v) s b
-  arm_by xs guard does s b None e =
-      let next = with_arm_collected before (case_trees xs w) (guard_tree guard w) (action_tree does w) in
-      first (ih.of (R.ArmEnd (action_ends does w)) s b) (λ comma rest. (comma, rest)) any_arms
-      (λ comma rest k o r. unfaulted e r) (λ comma t a.
-      ends (ih.of (R.Arms c w next) t a) (λ rest. rest) (λ v rest. refl) (λ rest k o r. r))
-  arm_by xs guard does s b (Some d) e =
-      halt (None, any_arms) (early _ d (fault_early (S.arm_count before.arms) before (case_trees xs w)) e)
-      (λ k. faulted _ e)
+      → Goes call (left xs guard does) t (R.arm_on (case_trees xs w) (guard_tree guard w)
+      (action_tree does w, action_ends does w) v) t b
+  arm_by xs guard does t b None e =
+      ends {v = λ end. (case_trees xs w, guard_tree guard w, action_tree does w)}
+      (ih.of (R.ArmEnd (action_ends does w)) t b) (λ comma. comma) (λ v comma. refl) (λ comma k o r. unfaulted e r)
+  arm_by xs guard does t b (Some d) e =
+      halt None (early _ d (fault_early (S.arm_count before.arms) before (case_trees xs w)) e) (λ k. faulted _ e)
 
-  arms_by : (s : Point) (v : ArmPlace) → arm_place (op_at s) ≡ v → is_memory (op_at s) ≡ false
-      → Goes call (arm_lists c w before) s (R.arms_at c w before (op_at s) (pos_at s) v) s true
-  arms_by s arm.Case e m =
-      let begins : Fits arm_begins s = fine m (ap S.arm_begins_at e) in
+  pub one_arm : (b : Bool) → Goes call (arms_with_cases c w before) s (body (R.Arm c w before)) s b
+  one_arm b =
       first {R = λ xs h k. W.case_guard h.0 c w (W.due_token due.DoubleArrow h.1.0 (W.action h.1.1.0 c w (
-      (behind xs h.0 h.1.1.0).demands h.1.1.1 k)))} (ih.of (R.Cases c w no_nodes) s true)
-      (λ xs (h : CaseGuard × (Position × (Action × Rest))). form.Arm xs h.0 h.1.0 h.1.1.0 h.1.1.1.0 h.1.1.1.1)
-      (form.NoGuard, (nowhere, (any_action, (None, any_arms)))) (λ xs h k o r. begins ▹ r) (λ xs t a.
-      first (ih.of (R.CaseGuard c w) t a) (λ guard h. (guard, h)) (nowhere, (any_action, (None, any_arms)))
+      (left xs h.0 h.1.1.0).demands h.1.1.1 k)))} (ih.of (R.Cases c w no_nodes) s b)
+      (λ xs (h : CaseGuard × (Position × (Action × Option Position))). arm_form xs h.0 h.1.0 h.1.1.0 h.1.1.1)
+      (form.NoGuard, (nowhere, (any_action, None))) (λ xs h k o r. r) (λ xs t a.
+      first (ih.of (R.CaseGuard c w) t a) (λ guard h. (guard, h)) (nowhere, (any_action, None))
       (λ guard h k o r. r) (λ guard u d.
-      expect due.DoubleArrow (nowhere, (any_action, (None, any_arms))) (λ missing k. missing.way) (λ arrow.
-      first (ih.of (R.Action c w) (past code u) false) (λ does h. (pos_at u, (does, h))) (None, any_arms)
+      expect due.DoubleArrow (nowhere, (any_action, None)) (λ missing k. missing.way) (λ arrow.
+      first (ih.of (R.Action c w) (past code u) false) (λ does h. (pos_at u, (does, h))) None
       (λ does h k o r. arrow ▹ r) (λ does v x.
       arm_by xs guard does v x (arm_fault before (case_trees xs w)) refl))))
-  arms_by s arm.Default e m =
-      let t = past code s in
+
+  arms_by : (v : ArmPlace) → arm_place (op_at s) ≡ v → is_memory (op_at s) ≡ false
+      → Goes call (arm_lists c w before) s (R.arms_at c w before (op_at s) (pos_at s) v) s true
+  arms_by arm.Case e m =
+      let begins : Fits arm_begins s = fine m (ap S.arm_begins_at e) in
+      first (ih.of (R.Arm c w before) s true) (λ f rest. form.Arm f.cases f.guard f.arrow f.action f.comma rest) any_arms
+      (λ f rest k o r. begins ▹ r) (λ f t a.
+      ends (ih.of (R.Arms c w (with_arm_collected before (case_trees f.cases w) (guard_tree f.guard w)
+      (action_tree f.action w))) t a) (λ rest. rest) (λ v rest. refl) (λ rest k o r. r))
+  arms_by arm.Default e m =
       let here = armed s e in
-      take (look (λ n. either (is_due due.If (op_at t))
-      (λ guarded. refuse (form.DefaultArm (pos_at s) nowhere any_action None nowhere) (λ k. here ▹ ill n (rw guarded)))
+      take (ends {v = λ x. with_default_collected before x} (ih.of (R.DefaultArm c w (pos_at s)) (past code s) false)
+      (λ f. form.DefaultArm (pos_at s) f.arrow f.action f.comma f.closing) (λ v f. refl) (λ f k o r. here ▹ r))
+  arms_by arm.Close e m = take (done (form.NoArm (pos_at s)) (λ k o r. armed s e ▹ r))
+  arms_by arm.Nothing e m = refuse any_arms (λ k. wrong m (ap (S.arms_end_at (op_at s)) e))
+
+  pub arms : (b : Bool) → Goes call (arm_lists c w before) s (body (R.Arms c w before)) s b
+  arms b = look (λ m. arms_by (arm_place (op_at s)) refl m)
+
+module _ {call : Histories} (ih : AllSound call) (c : Context) (w : Live) (default : Position) (s : Point) where
+  pub default_arm : (b : Bool) → Goes call (default_arms c w default) s (body (R.DefaultArm c w default)) s b
+  default_arm b =
+      look (λ m. either (is_due due.If (op_at s))
+      (λ guarded. refuse any_default (λ k. ill m (rw guarded)))
       (λ none.
-      let open_ : Fits unguarded t = fine n (rw none) in
-      expect due.DoubleArrow (form.DefaultArm (pos_at s) nowhere any_action None nowhere)
-      (λ missing k. here ▹ open_ ▹ missing.way) (λ arrow.
-      first (ih.of (R.Action c w) (past code t) false)
-      (λ does (h : Option Position × Position). form.DefaultArm (pos_at s) (pos_at t) does h.0 h.1) (None, nowhere)
-      (λ does h k o r. here ▹ open_ ▹ arrow ▹ r) (λ does u a.
+      let open_ : Fits unguarded s = fine m (rw none) in
+      expect due.DoubleArrow any_default (λ missing k. open_ ▹ missing.way) (λ arrow.
+      first (ih.of (R.Action c w) (past code s) false)
+      (λ does (h : Option Position × Position). default_form (pos_at s) does h.0 h.1) (None, nowhere)
+      (λ does h k o r. open_ ▹ arrow ▹ r) (λ does u a.
       first (ih.of (R.ArmEnd (action_ends does w)) u a) (λ comma closing. (comma, closing)) nowhere
       (λ comma closing k o r. r) (λ comma v d.
-      ends {v = λ x. with_default_collected before (action_tree does w)} (ih.of (R.DefaultEnd (pos_at s)) v d)
-      (λ closing. closing) (λ x closing. refl) (λ closing k o r. r)))))))
-  arms_by s arm.Close e m = take (done (form.NoArm (pos_at s)) (λ k o r. armed s e ▹ r))
-  arms_by s arm.Nothing e m = refuse any_arms (λ k. wrong m (ap (S.arms_end_at (op_at s)) e))
-
-  pub arms : (s : Point) (b : Bool) → Goes call (arm_lists c w before) s (body (R.Arms c w before)) s b
-  arms s b = look (λ m. arms_by s (arm_place (op_at s)) refl m)
+      ends {v = λ x. action_tree does w} (ih.of (R.DefaultEnd default) v d)
+      (λ closing. closing) (λ x closing. refl) (λ closing k o r. r))))))
