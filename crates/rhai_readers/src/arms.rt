@@ -4,7 +4,7 @@
 ghost use Rattle.std.specs.Prelude.{◌≡◌, ◌≤◌, IfErr, IfOk, true};
 ghost use Rattle.rhai_lower.specs.Nodes.{Node, block_value, made_block};
 ghost use Rattle.rhai_lower.specs.View.{statement_view, view};
-ghost use Rattle.rhai_grammar.specs.Causes.{MemoryIsNowhere, Says, as_literal, is_for_memory, refusal_of};
+ghost use Rattle.rhai_grammar.specs.Causes.{MemoryIsNowhere, is_for_memory};
 ghost use Rattle.rhai_grammar.specs.Cursors.{Cursor, cursor_of, left};
 ghost use Rattle.rhai_grammar.specs.Switches.{arm_fault, ends_arm};
 ghost use Rattle.rhai_reading.specs.Reading.{ArmEnd, DefaultEnd, arm_on, default_on};
@@ -13,12 +13,11 @@ ghost use Rattle.rhai_readers.specs.Readers.{views_of};
 ghost use Rattle.rhai_readers.specs.Switches.{action_view, arm_view};
 ghost use Rattle.rhai_trees.specs.Switches.{collected_view};
 
-use rhai_base::leaves::arms::{arm_continues, default_ends};
-use rhai_grammar::{ParseError, ParseErrorType, ParseResult};
+use rhai_base::leaves::arms::{arm_continues, as_literal, default_ends};
+use rhai_grammar::ParseResult;
 use rhai_lower::{Expr, Position, Stmt, SwitchCasesCollection, TokenStream};
 use rhai_trees::{ends_arm, make_statement_value, test_cases};
 use std::alloc::Global;
-use std::rc::RcStr;
 
 /// What an arm of a `switch` does.
 #[derive(Drop)]
@@ -49,21 +48,6 @@ pub(crate) fn as_case(alloc: Global, case: ParseResult<Expr>) -> ParseResult<Exp
     match case {
         Ok(case) => Ok(case),
         Err(error) => Err(as_literal(alloc, error)),
-    }
-}
-
-// An error in the case of an arm: a missing literal at its place, unless memory ran out.
-fn as_literal(alloc: Global, error: ParseError) -> ParseError
-    ensures says { MemoryIsNowhere error → Says (as_literal (refusal_of error)) result }
-    ensures memory { is_for_memory error ≡ true → is_for_memory result ≡ true }
-{
-    let ParseError(kind, pos) = error;
-    if matches!(kind, ParseErrorType::OutOfMemory) {
-        return ParseError(ParseErrorType::OutOfMemory, pos);
-    }
-    match RcStr::from_str(alloc, "literal") {
-        Ok(what) => ParseError(ParseErrorType::ExprExpected(what), pos),
-        Err(error) => ParseError::from(error),
     }
 }
 
