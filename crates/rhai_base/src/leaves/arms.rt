@@ -4,7 +4,7 @@ ghost use Rattle.std.specs.Prelude.{◌≡◌, ◌+◌, ◌≤◌, IfErr, IfOk, 
 ghost use Rattle.rhai_lower.specs.Lexemes.{lexeme};
 ghost use Rattle.rhai_grammar.specs.Beginnings.{missing};
 ghost use Rattle.rhai_grammar.specs.Causes.{MemoryIsNowhere, Says, UnexpectedEOF, WrongSwitchCaseCondition};
-ghost use Rattle.rhai_grammar.specs.Causes.{is_for_memory, refusal, refusal_of};
+ghost use Rattle.rhai_grammar.specs.Causes.{as_literal, is_for_memory, is_memory_kind, refusal, refusal_of};
 ghost use Rattle.rhai_grammar.specs.Cursors.{asked, cursor_of, left, looking};
 ghost use Rattle.rhai_grammar.specs.Delivered.{is_end, is_memory};
 ghost use Rattle.rhai_grammar.specs.Demands.{Fine, Wrong};
@@ -23,6 +23,7 @@ use rhai_grammar::{
 };
 use rhai_lower::{Position, Token, TokenStream};
 use std::alloc::Global;
+use std::rc::RcStr;
 
 /// What stands where an arm of a `switch` may begin.
 #[derive(Clone, Copy, PartialEq, Eq, Debug)]
@@ -166,5 +167,32 @@ pub fn default_ends(alloc: Global, input: &mut TokenStream, default: Position) -
         ArmPlace::Case | ArmPlace::Default => {
             Err(ParseError(ParseErrorType::WrongSwitchDefaultCase, default))
         }
+    }
+}
+
+// Whether an error says that memory ran out.
+fn is_memory(kind: &ParseErrorType) -> bool
+    ensures { result ≡ is_memory_kind kind.now }
+{
+    match kind {
+        ParseErrorType::OutOfMemory => true,
+        _ => false,
+    }
+}
+
+/// The error of a case whose own error is this one: that a literal is missing, at the same place. Where memory ran out,
+/// it is still `OutOfMemory`.
+#[tactic(auto, using(crate::proofs::ErrorLemmas::memory_cause))]
+pub fn as_literal(alloc: Global, error: ParseError) -> ParseError
+    ensures says { MemoryIsNowhere error → Says (as_literal (refusal_of error)) result }
+    ensures memory { is_for_memory error ≡ true → is_for_memory result ≡ true }
+{
+    let ParseError(kind, pos) = error;
+    if is_memory(&kind) {
+        return ParseError(kind, pos);
+    }
+    match RcStr::from_str(alloc, "literal") {
+        Ok(what) => ParseError(ParseErrorType::ExprExpected(what), pos),
+        Err(error) => ParseError::from(error),
     }
 }
