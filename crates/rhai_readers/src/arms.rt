@@ -15,7 +15,8 @@ ghost use Rattle.rhai_trees.specs.Switches.{collected_view};
 
 use rhai_base::leaves::arms::{arm_continues, as_literal, default_ends};
 use rhai_grammar::ParseResult;
-use rhai_lower::{Expr, Position, Stmt, SwitchCasesCollection, TokenStream};
+use rhai_lower::ast::SwitchCasesCollection;
+use rhai_lower::{Expr, Position, Stmt, TokenStream};
 use rhai_trees::{ends_arm, make_statement_value, test_cases};
 use std::alloc::Global;
 

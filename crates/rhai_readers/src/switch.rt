@@ -18,7 +18,8 @@ use rhai_base::leaves::arms::{NextArm, action_due, default_unguarded, next_arm};
 use rhai_base::leaves::due::{match_token, pass_token};
 use rhai_base::{Frame, ParseSettingFlags, ParseSettings};
 use rhai_grammar::{DueToken, ParseResult};
-use rhai_lower::{Expr, Position, Stmt, SwitchCasesCollection};
+use rhai_lower::ast::SwitchCasesCollection;
+use rhai_lower::{Expr, Position, Stmt};
 use rhai_trees::{make_switch, new_arms, no_guard, push_arm, push_default};
 
 #[tactic(auto, using(crate::proofs::Readers::switches))]
