@@ -3,6 +3,7 @@
 #![tactic(auto)]
 
 mod call;
+pub mod case_value;
 pub mod chain;
 pub mod construct;
 pub mod kind;
@@ -12,6 +13,7 @@ pub mod statement;
 pub mod strings;
 pub mod target;
 
+pub use case_value::{IntegerRange, range_of, same_value};
 pub use chain::{Link, LinkKind, indexed_operand, make_chain, test_index, test_links};
 pub use construct::{make_do, make_for, make_if, make_try, make_while, test_guard, test_iterated};
 pub use kind::{index_fault, is_constant, is_literal_value, not_boolean, not_iterable};
