@@ -6,7 +6,7 @@ use Rattle.rhai_lower.specs.Texts.{Text, same_text}
 use Rattle.rhai_lower.specs.Positions.{place}
 use Rattle.rhai_lower.specs.Nodes as node
 use Rattle.rhai_lower.specs.Nodes.{Cases, Node, Nodes, Properties, array, no_nodes, no_properties, object_map, one_node}
-use Rattle.rhai_lower.specs.Nodes.{one_property, start_of}
+use Rattle.rhai_lower.specs.Nodes.{one_property, start_of, with_arm}
 use Rattle.rhai_lower.specs.View.{arm_views, case_views}
 use Rattle.rhai_lower.specs.declared.ast.SwitchCasesCollection.{SwitchCasesCollection, out-SwitchCasesCollection}
 use Rattle.rhai_grammar.specs.CaseValues as value
@@ -29,6 +29,10 @@ collected_view x = record {
   ranges = (out-SwitchCasesCollection x).ranges.items;
   default = (out-SwitchCasesCollection x).def_case;
 }
+
+-- one more guard with its action
+abbrev pub with_action : Collected → (guard action : Node) → Collected
+with_action before guard action = record before { arms = with_arm before.arms guard action }
 
 -- ---- equal values
 
