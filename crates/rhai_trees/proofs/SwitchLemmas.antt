@@ -187,12 +187,12 @@ fault_from_first index before ranged (one_node x xs) e =
     ap (λ b. option_or (value_fault b x) (fault_from index (with_case index before x) xs)) e
     ∙ ap (option_or (value_fault ranged x)) (fault_from_first index (with_case index before x) (ranged || is_full_range (range_of x)) xs more)
 
-counted_ranges : (rs : List RangeCase) → has_ranges rs ≡ not (length rs == 0)
+pub counted_ranges : (rs : List RangeCase) → has_ranges rs ≡ not (length rs == 0)
 counted_ranges [] = refl
 counted_ranges (r ∷ rs) = ap not (sym (eqb-suc-zero (length rs)))
 
-pub arm_faults : (before : Collected) (ns : Nodes) → arm_fault before ns ≡ first_fault (not (length before.ranges == 0)) ns
-arm_faults before ns = fault_from_first (arm_count before.arms) before (not (length before.ranges == 0)) ns (counted_ranges before.ranges)
+pub arm_faults : (before : Collected) (ns : Nodes) (rs : List RangeCase) (ranged : Bool) → rs ≡ before.ranges → ranged ≡ has_ranges rs → arm_fault before ns ≡ first_fault ranged ns
+arm_faults before ns rs ranged e f = fault_from_first (arm_count before.arms) before ranged ns (ap has_ranges (sym e) ∙ sym f)
 
 -- ---- one more arm
 

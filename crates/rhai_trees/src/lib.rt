@@ -1,5 +1,5 @@
 //! Operations on trees that do not use the stream: signs, operators and links with their operands, statements,
-//! constructs, segments of interpolated strings, and tests on trees.
+//! constructs, arms of `switch`, segments of interpolated strings, and tests on trees.
 #![tactic(auto)]
 
 mod call;

@@ -62,6 +62,14 @@ fn is_full_range(case: &Expr) -> bool
     }
 }
 
+// Whether there is a range.
+#[tactic(auto, using(crate::proofs::SwitchLemmas::counted_ranges))]
+fn has_ranges(ranges: &[RangeCase]) -> bool
+    ensures { result ≡ has_ranges ranges.now }
+{
+    !ranges.is_empty()
+}
+
 // Refuses a case that is no literal value, or an integer where `ranged` says that a range that is not empty stands
 // before it.
 #[tactic(auto, using(crate::proofs::SwitchLemmas::integers))]
@@ -103,14 +111,13 @@ fn test_from(alloc: Global, mut ranged: bool, cases: &[Expr]) -> ParseResult<()>
 ///
 /// The error is `ExprExpected`, or `WrongSwitchIntegerCase`, at the start of the first case that is refused; if memory
 /// runs out, it is `OutOfMemory`.
-#[tactic(auto, using(crate::proofs::SwitchLemmas::arm_faults))]
 pub fn test_cases(alloc: Global, arms: &SwitchCasesCollection, cases: &[Expr]) -> ParseResult<()>
     ensures passes { OnOk result (arm_fault (collected_view arms.now) (views cases.now) ≡ None) }
     ensures refused { IfErr result (λ e. is_for_memory e ≡ false
         → arm_fault (collected_view arms.now) (views cases.now) ≡ Some (refusal_of e)) }
     ensures nowhere { IfErr result MemoryIsNowhere }
 {
-    test_from(alloc, !arms.ranges.is_empty(), cases)
+    test_from(alloc, has_ranges(&arms.ranges), cases)
 }
 
 // ---- one more arm

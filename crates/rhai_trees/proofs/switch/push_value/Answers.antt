@@ -1,4 +1,4 @@
-use Rattle.std.proofs.Common.{◌≡◌, ◌++◌, ◌∷◌, [], ◌∙◌, ap, rules}
+use Rattle.std.proofs.Common.{◌∙◌, ap, rules}
 use Rattle.rhai_lower.specs.View.{case_views, view}
 use Rattle.rhai_lower.specs.declared.ast.Expr.{the_lemmas}
 use Rattle.rhai_trees.specs.Switches.{case_place}
