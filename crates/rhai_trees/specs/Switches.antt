@@ -76,8 +76,10 @@ first_fault ranged no_nodes = None
 first_fault ranged (one_node x xs) =
     option_or (value_fault ranged x) (first_fault (ranged || is_full_range (range_of x)) xs)
 
-example : (case_place (node.one_case (node.integer (pos 1) (place 1 1)) [] node.no_cases) (node.integer (pos 1) (place 1 9))
-    ≡ Some 0)
-    × (value_fault true (node.integer (pos 1) (place 1 1))
-    ≡ Some (refusal cause.WrongSwitchIntegerCase (place 1 1)))
+-- The number 1 is the value of the first case; after a range it is refused.
+abbrev example_one : (column : ℕ) → Node
+example_one column = node.integer (pos 1) (place 1 column)
+
+example : (case_place (node.one_case (example_one 1) [] node.no_cases) (example_one 9) ≡ Some 0)
+    × (value_fault true (example_one 9) ≡ Some (refusal cause.WrongSwitchIntegerCase (place 1 9)))
 example = (refl, refl)

@@ -1,13 +1,12 @@
 //! The arms of a `switch`, as they are read: the tests of cases, one more arm, and the node of a `switch`.
 
-ghost use Rattle.std.specs.Prelude.{◌≡◌, ◌++◌, ◌<◌, IfErr, IfOk, IfSome, None, OnOk, Some, false, length, not, option_map};
+ghost use Rattle.std.specs.Prelude.{◌≡◌, ◌++◌, ◌<◌, IfErr, IfOk, IfSome, None, OnOk, Some, false, length};
 ghost use Rattle.rhai_lower.specs.View.{case_views, statement_view, view, views};
-ghost use Rattle.rhai_lower.specs.declared.ast.SwitchCasesCollection.{out-SwitchCasesCollection};
 ghost use Rattle.rhai_grammar.specs.CaseValues.{range_of};
 ghost use Rattle.rhai_grammar.specs.Causes.{MemoryIsNowhere, is_for_memory, refusal_of};
-ghost use Rattle.rhai_grammar.specs.Switches.{arm_count, arm_fault, ends_arm, has_ranges, is_integer, listed_range, no_guard};
-ghost use Rattle.rhai_grammar.specs.Switches.{nothing_collected, switch_tree, with_arm_collected, with_case, with_cases};
-ghost use Rattle.rhai_grammar.specs.Switches.{with_default_collected, with_value};
+ghost use Rattle.rhai_grammar.specs.Switches.{arm_count, arm_fault, ends_arm, has_ranges, listed_range, no_guard};
+ghost use Rattle.rhai_grammar.specs.Switches.{nothing_collected, switch_tree, with_arm_collected, with_case};
+ghost use Rattle.rhai_grammar.specs.Switches.{with_cases, with_default_collected, with_value};
 ghost use Rattle.rhai_trees.specs.Switches.{case_place, collected_view, first_fault, is_full_range, value_fault};
 ghost use Rattle.rhai_trees.specs.Switches.{with_action};
 
@@ -16,8 +15,7 @@ use crate::kind::is_literal_value;
 use crate::sign::integer_of;
 use crate::statement::{ends_itself, is_empty};
 use rhai_grammar::{ParseError, ParseErrorType, ParseResult};
-use rhai_lower::ast::{RangeCase, SwitchCase, SwitchCasesCollection};
-use rhai_lower::{BinaryExpr, Expr, Position, Stmt};
+use rhai_lower::{BinaryExpr, Expr, Position, RangeCase, Stmt, SwitchCase, SwitchCasesCollection};
 use std::alloc::{AllocError, Global};
 use std::rc::RcStr;
 
