@@ -73,8 +73,8 @@ impl<'p> Frame<'p> {
         }
     }
 
-    /// The frame of a block inside this one, which begins after all slots that are live here. Its expressions may contain
-    /// the same tokens as those of this one. Does not allocate.
+    /// The frame of a block inside this one, which begins after all slots that are live here. Its expressions may
+    /// contain the same tokens as those of this one. Does not allocate.
     pub fn inner(&self, alloc: Global) -> Frame<'_>
         ensures live { result.live ≡ in_block self.now.live }
         ensures filter { result.filter ≡ self.now.filter }

@@ -6,7 +6,7 @@ use Rattle.rhai_lower.specs.Texts.{Text, same_text}
 use Rattle.rhai_lower.specs.Positions.{place}
 use Rattle.rhai_lower.specs.Nodes as node
 use Rattle.rhai_lower.specs.Nodes.{Cases, Node, Nodes, Properties, array, no_nodes, no_properties, object_map, one_node}
-use Rattle.rhai_lower.specs.Nodes.{one_property, start_of}
+use Rattle.rhai_lower.specs.Nodes.{one_property, start_of, with_arm}
 use Rattle.rhai_lower.specs.View.{arm_views, case_views}
 use Rattle.rhai_lower.specs.declared.ast.SwitchCasesCollection.{SwitchCasesCollection, out-SwitchCasesCollection}
 use Rattle.rhai_grammar.specs.CaseValues as value
@@ -29,6 +29,10 @@ collected_view x = record {
   ranges = (out-SwitchCasesCollection x).ranges.items;
   default = (out-SwitchCasesCollection x).def_case;
 }
+
+-- one more guard with its action
+abbrev pub with_action : Collected → (guard action : Node) → Collected
+with_action before guard action = record before { arms = with_arm before.arms guard action }
 
 -- ---- equal values
 
@@ -72,8 +76,10 @@ first_fault ranged no_nodes = None
 first_fault ranged (one_node x xs) =
     option_or (value_fault ranged x) (first_fault (ranged || is_full_range (range_of x)) xs)
 
-example : (case_place (node.one_case (node.integer (pos 1) (place 1 1)) [] node.no_cases) (node.integer (pos 1) (place 1 9))
-    ≡ Some 0)
-    × (value_fault true (node.integer (pos 1) (place 1 1))
-    ≡ Some (refusal cause.WrongSwitchIntegerCase (place 1 1)))
+-- The number 1 is the value of the first case; after a range it is refused.
+abbrev example_one : (column : ℕ) → Node
+example_one column = node.integer (pos 1) (place 1 column)
+
+example : (case_place (node.one_case (example_one 1) [] node.no_cases) (example_one 9) ≡ Some 0)
+    × (value_fault true (example_one 9) ≡ Some (refusal cause.WrongSwitchIntegerCase (place 1 9)))
 example = (refl, refl)

@@ -15,9 +15,11 @@ use rhai_lower::{Expr, Ident, Token};
 use std::rc::RcStr;
 
 /// A range of integers.
-#[derive(Clone, Copy, PartialEq, Eq, Debug)]
+#[derive(Clone, Copy)]
 pub struct IntegerRange {
+    /// The integer that it begins with.
     pub first: i64,
+    /// The integer that it ends with, or before.
     pub last: i64,
     /// Whether `last` belongs to the range.
     pub is_inclusive: bool,
@@ -122,7 +124,7 @@ fn same_range(left: Option<IntegerRange>, right: Option<IntegerRange>) -> bool
 
 // ---- equal values
 
-// These say whether an expression is a literal value equal to one without parts, of each kind.
+// Whether an expression is equal to a literal value without parts: unit, a boolean, and so on, one function for each.
 fn is_unit(expr: &Expr) -> bool
     ensures { result ≡ same_value (unit nowhere) (view expr.now) }
 {

@@ -1,5 +1,5 @@
 //! Operations on trees that do not use the stream: signs, operators and links with their operands, statements,
-//! constructs, segments of interpolated strings, and tests on trees.
+//! constructs, arms of `switch`, segments of interpolated strings, and tests on trees.
 #![tactic(auto)]
 
 mod call;
@@ -11,6 +11,7 @@ pub mod operator;
 pub mod sign;
 pub mod statement;
 pub mod strings;
+pub mod switch;
 pub mod target;
 
 pub use case_value::{IntegerRange, range_of, same_value};
@@ -25,4 +26,5 @@ pub use statement::{
     push_statement,
 };
 pub use strings::{push_segment, push_text};
+pub use switch::{ends_arm, make_switch, new_arms, no_guard, push_arm, push_default, test_cases};
 pub use target::{slot_of, test_target};
