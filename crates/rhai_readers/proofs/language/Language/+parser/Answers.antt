@@ -11,14 +11,16 @@ use Rattle.rhai_reading.specs.Running.{guarded, result_of}
 use Rattle.rhai_trees.specs.Chains.{indexed_by, link_views}
 use Rattle.rhai_readers.specs.Frames.{context_of, live_of}
 use Rattle.rhai_readers.specs.Asks.{operator_pair}
-use Rattle.rhai_readers.specs.Readers.{expr_statement, guard, index, iterated, operand, state_of}
+use Rattle.rhai_readers.specs.Readers.{arm, default_arm, expr_statement, guard, index, iterated, operand, state_of}
+use Rattle.rhai_readers.specs.Switches.{arm_view}
+use Rattle.rhai_trees.specs.Switches.{collected_view}
 use Rattle.rhai_reading.proofs.ChainSteps.{DotTaken, dot_goes_on, dot_short}
 use Rattle.rhai_reading.proofs.FieldSteps.{FieldTaken, field_goes_on, field_short}
 use Rattle.rhai_reading.proofs.Outcomes.{answer_given, outcome}
 use Rattle.rhai_reading.proofs.RunSteps.{Walked, walked_on, walked_refused, walked_short}
 use Rattle.rhai_reading.proofs.WordSteps.{Worded}
 use Rattle.rhai_trees.proofs.ChainLemmas.{indexed_after, links_push}
-use Rattle.rhai_readers.proofs.Readers.{chains, constructs, literals, operands, statements}
+use Rattle.rhai_readers.proofs.Readers.{chains, constructs, literals, operands, statements, switches}
 use Rattle.rhai_readers.proofs.AnswerLemmas.{gives_so, same_context, worded_outcome}
 use Rattle.rhai_readers.proofs.language.Language.+parser.Goals as goal
 use Rattle.rhai_readers.proofs.language.Language.+parser.Goals.{parse_binary_op-After-make_binary}
@@ -162,3 +164,13 @@ pub parse_iterated-returns-clause-reads : goal.parse_iterated-returns-clause-rea
 parse_iterated-returns-clause-reads t c =
     let call = guarded (iterated c.args.self.now c.args.frame.now c.args.settings) (state_of c.args.shared.now) in
     gives_so view c.end_iterated.result (state_of c.parse_expr.new.shared) (grind (arith, constructs)) (c.end_iterated.ensures.gives call _)
+
+pub parse_arm-returns-clause-reads : goal.parse_arm-returns-clause-reads
+parse_arm-returns-clause-reads t c =
+    let call = guarded (arm c.args.self.now c.args.frame.now c.args.settings (collected_view c.args.before.now)) (state_of c.args.shared.now) in
+    gives_so arm_view c.end_arm.result (cursor_of c.end_arm.new.input) (grind (arith, switches)) (c.end_arm.ensures.gives call (grind (arith, switches)))
+
+pub parse_default_arm-returns-clause-reads : goal.parse_default_arm-returns-clause-reads
+parse_default_arm-returns-clause-reads t c =
+    let call = guarded (default_arm c.args.self.now c.args.frame.now c.args.settings c.args.default) (state_of c.args.shared.now) in
+    gives_so view c.end_default.result (cursor_of c.end_default.new.input) (grind (arith, switches)) (c.end_default.ensures.gives call (grind (arith, switches)) (λ t le. grind (arith, le, switches)))
