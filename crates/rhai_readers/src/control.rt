@@ -37,15 +37,15 @@ pub(crate) fn next_loop_names(alloc: Global, input: &mut TokenStream) -> ParseRe
     ensures gives { Gives loop_view (result_of loop_names (cursor_of input.old)) result (cursor_of input.new) }
     ensures shorter { left (cursor_of input.new).tokens ≤ left (cursor_of input.old).tokens }
 {
-    let counted = pass_token(input, DueToken::LeftParen)?;
-    let (name, _) = parse_var_name(input)?;
-    if !counted {
+    if !pass_token(input, DueToken::LeftParen)? {
+        let (name, _) = parse_var_name(input)?;
         match_token(alloc, input, DueToken::In, "after the variable of this loop")?;
         return Ok(LoopNames {
             name,
             counter: None,
         });
     }
+    let (name, _) = parse_var_name(input)?;
     match_token(alloc, input, DueToken::Comma, "after the variable of this loop")?;
     let (counter, pos) = parse_var_name(input)?;
     test_counter(&name, &counter, pos)?;

@@ -11,20 +11,20 @@ use Rattle.rhai_reading.specs.Running.{guarded, result_of}
 use Rattle.rhai_trees.specs.Chains.{indexed_by, link_views}
 use Rattle.rhai_readers.specs.Frames.{context_of, live_of}
 use Rattle.rhai_readers.specs.Asks.{operator_pair}
-use Rattle.rhai_readers.specs.Readers.{expr_statement, index, operand, state_of}
+use Rattle.rhai_readers.specs.Readers.{expr_statement, guard, index, iterated, operand, state_of}
 use Rattle.rhai_reading.proofs.ChainSteps.{DotTaken, dot_goes_on, dot_short}
 use Rattle.rhai_reading.proofs.FieldSteps.{FieldTaken, field_goes_on, field_short}
 use Rattle.rhai_reading.proofs.Outcomes.{answer_given, outcome}
 use Rattle.rhai_reading.proofs.RunSteps.{Walked, walked_on, walked_refused, walked_short}
 use Rattle.rhai_reading.proofs.WordSteps.{Worded}
 use Rattle.rhai_trees.proofs.ChainLemmas.{indexed_after, links_push}
-use Rattle.rhai_readers.proofs.Readers.{chains, literals, operands, statements}
+use Rattle.rhai_readers.proofs.Readers.{chains, constructs, literals, operands, statements}
 use Rattle.rhai_readers.proofs.AnswerLemmas.{gives_so, same_context, worded_outcome}
 use Rattle.rhai_readers.proofs.language.Language.+parser.Goals as goal
 use Rattle.rhai_readers.proofs.language.Language.+parser.Goals.{parse_binary_op-After-make_binary}
 
 -- an operator of a run with its right side
-walked : (t : _) (c : parse_binary_op-After-make_binary t) → Walked (context_of c.args.self.now c.loop-lhs.settings) (live_of c.args.frame.now) c.args.parent c.in-Some.operator.strength c.in-Some.operator.right c.place_after.result (option_map operator_pair c.in_ok-next_operator.field-0) (lexeme c.take-op_token.result.0) c.take-op_token.result.1 (view c.in_ok-rhs.rhs) (view c.in_ok-rhs-2.rhs) (context_of c.args.self.now c.in_ok-deeper.deeper.side)
+walked : (t : _) (c : parse_binary_op-After-make_binary t) → Walked (context_of c.args.self.now c.loop-lhs.settings) (live_of c.args.frame.now) c.args.parent c.in-Some.operator.strength c.in-Some.operator.right c.place_after-place.result (option_map operator_pair c.in_ok-next_operator.field-0) (lexeme c.take-op_token.result.0) c.take-op_token.result.1 (view c.in_ok-rhs.rhs) (view c.in_ok-rhs-2.rhs) (context_of c.args.self.now c.in_ok-deeper.deeper.side)
     (state_of c.loop-lhs.shared) (cursor_of c.next_operator.new.input) (cursor_of c.take-op_token.new.input) (state_of c.parse_right_operand.new.shared) (cursor_of c.next_operator-in-loop-lhs.new.input) (state_of c.parse_binary_op.new.shared)
 walked t c = record {
   operator = search rules;
@@ -152,3 +152,13 @@ pub parse_expr_stmt-returns-clause-reads : goal.parse_expr_stmt-returns-clause-r
 parse_expr_stmt-returns-clause-reads t c =
     let call = guarded (expr_statement c.args.self.now c.args.frame.now c.args.settings) (state_of c.args.shared.now) in
     gives_so statement_view c.end_assignment.result (state_of c.parse_expr-2.new.shared) (grind (arith, statements)) (c.end_assignment.ensures.gives call _)
+
+pub parse_guard-returns-clause-reads : goal.parse_guard-returns-clause-reads
+parse_guard-returns-clause-reads t c =
+    let call = guarded (guard c.args.self.now c.args.frame.now c.args.settings) (state_of c.args.shared.now) in
+    gives_so view c.end_guard.result (cursor_of c.end_guard.new.input) (grind (arith, constructs)) (c.end_guard.ensures.gives call)
+
+pub parse_iterated-returns-clause-reads : goal.parse_iterated-returns-clause-reads
+parse_iterated-returns-clause-reads t c =
+    let call = guarded (iterated c.args.self.now c.args.frame.now c.args.settings) (state_of c.args.shared.now) in
+    gives_so view c.end_iterated.result (state_of c.parse_expr.new.shared) (grind (arith, constructs)) (c.end_iterated.ensures.gives call _)
