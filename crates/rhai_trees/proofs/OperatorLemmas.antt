@@ -1,5 +1,5 @@
 -- What a binary operator makes of its operands, as the code tests them.
-use Rattle.std.proofs.Common.{◌≡◌, Bool, true, false, List, [], ◌∷◌, ◌++◌, Option, Some, None, Result, Ok, Err, refl, ap}
+use Rattle.std.proofs.Common.{◌≡◌, ◌∙◌, IfErr, Bool, true, false, List, [], ◌∷◌, ◌++◌, Option, Some, None, Result, Ok, Err, refl, ap}
 use Rattle.std.specs.Prelude.{codes, if◌then◌else◌, is_none, unwrap_or}
 use Rattle.rhai_lower.specs.Texts.{Text}
 use Rattle.rhai_lower.specs.Lexemes.{Lexeme}
@@ -7,7 +7,9 @@ use Rattle.rhai_lower.specs.Nodes.{Node, one_node, start_of}
 use Rattle.rhai_lower.specs.View.{view, views}
 use Rattle.rhai_lower.specs.declared.ast.Expr.{Expr}
 use Rattle.rhai_lower.specs.declared.position.Position.{Position}
-use Rattle.rhai_grammar.specs.Causes.{MismatchedType, Refusal, refusal}
+use Rattle.rhai_grammar.specs.Causes.{MismatchedType, Refusal, is_for_memory, refusal, refusal_of}
+use Rattle.rhai_grammar.specs.declared.error.ParseError.{ParseError}
+use Rattle.rhai_grammar.specs.Constructs.{guard_fault, kind_fault}
 use Rattle.rhai_grammar.specs.Kinds.{not_boolean}
 use Rattle.rhai_grammar.specs.declared.role.ListKind.TheVariants as lists_of
 use Rattle.rhai_grammar.specs.declared.role.Joining.TheVariants as joins
@@ -34,8 +36,28 @@ holds_or l n e = holds_where_due l n (ap takes_booleans e)
 pub holds_others : (l : Lexeme) (n : Node) → takes_booleans (joining l) ≡ false → boolean_holds l n ≡ true
 holds_others l n e = ap (λ b. if b then is_none (not_boolean n) else true) e
 
-pub mismatched_kind : (n : Node) (kind : Text) → not_boolean n ≡ Some kind → mismatched n ≡ refusal (MismatchedType (codes "a boolean expression") kind) (start_of n)
-mismatched_kind n kind e = ap (λ o. refusal (MismatchedType (codes "a boolean expression") (unwrap_or o [])) (start_of n)) e
+-- An operand that cannot be a boolean is refused as a guard is.
+abbrev mismatched_as : Option Text → Node → Refusal
+mismatched_as found n = refusal (MismatchedType (codes "a boolean expression") (unwrap_or found [])) (start_of n)
+
+fits : (found : Option Text) (n : Node) → kind_fault (codes "a boolean expression") n found ≡ None → is_none found ≡ true
+fits None n e = refl
+fits (Some kind) n e = absurd cc
+
+misses : (found : Option Text) (n : Node) (r : Refusal) → kind_fault (codes "a boolean expression") n found ≡ Some r → is_none found ≡ false
+misses None n r e = absurd cc
+misses (Some kind) n r e = refl
+
+refused_so : (found : Option Text) (n : Node) (r : Refusal) → kind_fault (codes "a boolean expression") n found ≡ Some r → r ≡ mismatched_as found n
+refused_so None n r e = absurd cc
+refused_so (Some kind) n r e = cc
+
+pub boolean_fits : (n : Node) → guard_fault n ≡ None → is_none (not_boolean n) ≡ true
+boolean_fits n e = fits (not_boolean n) n e
+
+pub misfit : {A : Type 0} (l : Lexeme) (n : Node) (r : Result A ParseError) → takes_booleans (joining l) ≡ true → IfErr r (λ e. is_for_memory e ≡ false → guard_fault n ≡ Some (refusal_of e)) → IfErr r (λ e. is_for_memory e ≡ false → (boolean_holds l n ≡ false) × (refusal_of e ≡ mismatched n))
+misfit l n (Ok x) b h = tt
+misfit l n (Err e) b h = λ m. (holds_where_due l n b ∙ misses (not_boolean n) n (refusal_of e) (h m), refused_so (not_boolean n) n (refusal_of e) (h m))
 
 -- ---- the result
 
@@ -73,7 +95,7 @@ result_taken l at n m e = taken (boolean_holds l n) (boolean_holds l m) (mismatc
 
 pub ruleset operand_faults = (fault_left, fault_right, fault_none)
 
-pub ruleset holds = (holds_and, holds_or, holds_others)
+pub ruleset holds = (holds_and, holds_or, holds_others, boolean_fits)
 
 -- the nodes of lists
 pub ruleset lists = (view_and, view_or, view_coalesce)

@@ -1,6 +1,6 @@
 //! Binary operators with their operands.
 
-ghost use Rattle.std.specs.Prelude.{◌≡◌, None, Some, true, false, IfErr, IfOk, IsOk, is_none};
+ghost use Rattle.std.specs.Prelude.{◌≡◌, None, Some, true, false, IfErr, IfOk, IsOk};
 ghost use Rattle.rhai_lower.specs.Lexemes.{lexeme};
 ghost use Rattle.rhai_lower.specs.View.{view, views};
 ghost use Rattle.rhai_grammar.specs.Answers.{Answers};
@@ -8,16 +8,14 @@ ghost use Rattle.rhai_grammar.specs.Causes.{MemoryIsNowhere, is_for_memory, no_m
 ghost use Rattle.rhai_grammar.specs.Operators.{boolean_holds, items, joining};
 ghost use Rattle.rhai_grammar.specs.Operators.{list_of, list_position, list_tree, mismatched, no_membership};
 ghost use Rattle.rhai_grammar.specs.Operators.{operator_result, operator_tree, part};
-ghost use Rattle.rhai_grammar.specs.Kinds.{not_boolean};
 ghost use Rattle.rhai_grammar.specs.declared.role.ListKind.TheVariants.{And, Coalesce, Or};
 ghost use Rattle.rhai_trees.specs.Views.{operand_fault, part_view};
 
 use crate::call::{contains_call, native_call};
-use crate::kind::not_boolean;
-use rhai_grammar::{Joining, ListKind, ParseError, ParseErrorType, ParseResult};
+use crate::construct::test_guard;
+use rhai_grammar::{Joining, ListKind, ParseResult};
 use rhai_lower::{Expr, Position, Token};
 use std::alloc::{AllocError, Global};
-use std::rc::RcStr;
 
 /// An operand of an operator that makes lists.
 #[derive(Drop)]
@@ -73,30 +71,11 @@ fn test_operand(alloc: Global, op_token: &Token, operand: &Expr) -> ParseResult<
     ensures nowhere { IfErr result MemoryIsNowhere }
 {
     match joining_of(op_token) {
-        Joining::List(ListKind::And) | Joining::List(ListKind::Or) => test_boolean(alloc, operand),
+        Joining::List(ListKind::And) | Joining::List(ListKind::Or) => test_guard(alloc, operand),
         Joining::List(ListKind::Coalesce)
         | Joining::Membership
         | Joining::NoMembership
         | Joining::Call => Ok(()),
-    }
-}
-
-// Refuses an operand that cannot be a boolean.
-#[tactic(auto, using(crate::proofs::OperatorLemmas::mismatched_kind))]
-fn test_boolean(alloc: Global, operand: &Expr) -> ParseResult<()>
-    ensures passes { IsOk result → is_none (not_boolean (view operand.now)) ≡ true }
-    ensures refuses { IfErr result (λ e. is_for_memory e ≡ false
-        → (is_none (not_boolean (view operand.now)) ≡ false) × (refusal_of e ≡ mismatched (view operand.now))) }
-    ensures nowhere { IfErr result MemoryIsNowhere }
-{
-    match not_boolean(operand) {
-        None => Ok(()),
-        Some(kind) => {
-            let due = RcStr::from_str(alloc, "a boolean expression")?;
-            let found = RcStr::from_str(alloc, kind)?;
-            let start = operand.start_position();
-            Err(ParseError(ParseErrorType::MismatchedType(due, found), start))
-        }
     }
 }
 

@@ -5,8 +5,8 @@ ghost use Rattle.std.specs.Prelude.{◌≡◌, IfOk, OnOk, false, option_map, tr
 ghost use Rattle.std.specs.Int.NonZero.{non_zero_usize_get};
 ghost use Rattle.std.specs.Rc.{rc_str_bytes};
 ghost use Rattle.rhai_lower.specs.Lexemes.{lexeme};
-ghost use Rattle.rhai_lower.specs.Nodes.{absent, assignment, block_statement, block_value, braces, break_loop, expression};
-ghost use Rattle.rhai_lower.specs.Nodes.{made_block, return_statement, var_statement};
+ghost use Rattle.rhai_lower.specs.Nodes.{absent, assignment, block_statement, block_value, braces, break_loop};
+ghost use Rattle.rhai_lower.specs.Nodes.{expression, made_block, return_statement, var_statement};
 ghost use Rattle.rhai_lower.specs.View.{block_view, statement_view, statement_views, view};
 ghost use Rattle.rhai_grammar.specs.Statements.{ends_itself};
 ghost use Rattle.rhai_grammar.specs.Targets.{update_of};

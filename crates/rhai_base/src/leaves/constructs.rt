@@ -1,7 +1,7 @@
 //! Constructs: where each may stand, what begins and ends a guard, the end of `do`, the variables of `for`, and where
 //! `break` and `continue` may stand.
 
-ghost use Rattle.std.specs.Prelude.{◌≡◌, ◌+◌, ◌≤◌, IfErr, IfSome, OnOk, codes, false, true};
+ghost use Rattle.std.specs.Prelude.{◌≡◌, ◌+◌, ◌≤◌, IfErr, IfSome, OnOk, false, true};
 ghost use Rattle.std.specs.Rc.{rc_str_bytes};
 ghost use Rattle.rhai_lower.specs.Lexemes.{lexeme};
 ghost use Rattle.rhai_lower.specs.Texts.{same_text};
@@ -127,7 +127,7 @@ pub fn end_do(alloc: Global, input: &mut TokenStream) -> ParseResult<bool>
     }
 }
 
-/// Refuses the name of a `for` loop's counter, which is at `pos`, if it is that of the loop's variable, which is `name`.
+/// Refuses the counter of a `for`, a name at `pos`, if it is also the loop's variable, which is `name`.
 ///
 /// The error is `DuplicatedVariable` at `pos`, or `OutOfMemory`.
 pub fn test_counter(name: &RcStr, counter: &RcStr, pos: Position) -> ParseResult<()>

@@ -81,8 +81,8 @@ pub fn match_token(
     Err(missing(alloc, text_of_due(due), note, token, *pos))
 }
 
-/// Takes the next token if it is this one, and says whether it is. The error comes where the tokenizer ran out of memory
-/// at that token. What is not taken stays.
+/// Takes the next token if it is the one that `due` says; any other stays. Whether it was taken. The error comes where
+/// the tokenizer ran out of memory at that token, which stays too.
 pub fn pass_token(input: &mut TokenStream, due: DueToken) -> Result<bool, AllocError>
     ensures tries { Tries due (cursor_of input.old) result (cursor_of input.new) }
     ensures readable { OnOk result (is_memory (asked (cursor_of input.old)).lexeme ≡ false) }
