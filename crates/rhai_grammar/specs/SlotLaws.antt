@@ -58,8 +58,8 @@ pub record Reuse : Type 0 where
       is_identifier name ≡ true → is_barrier (fresh_slot name constant) ≡ false
 
 -- A construct and an expression leave live what was live before them. Statements leave the slots before their block as
--- they were, so a block's end gives back the slots that the block found. The variables of `for` and of `catch` are above
--- all that were there.
+-- they were, so a block's end gives back the slots that the block found. The variables of `for` and of `catch` are
+-- above all that were there.
 pub record ScopesClose : Type 0 where
   pub construct : (at : Position) (x : Construct) (live : Live) → after_statement (form.Compound at x) live ≡ live
   pub expression : (x : ExprStatement) (live : Live) → after_statement (form.Expression x) live ≡ live

@@ -139,7 +139,8 @@ abbrev mutual
       spelling guard ++ (in_code (Sign LeftBrace) opening ∷ body_spelling body)
   construct_spelling (form.Loop opening body) = in_code (Sign LeftBrace) opening ∷ body_spelling body
   construct_spelling (form.Do opening body negated do_at guard) =
-      in_code (Sign LeftBrace) opening ∷ (body_spelling body ++ (in_code (Sign (do_token negated)) do_at ∷ spelling guard))
+      in_code (Sign LeftBrace) opening
+      ∷ (body_spelling body ++ (in_code (Sign (do_token negated)) do_at ∷ spelling guard))
   construct_spelling (form.For names in_at over opening body) =
       names_spelling names
       ++ (in_code (Sign token.In) in_at ∷ (spelling over ++ (in_code (Sign LeftBrace) opening ∷ body_spelling body)))

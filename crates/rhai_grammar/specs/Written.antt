@@ -214,8 +214,8 @@ abbrev mutual
       Tok code (item (Sign Equals) equals) anything ▸ raise_at context at (
       as_expression (run f) (level_up context) live more)
 
-  -- After `return`, `throw` or `break` stands a value exactly where the next token begins an expression. The level is raised at
-  -- the keyword, with or without a value.
+  -- After `return`, `throw` or `break` stands a value exactly where the next token begins an expression. The level is
+  -- raised at the keyword, with or without a value.
   pub jump_value : JumpValue → Context → Live → (at : Position) → Demands → Demands
   jump_value form.Absent context live at more = Next (no_value_follows context) ▸ raise_at context at more
   jump_value (form.Present f) context live at more =
@@ -256,7 +256,8 @@ abbrev mutual
   construct (form.For names in_at over opening body) context live at more =
       loop_names names (due_token due.In in_at (
       as_iterated (run over) (tree over live) context live (
-      in_braces opening (block body) (loop_body context) (loop_live (loop_name names) (counter_of names) live) at more)))
+      in_braces opening (block body) (loop_body context) (loop_live (loop_name names) (counter_of names) live) at
+      more)))
   construct (form.Try opening body catch_at name catch_opening handler) context live at more =
       in_braces opening (block body) context live at (
       due_token due.Catch catch_at (catch_name name (

@@ -130,8 +130,8 @@ inside_construct c w at kind.Do =
     Call (Braced (loop_body c) w at) (λ b. Call DoEnd (λ negated. Call (Guard c w) (λ x.
     Ret (do_statement x b negated at))))
 inside_construct c w at kind.For =
-    Call LoopNames (λ names. Call (Iterated c w) (λ x. Call (Braced (loop_body c) (loop_live names.0 names.1 w) at) (λ b.
-    Ret (for_statement names.0 names.1 x b at))))
+    Call LoopNames (λ names. Call (Iterated c w) (λ x.
+    Call (Braced (loop_body c) (loop_live names.0 names.1 w) at) (λ b. Ret (for_statement names.0 names.1 x b at))))
 inside_construct c w at kind.Try =
     Call (Braced c w at) (λ b. Call Catch (λ name. Call (Braced c (catch_live (caught_name name) w) at) (λ d.
     Ret (try_catch b (catch_node name) d at))))
