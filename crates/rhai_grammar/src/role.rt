@@ -1,6 +1,7 @@
 //! What a token is where it stands: one type for each place.
 
-/// A construct that begins with `{` or with a keyword. It is a statement; most may be operands, if the options allow it.
+/// A construct that begins with `{` or with a keyword. It is a statement; most may be operands, where the options allow
+/// it.
 #[derive(Clone, Copy, PartialEq, Eq, Debug)]
 pub enum Construct {
     /// A block.

@@ -207,7 +207,14 @@ impl Language {
         let over = self.parse_iterated(shared, frame, settings)?;
         let inner = loop_frame(self.alloc(), frame, &names)?;
         let body = self.parse_braces(shared, &inner, settings.loop_body())?;
-        Ok(make_for(self.alloc(), names.name, names.counter, over, body, settings.pos)?)
+        Ok(make_for(
+            self.alloc(),
+            names.name,
+            names.counter,
+            over,
+            body,
+            settings.pos,
+        )?)
     }
 
     /// Reads a `try` after its keyword, where the settings stand. The variable of its `catch` is live in the block of

@@ -1,5 +1,5 @@
-//! What the readers of constructs ask for by leaves, as the reading program gives it: the names of `for` and `catch`,
-//! the end of `do`, and the frames that hold such names; and the ends of guards and of what `for` goes over.
+//! What the readers of constructs ask for by leaves, as the reading program gives it: the names of `for` and of
+//! `catch`, the end of `do`, and the frames that hold such names; and the ends of guards and of what `for` goes over.
 
 ghost use Rattle.std.specs.Prelude.{◌≡◌, ◌+◌, ◌≤◌, IfOk, OnOk, option_map};
 ghost use Rattle.std.specs.Rc.{rc_str_bytes};
@@ -39,18 +39,38 @@ pub(crate) fn next_loop_names(alloc: Global, input: &mut TokenStream) -> ParseRe
 {
     if !pass_token(input, DueToken::LeftParen)? {
         let (name, _) = parse_var_name(input)?;
-        match_token(alloc, input, DueToken::In, "after the variable of this loop")?;
+        match_token(
+            alloc,
+            input,
+            DueToken::In,
+            "after the variable of this loop",
+        )?;
         return Ok(LoopNames {
             name,
             counter: None,
         });
     }
     let (name, _) = parse_var_name(input)?;
-    match_token(alloc, input, DueToken::Comma, "after the variable of this loop")?;
+    match_token(
+        alloc,
+        input,
+        DueToken::Comma,
+        "after the variable of this loop",
+    )?;
     let (counter, pos) = parse_var_name(input)?;
     test_counter(&name, &counter, pos)?;
-    match_token(alloc, input, DueToken::RightParen, "after the variables of this loop")?;
-    match_token(alloc, input, DueToken::In, "after the variables of this loop")?;
+    match_token(
+        alloc,
+        input,
+        DueToken::RightParen,
+        "after the variables of this loop",
+    )?;
+    match_token(
+        alloc,
+        input,
+        DueToken::In,
+        "after the variables of this loop",
+    )?;
     Ok(LoopNames {
         name,
         counter: Some(counter),
@@ -76,12 +96,22 @@ pub(crate) fn next_catch(
     ensures gives { Gives (option_map name_view) (result_of Catch (cursor_of input.old)) result (cursor_of input.new) }
     ensures shorter { left (cursor_of input.new).tokens ≤ left (cursor_of input.old).tokens }
 {
-    match_token(alloc, input, DueToken::Catch, "after the block of this `try`")?;
+    match_token(
+        alloc,
+        input,
+        DueToken::Catch,
+        "after the block of this `try`",
+    )?;
     if !pass_token(input, DueToken::LeftParen)? {
         return Ok(None);
     }
     let name = parse_var_name(input)?;
-    match_token(alloc, input, DueToken::RightParen, "after the variable of this `catch`")?;
+    match_token(
+        alloc,
+        input,
+        DueToken::RightParen,
+        "after the variable of this `catch`",
+    )?;
     Ok(Some(name))
 }
 

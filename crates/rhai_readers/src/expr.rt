@@ -9,11 +9,11 @@ use crate::asks::next_operator;
 use crate::language::Language;
 use crate::shared::Shared;
 use rhai_base::cursor::{peek, skip, take};
+use rhai_base::leaves::constructs::may_be_value;
 use rhai_base::leaves::due::{end_due, match_token};
 use rhai_base::leaves::lists::{closes_list, list_continues};
 use rhai_base::leaves::names::{as_variable, make_call, name_node, word_node};
 use rhai_base::leaves::refusals::{missing, no_operand};
-use rhai_base::leaves::constructs::may_be_value;
 use rhai_base::leaves::tokens::{
     is_called, is_no_argument, is_sign, place_after, value_of, what_begins, what_operand,
 };

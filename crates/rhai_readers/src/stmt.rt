@@ -218,8 +218,8 @@ impl Language {
         self.parse_statements(shared, &mut inner, settings, Closing::Brace)
     }
 
-    /// Reads what follows `return`, `throw` or `break`, where the settings stand: a value, exactly where the next token begins
-    /// an expression. The level is raised with or without one.
+    /// Reads what follows `return`, `throw` or `break`, where the settings stand: a value, exactly where the next token
+    /// begins an expression. The level is raised with or without one.
     #[cycle(parser)]
     pub(crate) fn parse_jump(
         &self,
