@@ -88,7 +88,12 @@ impl Language {
     {
         let cases = self.parse_cases(shared, frame, settings)?;
         let guard = self.parse_case_guard(shared, frame, settings)?;
-        match_token(self.alloc(), shared.input, DueToken::DoubleArrow, "after the cases of this arm")?;
+        match_token(
+            self.alloc(),
+            shared.input,
+            DueToken::DoubleArrow,
+            "after the cases of this arm",
+        )?;
         let does = self.parse_action(shared, frame, settings)?;
         end_arm(self.alloc(), shared.input, before, cases, guard, does)
     }
@@ -106,7 +111,12 @@ impl Language {
         ensures reads { Reads (default_arm self.now frame.now settings default) view shared.old result shared.new }
     {
         default_unguarded(shared.input)?;
-        match_token(self.alloc(), shared.input, DueToken::DoubleArrow, "after the `_` of this arm")?;
+        match_token(
+            self.alloc(),
+            shared.input,
+            DueToken::DoubleArrow,
+            "after the `_` of this arm",
+        )?;
         let does = self.parse_action(shared, frame, settings)?;
         end_default(self.alloc(), shared.input, does, default)
     }

@@ -193,6 +193,5 @@ any_construct kind.For =
 any_construct kind.Try =
     record { construct = form.Try nowhere any_body nowhere form.NoName nowhere any_body; is = refl }
 
-
 abbrev pub any_default : DefaultForm
 any_default = record { arrow = nowhere; action = any_action; comma = None; closing = nowhere }
