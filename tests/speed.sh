@@ -1,7 +1,7 @@
 #!/usr/bin/env bash
-# Prints how many microseconds a token takes, in scripts of 10,000, 100,000 and 1,000,000 tokens of six kinds, for the
-# program and for another one that is given, run in turn. It is no part of the gate. It fails if a token of the longest
-# script takes the program more than twice the time of one of the shortest.
+# Prints how many microseconds a token takes, in scripts of 10,000, 100,000 and 1,000,000 tokens of seven kinds, for
+# the program and for another one that is given, run in turn. It is no part of the gate. It fails if a token of the
+# longest script takes the program more than twice the time of one of the shortest.
 #
 # usage: tests/speed.sh [PROGRAM] [OTHER_PROGRAM]
 #
@@ -24,6 +24,7 @@ make_list() {
         function put(text) { print "1:1 " text; made++ }
         BEGIN {
             if (kind == "lists") put("sym [")
+            if (kind == "arms") { put("sym switch"); put("id x"); put("sym {") }
             while (made < tokens) {
                 if (kind == "statements") { put("id x"); put("sym ="); put("int 1"); put("sym ;") }
                 if (kind == "variables") {
@@ -55,8 +56,10 @@ make_list() {
                     for (i = 0; i < 18; i++) put("sym }")
                 }
                 if (kind == "lists") { put("int 1"); put("sym ,") }
+                if (kind == "arms") { put("int 1"); put("sym =>"); put("int 2"); put("sym ,") }
             }
             if (kind == "lists") { put("sym ]"); put("sym ;") }
+            if (kind == "arms") put("sym }")
             put("sym )")
             print "1:1 eof"
         }'
@@ -80,7 +83,7 @@ time_of() {
 printf '%-12s %9s' kind tokens
 for program in "${programs[@]}"; do printf '  %12s' "${program##*/}"; done
 echo
-for kind in statements variables blocks conditions loops lists; do
+for kind in statements variables blocks conditions loops lists arms; do
     for tokens in 10000 100000 1000000; do
         make_list "$kind" "$tokens" >"$folder/list"
         count=$(($(wc -l <"$folder/list") - 1))

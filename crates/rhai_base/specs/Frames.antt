@@ -1,13 +1,16 @@
--- What a frame shows: the slots that are live in a block, and how deep the block is.
+-- What a frame shows: the slots that are live in a block, how deep the block is, and which tokens its expressions may
+-- have.
 use Rattle.std.specs.Prelude.{◌≡◌, ℕ, ◌+◌, ◌<◌, ◌^◌, List, [], Option, Some, None, length}
 use Rattle.std.specs.Borrow.{Bor}
 use Rattle.rhai_lower.specs.Slots.{SlotValue}
 use Rattle.rhai_grammar.specs.Contexts.{Live}
+use Rattle.rhai_grammar.specs.declared.filter.ExprFilter.{ExprFilter}
 
--- what is live, and how many frames are around this one
+-- what is live, how many frames are around this one, and which tokens an expression may have
 pub record FrameValue : Type 0 where
   pub live : Live
   pub depth : ℕ
+  pub filter : ExprFilter
 
 -- the slots of the frame around a frame, and of all frames around that one
 abbrev pub outer_slots : Option (Bor FrameValue) → List SlotValue

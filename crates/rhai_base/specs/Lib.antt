@@ -1,3 +1,4 @@
+pub mod Arms
 pub mod ClosureNames
 pub mod CommaLists
 pub mod Constructs

@@ -1,4 +1,4 @@
-//! The slots that are live in a block.
+//! The slots that are live in a block, and which tokens its expressions may contain.
 
 ghost use Rattle.std.specs.Prelude.{◌≡◌, ◌||◌, IfErr, IfOk, OnErr, OnOk, false, length, option_map, true};
 ghost use Rattle.std.specs.Int.NonZero.{non_zero_usize_get};
@@ -8,10 +8,11 @@ ghost use Rattle.rhai_grammar.specs.Contexts.{in_block};
 ghost use Rattle.rhai_grammar.specs.Definitions.{declared, defined, is_none, reused};
 ghost use Rattle.rhai_grammar.specs.Slots.{number};
 ghost use Rattle.rhai_grammar.specs.Targets.{is_constant_at};
+ghost use Rattle.rhai_grammar.specs.declared.filter.ExprFilter.TheVariants.{AllButPipe};
 
 use crate::lookup::place_of;
 use crate::slots::define;
-use rhai_grammar::{ParseError, ParseErrorType, ParseResult};
+use rhai_grammar::{ExprFilter, ParseError, ParseErrorType, ParseResult};
 use rhai_lower::{Position, Scope};
 use std::alloc::{AllocError, Global};
 use std::marker::Model;
@@ -19,7 +20,8 @@ use std::num::NonZeroUsize;
 use std::rc::RcStr;
 
 /// The slots that are live in a block: those of the frame around it, and after them those that the block defines. A
-/// slot's number counts from 1 at the latest slot of all.
+/// slot's number counts from 1 at the latest slot of all. A frame also knows which tokens the expressions in it may
+/// contain: in a case of a `switch`, and in all blocks inside it, that is every token but `|`.
 #[derive(Drop)]
 pub struct Frame<'p> {
     // The frame of the block around this one.
@@ -30,6 +32,8 @@ pub struct Frame<'p> {
     stack: Scope,
     // The number of slots of `stack` that lie before the block: 0 in an inner frame.
     block: usize,
+    // Which tokens the expressions in this block may contain.
+    filter: ExprFilter,
 }
 
 impl<'p> Model for Frame<'p> {
@@ -41,6 +45,7 @@ impl<'p> Model for Frame<'p> {
     ghost view = { λ f. record {
       live = record { slots = outer_slots f.outer ++ f.stack; block = length (outer_slots f.outer) + f.block };
       depth = outer_depth f.outer;
+      filter = f.filter;
     } };
 
     ghost invariant = { λ f. IsCounted f.outer f.below f.stack };
@@ -53,9 +58,10 @@ impl<'p> Model for Frame<'p> {
 }
 
 impl<'p> Frame<'p> {
-    /// The outermost frame, of a block that begins after the oldest `block` slots of `stack`. Does not allocate.
-    pub fn new(stack: Scope, block: usize) -> Frame<'p>
-        ensures { result ≡ record { live = record { slots = stack; block = block }; depth = 0 } }
+    /// The outermost frame, of a block that begins after the oldest `block` slots of `stack`. Its expressions may contain
+    /// the tokens that `filter` lets pass. Does not allocate.
+    pub fn new(stack: Scope, block: usize, filter: ExprFilter) -> Frame<'p>
+        ensures { result ≡ record { live = record { slots = stack; block = block }; depth = 0; filter = filter } }
     {
         let below = 0;
         Frame {
@@ -63,19 +69,47 @@ impl<'p> Frame<'p> {
             below,
             stack,
             block,
+            filter,
         }
     }
 
-    /// The frame of a block inside this one, which begins after all slots that are live here. Does not allocate.
+    /// The frame of a block inside this one, which begins after all slots that are live here. Its expressions may
+    /// contain the same tokens as those of this one. Does not allocate.
     pub fn inner(&self, alloc: Global) -> Frame<'_>
-        ensures { result.live ≡ in_block self.now.live }
+        ensures live { result.live ≡ in_block self.now.live }
+        ensures filter { result.filter ≡ self.now.filter }
+    {
+        self.inner_with(alloc, self.filter)
+    }
+
+    /// The frame of a case of a `switch`, whose slots are those that are live here. Its expressions, and those of the
+    /// blocks inside it, may contain every token except `|`. Does not allocate.
+    pub fn in_case(&self, alloc: Global) -> Frame<'_>
+        ensures live { result.live ≡ in_block self.now.live }
+        ensures filter { result.filter ≡ AllButPipe }
+    {
+        self.inner_with(alloc, ExprFilter::AllButPipe)
+    }
+
+    // The frame of a block inside this one, whose expressions may contain these tokens.
+    fn inner_with(&self, alloc: Global, filter: ExprFilter) -> Frame<'_>
+        ensures live { result.live ≡ in_block self.now.live }
+        ensures filter { result.filter ≡ filter }
     {
         Frame {
             outer: Some(self),
             below: self.len(),
             stack: Scope::new(alloc),
             block: 0,
+            filter,
         }
+    }
+
+    /// Which tokens the expressions in this block may contain. Does not allocate.
+    pub fn filter(&self) -> ExprFilter
+        ensures { result ≡ self.now.filter }
+    {
+        self.filter
     }
 
     /// The slots of the outermost frame; a caller has to prove that there is no frame around it. Does not allocate.
@@ -140,6 +174,7 @@ impl<'p> Frame<'p> {
             ≡ reused self.old.live.block (rc_str_bytes name.now) self.old.live.slots) }
         ensures ok { OnOk result (self.new.live ≡ defined (rc_str_bytes name.now) constant self.old.live) }
         ensures depth { self.new.depth ≡ self.old.depth }
+        ensures filter { self.new.filter ≡ self.old.filter }
     {
         if self.len() == usize::MAX {
             return Err(AllocError);
@@ -152,6 +187,7 @@ impl<'p> Frame<'p> {
     pub fn declare(&mut self, name: &RcStr) -> Result<(), AllocError>
         ensures ok { OnOk result (self.new.live ≡ declared (rc_str_bytes name.now) self.old.live) }
         ensures depth { self.new.depth ≡ self.old.depth }
+        ensures filter { self.new.filter ≡ self.old.filter }
     {
         if self.len() == usize::MAX {
             return Err(AllocError);

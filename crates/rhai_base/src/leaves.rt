@@ -1,6 +1,7 @@
 //! What the readers ask of tokens and make of them without reading an expression: tests, operators, names, keys,
-//! lists, texts of strings, due tokens, statements, constructs and refusals.
+//! lists, texts of strings, due tokens, statements, constructs, arms of `switch` and refusals.
 
+pub mod arms;
 pub mod constructs;
 pub mod due;
 pub mod items;

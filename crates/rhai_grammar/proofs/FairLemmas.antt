@@ -1,5 +1,5 @@
 -- No token is both required and refused at one place.
-use Rattle.std.proofs.Common.{◌≡◌, ℕ, ◌+◌, Bool, true, false, refl, ap, subst, inl, inr, if◌then◌else◌}
+use Rattle.std.proofs.Common.{◌≡◌, ℕ, ◌+◌, Bool, true, false, refl, sym, ◌∙◌, ap, subst, inl, inr, if◌then◌else◌}
 use Rattle.std.specs.Prelude.{Option, Some, None}
 use Rattle.rhai_lower.specs.Nodes.{Properties, no_properties, position_of, property, with_property}
 use Rattle.rhai_lower.specs.Lexemes.{Lexeme, Interpolated, Name, Reserved, Sign, text_of}
@@ -21,7 +21,7 @@ use Rattle.rhai_grammar.specs.Chains.{index_refusal, last_fault}
 use Rattle.rhai_grammar.specs.Contexts.{Context, Live, in_block, level_up, loop_body}
 use Rattle.rhai_grammar.specs.Delivered as M
 use Rattle.rhai_grammar.specs.Delivered.{Item, Mode, Point, is_memory, next_at, past}
-use Rattle.rhai_grammar.specs.Demands.{◌▸◌, Ahead, Blames, Demands, Fine, Met, Missed, Next, Nothing, Otherwise, Refused, Refuses, Shape, Test, Tok, Verdict, Wrong, verdict}
+use Rattle.rhai_grammar.specs.Demands.{◌▸◌, Ahead, Blames, Demands, Fine, Literally, Met, Missed, Next, Nothing, Otherwise, Refused, Refuses, Shape, Test, Tok, Verdict, Wrong, verdict}
 use Rattle.rhai_grammar.specs.Forms as form
 use Rattle.rhai_grammar.specs.Forms.{Arguments, Base, Body, Branch, CatchName, Conditional, Construct, Elements, ExprStatement, Fields, Initializer, Items, JumpValue, Links, LoopNames, Operand, Primary, Run, Segments, Statement, Statements}
 use Rattle.rhai_grammar.specs.Definitions.{after_statement, catch_live, loop_live}
@@ -32,11 +32,15 @@ use Rattle.rhai_grammar.specs.declared.role.Closing.TheVariants.{Brace, EndMark}
 use Rattle.rhai_grammar.specs.Laws.{FormsAreFair, IsFair, is_refused}
 use Rattle.rhai_grammar.specs.Literals.{KeyPlace, NoKey, is_key}
 use Rattle.rhai_grammar.specs.Trees.{argument_trees, base_tree, bracket_link, caught, caught_name, counter_of, loop_name, member_link, method_tree, primary_tree, tree}
+use Rattle.rhai_grammar.specs.Contexts.{in_case}
+use Rattle.rhai_grammar.specs.Forms.{Action, Arms, CaseGuard, Cases}
+use Rattle.rhai_grammar.specs.Switches.{Collected, arm_fault, nothing_collected, with_arm_collected}
+use Rattle.rhai_grammar.specs.Trees.{action_ends, action_tree, case_trees, guard_tree}
 use Rattle.rhai_grammar.specs.Verdicts as V
 use Rattle.rhai_grammar.specs.Written as W
 use Rattle.rhai_grammar.specs.Written.{operands_fit}
 use Rattle.rhai_grammar.specs.Spots.{LinkSpot, Outermost, RightOf, Side, Spot, spot_after_bracket, spot_after_dot}
-use Rattle.rhai_grammar.specs.Spots.{spot_after_operand, height_after, outermost, place_of, right_side}
+use Rattle.rhai_grammar.specs.Spots.{filter_of, spot_after_operand, height_after, outermost, place_of, right_side}
 
 -- ---- one token
 
@@ -72,6 +76,7 @@ construct_begins : (c : Context) (k : Kind) → may_be_value c k ≡ true → be
 construct_begins c kind.Try e = absurd cc
 construct_begins c kind.Block e = e
 construct_begins c kind.If e = e
+construct_begins c kind.Switch e = e
 construct_begins c kind.While e = e
 construct_begins c kind.Loop e = e
 construct_begins c kind.Do e = e
@@ -117,6 +122,10 @@ named (form.Counted opening name at comma counter counter_at closing) k h = (ref
 caught_by : (x : CatchName) (k : Demands) → IsFair k → IsFair (W.catch_name x k)
 caught_by form.NoName k h = h
 caught_by (form.Caught opening name at closing) k h = (refl, (refl, (refl, h)))
+
+separated : (comma : Option Position) (itself : Bool) (k : Demands) → IsFair k → IsFair (W.separated comma itself k)
+separated None itself k h = h
+separated (Some at) itself k h = (refl, h)
 
 mutual
   primary : (x : Primary) (c : Context) (w : Live) (p : OperandPlace) (k : Demands) → IsFair k → IsFair (W.primary x c w p k)
@@ -203,7 +212,7 @@ mutual
   run (form.Binary op at l r) q k h =
       run l q _ (λ a b d. (
         anything op,
-        run r (right_side op (height_after q l) q.live) (operands_fit op (tree l q.live) (tree r q.live) k) h,
+        run r (right_side op (height_after q l) q.live) (operands_fit (filter_of q) op (tree l q.live) (tree r q.live) k) h,
       ))
 
   evaluation : (x : ExprStatement) (c : Context) (w : Live) (k : Demands) → IsFair k → IsFair (W.expr_statement x c w k)
@@ -235,6 +244,8 @@ mutual
   construct : (x : Construct) (c : Context) (w : Live) (at : Position) (k : Demands) → IsFair k → IsFair (W.construct x c w at k)
   construct (form.Block f) c w at k h = block f c w k h
   construct (form.If x) c w at k h = conditional x c w at k h
+  construct (form.Switch item opening list) c w at k h =
+      run item (outermost (level_up c) w) _ (refl, arms list nothing_collected c w k h)
   construct (form.While guard opening f) c w at k h =
       guarded guard c w _ (run guard _) (refl, block f (level_up (loop_body c)) w k h)
   construct (form.Loop opening f) c w at k h = (refl, block f (level_up (loop_body c)) w k h)
@@ -255,6 +266,31 @@ mutual
   branch form.NoElse c w at k h = h
   branch (form.Else else_at opening f) c w at k h = (refl, (refl, block f (level_up c) w k h))
   branch (form.ElseIf else_at if_at x) c w at k h = (refl, (refl, conditional x (level_up c) w if_at k h))
+
+  arms : (x : Arms) (b : Collected) (c : Context) (w : Live) (k : Demands) → IsFair k → IsFair (W.arms x b c w k)
+  arms (form.NoArm closing) b c w k h = (refl, h)
+  arms (form.Arm xs guard arrow does comma rest) b c w k h =
+      let next = with_arm_collected b (case_trees xs w) (guard_tree guard w) (action_tree does w) in
+      cases xs c w _ (case_guard guard c w _ (
+        refl,
+        action does c w _ (
+            unfaulted (arm_fault b (case_trees xs w)) _ (separated comma (action_ends does w) _ (arms rest next c w k h))),
+      ))
+  arms (form.DefaultArm at arrow does comma closing) b c w k h =
+      (refl, (refl, action does c w _ (separated comma (action_ends does w) _ (refl, h))))
+
+  cases : (x : Cases) (c : Context) (w : Live) (k : Demands) → IsFair k → IsFair (W.cases x c w k)
+  cases (form.LastCase f) c w k h = (run f (outermost (level_up (in_case c)) (in_block w)) _ tt, h)
+  cases (form.Case f pipe rest) c w k h =
+      (run f (outermost (level_up (in_case c)) (in_block w)) _ tt, (refl, cases rest c w k h))
+
+  case_guard : (x : CaseGuard) (c : Context) (w : Live) (k : Demands) → IsFair k → IsFair (W.case_guard x c w k)
+  case_guard form.NoGuard c w k h = h
+  case_guard (form.Guard at f) c w k h = (refl, guarded f c w k (run f _) h)
+
+  action : (x : Action) (c : Context) (w : Live) (k : Demands) → IsFair k → IsFair (W.action x c w k)
+  action (form.Does f) c w k h = λ d. statement f c (in_block w) k h
+  action (form.Gives f) c w k h = λ d. run f (outermost (level_up c) w) _ h
 
   statements : (xs : Statements) (closing : Closing) (c : Context) (w : Live) (k : Demands) → IsFair k → IsFair (W.statements xs closing c w k)
   statements form.NoStatement closing c w k h = h
@@ -282,6 +318,18 @@ unrefused Otherwise at e h r = r
 stands : (others : Lexeme → Verdict) (i due : Item) (e : Refusal) → is_refused (verdict others due.lexeme) ≡ false → i ≡ due → Refused others i e → ⊥
 stands others i due e h same r = unrefused (verdict others due.lexeme) due.at e h (subst (λ x. Refused others x e) same r)
 
+-- demands that are met from one point on are met up to one other
+one_end : (ds : Demands) (s t u : Point) → Met ds s t → Met ds s u → t ≡ u
+one_end Nothing s t u m n = sym m ∙ n
+one_end (Tok mode i others ▸ ds) s t u m n = one_end ds (past mode s) t u m.1 n.1
+one_end (Ahead i others ▸ ds) s t u m n = one_end ds s t u m.1 n.1
+one_end (Next v ▸ ds) s t u m n = one_end ds s t u m.1 n.1
+one_end (Test holds d ▸ ds) s t u m n = one_end ds s t u m.1 n.1
+one_end (Shape holds ▸ ds) s t u m n = one_end ds s t u m.1 n.1
+one_end (Literally ds ▸ more) s t u m n =
+    let same = one_end ds s n.0 m.0 n.1 m.1 in
+    one_end more m.0 t u m.2 (subst (λ p. Met more p u) same n.2)
+
 met_or_missed : (ds : Demands) (s t u : Point) (e : Refusal) (n : Mode) → IsFair ds → Met ds s t → Missed ds s e n u → ⊥
 met_or_missed Nothing s t u e o h m n = n
 met_or_missed (Tok mode i others ▸ ds) s t u e o h m (inl r) = stands others (next_at mode s) i e h.0 m.0 r.0
@@ -295,6 +343,10 @@ met_or_missed (Next v ▸ ds) s t u e o h m (inr n) = met_or_missed ds s t u e o
 met_or_missed (Test holds d ▸ ds) s t u e o h m (inl r) = let a = m.0 in let b = r.0 in absurd cc
 met_or_missed (Test holds d ▸ ds) s t u e o h m (inr n) = met_or_missed ds s t u e o h m.1 n.1
 met_or_missed (Shape holds ▸ ds) s t u e o h m n = met_or_missed ds s t u e o (h m.0) m.1 n.1
+met_or_missed (Literally ds ▸ more) s t u e o h m (inl r) = met_or_missed ds s m.0 u r.0 o h.0 m.1 r.1
+met_or_missed (Literally ds ▸ more) s t u e o h m (inr n) =
+    let same = one_end ds s n.0 m.0 n.1 m.1 in
+    met_or_missed more m.0 t u e o h.1 m.2 (subst (λ p. Missed more p e o u) same n.2)
 
 pub forms_are_fair : FormsAreFair
 forms_are_fair = record {

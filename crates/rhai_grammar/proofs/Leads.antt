@@ -1,5 +1,5 @@
 -- What each form demands leads, over the tokens of its spelling, to what comes after it.
-use Rattle.std.proofs.Common.{◌≡◌, ℕ, ◌+◌, Bool, true, false, List, [], ◌∷◌, ◌++◌, append-nil, refl, subst}
+use Rattle.std.proofs.Common.{◌≡◌, ℕ, ◌+◌, Bool, true, false, List, [], ◌∷◌, ◌++◌, append-nil, append_assoc, refl, sym, subst}
 use Rattle.std.specs.Prelude.{Option, Some, None}
 use Rattle.rhai_lower.specs.Lexemes.{Lexeme, Sign, text_of}
 use Rattle.rhai_lower.specs.Nodes.{Properties, no_properties, position_of, property, with_property}
@@ -15,7 +15,7 @@ use Rattle.rhai_grammar.specs.Constructs.{guard_fault, iterated_fault}
 use Rattle.rhai_grammar.specs.Contexts.{Context, Live, in_block, level_up, loop_body}
 use Rattle.rhai_grammar.specs.Definitions.{after_statement, catch_live, loop_live}
 use Rattle.rhai_grammar.specs.Delivered.{Mode, code, Item, Taken, is_end}
-use Rattle.rhai_grammar.specs.Demands.{◌▸◌, Ahead, Demands, Next, Shape, Test, Tok, Verdict}
+use Rattle.rhai_grammar.specs.Demands.{◌▸◌, Ahead, Demands, Literally, Next, Nothing, Shape, Test, Tok, Verdict}
 use Rattle.rhai_grammar.specs.Forms as form
 use Rattle.rhai_grammar.specs.Forms.{Arguments, Base, Body, Elements, ExprStatement, Fields, Initializer, Items, Links}
 use Rattle.rhai_grammar.specs.Forms.{Branch, CatchName, Conditional, Construct, JumpValue, LoopNames, Operand, Primary}
@@ -30,6 +30,11 @@ use Rattle.rhai_grammar.specs.Spots.{right_side, spot_after_bracket, spot_after_
 use Rattle.rhai_grammar.specs.Targets.{is_constant_use, target_fault}
 use Rattle.rhai_grammar.specs.Trees.{argument_trees, base_tree, bracket_link, member_link, method_tree, primary_tree}
 use Rattle.rhai_grammar.specs.Trees.{caught, caught_name, counter_of, loop_name, tree}
+use Rattle.rhai_grammar.specs.Contexts.{in_case}
+use Rattle.rhai_grammar.specs.Forms.{Action, Arms, CaseGuard, Cases}
+use Rattle.rhai_grammar.specs.Spelling.{action_spelling, arm_spelling, case_spelling, comma_spelling, guard_spelling}
+use Rattle.rhai_grammar.specs.Switches.{Collected, arm_fault, nothing_collected, with_arm_collected}
+use Rattle.rhai_grammar.specs.Trees.{action_ends, action_tree, case_trees, guard_tree}
 use Rattle.rhai_grammar.specs.Verdicts as V
 use Rattle.rhai_grammar.specs.Written as W
 use Rattle.rhai_grammar.specs.declared.role.Closing.{Closing}
@@ -50,6 +55,9 @@ pub data Leads : Mode → Mode → List Taken → Demands → Demands → Type 0
       → Leads m n ts (Test b e ▸ ds) k
   shape : {m n : Mode} {ts : List Taken} {b : Bool} {ds k : Demands} → (b ≡ true → Leads m n ts ds k)
       → Leads m n ts (Shape b ▸ ds) k
+  -- what is demanded literally, up to its end, and then what comes after it
+  literally : {m n o : Mode} {a b : List Taken} {ds more k : Demands} → Leads m n a ds Nothing → Leads n o b more k
+      → Leads m o (a ++ b) (Literally ds ▸ more) k
 
 -- one after the other
 pub on : {m n o : Mode} {a b : List Taken} {ds k j : Demands} → Leads m n a ds k → Leads n o b k j
@@ -60,6 +68,8 @@ on (ahead e r) h = ahead e (on r h)
 on (next r) h = next (on r h)
 on (test r) h = test (on r h)
 on (shape f) h = shape (λ e. on (f e) h)
+on {m = m} {o = o} {b = b} {j = j} (literally {a = x} {b = y} {ds = ds} {more = more} p r) h =
+    subst (λ ts. Leads m o ts (Literally ds ▸ more) j) (sym (append_assoc x y b)) (literally p (on r h))
 
 -- followed by what has no tokens
 pub all_of : {m n : Mode} {a : List Taken} {ds k : Demands} → Leads m n (a ++ []) ds k → Leads m n a ds k
@@ -88,7 +98,7 @@ raised (RightOf op height) h = test h
 
 -- the two ends of an expression
 pub expressed : (f : Run) (c : Context) (w : Live) {k : Demands}
-    → Leads code code (spelling f) (W.run f (outermost (level_up c) w) (W.ended k)) (W.ended k)
+    → Leads code code (spelling f) (W.run f (outermost (level_up c) w) (W.ended c k)) (W.ended c k)
     → Leads code code (spelling f) (W.expression f c w k) k
 expressed f c w h = next (all_of (on h (next here)))
 
@@ -111,6 +121,11 @@ named (form.Counted opening name at comma counter counter_at closing) k = tok (t
 caught_by : (x : CatchName) (k : Demands) → Leads code code (catch_spelling x) (W.catch_name x k) k
 caught_by form.NoName k = next here
 caught_by (form.Caught opening name at closing) k = tok (tok (tok here))
+
+separated : (comma : Option Position) (itself : Bool) (k : Demands)
+    → Leads code code (comma_spelling comma) (W.separated comma itself k) k
+separated None itself k = next here
+separated (Some at) itself k = tok here
 
 mutual
   pub primary : (x : Primary) (c : Context) (w : Live) (p : OperandPlace) (k : Demands)
@@ -236,6 +251,8 @@ mutual
       → Leads code code (construct_spelling x) (W.construct x c w at k) k
   construct (form.Block f) c w at k = block f c w k
   construct (form.If x) c w at k = conditional x c w at k
+  construct (form.Switch item opening list) c w at k =
+      on (expressed item c w (run item _ _)) (tok (arms list nothing_collected c w k))
   construct (form.While guard opening f) c w at k =
       on (guarded guard c w (run guard _)) (tok (test (block f (level_up (loop_body c)) w k)))
   construct (form.Loop opening f) c w at k = tok (test (block f (level_up (loop_body c)) w k))
@@ -258,6 +275,32 @@ mutual
   branch form.NoElse c w at k = next here
   branch (form.Else else_at opening f) c w at k = tok (next (tok (test (block f (level_up c) w k))))
   branch (form.ElseIf else_at if_at x) c w at k = tok (tok (test (conditional x (level_up c) w if_at k)))
+
+  pub arms : (x : Arms) (b : Collected) (c : Context) (w : Live) (k : Demands)
+      → Leads code code (arm_spelling x) (W.arms x b c w k) k
+  arms (form.NoArm closing) b c w k = tok here
+  arms (form.Arm xs guard arrow does comma rest) b c w k =
+      let next_arm = with_arm_collected b (case_trees xs w) (guard_tree guard w) (action_tree does w) in
+      next (on (cases xs c w _) (on (case_guard guard c w _) (tok (on (action does c w _)
+      (unfaulted (arm_fault b (case_trees xs w))
+      (on (separated comma (action_ends does w) _) (arms rest next_arm c w k)))))))
+  arms (form.DefaultArm at arrow does comma closing) b c w k =
+      tok (next (tok (on (action does c w _) (on (separated comma (action_ends does w) _) (tok here)))))
+
+  pub cases : (x : Cases) (c : Context) (w : Live) (k : Demands)
+      → Leads code code (case_spelling x) (W.cases x c w k) k
+  cases (form.LastCase f) c w k = all_of (literally (expressed f (in_case c) (in_block w) (run f _ _)) (next here))
+  cases (form.Case f pipe rest) c w k = literally (expressed f (in_case c) (in_block w) (run f _ _)) (tok (cases rest c w k))
+
+  pub case_guard : (x : CaseGuard) (c : Context) (w : Live) (k : Demands)
+      → Leads code code (guard_spelling x) (W.case_guard x c w k) k
+  case_guard form.NoGuard c w k = next here
+  case_guard (form.Guard at f) c w k = tok (guarded f c w (run f _))
+
+  pub action : (x : Action) (c : Context) (w : Live) (k : Demands)
+      → Leads code code (action_spelling x) (W.action x c w k) k
+  action (form.Does f) c w k = shape (λ e. next (statement f c (in_block w) k))
+  action (form.Gives f) c w k = shape (λ e. expressed f c w (run f _ _))
 
   pub statements : (xs : Statements) (closing : Closing) (c : Context) (w : Live) (k : Demands)
       → Leads code code (script_spelling xs) (W.statements xs closing c w k) k

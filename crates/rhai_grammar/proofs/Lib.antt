@@ -11,4 +11,5 @@ pub mod StartLemmas
 pub mod SlotLemmas
 pub mod ChainLemmas
 pub mod FairLemmas
+pub mod SwitchLemmas
 pub mod ShapeLemmas

@@ -13,7 +13,7 @@ use Rattle.rhai_grammar.specs.Beginnings.{is_this, value_of}
 use Rattle.rhai_grammar.specs.Chains.{Bracket, Chain, Dotted, Link, LinkKind, chain_of, chained, is_last, link_node, nest}
 use Rattle.rhai_grammar.specs.Contexts.{Live, in_block}
 use Rattle.rhai_grammar.specs.Forms as form
-use Rattle.rhai_grammar.specs.Forms.{Arguments, Base, Body, Branch, Conditional, Construct, Elements, ExprStatement, Fields, Initializer, Items, JumpValue, Links, Operand, Primary, Run, Segments, Statement, Statements}
+use Rattle.rhai_grammar.specs.Forms.{Action, Arguments, Arms, Base, Body, Branch, CaseGuard, Cases, Conditional, Construct, Elements, ExprStatement, Fields, Initializer, Items, JumpValue, Links, Operand, Primary, Run, Segments, Statement, Statements}
 use Rattle.rhai_grammar.specs.Definitions.{after_statement, catch_live, loop_live}
 use Rattle.rhai_grammar.specs.Interpolations.{with_text}
 use Rattle.rhai_grammar.specs.Laws.{TreesKeepShape}
@@ -28,7 +28,9 @@ use Rattle.rhai_grammar.specs.declared.role.ListKind.TheVariants as lists
 use Rattle.rhai_grammar.specs.declared.role.Joining.{Joining}
 use Rattle.rhai_grammar.specs.declared.role.Joining.TheVariants as joins
 use Rattle.rhai_grammar.specs.Signs.{affected, effect, plain_sign, signed}
+use Rattle.rhai_grammar.specs.Switches.{Collected, nothing_collected, switch_tree, with_arm_collected, with_default_collected}
 use Rattle.rhai_grammar.specs.Trees as T
+use Rattle.rhai_grammar.proofs.SwitchLemmas.{arm, collected_shape, default_arm}
 use Rattle.rhai_grammar.specs.Trees.{argument_trees, base_tree, call_tree, link_list, method_tree, name_of, node_count, operand_tree, primary_tree, tree, word_tree}
 
 -- ---- operands
@@ -315,6 +317,9 @@ mutual
   construct : (x : Construct) (w : Live) (at : Position) → shape.statement_shape (T.construct_tree x w at) ≡ T.construct_tree (shape.construct_shape x) w nowhere
   construct (form.Block f) w at = let e = body at f w in cc
   construct (form.If x) w at = conditional x w at
+  construct (form.Switch item opening list) w at =
+      ap (λ i. switch_tree i (collected_shape (T.collected list w nothing_collected)) nowhere) (run item w)
+      ∙ ap (λ x. switch_tree (tree (shape.run_shape item) w) x nowhere) (arms list w nothing_collected)
   construct (form.While guard opening f) w at = let e = run guard w in let g = body opening f w in cc
   construct (form.Loop opening f) w at = let g = body opening f w in cc
   construct (form.Do opening f negated do_at guard) w at = let e = run guard w in let g = body opening f w in cc
@@ -345,6 +350,27 @@ mutual
   branch form.NoElse w = refl
   branch (form.Else at opening f) w = body opening f w
   branch (form.ElseIf at if_at (form.Guarded guard opening f rest)) w = let e = conditional (form.Guarded guard opening f rest) w if_at in cc
+
+  arms : (x : Arms) (w : Live) (b : Collected) → collected_shape (T.collected x w b) ≡ T.collected (shape.written_arms_shape x) w (collected_shape b)
+  arms (form.NoArm closing) w b = refl
+  arms (form.Arm xs guard arrow does comma rest) w b =
+      let e = cases xs w in let f = case_guard guard w in let g = action does w in
+      arms rest w (with_arm_collected b (T.case_trees xs w) (T.guard_tree guard w) (T.action_tree does w))
+      ∙ ap (λ x. T.collected (shape.written_arms_shape rest) w x) (arm b (T.case_trees xs w) (T.guard_tree guard w) (T.action_tree does w) ∙ (cc))
+  arms (form.DefaultArm at arrow does comma closing) w b =
+      default_arm b (T.action_tree does w) ∙ ap (with_default_collected (collected_shape b)) (action does w)
+
+  cases : (x : Cases) (w : Live) → nodes_shape (T.case_trees x w) ≡ T.case_trees (shape.written_cases_shape x) w
+  cases (form.LastCase f) w = let e = run f (in_block w) in cc
+  cases (form.Case f pipe rest) w = let e = run f (in_block w) in let g = cases rest w in cc
+
+  case_guard : (x : CaseGuard) (w : Live) → node_shape (T.guard_tree x w) ≡ T.guard_tree (shape.guard_shape x) w
+  case_guard form.NoGuard w = refl
+  case_guard (form.Guard at f) w = run f w
+
+  action : (x : Action) (w : Live) → node_shape (T.action_tree x w) ≡ T.action_tree (shape.action_shape x) w
+  action (form.Does f) w = value_of_statement (T.statement_tree f (in_block w)) _ (statement f (in_block w))
+  action (form.Gives f) w = run f w
 
   statements : (xs : Statements) (w : Live) → shape.statements_shape (T.statement_trees xs w) ≡ T.statement_trees (shape.script_shape xs) w
   statements form.NoStatement w = refl

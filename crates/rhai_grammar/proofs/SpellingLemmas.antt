@@ -1,5 +1,5 @@
 -- Spelling, as a projection of what forms demand.
-use Rattle.std.proofs.Common.{◌≡◌, Bool, true, false, List, [], ◌∷◌, rules, refl, sym, ap, ◌∙◌, subst, if◌then◌else◌}
+use Rattle.std.proofs.Common.{◌≡◌, Bool, true, false, List, [], ◌∷◌, ◌++◌, rules, refl, sym, ap, ◌∙◌, subst, if◌then◌else◌}
 use Rattle.std.specs.Prelude.{IsTrue}
 use Rattle.std.proofs.lemmas.List.Elements.{All-head, All-tail}
 use Rattle.rhai_lower.specs.Lexemes.{Lexeme, Sign, lexeme}
@@ -31,11 +31,19 @@ use Rattle.rhai_grammar.specs.Spelling.{script_spelling}
 use Rattle.rhai_grammar.specs.Statements as S
 use Rattle.rhai_grammar.specs.declared.role.Closing.TheVariants.{EndMark}
 use Rattle.rhai_grammar.proofs.Leads as L
-use Rattle.rhai_grammar.proofs.Leads.{Leads, ahead, all_of, expressed, here, next, on, shape, test, tok}
+use Rattle.rhai_grammar.proofs.SeenLemmas.{both, leads_on}
+use Rattle.rhai_grammar.proofs.Leads.{Leads, ahead, all_of, expressed, here, literally, next, on, shape, test, tok}
 
 -- the tokens taken from one point of a stream to another
 abbrev Way : List Taken → Tokens → Tokens → Type 0
 Way taken s e = Gives taken s × (e ≡ leads taken s)
+
+-- one way after the other
+way_on : (a b : List Taken) (s u e : Tokens) → Way a s u → Way b u e → Way (a ++ b) s e
+way_on a b s u e first rest = (
+  both a b s first.0 (subst (Gives b) first.1 rest.0),
+  rest.1 ∙ ap (leads b) first.1 ∙ sym (leads_on a b s),
+)
 
 -- tokens taken up to a point at which further demands are met
 pub record Spelled (taken : List Taken) (k : Demands) (s t : Point) : Type 0 where
@@ -53,8 +61,12 @@ spelled (ahead e h) s t m = spelled h s t m.1
 spelled (next h) s t m = spelled h s t m.1
 spelled (test h) s t m = spelled h s t m.1
 spelled (shape f) s t m = spelled (f m.0) s t m.1
+spelled (literally {a = a} {b = b} {more = more} p r) s t m =
+    let first = spelled p s m.0 m.1 in
+    let rest = spelled r first.end t (subst (λ u. Met more u t) (sym first.met) m.2) in
+    record { end = rest.end; met = rest.met; way = way_on a b s.tokens _ _ first.way rest.way }
 
-are_spelled : (taken : List Taken) (ds : Demands) → Leads M.code M.code taken ds Nothing → (s t : Point) → Met ds s t
+pub are_spelled : {m n : Mode} (taken : List Taken) (ds : Demands) → Leads m n taken ds Nothing → (s t : Point) → Met ds s t
     → Gives taken s.tokens × (t.tokens ≡ leads taken s.tokens)
 are_spelled taken ds h s t m =
     let r = spelled h s t m in (r.way.0, ap (λ (p : Point). p.tokens) (sym r.met) ∙ r.way.1)

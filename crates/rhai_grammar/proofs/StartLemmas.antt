@@ -13,7 +13,7 @@ use Rattle.rhai_grammar.specs.declared.role.Construct.TheVariants as construct
 use Rattle.rhai_grammar.specs.declared.role.OperandPlace.TheVariants.{Elsewhere}
 use Rattle.rhai_grammar.specs.Beginnings.{beginning, is_range, is_sign, is_value}
 use Rattle.rhai_grammar.specs.Constructs.{construct_token, kind_of, may_be_value}
-use Rattle.rhai_grammar.specs.Contexts.{Context, Live, has_block_values, has_if_values, has_loop_values, has_single_blocks, level_up, loop_body}
+use Rattle.rhai_grammar.specs.Contexts.{Context, Live, has_block_values, has_if_values, has_loop_values, has_single_blocks, has_switch_values, level_up, loop_body}
 use Rattle.rhai_grammar.specs.Delivered.{code, text, is_memory, item, next_at, past, Ends, Point, Then, Tokens}
 use Rattle.rhai_grammar.specs.Demands.{Demands, Fine, Met, Nothing, Otherwise}
 use Rattle.rhai_grammar.specs.Forms as form
@@ -41,6 +41,7 @@ construct_begins : (c : Context) (k : Kind) → may_be_value c k ≡ true → be
 construct_begins c construct.Try e = absurd cc
 construct_begins c construct.Block e = e
 construct_begins c construct.If e = e
+construct_begins c construct.Switch e = e
 construct_begins c construct.While e = e
 construct_begins c construct.Loop e = e
 construct_begins c construct.Do e = e
@@ -148,6 +149,10 @@ if_begins : (c : Context) (w : Live) (b : Bool) → has_single_blocks c ≡ b �
 if_begins c w true e h = begun_by c w (Sign token.If) (plain (form.CompoundValue here (form.If (form.Guarded true_value here single form.NoElse)))) (Sign token.True ∷ Sign token.LeftBrace ∷ one ∷ Sign token.RightBrace ∷ []) (refl, (h, (refl, (refl, (refl, (refl, (refl, (refl, (refl, (refl, (refl, (refl, (refl, (refl, (refl, (refl, (e, (refl, (refl, (refl, (refl, (refl, (refl, (refl, (refl, (refl, (refl, (refl, (refl, (refl, (refl, refl)))))))))))))))))))))))))))))))
 if_begins c w false e h = begun_by c w (Sign token.If) (plain (form.CompoundValue here (form.If (form.Guarded true_value here many form.NoElse)))) (Sign token.True ∷ Sign token.LeftBrace ∷ Sign token.RightBrace ∷ []) (refl, (h, (refl, (refl, (refl, (refl, (refl, (refl, (refl, (refl, (refl, (refl, (refl, (refl, (refl, (refl, (ap not e, (refl, (refl, (refl, (refl, (refl, (refl, (refl, refl))))))))))))))))))))))))
 
+-- without arms
+switch_begins : (c : Context) (w : Live) → has_switch_values c ≡ true → Starts (unlimited c) w (Sign token.Switch)
+switch_begins c w h = begun_by c w (Sign token.Switch) (plain (form.CompoundValue here (form.Switch true_value here (form.NoArm here)))) (Sign token.True ∷ Sign token.LeftBrace ∷ Sign token.RightBrace ∷ []) (refl, (h, (refl, (refl, (refl, (refl, (refl, (refl, (refl, (refl, (refl, (refl, (refl, (refl, (refl, (refl, (refl, (refl, refl))))))))))))))))))
+
 while_begins : (c : Context) (w : Live) (b : Bool) → has_single_blocks (loop_body c) ≡ b → has_loop_values c ≡ true → Starts (unlimited c) w (Sign token.While)
 while_begins c w true e h = begun_by c w (Sign token.While) (plain (form.CompoundValue here (form.While true_value here single))) (Sign token.True ∷ Sign token.LeftBrace ∷ one ∷ Sign token.RightBrace ∷ []) (refl, (h, (refl, (refl, (refl, (refl, (refl, (refl, (refl, (refl, (refl, (refl, (refl, (refl, (refl, (refl, (e, (refl, (refl, (refl, (refl, (refl, (refl, (refl, (refl, (refl, (refl, (refl, (refl, (refl, refl))))))))))))))))))))))))))))))
 while_begins c w false e h = begun_by c w (Sign token.While) (plain (form.CompoundValue here (form.While true_value here many))) (Sign token.True ∷ Sign token.LeftBrace ∷ Sign token.RightBrace ∷ []) (refl, (h, (refl, (refl, (refl, (refl, (refl, (refl, (refl, (refl, (refl, (refl, (refl, (refl, (refl, (refl, (ap not e, (refl, (refl, (refl, (refl, (refl, (refl, refl)))))))))))))))))))))))
@@ -184,6 +189,7 @@ sign c w token.LeftBracket h = begun_by c w (Sign token.LeftBracket) (plain (for
 sign c w token.MapStart h = begun_by c w (Sign token.MapStart) (plain (form.Map here (form.NoField here))) (Sign token.RightBrace ∷ []) (refl, (refl, (refl, (refl, (refl, (refl, (refl, (refl, refl))))))))
 sign c w token.LeftBrace h = block c w (has_single_blocks c) refl h
 sign c w token.If h = if_begins c w (has_single_blocks c) refl h
+sign c w token.Switch h = switch_begins c w h
 sign c w token.While h = while_begins c w (has_single_blocks (loop_body c)) refl h
 sign c w token.Loop h = loop_begins c w (has_single_blocks (loop_body c)) refl h
 sign c w token.Do h = do_begins c w (has_single_blocks (loop_body c)) refl h

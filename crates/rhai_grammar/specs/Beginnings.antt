@@ -9,8 +9,8 @@ use Rattle.rhai_lower.specs.declared.position.Position.{Position}
 use Rattle.rhai_lower.specs.declared.token.Token.{Token}
 use Rattle.rhai_lower.specs.declared.token.Token.TheVariants.{Unit, True, False, LeftParen, RightParen, LeftBracket}
 use Rattle.rhai_lower.specs.declared.token.Token.TheVariants.{RightBracket, QuestionBracket, Period, Elvis, MapStart}
-use Rattle.rhai_lower.specs.declared.token.Token.TheVariants.{LeftBrace, RightBrace, Comma, SemiColon, DoubleArrow, Minus}
-use Rattle.rhai_lower.specs.declared.token.Token.TheVariants.{UnaryMinus, Plus, UnaryPlus, Bang, ExclusiveRange}
+use Rattle.rhai_lower.specs.declared.token.Token.TheVariants.{LeftBrace, RightBrace, Comma, SemiColon, DoubleArrow}
+use Rattle.rhai_lower.specs.declared.token.Token.TheVariants.{Minus, UnaryMinus, Plus, UnaryPlus, Bang, ExclusiveRange}
 use Rattle.rhai_lower.specs.declared.token.Token.TheVariants.{InclusiveRange}
 use Rattle.rhai_lower.specs.declared.token.Token.TheVariants as token
 use Rattle.rhai_grammar.specs.Causes as cause
@@ -45,6 +45,7 @@ sign_beginning LeftBracket = begin.Array
 sign_beginning MapStart = begin.Map
 sign_beginning LeftBrace = begin.Construct construct.Block
 sign_beginning token.If = begin.Construct construct.If
+sign_beginning token.Switch = begin.Construct construct.Switch
 sign_beginning token.While = begin.Construct construct.While
 sign_beginning token.Loop = begin.Construct construct.Loop
 sign_beginning token.Do = begin.Construct construct.Do

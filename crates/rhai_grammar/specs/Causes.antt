@@ -1,5 +1,5 @@
 -- Why a script is refused, as the definitions see it: texts are bytes, and notes for people are left out.
-use Rattle.std.specs.Prelude.{◌≡◌, ℕ, Bool, true, false, refl}
+use Rattle.std.specs.Prelude.{◌≡◌, ℕ, Bool, true, false, codes, if◌then◌else◌, refl}
 use Rattle.std.specs.Rc.{rc_str_bytes}
 use Rattle.rhai_lower.specs.Texts.{Text}
 use Rattle.rhai_lower.specs.Positions.{nowhere}
@@ -116,6 +116,14 @@ abbrev pub is_memory_cause : Cause → Bool
 is_memory_cause OutOfMemory = true
 is_memory_cause _ = false
 
+-- the cause where a literal is expected
+abbrev pub no_literal : Cause
+no_literal = ExprExpected (codes "literal")
+
+-- the refusal where a literal is expected, in place of any other but that memory ran out, and at the same position
+abbrev pub as_literal : Refusal → Refusal
+as_literal e = refusal (if is_memory_cause e.cause then e.cause else no_literal) e.at
+
 abbrev pub is_memory_kind : ParseErrorType → Bool
 is_memory_kind error.OutOfMemory = true
 is_memory_kind _ = false
@@ -137,4 +145,5 @@ abbrev pub out_of_memory : Refusal
 out_of_memory = refusal OutOfMemory nowhere
 
 example : (refusal_of no_memory ≡ out_of_memory) × (is_for_memory no_memory ≡ true)
-example = (refl, refl)
+    × (as_literal out_of_memory ≡ out_of_memory)
+example = (refl, refl, refl)

@@ -11,13 +11,14 @@ use Rattle.rhai_grammar.specs.Beginnings.{missing, is_name}
 use Rattle.rhai_grammar.specs.declared.list.AfterPart.{AfterPart}
 use Rattle.rhai_grammar.specs.declared.list.AfterPart.TheVariants.{Comma, Close, Nothing}
 use Rattle.rhai_grammar.specs.declared.list.CommaList.{CommaList}
-use Rattle.rhai_grammar.specs.declared.list.CommaList.TheVariants.{Arguments, Array, Map}
+use Rattle.rhai_grammar.specs.declared.list.CommaList.TheVariants.{Arguments, Array, Map, Arms}
 
 -- the token that closes a list
 abbrev pub closing_of : CommaList → Token
 closing_of Arguments = token.RightParen
 closing_of Array = token.RightBracket
 closing_of Map = token.RightBrace
+closing_of Arms = token.RightBrace
 
 abbrev pub sign_after : CommaList → Token → AfterPart
 sign_after Arguments token.Comma = Comma
@@ -29,6 +30,9 @@ sign_after Array _ = Nothing
 sign_after Map token.Comma = Comma
 sign_after Map token.RightBrace = Close
 sign_after Map _ = Nothing
+sign_after Arms token.Comma = Comma
+sign_after Arms token.RightBrace = Close
+sign_after Arms _ = Nothing
 
 -- what a token is after a part of a list
 abbrev pub after_part : CommaList → Lexeme → AfterPart
@@ -43,6 +47,7 @@ abbrev pub closing_text : CommaList → Text
 closing_text Arguments = codes ")"
 closing_text Array = codes "]"
 closing_text Map = codes "}"
+closing_text Arms = codes "}"
 
 -- Where another token follows a part, a comma is missing before it, or else the closing token: that is missing at the
 -- end of the stream, and after a property before all but a name.
@@ -50,6 +55,7 @@ abbrev pub wants_comma : CommaList → Lexeme → Bool
 wants_comma Arguments l = not (is_end l)
 wants_comma Array l = not (is_end l)
 wants_comma Map l = is_name l
+wants_comma Arms l = not (is_end l)
 
 -- what is missing there
 abbrev pub due_after : CommaList → Lexeme → Text

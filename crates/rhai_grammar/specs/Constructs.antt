@@ -10,6 +10,7 @@ use Rattle.rhai_grammar.specs.Beginnings.{missing}
 use Rattle.rhai_grammar.specs.Causes as cause
 use Rattle.rhai_grammar.specs.Causes.{Cause, Refusal, refusal}
 use Rattle.rhai_grammar.specs.Contexts.{Context, allows_looping, has_block_values, has_if_values, has_loop_values}
+use Rattle.rhai_grammar.specs.Contexts.{has_switch_values}
 use Rattle.rhai_grammar.specs.Demands.{Verdict, Fine, Wrong, Otherwise}
 use Rattle.rhai_grammar.specs.DueTokens.{is_due}
 use Rattle.rhai_grammar.specs.Forms as form
@@ -23,6 +24,7 @@ use Rattle.rhai_grammar.specs.declared.role.Construct.TheVariants as construct
 abbrev pub kind_of : form.Construct → Construct
 kind_of (form.Block body) = construct.Block
 kind_of (form.If x) = construct.If
+kind_of (form.Switch item opening arms) = construct.Switch
 kind_of (form.While guard opening body) = construct.While
 kind_of (form.Loop opening body) = construct.Loop
 kind_of (form.Do opening body negated at guard) = construct.Do
@@ -33,6 +35,7 @@ kind_of (form.Try opening body catch_at name catch_opening branch) = construct.T
 abbrev pub construct_token : Construct → Token
 construct_token construct.Block = token.LeftBrace
 construct_token construct.If = token.If
+construct_token construct.Switch = token.Switch
 construct_token construct.While = token.While
 construct_token construct.Loop = token.Loop
 construct_token construct.Do = token.Do
@@ -51,6 +54,7 @@ may_stand context _ = true
 abbrev pub may_be_value : Context → Construct → Bool
 may_be_value context construct.Block = has_block_values context
 may_be_value context construct.If = has_if_values context
+may_be_value context construct.Switch = has_switch_values context
 may_be_value context construct.Try = false
 may_be_value context _ = has_loop_values context
 

@@ -3,6 +3,8 @@ use Rattle.std.specs.Prelude.{◌≡◌, ℕ, ◌==◌, Bool, true, false, ◌&&
 use Rattle.std.specs.Int.RustNames.{bit_and}
 use Rattle.rhai_lower.specs.Slots.{SlotValue}
 use Rattle.rhai_grammar.specs.Settings as settings
+use Rattle.rhai_grammar.specs.declared.filter.ExprFilter.{ExprFilter}
+use Rattle.rhai_grammar.specs.declared.filter.ExprFilter.TheVariants.{AllButPipe}
 use Rattle.rhai_grammar.specs.Settings.{Settings}
 
 -- the greatest number of items in an array literal, and of properties in an object map literal; 0 means no limit
@@ -10,12 +12,13 @@ pub record Sizes : Type 0 where
   pub array : ℕ
   pub map : ℕ
 
--- What a form passes on to its parts, with only the level changed: the settings, and the engine's options (as bits)
--- and limits.
+-- What a form passes on to its parts, with little but the level changed: the settings, the engine's options (as bits)
+-- and limits, and which tokens an expression may have.
 pub record Context : Type 0 where
   pub settings : Settings
   pub options : ℕ
   pub sizes : Sizes
+  pub filter : ExprFilter
 
 -- What was defined before a form, in written order, and is still live.
 pub record Live : Type 0 where
@@ -48,6 +51,10 @@ has_block_values context = settings.block_values context.settings
 abbrev pub has_if_values : Context → Bool
 has_if_values context = settings.if_values context.settings
 
+-- a `switch` is an operand
+abbrev pub has_switch_values : Context → Bool
+has_switch_values context = settings.switch_values context.settings
+
 -- a loop is an operand
 abbrev pub has_loop_values : Context → Bool
 has_loop_values context = allows_looping context && settings.loop_values context.settings
@@ -58,6 +65,10 @@ is_in_loop context = settings.in_loop context.settings
 
 abbrev pub loop_body : Context → Context
 loop_body context = record context { settings = settings.loop_body context.settings }
+
+-- in a case of a `switch`, and in all that stands in it
+abbrev pub in_case : Context → Context
+in_case context = record context { filter = AllButPipe }
 
 -- a block is one expression or assignment
 abbrev pub has_single_blocks : Context → Bool

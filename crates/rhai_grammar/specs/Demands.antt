@@ -1,8 +1,9 @@
 -- What a form may demand of a stream, when the demands are met along the stream, and when the next one is missed.
-use Rattle.std.specs.Prelude.{◌≡◌, ◌⊎◌, Bool, true, false, if◌then◌else◌}
+use Rattle.std.specs.Prelude.{◌≡◌, ◌⊎◌, Bool, true, false, refl, if◌then◌else◌}
+use mathlib.Core.Logic.{inl}
 use Rattle.rhai_lower.specs.Lexemes.{Lexeme}
 use Rattle.rhai_lower.specs.declared.position.Position.{Position}
-use Rattle.rhai_grammar.specs.Causes.{Cause, Refusal, refusal}
+use Rattle.rhai_grammar.specs.Causes.{Cause, ExprTooDeep, Refusal, as_literal, no_literal, refusal}
 use Rattle.rhai_grammar.specs.Delivered.{Mode, code, Item, Point, next_at, past, is_memory}
 
 -- what follows from a token in place of a required one
@@ -17,23 +18,27 @@ pub data Verdict : Type 0 where
   Otherwise : Verdict
 
 infixr 5 ◌▸◌
--- what a form demands at one point of a stream
-pub data Demand : Type 0 where
-  -- this token comes next, requested in this mode, and is taken; some other tokens are refused
-  Tok : Mode → Item → (others : Lexeme → Verdict) → Demand
-  -- this token comes next, and is not taken; some other tokens are refused
-  Ahead : Item → (others : Lexeme → Verdict) → Demand
-  -- a test of the next token, which is not taken
-  Next : (Lexeme → Verdict) → Demand
-  -- a test of what was parsed, and the error if it fails
-  Test : Bool → Refusal → Demand
-  -- a condition on the form; no error belongs to it
-  Shape : Bool → Demand
+mutual
+  -- what a form demands at one point of a stream
+  pub data Demand : Type 0 where
+    -- this token comes next, requested in this mode, and is taken; some other tokens are refused
+    Tok : Mode → Item → (others : Lexeme → Verdict) → Demand
+    -- this token comes next, and is not taken; some other tokens are refused
+    Ahead : Item → (others : Lexeme → Verdict) → Demand
+    -- a test of the next token, which is not taken
+    Next : (Lexeme → Verdict) → Demand
+    -- a test of what was parsed, and the error if it fails
+    Test : Bool → Refusal → Demand
+    -- a condition on the form; no error belongs to it
+    Shape : Bool → Demand
+    -- These demands are met, one after the other. Where one of them is missed, the error is that a literal is expected,
+    -- at the same position.
+    Literally : Demands → Demand
 
--- demands in written order
-pub data Demands : Type 0 where
-  Nothing : Demands
-  ◌▸◌ : Demand → Demands → Demands
+  -- demands in written order
+  pub data Demands : Type 0 where
+    Nothing : Demands
+    ◌▸◌ : Demand → Demands → Demands
 
 -- No form continues over a token for which the tokenizer ran out of memory: the parser refuses with `OutOfMemory`
 -- there, whatever is expected.
@@ -48,6 +53,7 @@ Met (Ahead i others ▸ ds) s t = (next_at code s ≡ i) × Met ds s t
 Met (Next v ▸ ds) s t = (verdict v (next_at code s).lexeme ≡ Fine) × Met ds s t
 Met (Test holds e ▸ ds) s t = (holds ≡ true) × Met ds s t
 Met (Shape holds ▸ ds) s t = (holds ≡ true) × Met ds s t
+Met (Literally ds ▸ more) s t = (u : Point) × Met ds s u × Met more u t
 
 -- the error that follows from a verdict on a token at this position
 abbrev pub Refuses : Verdict → Position → Refusal → Type 0
@@ -74,3 +80,10 @@ Missed (Next v ▸ ds) s e n u =
 Missed (Test holds d ▸ ds) s e n u =
     ((holds ≡ false) × (e ≡ d) × (n ≡ code) × (u ≡ s)) ⊎ ((holds ≡ true) × Missed ds s e n u)
 Missed (Shape holds ▸ ds) s e n u = (holds ≡ true) × Missed ds s e n u
+Missed (Literally ds ▸ more) s e n u =
+    ((d : Refusal) × Missed ds s d n u × (e ≡ as_literal d)) ⊎ ((v : Point) × Met ds s v × Missed more v e n u)
+
+-- A raise of the level that finds no room is refused as a missing literal.
+example : (s : Point) (at : Position) → Missed (Literally (Test false (refusal ExprTooDeep at) ▸ Nothing) ▸ Nothing) s
+    (refusal no_literal at) code s
+example s at = inl (refusal ExprTooDeep at, inl (refl, refl, refl, refl), refl)

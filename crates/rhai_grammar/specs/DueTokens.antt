@@ -9,7 +9,8 @@ use Rattle.rhai_grammar.specs.Causes as cause
 use Rattle.rhai_grammar.specs.Causes.{Cause}
 use Rattle.rhai_grammar.specs.declared.due.DueToken.{DueToken}
 use Rattle.rhai_grammar.specs.declared.due.DueToken.TheVariants.{LeftParen, RightParen, RightBracket, Colon, LeftBrace}
-use Rattle.rhai_grammar.specs.declared.due.DueToken.TheVariants.{RightBrace, Comma, Equals, In, If, Else, Catch}
+use Rattle.rhai_grammar.specs.declared.due.DueToken.TheVariants.{RightBrace, Comma, Equals, Pipe, DoubleArrow, In}
+use Rattle.rhai_grammar.specs.declared.due.DueToken.TheVariants.{If, Else, Catch}
 
 abbrev pub token_of : DueToken → Token
 token_of LeftParen = token.LeftParen
@@ -20,6 +21,8 @@ token_of LeftBrace = token.LeftBrace
 token_of RightBrace = token.RightBrace
 token_of Comma = token.Comma
 token_of Equals = token.Equals
+token_of Pipe = token.Pipe
+token_of DoubleArrow = token.DoubleArrow
 token_of In = token.In
 token_of If = token.If
 token_of Else = token.Else
@@ -35,6 +38,8 @@ text_of_due LeftBrace = codes "{"
 text_of_due RightBrace = codes "}"
 text_of_due Comma = codes ","
 text_of_due Equals = codes "="
+text_of_due Pipe = codes "|"
+text_of_due DoubleArrow = codes "=>"
 text_of_due In = codes "in"
 text_of_due If = codes "if"
 text_of_due Else = codes "else"
@@ -49,6 +54,8 @@ is_due_sign LeftBrace token.LeftBrace = true
 is_due_sign RightBrace token.RightBrace = true
 is_due_sign Comma token.Comma = true
 is_due_sign Equals token.Equals = true
+is_due_sign Pipe token.Pipe = true
+is_due_sign DoubleArrow token.DoubleArrow = true
 is_due_sign In token.In = true
 is_due_sign If token.If = true
 is_due_sign Else token.Else = true

@@ -135,6 +135,7 @@ mutual
   pub data Construct : Type 0 where
     Block : Body → Construct
     If : Conditional → Construct
+    Switch : (item : Run) (opening : Position) → Arms → Construct
     While : (guard : Run) (opening : Position) → Body → Construct
     Loop : (opening : Position) → Body → Construct
     -- with `while`, or with `until`, which negates the guard
@@ -152,6 +153,31 @@ mutual
     NoElse : Branch
     Else : (at opening : Position) → Body → Branch
     ElseIf : (at if_at : Position) → Conditional → Branch
+
+  -- The arms of a `switch` up to its `}`. A comma may follow each of them, and the default arm is the last one.
+  pub data Arms : Type 0 where
+    -- no further arm
+    NoArm : (closing : Position) → Arms
+    Arm : Cases → CaseGuard → (arrow : Position) → Action → (comma : Option Position) → Arms → Arms
+    -- the default arm, from its `_`
+    DefaultArm : (at arrow : Position) → Action → (comma : Option Position) (closing : Position) → Arms
+
+  -- the cases of an arm
+  pub data Cases : Type 0 where
+    LastCase : Run → Cases
+    -- one with the `|` after it
+    Case : Run → (pipe : Position) → Cases → Cases
+
+  -- the guard of an arm, from its `if`
+  pub data CaseGuard : Type 0 where
+    NoGuard : CaseGuard
+    Guard : (at : Position) → Run → CaseGuard
+
+  -- what an arm does
+  pub data Action : Type 0 where
+    Does : Statement → Action
+    -- where a block is one expression or assignment: an expression
+    Gives : Run → Action
 
   -- the statements of a block or of a script, up to what closes it
   pub data Statements : Type 0 where

@@ -8,13 +8,14 @@ use Rattle.rhai_grammar.specs.Delivered.{Mode, code, Point, Ends, Taken, ask, is
 use Rattle.rhai_grammar.specs.Cursors.{Cursor, delivered}
 use Rattle.rhai_grammar.specs.Seen.{Gives, leads}
 use Rattle.rhai_grammar.specs.Contexts.{Context, Live}
-use Rattle.rhai_grammar.specs.Forms.{Base, Links, NoLink, Bracket, Property, Method, Run, Group, Plain, Linked, Just, Statements}
+use Rattle.rhai_grammar.specs.Forms.{Base, Links, NoLink, Bracket, Property, Method, Run, Group, Plain, Linked, Just}
+use Rattle.rhai_grammar.specs.Forms.{Statements}
 use Rattle.rhai_grammar.specs.Trees.{statement_trees, tree}
 use Rattle.rhai_grammar.specs.Definitions.{after_statements}
 use Rattle.rhai_grammar.specs.Shapes.{run_shape, node_shape, script_shape, statements_shape}
 use Rattle.rhai_grammar.specs.Spelling.{script_spelling, spelling, IsDelivered}
 use Rattle.rhai_grammar.specs.Demands.{Verdict, Wrong, Blames, Demands, Nothing, Tok, Ahead, Next, Test, Shape}
-use Rattle.rhai_grammar.specs.Demands.{◌▸◌}
+use Rattle.rhai_grammar.specs.Demands.{◌▸◌, Literally}
 use Rattle.rhai_grammar.specs.Demands.{verdict, Met, Missed}
 use Rattle.rhai_grammar.specs.Promises.{IsWritten, expressions, scripts}
 
@@ -85,6 +86,7 @@ IsFair (Ahead i others ▸ ds) = (is_refused (verdict others i.lexeme) ≡ false
 IsFair (Next v ▸ ds) = IsFair ds
 IsFair (Test holds e ▸ ds) = IsFair ds
 IsFair (Shape holds ▸ ds) = holds ≡ true → IsFair ds
+IsFair (Literally ds ▸ more) = IsFair ds × IsFair more
 
 -- In no form is a token both required and refused at one place. So if a form fits along a stream, it gives no error
 -- there.

@@ -8,6 +8,7 @@ pub mod Strengths
 pub mod Forms
 pub mod Beginnings
 pub mod Kinds
+pub mod CaseValues
 pub mod Signs
 pub mod Operators
 pub mod Answers
@@ -23,6 +24,7 @@ pub mod Trees
 pub mod Demands
 pub mod Constructs
 pub mod Statements
+pub mod Switches
 pub mod Starts
 pub mod Verdicts
 pub mod Spots

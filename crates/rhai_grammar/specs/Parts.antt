@@ -1,5 +1,5 @@
 -- Demands that several forms have.
-use Rattle.std.specs.Prelude.{false, not, Option, Some, None}
+use Rattle.std.specs.Prelude.{Bool, false, not, Option, Some, None}
 use Rattle.rhai_lower.specs.Texts.{Text}
 use Rattle.rhai_lower.specs.Lexemes.{Lexeme, Name, Sign, text_of}
 use Rattle.rhai_lower.specs.Nodes.{Node, Properties}
@@ -23,7 +23,7 @@ use Rattle.rhai_grammar.specs.Operators.{boolean_holds, mismatched}
 use Rattle.rhai_grammar.specs.Forms as form
 use Rattle.rhai_grammar.specs.Definitions.{may_define}
 use Rattle.rhai_grammar.specs.Statements.{name_due}
-use Rattle.rhai_grammar.specs.Demands.{Demands, Tok, Next}
+use Rattle.rhai_grammar.specs.Demands.{Demands, Nothing, Tok, Next, Literally}
 use Rattle.rhai_grammar.specs.Demands.{Test, Shape, ◌▸◌}
 use Rattle.rhai_grammar.specs.Verdicts.{unless_due, anything, member_due}
 use Rattle.rhai_grammar.specs.Verdicts.{after_method}
@@ -34,9 +34,12 @@ use Rattle.rhai_grammar.specs.Spots.{LinkSpot}
 use Rattle.rhai_grammar.specs.Spots.{Outermost, RightOf}
 use Rattle.rhai_lower.specs.Texts.{same_text}
 use Rattle.rhai_grammar.specs.Contexts.{is_in_loop}
+use Rattle.rhai_grammar.specs.declared.filter.ExprFilter.{ExprFilter}
 use Rattle.rhai_grammar.specs.Constructs.{absent, guard_begins, guard_ends, guard_fault, iterated_fault}
 use Rattle.rhai_grammar.specs.Statements.{loop_variable_due}
 use Rattle.rhai_grammar.specs.Forms.{CatchName, LoopNames}
+use Rattle.rhai_grammar.specs.Switches.{arm_ends}
+use Rattle.rhai_grammar.specs.Contexts.{in_block, in_case}
 
 abbrev pub due_token : DueToken → Position → Demands → Demands
 due_token wanted at more = Tok code (item (Sign (token_of wanted)) at) (unless_due wanted) ▸ more
@@ -63,18 +66,19 @@ raise_after (RightOf op height) more = raise height more
 abbrev pub begun : Context → Demands → Demands
 begun context more = Next (room_due context) ▸ more
 
-abbrev pub ended : Demands → Demands
-ended more = Next run_ends ▸ more
+abbrev pub ended : Context → Demands → Demands
+ended context more = Next (run_ends context.filter) ▸ more
 
 -- An expression raises the level at its first token, and ends where no operator continues it. `inside` is what its run
 -- demands at the spot of an expression.
 abbrev pub as_expression : (inside : Spot → Demands → Demands) → Context → Live → Demands → Demands
-as_expression inside context live more = begun context (inside (outermost (level_up context) live) (ended more))
+as_expression inside context live more =
+    begun context (inside (outermost (level_up context) live) (ended context more))
 
 -- After its whole right side an operator joins its operands: for `&&` and `||` both have to be possible booleans.
-abbrev pub operands_fit : Lexeme → Node → Node → Demands → Demands
-operands_fit op x y more =
-    Next (side_ends op) ▸ Test (boolean_holds op x) (mismatched x) ▸ Test (boolean_holds op y) (mismatched y)
+abbrev pub operands_fit : ExprFilter → Lexeme → Node → Node → Demands → Demands
+operands_fit filter op x y more =
+    Next (side_ends filter op) ▸ Test (boolean_holds op x) (mismatched x) ▸ Test (boolean_holds op y) (mismatched y)
     ▸ more
 
 -- A property up to its value: no earlier property has its key.
@@ -143,6 +147,15 @@ catch_name form.NoName more = Next (absent due.LeftParen) ▸ more
 catch_name (form.Caught opening name at closing) more =
     Tok code (item (Sign LeftParen) opening) anything ▸ Tok code (item (Name name) at) name_due ▸
     due_token due.RightParen closing more
+
+-- After an arm of `switch` stands a comma, or what may follow without one.
+abbrev pub separated : (comma : Option Position) → (itself : Bool) → Demands → Demands
+separated None itself more = Next (arm_ends itself) ▸ more
+separated (Some comma) itself more = Tok code (item (Sign Comma) comma) anything ▸ more
+
+-- A case is in a block of its own, with `|` between the cases, and each error in it is that of a missing literal.
+abbrev pub as_case : (inside : Spot → Demands → Demands) → Context → Live → Demands → Demands
+as_case inside context live more = Literally (as_expression inside (in_case context) (in_block live) Nothing) ▸ more
 
 -- `break` and `continue` stand in a loop
 abbrev pub loop_at : Context → Position → Demands → Demands

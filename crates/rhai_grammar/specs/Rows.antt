@@ -5,6 +5,7 @@ use Rattle.rhai_lower.specs.Lexemes.{Lexeme, Integer, Name, Sign}
 use Rattle.rhai_lower.specs.Nodes.{Node, unit, integer, array, call, no_nodes, one_node}
 use Rattle.rhai_lower.specs.declared.token.Token.TheVariants.{Plus, Multiply, Minus, ExclusiveRange, LeftParen}
 use Rattle.rhai_lower.specs.declared.token.Token.TheVariants.{RightParen, LeftBracket, RightBracket, Comma}
+use Rattle.rhai_grammar.specs.declared.filter.ExprFilter.TheVariants.{All}
 use Rattle.rhai_grammar.specs.Causes as cause
 use Rattle.rhai_grammar.specs.Causes.{Refusal, refusal}
 use Rattle.rhai_grammar.specs.Delivered.{code, item, Tokens, Ends, Then, Taken, Point}
@@ -39,6 +40,7 @@ depth limit = record {
   settings = record { flags = 0; options = 0; level = 0; limit = limit };
   options = 191;
   sizes = record { array = 0; map = 0 };
+  filter = All;
 }
 
 -- an operand without links

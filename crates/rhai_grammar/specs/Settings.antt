@@ -33,6 +33,10 @@ quoted_keys settings = bit_and settings.flags 32 == 32
 abbrev pub if_values : Settings → Bool
 if_values settings = bit_and settings.options 1 == 1
 
+-- the bit of the options that makes a `switch` an operand
+abbrev pub switch_values : Settings → Bool
+switch_values settings = bit_and settings.options 2 == 2
+
 -- the bit of the options that makes a loop an operand
 abbrev pub loop_values : Settings → Bool
 loop_values settings = bit_and settings.options 4 == 4

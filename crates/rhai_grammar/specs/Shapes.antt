@@ -12,7 +12,7 @@ use Rattle.rhai_grammar.specs.Trees.{tree}
 use Rattle.rhai_grammar.specs.Forms as form
 use Rattle.rhai_grammar.specs.Forms.{Arguments, Base, Body, Elements, ExprStatement, Fields, Initializer, Items, Links}
 use Rattle.rhai_grammar.specs.Forms.{Branch, CatchName, Conditional, Construct, JumpValue, LoopNames, Operand}
-use Rattle.rhai_grammar.specs.Forms.{Primary, Run, Segments}
+use Rattle.rhai_grammar.specs.Forms.{Action, CaseGuard, Primary, Run, Segments}
 
 -- ---- trees
 
@@ -101,6 +101,7 @@ abbrev mutual
 
 -- ---- forms
 
+-- a token that may be absent, as the `!` of a call
 abbrev pub bang_shape : Option Position → Option Position
 bang_shape bang = option_map (λ at. nowhere) bang
 
@@ -198,6 +199,7 @@ abbrev mutual
   pub construct_shape : Construct → Construct
   construct_shape (form.Block body) = form.Block (body_shape body)
   construct_shape (form.If x) = form.If (conditional_shape x)
+  construct_shape (form.Switch item opening arms) = form.Switch (run_shape item) nowhere (written_arms_shape arms)
   construct_shape (form.While guard opening body) = form.While (run_shape guard) nowhere (body_shape body)
   construct_shape (form.Loop opening body) = form.Loop nowhere (body_shape body)
   construct_shape (form.Do opening body negated at guard) =
@@ -215,6 +217,26 @@ abbrev mutual
   branch_shape form.NoElse = form.NoElse
   branch_shape (form.Else at opening body) = form.Else nowhere nowhere (body_shape body)
   branch_shape (form.ElseIf at if_at x) = form.ElseIf nowhere nowhere (conditional_shape x)
+
+  pub written_arms_shape : form.Arms → form.Arms
+  written_arms_shape (form.NoArm closing) = form.NoArm nowhere
+  written_arms_shape (form.Arm cases guard arrow action comma rest) =
+      form.Arm (written_cases_shape cases) (guard_shape guard) nowhere (action_shape action) (bang_shape comma)
+      (written_arms_shape rest)
+  written_arms_shape (form.DefaultArm at arrow action comma closing) =
+      form.DefaultArm nowhere nowhere (action_shape action) (bang_shape comma) nowhere
+
+  pub written_cases_shape : form.Cases → form.Cases
+  written_cases_shape (form.LastCase f) = form.LastCase (run_shape f)
+  written_cases_shape (form.Case f pipe rest) = form.Case (run_shape f) nowhere (written_cases_shape rest)
+
+  pub guard_shape : CaseGuard → CaseGuard
+  guard_shape form.NoGuard = form.NoGuard
+  guard_shape (form.Guard at f) = form.Guard nowhere (run_shape f)
+
+  pub action_shape : Action → Action
+  action_shape (form.Does f) = form.Does (written_shape f)
+  action_shape (form.Gives f) = form.Gives (run_shape f)
 
   pub script_shape : form.Statements → form.Statements
   script_shape form.NoStatement = form.NoStatement

@@ -13,6 +13,7 @@ use Rattle.rhai_grammar.specs.Forms as form
 use Rattle.rhai_grammar.specs.Forms.{Primary, Base, Links, Operand, Arguments, Items, Elements, Fields, Run}
 use Rattle.rhai_grammar.specs.Forms.{Body, Branch, CatchName, Conditional, Construct, ExprStatement, Initializer}
 use Rattle.rhai_grammar.specs.Forms.{JumpValue, LoopNames, Segments, Statement, Statements}
+use Rattle.rhai_grammar.specs.Forms.{Action, Arms, CaseGuard, Cases}
 use Rattle.rhai_grammar.specs.Constructs.{construct_token, do_token, kind_of}
 use Rattle.rhai_grammar.specs.Starts.{jump_token}
 use Rattle.rhai_grammar.specs.Statements.{keyword_of}
@@ -29,6 +30,11 @@ in_code l at = record { mode = code; item = item l at }
 abbrev pub bang_spelling : Option Position → List Taken
 bang_spelling None = []
 bang_spelling (Some at) = in_code (Sign Bang) at ∷ []
+
+-- the comma after an arm, if there is one
+abbrev pub comma_spelling : Option Position → List Taken
+comma_spelling None = []
+comma_spelling (Some at) = in_code (Sign Comma) at ∷ []
 
 abbrev pub names_spelling : LoopNames → List Taken
 names_spelling (form.Variable name at) = in_code (Name name) at ∷ []
@@ -135,6 +141,8 @@ abbrev mutual
   pub construct_spelling : Construct → List Taken
   construct_spelling (form.Block body) = body_spelling body
   construct_spelling (form.If x) = conditional_spelling x
+  construct_spelling (form.Switch item opening arms) =
+      spelling item ++ (in_code (Sign LeftBrace) opening ∷ arm_spelling arms)
   construct_spelling (form.While guard opening body) =
       spelling guard ++ (in_code (Sign LeftBrace) opening ∷ body_spelling body)
   construct_spelling (form.Loop opening body) = in_code (Sign LeftBrace) opening ∷ body_spelling body
@@ -158,6 +166,27 @@ abbrev mutual
       in_code (Sign token.Else) else_at ∷ in_code (Sign LeftBrace) opening ∷ body_spelling body
   branch_spelling (form.ElseIf else_at if_at x) =
       in_code (Sign token.Else) else_at ∷ in_code (Sign token.If) if_at ∷ conditional_spelling x
+
+  pub arm_spelling : Arms → List Taken
+  arm_spelling (form.NoArm closing) = in_code (Sign RightBrace) closing ∷ []
+  arm_spelling (form.Arm cases guard arrow action comma rest) =
+      case_spelling cases ++ (guard_spelling guard ++ (in_code (Sign token.DoubleArrow) arrow
+      ∷ (action_spelling action ++ (comma_spelling comma ++ arm_spelling rest))))
+  arm_spelling (form.DefaultArm at arrow action comma closing) =
+      in_code (Sign token.Underscore) at ∷ in_code (Sign token.DoubleArrow) arrow
+      ∷ (action_spelling action ++ (comma_spelling comma ++ (in_code (Sign RightBrace) closing ∷ [])))
+
+  pub case_spelling : Cases → List Taken
+  case_spelling (form.LastCase f) = spelling f
+  case_spelling (form.Case f pipe rest) = spelling f ++ (in_code (Sign token.Pipe) pipe ∷ case_spelling rest)
+
+  pub guard_spelling : CaseGuard → List Taken
+  guard_spelling form.NoGuard = []
+  guard_spelling (form.Guard at f) = in_code (Sign token.If) at ∷ spelling f
+
+  pub action_spelling : Action → List Taken
+  action_spelling (form.Does f) = statement_spelling f
+  action_spelling (form.Gives f) = spelling f
 
   pub script_spelling : Statements → List Taken
   script_spelling form.NoStatement = []

@@ -3,6 +3,7 @@ use Rattle.std.specs.Prelude.{Bool, true, Option, Some, None, List, [], ◌∷�
 use Rattle.rhai_lower.specs.Lexemes.{Lexeme}
 use Rattle.rhai_lower.specs.Nodes.{Node, position_of}
 use Rattle.rhai_lower.specs.declared.position.Position.{Position}
+use Rattle.rhai_grammar.specs.declared.filter.ExprFilter.{ExprFilter}
 use Rattle.rhai_grammar.specs.Contexts.{Context, Live, level_up}
 use Rattle.rhai_grammar.specs.Starts.{place_after}
 use Rattle.rhai_grammar.specs.declared.role.OperandPlace.{OperandPlace}
@@ -55,13 +56,21 @@ abbrev pub place_of : Side → OperandPlace
 place_of Outermost = Elsewhere
 place_of (RightOf op height) = place_after op
 
-abbrev pub side_fits : Side → Follower → Bool
-side_fits Outermost inner = true
-side_fits (RightOf op height) inner = right_of (follower_of op) inner
+-- the filter that says what an operator of a run is, and what stands after one of its operands
+abbrev pub filter_of : Spot → ExprFilter
+filter_of spot = spot.first.filter
 
-abbrev pub left_fits : Follower → Run → Bool
-left_fits op (form.Just x) = true
-left_fits op (form.Binary inner at left right) = left_of op (follower_of inner)
+-- what a token is there
+abbrev pub follower_in : Spot → Lexeme → Follower
+follower_in spot token = follower_of (filter_of spot) token
+
+abbrev pub side_fits : ExprFilter → Side → Follower → Bool
+side_fits filter Outermost inner = true
+side_fits filter (RightOf op height) inner = right_of (follower_of filter op) inner
+
+abbrev pub left_fits : ExprFilter → Follower → Run → Bool
+left_fits filter op (form.Just x) = true
+left_fits filter op (form.Binary inner at left right) = left_of op (follower_of filter inner)
 
 -- The place of a link: the settings of the operand that it continues, those of the brackets directly before it, the
 -- operand against which the index of a bracket is tested, if it is, and the links before.

@@ -29,6 +29,7 @@ abbrev pub sign_start : Token → StatementStart
 sign_start token.SemiColon = start.Empty
 sign_start token.LeftBrace = start.Construct construct.Block
 sign_start token.If = start.Construct construct.If
+sign_start token.Switch = start.Construct construct.Switch
 sign_start token.While = start.Construct construct.While
 sign_start token.Loop = start.Construct construct.Loop
 sign_start token.Do = start.Construct construct.Do

@@ -23,11 +23,14 @@ use Rattle.rhai_grammar.specs.Slots.{number}
 use Rattle.rhai_grammar.specs.Contexts.{Live, in_block, nothing_live}
 use Rattle.rhai_grammar.specs.Definitions.{after_statement, catch_live, loop_live, reused}
 use Rattle.rhai_grammar.specs.Interpolations.{with_text}
+use Rattle.rhai_grammar.specs.Switches.{Collected, ends_arm, no_guard, nothing_collected, switch_tree}
+use Rattle.rhai_grammar.specs.Switches.{with_arm_collected, with_default_collected}
 use Rattle.rhai_grammar.specs.Targets.{update_of}
 use Rattle.rhai_grammar.specs.Forms as form
 use Rattle.rhai_grammar.specs.Forms.{Primary, Base, Links, Operand, Arguments, Items, Elements, Fields, Run}
 use Rattle.rhai_grammar.specs.Forms.{Body, Branch, CatchName, Conditional, Construct, ExprStatement, Initializer}
 use Rattle.rhai_grammar.specs.Forms.{JumpValue, LoopNames, Segments, Statement, Statements}
+use Rattle.rhai_grammar.specs.Forms.{Action, Arms, CaseGuard, Cases}
 
 -- ---- names and calls
 
@@ -238,6 +241,8 @@ abbrev mutual
   pub construct_tree : Construct → Live → Position → node.Statement
   construct_tree (form.Block body) live at = block_statement (block_tree at body live)
   construct_tree (form.If x) live at = conditional_tree x live at
+  construct_tree (form.Switch item opening arms) live at =
+      switch_tree (tree item live) (collected arms live nothing_collected) at
   construct_tree (form.While guard opening body) live at =
       while_statement (tree guard live) (block_tree opening body live) at
   construct_tree (form.Loop opening body) live at = while_statement (unit nowhere) (block_tree opening body live) at
@@ -259,6 +264,29 @@ abbrev mutual
   branch_tree (form.Else at opening body) live = block_tree opening body live
   branch_tree (form.ElseIf at if_at x) live = made_block (conditional_tree x live if_at)
 
+  -- Each case is in a block of its own.
+  pub case_trees : Cases → Live → Nodes
+  case_trees (form.LastCase f) live = one_node (tree f (in_block live)) no_nodes
+  case_trees (form.Case f pipe rest) live = one_node (tree f (in_block live)) (case_trees rest live)
+
+  pub guard_tree : CaseGuard → Live → Node
+  guard_tree form.NoGuard live = no_guard
+  guard_tree (form.Guard at f) live = tree f live
+
+  -- A statement is a block of its own.
+  pub action_tree : Action → Live → Node
+  action_tree (form.Does f) live = block_value (made_block (statement_tree f (in_block live)))
+  action_tree (form.Gives f) live = tree f live
+
+  -- what the arms give, after those before
+  pub collected : Arms → Live → Collected → Collected
+  collected (form.NoArm closing) live before = before
+  collected (form.Arm cases guard arrow action comma rest) live before =
+      collected rest live (
+      with_arm_collected before (case_trees cases live) (guard_tree guard live) (action_tree action live))
+  collected (form.DefaultArm at arrow action comma closing) live before =
+      with_default_collected before (action_tree action live)
+
   pub statement_trees : Statements → Live → node.Statements
   statement_trees form.NoStatement live = no_statements
   statement_trees (form.LastStatement f) live = kept (statement_tree f live) no_statements
@@ -271,6 +299,11 @@ abbrev mutual
   block_tree opening (form.Many fs closing) live = braces (statement_trees fs (in_block live)) opening closing
   block_tree opening (form.Single x closing) live =
       braces (one_statement (statement_of x live) no_statements) opening closing
+
+-- An arm that does this needs no comma after it.
+abbrev pub action_ends : Action → Live → Bool
+action_ends (form.Does f) live = ends_arm (statement_tree f (in_block live))
+action_ends (form.Gives f) live = false
 
 abbrev example_one : (column : ℕ) → Run
 example_one column = form.Just (form.Linked (form.Plain (form.Value (Integer (pos 1)) (place 1 column))) form.NoLink)

@@ -33,6 +33,7 @@ use Rattle.rhai_grammar.specs.Literals.{too_many_fields}
 use Rattle.rhai_grammar.specs.Strengths.{Follower, Operator, Unknown, Other, follower_of, is_operator}
 use Rattle.rhai_grammar.specs.Strengths.{right_of}
 use Rattle.rhai_grammar.specs.Trees.{is_variable}
+use Rattle.rhai_grammar.specs.declared.filter.ExprFilter.{ExprFilter}
 use Rattle.rhai_grammar.specs.Demands.{Verdict, Fine, Wrong, Blames, Otherwise}
 
 -- where no other token is allowed
@@ -156,8 +157,8 @@ known_follower (Unknown t) = Wrong (cause.UnknownOperator t)
 known_follower (Operator n right) = Fine
 known_follower Other = Fine
 
-abbrev pub operator_known : Lexeme → Verdict
-operator_known token = known_follower (follower_of token)
+abbrev pub operator_known : ExprFilter → Lexeme → Verdict
+operator_known filter token = known_follower (follower_of filter token)
 
 -- after a run: no operator, which would continue it
 abbrev pub ended_follower : Follower → Verdict
@@ -165,15 +166,15 @@ ended_follower (Operator n right) = Otherwise
 ended_follower (Unknown t) = Otherwise
 ended_follower Other = Fine
 
-abbrev pub run_ends : Lexeme → Verdict
-run_ends token = ended_follower (follower_of token)
+abbrev pub run_ends : ExprFilter → Lexeme → Verdict
+run_ends filter token = ended_follower (follower_of filter token)
 
 -- after an operator's right side: no operator that would continue it
 abbrev pub ended_side : Follower → Follower → Verdict
 ended_side op inner = if is_operator inner && right_of op inner then Otherwise else Fine
 
-abbrev pub side_ends : Lexeme → Lexeme → Verdict
-side_ends op token = ended_side (follower_of op) (follower_of token)
+abbrev pub side_ends : ExprFilter → Lexeme → Lexeme → Verdict
+side_ends filter op token = ended_side (follower_of filter op) (follower_of filter token)
 
 -- where a level is raised at the next token
 abbrev pub room_due : Context → Lexeme → Verdict

@@ -17,7 +17,7 @@ use Rattle.rhai_grammar.specs.declared.role.OperandPlace.TheVariants.{Elsewhere}
 use Rattle.rhai_grammar.specs.Beginnings.{linking, is_bracket, is_dot}
 use Rattle.rhai_grammar.specs.declared.list.CommaList.TheVariants as lists
 use Rattle.rhai_grammar.specs.Signs.{sign_holds, malformed}
-use Rattle.rhai_grammar.specs.Strengths.{follower_of, is_operator}
+use Rattle.rhai_grammar.specs.Strengths.{is_operator}
 use Rattle.rhai_grammar.specs.Forms as form
 use Rattle.rhai_grammar.specs.Forms.{Primary, Base, Links, Operand, Arguments, Items, Elements, Fields, Run}
 use Rattle.rhai_grammar.specs.Forms.{Body, ExprStatement, Initializer, JumpValue, Segments, Statement, Statements}
@@ -36,19 +36,23 @@ use Rattle.rhai_grammar.specs.Verdicts.{operand_due, anything, after_word, uncal
 use Rattle.rhai_grammar.specs.Verdicts.{uncalled_member, list_due, close_or_argument, argument_due}
 use Rattle.rhai_grammar.specs.Verdicts.{argument_follows, item_due, no_item_due, key_due}
 use Rattle.rhai_grammar.specs.Verdicts.{operator_known, end_due}
-use Rattle.rhai_grammar.specs.Spots.{Spot, right_side, height_after, place_of, side_fits}
+use Rattle.rhai_grammar.specs.Spots.{Spot, right_side, height_after, place_of, side_fits, filter_of, follower_in}
 use Rattle.rhai_grammar.specs.Spots.{left_fits, LinkSpot, spot_after_operand, spot_after_bracket, spot_after_dot}
 use Rattle.rhai_grammar.specs.Contexts.{allows_looping, loop_body}
 use Rattle.rhai_grammar.specs.Constructs.{absent, construct_token, do_end_due}
 use Rattle.rhai_grammar.specs.Constructs.{do_token, kind_of, may_be_value, may_stand}
 use Rattle.rhai_grammar.specs.Definitions.{catch_live, loop_live}
-use Rattle.rhai_grammar.specs.Forms.{Branch, Conditional, Construct}
+use Rattle.rhai_grammar.specs.Forms.{Action, Arms, Branch, CaseGuard, Cases, Conditional, Construct}
 use Rattle.rhai_grammar.specs.Starts.{jump_stands}
-use Rattle.rhai_grammar.specs.Trees.{caught, caught_name, counter_of, loop_name}
+use Rattle.rhai_grammar.specs.Switches.{Collected, action_due, arm_begins, arm_fault, arms_end, default_ends}
+use Rattle.rhai_grammar.specs.Switches.{unguarded, nothing_collected, with_arm_collected}
+use Rattle.rhai_grammar.specs.Trees.{action_ends, action_tree, case_trees, caught, caught_name, counter_of, guard_tree}
+use Rattle.rhai_grammar.specs.Trees.{loop_name}
 use Rattle.rhai_lower.specs.declared.token.Token.TheVariants as token
 pub use Rattle.rhai_grammar.specs.Parts.{due_token, comma_at, closed_at, raise, raise_at, raise_after, begun, ended}
 pub use Rattle.rhai_grammar.specs.Parts.{as_expression, operands_fit, field, unfaulted, method, new_name, inside_at}
-pub use Rattle.rhai_grammar.specs.Parts.{in_braces, as_guard, as_iterated, loop_names, catch_name, loop_at}
+pub use Rattle.rhai_grammar.specs.Parts.{in_braces, as_guard, as_iterated, loop_names, catch_name, loop_at, separated}
+pub use Rattle.rhai_grammar.specs.Parts.{as_case}
 
 -- ---- the forms
 
@@ -190,13 +194,14 @@ abbrev mutual
   -- bind as the strengths say.
   pub run : Run → Spot → Demands → Demands
   run (form.Just x) spot more =
-      operand x spot.first spot.live (place_of spot.side) (Next operator_known ▸ raise_after spot.side more)
+      operand x spot.first spot.live (place_of spot.side) (
+      Next (operator_known (filter_of spot)) ▸ raise_after spot.side more)
   run (form.Binary op at left right) spot more =
       run left spot (
-      Shape (is_operator (follower_of op)) ▸ Shape (left_fits (follower_of op) left) ▸
-      Shape (side_fits spot.side (follower_of op)) ▸ Tok code (item op at) anything ▸
+      Shape (is_operator (follower_in spot op)) ▸ Shape (left_fits (filter_of spot) (follower_in spot op) left) ▸
+      Shape (side_fits (filter_of spot) spot.side (follower_in spot op)) ▸ Tok code (item op at) anything ▸
       run right (right_side op (height_after spot left) spot.live) (
-      operands_fit op (tree left spot.live) (tree right spot.live) more))
+      operands_fit (filter_of spot) op (tree left spot.live) (tree right spot.live) more))
 
   -- An expression, or an assignment. What is assigned to is tested after the value.
   pub expr_statement : ExprStatement → Context → Live → Demands → Demands
@@ -244,6 +249,9 @@ abbrev mutual
   pub construct : Construct → Context → Live → (at : Position) → Demands → Demands
   construct (form.Block body) context live at more = block body context live more
   construct (form.If x) context live at more = conditional x context live at more
+  construct (form.Switch item opening list) context live at more =
+      as_expression (run item) context live (
+      due_token due.LeftBrace opening (arms list nothing_collected context live more))
   construct (form.While guard opening body) context live at more =
       as_guard (run guard) (tree guard live) context live (
       in_braces opening (block body) (loop_body context) live at more)
@@ -254,10 +262,10 @@ abbrev mutual
       Tok code (item (Sign (do_token negated)) do_at) do_end_due ▸
       as_guard (run guard) (tree guard live) context live more)
   construct (form.For names in_at over opening body) context live at more =
+      let inner = loop_live (loop_name names) (counter_of names) live in
       loop_names names (due_token due.In in_at (
       as_iterated (run over) (tree over live) context live (
-      in_braces opening (block body) (loop_body context) (loop_live (loop_name names) (counter_of names) live) at
-      more)))
+      in_braces opening (block body) (loop_body context) inner at more)))
   construct (form.Try opening body catch_at name catch_opening handler) context live at more =
       in_braces opening (block body) context live at (
       due_token due.Catch catch_at (catch_name name (
@@ -278,6 +286,38 @@ abbrev mutual
   branch (form.ElseIf else_at if_at x) context live at more =
       Tok code (item (Sign token.Else) else_at) anything ▸ Tok code (item (Sign token.If) if_at) anything ▸
       raise_at context at (conditional x (level_up context) live if_at more)
+
+  -- The arms of `switch`, after those that were collected. The cases of an arm are tested after the arm.
+  pub arms : Arms → (before : Collected) → Context → Live → Demands → Demands
+  arms (form.NoArm closing) before context live more = Tok code (item (Sign RightBrace) closing) arms_end ▸ more
+  arms (form.Arm xs guard arrow does comma rest) before context live more =
+      Next arm_begins ▸ cases xs context live (case_guard guard context live (
+      due_token due.DoubleArrow arrow (action does context live (
+      unfaulted (arm_fault before (case_trees xs live)) (separated comma (action_ends does live) (
+      arms rest (with_arm_collected before (case_trees xs live) (guard_tree guard live) (action_tree does live)) context
+      live more))))))
+  arms (form.DefaultArm at arrow does comma closing) before context live more =
+      Tok code (item (Sign token.Underscore) at) anything ▸ Next unguarded ▸
+      due_token due.DoubleArrow arrow (action does context live (
+      separated comma (action_ends does live) (
+      Tok code (item (Sign RightBrace) closing) (default_ends at) ▸ more)))
+
+  pub cases : Cases → Context → Live → Demands → Demands
+  cases (form.LastCase f) context live more = as_case (run f) context live (Next (absent due.Pipe) ▸ more)
+  cases (form.Case f pipe rest) context live more =
+      as_case (run f) context live (Tok code (item (Sign token.Pipe) pipe) anything ▸ cases rest context live more)
+
+  pub case_guard : CaseGuard → Context → Live → Demands → Demands
+  case_guard form.NoGuard context live more = Next (absent due.If) ▸ more
+  case_guard (form.Guard at f) context live more =
+      Tok code (item (Sign token.If) at) anything ▸ as_guard (run f) (tree f live) context live more
+
+  -- A statement of an arm is in a block of its own.
+  pub action : Action → Context → Live → Demands → Demands
+  action (form.Does f) context live more =
+      Shape (not (has_single_blocks context)) ▸ Next action_due ▸ statement f context (in_block live) more
+  action (form.Gives f) context live more =
+      Shape (has_single_blocks context) ▸ as_expression (run f) context live more
 
   -- A `;` is between two statements, unless the first ends by itself.
   pub statements : Statements → Closing → Context → Live → Demands → Demands

@@ -11,7 +11,7 @@ pub enum DueToken {
     RightBracket,
     /// `:`, between the key of a property and its value.
     Colon,
-    /// `{`, which begins a block.
+    /// `{`, which begins a block, and the arms of `switch`.
     LeftBrace,
     /// `}`, which ends a block.
     RightBrace,
@@ -19,9 +19,13 @@ pub enum DueToken {
     Comma,
     /// `=`, which may not follow a guard.
     Equals,
+    /// `|`, between the cases of an arm of `switch`.
+    Pipe,
+    /// `=>`, before what an arm of `switch` does.
+    DoubleArrow,
     /// `in`, after the variables of `for`.
     In,
-    /// `if`, directly after `else`.
+    /// `if`, directly after `else`, and before the guard of an arm of `switch`.
     If,
     /// `else`, after a block of `if`.
     Else,

@@ -5,7 +5,7 @@ ghost use Rattle.rhai_grammar.specs.Laws.{FormsAreSpelled, FormsFitWhereverSpell
 ghost use Rattle.rhai_grammar.specs.Rows.{CallRow, EndedRow, FlatRow, LateRow, MinusRow, OpenRow};
 ghost use Rattle.rhai_grammar.specs.Rows.{PairRow, RangedRow, SizedRow, SumRow};
 ghost use Rattle.rhai_grammar.specs.RowsOfChains.{CaptureRow, GroupedRow, JoinedRow, QuestionedRow};
-ghost use Rattle.rhai_grammar.specs.RowsOfConstructs.{BreakRow, LoopRow};
+ghost use Rattle.rhai_grammar.specs.RowsOfConstructs.{ArmRow, BreakRow, DefaultRow, IntegerRow, LoopRow, PipeRow};
 ghost use Rattle.rhai_grammar.specs.RowsOfStatements.{AgainRow, ConstantRow, LetRow, OpenBlockRow, ScopesRow, SingleRow};
 ghost use Rattle.rhai_grammar.specs.RowsOfStrings.{JumpRow, ReturnRow, StringRow};
 ghost use Rattle.rhai_grammar.specs.SlotLaws.{NoSlot, NumberedSlot, Reuse, ScopesClose};
@@ -217,6 +217,31 @@ pub fn loop_row()
 #[tactic(auto, using(crate::proofs::ConstructRowLemmas::break_row))]
 pub fn break_row()
     ensures { BreakRow }
+{}
+
+/// In `let x = 1; switch 1 { 1 => let y = 2 } x` the definition in the arm is in a block of its own, and the last use
+/// has number 1.
+#[tactic(auto, using(crate::proofs::ConstructRowLemmas::arm_row))]
+pub fn arm_row()
+    ensures { ArmRow }
+{}
+
+/// `switch 1 { _ => 2, 3 => 4 }` is refused at the `_`: the default arm is the last one.
+#[tactic(auto, using(crate::proofs::ConstructRowLemmas::default_row))]
+pub fn default_row()
+    ensures { DefaultRow }
+{}
+
+/// `switch x { 0..5 => 1, 3 => 2 }` is refused at the 3, which stands after a range.
+#[tactic(auto, using(crate::proofs::ConstructRowLemmas::integer_row))]
+pub fn integer_row()
+    ensures { IntegerRow }
+{}
+
+/// `switch 1 { (1 | 2) => 3 }` is refused at the `|`, where a literal is expected.
+#[tactic(auto, using(crate::proofs::ConstructRowLemmas::pipe_row))]
+pub fn pipe_row()
+    ensures { PipeRow }
 {}
 
 /// A name that has a number in its tree is not called, and the slot with that number is the latest of the name.

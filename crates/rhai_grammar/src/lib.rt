@@ -16,6 +16,6 @@ pub use filter::ExprFilter;
 pub use key::FnKey;
 pub use list::{AfterPart, CommaList};
 pub use role::{
-    AfterStatement, Beginning, Calling, Closing, Construct, Effect, ItemPlace, Joining, Linking,
-    ListKind, OperandPlace, OperandStart, StatementPlace, StatementStart,
+    AfterStatement, ArmPlace, Beginning, Calling, Closing, Construct, Effect, ItemPlace, Joining,
+    Linking, ListKind, OperandPlace, OperandStart, StatementPlace, StatementStart,
 };

@@ -9,6 +9,8 @@ pub enum CommaList {
     Array,
     /// The properties of an object map, up to `}`.
     Map,
+    /// The arms of a `switch`, up to `}`.
+    Arms,
 }
 
 /// What a token is after a part of such a list.

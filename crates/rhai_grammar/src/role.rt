@@ -8,6 +8,8 @@ pub enum Construct {
     Block,
     /// `if`
     If,
+    /// `switch`
+    Switch,
     /// `while`
     While,
     /// `loop`
@@ -190,5 +192,18 @@ pub enum AfterStatement {
     /// It closes the list.
     Close,
     /// It may not stand there.
+    Nothing,
+}
+
+/// What a token is where an arm of a `switch` may begin.
+#[derive(Clone, Copy, PartialEq, Eq, Debug)]
+pub enum ArmPlace {
+    /// It begins a case.
+    Case,
+    /// `_`, which begins the default arm.
+    Default,
+    /// `}`, which ends the arms.
+    Close,
+    /// The end mark, where the `}` is missing.
     Nothing,
 }

@@ -9,7 +9,7 @@ use Rattle.rhai_lower.specs.View.{statement_views}
 use Rattle.rhai_lower.specs.declared.ast.AST.{AST}
 use Rattle.rhai_lower.specs.declared.ast.ScriptFuncDef.{ScriptFuncDef}
 use Rattle.rhai_lower.specs.declared.ast.Stmt.{Stmt}
-use Rattle.rhai_grammar.specs.Causes.{cause_of, refusal_of, is_memory_cause, is_memory_kind, is_for_memory}
+use Rattle.rhai_grammar.specs.Causes.{refusal_of, is_for_memory}
 use Rattle.rhai_grammar.specs.Cursors.{Cursor}
 use Rattle.rhai_grammar.specs.Delivered.{code}
 use Rattle.rhai_grammar.specs.Contexts.{Context, Live}
@@ -21,16 +21,11 @@ use Rattle.rhai_grammar.specs.Definitions.{after_statements}
 use Rattle.rhai_grammar.specs.Promises.{Accepts, IsScript, IsScriptOf, HasRead, ReadsExpression, ReadsScript, ReadsWhole}
 use Rattle.rhai_grammar.specs.Promises.{Returns, UnlessMemory}
 use Rattle.rhai_grammar.specs.declared.error.ParseError.{ParseError}
-use Rattle.rhai_grammar.specs.declared.error.ParseErrorType.{ParseErrorType}
-use Rattle.rhai_grammar.specs.declared.error.ParseErrorType.TheVariants.{OutOfMemory}
+use Rattle.rhai_base.proofs.ErrorLemmas.{memory_cause}
 use Rattle.rhai_reading.specs.Reading.{Goal, Script, Val, Whole}
 use Rattle.rhai_reading.specs.Running.{Done, Fails, result_of}
 use Rattle.rhai_reading.proofs.Main as M
 use Rattle.rhai_reading.proofs.Main.{Entry, expression_entry, script_entry, script_of}
-
-memory_kind : (k : ParseErrorType) → is_memory_cause (cause_of k) ≡ is_memory_kind k
-memory_kind OutOfMemory = refl
-memory_kind _ = refl
 
 -- memory ran out after a form was read
 pub ran_out : {X : Type 0} (Is : X → Type 0) (result : Result X ParseError) → Returns Is result
@@ -67,7 +62,7 @@ module _ {L F X : Type 0} {g : Goal} {whole : F → Demands} {tree_of : F → Va
   reads_fails e mode fails = record {
     accepted = λ empty. tt;
     only = λ empty f written. by_memory (is_for_memory e) refl (λ other. M.refused_none E s left (refusal_of e) mode (fails.0 other) f written);
-    refused = λ other. M.refused E s left (refusal_of e) mode (fails.0 other) (memory_kind e.0 ∙ other);
+    refused = λ other. M.refused E s left (refusal_of e) mode (fails.0 other) (memory_cause e.0 ∙ other);
   }
     where
       by_memory : (b : Bool) → is_for_memory e ≡ b → (is_for_memory e ≡ false → ⊥) → is_for_memory e ≡ true
@@ -87,7 +82,7 @@ module _ {F : Type 0} {g : Goal} {whole : F → Demands} {tree_of : F → Val g}
     (s left : Cursor) where
   pub has_read_fails : (e : ParseError) → Fails (result_of g s) e left → is_for_memory e ≡ false
       → HasRead s left true
-  has_read_fails e fails other = M.refused_read E s left (refusal_of e) (fails.0 other) (memory_kind e.0 ∙ other)
+  has_read_fails e fails other = M.refused_read E s left (refusal_of e) (fails.0 other) (memory_cause e.0 ∙ other)
 
 -- ---- the two entries
 

@@ -15,7 +15,7 @@ StateValue = ParseState (List SlotValue) (Vec (RcStr Global × Position) Global)
 
 -- what goes down into the whole form, under the settings that the caller chose
 abbrev pub starts_in : LanguageValue → StateValue → ParseSettings → Context
-starts_in engine state settings = context_of engine settings
+starts_in engine state settings = context_of engine state.expr_filter settings
 
 -- what is live before it
 abbrev pub live_in : StateValue → Live

@@ -259,8 +259,8 @@ impl Engine {
         level: OptimizationLevel,
     ) -> ParseResult<AST>
         ensures reads { (library : List (FnKey × Rc ScriptFuncDef Global)) → (cursor_of input.old).mode ≡ code
-            → ReadsExpression library (context_of self.now settings) (live_of frame.now) (cursor_of input.old)
-            (cursor_of input.new) result }
+            → ReadsExpression library (context_of self.now frame.now.filter settings) (live_of frame.now)
+            (cursor_of input.old) (cursor_of input.new) result }
         ensures memory { UnlessMemory (HasRead (cursor_of input.old) (cursor_of input.new)) result }
         ensures nowhere { IfErr result MemoryIsNowhere }
     {
@@ -301,7 +301,7 @@ impl Engine {
             input,
             lib: _,
             tokenizer_control: _,
-            expr_filter: _,
+            expr_filter,
             external_constants,
             stack,
             frame_pointer,
@@ -311,7 +311,7 @@ impl Engine {
             global_imports: _,
             counts: _,
         } = state;
-        let frame = Frame::new(stack, frame_pointer);
+        let frame = Frame::new(stack, frame_pointer, expr_filter);
         self.read_script(input, &frame, chosen, external_constants, level)
     }
 }

@@ -17,7 +17,7 @@ ghost use Rattle.rhai_parser.specs.Starts.{live_in, starts_in};
 use crate::engine::Engine;
 use rhai_base::library::functions;
 use rhai_base::{FnLib, Frame, ParseSettingFlags, ParseSettings, ParseState};
-use rhai_grammar::{Closing, ParseResult};
+use rhai_grammar::{Closing, ExprFilter, ParseResult};
 use rhai_lower::{Position, Scope, ScriptFuncDef, Stmt, StmtBlockContainer, TokenStream};
 use rhai_readers::Shared;
 use std::mem;
@@ -44,15 +44,16 @@ impl Engine {
         input: &mut TokenStream,
         stack: &mut Scope,
         block: usize,
+        filter: ExprFilter,
         settings: ParseSettings,
     ) -> ParseResult<Vec<Stmt>>
         ensures reads { (left : Live) × (left.slots ≡ stack.new)
             × Gives (λ ss. (statement_views ss.items, left))
-            (result_of (Script (context_of self.now settings) (record { slots = stack.old; block = block }))
+            (result_of (Script (context_of self.now filter settings) (record { slots = stack.old; block = block }))
             (cursor_of input.old)) result (cursor_of input.new) }
     {
         let slots = mem::replace(stack, Scope::new(self.alloc()));
-        let mut frame = Frame::new(slots, block);
+        let mut frame = Frame::new(slots, block, filter);
         let mut shared = Shared { input };
         let language = self.language();
         let statements = language.parse_statements(
@@ -105,7 +106,8 @@ impl Engine {
         let mut chosen = self.script_settings();
         settings(&mut chosen);
         let block = state.frame_pointer;
-        match self.read_statements(state.input, &mut state.stack, block, chosen) {
+        let filter = state.expr_filter;
+        match self.read_statements(state.input, &mut state.stack, block, filter, chosen) {
             Ok(statements) => self.with_functions(statements, state.lib),
             Err(error) => Err(error),
         }

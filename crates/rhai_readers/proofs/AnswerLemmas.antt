@@ -10,6 +10,7 @@ use Rattle.rhai_grammar.specs.Cursors.{Cursor, asked, looking, taking}
 use Rattle.rhai_grammar.specs.Delivered.{is_memory}
 use Rattle.rhai_grammar.specs.Strengths.{Unknown, follower_of}
 use Rattle.rhai_grammar.specs.Contexts.{Context, Live}
+use Rattle.rhai_grammar.specs.declared.filter.ExprFilter.{ExprFilter}
 use Rattle.rhai_grammar.specs.Beginnings.{calls, is_this, may_be_called}
 use Rattle.rhai_grammar.specs.Settings.{in_function, Settings}
 use Rattle.rhai_reading.specs.Reading.{Ret, Fail, Primary, word_at, next_operator_at, NextOperator, Peek, NextKey, match_token, key_on, room_at}
@@ -86,26 +87,26 @@ found_given at None = refl
 found_given at (Some o) = refl
 
 -- the operator that the code finds
-next_done : (s t : Cursor) (o : Option Operator) → is_memory (asked s).lexeme ≡ false → follower_of (asked s).lexeme ≡ operator_found o → t ≡ looking s → result_of NextOperator s ≡ R.Done (option_map operator_pair o) t
-next_done s t o readable is look =
-    let call = guarded NextOperator s in
+next_done : (f : ExprFilter) (s t : Cursor) (o : Option Operator) → is_memory (asked s).lexeme ≡ false → follower_of f (asked s).lexeme ≡ operator_found o → t ≡ looking s → result_of (NextOperator f) s ≡ R.Done (option_map operator_pair o) t
+next_done f s t o readable is look =
+    let call = guarded (NextOperator f) s in
     let at = (asked s).at in
-    step_next_operator s
-    ∙ ap (λ m. if m then R.Refused out_of_memory (looking s) else exec call (next_operator_at at (follower_of (asked s).lexeme)) (looking s)) readable
+    step_next_operator f s
+    ∙ ap (λ m. if m then R.Refused out_of_memory (looking s) else exec call (next_operator_at at (follower_of f (asked s).lexeme)) (looking s)) readable
     ∙ ap (λ b. exec call (next_operator_at at b) (looking s)) is
     ∙ ap (λ p. exec call p (looking s)) (found_given at o)
     ∙ ap (R.Done (option_map operator_pair o)) (sym look)
 
 -- what the code answers where it looks for an operator, as the reading program gives it
-pub next_given : (s t : Cursor) (r : Result (Option Operator) ParseError) → IfOk r (λ o. follower_of (asked s).lexeme ≡ operator_found o) → IfErr r (λ e. is_for_memory e ≡ false → (follower_of (asked s).lexeme ≡ Unknown (text_of (asked s).lexeme)) × (is_memory (asked s).lexeme ≡ false) × (refusal_of e ≡ refusal (UnknownOperator (text_of (asked s).lexeme)) (asked s).at)) → IfErr r MemoryIsNowhere → t ≡ looking s → OnOk r (is_memory (asked s).lexeme ≡ false) → Gives (option_map operator_pair) (result_of NextOperator s) r t
-next_given s t (Ok o) found refused nowhere look readable = next_done s t o readable found look
-next_given s t (Err e) found refused nowhere look readable = (
+pub next_given : (f : ExprFilter) (s t : Cursor) (r : Result (Option Operator) ParseError) → IfOk r (λ o. follower_of f (asked s).lexeme ≡ operator_found o) → IfErr r (λ e. is_for_memory e ≡ false → (follower_of f (asked s).lexeme ≡ Unknown (text_of (asked s).lexeme)) × (is_memory (asked s).lexeme ≡ false) × (refusal_of e ≡ refusal (UnknownOperator (text_of (asked s).lexeme)) (asked s).at)) → IfErr r MemoryIsNowhere → t ≡ looking s → OnOk r (is_memory (asked s).lexeme ≡ false) → Gives (option_map operator_pair) (result_of (NextOperator f) s) r t
+next_given f s t (Ok o) found refused nowhere look readable = next_done f s t o readable found look
+next_given f s t (Err e) found refused nowhere look readable = (
   λ told. (
-      let call = guarded NextOperator s in
+      let call = guarded (NextOperator f) s in
       let at = (asked s).at in
       let h = refused told in
-      step_next_operator s
-      ∙ ap (λ m. if m then R.Refused out_of_memory (looking s) else exec call (next_operator_at at (follower_of (asked s).lexeme)) (looking s)) h.1
+      step_next_operator f s
+      ∙ ap (λ m. if m then R.Refused out_of_memory (looking s) else exec call (next_operator_at at (follower_of f (asked s).lexeme)) (looking s)) h.1
       ∙ ap (λ b. exec call (next_operator_at at b) (looking s)) h.0
       ∙ ap (λ d. R.Refused d (looking s)) (sym h.2)
       ∙ ap (R.Refused (refusal_of e)) (sym look)),
@@ -114,9 +115,10 @@ next_given s t (Err e) found refused nowhere look readable = (
 
 -- ---- what a form stands in
 
-abbrev under : LanguageValue → Settings → Context
-under language c = record { settings = c; options = language.options; sizes = sizes_of language }
+abbrev under : LanguageValue → ExprFilter → Settings → Context
+under language filter c =
+    record { settings = c; options = language.options; sizes = sizes_of language; filter = filter }
 
 -- Settings that differ in their position alone make one context.
-pub same_context : (language : LanguageValue) (c d : ParseSettings) → settings_of c ≡ settings_of d → context_of language c ≡ context_of language d
-same_context language c d e = ap (under language) e
+pub same_context : (language : LanguageValue) (filter : ExprFilter) (c d : ParseSettings) → settings_of c ≡ settings_of d → context_of language filter c ≡ context_of language filter d
+same_context language filter c d e = ap (under language filter) e

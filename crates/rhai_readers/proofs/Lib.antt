@@ -1,3 +1,4 @@
 pub mod AnswerLemmas
 pub mod Readers
+pub mod SwitchLemmas
 pub mod TextLemmas

@@ -9,6 +9,7 @@ ghost use Rattle.rhai_grammar.specs.Chains.{index_refusal};
 ghost use Rattle.rhai_grammar.specs.Cursors.{Cursor, asked, cursor_of, left, looking};
 ghost use Rattle.rhai_grammar.specs.Delivered.{is_end, is_memory};
 ghost use Rattle.rhai_grammar.specs.Statements.{ends_itself};
+ghost use Rattle.rhai_grammar.specs.declared.filter.ExprFilter.{ExprFilter};
 ghost use Rattle.rhai_grammar.specs.Targets.{is_constant_use, target_fault, update_of};
 ghost use Rattle.rhai_reading.specs.Reading.{BlockEnd, BlockStart, NextKey, NextOperator, TextAfter};
 ghost use Rattle.rhai_reading.specs.Reading.{assigned_on, index_on};
@@ -26,21 +27,25 @@ use rhai_base::leaves::statements::parse_var_name;
 use rhai_base::leaves::strings::{TextPart, end_interpolation};
 use rhai_base::leaves::{keys, operators};
 use rhai_base::{Frame, ParseSettings};
-use rhai_grammar::{DueToken, ParseResult};
+use rhai_grammar::{DueToken, ExprFilter, ParseResult};
 use rhai_lower::{Expr, Ident, Position, Stmt, StmtBlock, Token, TokenStream};
 use rhai_trees::{make_assignment, make_block, slot_of, test_index, test_target};
 use std::alloc::Global;
 use std::rc::RcStr;
 
-/// The operator that stands after an operand, if there is one; its token stays.
-pub(crate) fn next_operator(alloc: Global, input: &mut TokenStream) -> ParseResult<Option<Operator>>
-    ensures gives { Gives (option_map operator_pair) (result_of NextOperator (cursor_of input.old)) result
+/// The operator that stands after an operand, if there is one that the filter lets pass; its token stays.
+pub(crate) fn next_operator(
+    alloc: Global,
+    filter: ExprFilter,
+    input: &mut TokenStream,
+) -> ParseResult<Option<Operator>>
+    ensures gives { Gives (option_map operator_pair) (result_of (NextOperator filter) (cursor_of input.old)) result
         (cursor_of input.new) }
     ensures after { cursor_of input.new ≡ looking (cursor_of input.old) }
     ensures some { IfOk result (λ o. IsSome o → is_end (asked (cursor_of input.old)).lexeme ≡ false) }
     ensures readable { OnOk result (is_memory (asked (cursor_of input.old)).lexeme ≡ false) }
 {
-    operators::next_operator(alloc, input)
+    operators::next_operator(alloc, filter, input)
 }
 
 /// The key of the property after these ones, with its `:`, and a look at the value that is due; none where the `}` is,
@@ -52,9 +57,9 @@ pub(crate) fn next_key(
     settings: ParseSettings,
     properties: &[(Ident, Expr)],
 ) -> ParseResult<Option<Ident>>
-    ensures gives { Gives (option_map written)
-        (result_of (NextKey (context_of language.now settings) (property_views properties.now)) (cursor_of input.old))
-        result (cursor_of input.new) }
+    ensures gives { (filter : ExprFilter) → Gives (option_map written)
+        (result_of (NextKey (context_of language.now filter settings) (property_views properties.now))
+        (cursor_of input.old)) result (cursor_of input.new) }
     ensures shorter { left (cursor_of input.new).tokens ≤ left (cursor_of input.old).tokens }
 {
     let alloc = language.alloc();

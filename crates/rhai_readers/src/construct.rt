@@ -46,6 +46,7 @@ impl Language {
             Construct::Do => self.parse_do(shared, frame, settings),
             Construct::For => self.parse_for(shared, frame, settings),
             Construct::Try => self.parse_try(shared, frame, settings),
+            Construct::Switch => self.parse_switch(shared, frame, settings),
         }
     }
 
@@ -93,7 +94,7 @@ impl Language {
 
     /// Reads the guard of an `if` or of a loop.
     #[cycle(parser)]
-    fn parse_guard(
+    pub(crate) fn parse_guard(
         &self,
         shared: &mut Shared<'_>,
         frame: &Frame<'_>,

@@ -121,8 +121,9 @@ pub(crate) fn loop_frame<'f>(
     frame: &'f Frame<'_>,
     names: &LoopNames,
 ) -> Result<Frame<'f>, AllocError>
-    ensures { IfOk result (λ inner. inner.live
+    ensures live { IfOk result (λ inner. inner.live
         ≡ loop_live (rc_str_bytes names.now.name) (option_map rc_str_bytes names.now.counter) frame.now.live) }
+    ensures filter { IfOk result (λ inner. inner.filter ≡ frame.now.filter) }
 {
     let mut inner = frame.inner(alloc);
     if let Some(counter) = &names.counter {
@@ -138,8 +139,9 @@ pub(crate) fn catch_frame<'f>(
     frame: &'f Frame<'_>,
     name: &Option<(RcStr, Position)>,
 ) -> Result<Frame<'f>, AllocError>
-    ensures { IfOk result (λ inner. inner.live
+    ensures live { IfOk result (λ inner. inner.live
         ≡ catch_live (caught_name (option_map name_view name.now)) frame.now.live) }
+    ensures filter { IfOk result (λ inner. inner.filter ≡ frame.now.filter) }
 {
     let mut inner = frame.inner(alloc);
     if let Some((name, _)) = name {

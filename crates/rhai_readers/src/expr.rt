@@ -236,7 +236,7 @@ impl Language {
         let mut settings = settings.at(lhs.position());
         let mut lhs = lhs;
         loop {
-            let Some(operator) = next_operator(self.alloc(), shared.input)? else {
+            let Some(operator) = next_operator(self.alloc(), frame.filter(), shared.input)? else {
                 return Ok(lhs);
             };
             if !operator.continues(parent) {
@@ -246,7 +246,7 @@ impl Language {
             let place = place_after(&op_token);
             let rhs = self.parse_right_operand(shared, frame, settings, place)?;
             // A reserved symbol after the operand is refused before the level is raised.
-            next_operator(self.alloc(), shared.input)?;
+            next_operator(self.alloc(), frame.filter(), shared.input)?;
             let deeper = settings.level_up_in_run(pos)?;
             let rhs = self.parse_binary_op(shared, frame, deeper.side, operator.strength, rhs)?;
             lhs = match make_binary(self.alloc(), op_token, pos, lhs, rhs) {

@@ -1,6 +1,7 @@
 //! The readers: what takes tokens and may come to read an expression. The parser's entries stand on them.
 #![tactic(auto)]
 
+pub mod arms;
 mod asks;
 mod chain;
 mod construct;
@@ -10,6 +11,7 @@ pub mod language;
 mod literals;
 pub mod shared;
 mod stmt;
+mod switch;
 
 pub use language::Language;
 pub use shared::Shared;

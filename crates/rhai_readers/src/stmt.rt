@@ -6,6 +6,7 @@ ghost use Rattle.rhai_lower.specs.View.{block_view, statement_view, view};
 ghost use Rattle.rhai_readers.specs.Readers.{GoesOn, Reads, block, definition, expr_statement, initializer, statement};
 ghost use Rattle.rhai_grammar.specs.Cursors.{left};
 ghost use Rattle.rhai_grammar.specs.Statements.{ends_itself};
+ghost use Rattle.rhai_readers.specs.Frames.{SamePlace};
 ghost use Rattle.rhai_readers.specs.Readers.{inside, jump, state_of, statements, statements_of, with_live};
 ghost use Rattle.rhai_trees.specs.Statements.{optional_view};
 
@@ -39,7 +40,7 @@ impl Language {
         closing: Closing,
     ) -> ParseResult<Vec<Stmt>>
         ensures goes_on { GoesOn shared.old shared.new }
-        ensures depth { frame.new.depth ≡ frame.old.depth }
+        ensures place { SamePlace frame.old frame.new }
         ensures reads { Reads (statements self.now frame.old settings closing no_statements)
             (with_live statements_of frame.new) shared.old result shared.new }
     {
@@ -70,7 +71,7 @@ impl Language {
         settings: ParseSettings,
     ) -> ParseResult<Stmt>
         ensures goes_on { GoesOn shared.old shared.new }
-        ensures depth { frame.new.depth ≡ frame.old.depth }
+        ensures place { SamePlace frame.old frame.new }
         ensures reads { Reads (statement self.now frame.old settings) (with_live statement_view frame.new) shared.old
             result shared.new }
         ensures takes { IfOk result (λ s. ends_itself (statement_view s) ≡ true
@@ -133,7 +134,7 @@ impl Language {
         constant: bool,
     ) -> ParseResult<Stmt>
         ensures goes_on { GoesOn shared.old shared.new }
-        ensures depth { frame.new.depth ≡ frame.old.depth }
+        ensures place { SamePlace frame.old frame.new }
         ensures reads { Reads (definition self.now frame.old settings constant) (with_live statement_view frame.new)
             shared.old result shared.new }
     {

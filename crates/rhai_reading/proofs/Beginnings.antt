@@ -33,6 +33,9 @@ use Rattle.rhai_grammar.specs.declared.role.AfterStatement.{AfterStatement}
 use Rattle.rhai_grammar.specs.declared.role.AfterStatement.TheVariants as after
 use Rattle.rhai_grammar.specs.declared.role.Closing.{Closing}
 use Rattle.rhai_grammar.specs.declared.role.Closing.TheVariants.{Brace, EndMark}
+use Rattle.rhai_grammar.specs.Switches.{arm_place}
+use Rattle.rhai_grammar.specs.declared.role.ArmPlace.{ArmPlace}
+use Rattle.rhai_grammar.specs.declared.role.ArmPlace.TheVariants as arm
 use Rattle.rhai_grammar.specs.declared.role.StatementStart.{StatementStart}
 use Rattle.rhai_grammar.specs.declared.role.StatementStart.TheVariants as start
 use Rattle.rhai_reading.proofs.Looks.{op_at, pos_at}
@@ -58,6 +61,7 @@ begins (Sign token.LeftBracket) p = refl
 begins (Sign token.MapStart) p = refl
 begins (Sign token.LeftBrace) p = refl
 begins (Sign token.If) p = refl
+begins (Sign token.Switch) p = refl
 begins (Sign token.While) p = refl
 begins (Sign token.Loop) p = refl
 begins (Sign token.Do) p = refl
@@ -139,6 +143,7 @@ starts : (l : Lexeme) (p : Position) → Starts (any_start l) (item l p)
 starts (Sign token.SemiColon) p = refl
 starts (Sign token.LeftBrace) p = refl
 starts (Sign token.If) p = refl
+starts (Sign token.Switch) p = refl
 starts (Sign token.While) p = refl
 starts (Sign token.Loop) p = refl
 starts (Sign token.Do) p = refl
@@ -191,6 +196,7 @@ pub starts_value : (c : Context) (k : Kind) → may_be_value c k ≡ true
 starts_value c kind.Try e = absurd cc
 starts_value c kind.Block e = refl
 starts_value c kind.If e = refl
+starts_value c kind.Switch e = refl
 starts_value c kind.While e = refl
 starts_value c kind.Loop e = refl
 starts_value c kind.Do e = refl
@@ -199,6 +205,7 @@ starts_value c kind.For e = refl
 any_construct_starts : (k : Kind) → any_start (Sign (construct_token k)) ≡ start.Construct k
 any_construct_starts kind.Block = refl
 any_construct_starts kind.If = refl
+any_construct_starts kind.Switch = refl
 any_construct_starts kind.While = refl
 any_construct_starts kind.Loop = refl
 any_construct_starts kind.Do = refl
@@ -228,6 +235,22 @@ separates EndMark _ p = tt
 pub separated : {v : AfterStatement} (closing : Closing) (s : Point) → after_statement closing (op_at s) ≡ v
     → Separates v (next_at code s)
 separated closing s e = subst (λ v. Separates v (next_at code s)) e (separates closing (op_at s) (pos_at s))
+
+-- ---- where an arm of `switch` may begin
+
+abbrev pub ArmsThere : ArmPlace → Item → Type 0
+ArmsThere arm.Default i = i ≡ item (Sign token.Underscore) i.at
+ArmsThere arm.Close i = i ≡ item (Sign token.RightBrace) i.at
+ArmsThere _ i = Unit {0}
+
+arms_there : (l : Lexeme) (p : Position) → ArmsThere (arm_place l) (item l p)
+arms_there (Sign token.Underscore) p = refl
+arms_there (Sign token.RightBrace) p = refl
+arms_there (Sign token.EOF) p = tt
+arms_there _ p = tt
+
+pub armed : {v : ArmPlace} (s : Point) → arm_place (op_at s) ≡ v → ArmsThere v (next_at code s)
+armed s e = subst (λ v. ArmsThere v (next_at code s)) e (arms_there (op_at s) (pos_at s))
 
 -- ---- texts, and the end of `do`
 

@@ -7,6 +7,7 @@ pub mod Chains
 pub mod Runs
 pub mod Statements
 pub mod Constructs
+pub mod Switches
 pub mod Whole
 use Rattle.std.proofs.Common.{Bool, true}
 use Rattle.rhai_grammar.specs.Delivered.{Point}
@@ -30,7 +31,8 @@ use Rattle.rhai_reading.proofs.Complete.Law.{PrimaryRead, BaseRead, LinksRead, O
 use Rattle.rhai_reading.proofs.Complete.Law.{ElementsRead, FieldsRead, RunRead}
 use Rattle.rhai_reading.proofs.Complete.Law.{ExprStatementRead, InitializerRead, StatementRead, StatementsRead, BodyRead}
 use Rattle.rhai_grammar.specs.Forms.{Body, Branch, Conditional, Construct, ExprStatement, Initializer, JumpValue}
-use Rattle.rhai_grammar.specs.Forms.{Segments, Statement}
+use Rattle.rhai_grammar.specs.Forms.{Action, Arms, CaseGuard, Cases, Segments, Statement}
+use Rattle.rhai_reading.proofs.Complete.Law.{ActionRead, ArmsRead, CaseGuardRead, CasesRead}
 use Rattle.rhai_reading.proofs.Complete.Law.{BranchRead, ConditionalRead, ConstructRead, InsideRead, JumpRead}
 use Rattle.rhai_reading.proofs.Complete.Law.{SegmentsRead}
 use Rattle.rhai_reading.proofs.Complete.Operands as O
@@ -40,6 +42,7 @@ use Rattle.rhai_reading.proofs.Complete.Chains as K
 use Rattle.rhai_reading.proofs.Complete.Runs as N
 use Rattle.rhai_reading.proofs.Complete.Statements as T
 use Rattle.rhai_reading.proofs.Complete.Constructs as B
+use Rattle.rhai_reading.proofs.Complete.Switches as X
 use Rattle.rhai_reading.proofs.Complete.Whole.{expression, whole}
 
 mutual
@@ -127,6 +130,7 @@ mutual
   construct : (x : Construct) → ConstructRead x
   construct (form.Block f) = B.block f (block f)
   construct (form.If x) = B.if_ x (conditional x)
+  construct (form.Switch f opening list) = X.switch f opening list (expression f (run f)) (arms list)
   construct (form.While f opening g) = B.while f opening g (expression f (run f)) (block g)
   construct (form.Loop opening g) = B.loop opening g (block g)
   construct (form.Do opening g negated pos f) = B.do_while opening g negated pos f (block g) (expression f (run f))
@@ -142,6 +146,24 @@ mutual
   branch form.NoElse = B.no_else
   branch (form.Else pos opening g) = B.else_block pos opening g (block g)
   branch (form.ElseIf pos if_at x) = B.else_if pos if_at x (conditional x)
+
+  arms : (x : Arms) → ArmsRead x
+  arms (form.NoArm closing) = X.no_arm closing
+  arms (form.Arm xs f arrow x comma rest) =
+      X.an_arm xs f arrow x comma rest (cases xs) (case_guard f) (action x) (arms rest)
+  arms (form.DefaultArm pos arrow x comma closing) = X.default_arm pos arrow x comma closing (action x)
+
+  cases : (x : Cases) → CasesRead x
+  cases (form.LastCase f) = X.last_case f (expression f (run f))
+  cases (form.Case f pipe rest) = X.more_cases f pipe rest (expression f (run f)) (cases rest)
+
+  case_guard : (x : CaseGuard) → CaseGuardRead x
+  case_guard form.NoGuard = X.no_guard
+  case_guard (form.Guard pos f) = X.case_guard pos f (expression f (run f))
+
+  action : (x : Action) → ActionRead x
+  action (form.Does f) = X.does f (statement f)
+  action (form.Gives f) = X.gives_value f (expression f (run f))
 
   statements : (x : form.Statements) → StatementsRead x
   statements form.NoStatement = T.no_statements

@@ -34,6 +34,8 @@ stands due.LeftBrace (Sign token.LeftBrace) p e = refl
 stands due.RightBrace (Sign token.RightBrace) p e = refl
 stands due.Comma (Sign token.Comma) p e = refl
 stands due.Equals (Sign token.Equals) p e = refl
+stands due.Pipe (Sign token.Pipe) p e = refl
+stands due.DoubleArrow (Sign token.DoubleArrow) p e = refl
 stands due.In (Sign token.In) p e = refl
 stands due.If (Sign token.If) p e = refl
 stands due.Else (Sign token.Else) p e = refl
@@ -74,7 +76,7 @@ module _ {A F B : Type 0} {call : Histories} {Q : A → Point → Type 0} {K : K
 -- ---- after a part of a list
 
 -- what a token is there says which one it is
-abbrev Follows : CommaList → AfterPart → Item → Type 0
+abbrev pub Follows : CommaList → AfterPart → Item → Type 0
 Follows parts Comma i = i ≡ item (Sign token.Comma) i.at
 Follows parts Close i = i ≡ item (Sign (closing_of parts)) i.at
 Follows parts Nothing i = Unit {0}
@@ -89,8 +91,11 @@ follows lists.Array _ p = tt
 follows lists.Map (Sign token.Comma) p = refl
 follows lists.Map (Sign token.RightBrace) p = refl
 follows lists.Map _ p = tt
+follows lists.Arms (Sign token.Comma) p = refl
+follows lists.Arms (Sign token.RightBrace) p = refl
+follows lists.Arms _ p = tt
 
-followed : {v : AfterPart} (parts : CommaList) (s : Point) → after_part parts (op_at s) ≡ v
+pub followed : {v : AfterPart} (parts : CommaList) (s : Point) → after_part parts (op_at s) ≡ v
     → Follows parts v (next_at code s)
 followed parts s e = subst (λ v. Follows parts v (next_at code s)) e (follows parts (op_at s) (pos_at s))
 

@@ -6,9 +6,11 @@ pub mod Beginnings
 pub mod Tokens
 pub mod Lists
 pub mod Looks
+pub mod Recasts
 pub mod Paths
 pub mod Shows
 pub mod FormKinds
+pub mod SwitchKinds
 pub mod Reaches
 pub mod Complete
 pub mod Local

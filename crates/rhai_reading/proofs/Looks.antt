@@ -5,6 +5,7 @@ use Rattle.rhai_lower.specs.Nodes.{Node}
 use Rattle.rhai_lower.specs.declared.position.Position.{Position}
 use Rattle.rhai_grammar.specs.Causes.{Cause}
 use Rattle.rhai_grammar.specs.Delivered.{code, Point, next_at, is_memory}
+use Rattle.rhai_grammar.specs.declared.filter.ExprFilter.{ExprFilter}
 use Rattle.rhai_grammar.specs.Contexts.{Live}
 use Rattle.rhai_grammar.specs.Strengths.{Follower, Operator, Unknown, Other, follower_of}
 use Rattle.rhai_grammar.specs.Demands.{Verdict, Fine, Wrong, Otherwise, verdict}
@@ -17,8 +18,9 @@ op_at s = (next_at code s).lexeme
 abbrev pub pos_at : Point → Position
 pos_at s = (next_at code s).at
 
-abbrev pub follower_at : Point → Follower
-follower_at s = follower_of (op_at s)
+-- what stands after an operand, under a filter
+abbrev pub follower_at : ExprFilter → Point → Follower
+follower_at filter s = follower_of filter (op_at s)
 
 abbrev pub operator_in : Follower → Option (ℕ × Bool)
 operator_in (Operator n right) = Some (n, right)

@@ -18,11 +18,11 @@ use Rattle.rhai_reading.proofs.Outcomes.{binary_done, binary_refused}
 
 -- From s an operator of strength n stands after the left operand, and its right side y ends at t.
 pub record TakesOne (c : Context) (w : Live) (parent n : ℕ) (right : Bool) (next : Option (ℕ × Bool)) (x y : Node) (s s1 s2 s3 t : Cursor) : Type 0 where
-  pub operator : result_of NextOperator s ≡ R.Done (Some (n, right)) s1
+  pub operator : result_of (NextOperator c.filter) s ≡ R.Done (Some (n, right)) s1
   pub goes : continues parent n right ≡ true
   pub readable : is_memory (asked s1).lexeme ≡ false
   pub operand : result_of (RightOperand c w (place_after (asked s1).lexeme)) (taking s1) ≡ R.Done x s2
-  pub known : result_of NextOperator s2 ≡ R.Done next s3
+  pub known : result_of (NextOperator c.filter) s2 ≡ R.Done next s3
   pub room : has_room c ≡ true
   pub side : result_of (BinaryOp (level_up c) w (position_of x) n x) s3 ≡ R.Done y t
   pub after_operator : left (taking s1).tokens + 1 ≤ left s.tokens
@@ -33,9 +33,9 @@ pub record TakesOne (c : Context) (w : Live) (parent n : ℕ) (right : Bool) (ne
 one_operator : (c : Context) (w : Live) (at : Position) (parent : ℕ) (lhs : Node) (n : ℕ) (right : Bool) (next : Option (ℕ × Bool)) (x y : Node) (s s1 s2 s3 t : Cursor) → TakesOne c w parent n right next x y s s1 s2 s3 t → result_of (BinaryOp c w at parent lhs) s ≡ exec (guarded (BinaryOp c w at parent lhs) s) (binary_next (level_up c) w parent lhs (asked s1).lexeme (asked s1).at y) t
 one_operator c w at parent lhs n right next x y s s1 s2 s3 t h =
     let g = BinaryOp c w at parent lhs in
-    let first = guarded_is g s NextOperator s (omega arith) ∙ h.operator in
+    let first = guarded_is g s (NextOperator c.filter) s (omega arith) ∙ h.operator in
     let second = guarded_is g s (RightOperand c w (place_after (asked s1).lexeme)) (taking s1) (omega (arith, h.after_operator)) ∙ h.operand in
-    let third = guarded_is g s NextOperator s2 (omega (arith, h.after_operand)) ∙ h.known in
+    let third = guarded_is g s (NextOperator c.filter) s2 (omega (arith, h.after_operand)) ∙ h.known in
     let fourth = guarded_is g s (BinaryOp (level_up c) w (position_of x) n x) s3 (omega (arith, h.after_look)) ∙ h.side in
     let call = guarded g s in
     let op = (asked s1).lexeme in
@@ -64,7 +64,7 @@ operator_refused c w at parent lhs n right next x y r s s1 s2 s3 t h e =
 
 -- An operator of a run with its right side, as the code takes it: each step leaves a cursor, and none leaves more tokens than were there.
 pub record Walked (c : Context) (w : Live) (parent n : ℕ) (right : Bool) (place : OperandPlace) (next : Option (ℕ × Bool)) (op : Lexeme) (pos : Position) (x y : Node) (d : Context) (s s1 s2 s3 s4 t : Cursor) : Type 0 where
-  pub operator : result_of NextOperator s ≡ R.Done (Some (n, right)) s1
+  pub operator : result_of (NextOperator c.filter) s ≡ R.Done (Some (n, right)) s1
   pub goes : continues parent n right ≡ true
   pub readable : is_memory (asked s).lexeme ≡ false
   pub more : is_end (asked s).lexeme ≡ false
@@ -75,7 +75,7 @@ pub record Walked (c : Context) (w : Live) (parent n : ℕ) (right : Bool) (plac
   pub stands : place ≡ place_after op
   pub operand : result_of (RightOperand c w place) s2 ≡ R.Done x s3
   pub operand_short : left s3.tokens ≤ left s2.tokens
-  pub known : result_of NextOperator s3 ≡ R.Done next s4
+  pub known : result_of (NextOperator c.filter) s3 ≡ R.Done next s4
   pub look_on : s4 ≡ looking s3
   pub room : has_room c ≡ true
   pub deeper : d ≡ level_up c

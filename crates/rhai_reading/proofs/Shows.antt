@@ -12,13 +12,14 @@ use Rattle.rhai_grammar.specs.Delivered.{code, text, Item, Point, next_at, past,
 use Rattle.rhai_grammar.specs.Seen.{StandsAtLast, is_at_last}
 use Rattle.rhai_grammar.specs.Contexts.{Context, has_room}
 use Rattle.rhai_grammar.specs.Demands as D
-use Rattle.rhai_grammar.specs.Demands.{Verdict, Fine, Wrong, Blames, Otherwise, Demands, ◌▸◌, Tok, Next, Test, verdict}
-use Rattle.rhai_reading.specs.Reading.{Goal, Val, Prog, Ret, Fail, Peek, Take, TakeText, Call}
-use Rattle.rhai_reading.specs.Histories.{State, Outcome, Done, Refused, Unfinished, after_brace, and_then, exec, looking}
+use Rattle.rhai_grammar.specs.Demands.{Verdict, Fine, Wrong, Blames, Otherwise, Demands, Nothing, ◌▸◌, Tok, Next, Test, Literally, verdict}
+use Rattle.rhai_reading.specs.Reading.{Goal, Val, Prog, Ret, Fail, Peek, Take, TakeText, Call, CallLiteral}
+use Rattle.rhai_reading.specs.Histories.{State, Outcome, Done, Refused, Unfinished, after_brace, and_then, exec, looking, recast}
 use Rattle.rhai_reading.proofs.Joins.{cursor}
 use Rattle.rhai_reading.proofs.Rules.{at}
 use Rattle.rhai_reading.proofs.Looks.{op_at, pos_at}
-use Rattle.rhai_reading.proofs.Paths.{Fits, Aim, Way, lost, Passes, Astray, Lost}
+use Rattle.rhai_reading.proofs.Paths.{Fits, Aim, Way, here, literally, literally_lost, lost, Passes, Astray, Lost}
+use Rattle.rhai_reading.proofs.Recasts.{for_memory, not_at_last}
 
 abbrev pub Histories : Type 0
 Histories = (g : Goal) → State → Outcome (Val g)
@@ -69,6 +70,10 @@ Answers K s o = Tells (Read K s) (Halts K s) o
 
 abbrev pub Goes : {F A : Type 0} → Histories → Kind F A → Point → Prog A → Point → Bool → Type 0
 Goes call K from p s b = Shows call (Read K from) (Halts K from) p s b
+
+-- forms of a kind as parts that are demanded literally
+abbrev pub literal : {F A : Type 0} → Kind F A → Kind F A
+literal L = record { tree = L.tree; demands = λ f k. Literally (L.demands f Nothing) ▸ k }
 
 -- ---- verdicts on the token at a point, on the way
 
@@ -174,10 +179,37 @@ module _ {A : Type 0} {call : Histories} {Q : A → Point → Type 0} {N : Refus
       → ((x : Val g) (t : Point) (b : Bool) → P x t → Shows call Q N (k x) t b) → Shows call Q N (Call g k) s b
   called {k = k} h refused done = record { shown = after k _ h.told refused done }
 
+  -- a reader whose refusals are recast, and what comes after it
+  pub called_literal : {g : Goal} {P : Val g → Point → Type 0} {M : Refusal → State → Type 0} {k : Val g → Prog A}
+      {s : Point} {b : Bool} → Tells P M (recast (call g (at s b)))
+      → ((e : Refusal) (t : State) → M e t → N e t)
+      → ((x : Val g) (t : Point) (b : Bool) → P x t → Shows call Q N (k x) t b) → Shows call Q N (CallLiteral g k) s b
+  called_literal {k = k} h refused done = record { shown = after k _ h.told refused done }
+
 -- a reader at the end
 pub tail : {call : Histories} (g : Goal) {Q : Val g → Point → Type 0} {N : Refusal → State → Type 0} {s : Point}
     {b : Bool} → Tells Q N (call g (at s b)) → Shows call Q N (Call g (λ x. Ret x)) s b
 tail g h = called h (λ e t r. r) (λ x t b r. ret r)
+
+-- what is recast is the refusal of a part that is demanded literally
+recast_told : {F A : Type 0} (L : Kind F A) (s : Point) (o : Outcome A) → Ensures (Read L s) (Halts L s) o
+    → Ensures (Read (literal L) s) (Halts (literal L) s) (recast o)
+recast_told L s (Done x t) h = (
+  h.0,
+  record {
+    form = h.1.form;
+    is = h.1.is;
+    passes = over (λ k o r. literally (h.1.passes.on here) r);
+  },
+)
+recast_told L s (Refused e t) h = λ w.
+    let r = h (sym (for_memory e.cause e.at) ∙ w) in
+    record {
+      form = r.form;
+      stops = literally_lost r.stops;
+      last = λ z. absurd (let y = sym (not_at_last e.cause e.at) ∙ z in cc);
+    }
+recast_told L s Unfinished h = tt
 
 -- a form was read
 module _ {A F : Type 0} {call : Histories} {K : Kind F A} {from : Point} {N : Refusal → State → Type 0} where
@@ -232,6 +264,19 @@ module _ {A F B : Type 0} {call : Histories} {Q : A → Point → Type 0} {K : K
       called h (λ e t r. record { form = wrap r.form; stops = way r.form _ _ (λ j. r.stops); last = r.last })
       (λ x t b r. subst (λ y. Shows call Q (Halts K from) (k y) t b) r.is (on r.form t b r.passes))
 
+  -- such a part whose refusals are recast: its demands stand in the whole as literal ones
+  pub part_literal : {G : Type 0} {g : Goal} {L : Kind G (Val g)} {k : Val g → Prog A} {s u : Point} {b : Bool}
+      → Answers L u (call g (at s b))
+      → (wrap : G → F)
+      → ((f : G) (k : Demands) (o : Aim) → ((j : Demands) → Way (Literally (L.demands f Nothing) ▸ j) u o)
+      → Way (K.demands (wrap f) k) from o)
+      → ((f : G) (t : Point) (b : Bool) → Passed (literal L) f u t → Shows call Q (Halts K from) (k (L.tree t f)) t b)
+      → Shows call Q (Halts K from) (CallLiteral g k) s b
+  part_literal {L = L} {k = k} {u = u} h wrap way on =
+      called_literal (record { told = recast_told L u _ h.told })
+      (λ e t r. record { form = wrap r.form; stops = way r.form _ _ (λ j. r.stops); last = r.last })
+      (λ x t b r. subst (λ y. Shows call Q (Halts K from) (k y) t b) r.is (on r.form t b r.passes))
+
 -- ---- what is left of a form
 
 -- what is shown of the rest of a form is shown of the form
@@ -265,6 +310,18 @@ module _ {A F H : Type 0} {call : Histories} {K : Kind F A} {from : Point} where
       part h (λ f. wrap f any) (λ f k o r. way f any k o (r _))
       (λ f t b G. rest (wrap f) (λ t g. refl) (λ g k o r. way f g k o (G.on r)) (on f t b))
 
+  -- such a part whose refusals are recast
+  pub first_literal : {G : Type 0} {g : Goal} {L : Kind G (Val g)} {R : G → H → Demands → Demands} {k : Val g → Prog A}
+      {s u : Point} {b : Bool} → Answers L u (call g (at s b))
+      → (wrap : G → H → F) (any : H)
+      → ((f : G) (h : H) (k : Demands) (o : Aim) → Way (Literally (L.demands f Nothing) ▸ R f h k) u o
+      → Way (K.demands (wrap f h) k) from o)
+      → ((f : G) (t : Point) (b : Bool) → Goes call (record { tree = λ t h. K.tree t (wrap f h); demands = R f }) t
+      (k (L.tree t f)) t b) → Goes call K from (CallLiteral g k) s b
+  first_literal h wrap any way on =
+      part_literal h (λ f. wrap f any) (λ f k o r. way f any k o (r _))
+      (λ f t b G. rest (wrap f) (λ t g. refl) (λ g k o r. way f g k o (G.on r)) (on f t b))
+
 -- a form is read as the last part
 pub ends : {A F G : Type 0} {call : Histories} {K : Kind F A} {from : Point} {g : Goal} {L : Kind G (Val g)}
     {v : Val g → A} {s u : Point} {b : Bool} → Answers L u (call g (at s b))
@@ -273,3 +330,13 @@ pub ends : {A F G : Type 0} {call : Histories} {K : Kind F A} {from : Point} {g 
     → Goes call K from (Call g (λ x. Ret (v x))) s b
 ends h wrap same way =
     part h wrap (λ f k o r. way f k o (r k)) (λ f t b G. gives (wrap f) (same t f) (λ k o r. way f k o (G.on r)))
+
+-- such a part whose refusals are recast
+pub ends_literal : {A F G : Type 0} {call : Histories} {K : Kind F A} {from : Point} {g : Goal} {L : Kind G (Val g)}
+    {v : Val g → A} {s u : Point} {b : Bool} → Answers L u (call g (at s b))
+    → (wrap : G → F) → ((t : Point) (f : G) → K.tree t (wrap f) ≡ v (L.tree t f))
+    → ((f : G) (k : Demands) (o : Aim) → Way (Literally (L.demands f Nothing) ▸ k) u o
+    → Way (K.demands (wrap f) k) from o)
+    → Goes call K from (CallLiteral g (λ x. Ret (v x))) s b
+ends_literal h wrap same way =
+    part_literal h wrap (λ f k o r. way f k o (r k)) (λ f t b G. gives (wrap f) (same t f) (λ k o r. way f k o (G.on r)))

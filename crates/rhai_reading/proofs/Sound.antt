@@ -6,6 +6,7 @@ pub mod Literals
 pub mod Chains
 pub mod Runs
 pub mod Statements
+pub mod Switches
 pub mod Constructs
 pub mod Whole
 use Rattle.std.proofs.Common.{◌≡◌, ℕ, zero, suc, Bool}
@@ -33,6 +34,7 @@ use Rattle.rhai_reading.proofs.Sound.Chains as K
 use Rattle.rhai_reading.proofs.Sound.Runs as N
 use Rattle.rhai_reading.proofs.Sound.Statements as T
 use Rattle.rhai_reading.proofs.Sound.Constructs as B
+use Rattle.rhai_reading.proofs.Sound.Switches as X
 use Rattle.rhai_reading.proofs.Sound.Whole as H
 
 -- one step, where all calls are sound
@@ -55,7 +57,7 @@ step ih (R.Segments c w start before) s b = tells (L.segment_list ih c w start b
 step {call = call} ih R.TextAfter s b = tells (L.text_after call s b)
 step ih (R.Jump c w pos) s b = tells (T.jump ih c w s pos b)
 step ih (R.NextKey c before) s b = tells (L.next_key _ c before s b)
-step ih R.NextOperator s b = tells (N.next_operator _ s b)
+step {call = call} ih (R.NextOperator filter) s b = tells (N.next_operator call filter s b)
 step ih (R.ExprStatement c w) s b = tells (T.evaluated ih c w s b)
 step ih (R.VarName c w) s b = tells (T.var_name ih c w s b)
 step ih (R.Initializer c w pos) s b = tells (T.initializer ih c w s pos b)
@@ -71,13 +73,22 @@ step ih (R.Branch c w pos) s b = tells (B.branch ih c w s pos b)
 step {call = call} ih R.LoopNames s b = tells (B.loop_names call s b)
 step {call = call} ih R.Catch s b = tells (B.catch_name call s b)
 step {call = call} ih R.DoEnd s b = tells (B.end_of_do call s b)
+step ih (R.Arms c w before) s b = tells (X.arms ih c w before s b)
+step ih (R.Cases c w before) s b = tells (X.case_list ih c w s before b)
+step ih (R.CaseGuard c w) s b = tells (X.case_guard ih c w s b)
+step ih (R.Case c w) s b = tells (X.one_case ih c w s b)
+step ih (R.Arm c w before) s b = tells (X.one_arm ih c w before s b)
+step ih (R.DefaultArm c w default) s b = tells (X.default_arm ih c w default s b)
+step ih (R.Action c w) s b = tells (X.action ih c w s b)
+step {call = call} ih (R.ArmEnd itself) s b = tells (X.arm_end call itself s b)
+step {call = call} ih (R.DefaultEnd default) s b = tells (X.default_end call default s b)
 step {call = call} ih R.BlockStart s b = tells (L.block_start call s b)
 step ih (R.Inside c w) s b = tells (T.inside ih c w s b)
 step ih (R.Block c w opening) s b = tells (T.block ih c w opening s b)
 step ih (R.BlockEnd opening fs) s b = tells (T.block_end _ opening fs s b)
 step ih (R.BinaryOp c w pos p lhs) s b =
-    λ q from L live is height suits ended stands. tells
-    (N.run ih c w pos p lhs s b q from L live is height suits ended stands)
+    λ q from L live is height same suits ended stands. tells
+    (N.run ih c w pos p lhs s b q from L live is height same suits ended stands)
 
 -- before any call is made
 none : (g : Goal) (s : Point) (b : Bool) → Sound g s (deep zero g (at s b))
@@ -87,7 +98,7 @@ none (R.Primary c w) s b = λ place written sign. record { told = tt }
 none (R.Postfix c w x) s b = λ place from p is G. record { told = tt }
 none (R.Called c w name) s b = λ on. record { told = tt }
 none (R.Member c w) s b = λ is. record { told = tt }
-none (R.BinaryOp c w pos p lhs) s b = λ q from L live is height suits ended stands. record { told = tt }
+none (R.BinaryOp c w pos p lhs) s b = λ q from L live is height same suits ended stands. record { told = tt }
 none _ s b = record { told = tt }
 
 pub sound : (n : ℕ) (g : Goal) (s : Point) (b : Bool) → Sound g s (deep n g (at s b))

@@ -5,6 +5,7 @@ use Rattle.rhai_grammar.specs.Causes as cause
 use Rattle.rhai_grammar.specs.Causes.{Refusal, refusal}
 use Rattle.rhai_grammar.specs.DueTokens.{is_due, not_due}
 use Rattle.rhai_grammar.specs.declared.due.DueToken.{DueToken}
+use Rattle.rhai_grammar.specs.declared.filter.ExprFilter.{ExprFilter}
 use Rattle.rhai_grammar.specs.Contexts.{Context, Live, has_room, level_up}
 use Rattle.rhai_grammar.specs.declared.list.AfterPart.{AfterPart}
 use Rattle.rhai_grammar.specs.declared.list.AfterPart.TheVariants as after
@@ -26,6 +27,7 @@ use Rattle.rhai_grammar.specs.declared.role.Construct.{Construct as Kind}
 use Rattle.rhai_grammar.specs.declared.role.OperandPlace.{OperandPlace}
 use Rattle.rhai_grammar.specs.Beginnings.{is_name}
 use Rattle.rhai_grammar.specs.Statements.{no_variable}
+use Rattle.rhai_grammar.specs.Switches.{Collected}
 use Rattle.rhai_lower.specs.Lexemes.{text_of}
 
 -- What is read by a call: a constructor for each reader of the code, with what it is given.
@@ -64,8 +66,8 @@ pub data Goal : Type 0 where
   Jump : Context → Live → (at : Position) → Goal
   -- the key of one more property, with its colon; none where the `}` is
   NextKey : Context → (before : Properties) → Goal
-  -- what stands after an operand: an operator's strength, and whether equal ones group to the right
-  NextOperator : Goal
+  -- what stands after an operand under a filter: an operator's strength, and whether equal ones group to the right
+  NextOperator : ExprFilter → Goal
   -- the operators after a left operand that go on with a run of this strength; at is where the next raise is refused
   BinaryOp : Context → Live → (at : Position) (parent : ℕ) (lhs : Node) → Goal
   -- an expression or an assignment
@@ -105,6 +107,24 @@ pub data Goal : Type 0 where
   Catch : Goal
   -- the `while` or `until` after the block of `do`
   DoEnd : Goal
+  -- the arms of `switch`, after those that were collected, up to the `}`
+  Arms : Context → Live → (before : Collected) → Goal
+  -- an arm with cases, after those that were collected
+  Arm : Context → Live → (before : Collected) → Goal
+  -- the default arm after its `_`, which is at a position, up to the `}`
+  DefaultArm : Context → Live → (default : Position) → Goal
+  -- the cases of an arm, after these
+  Cases : Context → Live → (before : Nodes) → Goal
+  -- one case of an arm, whose refusals are those of a missing literal
+  Case : Context → Live → Goal
+  -- the guard of an arm, if it has one
+  CaseGuard : Context → Live → Goal
+  -- what an arm does, and whether it needs no comma after it
+  Action : Context → Live → Goal
+  -- what follows an arm: a comma, or what may stand there without one, if the arm needs none
+  ArmEnd : (itself : Bool) → Goal
+  -- the `}` after the default arm, whose `_` is at a position
+  DefaultEnd : (default : Position) → Goal
 
 -- a script, up to the end mark
 abbrev pub Script : Context → Live → Goal
@@ -130,7 +150,7 @@ Val (Segments c w start before) = Nodes
 Val TextAfter = Position × Text × Bool × Position
 Val (Jump c w at) = Optional
 Val (NextKey c before) = Option (Text × Position)
-Val NextOperator = Option (ℕ × Bool)
+Val (NextOperator filter) = Option (ℕ × Bool)
 Val (BinaryOp c w at parent lhs) = Node
 Val (ExprStatement c w) = node.Statement
 Val (VarName c w) = Text × Position
@@ -151,6 +171,15 @@ Val (Branch c w at) = node.Block
 Val LoopNames = Text × Option Text
 Val Catch = Option (Text × Position)
 Val DoEnd = Bool
+Val (Arms c w before) = Collected
+Val (Arm c w before) = Nodes × Node × Node
+Val (DefaultArm c w default) = Node
+Val (Cases c w before) = Nodes
+Val (Case c w) = Node
+Val (CaseGuard c w) = Node
+Val (Action c w) = Node × Bool
+Val (ArmEnd itself) = Unit {0}
+Val (DefaultEnd default) = Unit {0}
 
 -- a reader that gives an A
 pub data Prog (A : Type 0) : Type 0 where
@@ -163,6 +192,8 @@ pub data Prog (A : Type 0) : Type 0 where
   -- Takes the `}` that is due and then, in text mode, the text that is due after it; another token there is refused.
   TakeText : (Position → Lexeme → Position → Prog A) → Prog A
   Call : (g : Goal) → (Val g → Prog A) → Prog A
+  -- calls a reader, and reports what it refuses as a missing literal
+  CallLiteral : (g : Goal) → (Val g → Prog A) → Prog A
 
 -- ---- terms that several readers have
 

@@ -3,12 +3,12 @@ use Rattle.std.specs.Prelude.{◌≡◌, ℕ, zero, suc, ◌≤◌, Bool, true, 
 use Rattle.rhai_lower.specs.Lexemes.{Lexeme}
 use Rattle.rhai_lower.specs.declared.position.Position.{Position}
 use Rattle.rhai_grammar.specs.Beginnings.{unexpected}
-use Rattle.rhai_grammar.specs.Causes.{Refusal, refusal, out_of_memory}
+use Rattle.rhai_grammar.specs.Causes.{Refusal, as_literal, refusal, out_of_memory}
 use Rattle.rhai_grammar.specs.Delivered.{Mode, code, text, Item, Point, next_at, past, is_memory}
 use Rattle.rhai_grammar.specs.DueTokens.{is_due, not_due}
 use Rattle.rhai_grammar.specs.Interpolations.{is_text}
 use Rattle.rhai_grammar.specs.declared.due.DueToken.TheVariants.{RightBrace}
-use Rattle.rhai_reading.specs.Reading.{Goal, Val, Prog, Ret, Fail, Peek, Take, TakeText, Call, body}
+use Rattle.rhai_reading.specs.Reading.{Goal, Val, Prog, Ret, Fail, Peek, Take, TakeText, Call, CallLiteral, body}
 
 -- a point of a stream, the mode of the next ask, and whether its token was looked at
 pub record State : Type 0 where
@@ -35,6 +35,12 @@ and_then (Done x s) f = f x s
 and_then (Refused e s) f = Refused e s
 and_then Unfinished f = Unfinished
 
+-- what is refused is reported as a missing literal
+abbrev pub recast : {A : Type 0} → Outcome A → Outcome A
+recast (Done x s) = Done x s
+recast (Refused e s) = Refused (as_literal e) s
+recast Unfinished = Unfinished
+
 -- the next request is one in text mode, directly after a `}` was taken
 abbrev pub after_brace : State → State
 after_brace s = record (taking s) { mode = text }
@@ -56,6 +62,7 @@ exec call (TakeText k) s = if is_memory (asked s).lexeme then Refused out_of_mem
     then text_from (λ l at t. exec call (k (asked s).at l at) t) (after_brace s)
     else Refused (refusal (not_due RightBrace (asked s).lexeme) (asked s).at) (looking s)
 exec call (Call g k) s = and_then (call g s) (λ v t. exec call (k v) t)
+exec call (CallLiteral g k) s = and_then (recast (call g s)) (λ v t. exec call (k v) t)
 
 -- calls at most n deep
 abbrev pub calls : ℕ → (g : Goal) → State → Outcome (Val g)

@@ -1,5 +1,6 @@
 pub mod Goals
 pub mod ReadingStatements
+pub mod ReadingSwitches
 pub mod Reading
 pub mod Running
 pub mod Histories

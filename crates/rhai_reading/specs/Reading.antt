@@ -17,7 +17,7 @@ use Rattle.rhai_grammar.specs.Causes.{Refusal, refusal}
 use Rattle.rhai_grammar.specs.Delivered.{is_end}
 use Rattle.rhai_grammar.specs.Settings.{in_function}
 use Rattle.rhai_grammar.specs.declared.due.DueToken.TheVariants as due
-use Rattle.rhai_grammar.specs.Contexts.{Context, Live, full, has_single_blocks, in_block}
+use Rattle.rhai_grammar.specs.Contexts.{Context, Live, full, has_single_blocks, in_block, in_case}
 use Rattle.rhai_grammar.specs.Constructs.{do_end, guard_fault, iterated_fault, may_be_value}
 use Rattle.rhai_grammar.specs.Definitions.{defined}
 use Rattle.rhai_grammar.specs.Statements.{statement_place, statement_start}
@@ -44,6 +44,7 @@ use Rattle.rhai_grammar.specs.Interpolations.{added_text, is_last_text}
 use Rattle.rhai_grammar.specs.Starts.{operand_start, place_after, starts}
 use Rattle.rhai_grammar.specs.declared.role.OperandStart.{OperandStart}
 use Rattle.rhai_grammar.specs.declared.role.OperandStart.TheVariants as first
+use Rattle.rhai_grammar.specs.Switches.{arm_fault, arm_place}
 use Rattle.rhai_grammar.specs.Signs.{signed, sign_holds, malformed}
 use Rattle.rhai_grammar.specs.Operators.{operator_tree, boolean_holds, mismatched}
 use Rattle.rhai_grammar.specs.Strengths.{Follower, Operator, Unknown, Other, follower_of}
@@ -55,13 +56,17 @@ pub use Rattle.rhai_reading.specs.Goals.{NextKey, NextOperator, BinaryOp, ExprSt
 pub use Rattle.rhai_reading.specs.Goals.{Definition, Statement, Statements, BlockStart, Inside, Block, BlockEnd}
 pub use Rattle.rhai_reading.specs.Goals.{Branch, Braced, Catch, Conditional, Construct, DoEnd, Guard, Iterated}
 pub use Rattle.rhai_reading.specs.Goals.{LoopNames, RightOperand}
-pub use Rattle.rhai_reading.specs.Goals.{Ret, Fail, Peek, Take, TakeText, Call, Script, Val, Prog}
+pub use Rattle.rhai_reading.specs.Goals.{Action, Arm, ArmEnd, Arms, Case, CaseGuard, Cases, DefaultArm}
+pub use Rattle.rhai_reading.specs.Goals.{DefaultEnd}
+pub use Rattle.rhai_reading.specs.Goals.{Ret, Fail, Peek, Take, TakeText, Call, CallLiteral, Script, Val, Prog}
 pub use Rattle.rhai_reading.specs.Goals.{after_a_part, construct_on, match_name, match_token, part_next, raised}
 pub use Rattle.rhai_reading.specs.ReadingStatements.{assigned_on, evaluated_at, var_name_at, value_at, definition_on}
 pub use Rattle.rhai_reading.specs.ReadingStatements.{jump_on, loop_at, statement_at, separated_at, statements_on}
 pub use Rattle.rhai_reading.specs.ReadingStatements.{statements_at, inside_on, inside_construct, guard_on}
 pub use Rattle.rhai_reading.specs.ReadingStatements.{iterated_on, no_brace, else_at, branch_at, counted_on}
 pub use Rattle.rhai_reading.specs.ReadingStatements.{first_of_two, loop_names_at, catch_at, do_end_at}
+pub use Rattle.rhai_reading.specs.ReadingSwitches.{cases_at, case_guard_at, action_at, action_on, arm_end_at}
+pub use Rattle.rhai_reading.specs.ReadingSwitches.{default_end_at, arm_on, default_at, default_on, arms_at}
 
 -- ---- each reader
 
@@ -262,7 +267,7 @@ binary_next d w parent lhs op pos rhs =
 -- after an operator's right operand: the tighter run that begins there, if one does
 abbrev pub binary_right : Context → Live → Position → ℕ → Node → ℕ → Lexeme → Position → Node → Prog Node
 binary_right c w at parent lhs strength op pos rhs =
-    Call NextOperator (λ next. raised c at (λ d.
+    Call (NextOperator c.filter) (λ next. raised c at (λ d.
     Call (BinaryOp d w (position_of rhs) strength rhs) (binary_next d w parent lhs op pos)))
 
 -- after an operator
@@ -297,8 +302,8 @@ body (Segments c w start before) = Call BlockStart (λ opening. segment_on c w s
 body TextAfter = TakeText (λ end l at. Ret (end, text_of l, is_last_text l, at))
 body (Jump c w at) = Peek (λ l pos. jump_at c w at (starts c l))
 body (NextKey c before) = Peek (λ l at. key_on c before at (next_key c.settings before l))
-body NextOperator = Peek (λ l at. next_operator_at at (follower_of l))
-body (BinaryOp c w at parent lhs) = Call NextOperator (binary_at c w at parent lhs)
+body (NextOperator filter) = Peek (λ l at. next_operator_at at (follower_of filter l))
+body (BinaryOp c w at parent lhs) = Call (NextOperator c.filter) (binary_at c w at parent lhs)
 body (ExprStatement c w) = Call (Expression c w) (λ x. Peek (evaluated_at c w x))
 body (VarName c w) = Peek (var_name_at c w)
 body (Initializer c w at) = Peek (value_at c w at)
@@ -322,3 +327,14 @@ body (Branch c w at) = Peek (λ l pos. branch_at c w at l)
 body LoopNames = Peek (λ l at. loop_names_at l)
 body Catch = match_token due.Catch (Peek (λ l at. catch_at l))
 body DoEnd = Peek (λ l at. do_end_at l at (do_end l))
+body (Arms c w before) = Peek (λ l at. arms_at c w before l at (arm_place l))
+body (Arm c w before) =
+    Call (Cases c w no_nodes) (λ xs. Call (CaseGuard c w) (λ guard. match_token due.DoubleArrow (
+    Call (Action c w) (λ does. arm_on xs guard does (arm_fault before xs)))))
+body (DefaultArm c w default) = Peek (default_at c w default)
+body (Cases c w before) = Call (Case c w) (λ x. Peek (λ l at. cases_at c w (with_node before x) l))
+body (Case c w) = CallLiteral (Expression (in_case c) (in_block w)) Ret
+body (CaseGuard c w) = Peek (λ l at. case_guard_at c w l)
+body (Action c w) = action_on c w (has_single_blocks c)
+body (ArmEnd itself) = Peek (λ l at. arm_end_at itself l at (after_part lists.Arms l))
+body (DefaultEnd default) = Peek (λ l at. default_end_at default l at (arm_place l))

@@ -34,11 +34,12 @@ use Rattle.rhai_grammar.specs.Beginnings.{missing}
 use Rattle.rhai_grammar.specs.Beginnings.{is_name}
 use Rattle.rhai_grammar.specs.Trees.{caught_name, catch_node, no_block as absent_block}
 use Rattle.rhai_grammar.specs.Trees.{with_kept}
+use Rattle.rhai_grammar.specs.Switches.{nothing_collected, switch_tree}
 use Rattle.rhai_reading.specs.Goals.{construct_on, Expression}
 use Rattle.rhai_reading.specs.Goals.{Jump}
 use Rattle.rhai_reading.specs.Goals.{ExprStatement}
 use Rattle.rhai_reading.specs.Goals.{Definition, Statement, Statements, Block}
-use Rattle.rhai_reading.specs.Goals.{Braced, Catch, Conditional, DoEnd, Guard, Iterated}
+use Rattle.rhai_reading.specs.Goals.{Arms, Braced, Catch, Conditional, DoEnd, Guard, Iterated}
 use Rattle.rhai_reading.specs.Goals.{LoopNames}
 use Rattle.rhai_reading.specs.Goals.{Ret, Fail, Peek, Take, Call, Prog}
 use Rattle.rhai_reading.specs.Goals.{match_name, match_token, raised}
@@ -123,6 +124,9 @@ inside_on c w false = Call (Statements Brace c (in_block w) no_statements) (λ f
 abbrev pub inside_construct : Context → Live → Position → Kind → Prog node.Statement
 inside_construct c w at kind.Block = Call (Block c w at) (λ b. Ret (block_statement b))
 inside_construct c w at kind.If = Call (Conditional c w at) Ret
+inside_construct c w at kind.Switch =
+    Call (Expression c w) (λ x. match_token due.LeftBrace (Call (Arms c w nothing_collected) (λ all.
+    Ret (switch_tree x all at))))
 inside_construct c w at kind.While =
     Call (Guard c w) (λ x. Call (Braced (loop_body c) w at) (λ b. Ret (while_statement x b at)))
 inside_construct c w at kind.Loop = Call (Braced (loop_body c) w at) (λ b. Ret (while_statement (unit nowhere) b at))
@@ -131,7 +135,8 @@ inside_construct c w at kind.Do =
     Ret (do_statement x b negated at))))
 inside_construct c w at kind.For =
     Call LoopNames (λ names. Call (Iterated c w) (λ x.
-    Call (Braced (loop_body c) (loop_live names.0 names.1 w) at) (λ b. Ret (for_statement names.0 names.1 x b at))))
+    Call (Braced (loop_body c) (loop_live names.0 names.1 w) at) (λ b.
+    Ret (for_statement names.0 names.1 x b at))))
 inside_construct c w at kind.Try =
     Call (Braced c w at) (λ b. Call Catch (λ name. Call (Braced c (catch_live (caught_name name) w) at) (λ d.
     Ret (try_catch b (catch_node name) d at))))

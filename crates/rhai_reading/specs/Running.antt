@@ -4,6 +4,7 @@ use Rattle.rhai_lower.specs.Lexemes.{Lexeme}
 use Rattle.rhai_lower.specs.declared.position.Position.{Position}
 use Rattle.rhai_grammar.specs.Beginnings.{unexpected}
 use Rattle.rhai_grammar.specs.Causes.{Refusal, refusal, refusal_of, is_for_memory, MemoryIsNowhere, out_of_memory}
+use Rattle.rhai_grammar.specs.Causes.{as_literal}
 use Rattle.rhai_grammar.specs.Delivered.{text, is_memory}
 use Rattle.rhai_grammar.specs.DueTokens.{is_due, not_due}
 use Rattle.rhai_grammar.specs.Interpolations.{is_text}
@@ -15,8 +16,8 @@ use Rattle.rhai_reading.specs.Reading.{Fields, NextKey, Called, Links, Index, Me
 use Rattle.rhai_reading.specs.Reading.{ExprStatement, VarName, Initializer, Definition, Statement, Statements, Block}
 use Rattle.rhai_reading.specs.Reading.{BlockEnd, BlockStart, Inside, Jump, Prog, Segments, TextAfter}
 use Rattle.rhai_reading.specs.Reading.{Branch, Braced, Catch, Conditional, Construct, DoEnd, Guard, Iterated, LoopNames}
-use Rattle.rhai_reading.specs.Reading.{RightOperand}
-use Rattle.rhai_reading.specs.Reading.{Ret, Fail, Peek, Take, TakeText, Call, body}
+use Rattle.rhai_reading.specs.Reading.{Action, Arm, ArmEnd, Arms, Case, CaseGuard, Cases, DefaultArm, DefaultEnd, RightOperand}
+use Rattle.rhai_reading.specs.Reading.{Ret, Fail, Peek, Take, TakeText, Call, CallLiteral, body}
 
 -- what came of a reader, with the cursor that it left
 pub data Out (A : Type 0) : Type 0 where
@@ -28,6 +29,12 @@ abbrev pub and_then : {A B : Type 0} → Out A → (A → Cursor → Out B) → 
 and_then (Done x s) f = f x s
 and_then (Refused e s) f = Refused e s
 and_then Unfinished f = Unfinished
+
+-- what is refused is reported as a missing literal
+abbrev pub recast : {A : Type 0} → Out A → Out A
+recast (Done x s) = Done x s
+recast (Refused e s) = Refused (as_literal e) s
+recast Unfinished = Unfinished
 
 -- the next request is one in text mode, directly after a `}` was taken
 abbrev pub after_brace : Cursor → Cursor
@@ -55,6 +62,7 @@ exec call (TakeText k) s = if is_memory (asked s).lexeme then Refused out_of_mem
     then text_from (λ l at t. exec call (k (asked s).at l at) t) (after_brace s)
     else Refused (refusal (not_due RightBrace (asked s).lexeme) (asked s).at) (looking s)
 exec call (Call g k) s = and_then (call g s) (λ v t. exec call (k v) t)
+exec call (CallLiteral g k) s = and_then (recast (call g s)) (λ v t. exec call (k v) t)
 
 -- A call at the same token is one to a goal of lower rank.
 abbrev pub rank : Goal → ℕ
@@ -76,7 +84,7 @@ rank (Called c w at) = 0
 rank (Links w q) = 1
 rank (Index c w indexed) = 4
 rank (Member c w) = 0
-rank NextOperator = 0
+rank (NextOperator filter) = 0
 rank (BinaryOp c w at parent lhs) = 1
 rank (ExprStatement c w) = 4
 rank (VarName c w) = 0
@@ -97,6 +105,15 @@ rank (Branch c w at) = 2
 rank LoopNames = 0
 rank Catch = 0
 rank DoEnd = 0
+rank (Arms c w before) = 7
+rank (Arm c w before) = 6
+rank (DefaultArm c w default) = 0
+rank (Cases c w before) = 5
+rank (Case c w) = 4
+rank (CaseGuard c w) = 0
+rank (Action c w) = 6
+rank (ArmEnd itself) = 0
+rank (DefaultEnd default) = 0
 
 -- the work that is left, above every rank for each token
 abbrev pub work : ℕ → ℕ → ℕ

@@ -4,3 +4,4 @@ pub mod KindLemmas
 pub mod ChainLemmas
 pub mod StatementLemmas
 pub mod StringLemmas
+pub mod SwitchLemmas

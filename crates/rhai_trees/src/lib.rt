@@ -1,8 +1,9 @@
 //! Operations on trees that do not use the stream: signs, operators and links with their operands, statements,
-//! constructs, segments of interpolated strings, and tests on trees.
+//! constructs, arms of `switch`, segments of interpolated strings, and tests on trees.
 #![tactic(auto)]
 
 mod call;
+pub mod case_value;
 pub mod chain;
 pub mod construct;
 pub mod kind;
@@ -10,8 +11,10 @@ pub mod operator;
 pub mod sign;
 pub mod statement;
 pub mod strings;
+pub mod switch;
 pub mod target;
 
+pub use case_value::{IntegerRange, range_of, same_value};
 pub use chain::{Link, LinkKind, indexed_operand, make_chain, test_index, test_links};
 pub use construct::{make_do, make_for, make_if, make_try, make_while, test_guard, test_iterated};
 pub use kind::{index_fault, is_constant, is_literal_value, not_boolean, not_iterable};
@@ -23,4 +26,5 @@ pub use statement::{
     push_statement,
 };
 pub use strings::{push_segment, push_text};
+pub use switch::{ends_arm, make_switch, new_arms, no_guard, push_arm, push_default, test_cases};
 pub use target::{slot_of, test_target};

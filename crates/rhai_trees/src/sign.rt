@@ -56,8 +56,8 @@ fn plain_sign(op_token: Token) -> Token
     }
 }
 
-// The value of an integer constant.
-fn integer_of(expr: &Expr) -> Option<i64>
+/// The value of an integer constant.
+pub(crate) fn integer_of(expr: &Expr) -> Option<i64>
     ensures { result ≡ integer_value (view expr.now) }
 {
     match expr {

@@ -31,7 +31,7 @@ pub fn may_stand(looping: bool, construct: Construct) -> bool
 {
     match construct {
         Construct::While | Construct::Loop | Construct::Do | Construct::For => looping,
-        Construct::Block | Construct::If | Construct::Try => true,
+        Construct::Block | Construct::If | Construct::Switch | Construct::Try => true,
     }
 }
 
@@ -44,6 +44,7 @@ pub fn may_be_value(settings: ParseSettings, looping: bool, construct: Construct
     match construct {
         Construct::Block => settings.has_option(LangOptions::STMT_EXPR),
         Construct::If => settings.has_option(LangOptions::IF_EXPR),
+        Construct::Switch => settings.has_option(LangOptions::SWITCH_EXPR),
         Construct::While | Construct::Loop | Construct::Do | Construct::For => {
             looping && settings.has_option(LangOptions::LOOP_EXPR)
         }

@@ -16,8 +16,8 @@ use rhai_grammar::{AfterPart, CommaList, ParseError, ParseResult};
 use rhai_lower::{Position, Token, TokenStream};
 use std::alloc::Global;
 
-// What a token is after a part of a list.
-fn after_part(list: CommaList, token: &Token) -> AfterPart
+/// What a token is after a part of a list.
+pub(crate) fn after_part(list: CommaList, token: &Token) -> AfterPart
     ensures part { result ≡ after_part list (lexeme token.now) }
     ensures more { result ≡ Comma → is_end (lexeme token.now) ≡ false }
 {
@@ -32,7 +32,7 @@ fn after_part(list: CommaList, token: &Token) -> AfterPart
             Token::RightBracket => AfterPart::Close,
             _ => AfterPart::Nothing,
         },
-        CommaList::Map => match token {
+        CommaList::Map | CommaList::Arms => match token {
             Token::Comma => AfterPart::Comma,
             Token::RightBrace => AfterPart::Close,
             _ => AfterPart::Nothing,
@@ -47,7 +47,7 @@ pub fn closes_list(list: CommaList, token: &Token) -> bool
     match list {
         CommaList::Arguments => matches!(token, Token::RightParen),
         CommaList::Array => matches!(token, Token::RightBracket),
-        CommaList::Map => matches!(token, Token::RightBrace),
+        CommaList::Map | CommaList::Arms => matches!(token, Token::RightBrace),
     }
 }
 
@@ -59,6 +59,7 @@ fn closing_text(list: CommaList) -> (&'static str, &'static str)
         CommaList::Arguments => (")", "to close the arguments of a call"),
         CommaList::Array => ("]", "to end this array literal"),
         CommaList::Map => ("}", "to end this object map literal"),
+        CommaList::Arms => ("}", "to end this `switch`"),
     }
 }
 
@@ -68,6 +69,7 @@ fn comma_note(list: CommaList) -> &'static str {
         CommaList::Arguments => "to separate the arguments of a call",
         CommaList::Array => "to separate the items of this array literal",
         CommaList::Map => "to separate the properties of this object map literal",
+        CommaList::Arms => "to separate the arms of this `switch`",
     }
 }
 
@@ -76,13 +78,14 @@ fn wants_comma(list: CommaList, token: &Token) -> bool
     ensures { result ≡ wants_comma list (lexeme token.now) }
 {
     match list {
-        CommaList::Arguments | CommaList::Array => !is_end(token),
+        CommaList::Arguments | CommaList::Array | CommaList::Arms => !is_end(token),
         CommaList::Map => matches!(token, Token::Identifier(_)),
     }
 }
 
-// The error for a token that may not follow a part of a list.
-fn not_after(alloc: Global, list: CommaList, token: &Token, pos: Position) -> ParseError
+/// The error for a token at `pos` that may not follow a part of a list: `MissingToken`, or the error of the tokenizer
+/// that it is; if memory runs out, `OutOfMemory`.
+pub(crate) fn not_after(alloc: Global, list: CommaList, token: &Token, pos: Position) -> ParseError
     ensures { Says (refusal (not_after list (lexeme token.now)) pos) result }
 {
     if wants_comma(list, token) {

@@ -6,10 +6,11 @@ ghost use Rattle.rhai_grammar.specs.Causes.{MemoryIsNowhere, UnknownOperator, is
 ghost use Rattle.rhai_grammar.specs.Cursors.{asked, cursor_of, looking};
 ghost use Rattle.rhai_grammar.specs.Delivered.{is_end, is_memory};
 ghost use Rattle.rhai_grammar.specs.Strengths.{Unknown, follower_of};
+ghost use Rattle.rhai_grammar.specs.Strengths.{bars_pipe, is_pipe};
 ghost use Rattle.rhai_base.specs.Operators.{continues, is_reserved_symbol, operator_found, written_operator};
 
 use crate::cursor::peek;
-use rhai_grammar::{ParseError, ParseErrorType, ParseResult};
+use rhai_grammar::{ExprFilter, ParseError, ParseErrorType, ParseResult};
 use rhai_lower::{Token, TokenStream, is_valid_identifier};
 use std::alloc::Global;
 
@@ -31,10 +32,29 @@ impl Operator {
     }
 }
 
-// The operator that a token is.
-fn written_operator(token: &Token) -> Option<Operator>
-    ensures { result ≡ written_operator token.now }
+fn is_pipe(token: &Token) -> bool
+    ensures { result ≡ is_pipe token.now }
 {
+    matches!(token, Token::Pipe)
+}
+
+// Whether `|` is no operator.
+fn bars_pipe(filter: ExprFilter) -> bool
+    ensures { result ≡ bars_pipe filter }
+{
+    match filter {
+        ExprFilter::All => false,
+        ExprFilter::AllButPipe => true,
+    }
+}
+
+// The operator that a token is; where the filter bars `|`, that is none.
+fn written_operator(filter: ExprFilter, token: &Token) -> Option<Operator>
+    ensures { result ≡ written_operator filter token.now }
+{
+    if is_pipe(token) && bars_pipe(filter) {
+        return None;
+    }
     Some(Operator {
         strength: token.precedence()?,
         right: token.is_bind_right(),
@@ -51,13 +71,19 @@ fn is_reserved_symbol(token: &Token) -> bool
     }
 }
 
-/// The operator that stands after an operand, if there is one; its token stays. A reserved symbol there is
-/// `UnknownOperator`.
+/// The operator that stands after an operand, if there is one; its token stays. `filter` is which tokens the expression
+/// may contain: in a case of a `switch`, `|` is no operator.
+///
+/// A reserved symbol there is `UnknownOperator`; if memory runs out, the error is `OutOfMemory`.
 #[tactic(auto, using(crate::proofs::OperatorLemmas::followers))]
-pub fn next_operator(alloc: Global, input: &mut TokenStream) -> ParseResult<Option<Operator>>
-    ensures found { IfOk result (λ o. follower_of (asked (cursor_of input.old)).lexeme ≡ operator_found o) }
+pub fn next_operator(
+    alloc: Global,
+    filter: ExprFilter,
+    input: &mut TokenStream,
+) -> ParseResult<Option<Operator>>
+    ensures found { IfOk result (λ o. follower_of filter (asked (cursor_of input.old)).lexeme ≡ operator_found o) }
     ensures refused { IfErr result (λ e. is_for_memory e ≡ false
-        → (follower_of (asked (cursor_of input.old)).lexeme
+        → (follower_of filter (asked (cursor_of input.old)).lexeme
         ≡ Unknown (text_of (asked (cursor_of input.old)).lexeme))
         × (is_memory (asked (cursor_of input.old)).lexeme ≡ false)
         × (refusal_of e ≡ refusal (UnknownOperator (text_of (asked (cursor_of input.old)).lexeme))
@@ -71,5 +97,5 @@ pub fn next_operator(alloc: Global, input: &mut TokenStream) -> ParseResult<Opti
     if is_reserved_symbol(token) {
         return Err(ParseError(ParseErrorType::UnknownOperator(token.text(alloc)?), *pos));
     }
-    Ok(written_operator(token))
+    Ok(written_operator(filter, token))
 }

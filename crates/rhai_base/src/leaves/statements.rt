@@ -34,6 +34,7 @@ fn any_start(token: &Token) -> StatementStart
         Token::SemiColon => StatementStart::Empty,
         Token::LeftBrace => StatementStart::Construct(Construct::Block),
         Token::If => StatementStart::Construct(Construct::If),
+        Token::Switch => StatementStart::Construct(Construct::Switch),
         Token::While => StatementStart::Construct(Construct::While),
         Token::Loop => StatementStart::Construct(Construct::Loop),
         Token::Do => StatementStart::Construct(Construct::Do),

@@ -41,6 +41,7 @@ pub fn what_begins(token: &Token) -> Beginning
         Token::InterpolatedString(_) => Beginning::Interpolated,
         Token::LeftBrace => Beginning::Construct(Construct::Block),
         Token::If => Beginning::Construct(Construct::If),
+        Token::Switch => Beginning::Construct(Construct::Switch),
         Token::While => Beginning::Construct(Construct::While),
         Token::Loop => Beginning::Construct(Construct::Loop),
         Token::Do => Beginning::Construct(Construct::Do),

@@ -8,13 +8,14 @@ use Rattle.rhai_grammar.specs.Contexts.{Context, Live, has_room}
 use Rattle.rhai_grammar.specs.declared.role.Calling.{Calling}
 use Rattle.rhai_grammar.specs.declared.role.Calling.TheVariants as calls_by
 use Rattle.rhai_grammar.specs.Beginnings.{calling, calls}
+use Rattle.rhai_grammar.specs.declared.filter.ExprFilter.{ExprFilter}
 use Rattle.rhai_grammar.specs.Strengths.{Follower, follower_of, is_operator, strength}
 use Rattle.rhai_grammar.specs.Forms.{Primary, Base, Links, Operand, Arguments, Items, Elements, Fields, Run, Just}
 use Rattle.rhai_grammar.specs.Forms.{Binary}
 use Rattle.rhai_grammar.specs.Trees.{is_variable, primary_tree, base_tree, argument_trees, tree}
 use Rattle.rhai_grammar.specs.Demands.{Verdict, Fine, Demands, verdict, Met}
 use Rattle.rhai_grammar.specs.Written as W
-use Rattle.rhai_grammar.specs.Spots.{LinkSpot, Height, Side, Outermost, RightOf, Spot, height_after, place_of}
+use Rattle.rhai_grammar.specs.Spots.{LinkSpot, Height, Side, Outermost, RightOf, Spot, filter_of, height_after, place_of}
 use Rattle.rhai_grammar.specs.Verdicts.{operator_known}
 use Rattle.rhai_grammar.specs.Spots.{side_fits, left_fits}
 use Rattle.rhai_reading.specs.Reading as R
@@ -28,6 +29,9 @@ use Rattle.rhai_lower.specs.Nodes as node
 use Rattle.rhai_grammar.specs.Forms as form
 use Rattle.rhai_grammar.specs.Forms.{Body, Branch, Conditional, Construct, ExprStatement, Initializer, JumpValue}
 use Rattle.rhai_grammar.specs.Forms.{Segments, Statement, Statements}
+use Rattle.rhai_grammar.specs.Forms.{Action, Arms, CaseGuard, Cases}
+use Rattle.rhai_grammar.specs.Switches.{Collected}
+use Rattle.rhai_reading.proofs.SwitchKinds.{actions, arm_lists, case_guards, cases}
 use Rattle.rhai_grammar.specs.Constructs.{kind_of}
 use Rattle.rhai_reading.proofs.FormKinds.{branches, conditionals, constructs}
 use Rattle.rhai_grammar.specs.declared.role.OperandPlace.{OperandPlace}
@@ -50,20 +54,21 @@ pub record Lists (c : Context) (w : Live) (name : Position) (bang : Bool)
   pub list : (l : Lexeme) (pos : Position) → p l pos calls_by.List ≡ list_on c w name bang
 
 -- no operator along the right side goes on with what stands there
-abbrev pub Shut : Run → Follower → Type 0
-Shut (Just x) v = Unit {0}
-Shut (Binary op pos l r) v = (next_continues (strength (follower_of op)) v ≡ false) × Shut r v
+abbrev pub Shut : ExprFilter → Run → Follower → Type 0
+Shut filter (Just x) v = Unit {0}
+Shut filter (Binary op pos l r) v =
+    (next_continues (strength (follower_of filter op)) v ≡ false) × Shut filter r v
 
 -- operators that may stand on this side go on with a run of strength p
-abbrev pub Agrees : ℕ → Side → Type 0
-Agrees p side =
-    (l : Lexeme) → is_operator (follower_of l) ≡ true → side_fits side (follower_of l) ≡ true
-    → next_continues p (follower_of l) ≡ true
+abbrev pub Agrees : ExprFilter → ℕ → Side → Type 0
+Agrees filter p side =
+    (l : Lexeme) → is_operator (follower_of filter l) ≡ true → side_fits filter side (follower_of filter l) ≡ true
+    → next_continues p (follower_of filter l) ≡ true
 
 -- the run's own top fits where it stands
-abbrev pub Top : Side → Run → Type 0
-Top side (Just x) = Unit {0}
-Top side (Binary op pos l r) = side_fits side (follower_of op) ≡ true
+abbrev pub Top : ExprFilter → Side → Run → Type 0
+Top filter side (Just x) = Unit {0}
+Top filter side (Binary op pos l r) = side_fits filter side (follower_of filter op) ≡ true
 
 -- the level was raised there
 abbrev pub Entered : Side → Type 0
@@ -82,12 +87,15 @@ pub record Reads (f : Run) (q : Spot) (k : Demands) (s : Point) (b : Bool) (t : 
   pub met : Met k end t
   pub looked : Bool
   pub operand : Runs (body (R.RightOperand q.first q.live (place_of q.side))) (at s b) (Done first (at rest looked))
-  pub known_rest : verdict operator_known (next_at code rest).lexeme ≡ Fine
-  pub known_end : verdict operator_known (next_at code end).lexeme ≡ Fine
+  pub known_rest : verdict (operator_known (filter_of q)) (next_at code rest).lexeme ≡ Fine
+  pub known_end : verdict (operator_known (filter_of q)) (next_at code end).lexeme ≡ Fine
   pub entered : Entered q.side
-  pub top : Top q.side f
-  pub shut : (o : Lexeme) → is_operator (follower_of o) ≡ true → left_fits (follower_of o) f ≡ true → Shut f (follower_of o)
-  pub climbs : Shut f (follower_at end) → (p : ℕ) → Agrees p q.side → (o : Outcome Node)
+  pub top : Top (filter_of q) q.side f
+  pub shut : (o : Lexeme) → is_operator (follower_of (filter_of q) o) ≡ true
+      → left_fits (filter_of q) (follower_of (filter_of q) o) f ≡ true
+      → Shut (filter_of q) f (follower_of (filter_of q) o)
+  pub climbs : Shut (filter_of q) f (follower_at (filter_of q) end) → (p : ℕ) → Agrees (filter_of q) p q.side
+      → (o : Outcome Node)
       → ((b : Bool) → Runs (body (climb (height_after q f) q.live p (tree f q.live))) (at end b) o) → (b : Bool)
       → Runs (body (climb (begins q first) q.live p first)) (at rest b) o
 
@@ -165,7 +173,9 @@ abbrev pub LinksRead : Links → Type 0
 LinksRead x = (q : LinkSpot) (w : Live) → IsRead (R.Links w q) (links w q) x
 
 abbrev pub RunRead : Run → Type 0
-RunRead f = (q : Spot) (k : Demands) (s t : Point) (b : Bool) → Met (W.run f q k) s t → Reads f q k s b t
+RunRead f =
+    (q : Spot) → q.begins.filter ≡ filter_of q → (k : Demands) (s t : Point) (b : Bool) → Met (W.run f q k) s t
+    → Reads f q k s b t
 
 -- ---- statements
 
@@ -193,6 +203,18 @@ ConditionalRead x = (c : Context) (w : Live) (at : Position) → IsRead (R.Condi
 
 abbrev pub BranchRead : Branch → Type 0
 BranchRead x = (c : Context) (w : Live) (at : Position) → IsRead (R.Branch c w at) (branches c w at) x
+
+abbrev pub ArmsRead : Arms → Type 0
+ArmsRead x = (c : Context) (w : Live) (before : Collected) → IsRead (R.Arms c w before) (arm_lists c w before) x
+
+abbrev pub CasesRead : Cases → Type 0
+CasesRead x = (c : Context) (w : Live) (before : Nodes) → IsRead (R.Cases c w before) (cases c w before) x
+
+abbrev pub CaseGuardRead : CaseGuard → Type 0
+CaseGuardRead x = (c : Context) (w : Live) → IsRead (R.CaseGuard c w) (case_guards c w) x
+
+abbrev pub ActionRead : Action → Type 0
+ActionRead x = (c : Context) (w : Live) → IsRead (R.Action c w) (actions c w) x
 
 abbrev pub BodyRead : Body → Type 0
 BodyRead x = (c : Context) (w : Live) (at : Position) → IsRead (R.Block c w at) (blocks c w at) x

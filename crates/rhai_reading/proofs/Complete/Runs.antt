@@ -8,12 +8,13 @@ use Rattle.rhai_grammar.specs.Causes.{Cause, Refusal, refusal}
 use Rattle.rhai_grammar.specs.Delivered.{code, Item, item, Point, next_at, past}
 use Rattle.rhai_grammar.specs.Contexts.{Context, Live, level_up}
 use Rattle.rhai_grammar.specs.Operators.{operator_tree}
+use Rattle.rhai_grammar.specs.declared.filter.ExprFilter.{ExprFilter}
 use Rattle.rhai_grammar.specs.Strengths.{Follower, Operator, Unknown, Other, follower_of, is_operator, strength, is_right}
 use Rattle.rhai_grammar.specs.Forms.{Operand, Run, Just, Binary}
 use Rattle.rhai_grammar.specs.Trees.{operand_tree, tree}
 use Rattle.rhai_grammar.specs.Demands.{Fine, Otherwise, Demands, verdict, Met}
 use Rattle.rhai_grammar.specs.Verdicts as V
-use Rattle.rhai_grammar.specs.Spots.{Height, Side, Outermost, RightOf, Spot, right_side, height_after}
+use Rattle.rhai_grammar.specs.Spots.{Height, Side, Outermost, RightOf, Spot, filter_of, right_side, height_after}
 use Rattle.rhai_grammar.specs.Written.{raise_after, operands_fit}
 use Rattle.rhai_grammar.specs.Verdicts.{run_ends}
 use Rattle.rhai_grammar.specs.Spots.{left_fits, place_of}
@@ -32,11 +33,12 @@ use Rattle.rhai_reading.proofs.Strengths.{sensible, next_continues, right_is, le
 use Rattle.rhai_reading.proofs.Tokens.{operator_readable}
 
 -- what stands after an operand is looked at
-pub next_operator : (s : Point) (b : Bool) → verdict operator_known (next_at code s).lexeme ≡ Fine
-    → Runs (body NextOperator) (at s b) (Done (operator_in (follower_at s)) (at s true))
-next_operator s b e =
-    let f = fine operator_known (next_at code s).lexeme e in
-    runs_look f.0 (known (follower_at s) f.1)
+pub next_operator : (filter : ExprFilter) (s : Point) (b : Bool)
+    → verdict (operator_known filter) (next_at code s).lexeme ≡ Fine
+    → Runs (body (NextOperator filter)) (at s b) (Done (operator_in (follower_at filter s)) (at s true))
+next_operator filter s b e =
+    let f = fine (operator_known filter) (next_at code s).lexeme e in
+    runs_look f.0 (known (follower_at filter s) f.1)
   where
     known : (v : Follower) → V.known_follower v ≡ Fine
         → Runs (next_operator_at (next_at code s).at v) (at s true) (Done (operator_in v) (at s true))
@@ -46,14 +48,21 @@ next_operator s b e =
 
 -- ---- runs
 
+-- the filter is the same all along a run
+pub filter_after : (q : Spot) (f : Run) → q.begins.filter ≡ filter_of q
+    → (height_after q f).settings.filter ≡ filter_of q
+filter_after q (Just x) even = even
+filter_after q (Binary op pos l r) even = filter_after q l even
+
 pub none_goes : (p : ℕ) (v : Follower) → is_operator v ≡ false → next_continues p v ≡ false
 none_goes p (Operator n right) e = absurd cc
 none_goes p (Unknown t) e = refl
 none_goes p Other e = refl
 
-pub shut_none : (f : Run) (v : Follower) → is_operator v ≡ false → Shut f v
-shut_none (Just x) v e = tt
-shut_none (Binary op pos l r) v e = (none_goes (strength (follower_of op)) v e, shut_none r v e)
+pub shut_none : (filter : ExprFilter) (f : Run) (v : Follower) → is_operator v ≡ false → Shut filter f v
+shut_none filter (Just x) v e = tt
+shut_none filter (Binary op pos l r) v e =
+    (none_goes (strength (follower_of filter op)) v e, shut_none filter r v e)
 
 entering : (side : Side) (k : Demands) (s t : Point) → Met (raise_after side k) s t → Entered side × Met k s t
 entering Outermost k s t m = (tt, m)
@@ -65,19 +74,22 @@ stops c w pos p x s (Operator n right) e = runs_else _ e (runs_ret x (at s true)
 stops c w pos p x s (Unknown t) e = runs_ret x (at s true)
 stops c w pos p x s Other e = runs_ret x (at s true)
 
-pub climb_stops : (w : Live) (h : Height) (p : ℕ) (x : Node) (s : Point) (b : Bool)
-    → verdict operator_known (next_at code s).lexeme ≡ Fine → next_continues p (follower_at s) ≡ false
-    → Runs (body (climb h w p x)) (at s b) (Done x (at s true))
-climb_stops w h p x s b known e =
-    runs_call NextOperator (binary_at h.settings w h.at p x) (next_operator s b known)
-    (stops h.settings w h.at p x s (follower_at s) e)
+pub climb_stops : (filter : ExprFilter) (w : Live) (h : Height) → h.settings.filter ≡ filter → (p : ℕ) (x : Node)
+    (s : Point) (b : Bool) → verdict (operator_known filter) (next_at code s).lexeme ≡ Fine
+    → next_continues p (follower_at filter s) ≡ false → Runs (body (climb h w p x)) (at s b) (Done x (at s true))
+climb_stops filter w h same p x s b known e =
+    let next = binary_at h.settings w h.at p x in
+    subst (λ f. Runs (Call (NextOperator f) next) (at s b) (Done x (at s true))) (sym same)
+    (runs_call (NextOperator filter) next (next_operator filter s b known)
+    (stops h.settings w h.at p x s (follower_at filter s) e))
 
 -- ---- operators
 
-pub is_known : (l : Lexeme) → is_operator (follower_of l) ≡ true → verdict operator_known l ≡ Fine
-is_known l e =
-    subst (λ m. (if m then Otherwise else operator_known l) ≡ Fine) (sym (operator_readable l e))
-    (known (follower_of l) e)
+pub is_known : (filter : ExprFilter) (l : Lexeme) → is_operator (follower_of filter l) ≡ true
+    → verdict (operator_known filter) l ≡ Fine
+is_known filter l e =
+    subst (λ m. (if m then Otherwise else operator_known filter l) ≡ Fine) (sym (operator_readable filter l e))
+    (known (follower_of filter l) e)
   where
     known : (v : Follower) → is_operator v ≡ true → V.known_follower v ≡ Fine
     known (Operator n right) e = refl
@@ -98,65 +110,81 @@ goes_sides p Other e = absurd cc
 abbrev pub StandsAt : Lexeme → Position → Point → Type 0
 StandsAt op pos s = next_at code s ≡ item op pos
 
-known_at : (op : Lexeme) (pos : Position) (s : Point) → StandsAt op pos s → is_operator (follower_of op) ≡ true
-    → verdict operator_known (next_at code s).lexeme ≡ Fine
-known_at op pos s at e = subst (λ (i : Item). verdict operator_known i.lexeme ≡ Fine) (sym at) (is_known op e)
+known_at : (filter : ExprFilter) (op : Lexeme) (pos : Position) (s : Point) → StandsAt op pos s
+    → is_operator (follower_of filter op) ≡ true → verdict (operator_known filter) (next_at code s).lexeme ≡ Fine
+known_at filter op pos s at e =
+    subst (λ (i : Item). verdict (operator_known filter) i.lexeme ≡ Fine) (sym at) (is_known filter op e)
 
 -- an operator that goes on
-goes : (w : Live) (h : Height) (p : ℕ) (x : Node) (op : Lexeme) (pos : Position) (s : Point) (o : Outcome Node)
-    → StandsAt op pos s → is_operator (follower_of op) ≡ true → next_continues p (follower_of op) ≡ true
-    → Runs (binary_on h.settings w h.at p x (strength (follower_of op)) op pos) (at s true) o → (b : Bool)
+goes : (filter : ExprFilter) (w : Live) (h : Height) → h.settings.filter ≡ filter → (p : ℕ) (x : Node) (op : Lexeme)
+    (pos : Position) (s : Point) (o : Outcome Node) → StandsAt op pos s → is_operator (follower_of filter op) ≡ true
+    → next_continues p (follower_of filter op) ≡ true
+    → Runs (binary_on h.settings w h.at p x (strength (follower_of filter op)) op pos) (at s true) o → (b : Bool)
     → Runs (body (climb h w p x)) (at s b) o
-goes w h p x op pos s o stands is on r b =
-    let v = follower_of op in
-    let some : operator_in (follower_at s) ≡ Some (strength v, is_right v) = ap
-    (λ (i : Item). operator_in (follower_of i.lexeme)) stands ∙ in_operator v is in
-    runs_call NextOperator (binary_at h.settings w h.at p x) (next_operator s b (known_at op pos s stands is))
+goes filter w h same p x op pos s o stands is on r b =
+    let v = follower_of filter op in
+    let next = binary_at h.settings w h.at p x in
+    let some : operator_in (follower_at filter s) ≡ Some (strength v, is_right v) = ap
+    (λ (i : Item). operator_in (follower_of filter i.lexeme)) stands ∙ in_operator v is in
+    subst (λ f. Runs (Call (NextOperator f) next) (at s b) o) (sym same)
+    (runs_call (NextOperator filter) next (next_operator filter s b (known_at filter op pos s stands is))
     (subst (λ v. Runs (binary_at h.settings w h.at p x v) (at s true) o) (sym some)
-    (runs_then (Ret x) (goes_sides p v on) (runs_peek (item op pos) stands (operator_readable op is) r)))
+    (runs_then (Ret x) (goes_sides p v on) (runs_peek (item op pos) stands (operator_readable filter op is) r))))
 
-step : (q : Spot) (op : Lexeme) (pos : Position) (l r : Run) (k : Demands) (p : ℕ) (s t : Point) (o : Outcome Node)
-    → is_operator (follower_of op) ≡ true → next_continues p (follower_of op) ≡ true → StandsAt op pos s
-    → (right : Reads r (right_side op (height_after q l) q.live) (operands_fit op (tree l q.live) (tree r q.live) k)
-    (past code s) false t) → Shut r (follower_at right.end)
-    → next_continues (strength (follower_of op)) (follower_at right.end) ≡ false
+step : (q : Spot) → q.begins.filter ≡ filter_of q → (op : Lexeme) (pos : Position) (l r : Run) (k : Demands) (p : ℕ)
+    (s t : Point) (o : Outcome Node) → is_operator (follower_of (filter_of q) op) ≡ true
+    → next_continues p (follower_of (filter_of q) op) ≡ true → StandsAt op pos s
+    → (right : Reads r (right_side op (height_after q l) q.live)
+    (operands_fit (filter_of q) op (tree l q.live) (tree r q.live) k)
+    (past code s) false t) → Shut (filter_of q) r (follower_at (filter_of q) right.end)
+    → next_continues (strength (follower_of (filter_of q) op)) (follower_at (filter_of q) right.end) ≡ false
     → ((b : Bool) → Runs (body (climb (height_after q (Binary op pos l r)) q.live p (tree (Binary op pos l r) q.live)))
     (at right.end b) o) → (b : Bool) → Runs (body (climb (height_after q l) q.live p (tree l q.live))) (at s b) o
-step q op pos l r k p s t o is on stands right shut stop h b =
+step q even op pos l r k p s t o is on stands right shut stop h b =
     let w = q.live in
     let u = height_after q l in
-    let n = strength (follower_of op) in
+    let filter = filter_of q in
+    let inner = u.settings.filter in
+    let same : inner ≡ filter = filter_after q l even in
+    let n = strength (follower_of filter op) in
     let x = tree l w in
     let y = tree r w in
     let side = right_side op u w in
-    let agrees : Agrees n (RightOf op u) = λ m operator fits. right_is (follower_of op) (follower_of m) (sensible op)
-    (sensible m) operator ∙ fits in
+    let agrees : Agrees filter n (RightOf op u) = λ m operator fits. right_is (follower_of filter op)
+    (follower_of filter m) (sensible filter op) (sensible filter m) operator ∙ fits in
     let tighter : Runs (body (climb (begins side right.first) w n right.first)) (at right.rest true)
     (Done y (at right.end true)) =
-    right.climbs shut n agrees (Done y (at right.end true))
-    (λ c. climb_stops w (height_after side r) n y right.end c right.known_end stop) true in
-    goes w u p x op pos s o stands is on
-    (runs_take (item op pos) stands (operator_readable op is)
+    right.climbs (subst (λ f. Shut f r (follower_at f right.end)) (sym same) shut) n
+    (subst (λ f. Agrees f n (RightOf op u)) (sym same) agrees) (Done y (at right.end true))
+    (λ c. climb_stops inner w (height_after side r) (filter_after side r refl) n y right.end c right.known_end
+    (subst (λ f. next_continues n (follower_at f right.end) ≡ false) (sym same) stop)) true in
+    goes filter w u same p x op pos s o stands is on
+    (runs_take (item op pos) stands (operator_readable filter op is)
     (runs_call (R.RightOperand u.settings w (place_after op)) _ right.operand
-    (runs_call NextOperator _ (next_operator right.rest right.looked right.known_rest)
+    (runs_call (NextOperator inner) _ (next_operator inner right.rest right.looked right.known_rest)
     (runs_then (Fail (refusal cause.ExprTooDeep u.at)) right.entered
     (runs_call (climb (begins side right.first) w n right.first) (binary_next (level_up u.settings) w p x op pos) tighter
     (runs_then _ right.met.1.0 (runs_then _ right.met.1.1.0
     (runs_tail (climb (height_after q (Binary op pos l r)) w p (operator_tree op pos x y)) (h true))))))))) b
 
-shut_left : (op : Lexeme) (pos : Position) (l r : Run) (o : Lexeme) → is_operator (follower_of o) ≡ true
-    → Shut r (follower_of o) → left_fits (follower_of o) (Binary op pos l r) ≡ true → Shut (Binary op pos l r) (follower_of o)
-shut_left op pos l r o is h e = (not_true _ (sym (left_is (follower_of o) (follower_of op) (sensible o) is) ∙ e), h)
+shut_left : (filter : ExprFilter) (op : Lexeme) (pos : Position) (l r : Run) (o : Lexeme)
+    → is_operator (follower_of filter o) ≡ true → Shut filter r (follower_of filter o)
+    → left_fits filter (follower_of filter o) (Binary op pos l r) ≡ true
+    → Shut filter (Binary op pos l r) (follower_of filter o)
+shut_left filter op pos l r o is h e =
+    (not_true _ (sym (left_is (follower_of filter o) (follower_of filter op) (sensible filter o) is) ∙ e), h)
 
 -- the right operand's top stops there too
-down : (o op : Lexeme) (u : Height) (pos : Position) (l r : Run) → left_fits (follower_of o) (Binary op pos l r) ≡ true
-    → Top (RightOf op u) r → left_fits (follower_of o) r ≡ true
-down o op u pos l (Just x) e h = refl
-down o op u pos l (Binary inner at a b) e h =
-    left_down (follower_of o) (follower_of op) (follower_of inner) (sensible o) (sensible op) e h
+down : (filter : ExprFilter) (o op : Lexeme) (u : Height) (pos : Position) (l r : Run)
+    → left_fits filter (follower_of filter o) (Binary op pos l r) ≡ true → Top filter (RightOf op u) r
+    → left_fits filter (follower_of filter o) r ≡ true
+down filter o op u pos l (Just x) e h = refl
+down filter o op u pos l (Binary inner at a b) e h =
+    left_down (follower_of filter o) (follower_of filter op) (follower_of filter inner) (sensible filter o)
+    (sensible filter op) e h
 
 pub just : (x : Operand) → OperandRead x → RunRead (Just x)
-just x operand q k s t b m =
+just x operand q even k s t b m =
     let g = operand q.first q.live (place_of q.side) _ s t b m in
     let e = entering q.side k g.end t g.met.1 in
     record {
@@ -175,16 +203,24 @@ just x operand q k s t b m =
     }
 
 pub binary : (op : Lexeme) (pos : Position) (l r : Run) → RunRead l → RunRead r → RunRead (Binary op pos l r)
-binary op pos l r run_left run_right q k s t b m =
+binary op pos l r run_left run_right q even k s t b m =
     let u = height_after q l in
     let w = q.live in
-    let left = run_left q _ s t b m in
+    let filter = filter_of q in
+    let inner = u.settings.filter in
+    let same : inner ≡ filter = filter_after q l even in
+    let left = run_left q even _ s t b m in
     let is = left.met.0 in
     let fits = left.met.1.0 in
     let side = left.met.1.1.0 in
     let stands = left.met.1.1.1.0 in
-    let right = run_right (right_side op u w) (operands_fit op (tree l w) (tree r w) k)
+    let right = run_right (right_side op u w) refl (operands_fit filter op (tree l w) (tree r w) k)
     (past code left.end) t false left.met.1.1.1.1 in
+    let top : Top filter (RightOf op u) r = subst (λ f. Top f (RightOf op u) r) same right.top in
+    let shuts : (o : Lexeme) → is_operator (follower_of filter o) ≡ true
+    → left_fits filter (follower_of filter o) r ≡ true → Shut filter r (follower_of filter o) =
+    subst (λ f. (o : Lexeme) → is_operator (follower_of f o) ≡ true → left_fits f (follower_of f o) r ≡ true
+    → Shut f r (follower_of f o)) same right.shut in
     record {
       first = left.first;
       rest = left.rest;
@@ -193,11 +229,12 @@ binary op pos l r run_left run_right q k s t b m =
       looked = left.looked;
       operand = left.operand;
       known_rest = left.known_rest;
-      known_end = right.known_end;
+      known_end = subst (λ f. verdict (operator_known f) (next_at code right.end).lexeme ≡ Fine) same right.known_end;
       entered = left.entered;
       top = side;
-      shut = λ o other h. shut_left op pos l r o other (right.shut o other (down o op u pos l r h right.top)) h;
+      shut = λ o other h. shut_left filter op pos l r o other (shuts o other (down filter o op u pos l r h top)) h;
       climbs = λ h p a o next.
-          let shut = subst (λ (i : Item). Shut l (follower_of i.lexeme)) (sym stands) (left.shut op is fits) in
-          left.climbs shut p a o (step q op pos l r k p left.end t o is (a op is side) stands right h.1 h.0 next);
+          let shut = subst (λ (i : Item). Shut filter l (follower_of filter i.lexeme)) (sym stands) (left.shut op is fits) in
+          left.climbs shut p a o
+          (step q even op pos l r k p left.end t o is (a op is side) stands right h.1 h.0 next);
     }

@@ -22,7 +22,7 @@ use Rattle.rhai_reading.proofs.Reaches.{Reaches}
 use Rattle.rhai_grammar.specs.Verdicts as V
 use Rattle.rhai_reading.proofs.Complete.Law.{ExpressionRead, RunRead, Agrees, begins}
 use Rattle.rhai_reading.proofs.Complete.Operands.{begins_written}
-use Rattle.rhai_reading.proofs.Complete.Runs.{none_goes, shut_none, climb_stops}
+use Rattle.rhai_reading.proofs.Complete.Runs.{filter_after, none_goes, shut_none, climb_stops}
 use Rattle.rhai_reading.proofs.Looks.{op_at, follower_at, climb, fine, or_wrong}
 use Rattle.rhai_reading.proofs.Strengths.{sensible, outer}
 
@@ -35,11 +35,12 @@ no_operator Other e = refl
 pub expression : (f : Run) → RunRead f → ExpressionRead f
 expression f run c w k s t b m =
     let q = outermost (level_up c) w in
-    let reads = run q (ended k) s t true m.1 in
+    let filter = c.filter in
+    let reads = run q refl (ended c k) s t true m.1 in
     let room = fine (room_due c) (op_at s) m.0 in
-    let ends = no_operator (follower_at reads.end) (fine run_ends (op_at reads.end) reads.met.0).1 in
-    let agrees : Agrees 1 Outermost = λ l is e. outer (follower_of l) (sensible l) is in
-    let stop = none_goes 1 (follower_at reads.end) ends in
+    let ends = no_operator (follower_at filter reads.end) (fine (run_ends filter) (op_at reads.end) reads.met.0).1 in
+    let agrees : Agrees filter 1 Outermost = λ l is e. outer (follower_of filter l) (sensible filter l) is in
+    let stop = none_goes 1 (follower_at filter reads.end) ends in
     record {
       end = reads.end;
       met = reads.met.1;
@@ -47,8 +48,8 @@ expression f run c w k s t b m =
       runs = runs_look room.0 (runs_then _ (or_wrong (has_room c) _ room.1)
           (runs_call (R.Operand (level_up c) w) _ (begins_written reads.operand)
           (runs_tail (climb (begins q reads.first) w 1 reads.first)
-          (reads.climbs (shut_none f (follower_at reads.end) ends) 1 agrees _
-          (λ a. climb_stops w (height_after q f) 1 (tree f w) reads.end a reads.known_end stop) reads.looked))));
+          (reads.climbs (shut_none filter f (follower_at filter reads.end) ends) 1 agrees _
+          (λ a. climb_stops filter w (height_after q f) (filter_after q f refl) 1 (tree f w) reads.end a reads.known_end stop) reads.looked))));
     }
 
 -- a whole stream, from what its expression comes to

@@ -16,6 +16,7 @@ use Rattle.rhai_grammar.specs.Beginnings.{is_name}
 use Rattle.rhai_grammar.specs.Forms as form
 use Rattle.rhai_grammar.specs.Forms.{Run}
 use Rattle.rhai_grammar.specs.Kinds.{not_boolean, not_iterable}
+use Rattle.rhai_grammar.specs.Switches.{nothing_collected, switch_tree}
 use Rattle.rhai_grammar.specs.Trees.{block_tree, caught, caught_name, catch_node, counter_of, loop_name, tree}
 use Rattle.rhai_grammar.specs.declared.due.DueToken.TheVariants as due
 use Rattle.rhai_grammar.specs.declared.role.Construct.{Construct as Kind}
@@ -31,7 +32,7 @@ use Rattle.rhai_reading.proofs.Paths.{Fits, ◌▹◌}
 use Rattle.rhai_reading.proofs.Shows.{Histories, Goes, Passed, done, either, ends, fails, fine, first, halt, ill, look, part}
 use Rattle.rhai_reading.proofs.Shows.{raise, refuse, take, wrong}
 use Rattle.rhai_reading.proofs.Sound.Chains.{Early, early, faulted, unfaulted}
-use Rattle.rhai_reading.proofs.Sound.Law.{AllSound, any_body, any_braced, any_catch, any_conditional, any_do_end, any_loop}
+use Rattle.rhai_reading.proofs.Sound.Law.{AllSound, any_arms, any_body, any_braced, any_catch, any_conditional, any_do_end, any_loop}
 use Rattle.rhai_reading.proofs.Sound.Law.{any_run}
 
 -- ---- guards
@@ -190,6 +191,13 @@ module _ {call : Histories} (ih : AllSound call) (c : Context) (w : Live) (at : 
   construct kind.If =
       ends (ih.of (R.Conditional c w at) s b) (λ f. record { construct = form.If f; is = refl }) (λ v f. refl)
       (λ f k o r. r)
+  construct kind.Switch =
+      first (ih.of (R.Expression c w) s b)
+      (λ f (h : Position × form.Arms). record { construct = form.Switch f h.0 h.1; is = refl }) (nowhere, any_arms)
+      (λ f h k o r. r) (λ f t a.
+      expect due.LeftBrace (nowhere, any_arms) (λ missing k. missing.way) (λ opens.
+      ends {v = λ all. switch_tree (tree f w) all at} (ih.of (R.Arms c w nothing_collected) (past code t) false)
+      (λ list. (pos_at t, list)) (λ v list. refl) (λ list k o r. opens ▹ r)))
   construct kind.While =
       first (ih.of (R.Guard c w) s b)
       (λ f (h : BracedForm). record { construct = form.While f h.opening h.body; is = refl }) any_braced (λ f h k o r. r)

@@ -1,5 +1,5 @@
 -- What each reader shows.
-use Rattle.std.proofs.Common.{◌≡◌, ℕ, Bool, true, false, [], refl}
+use Rattle.std.proofs.Common.{◌≡◌, ℕ, Bool, true, false, None, [], refl}
 use Rattle.rhai_lower.specs.Lexemes.{Lexeme, Integer}
 use Rattle.rhai_lower.specs.Positions.{nowhere}
 use Rattle.rhai_lower.specs.Nodes.{Node}
@@ -11,6 +11,7 @@ use Rattle.rhai_grammar.specs.Beginnings.{beginning, is_sign, calls, member_plac
 use Rattle.rhai_grammar.specs.Starts.{operand_start}
 use Rattle.rhai_grammar.specs.declared.role.OperandPlace.{OperandPlace}
 use Rattle.rhai_grammar.specs.declared.role.OperandStart.TheVariants as first
+use Rattle.rhai_grammar.specs.declared.filter.ExprFilter.{ExprFilter}
 use Rattle.rhai_grammar.specs.Strengths.{Follower, follower_of, strength}
 use Rattle.rhai_grammar.specs.Forms as form
 use Rattle.rhai_grammar.specs.Forms.{Primary, Base, Links, Operand, Arguments, Items, Elements, Fields, Run, Just}
@@ -21,7 +22,7 @@ use Rattle.rhai_grammar.specs.Trees.{tree}
 use Rattle.rhai_grammar.specs.Demands.{Demands, Next, Met, Missed}
 use Rattle.rhai_grammar.specs.Written as W
 use Rattle.rhai_grammar.specs.Verdicts.{operator_known}
-use Rattle.rhai_grammar.specs.Spots.{Side, Spot, height_after, side_fits}
+use Rattle.rhai_grammar.specs.Spots.{Side, Spot, filter_of, height_after, side_fits}
 use Rattle.rhai_reading.specs.Reading as R
 use Rattle.rhai_reading.specs.Reading.{Goal, Val}
 use Rattle.rhai_reading.specs.Histories.{State, Outcome}
@@ -34,6 +35,8 @@ use Rattle.rhai_reading.proofs.FormKinds.{expr_statements, var_names, initialize
 use Rattle.rhai_reading.proofs.FormKinds.{block_ends, block_starts, definitions, insides, jump_values, segments, text_afters}
 use Rattle.rhai_reading.proofs.FormKinds.{BracedForm, CatchForm, DoForm, LoopForm, OfKind, braced, branches, catches}
 use Rattle.rhai_reading.proofs.FormKinds.{conditionals, constructs, do_ends, guards, iterated_values, loops}
+use Rattle.rhai_reading.proofs.SwitchKinds.{actions, arm_ends, arm_lists, case_guards, cases, default_ends}
+use Rattle.rhai_reading.proofs.SwitchKinds.{DefaultForm, arms_with_cases, default_arms, one_cases}
 use Rattle.rhai_reading.proofs.Looks.{op_at, follower_at, operator_in}
 use Rattle.rhai_reading.proofs.Paths.{Fits, Fails, Way, Lost}
 use Rattle.rhai_reading.proofs.Shows.{Histories, Ensures, Tells, Halts, Answers, Passed}
@@ -41,26 +44,28 @@ use Rattle.rhai_reading.proofs.Shows.{Histories, Ensures, Tells, Halts, Answers,
 -- ---- runs
 
 -- the operator at the top doesn't go on with what stands there
-abbrev pub Ended : Run → Follower → Type 0
-Ended (Just x) v = Unit {0}
-Ended (Binary op pos l r) v = next_continues (strength (follower_of op)) v ≡ false
+abbrev pub Ended : ExprFilter → Run → Follower → Type 0
+Ended filter (Just x) v = Unit {0}
+Ended filter (Binary op pos l r) v = next_continues (strength (follower_of filter op)) v ≡ false
 
 -- what goes on with p fits on this side
-abbrev pub Suits : ℕ → Side → Type 0
-Suits p side = (l : Lexeme) → next_continues p (follower_of l) ≡ true → side_fits side (follower_of l) ≡ true
+abbrev pub Suits : ExprFilter → ℕ → Side → Type 0
+Suits filter p side =
+    (l : Lexeme) → next_continues p (follower_of filter l) ≡ true → side_fits filter side (follower_of filter l) ≡ true
 
 -- A run was read as far as s, where it is still to be seen whether a reserved symbol stands.
 pub record Stands (q : Spot) (from : Point) (L : Run) (s : Point) : Type 0 where
-  pub passes : Fits operator_known s → Passed (runs q) L from s
-  pub stops : (e : Refusal) → Fails (Next operator_known) s e → (k : Demands) → Way (W.run L q k) from (Lost e s)
+  pub passes : Fits (operator_known (filter_of q)) s → Passed (runs q) L from s
+  pub stops : (e : Refusal) → Fails (Next (operator_known (filter_of q))) s e → (k : Demands)
+      → Way (W.run L q k) from (Lost e s)
 
 -- A run was read, and nothing goes on with it.
 pub record RunRead (q : Spot) (p : ℕ) (from : Point) (x : Node) (t : Point) : Type 0 where
   pub form : Run
   pub is : tree form q.live ≡ x
   pub passes : Passed (runs q) form from t
-  pub off : next_continues p (follower_at t) ≡ false
-  pub known : Fits operator_known t
+  pub off : next_continues p (follower_at (filter_of q) t) ≡ false
+  pub known : Fits (operator_known (filter_of q)) t
 
 -- ---- the whole
 
@@ -96,13 +101,13 @@ Sound (R.Segments c w start before) s o = Answers (segments c w start before) s 
 Sound R.TextAfter s o = Answers text_afters s o
 Sound (R.Jump c w pos) s o = Answers (jump_values c w pos) s o
 Sound (R.NextKey c before) s o = Answers (next_keys c before) s o
-Sound R.NextOperator s o =
-    Tells (λ v t. (t ≡ s) × (v ≡ operator_in (follower_at s)) × Fits operator_known s)
-    (λ e u. Fails (Next operator_known) s e × (u.mode ≡ code) × (u.point ≡ s) × StandsAtLast e (cursor u)) o
+Sound (R.NextOperator filter) s o =
+    Tells (λ v t. (t ≡ s) × (v ≡ operator_in (follower_at filter s)) × Fits (operator_known filter) s)
+    (λ e u. Fails (Next (operator_known filter)) s e × (u.mode ≡ code) × (u.point ≡ s) × StandsAtLast e (cursor u)) o
 Sound (R.BinaryOp c w pos p lhs) s o =
     (q : Spot) (from : Point) (L : Run) → q.live ≡ w → tree L q.live ≡ lhs
-    → height_after q L ≡ record { settings = c; at = pos } → Suits p q.side → Ended L (follower_at s) → Stands q from L s
-    → Tells (RunRead q p from) (Halts (runs q) from) o
+    → height_after q L ≡ record { settings = c; at = pos } → filter_of q ≡ c.filter → Suits (filter_of q) p q.side
+    → Ended (filter_of q) L (follower_at (filter_of q) s) → Stands q from L s → Tells (RunRead q p from) (Halts (runs q) from) o
 Sound (R.ExprStatement c w) s o = Answers (expr_statements c w) s o
 Sound (R.VarName c w) s o = Answers (var_names c w) s o
 Sound (R.Initializer c w pos) s o = Answers (initializers c w pos) s o
@@ -122,6 +127,15 @@ Sound (R.Branch c w at) s o = Answers (branches c w at) s o
 Sound R.LoopNames s o = Answers loops s o
 Sound R.Catch s o = Answers catches s o
 Sound R.DoEnd s o = Answers do_ends s o
+Sound (R.Arms c w before) s o = Answers (arm_lists c w before) s o
+Sound (R.Case c w) s o = Answers (one_cases c w) s o
+Sound (R.Arm c w before) s o = Answers (arms_with_cases c w before) s o
+Sound (R.DefaultArm c w default) s o = Answers (default_arms c w default) s o
+Sound (R.Cases c w before) s o = Answers (cases c w before) s o
+Sound (R.CaseGuard c w) s o = Answers (case_guards c w) s o
+Sound (R.Action c w) s o = Answers (actions c w) s o
+Sound (R.ArmEnd itself) s o = Answers (arm_ends itself) s o
+Sound (R.DefaultEnd default) s o = Answers (default_ends default) s o
 
 pub record AllSound (call : Histories) : Type 0 where
   pub of : (g : Goal) (s : Point) (b : Bool) → Sound g s (call g (at s b))
@@ -161,9 +175,16 @@ any_catch = record { at = nowhere; name = form.NoName }
 abbrev pub any_do_end : DoForm
 any_do_end = record { negated = false; at = nowhere }
 
+abbrev pub any_arms : form.Arms
+any_arms = form.NoArm nowhere
+
+abbrev pub any_action : form.Action
+any_action = form.Does (form.EmptyStatement nowhere)
+
 abbrev pub any_construct : (kind : Kind) → OfKind kind
 any_construct kind.Block = record { construct = form.Block any_body; is = refl }
 any_construct kind.If = record { construct = form.If any_conditional; is = refl }
+any_construct kind.Switch = record { construct = form.Switch any_run nowhere any_arms; is = refl }
 any_construct kind.While = record { construct = form.While any_run nowhere any_body; is = refl }
 any_construct kind.Loop = record { construct = form.Loop nowhere any_body; is = refl }
 any_construct kind.Do = record { construct = form.Do nowhere any_body false nowhere any_run; is = refl }
@@ -171,3 +192,6 @@ any_construct kind.For =
     record { construct = form.For (form.Variable [] nowhere) nowhere any_run nowhere any_body; is = refl }
 any_construct kind.Try =
     record { construct = form.Try nowhere any_body nowhere form.NoName nowhere any_body; is = refl }
+
+abbrev pub any_default : DefaultForm
+any_default = record { arrow = nowhere; action = any_action; comma = None; closing = nowhere }

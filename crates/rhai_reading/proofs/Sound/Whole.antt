@@ -3,6 +3,7 @@ use Rattle.std.proofs.Common.{◌≡◌, Bool, true, false, refl}
 use Rattle.rhai_lower.specs.Nodes.{Node}
 use Rattle.rhai_grammar.specs.Delivered.{Point, is_end}
 use Rattle.rhai_grammar.specs.Contexts.{Context, Live, level_up}
+use Rattle.rhai_grammar.specs.declared.filter.ExprFilter.{ExprFilter}
 use Rattle.rhai_grammar.specs.Strengths.{Follower, Operator, Unknown, Other}
 use Rattle.rhai_grammar.specs.Forms.{Run, Just, Statements}
 use Rattle.rhai_grammar.specs.Trees.{statement_trees, tree}
@@ -31,10 +32,11 @@ use Rattle.rhai_reading.proofs.Joins.{cursor}
 use Rattle.rhai_reading.proofs.Sound.Law.{Sound, AllSound, WholeRead, WholeHalts, any_run}
 use Rattle.rhai_reading.proofs.Sound.Runs.{run_part}
 
-ends_fine : (s : Point) → next_continues 1 (follower_at s) ≡ false → Fits operator_known s → Fits run_ends s
-ends_fine s off known =
-    let f = known_fine operator_known (op_at s) known.fits in
-    fine f.0 (ends (follower_at s) (sensible (op_at s)) off f.1)
+ends_fine : (filter : ExprFilter) (s : Point) → next_continues 1 (follower_at filter s) ≡ false
+    → Fits (operator_known filter) s → Fits (run_ends filter) s
+ends_fine filter s off known =
+    let f = known_fine (operator_known filter) (op_at s) known.fits in
+    fine f.0 (ends (follower_at filter s) (sensible filter (op_at s)) off f.1)
   where
     ends : (v : Follower) → Sensible v → next_continues 1 v ≡ false → V.known_follower v ≡ Fine → V.ended_follower v ≡ Fine
     ends (Operator n right) h off k = let w = outer (Operator n right) h refl in absurd cc
@@ -46,14 +48,14 @@ module _ {call : Histories} (ih : AllSound call) (c : Context) (w : Live) (s : P
   expression b = look (λ m.
       raise c any_run (λ high k. ill m (rw high)) (λ below.
       part (ih.of (R.Operand (level_up c) w) s true Elsewhere refl) Just (λ x k o r. fine m (rw below) ▹ r _) (λ x t a X.
-      run_part ih (outermost (level_up c) w) s (Just x) refl refl refl (λ l e. refl) tt
+      run_part ih (outermost (level_up c) w) s (Just x) refl refl refl refl (λ l e. refl) tt
       (record { passes = λ known. over (λ k o r. X.on (known ▹ r)); stops = λ e r k. X.on (lost r) })
       (λ f. f) (λ f k o r. fine m (rw below) ▹ r _) (λ f u d G off known.
       ret (record {
         form = f;
         is = refl;
         passes = over
-            (λ k o r. fine m (rw below) ▹ G.on (ends_fine u off known ▹ r));
+            (λ k o r. fine m (rw below) ▹ G.on (ends_fine c.filter u off known ▹ r));
       })))))
 
   whole_by : (b : Bool) → Shows call (λ x t. (f : Run) × (tree f w ≡ x) × Way (W.whole_expression f c w) s (To t))

@@ -1,5 +1,5 @@
 use Rattle.std.proofs.Common.{ap, rules, subst}
-use Rattle.rhai_grammar.specs.Contexts.{Live}
+use Rattle.rhai_base.specs.Frames.{FrameValue}
 use Rattle.rhai_grammar.specs.Cursors.{cursor_of, mode_by}
 use Rattle.rhai_grammar.specs.Promises.{ReadsExpression}
 use Rattle.rhai_readers.specs.Frames.{context_of, live_of}
@@ -11,7 +11,7 @@ returns-clause-reads g c = λ fresh.
     let read = c.read_script.ensures.reads library (ap mode_by fresh.mode) in (
       c.settings.new.arg2,
       search rules,
-      subst (λ (live : Live). ReadsExpression library (context_of c.args.self.now c.settings.new.arg2) live
-          (cursor_of c.args.state.input.now) (cursor_of c.read_script.new.input) c.read_script.result)
-          (ap live_of c.new-frame.ensures) read,
+      subst (λ (frame : FrameValue). ReadsExpression library (context_of c.args.self.now frame.filter c.settings.new.arg2)
+          (live_of frame) (cursor_of c.args.state.input.now) (cursor_of c.read_script.new.input) c.read_script.result)
+          c.new-frame.ensures read,
     )

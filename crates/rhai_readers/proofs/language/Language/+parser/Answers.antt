@@ -11,20 +11,22 @@ use Rattle.rhai_reading.specs.Running.{guarded, result_of}
 use Rattle.rhai_trees.specs.Chains.{indexed_by, link_views}
 use Rattle.rhai_readers.specs.Frames.{context_of, live_of}
 use Rattle.rhai_readers.specs.Asks.{operator_pair}
-use Rattle.rhai_readers.specs.Readers.{expr_statement, guard, index, iterated, operand, state_of}
+use Rattle.rhai_readers.specs.Readers.{arm, default_arm, expr_statement, guard, index, iterated, operand, state_of}
+use Rattle.rhai_readers.specs.Switches.{arm_view}
+use Rattle.rhai_trees.specs.Switches.{collected_view}
 use Rattle.rhai_reading.proofs.ChainSteps.{DotTaken, dot_goes_on, dot_short}
 use Rattle.rhai_reading.proofs.FieldSteps.{FieldTaken, field_goes_on, field_short}
 use Rattle.rhai_reading.proofs.Outcomes.{answer_given, outcome}
 use Rattle.rhai_reading.proofs.RunSteps.{Walked, walked_on, walked_refused, walked_short}
 use Rattle.rhai_reading.proofs.WordSteps.{Worded}
 use Rattle.rhai_trees.proofs.ChainLemmas.{indexed_after, links_push}
-use Rattle.rhai_readers.proofs.Readers.{chains, constructs, literals, operands, statements}
+use Rattle.rhai_readers.proofs.Readers.{chains, constructs, literals, operands, statements, switches}
 use Rattle.rhai_readers.proofs.AnswerLemmas.{gives_so, same_context, worded_outcome}
 use Rattle.rhai_readers.proofs.language.Language.+parser.Goals as goal
 use Rattle.rhai_readers.proofs.language.Language.+parser.Goals.{parse_binary_op-After-make_binary}
 
 -- an operator of a run with its right side
-walked : (t : _) (c : parse_binary_op-After-make_binary t) → Walked (context_of c.args.self.now c.loop-lhs.settings) (live_of c.args.frame.now) c.args.parent c.in-Some.operator.strength c.in-Some.operator.right c.place_after-place.result (option_map operator_pair c.in_ok-next_operator.field-0) (lexeme c.take-op_token.result.0) c.take-op_token.result.1 (view c.in_ok-rhs.rhs) (view c.in_ok-rhs-2.rhs) (context_of c.args.self.now c.in_ok-deeper.deeper.side)
+walked : (t : _) (c : parse_binary_op-After-make_binary t) → Walked (context_of c.args.self.now c.args.frame.now.filter c.loop-lhs.settings) (live_of c.args.frame.now) c.args.parent c.in-Some.operator.strength c.in-Some.operator.right c.place_after-place.result (option_map operator_pair c.in_ok-next_operator.field-0) (lexeme c.take-op_token.result.0) c.take-op_token.result.1 (view c.in_ok-rhs.rhs) (view c.in_ok-rhs-2.rhs) (context_of c.args.self.now c.args.frame.now.filter c.in_ok-deeper.deeper.side)
     (state_of c.loop-lhs.shared) (cursor_of c.next_operator.new.input) (cursor_of c.take-op_token.new.input) (state_of c.parse_right_operand.new.shared) (cursor_of c.next_operator-in-loop-lhs.new.input) (state_of c.parse_binary_op.new.shared)
 walked t c = record {
   operator = search rules;
@@ -55,7 +57,7 @@ pub parse_binary_op-loop-lhs-preserved : goal.parse_binary_op-loop-lhs-preserved
 parse_binary_op-loop-lhs-preserved t c =
     let h = walked t (goal.at.parse_binary_op-loop-lhs-preserved t c).After-make_binary in
     record {
-      same = c.loop-lhs.invariant.same ∙ walked_on h _ _ c.in-Ok.ensures.answers (same_context c.args.self.now c.in_ok-deeper.deeper.next c.in_ok-deeper.deeper.side (search rules)) (search rules);
+      same = c.loop-lhs.invariant.same ∙ walked_on h _ _ c.in-Ok.ensures.answers (same_context c.args.self.now c.args.frame.now.filter c.in_ok-deeper.deeper.next c.in_ok-deeper.deeper.side (search rules)) (search rules);
       goes_on = record { same = search rules; shorter = let less = walked_short h in omega (arith, less, c.loop-lhs.invariant.goes_on.shorter) };
     }
 
@@ -89,7 +91,7 @@ parse_array_literal-returns-in_err-list_continues-clause-reads t c = let p = err
 
 pub parse_map_literal-loop-properties-preserved : goal.parse_map_literal-loop-properties-preserved
 parse_map_literal-loop-properties-preserved t c =
-    let taken : FieldTaken (context_of c.args.self.now c.args.settings) (context_of c.args.self.now c.in_ok-deeper.deeper) (live_of c.args.frame.now) (property_views c.loop-properties.properties.items) (property_views c.push.new.self.items) (rc_str_bytes c.in-Some.key.name, c.in-Some.key.pos) (view c.in_ok-value.value)
+    let taken : FieldTaken (context_of c.args.self.now c.args.frame.now.filter c.args.settings) (context_of c.args.self.now c.args.frame.now.filter c.in_ok-deeper.deeper) (live_of c.args.frame.now) (property_views c.loop-properties.properties.items) (property_views c.push.new.self.items) (rc_str_bytes c.in-Some.key.name, c.in-Some.key.pos) (view c.in_ok-value.value)
     (state_of c.loop-properties.shared) (cursor_of c.next_key.new.input) (state_of c.parse_expr.new.shared) (cursor_of c.list_continues.new.input) = record {
       key_read = search rules;
       key_short = search rules;
@@ -110,9 +112,9 @@ parse_map_literal-loop-properties-preserved t c =
 
 pub parse_links-loop-links-preserved : goal.parse_links-loop-links-preserved
 parse_links-loop-links-preserved t c =
-    let spot : LinkSpot = record { settings = context_of c.args.self.now c.loop-links.settings; brackets = context_of c.args.self.now c.loop-links.brackets; indexed = indexed_by (view c.args.lhs.now) (link_views c.loop-links.links.items); before = link_views c.loop-links.links.items } in
-    let next : LinkSpot = record { settings = context_of c.args.self.now c.in_ok-settings-in-Dot.settings; brackets = context_of c.args.self.now c.in_ok-settings-in-Dot.settings; indexed = indexed_by (view c.args.lhs.now) (link_views c.push-in-Dot.new.self.items); before = link_views c.push-in-Dot.new.self.items } in
-    let taken : DotTaken (context_of c.args.self.now c.in_ok-settings-in-Dot.settings) (live_of c.args.frame.now) spot next (lexeme c.in_ok-token.field-0.now.0) c.in_ok-token.field-0.now.1 (view c.in_ok-item-in-Dot.item)
+    let spot : LinkSpot = record { settings = context_of c.args.self.now c.args.frame.now.filter c.loop-links.settings; brackets = context_of c.args.self.now c.args.frame.now.filter c.loop-links.brackets; indexed = indexed_by (view c.args.lhs.now) (link_views c.loop-links.links.items); before = link_views c.loop-links.links.items } in
+    let next : LinkSpot = record { settings = context_of c.args.self.now c.args.frame.now.filter c.in_ok-settings-in-Dot.settings; brackets = context_of c.args.self.now c.args.frame.now.filter c.in_ok-settings-in-Dot.settings; indexed = indexed_by (view c.args.lhs.now) (link_views c.push-in-Dot.new.self.items); before = link_views c.push-in-Dot.new.self.items } in
+    let taken : DotTaken (context_of c.args.self.now c.args.frame.now.filter c.in_ok-settings-in-Dot.settings) (live_of c.args.frame.now) spot next (lexeme c.in_ok-token.field-0.now.0) c.in_ok-token.field-0.now.1 (view c.in_ok-item-in-Dot.item)
     (state_of c.loop-links.shared) (cursor_of c.peek.follows.lender-at-none) (cursor_of c.skip-in-Dot.new.input) (cursor_of c.member_due.new.input) (state_of c.parse_member.new.shared) = record {
       token = search rules;
       readable = search rules;
@@ -162,3 +164,13 @@ pub parse_iterated-returns-clause-reads : goal.parse_iterated-returns-clause-rea
 parse_iterated-returns-clause-reads t c =
     let call = guarded (iterated c.args.self.now c.args.frame.now c.args.settings) (state_of c.args.shared.now) in
     gives_so view c.end_iterated.result (state_of c.parse_expr.new.shared) (grind (arith, constructs)) (c.end_iterated.ensures.gives call _)
+
+pub parse_arm-returns-clause-reads : goal.parse_arm-returns-clause-reads
+parse_arm-returns-clause-reads t c =
+    let call = guarded (arm c.args.self.now c.args.frame.now c.args.settings (collected_view c.args.before.now)) (state_of c.args.shared.now) in
+    gives_so arm_view c.end_arm.result (cursor_of c.end_arm.new.input) (grind (arith, switches)) (c.end_arm.ensures.gives call (grind (arith, switches)))
+
+pub parse_default_arm-returns-clause-reads : goal.parse_default_arm-returns-clause-reads
+parse_default_arm-returns-clause-reads t c =
+    let call = guarded (default_arm c.args.self.now c.args.frame.now c.args.settings c.args.default) (state_of c.args.shared.now) in
+    gives_so view c.end_default.result (cursor_of c.end_default.new.input) (grind (arith, switches)) (c.end_default.ensures.gives call (grind (arith, switches)) (λ t le. grind (arith, le, switches)))

@@ -4,12 +4,14 @@ use Rattle.rhai_lower.specs.View.{view}
 use Rattle.rhai_grammar.specs.Cursors.{left}
 use Rattle.rhai_grammar.specs.declared.role.Construct.TheVariants as kind
 use Rattle.rhai_grammar.specs.Interpolations.{added_text}
+use Rattle.rhai_grammar.specs.Switches.{nothing_collected}
+use Rattle.rhai_trees.specs.Switches.{collected_view}
 use Rattle.std.specs.Rc.{rc_str_bytes}
 use Rattle.rhai_reading.specs.Reading.{Links}
 use Rattle.rhai_reading.specs.Running.{need, result_of}
 use Rattle.rhai_trees.specs.Chains.{indexed_by}
-use Rattle.rhai_readers.specs.Frames.{context_of, live_of}
-use Rattle.rhai_readers.specs.Readers.{GoesOn, arguments, binary_op, block, braced, branch, conditional, construct, guard, iterated, right_operand, called, definition, expr_statement, initializer, inside, jump, segments, statement, statements, statements_of, elements, expression, fields, index, items, links, linked, member, operand, postfix, primary, properties_of, state_of, views_of}
+use Rattle.rhai_readers.specs.Frames.{SamePlace, context_of, live_of}
+use Rattle.rhai_readers.specs.Readers.{GoesOn, action, arguments, arm, arms, case, case_guard, cases, default_arm, binary_op, block, braced, branch, conditional, construct, guard, iterated, right_operand, called, definition, expr_statement, initializer, inside, jump, segments, statement, statements, statements_of, elements, expression, fields, index, items, links, linked, member, operand, postfix, primary, properties_of, state_of, views_of}
 use Rattle.rhai_readers.proofs.language.Language.+parser.Given as goal
 
 abbrev pub decreases-parse_expr : goal.decreases-parse_expr
@@ -80,7 +82,7 @@ decreases-parse_map_literal-loop-properties l = left (state_of l.shared).tokens
 
 abbrev pub invariant-parse_links-loop-links : goal.invariant-parse_links-loop-links
 invariant-parse_links-loop-links l = record {
-  same : result_of (links l.fn.self l.fn.frame l.fn.settings (view l.fn.lhs)) (state_of l.fn.shared) ≡ result_of (Links (live_of l.frame) (record { settings = context_of l.self l.settings; brackets = context_of l.self l.brackets; indexed = indexed_by (view l.fn.lhs) (linked l.links); before = linked l.links })) (state_of l.shared);
+  same : result_of (links l.fn.self l.fn.frame l.fn.settings (view l.fn.lhs)) (state_of l.fn.shared) ≡ result_of (Links (live_of l.frame) (record { settings = context_of l.self l.frame.filter l.settings; brackets = context_of l.self l.frame.filter l.brackets; indexed = indexed_by (view l.fn.lhs) (linked l.links); before = linked l.links })) (state_of l.shared);
   goes_on : GoesOn l.fn.shared l.shared;
 }
 
@@ -136,7 +138,7 @@ abbrev pub invariant-parse_statements-loop-statements : goal.invariant-parse_sta
 invariant-parse_statements-loop-statements l = record {
   same : result_of (statements l.fn.self l.fn.frame l.fn.settings l.fn.closing no_statements) (state_of l.fn.shared) ≡ result_of (statements l.self l.frame l.settings l.closing (statements_of l.statements)) (state_of l.shared);
   goes_on : GoesOn l.fn.shared l.shared;
-  depth : l.frame.depth ≡ l.fn.frame.depth;
+  place : SamePlace l.fn.frame l.frame;
 }
 
 abbrev pub decreases-parse_statements-loop-statements : goal.decreases-parse_statements-loop-statements
@@ -178,3 +180,45 @@ decreases-parse_for l = need (construct l.self.now l.frame.now l.settings kind.F
 
 abbrev pub decreases-parse_try : goal.decreases-parse_try
 decreases-parse_try l = need (construct l.self.now l.frame.now l.settings kind.Try) (state_of l.shared.now)
+
+abbrev pub decreases-parse_switch : goal.decreases-parse_switch
+decreases-parse_switch l = need (construct l.self.now l.frame.now l.settings kind.Switch) (state_of l.shared.now)
+
+abbrev pub decreases-parse_arms : goal.decreases-parse_arms
+decreases-parse_arms l = need (arms l.self.now l.frame.now l.settings nothing_collected) (state_of l.shared.now)
+
+abbrev pub decreases-parse_arm : goal.decreases-parse_arm
+decreases-parse_arm l = need (arm l.self.now l.frame.now l.settings (collected_view l.before.now)) (state_of l.shared.now)
+
+abbrev pub decreases-parse_default_arm : goal.decreases-parse_default_arm
+decreases-parse_default_arm l = need (default_arm l.self.now l.frame.now l.settings l.default) (state_of l.shared.now)
+
+abbrev pub decreases-parse_cases : goal.decreases-parse_cases
+decreases-parse_cases l = need (cases l.self.now l.frame.now l.settings no_nodes) (state_of l.shared.now)
+
+abbrev pub decreases-parse_case : goal.decreases-parse_case
+decreases-parse_case l = need (case l.self.now l.frame.now l.settings) (state_of l.shared.now)
+
+abbrev pub decreases-parse_case_guard : goal.decreases-parse_case_guard
+decreases-parse_case_guard l = need (case_guard l.self.now l.frame.now l.settings) (state_of l.shared.now)
+
+abbrev pub decreases-parse_action : goal.decreases-parse_action
+decreases-parse_action l = need (action l.self.now l.frame.now l.settings) (state_of l.shared.now)
+
+abbrev pub invariant-parse_arms-loop-arms : goal.invariant-parse_arms-loop-arms
+invariant-parse_arms-loop-arms l = record {
+  same : result_of (arms l.fn.self l.fn.frame l.fn.settings nothing_collected) (state_of l.fn.shared) ≡ result_of (arms l.self l.frame l.settings (collected_view l.arms)) (state_of l.shared);
+  goes_on : GoesOn l.fn.shared l.shared;
+}
+
+abbrev pub decreases-parse_arms-loop-arms : goal.decreases-parse_arms-loop-arms
+decreases-parse_arms-loop-arms l = left (state_of l.shared).tokens
+
+abbrev pub invariant-parse_cases-loop-cases : goal.invariant-parse_cases-loop-cases
+invariant-parse_cases-loop-cases l = record {
+  same : result_of (cases l.fn.self l.fn.frame l.fn.settings no_nodes) (state_of l.fn.shared) ≡ result_of (cases l.self l.frame l.settings (views_of l.cases)) (state_of l.shared);
+  goes_on : GoesOn l.fn.shared l.shared;
+}
+
+abbrev pub decreases-parse_cases-loop-cases : goal.decreases-parse_cases-loop-cases
+decreases-parse_cases-loop-cases l = left (state_of l.shared).tokens

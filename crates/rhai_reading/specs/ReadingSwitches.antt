@@ -1,0 +1,77 @@
+-- The terms of the readers of `switch`.
+use Rattle.std.specs.Prelude.{Bool, true, false, Option, Some, None, codes, if◌then◌else◌}
+use Rattle.rhai_lower.specs.Lexemes.{Lexeme}
+use Rattle.rhai_lower.specs.Nodes.{Node, Nodes, block_value, made_block}
+use Rattle.rhai_lower.specs.declared.position.Position.{Position}
+use Rattle.rhai_grammar.specs.Beginnings.{missing}
+use Rattle.rhai_grammar.specs.Causes as cause
+use Rattle.rhai_grammar.specs.Causes.{Refusal, refusal}
+use Rattle.rhai_grammar.specs.CommaLists.{not_after}
+use Rattle.rhai_grammar.specs.Contexts.{Context, Live, in_block}
+use Rattle.rhai_grammar.specs.Delivered.{is_end}
+use Rattle.rhai_grammar.specs.DueTokens.{is_due}
+use Rattle.rhai_grammar.specs.Switches.{Collected, ends_arm, no_guard, with_arm_collected}
+use Rattle.rhai_grammar.specs.Switches.{with_default_collected}
+use Rattle.rhai_grammar.specs.declared.due.DueToken.TheVariants as due
+use Rattle.rhai_grammar.specs.declared.list.AfterPart.{AfterPart}
+use Rattle.rhai_grammar.specs.declared.list.AfterPart.TheVariants as after
+use Rattle.rhai_grammar.specs.declared.list.CommaList.TheVariants as lists
+use Rattle.rhai_grammar.specs.declared.role.ArmPlace.{ArmPlace}
+use Rattle.rhai_grammar.specs.declared.role.ArmPlace.TheVariants as arm
+use Rattle.rhai_reading.specs.Goals.{Action, Arm, ArmEnd, Arms, Cases, DefaultArm, DefaultEnd, Expression}
+use Rattle.rhai_reading.specs.Goals.{Guard, Statement}
+use Rattle.rhai_reading.specs.Goals.{Prog, Ret, Fail, Peek, Take, Call, match_token}
+
+-- after the case of an arm, of which it has these so far
+abbrev pub cases_at : Context → Live → Nodes → Lexeme → Prog Nodes
+cases_at c w xs l = if is_due due.Pipe l then Take (Call (Cases c w xs) Ret) else Ret xs
+
+-- after the cases of an arm
+abbrev pub case_guard_at : Context → Live → Lexeme → Prog Node
+case_guard_at c w l = if is_due due.If l then Take (Call (Guard c w) Ret) else Ret no_guard
+
+-- where a statement has to be
+abbrev pub action_at : Context → Live → Lexeme → Position → Prog (Node × Bool)
+action_at c w l at =
+    if is_end l then Fail (refusal cause.UnexpectedEOF at)
+    else Call (Statement c (in_block w)) (λ f. Ret (block_value (made_block f.0), ends_arm f.0))
+
+-- after a `=>`
+abbrev pub action_on : Context → Live → (single : Bool) → Prog (Node × Bool)
+action_on c w true = Call (Expression c w) (λ x. Ret (x, false))
+action_on c w false = Peek (action_at c w)
+
+-- after what an arm does
+abbrev pub arm_end_at : (itself : Bool) → Lexeme → Position → AfterPart → Prog (Unit {0})
+arm_end_at itself l at after.Comma = Take (Ret tt)
+arm_end_at itself l at after.Close = Ret tt
+arm_end_at itself l at after.Nothing = if itself then Ret tt else Fail (refusal (not_after lists.Arms l) at)
+
+-- after the default arm, whose `_` is at a position
+abbrev pub default_end_at : (default : Position) → Lexeme → Position → ArmPlace → Prog (Unit {0})
+default_end_at default l at arm.Close = Take (Ret tt)
+default_end_at default l at arm.Nothing = Fail (refusal (missing (codes "}") l) at)
+default_end_at default l at _ = Fail (refusal cause.WrongSwitchDefaultCase default)
+
+-- after what an arm with cases does; one of these may be refused
+abbrev pub arm_on : Nodes → (guard : Node) → Node × Bool → Option Refusal → Prog (Nodes × Node × Node)
+arm_on xs guard does None = Call (ArmEnd does.1) (λ end. Ret (xs, guard, does.0))
+arm_on xs guard does (Some e) = Fail e
+
+-- after what the default arm does, whose `_` is at a position
+abbrev pub default_on : Node × Bool → (default : Position) → Prog Node
+default_on does default = Call (ArmEnd does.1) (λ end. Call (DefaultEnd default) (λ close. Ret does.0))
+
+-- after the `_` of the default arm, which is at a position
+abbrev pub default_at : Context → Live → (default : Position) → Lexeme → Position → Prog Node
+default_at c w default l at =
+    if is_due due.If l then Fail (refusal cause.WrongSwitchCaseCondition at)
+    else match_token due.DoubleArrow (Call (Action c w) (λ does. default_on does default))
+
+-- where an arm may begin
+abbrev pub arms_at : Context → Live → Collected → Lexeme → Position → ArmPlace → Prog Collected
+arms_at c w before l at arm.Case =
+    Call (Arm c w before) (λ a. Call (Arms c w (with_arm_collected before a.0 a.1 a.2)) Ret)
+arms_at c w before l at arm.Default = Take (Call (DefaultArm c w at) (λ x. Ret (with_default_collected before x)))
+arms_at c w before l at arm.Close = Take (Ret before)
+arms_at c w before l at arm.Nothing = Fail (refusal (missing (codes "}") l) at)
