@@ -1,5 +1,5 @@
 #!/usr/bin/env bash
-# Runs the table of cases, or only the files named, through the program, and prints each run that fails.
+# Runs the table of cases and an example, or only the files named, through the program, and prints each run that fails.
 # cases/README.md describes the format of a case. The last line counts the runs; the exit status is 1 if any failed.
 #
 # usage: tests/cases.sh [PROGRAM] [FILE.txt ..]
@@ -104,6 +104,15 @@ read_file() {
     end_answer
 }
 
+# Runs the list of the example $1 with the words $2. Its answer is in the file beside it.
+run_example() {
+    file=$root/examples/$1.tokens
+    title='as in the file beside it'
+    answer=$(cat "$root/examples/$1.out")$'\n'
+    cp "$file" "$folder/list"
+    run "$2" 0
+}
+
 files=("$root"/tests/cases/*.txt)
 case ${1:-} in
 '' | *.txt) take_built_program ;;
@@ -117,5 +126,6 @@ esac
 set -f # no globbing: the words of a run are only split at blanks
 
 for file in "${files[@]}"; do read_file; done
+[ $# != 0 ] || run_example modules 'script options=255'
 echo "$passed passed, $failed failed"
 [ "$failed" = 0 ]

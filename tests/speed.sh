@@ -1,5 +1,5 @@
 #!/usr/bin/env bash
-# Prints how many microseconds a token takes, in scripts of 10,000, 100,000 and 1,000,000 tokens of seven kinds, for
+# Prints how many microseconds a token takes, in scripts of 10,000, 100,000 and 1,000,000 tokens of eight kinds, for
 # the program and for another one that is given, run in turn. It is no part of the gate. It fails if a token of the
 # longest script takes the program more than twice the time of one of the shortest.
 #
@@ -7,7 +7,8 @@
 #
 # Without PROGRAM it runs the one in crates/rhai_parse/out, which `rt run` in crates/rhai_parse built last. Each list
 # ends with one token too many, so that nothing is printed but the refusal; the time is that of the whole run, the
-# shortest of several. A definition looks through the slots of its block, so `variables` has 200 of them in each block.
+# shortest of several. A definition looks through the slots of its block, so `variables` has 200 of them in each block;
+# a path looks through the imports, so `modules` has 200 of these in each block.
 set -u
 export LC_ALL=C
 
@@ -31,6 +32,14 @@ make_list() {
                     put("sym {")
                     for (i = 0; i < 200; i++) {
                         put("sym let"); put("id v" i + 1); put("sym ="); put("id v" i); put("sym ;")
+                    }
+                    put("sym }")
+                }
+                if (kind == "modules") {
+                    put("sym {")
+                    for (i = 0; i < 200; i++) {
+                        put("sym import"); put("int 1"); put("sym as"); put("id m" i + 1); put("sym ;")
+                        put("id m" i); put("sym ::"); put("id x"); put("sym ;")
                     }
                     put("sym }")
                 }
@@ -83,7 +92,7 @@ time_of() {
 printf '%-12s %9s' kind tokens
 for program in "${programs[@]}"; do printf '  %12s' "${program##*/}"; done
 echo
-for kind in statements variables blocks conditions loops lists arms; do
+for kind in statements variables modules blocks conditions loops lists arms; do
     for tokens in 10000 100000 1000000; do
         make_list "$kind" "$tokens" >"$folder/list"
         count=$(($(wc -l <"$folder/list") - 1))

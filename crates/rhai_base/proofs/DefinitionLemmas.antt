@@ -5,8 +5,8 @@ use Rattle.std.specs.Rc.{rc_str_bytes}
 use Rattle.std.specs.declared.alloc.Global.{Global}
 use Rattle.std.specs.declared.rc.RcStr.{RcStr}
 use Rattle.rhai_lower.specs.Texts.{Text}
-use Rattle.rhai_lower.specs.Slots.{SlotValue, with_constant, with_slot}
-use Rattle.rhai_grammar.specs.Definitions.{define, define_at, is_exported, is_reusable, reused, reused_at}
+use Rattle.rhai_lower.specs.Slots.{SlotValue, with_alias, with_constant, with_slot}
+use Rattle.rhai_grammar.specs.Definitions.{define, define_at, export_at, is_exported, is_in_block, is_reusable, reused, reused_at}
 use Rattle.rhai_grammar.specs.Slots.{IsLatest, number}
 use Rattle.rhai_base.proofs.FindLemmas.{latest-number}
 
@@ -56,3 +56,17 @@ pub defined_new : (block : ℕ) (name : Text) (constant : Bool) (slots : List Sl
 defined_new block name constant slots e = ap (λ o. define_at o name constant slots) e
 
 pub ruleset defining = (reused_inside, defined_again, defined_new)
+
+-- what an export changes, by the number of the name
+pub exported_none : (block : ℕ) (alias name : Text) (slots : List SlotValue) → None ≡ number name slots → slots ≡ export_at block alias slots (number name slots)
+exported_none block alias name slots e = ap (export_at block alias slots) e
+
+pub exported_outside : (block : ℕ) (alias name : Text) (slots : List SlotValue) (n : ℕ) → Some n ≡ number name slots → is_in_block block slots n ≡ false → slots ≡ export_at block alias slots (number name slots)
+exported_outside block alias name slots n e h =
+    sym (ap (λ b. if b then with_alias slots (length slots - n) alias else slots) h) ∙ ap (export_at block alias slots) e
+
+pub exported_inside : (block : ℕ) (alias name : Text) (slots : List SlotValue) (n : ℕ) → Some n ≡ number name slots → is_in_block block slots n ≡ true → with_alias slots (length slots - n) alias ≡ export_at block alias slots (number name slots)
+exported_inside block alias name slots n e h =
+    sym (ap (λ b. if b then with_alias slots (length slots - n) alias else slots) h) ∙ ap (export_at block alias slots) e
+
+pub ruleset exporting = (number_inside, exported_none, exported_outside, exported_inside)

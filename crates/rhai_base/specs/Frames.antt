@@ -1,28 +1,62 @@
--- What a frame shows: the slots that are live in a block, how deep the block is, and which tokens its expressions may
--- have.
-use Rattle.std.specs.Prelude.{◌≡◌, ℕ, ◌+◌, ◌<◌, ◌^◌, List, [], Option, Some, None, length}
+-- What a frame shows: what is live in a block, how deep the block is, which tokens its expressions may have, and what
+-- is known around the script.
+use Rattle.std.specs.Prelude.{◌≡◌, ℕ, ◌+◌, ◌<◌, ◌^◌, List, [], Option, Some, None, length, map}
 use Rattle.std.specs.Borrow.{Bor}
+use Rattle.std.specs.Rc.{rc_str_bytes}
+use Rattle.std.specs.declared.alloc.Global.{Global}
+use Rattle.std.specs.declared.rc.RcStr.{RcStr}
 use Rattle.rhai_lower.specs.Slots.{SlotValue}
+use Rattle.rhai_lower.specs.Texts.{Text}
+use Rattle.rhai_grammar.specs.Contexts as context
 use Rattle.rhai_grammar.specs.Contexts.{Live}
 use Rattle.rhai_grammar.specs.declared.filter.ExprFilter.{ExprFilter}
+use Rattle.rhai_base.specs.declared.known.Known.{Known}
 
--- what is live, how many frames are around this one, and which tokens an expression may have
+abbrev pub known_variables : Option (Bor (List SlotValue)) → List SlotValue
+known_variables None = []
+known_variables (Some variables) = variables.now
+
+-- what the code knows around the script, as the definitions see it
+abbrev pub known_of : Known → context.Known
+known_of k = record {
+  variables = known_variables k.variables;
+  imports = map rc_str_bytes k.imports.now;
+  modules = map rc_str_bytes k.modules.now;
+}
+
+-- what is live, how many frames are around this one, which tokens an expression may have, and what is known around the
+-- script
 pub record FrameValue : Type 0 where
   pub live : Live
   pub depth : ℕ
   pub filter : ExprFilter
+  pub known : context.Known
+
+-- A frame is as deep as it was, its expressions may contain the same tokens, and the same is known.
+pub record SamePlace (old new : FrameValue) : Type 0 where
+  pub depth : new.depth ≡ old.depth
+  pub filter : new.filter ≡ old.filter
+  pub known : new.known ≡ old.known
 
 -- the slots of the frame around a frame, and of all frames around that one
 abbrev pub outer_slots : Option (Bor FrameValue) → List SlotValue
 outer_slots None = []
 outer_slots (Some outer) = outer.now.live.slots
 
+-- their imports
+abbrev pub outer_imports : Option (Bor FrameValue) → List Text
+outer_imports None = []
+outer_imports (Some outer) = outer.now.live.imports
+
 -- how many frames are around a frame
 abbrev pub outer_depth : Option (Bor FrameValue) → ℕ
 outer_depth None = 0
 outer_depth (Some outer) = outer.now.depth + 1
 
--- A frame knows how many slots are around it, and the number of all slots is a `usize`.
-pub record IsCounted (outer : Option (Bor FrameValue)) (below : ℕ) (stack : List SlotValue) : Type 0 where
+-- A frame knows how many slots and imports are around it, and the numbers of all slots and of all imports are `usize`.
+pub record IsCounted (outer : Option (Bor FrameValue)) (below : ℕ) (stack : List SlotValue) (above : ℕ)
+    (imports : List (RcStr Global)) : Type 0 where
   pub counted : below ≡ length (outer_slots outer)
   pub fits : below + length stack < 2 ^ 64
+  pub imported : above ≡ length (outer_imports outer)
+  pub few : above + length imports < 2 ^ 64

@@ -20,6 +20,10 @@ too_deep at = record { 0 = error.ExprTooDeep; 1 = at }
 abbrev pub no_loop : Position → ParseError
 no_loop at = record { 0 = error.LoopBreak; 1 = at }
 
+-- the error of an `export` below the global level
+abbrev pub no_export : Position → ParseError
+no_export at = record { 0 = error.WrongExport; 1 = at }
+
 -- A raise is possible and gives the settings one level deeper, at this position; or it is not possible and is refused
 -- at the old position.
 abbrev pub Raises : ParseSettings → Position → Result ParseSettings ParseError → Type 0

@@ -1,17 +1,23 @@
-//! The slots that are live in a block, and which tokens its expressions may contain.
+//! What is live in a block, and which tokens its expressions may contain.
 
-ghost use Rattle.std.specs.Prelude.{◌≡◌, ◌||◌, IfErr, IfOk, OnErr, OnOk, false, length, option_map, true};
+ghost use Rattle.std.specs.Prelude.{◌≡◌, ◌||◌, IfErr, IfOk, OnOk, codes, false, length, map, not, option_map, true};
+ghost use Rattle.std.specs.Option.{is_some};
 ghost use Rattle.std.specs.Int.NonZero.{non_zero_usize_get};
 ghost use Rattle.std.specs.Rc.{rc_str_bytes};
 ghost use Rattle.rhai_grammar.specs.Causes.{MemoryIsNowhere, VariableExists, is_for_memory, refusal, refusal_of};
 ghost use Rattle.rhai_grammar.specs.Contexts.{in_block};
-ghost use Rattle.rhai_grammar.specs.Definitions.{declared, defined, is_none, reused};
+ghost use Rattle.rhai_grammar.specs.Definitions.{declared, defined, exported, imported, is_none, reused};
+ghost use Rattle.rhai_grammar.specs.Imports.{is_among, module_number};
 ghost use Rattle.rhai_grammar.specs.Slots.{number};
 ghost use Rattle.rhai_grammar.specs.Targets.{is_constant_at};
 ghost use Rattle.rhai_grammar.specs.declared.filter.ExprFilter.TheVariants.{AllButPipe};
+ghost use Rattle.rhai_lower.specs.Slots.{is_declared};
+ghost use Rattle.rhai_lower.specs.Texts.{same_text};
+ghost use Rattle.rhai_base.specs.Frames.{SamePlace, known_of};
 
-use crate::lookup::place_of;
-use crate::slots::define;
+use crate::known::Known;
+use crate::lookup::{find_import, place_of};
+use crate::slots::{define, export};
 use rhai_grammar::{ExprFilter, ParseError, ParseErrorType, ParseResult};
 use rhai_lower::{Position, Scope};
 use std::alloc::{AllocError, Global};
@@ -19,9 +25,10 @@ use std::marker::Model;
 use std::num::NonZeroUsize;
 use std::rc::RcStr;
 
-/// The slots that are live in a block: those of the frame around it, and after them those that the block defines. A
-/// slot's number counts from 1 at the latest slot of all. A frame also knows which tokens the expressions in it may
-/// contain: in a case of a `switch`, and in all blocks inside it, that is every token but `|`.
+/// What is live in a block: the slots and the imports of the frame around it, and after them those of the block. A
+/// slot's number counts from 1 at the latest slot of all, and so does an import's. A frame also knows which tokens the
+/// expressions in it may contain: in a case of a `switch`, and in all blocks inside it, that is every token but `|`.
+/// And it knows what is known around the script.
 #[derive(Drop)]
 pub struct Frame<'p> {
     // The frame of the block around this one.
@@ -32,23 +39,35 @@ pub struct Frame<'p> {
     stack: Scope,
     // The number of slots of `stack` that lie before the block: 0 in an inner frame.
     block: usize,
+    // The number of imports of all frames around this one.
+    above: usize,
+    // The names of the imports of this block.
+    imports: Vec<RcStr>,
     // Which tokens the expressions in this block may contain.
     filter: ExprFilter,
+    // What is known around the script.
+    known: Known<'p>,
 }
 
 impl<'p> Model for Frame<'p> {
-    ghost use Rattle.std.specs.Prelude.{◌++◌, ◌+◌, length};
-    ghost use Rattle.rhai_base.specs.Frames.{FrameValue, IsCounted, outer_slots, outer_depth};
+    ghost use Rattle.std.specs.Prelude.{◌++◌, ◌+◌, length, map};
+    ghost use Rattle.std.specs.Rc.{rc_str_bytes};
+    ghost use Rattle.rhai_base.specs.Frames.{FrameValue, IsCounted, known_of, outer_depth, outer_imports, outer_slots};
 
     ghost Value = { FrameValue };
 
     ghost view = { λ f. record {
-      live = record { slots = outer_slots f.outer ++ f.stack; block = length (outer_slots f.outer) + f.block };
+      live = record {
+        slots = outer_slots f.outer ++ f.stack;
+        block = length (outer_slots f.outer) + f.block;
+        imports = outer_imports f.outer ++ map rc_str_bytes f.imports.items;
+      };
       depth = outer_depth f.outer;
       filter = f.filter;
+      known = known_of f.known;
     } };
 
-    ghost invariant = { λ f. IsCounted f.outer f.below f.stack };
+    ghost invariant = { λ f. IsCounted f.outer f.below f.stack f.above f.imports.items };
 
     ghost size = { λ v. v.depth };
 
@@ -58,35 +77,53 @@ impl<'p> Model for Frame<'p> {
 }
 
 impl<'p> Frame<'p> {
-    /// The outermost frame, of a block that begins after the oldest `block` slots of `stack`. Its expressions may contain
-    /// the tokens that `filter` lets pass. Does not allocate.
-    pub fn new(stack: Scope, block: usize, filter: ExprFilter) -> Frame<'p>
-        ensures { result ≡ record { live = record { slots = stack; block = block }; depth = 0; filter = filter } }
+    /// The outermost frame, of a block that begins after the oldest `block` slots of `stack` and after all of
+    /// `imports`. Its expressions may contain the tokens that `filter` lets pass. `known` is what is known around the
+    /// script. Does not allocate.
+    pub fn new(
+        stack: Scope,
+        block: usize,
+        imports: Vec<RcStr>,
+        filter: ExprFilter,
+        known: Known<'p>,
+    ) -> Frame<'p>
+        ensures { result ≡ record {
+          live = record { slots = stack; block = block; imports = map rc_str_bytes imports.items };
+          depth = 0;
+          filter = filter;
+          known = known_of known.entry;
+        } }
     {
         let below = 0;
+        let above = 0;
         Frame {
             outer: None,
             below,
             stack,
             block,
+            above,
+            imports,
             filter,
+            known,
         }
     }
 
-    /// The frame of a block inside this one, which begins after all slots that are live here. Its expressions may
-    /// contain the same tokens as those of this one. Does not allocate.
+    /// The frame of a block inside this one, which begins after all that is live here. Its expressions may contain the
+    /// same tokens as those of this one. Does not allocate.
     pub fn inner(&self, alloc: Global) -> Frame<'_>
         ensures live { result.live ≡ in_block self.now.live }
         ensures filter { result.filter ≡ self.now.filter }
+        ensures known { result.known ≡ self.now.known }
     {
         self.inner_with(alloc, self.filter)
     }
 
-    /// The frame of a case of a `switch`, whose slots are those that are live here. Its expressions, and those of the
-    /// blocks inside it, may contain every token except `|`. Does not allocate.
+    /// The frame of a case of a `switch`, in which the same is live as here. Its expressions, and those of the blocks
+    /// inside it, may contain every token except `|`. Does not allocate.
     pub fn in_case(&self, alloc: Global) -> Frame<'_>
         ensures live { result.live ≡ in_block self.now.live }
         ensures filter { result.filter ≡ AllButPipe }
+        ensures known { result.known ≡ self.now.known }
     {
         self.inner_with(alloc, ExprFilter::AllButPipe)
     }
@@ -95,13 +132,17 @@ impl<'p> Frame<'p> {
     fn inner_with(&self, alloc: Global, filter: ExprFilter) -> Frame<'_>
         ensures live { result.live ≡ in_block self.now.live }
         ensures filter { result.filter ≡ filter }
+        ensures known { result.known ≡ self.now.known }
     {
         Frame {
             outer: Some(self),
             below: self.len(),
             stack: Scope::new(alloc),
             block: 0,
+            above: self.import_count(),
+            imports: Vec::new(alloc),
             filter,
+            known: self.known,
         }
     }
 
@@ -112,12 +153,14 @@ impl<'p> Frame<'p> {
         self.filter
     }
 
-    /// The slots of the outermost frame; a caller has to prove that there is no frame around it. Does not allocate.
-    pub fn into_stack(self) -> Scope
+    /// The slots and the imports of the outermost frame; a caller has to prove that there is no frame around it. Does
+    /// not allocate.
+    pub fn into_parts(self) -> (Scope, Vec<RcStr>)
         requires { self.depth ≡ 0 }
-        ensures { result ≡ self.entry.live.slots }
+        ensures slots { result.0 ≡ self.entry.live.slots }
+        ensures imports { map rc_str_bytes result.1.items ≡ self.entry.live.imports }
     {
-        self.stack
+        (self.stack, self.imports)
     }
 
     /// The number of the latest slot of the variable `name`, counted from 1 at the latest slot of all; none if no slot
@@ -173,8 +216,7 @@ impl<'p> Frame<'p> {
         ensures number { IfOk result (λ number. option_map non_zero_usize_get number
             ≡ reused self.old.live.block (rc_str_bytes name.now) self.old.live.slots) }
         ensures ok { OnOk result (self.new.live ≡ defined (rc_str_bytes name.now) constant self.old.live) }
-        ensures depth { self.new.depth ≡ self.old.depth }
-        ensures filter { self.new.filter ≡ self.old.filter }
+        ensures place { SamePlace self.old self.new }
     {
         if self.len() == usize::MAX {
             return Err(AllocError);
@@ -186,13 +228,82 @@ impl<'p> Frame<'p> {
     /// and of `catch` get one each. The error is that there is no memory for it.
     pub fn declare(&mut self, name: &RcStr) -> Result<(), AllocError>
         ensures ok { OnOk result (self.new.live ≡ declared (rc_str_bytes name.now) self.old.live) }
-        ensures depth { self.new.depth ≡ self.old.depth }
-        ensures filter { self.new.filter ≡ self.old.filter }
+        ensures place { SamePlace self.old self.new }
     {
         if self.len() == usize::MAX {
             return Err(AllocError);
         }
         self.stack.push(name.clone()?, false)
+    }
+
+    /// Exports the variable `name` under the name `alias`: its latest slot has that as one more name, if the slot is in
+    /// the block. A slot before the block, or none, changes nothing.
+    ///
+    /// The error is that there is no memory for it.
+    pub fn export(&mut self, name: &RcStr, alias: &RcStr) -> Result<(), AllocError>
+        ensures ok { OnOk result
+            (self.new.live ≡ exported (rc_str_bytes name.now) (rc_str_bytes alias.now) self.old.live) }
+        ensures place { SamePlace self.old self.new }
+    {
+        export(&mut self.stack, self.block, name, alias)
+    }
+
+    /// Adds an import under this name, or under the empty name if there is none. The error is that there is no memory
+    /// for it.
+    pub fn import(&mut self, alloc: Global, name: &Option<RcStr>) -> Result<(), AllocError>
+        ensures ok { OnOk result (self.new.live ≡ imported (option_map rc_str_bytes name.now) self.old.live) }
+        ensures place { SamePlace self.old self.new }
+    {
+        if self.import_count() == usize::MAX {
+            return Err(AllocError);
+        }
+        let name = match name {
+            Some(name) => name.clone()?,
+            None => RcStr::from_str(alloc, "")?,
+        };
+        self.imports.push(name)?;
+        Ok(())
+    }
+
+    /// The number of the latest import of the module `name`, counted from 1 at the latest import of all; none if there
+    /// is no import of the name. Does not allocate.
+    pub fn find_module(&self, name: &str) -> Option<NonZeroUsize>
+        ensures { option_map non_zero_usize_get result ≡ module_number name.now self.now.live.imports }
+    {
+        let count = self.import_count();
+        let mut frame = self;
+        loop {
+            if let Some(place) = find_import(&frame.imports, name) {
+                return NonZeroUsize::new(count - frame.import_count() + place.get());
+            }
+            let Some(outer) = frame.outer else {
+                return None;
+            };
+            frame = outer;
+        }
+    }
+
+    /// Whether the variable `name` may be used: under strict variables, which `strict` says, there is a slot of the
+    /// name, or the caller gives the script a variable of that name. Does not allocate.
+    pub fn may_use(&self, strict: bool, name: &str) -> bool
+        ensures { result ≡ (not strict || (is_some (number name.now self.now.live.slots)
+            || is_declared name.now self.now.known.variables)) }
+    {
+        !strict || self.place_of(name).is_some() || self.known.declares(name)
+    }
+
+    /// Whether a path may begin with `name`: under strict variables, which `strict` says, it is the name of an import,
+    /// here or around the script, `global`, or the name of one of the engine's modules. Does not allocate.
+    pub fn may_enter(&self, strict: bool, name: &str) -> bool
+        ensures { result ≡ (not strict || (is_some (module_number name.now self.now.live.imports)
+            || (is_among name.now self.now.known.imports
+            || (same_text name.now (codes "global") || is_among name.now self.now.known.modules)))) }
+    {
+        !strict
+            || self.find_module(name).is_some()
+            || self.known.has_import(name)
+            || name == "global"
+            || self.known.has_module(name)
     }
 
     /// Refuses a definition of a name that a slot of this frame or of one around it has, unless shadowing is allowed.
@@ -220,5 +331,12 @@ impl<'p> Frame<'p> {
         ensures { result ≡ length self.now.live.slots }
     {
         self.below + self.stack.len()
+    }
+
+    // The number of live imports.
+    fn import_count(&self) -> usize
+        ensures { result ≡ length self.now.live.imports }
+    {
+        self.above + self.imports.len()
     }
 }

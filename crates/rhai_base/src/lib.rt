@@ -1,12 +1,14 @@
-//! What the parsing functions share: the settings, the state, the slots that are live in a block, look-ups among the
-//! slots and imports, the library of functions, access to the next token, and what they ask of tokens without reading
-//! an expression (`leaves`).
+//! What the parsing functions share: the settings, the state, what is live in a block, look-ups among the slots and
+//! imports, the library of functions, access to the next token, and what they ask of tokens without reading an
+//! expression (`leaves`).
 #![tactic(auto)]
 
 pub mod closure_name;
 pub mod counts;
 pub mod cursor;
+pub mod flags;
 pub mod frame;
+pub mod known;
 pub mod leaves;
 pub mod library;
 pub mod lookup;
@@ -17,8 +19,10 @@ pub mod state;
 
 pub use closure_name::make_anonymous_fn;
 pub use counts::ParseCounts;
+pub use flags::{LangOptions, ParseSettingFlags};
 pub use frame::Frame;
+pub use known::Known;
 pub use library::{FnLib, add_function, closure_count, functions, has_function, is_function_name};
 pub use names::FnNames;
-pub use settings::{LangOptions, ParseSettingFlags, ParseSettings, RunSettings};
+pub use settings::{ParseSettings, RunSettings};
 pub use state::{ParseState, TokenizerControl, nest_peak};

@@ -47,8 +47,9 @@ pub fn place_of(slots: &Scope, name: &str) -> Option<NonZeroUsize>
     NonZeroUsize::new(place)
 }
 
-// The index of the latest import of this name, counted from 1 at the latest of all.
-fn find_import(imports: &[RcStr], name: &str) -> Option<NonZeroUsize>
+/// The index of the latest import of this name, counted from 1 at the latest of all; none if no import has the name. It
+/// does not allocate.
+pub(crate) fn find_import(imports: &[RcStr], name: &str) -> Option<NonZeroUsize>
     ensures { option_map (λ place. place.value) result ≡ module_number name.now (map rc_str_bytes imports.now) }
 {
     for i in (0..imports.len()).rev() {

@@ -32,7 +32,13 @@ use Rattle.rhai_grammar.specs.declared.role.Closing.TheVariants.{Brace, EndMark}
 use Rattle.rhai_grammar.specs.Laws.{FormsAreFair, IsFair, is_refused}
 use Rattle.rhai_grammar.specs.Literals.{KeyPlace, NoKey, is_key}
 use Rattle.rhai_grammar.specs.Trees.{argument_trees, base_tree, bracket_link, caught, caught_name, counter_of, loop_name, member_link, method_tree, primary_tree, tree}
-use Rattle.rhai_grammar.specs.Contexts.{in_case}
+use Rattle.rhai_grammar.specs.Contexts.{below_global, in_case}
+use Rattle.rhai_grammar.specs.Forms.{Alias, Path}
+use Rattle.rhai_grammar.specs.Modules.{is_qualified, is_scoped, module_fault, qualified}
+use Rattle.rhai_grammar.specs.Trees.{named_tree}
+use Rattle.rhai_lower.specs.Nodes.{Node}
+use Rattle.rhai_lower.specs.Texts.{Text}
+use Rattle.std.specs.Prelude.{List}
 use Rattle.rhai_grammar.specs.Forms.{Action, Arms, CaseGuard, Cases}
 use Rattle.rhai_grammar.specs.Switches.{Collected, arm_fault, nothing_collected, with_arm_collected}
 use Rattle.rhai_grammar.specs.Trees.{action_ends, action_tree, case_trees, guard_tree}
@@ -115,6 +121,19 @@ do_ends : (negated : Bool) → is_refused (verdict do_end_due (Sign (do_token ne
 do_ends true = refl
 do_ends false = refl
 
+path : (x : Path) (imports : List Text) (y : Node) (k : Demands) → IsFair k → IsFair (W.path x imports y k)
+path form.NoPath imports y k h = h
+path (form.Scoped colons name at rest) imports y k h = λ e.
+    (refl, (refl, path rest imports (qualified imports y name at) k h))
+
+banged : (q : Bool) (bang : Position) (k : Demands) → IsFair k → IsFair (W.banged q bang k)
+banged false bang k h = h
+banged true bang k h = h
+
+other_name : (x : Alias) (k : Demands) → IsFair k → IsFair (W.other_name x k)
+other_name form.NoAlias k h = h
+other_name (form.As as_at name at) k h = (refl, (refl, h))
+
 named : (x : LoopNames) (k : Demands) → IsFair k → IsFair (W.loop_names x k)
 named (form.Variable name at) k h = (refl, h)
 named (form.Counted opening name at comma counter counter_at closing) k h = (refl, (refl, (refl, (refl, (refl, h)))))
@@ -147,11 +166,18 @@ mutual
   primary (form.Zero range at) c w p k h = λ e. (operand_due c p range (range_begins c (beginning range) e), h)
 
   base : (x : Base) (c : Context) (w : Live) (p : OperandPlace) (k : Demands) → IsFair k → IsFair (W.base x c w p k)
-  base (form.Plain x) c w p k h = primary x c w p _ h
-  base (form.Call x None args) c w p k h =
-      primary x c w p _ (λ e. arguments args V.anything refl refl c w (position_of (primary_tree x w true)) k h)
-  base (form.Call x (Some bang) args) c w p k h =
-      primary x c w p _ (λ e. (refl, arguments args V.list_due refl refl c w (position_of (primary_tree x w true)) k h))
+  base (form.Plain x names) c w p k h = primary x c w p _ (path names w.imports (primary_tree x w (is_scoped names)) _ h)
+  base (form.Call x names None args) c w p k h =
+      let y = named_tree x names true w in
+      primary x c w p _ (path names w.imports (primary_tree x w true) _ (λ e.
+      arguments args V.anything refl refl c w (position_of y) _ (unfaulted (module_fault c w y) k h)))
+  base (form.Call x names (Some bang) args) c w p k h =
+      let y = named_tree x names true w in
+      primary x c w p _ (path names w.imports (primary_tree x w true) _ (λ e. (
+        refl,
+        banged (is_qualified y) bang _
+            (arguments args V.list_due refl refl c w (position_of y) _ (unfaulted (module_fault c w y) k h)),
+      )))
 
   links : (x : Links) (q : LinkSpot) (w : Live) (k : Demands) → IsFair k → IsFair (W.links x q w k)
   links form.NoLink q w k h = unfaulted (last_fault q.before) k h
@@ -171,12 +197,13 @@ mutual
       (anything dot, (anything name, (refl, arguments args V.list_due refl refl (level_up q.settings) w name_at _ (links rest (spot_after_dot q l) w k h))))
 
   operand : (x : Operand) (c : Context) (w : Live) (p : OperandPlace) (k : Demands) → IsFair k → IsFair (W.operand x c w p k)
-  operand (form.Linked x list) c w p k h = base x c w p _ (links list (spot_after_operand c (base_tree x w)) w k h)
+  operand (form.Linked x list) c w p k h =
+      base x c w p _ (links list (spot_after_operand c (base_tree x w)) w _ (unfaulted (module_fault c w (base_tree x w)) k h))
   operand (form.Signed sign at x) c w p k h = λ e.
       (operand_due c p sign (sign_begins c (beginning sign) e), operand x (level_up c) w place.Elsewhere _ h)
   operand (form.NoOperand token at) c w p k h = λ e.
       (unless (is_memory token) (V.operand_due c p token) (omitted_due c token (operand_start p token) e), h)
-  operand (form.Jump x) c w p k h = statement x c (in_block w) k h
+  operand (form.Jump x) c w p k h = statement x (below_global c) (in_block w) k h
 
   arguments : (x : Arguments) (others : Lexeme → Verdict) → is_refused (verdict others (Sign token.Unit)) ≡ false → is_refused (verdict others (Sign token.LeftParen)) ≡ false → (c : Context) (w : Live) (name : Position) (k : Demands) → IsFair k → IsFair (W.arguments x others c w name k)
   arguments (form.EmptyPair at) others pair list c w name k h = (pair, h)
@@ -235,6 +262,11 @@ mutual
   statement (form.EmptyStatement at) c w k h = (refl, h)
   statement (form.Expression x) c w k h = evaluation x (level_up c) w k h
   statement (form.Define constant at name name_at x) c w k h = (refl, (refl, initializer x (level_up c) w at k h))
+  statement (form.Import at f other) c w k h =
+      (refl, run f (outermost (level_up (level_up (level_up c))) w) _ (other_name other k h))
+  statement (form.Export at name name_at other) c w k h = (refl, (refl, other_name other k h))
+  statement (form.ExportDefined at constant keyword name name_at x) c w k h =
+      (refl, (anything (Sign (S.keyword_of constant)), (refl, initializer x (level_up (level_up c)) w keyword k h)))
   statement (form.Compound at x) c w k h = λ e.
       (anything (Sign (construct_token (kind_of x))), construct x (level_up (level_up c)) w at k h)
   statement (form.Return throws at x) c w k h = (anything (Sign (jump_token throws)), jump_value x c w at k h)
@@ -289,7 +321,7 @@ mutual
   case_guard (form.Guard at f) c w k h = (refl, guarded f c w k (run f _) h)
 
   action : (x : Action) (c : Context) (w : Live) (k : Demands) → IsFair k → IsFair (W.action x c w k)
-  action (form.Does f) c w k h = λ d. statement f c (in_block w) k h
+  action (form.Does f) c w k h = λ d. statement f (below_global c) (in_block w) k h
   action (form.Gives f) c w k h = λ d. run f (outermost (level_up c) w) _ h
 
   statements : (xs : Statements) (closing : Closing) (c : Context) (w : Live) (k : Demands) → IsFair k → IsFair (W.statements xs closing c w k)
@@ -300,7 +332,7 @@ mutual
   statements (form.Standing f rest) closing c w k h = statement f c w _ (λ d. statements rest closing c (after_statement f w) k h)
 
   block : (x : Body) (c : Context) (w : Live) (k : Demands) → IsFair k → IsFair (W.block x c w k)
-  block (form.Many fs closing) c w k h = λ d. statements fs Brace c (in_block w) _ (refl, h)
+  block (form.Many fs closing) c w k h = λ d. statements fs Brace (below_global c) (in_block w) _ (refl, h)
   block (form.Single x closing) c w k h = λ d. evaluation x c w _ (refl, h)
 
 whole : (c : Context) (w : Live) (f : Run) → IsFair (W.whole_expression f c w)

@@ -30,7 +30,13 @@ use Rattle.rhai_grammar.specs.Spots.{right_side, spot_after_bracket, spot_after_
 use Rattle.rhai_grammar.specs.Targets.{is_constant_use, target_fault}
 use Rattle.rhai_grammar.specs.Trees.{argument_trees, base_tree, bracket_link, member_link, method_tree, primary_tree}
 use Rattle.rhai_grammar.specs.Trees.{caught, caught_name, counter_of, loop_name, tree}
-use Rattle.rhai_grammar.specs.Contexts.{in_case}
+use Rattle.rhai_grammar.specs.Contexts.{below_global, in_case}
+use Rattle.rhai_grammar.specs.Forms.{Alias, Path}
+use Rattle.rhai_grammar.specs.Modules.{is_qualified, is_scoped, module_fault, qualified}
+use Rattle.rhai_grammar.specs.Spelling.{alias_spelling, path_spelling}
+use Rattle.rhai_grammar.specs.Trees.{named_tree}
+use Rattle.rhai_lower.specs.Nodes.{Node}
+use Rattle.rhai_lower.specs.Texts.{Text}
 use Rattle.rhai_grammar.specs.Forms.{Action, Arms, CaseGuard, Cases}
 use Rattle.rhai_grammar.specs.Spelling.{action_spelling, arm_spelling, case_spelling, comma_spelling, guard_spelling}
 use Rattle.rhai_grammar.specs.Switches.{Collected, arm_fault, nothing_collected, with_arm_collected}
@@ -114,6 +120,20 @@ iterated : (f : Run) (c : Context) (w : Live) {k : Demands}
     → Leads code code (spelling f) (W.as_iterated (W.run f) (tree f w) c w k) k
 iterated f c w h = next (all_of (on (expressed f c w (h _)) (unfaulted (iterated_fault (tree f w)) here)))
 
+path : (x : Path) (imports : List Text) (y : Node) (k : Demands) → Leads code code (path_spelling x) (W.path x imports y k) k
+path form.NoPath imports y k = next here
+path (form.Scoped colons name at rest) imports y k =
+    shape (λ e. tok (tok (path rest imports (qualified imports y name at) k)))
+
+banged : (q : Bool) (bang : Position) {ts : List Taken} {k j : Demands} → Leads code code ts k j
+    → Leads code code ts (W.banged q bang k) j
+banged false bang h = h
+banged true bang h = next h
+
+other_name : (x : Alias) (k : Demands) → Leads code code (alias_spelling x) (W.other_name x k) k
+other_name form.NoAlias k = next here
+other_name (form.As as_at name at) k = tok (tok here)
+
 named : (x : LoopNames) (k : Demands) → Leads code code (names_spelling x) (W.loop_names x k) k
 named (form.Variable name at) k = tok here
 named (form.Counted opening name at comma counter counter_at closing) k = tok (tok (tok (tok (test (tok here)))))
@@ -131,7 +151,7 @@ mutual
   pub primary : (x : Primary) (c : Context) (w : Live) (p : OperandPlace) (k : Demands)
       → Leads code code (primary_spelling x) (W.primary x c w p k) k
   primary (form.Value token at) c w p k = shape (λ e. tok here)
-  primary (form.Named name at) c w p k = tok here
+  primary (form.Named name at) c w p k = tok (next here)
   primary (form.Word word at) c w p k = tok (next here)
   primary (form.Group opening inside closing) c w p k = tok (test (on (expressed inside (level_up c) w (run inside _ _)) (tok here)))
   primary (form.Array opening list) c w p k = tok (test (elements list 0 (level_up c) w opening k))
@@ -143,13 +163,17 @@ mutual
 
   pub base : (x : Base) (c : Context) (w : Live) (p : OperandPlace) (k : Demands)
       → Leads code code (base_spelling x) (W.base x c w p k) k
-  base (form.Plain x) c w p k = all_of (on (primary x c w p _) (next here))
-  base (form.Call x None args) c w p k =
-      on (primary x c w p _)
-      (shape (λ e. arguments args V.anything c w (position_of (primary_tree x w true)) k))
-  base (form.Call x (Some bang) args) c w p k =
-      on (primary x c w p _)
-      (shape (λ e. tok (arguments args V.list_due c w (position_of (primary_tree x w true)) k)))
+  base (form.Plain x names) c w p k =
+      on (primary x c w p _) (all_of (on (path names w.imports (primary_tree x w (is_scoped names)) _) (next here)))
+  base (form.Call x names None args) c w p k =
+      let y = named_tree x names true w in
+      on (primary x c w p _) (on (path names w.imports (primary_tree x w true) _)
+      (shape (λ e. all_of (on (arguments args V.anything c w (position_of y) _) (unfaulted (module_fault c w y) here)))))
+  base (form.Call x names (Some bang) args) c w p k =
+      let y = named_tree x names true w in
+      on (primary x c w p _) (on (path names w.imports (primary_tree x w true) _)
+      (shape (λ e. tok (banged (is_qualified y) bang
+      (all_of (on (arguments args V.list_due c w (position_of y) _) (unfaulted (module_fault c w y) here)))))))
 
   pub links : (x : Links) (q : LinkSpot) (w : Live) (k : Demands) → Leads code code (link_spelling x) (W.links x q w k) k
   links form.NoLink q w k = next (unfaulted (last_fault q.before) here)
@@ -172,11 +196,12 @@ mutual
   pub operand : (x : Operand) (c : Context) (w : Live) (p : OperandPlace) (k : Demands)
       → Leads code code (operand_spelling x) (W.operand x c w p k) k
   operand (form.Linked x list) c w p k =
-      on (base x c w p _) (links list (spot_after_operand c (base_tree x w)) w k)
+      on (base x c w p _) (all_of (on (links list (spot_after_operand c (base_tree x w)) w _)
+      (unfaulted (module_fault c w (base_tree x w)) here)))
   operand (form.Signed sign at x) c w p k =
       shape (λ e. tok (test (all_of (on (operand x (level_up c) w place.Elsewhere _) (test here)))))
   operand (form.NoOperand token at) c w p k = shape (λ e. ahead (omitted_goes_on p token e) here)
-  operand (form.Jump x) c w p k = next (statement x c (in_block w) k)
+  operand (form.Jump x) c w p k = next (statement x (below_global c) (in_block w) k)
 
   pub arguments : (x : Arguments) (others : Lexeme → Verdict) (c : Context) (w : Live) (name : Position) (k : Demands)
       → Leads code code (argument_spelling x) (W.arguments x others c w name k) k
@@ -246,6 +271,11 @@ mutual
   statement (form.Return throws at x) c w k = tok (jump_value x c w at k)
   statement (form.Break at x) c w k = shape (λ e. tok (test (jump_value x c w at k)))
   statement (form.Continue at) c w k = shape (λ e. tok (test here))
+  statement (form.Import at f other) c w k =
+      tok (test (test (on (expressed f (level_up (level_up c)) w (run f _ _)) (other_name other k))))
+  statement (form.Export at name name_at other) c w k = tok (test (test (tok (other_name other k))))
+  statement (form.ExportDefined at constant keyword name name_at value) c w k =
+      tok (test (test (next (test (tok (tok (test (initializer value (level_up (level_up c)) w keyword k))))))))
 
   pub construct : (x : Construct) (c : Context) (w : Live) (at : Position) (k : Demands)
       → Leads code code (construct_spelling x) (W.construct x c w at k) k
@@ -299,7 +329,7 @@ mutual
 
   pub action : (x : Action) (c : Context) (w : Live) (k : Demands)
       → Leads code code (action_spelling x) (W.action x c w k) k
-  action (form.Does f) c w k = shape (λ e. next (statement f c (in_block w) k))
+  action (form.Does f) c w k = shape (λ e. next (statement f (below_global c) (in_block w) k))
   action (form.Gives f) c w k = shape (λ e. expressed f c w (run f _ _))
 
   pub statements : (xs : Statements) (closing : Closing) (c : Context) (w : Live) (k : Demands)
@@ -313,5 +343,5 @@ mutual
 
   pub block : {n : Mode} (x : Body) (c : Context) (w : Live) (k : Demands)
       → Leads code n (body_spelling x) (W.block x c w k) k
-  block (form.Many fs closing) c w k = shape (λ e. on (statements fs Brace c (in_block w) _) (tok here))
+  block (form.Many fs closing) c w k = shape (λ e. on (statements fs Brace (below_global c) (in_block w) _) (tok here))
   block (form.Single x closing) c w k = shape (λ e. on (evaluation x c w _) (tok here))

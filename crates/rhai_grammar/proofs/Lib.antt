@@ -7,6 +7,7 @@ pub mod RowLemmas
 pub mod StatementRowLemmas
 pub mod StringRowLemmas
 pub mod ConstructRowLemmas
+pub mod ModuleRowLemmas
 pub mod StartLemmas
 pub mod SlotLemmas
 pub mod ChainLemmas

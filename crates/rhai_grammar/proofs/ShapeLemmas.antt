@@ -1,6 +1,6 @@
 -- Trees are equal up to positions if their forms are.
 use Rattle.std.proofs.Common.{◌≡◌, Bool, true, false, List, [], ◌∷◌, ◌++◌, refl, sym, ap, ◌∙◌, if◌then◌else◌}
-use Rattle.std.specs.Prelude.{Option, Some, None}
+use Rattle.std.specs.Prelude.{Option, Some, None, unwrap_or}
 use Rattle.std.specs.Option.{is_some}
 use Rattle.rhai_lower.specs.Texts.{Text}
 use Rattle.rhai_lower.specs.Positions.{nowhere}
@@ -14,7 +14,8 @@ use Rattle.rhai_grammar.specs.Chains.{Bracket, Chain, Dotted, Link, LinkKind, ch
 use Rattle.rhai_grammar.specs.Contexts.{Live, in_block}
 use Rattle.rhai_grammar.specs.Forms as form
 use Rattle.rhai_grammar.specs.Forms.{Action, Arguments, Arms, Base, Body, Branch, CaseGuard, Cases, Conditional, Construct, Elements, ExprStatement, Fields, Initializer, Items, JumpValue, Links, Operand, Primary, Run, Segments, Statement, Statements}
-use Rattle.rhai_grammar.specs.Definitions.{after_statement, catch_live, loop_live}
+use Rattle.rhai_grammar.specs.Definitions.{after_statement, alias_of, catch_live, exported, imported, loop_live}
+use Rattle.rhai_grammar.specs.Modules.{is_scoped, path_tree, qualified, root_of}
 use Rattle.rhai_grammar.specs.Interpolations.{with_text}
 use Rattle.rhai_grammar.specs.Laws.{TreesKeepShape}
 use Rattle.rhai_grammar.specs.Operators as O
@@ -31,7 +32,7 @@ use Rattle.rhai_grammar.specs.Signs.{affected, effect, plain_sign, signed}
 use Rattle.rhai_grammar.specs.Switches.{Collected, nothing_collected, switch_tree, with_arm_collected, with_default_collected}
 use Rattle.rhai_grammar.specs.Trees as T
 use Rattle.rhai_grammar.proofs.SwitchLemmas.{arm, collected_shape, default_arm}
-use Rattle.rhai_grammar.specs.Trees.{argument_trees, base_tree, call_tree, link_list, method_tree, name_of, node_count, operand_tree, primary_tree, tree, word_tree}
+use Rattle.rhai_grammar.specs.Trees.{argument_trees, base_tree, call_tree, link_list, method_tree, node_count, operand_tree, primary_tree, tree, word_tree}
 
 -- ---- operands
 
@@ -44,8 +45,8 @@ word : (t : Text) (b : Bool) (p : Position) → node_shape (if b then node.this 
 word t true p = refl
 word t false p = refl
 
-name : (n : Node) → name_of (node_shape n) ≡ name_of n
-name (node.unit p) = refl
+name : (n : Node) → T.named_by (node_shape n) ≡ shape.named_shape (T.named_by n)
+name (node.variable v p) = refl
 name _ = refl
 
 stands : (n : Node) → position_of (node_shape n) ≡ nowhere
@@ -65,6 +66,31 @@ call n b ns = let e = name n in let f = stands n in let g = count ns in cc
 
 method : (t : Text) (p : Position) (b : Bool) (ns : Nodes) → node_shape (method_tree t p b ns) ≡ method_tree t nowhere b (nodes_shape ns)
 method t p b ns = let g = count ns in cc
+
+-- ---- paths
+
+path_append : (a b : List (Text × Position)) → shape.path_shape (a ++ b) ≡ shape.path_shape a ++ shape.path_shape b
+path_append [] b = refl
+path_append (t ∷ a) b = let e = path_append a b in cc
+
+path_root : (path : List (Text × Position)) (t : Text) → root_of (shape.path_shape path) t ≡ root_of path t
+path_root [] t = refl
+path_root (root ∷ path) t = refl
+
+qualify : (imports : List Text) (n : Node) (t : Text) (p : Position) → node_shape (qualified imports n t p) ≡ qualified imports (node_shape n) t nowhere
+qualify imports (node.variable v q) t p =
+    let e = path_append v.path ((v.name, q) ∷ []) in let f = path_root v.path v.name in cc
+qualify imports _ t p = refl
+
+scoped : (names : form.Path) (imports : List Text) (n : Node) → node_shape (path_tree names imports n) ≡ path_tree (shape.scoped_shape names) imports (node_shape n)
+scoped form.NoPath imports n = refl
+scoped (form.Scoped colons t at rest) imports n =
+    scoped rest imports (qualified imports n t at)
+    ∙ ap (path_tree (shape.scoped_shape rest) imports) (qualify imports n t at)
+
+has_names : (names : form.Path) → is_scoped (shape.scoped_shape names) ≡ is_scoped names
+has_names form.NoPath = refl
+has_names (form.Scoped colons t at rest) = refl
 
 -- ---- signs and operators
 
@@ -185,6 +211,10 @@ with_texted (c ∷ t) at rest = refl
 texted : (t : Text) (at : Position) (rest : Nodes) → node_shape (node.interpolated (with_text t at rest) at) ≡ node.interpolated (with_text t nowhere (nodes_shape rest)) nowhere
 texted t at rest = ap (λ ns. node.interpolated ns nowhere) (with_texted t at rest)
 
+another : (x : form.Alias) → alias_of (shape.alias_shape x) ≡ alias_of x
+another form.NoAlias = refl
+another (form.As as_at t at) = refl
+
 live_after : (f : Statement) (w : Live) → after_statement (shape.written_shape f) w ≡ after_statement f w
 live_after (form.Define constant at text text_at x) w = refl
 live_after (form.EmptyStatement at) w = refl
@@ -193,6 +223,9 @@ live_after (form.Compound at x) w = refl
 live_after (form.Return throws at x) w = refl
 live_after (form.Break at x) w = refl
 live_after (form.Continue at) w = refl
+live_after (form.Import at f x) w = ap (λ o. imported o w) (another x)
+live_after (form.Export at t t_at x) w = ap (λ o. exported t (unwrap_or o t) w) (another x)
+live_after (form.ExportDefined at constant keyword t t_at x) w = refl
 
 named : (x : form.LoopNames) → T.loop_name (shape.names_shape x) ≡ T.loop_name x
 named (form.Variable t at) = refl
@@ -233,12 +266,15 @@ mutual
   primary (form.Zero range at) w called = refl
 
   base : (x : Base) (w : Live) → node_shape (base_tree x w) ≡ base_tree (shape.base_shape x) w
-  base (form.Plain x) w = primary x w false
-  base (form.Call x mark args) w =
-      let e = primary x w true in
+  base (form.Plain x names) w =
+      scoped names w.imports (primary_tree x w (is_scoped names))
+      ∙ ap (path_tree (shape.scoped_shape names) w.imports) (primary x w (is_scoped names))
+      ∙ ap (λ b. path_tree (shape.scoped_shape names) w.imports (primary_tree (shape.primary_shape x) w b)) (sym (has_names names))
+  base (form.Call x names mark args) w =
+      let e = scoped names w.imports (primary_tree x w true) ∙ ap (path_tree (shape.scoped_shape names) w.imports) (primary x w true) in
       let f = arguments args w in
       let g = bang mark in
-      call (primary_tree x w true) (is_some mark) (argument_trees args w) ∙ (cc)
+      call (T.named_tree x names true w) (is_some mark) (argument_trees args w) ∙ (cc)
 
   links : (x : Links) (w : Live) → link_shapes (link_list x w) ≡ link_list (shape.links_shape x) w
   links form.NoLink w = refl
@@ -313,6 +349,9 @@ mutual
   statement (form.Return throws at x) w = let e = jump x w in cc
   statement (form.Break at x) w = let e = jump x w in cc
   statement (form.Continue at) w = refl
+  statement (form.Import at f x) w = let e = run f w in let g = another x in cc
+  statement (form.Export at t t_at x) w = let g = another x in cc
+  statement (form.ExportDefined at constant keyword text text_at x) w = let e = initializer x w in cc
 
   construct : (x : Construct) (w : Live) (at : Position) → shape.statement_shape (T.construct_tree x w at) ≡ T.construct_tree (shape.construct_shape x) w nowhere
   construct (form.Block f) w at = let e = body at f w in cc

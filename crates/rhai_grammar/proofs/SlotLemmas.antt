@@ -1,16 +1,16 @@
 -- Which slot a name refers to, and what a definition does to the slots.
-use Rattle.std.proofs.Common.{◌≡◌, ◌∙◌, ◌⊎◌, inl, inr, ℕ, suc, zero, ◌+◌, ◌-◌, ◌<◌, ◌≤◌, cond, Bool, true, false, not, nat_lt, List, [], ◌∷◌, ◌++◌, Option, Some, None, codes, nat_eq, length, take, refl, sym, ap, subst, arith, if◌then◌else◌}
+use Rattle.std.proofs.Common.{◌≡◌, ◌∙◌, ◌⊎◌, inl, inr, ℕ, suc, zero, ◌+◌, ◌-◌, ◌<◌, ◌≤◌, cond, Bool, true, false, not, nat_lt, List, [], ◌∷◌, ◌++◌, Option, Some, None, unwrap_or, codes, nat_eq, length, take, refl, sym, ap, subst, arith, if◌then◌else◌}
 use Rattle.std.proofs.lemmas.Bool.{and_from, and_parts, eq-eqb, le-ltb, ltb-false, not-true}
-use Rattle.std.proofs.lemmas.List.{get_or-set_same, length-append, length-set, take-append-le, take-set-le, take_all}
+use Rattle.std.proofs.lemmas.List.{get_or-set_same, length-append, length-set, take-append-le, take-set-le, take-take, take_all}
 use Rattle.std.proofs.Math.Seq.{get_or-append_seam}
 use Rattle.std.specs.Cmp.Lexicographic as L
 use Rattle.std.specs.Option.{option_or}
 use Rattle.rhai_lower.specs.Texts.{Text, same_text}
 use Rattle.rhai_lower.specs.Names.{is_identifier}
-use Rattle.rhai_lower.specs.Slots.{SlotValue, fresh_slot, slot_at, with_constant, with_slot}
+use Rattle.rhai_lower.specs.Slots.{SlotValue, fresh_slot, slot_at, with_alias, with_constant, with_slot}
 use Rattle.rhai_lower.specs.declared.position.Position.{Position}
 use Rattle.rhai_grammar.specs.Contexts.{Live, in_block}
-use Rattle.rhai_grammar.specs.Definitions.{after_statement, after_statements, catch_live, define_at, is_exported, is_in_block, is_reusable, loop_live, reused, reused_at}
+use Rattle.rhai_grammar.specs.Definitions.{after_statement, after_statements, alias_of, catch_live, define, define_at, export_at, is_exported, is_in_block, is_reusable, loop_live, reused, reused_at}
 use Rattle.rhai_grammar.specs.Forms as form
 use Rattle.rhai_grammar.specs.Forms.{Statement, Statements}
 use Rattle.rhai_grammar.specs.SlotLaws.{IsDefined, IsReusable, NoSlot, NumberedSlot, Reuse, ScopesClose}
@@ -222,6 +222,43 @@ defined_keeps block name constant slots (Some place) e l =
     let new : SlotValue = record (slot_at slots i) { constant = constant } in
     (take-set-le block slots i new (reusable block name slots place e).inside, omega (arith, l, length-set slots i new))
 
+exported_keeps : (block : ℕ) (alias : Text) (slots : List SlotValue) (o : Option ℕ) → block ≤ length slots
+    → KeepsBelow block slots (export_at block alias slots o)
+exported_keeps block alias slots None l = (refl, l)
+exported_keeps block alias slots (Some place) l = by (is_in_block block slots place) refl
+  where
+    i : ℕ
+    i = length slots - place
+
+    new : SlotValue
+    new = record (slot_at slots i) { aliases = (slot_at slots i).aliases ++ alias ∷ [] }
+
+    by : (b : Bool) → is_in_block block slots place ≡ b → KeepsBelow block slots (if b then with_alias slots i alias else slots)
+    by false e = (refl, l)
+    by true e = (
+      take-set-le block slots i new (ltb-false i block (not-true (nat_lt i block) e)),
+      omega (arith, l, length-set slots i new),
+    )
+
+-- Texts begin with others.
+abbrev Extends : (old new : List Text) → Type 0
+Extends old new = (take (length old) new ≡ old) × (length old ≤ length new)
+
+extended : (names more : List Text) → Extends names (names ++ more)
+extended names more = (
+  take-append-le (length names) names more (omega arith) ∙ take_all (length names) names (omega arith),
+  omega (arith, length-append names more),
+)
+
+unextended : (names : List Text) → Extends names names
+unextended names = (take_all (length names) names (omega arith), omega arith)
+
+extends_on : (a b c : List Text) → Extends a b → Extends b c → Extends a c
+extends_on a b c h k = (
+  sym (take-take (length a) (length b) c h.1) ∙ ap (take (length a)) k.0 ∙ h.0,
+  omega (arith, h.1, k.1),
+)
+
 start_of : (f : Statement) (live : Live) → (after_statement f live).block ≡ live.block
 start_of (form.EmptyStatement at) live = refl
 start_of (form.Expression x) live = refl
@@ -230,6 +267,9 @@ start_of (form.Compound at x) live = refl
 start_of (form.Return throws at x) live = refl
 start_of (form.Break at x) live = refl
 start_of (form.Continue at) live = refl
+start_of (form.Import at source other) live = refl
+start_of (form.Export at name name_at other) live = refl
+start_of (form.ExportDefined at constant keyword name name_at value) live = refl
 
 starts : (fs : Statements) (live : Live) → (after_statements fs live).block ≡ live.block
 starts form.NoStatement live = refl
@@ -247,6 +287,35 @@ keeps (form.Compound at x) live l = (refl, l)
 keeps (form.Return throws at x) live l = (refl, l)
 keeps (form.Break at x) live l = (refl, l)
 keeps (form.Continue at) live l = (refl, l)
+keeps (form.Import at source other) live l = (refl, l)
+keeps (form.Export at name name_at other) live l = exported_keeps live.block (unwrap_or (alias_of other) name) live.slots (number name live.slots) l
+keeps (form.ExportDefined at constant keyword name name_at value) live l =
+    let slots = define live.block name constant live.slots in
+    let first = defined_keeps live.block name constant live.slots (reused live.block name live.slots) refl l in
+    let second = exported_keeps live.block name slots (number name slots) first.1 in
+    (second.0 ∙ first.0, second.1)
+
+imports_after : (f : Statement) (live : Live) → Extends live.imports (after_statement f live).imports
+imports_after (form.Import at source other) live = extended live.imports (unwrap_or (alias_of other) [] ∷ [])
+imports_after (form.EmptyStatement at) live = unextended live.imports
+imports_after (form.Expression x) live = unextended live.imports
+imports_after (form.Define constant at name name_at value) live = unextended live.imports
+imports_after (form.Compound at x) live = unextended live.imports
+imports_after (form.Return throws at x) live = unextended live.imports
+imports_after (form.Break at x) live = unextended live.imports
+imports_after (form.Continue at) live = unextended live.imports
+imports_after (form.Export at name name_at other) live = unextended live.imports
+imports_after (form.ExportDefined at constant keyword name name_at value) live = unextended live.imports
+
+all_imports : (fs : Statements) (live : Live) → Extends live.imports (after_statements fs live).imports
+all_imports form.NoStatement live = unextended live.imports
+all_imports (form.LastStatement f) live = imports_after f live
+all_imports (form.Ended f semicolon rest) live =
+    let w = after_statement f live in
+    extends_on live.imports w.imports _ (imports_after f live) (all_imports rest w)
+all_imports (form.Standing f rest) live =
+    let w = after_statement f live in
+    extends_on live.imports w.imports _ (imports_after f live) (all_imports rest w)
 
 abbrev StatementsKeep : Statements → Live → Type 0
 StatementsKeep fs live =
@@ -304,6 +373,9 @@ scopes_close = record {
   before = λ fs live l. (all_keep fs live l).0;
   given_back = λ fs live.
       (all_keep fs (in_block live) (omega arith)).0 ∙ take_all (length live.slots) live.slots (omega arith);
+  arm = λ f live.
+      (keeps f (in_block live) (omega arith)).0 ∙ take_all (length live.slots) live.slots (omega arith);
+  imports = λ fs live. (all_imports fs live).0;
   loop = λ name counter live. (loop_block name counter live, loop_above name counter live);
   handler = λ name live. (catch_block name live, catch_above name live);
 }

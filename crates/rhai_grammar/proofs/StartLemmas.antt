@@ -67,9 +67,9 @@ primary (form.CompoundValue at x) c w k s t m = next_is c s (Sign (construct_tok
 primary (form.Zero range at) c w k s t m = next_is c s range at m.1.0 (range_begins c (beginning range) m.0)
 
 base : (x : Base) (c : Context) (w : Live) (k : Demands) (s t : Point) → Met (W.base x c w Elsewhere k) s t → starts c (next_at code s).lexeme ≡ true
-base (form.Plain x) c w k s t m = primary x c w _ s t m
-base (form.Call x None args) c w k s t m = primary x c w _ s t m
-base (form.Call x (Some bang) args) c w k s t m = primary x c w _ s t m
+base (form.Plain x names) c w k s t m = primary x c w _ s t m
+base (form.Call x names None args) c w k s t m = primary x c w _ s t m
+base (form.Call x names (Some bang) args) c w k s t m = primary x c w _ s t m
 
 no_jump : {A : Type 0} (b : Bool) → (if b then Otherwise else Otherwise) ≡ Fine → A
 no_jump true e = absurd cc
@@ -116,7 +116,7 @@ begun_by : (c : Context) (w : Live) (l : Lexeme) (f : Run) (ls : List Lexeme) �
 begun_by c w l f ls m = inr (f, unread (l ∷ ls), after (l ∷ ls) (unread (l ∷ ls)), refl, m)
 
 abbrev plain : Primary → Run
-plain x = form.Just (form.Linked (form.Plain x) form.NoLink)
+plain x = form.Just (form.Linked (form.Plain x form.NoPath) form.NoLink)
 
 abbrev value : Lexeme → Run
 value l = plain (form.Value l here)
@@ -125,7 +125,7 @@ abbrev one : Lexeme
 one = Integer (pos 1)
 
 abbrev signed : Lexeme → Run
-signed l = form.Just (form.Signed l here (form.Linked (form.Plain (form.Value one here)) form.NoLink))
+signed l = form.Just (form.Signed l here (form.Linked (form.Plain (form.Value one here) form.NoPath) form.NoLink))
 
 abbrev range : Lexeme → Run
 range l = form.Binary l here (plain (form.Zero l here)) (value one)
@@ -138,36 +138,36 @@ abbrev many : Body
 many = form.Many form.NoStatement here
 
 block : (c : Context) (w : Live) (b : Bool) → has_single_blocks c ≡ b → has_block_values c ≡ true → Starts (unlimited c) w (Sign token.LeftBrace)
-block c w true e h = begun_by c w (Sign token.LeftBrace) (plain (form.CompoundValue here (form.Block single))) (one ∷ Sign token.RightBrace ∷ []) (refl, (h, (refl, (refl, (refl, (e, (refl, (refl, (refl, (refl, (refl, (refl, (refl, (refl, (refl, (refl, (refl, (refl, (refl, refl)))))))))))))))))))
-block c w false e h = begun_by c w (Sign token.LeftBrace) (plain (form.CompoundValue here (form.Block many))) (Sign token.RightBrace ∷ []) (refl, (h, (refl, (refl, (refl, (ap not e, (refl, (refl, (refl, (refl, (refl, (refl, refl))))))))))))
+block c w true e h = begun_by c w (Sign token.LeftBrace) (plain (form.CompoundValue here (form.Block single))) (one ∷ Sign token.RightBrace ∷ []) (refl, (h, (refl, (refl, (refl, (e, (refl, (refl, (refl, (refl, (refl, (refl, (refl, (refl, (refl, (refl, (refl, (refl, (refl, (refl, (refl, refl)))))))))))))))))))))
+block c w false e h = begun_by c w (Sign token.LeftBrace) (plain (form.CompoundValue here (form.Block many))) (Sign token.RightBrace ∷ []) (refl, (h, (refl, (refl, (refl, (ap not e, (refl, (refl, (refl, (refl, (refl, (refl, (refl, refl)))))))))))))
 
 -- the other constructs
 abbrev true_value : Run
 true_value = value (Sign token.True)
 
 if_begins : (c : Context) (w : Live) (b : Bool) → has_single_blocks c ≡ b → has_if_values c ≡ true → Starts (unlimited c) w (Sign token.If)
-if_begins c w true e h = begun_by c w (Sign token.If) (plain (form.CompoundValue here (form.If (form.Guarded true_value here single form.NoElse)))) (Sign token.True ∷ Sign token.LeftBrace ∷ one ∷ Sign token.RightBrace ∷ []) (refl, (h, (refl, (refl, (refl, (refl, (refl, (refl, (refl, (refl, (refl, (refl, (refl, (refl, (refl, (refl, (e, (refl, (refl, (refl, (refl, (refl, (refl, (refl, (refl, (refl, (refl, (refl, (refl, (refl, (refl, refl)))))))))))))))))))))))))))))))
-if_begins c w false e h = begun_by c w (Sign token.If) (plain (form.CompoundValue here (form.If (form.Guarded true_value here many form.NoElse)))) (Sign token.True ∷ Sign token.LeftBrace ∷ Sign token.RightBrace ∷ []) (refl, (h, (refl, (refl, (refl, (refl, (refl, (refl, (refl, (refl, (refl, (refl, (refl, (refl, (refl, (refl, (ap not e, (refl, (refl, (refl, (refl, (refl, (refl, (refl, refl))))))))))))))))))))))))
+if_begins c w true e h = begun_by c w (Sign token.If) (plain (form.CompoundValue here (form.If (form.Guarded true_value here single form.NoElse)))) (Sign token.True ∷ Sign token.LeftBrace ∷ one ∷ Sign token.RightBrace ∷ []) (refl, (h, (refl, (refl, (refl, (refl, (refl, (refl, (refl, (refl, (refl, (refl, (refl, (refl, (refl, (refl, (refl, (e, (refl, (refl, (refl, (refl, (refl, (refl, (refl, (refl, (refl, (refl, (refl, (refl, (refl, (refl, (refl, (refl, refl))))))))))))))))))))))))))))))))))
+if_begins c w false e h = begun_by c w (Sign token.If) (plain (form.CompoundValue here (form.If (form.Guarded true_value here many form.NoElse)))) (Sign token.True ∷ Sign token.LeftBrace ∷ Sign token.RightBrace ∷ []) (refl, (h, (refl, (refl, (refl, (refl, (refl, (refl, (refl, (refl, (refl, (refl, (refl, (refl, (refl, (refl, (refl, (ap not e, (refl, (refl, (refl, (refl, (refl, (refl, (refl, (refl, refl))))))))))))))))))))))))))
 
 -- without arms
 switch_begins : (c : Context) (w : Live) → has_switch_values c ≡ true → Starts (unlimited c) w (Sign token.Switch)
-switch_begins c w h = begun_by c w (Sign token.Switch) (plain (form.CompoundValue here (form.Switch true_value here (form.NoArm here)))) (Sign token.True ∷ Sign token.LeftBrace ∷ Sign token.RightBrace ∷ []) (refl, (h, (refl, (refl, (refl, (refl, (refl, (refl, (refl, (refl, (refl, (refl, (refl, (refl, (refl, (refl, (refl, (refl, refl))))))))))))))))))
+switch_begins c w h = begun_by c w (Sign token.Switch) (plain (form.CompoundValue here (form.Switch true_value here (form.NoArm here)))) (Sign token.True ∷ Sign token.LeftBrace ∷ Sign token.RightBrace ∷ []) (refl, (h, (refl, (refl, (refl, (refl, (refl, (refl, (refl, (refl, (refl, (refl, (refl, (refl, (refl, (refl, (refl, (refl, (refl, (refl, refl))))))))))))))))))))
 
 while_begins : (c : Context) (w : Live) (b : Bool) → has_single_blocks (loop_body c) ≡ b → has_loop_values c ≡ true → Starts (unlimited c) w (Sign token.While)
-while_begins c w true e h = begun_by c w (Sign token.While) (plain (form.CompoundValue here (form.While true_value here single))) (Sign token.True ∷ Sign token.LeftBrace ∷ one ∷ Sign token.RightBrace ∷ []) (refl, (h, (refl, (refl, (refl, (refl, (refl, (refl, (refl, (refl, (refl, (refl, (refl, (refl, (refl, (refl, (e, (refl, (refl, (refl, (refl, (refl, (refl, (refl, (refl, (refl, (refl, (refl, (refl, (refl, refl))))))))))))))))))))))))))))))
-while_begins c w false e h = begun_by c w (Sign token.While) (plain (form.CompoundValue here (form.While true_value here many))) (Sign token.True ∷ Sign token.LeftBrace ∷ Sign token.RightBrace ∷ []) (refl, (h, (refl, (refl, (refl, (refl, (refl, (refl, (refl, (refl, (refl, (refl, (refl, (refl, (refl, (refl, (ap not e, (refl, (refl, (refl, (refl, (refl, (refl, refl)))))))))))))))))))))))
+while_begins c w true e h = begun_by c w (Sign token.While) (plain (form.CompoundValue here (form.While true_value here single))) (Sign token.True ∷ Sign token.LeftBrace ∷ one ∷ Sign token.RightBrace ∷ []) (refl, (h, (refl, (refl, (refl, (refl, (refl, (refl, (refl, (refl, (refl, (refl, (refl, (refl, (refl, (refl, (refl, (e, (refl, (refl, (refl, (refl, (refl, (refl, (refl, (refl, (refl, (refl, (refl, (refl, (refl, (refl, (refl, refl)))))))))))))))))))))))))))))))))
+while_begins c w false e h = begun_by c w (Sign token.While) (plain (form.CompoundValue here (form.While true_value here many))) (Sign token.True ∷ Sign token.LeftBrace ∷ Sign token.RightBrace ∷ []) (refl, (h, (refl, (refl, (refl, (refl, (refl, (refl, (refl, (refl, (refl, (refl, (refl, (refl, (refl, (refl, (refl, (ap not e, (refl, (refl, (refl, (refl, (refl, (refl, (refl, refl)))))))))))))))))))))))))
 
 loop_begins : (c : Context) (w : Live) (b : Bool) → has_single_blocks (loop_body c) ≡ b → has_loop_values c ≡ true → Starts (unlimited c) w (Sign token.Loop)
-loop_begins c w true e h = begun_by c w (Sign token.Loop) (plain (form.CompoundValue here (form.Loop here single))) (Sign token.LeftBrace ∷ one ∷ Sign token.RightBrace ∷ []) (refl, (h, (refl, (refl, (refl, (refl, (refl, (e, (refl, (refl, (refl, (refl, (refl, (refl, (refl, (refl, (refl, (refl, (refl, (refl, (refl, refl)))))))))))))))))))))
-loop_begins c w false e h = begun_by c w (Sign token.Loop) (plain (form.CompoundValue here (form.Loop here many))) (Sign token.LeftBrace ∷ Sign token.RightBrace ∷ []) (refl, (h, (refl, (refl, (refl, (refl, (refl, (ap not e, (refl, (refl, (refl, (refl, (refl, (refl, refl))))))))))))))
+loop_begins c w true e h = begun_by c w (Sign token.Loop) (plain (form.CompoundValue here (form.Loop here single))) (Sign token.LeftBrace ∷ one ∷ Sign token.RightBrace ∷ []) (refl, (h, (refl, (refl, (refl, (refl, (refl, (e, (refl, (refl, (refl, (refl, (refl, (refl, (refl, (refl, (refl, (refl, (refl, (refl, (refl, (refl, (refl, refl)))))))))))))))))))))))
+loop_begins c w false e h = begun_by c w (Sign token.Loop) (plain (form.CompoundValue here (form.Loop here many))) (Sign token.LeftBrace ∷ Sign token.RightBrace ∷ []) (refl, (h, (refl, (refl, (refl, (refl, (refl, (ap not e, (refl, (refl, (refl, (refl, (refl, (refl, (refl, refl)))))))))))))))
 
 do_begins : (c : Context) (w : Live) (b : Bool) → has_single_blocks (loop_body c) ≡ b → has_loop_values c ≡ true → Starts (unlimited c) w (Sign token.Do)
-do_begins c w true e h = begun_by c w (Sign token.Do) (plain (form.CompoundValue here (form.Do here single false here true_value))) (Sign token.LeftBrace ∷ one ∷ Sign token.RightBrace ∷ Sign token.While ∷ Sign token.True ∷ []) (refl, (h, (refl, (refl, (refl, (refl, (refl, (e, (refl, (refl, (refl, (refl, (refl, (refl, (refl, (refl, (refl, (refl, (refl, (refl, (refl, (refl, (refl, (refl, (refl, (refl, (refl, (refl, (refl, (refl, (refl, refl)))))))))))))))))))))))))))))))
-do_begins c w false e h = begun_by c w (Sign token.Do) (plain (form.CompoundValue here (form.Do here many false here true_value))) (Sign token.LeftBrace ∷ Sign token.RightBrace ∷ Sign token.While ∷ Sign token.True ∷ []) (refl, (h, (refl, (refl, (refl, (refl, (refl, (ap not e, (refl, (refl, (refl, (refl, (refl, (refl, (refl, (refl, (refl, (refl, (refl, (refl, (refl, (refl, (refl, (refl, refl))))))))))))))))))))))))
+do_begins c w true e h = begun_by c w (Sign token.Do) (plain (form.CompoundValue here (form.Do here single false here true_value))) (Sign token.LeftBrace ∷ one ∷ Sign token.RightBrace ∷ Sign token.While ∷ Sign token.True ∷ []) (refl, (h, (refl, (refl, (refl, (refl, (refl, (e, (refl, (refl, (refl, (refl, (refl, (refl, (refl, (refl, (refl, (refl, (refl, (refl, (refl, (refl, (refl, (refl, (refl, (refl, (refl, (refl, (refl, (refl, (refl, (refl, (refl, (refl, refl))))))))))))))))))))))))))))))))))
+do_begins c w false e h = begun_by c w (Sign token.Do) (plain (form.CompoundValue here (form.Do here many false here true_value))) (Sign token.LeftBrace ∷ Sign token.RightBrace ∷ Sign token.While ∷ Sign token.True ∷ []) (refl, (h, (refl, (refl, (refl, (refl, (refl, (ap not e, (refl, (refl, (refl, (refl, (refl, (refl, (refl, (refl, (refl, (refl, (refl, (refl, (refl, (refl, (refl, (refl, (refl, (refl, refl))))))))))))))))))))))))))
 
 for_begins : (c : Context) (w : Live) (b : Bool) → has_single_blocks (loop_body c) ≡ b → has_loop_values c ≡ true → Starts (unlimited c) w (Sign token.For)
-for_begins c w true e h = begun_by c w (Sign token.For) (plain (form.CompoundValue here (form.For (form.Variable [] here) here (value (String [])) here single))) (Name [] ∷ Sign token.In ∷ String [] ∷ Sign token.LeftBrace ∷ one ∷ Sign token.RightBrace ∷ []) (refl, (h, (refl, (refl, (refl, (refl, (refl, (refl, (refl, (refl, (refl, (refl, (refl, (refl, (refl, (refl, (refl, (e, (refl, (refl, (refl, (refl, (refl, (refl, (refl, (refl, (refl, (refl, (refl, (refl, (refl, refl)))))))))))))))))))))))))))))))
-for_begins c w false e h = begun_by c w (Sign token.For) (plain (form.CompoundValue here (form.For (form.Variable [] here) here (value (String [])) here many))) (Name [] ∷ Sign token.In ∷ String [] ∷ Sign token.LeftBrace ∷ Sign token.RightBrace ∷ []) (refl, (h, (refl, (refl, (refl, (refl, (refl, (refl, (refl, (refl, (refl, (refl, (refl, (refl, (refl, (refl, (refl, (ap not e, (refl, (refl, (refl, (refl, (refl, (refl, refl))))))))))))))))))))))))
+for_begins c w true e h = begun_by c w (Sign token.For) (plain (form.CompoundValue here (form.For (form.Variable [] here) here (value (String [])) here single))) (Name [] ∷ Sign token.In ∷ String [] ∷ Sign token.LeftBrace ∷ one ∷ Sign token.RightBrace ∷ []) (refl, (h, (refl, (refl, (refl, (refl, (refl, (refl, (refl, (refl, (refl, (refl, (refl, (refl, (refl, (refl, (refl, (refl, (e, (refl, (refl, (refl, (refl, (refl, (refl, (refl, (refl, (refl, (refl, (refl, (refl, (refl, (refl, (refl, refl))))))))))))))))))))))))))))))))))
+for_begins c w false e h = begun_by c w (Sign token.For) (plain (form.CompoundValue here (form.For (form.Variable [] here) here (value (String [])) here many))) (Name [] ∷ Sign token.In ∷ String [] ∷ Sign token.LeftBrace ∷ Sign token.RightBrace ∷ []) (refl, (h, (refl, (refl, (refl, (refl, (refl, (refl, (refl, (refl, (refl, (refl, (refl, (refl, (refl, (refl, (refl, (refl, (ap not e, (refl, (refl, (refl, (refl, (refl, (refl, (refl, refl))))))))))))))))))))))))))
 
 -- Only the last text is requested in text mode.
 abbrev filled : Text → Body → Run
@@ -177,16 +177,16 @@ filled_by : (c : Context) (w : Live) (a : Text) (body : Body) (ls : List Lexeme)
 filled_by c w a body ls m = inr (filled a body, unread (Interpolated a ∷ ls ++ (String [] ∷ [])), past text (after (Interpolated a ∷ ls) (unread (Interpolated a ∷ ls ++ (String [] ∷ [])))), refl, m)
 
 interpolated : (c : Context) (w : Live) (a : Text) (b : Bool) → has_single_blocks c ≡ b → Starts (unlimited c) w (Interpolated a)
-interpolated c w a true e = filled_by c w a single (Sign token.LeftBrace ∷ one ∷ Sign token.RightBrace ∷ []) (refl, (refl, (refl, (refl, (refl, (e, (refl, (refl, (refl, (refl, (refl, (refl, (refl, (refl, (refl, (refl, (refl, (refl, (refl, (refl, refl))))))))))))))))))))
-interpolated c w a false e = filled_by c w a many (Sign token.LeftBrace ∷ Sign token.RightBrace ∷ []) (refl, (refl, (refl, (refl, (refl, (ap not e, (refl, (refl, (refl, (refl, (refl, (refl, (refl, refl)))))))))))))
+interpolated c w a true e = filled_by c w a single (Sign token.LeftBrace ∷ one ∷ Sign token.RightBrace ∷ []) (refl, (refl, (refl, (refl, (refl, (e, (refl, (refl, (refl, (refl, (refl, (refl, (refl, (refl, (refl, (refl, (refl, (refl, (refl, (refl, (refl, (refl, refl))))))))))))))))))))))
+interpolated c w a false e = filled_by c w a many (Sign token.LeftBrace ∷ Sign token.RightBrace ∷ []) (refl, (refl, (refl, (refl, (refl, (ap not e, (refl, (refl, (refl, (refl, (refl, (refl, (refl, (refl, refl))))))))))))))
 
 sign : (c : Context) (w : Live) (l : Token) → starts (unlimited c) (Sign l) ≡ true → Starts (unlimited c) w (Sign l)
-sign c w token.Unit h = begun_by c w (Sign token.Unit) (value (Sign token.Unit)) [] (refl, (refl, (refl, (refl, (refl, (refl, (refl, refl)))))))
-sign c w token.True h = begun_by c w (Sign token.True) (value (Sign token.True)) [] (refl, (refl, (refl, (refl, (refl, (refl, (refl, refl)))))))
-sign c w token.False h = begun_by c w (Sign token.False) (value (Sign token.False)) [] (refl, (refl, (refl, (refl, (refl, (refl, (refl, refl)))))))
-sign c w token.LeftParen h = begun_by c w (Sign token.LeftParen) (plain (form.Group here (value one) here)) (one ∷ Sign token.RightParen ∷ []) (refl, (refl, (refl, (refl, (refl, (refl, (refl, (refl, (refl, (refl, (refl, (refl, (refl, (refl, (refl, refl)))))))))))))))
-sign c w token.LeftBracket h = begun_by c w (Sign token.LeftBracket) (plain (form.Array here (form.NoElement here))) (Sign token.RightBracket ∷ []) (refl, (refl, (refl, (refl, (refl, (refl, (refl, (refl, refl))))))))
-sign c w token.MapStart h = begun_by c w (Sign token.MapStart) (plain (form.Map here (form.NoField here))) (Sign token.RightBrace ∷ []) (refl, (refl, (refl, (refl, (refl, (refl, (refl, (refl, refl))))))))
+sign c w token.Unit h = begun_by c w (Sign token.Unit) (value (Sign token.Unit)) [] (refl, (refl, (refl, (refl, (refl, (refl, (refl, (refl, refl))))))))
+sign c w token.True h = begun_by c w (Sign token.True) (value (Sign token.True)) [] (refl, (refl, (refl, (refl, (refl, (refl, (refl, (refl, refl))))))))
+sign c w token.False h = begun_by c w (Sign token.False) (value (Sign token.False)) [] (refl, (refl, (refl, (refl, (refl, (refl, (refl, (refl, refl))))))))
+sign c w token.LeftParen h = begun_by c w (Sign token.LeftParen) (plain (form.Group here (value one) here)) (one ∷ Sign token.RightParen ∷ []) (refl, (refl, (refl, (refl, (refl, (refl, (refl, (refl, (refl, (refl, (refl, (refl, (refl, (refl, (refl, (refl, (refl, refl)))))))))))))))))
+sign c w token.LeftBracket h = begun_by c w (Sign token.LeftBracket) (plain (form.Array here (form.NoElement here))) (Sign token.RightBracket ∷ []) (refl, (refl, (refl, (refl, (refl, (refl, (refl, (refl, (refl, refl)))))))))
+sign c w token.MapStart h = begun_by c w (Sign token.MapStart) (plain (form.Map here (form.NoField here))) (Sign token.RightBrace ∷ []) (refl, (refl, (refl, (refl, (refl, (refl, (refl, (refl, (refl, refl)))))))))
 sign c w token.LeftBrace h = block c w (has_single_blocks c) refl h
 sign c w token.If h = if_begins c w (has_single_blocks c) refl h
 sign c w token.Switch h = switch_begins c w h
@@ -194,21 +194,23 @@ sign c w token.While h = while_begins c w (has_single_blocks (loop_body c)) refl
 sign c w token.Loop h = loop_begins c w (has_single_blocks (loop_body c)) refl h
 sign c w token.Do h = do_begins c w (has_single_blocks (loop_body c)) refl h
 sign c w token.For h = for_begins c w (has_single_blocks (loop_body c)) refl h
-sign c w token.Minus h = begun_by c w (Sign token.Minus) (signed (Sign token.Minus)) (one ∷ []) (refl, (refl, (refl, (refl, (refl, (refl, (refl, (refl, (refl, (refl, (refl, refl)))))))))))
-sign c w token.UnaryMinus h = begun_by c w (Sign token.UnaryMinus) (signed (Sign token.UnaryMinus)) (one ∷ []) (refl, (refl, (refl, (refl, (refl, (refl, (refl, (refl, (refl, (refl, (refl, refl)))))))))))
-sign c w token.Plus h = begun_by c w (Sign token.Plus) (signed (Sign token.Plus)) (one ∷ []) (refl, (refl, (refl, (refl, (refl, (refl, (refl, (refl, (refl, (refl, (refl, refl)))))))))))
-sign c w token.UnaryPlus h = begun_by c w (Sign token.UnaryPlus) (signed (Sign token.UnaryPlus)) (one ∷ []) (refl, (refl, (refl, (refl, (refl, (refl, (refl, (refl, (refl, (refl, (refl, refl)))))))))))
-sign c w token.Bang h = begun_by c w (Sign token.Bang) (signed (Sign token.Bang)) (one ∷ []) (refl, (refl, (refl, (refl, (refl, (refl, (refl, (refl, (refl, (refl, (refl, refl)))))))))))
-sign c w token.ExclusiveRange h = begun_by c w (Sign token.ExclusiveRange) (range (Sign token.ExclusiveRange)) (one ∷ []) (refl, (refl, (refl, (refl, (refl, (refl, (refl, (refl, (refl, (refl, (refl, (refl, (refl, (refl, (refl, (refl, (refl, (refl, (refl, (refl, refl))))))))))))))))))))
-sign c w token.InclusiveRange h = begun_by c w (Sign token.InclusiveRange) (range (Sign token.InclusiveRange)) (one ∷ []) (refl, (refl, (refl, (refl, (refl, (refl, (refl, (refl, (refl, (refl, (refl, (refl, (refl, (refl, (refl, (refl, (refl, (refl, (refl, (refl, refl))))))))))))))))))))
+sign c w token.Minus h = begun_by c w (Sign token.Minus) (signed (Sign token.Minus)) (one ∷ []) (refl, (refl, (refl, (refl, (refl, (refl, (refl, (refl, (refl, (refl, (refl, (refl, refl))))))))))))
+sign c w token.UnaryMinus h = begun_by c w (Sign token.UnaryMinus) (signed (Sign token.UnaryMinus)) (one ∷ []) (refl, (refl, (refl, (refl, (refl, (refl, (refl, (refl, (refl, (refl, (refl, (refl, refl))))))))))))
+sign c w token.Plus h = begun_by c w (Sign token.Plus) (signed (Sign token.Plus)) (one ∷ []) (refl, (refl, (refl, (refl, (refl, (refl, (refl, (refl, (refl, (refl, (refl, (refl, refl))))))))))))
+sign c w token.UnaryPlus h = begun_by c w (Sign token.UnaryPlus) (signed (Sign token.UnaryPlus)) (one ∷ []) (refl, (refl, (refl, (refl, (refl, (refl, (refl, (refl, (refl, (refl, (refl, (refl, refl))))))))))))
+sign c w token.Bang h = begun_by c w (Sign token.Bang) (signed (Sign token.Bang)) (one ∷ []) (refl, (refl, (refl, (refl, (refl, (refl, (refl, (refl, (refl, (refl, (refl, (refl, refl))))))))))))
+sign c w token.ExclusiveRange h = begun_by c w (Sign token.ExclusiveRange) (range (Sign token.ExclusiveRange)) (one ∷ []) (refl, (refl, (refl, (refl, (refl, (refl, (refl, (refl, (refl, (refl, (refl, (refl, (refl, (refl, (refl, (refl, (refl, (refl, (refl, (refl, (refl, (refl, refl))))))))))))))))))))))
+sign c w token.InclusiveRange h = begun_by c w (Sign token.InclusiveRange) (range (Sign token.InclusiveRange)) (one ∷ []) (refl, (refl, (refl, (refl, (refl, (refl, (refl, (refl, (refl, (refl, (refl, (refl, (refl, (refl, (refl, (refl, (refl, (refl, (refl, (refl, (refl, (refl, refl))))))))))))))))))))))
 sign c w _ h = absurd cc
 
 any : (c : Context) (w : Live) (l : Lexeme) → starts (unlimited c) l ≡ true → Starts (unlimited c) w l
-any c w (Integer n) h = begun_by c w (Integer n) (value (Integer n)) [] (refl, (refl, (refl, (refl, (refl, (refl, (refl, refl)))))))
-any c w (Character n) h = begun_by c w (Character n) (value (Character n)) [] (refl, (refl, (refl, (refl, (refl, (refl, (refl, refl)))))))
-any c w (String a) h = begun_by c w (String a) (value (String a)) [] (refl, (refl, (refl, (refl, (refl, (refl, (refl, refl)))))))
+any c w (Integer n) h = begun_by c w (Integer n) (value (Integer n)) [] (refl, (refl, (refl, (refl, (refl, (refl, (refl, (refl, refl))))))))
+any c w (Character n) h = begun_by c w (Character n) (value (Character n)) [] (refl, (refl, (refl, (refl, (refl, (refl, (refl, (refl, refl))))))))
+any c w (String a) h = begun_by c w (String a) (value (String a)) [] (refl, (refl, (refl, (refl, (refl, (refl, (refl, (refl, refl))))))))
 any c w (Interpolated a) h = interpolated c w a (has_single_blocks c) refl
-any c w (Name a) h = begun_by c w (Name a) (plain (form.Named a here)) [] (refl, (refl, (refl, (refl, (refl, (refl, refl))))))
+any c w (Name a) h =
+    begun_by c w (Name a) (form.Just (form.Linked (form.Call (form.Named a here) form.NoPath None (form.EmptyPair here)) form.NoLink)) (Sign token.Unit ∷ [])
+    (refl, (refl, (refl, (refl, (refl, (refl, (refl, (refl, (refl, refl)))))))))
 any c w (Reserved a) h = inl refl
 any c w (Faulty f) h = inl refl
 any c w (Comment a) h = absurd cc

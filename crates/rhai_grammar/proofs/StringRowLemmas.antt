@@ -8,17 +8,17 @@ pub string_row : StringRow
 unfolding one_more number
 string_row = record {
   tree_is = refl;
-  fits = (refl, (refl, (refl, (refl, (refl, (refl, (refl, (refl, (refl, (refl, (refl, (refl, (refl, (refl, (refl, (refl, (refl, (refl, (refl, (refl, (refl, (refl, (refl, (refl, (refl, refl)))))))))))))))))))))))));
-  missed = inr (refl, inr (refl, inr (refl, inr (refl, inr (refl, (refl, inr (refl, inr (refl, inr (refl, inr (refl, inr (refl, inr (refl, inr (refl, inr (refl, inr (refl, inr (refl, (refl, inr (refl, inr (refl, inl (refl, refl, refl))))))))))))))))))));
+  fits = (refl, (refl, (refl, (refl, (refl, (refl, (refl, (refl, (refl, (refl, (refl, (refl, (refl, (refl, (refl, (refl, (refl, (refl, (refl, (refl, (refl, (refl, (refl, (refl, (refl, (refl, (refl, (refl, refl))))))))))))))))))))))))))));
+  missed = inr (refl, inr (refl, inr (refl, inr (refl, inr (refl, (refl, inr (refl, inr (refl, inr (refl, inr (refl, inr (refl, inr (refl, inr (refl, inr (refl, inr (refl, inr (refl, inr (refl, inr (refl, (refl, inr (refl, inr (refl, inl (refl, refl, refl))))))))))))))))))))));
 }
 
 pub jump_row : JumpRow
 unfolding one_more number
 jump_row = record {
   tree_is = refl;
-  fits = (refl, (refl, (refl, (refl, (refl, (refl, (refl, (refl, (refl, (refl, (refl, (refl, (refl, (refl, (refl, (refl, (refl, (refl, (refl, (refl, (refl, (refl, (refl, (refl, (refl, (refl, (refl, refl)))))))))))))))))))))))))));
-  value_deep = inr (refl, inr (refl, inr (refl, inr (refl, inr (refl, (refl, (refl, (refl, inr (refl, inr (refl, inr (refl, inr (refl, inr (refl, inl (refl, refl, refl))))))))))))));
-  deep = inr (refl, inr (refl, inr (refl, inr (refl, inr (refl, (refl, (refl, (refl, inr (refl, inr (refl, inr (refl, inr (refl, inl (refl, refl, refl, refl)))))))))))));
+  fits = (refl, (refl, (refl, (refl, (refl, (refl, (refl, (refl, (refl, (refl, (refl, (refl, (refl, (refl, (refl, (refl, (refl, (refl, (refl, (refl, (refl, (refl, (refl, (refl, (refl, (refl, (refl, (refl, (refl, (refl, refl))))))))))))))))))))))))))))));
+  value_deep = inr (refl, inr (refl, inr (refl, inr (refl, inr (refl, inr (refl, inr (refl, (refl, (refl, (refl, inr (refl, inr (refl, inr (refl, inr (refl, inr (refl, inl (refl, refl, refl))))))))))))))));
+  deep = inr (refl, inr (refl, inr (refl, inr (refl, inr (refl, inr (refl, inr (refl, (refl, (refl, (refl, inr (refl, inr (refl, inr (refl, inr (refl, inl (refl, refl, refl, refl)))))))))))))));
 }
 
 pub return_row : ReturnRow

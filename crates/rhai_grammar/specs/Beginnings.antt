@@ -1,5 +1,5 @@
 -- What a token begins where an operand is expected, and what it does after a name, an operand and a dot.
-use Rattle.std.specs.Prelude.{◌≡◌, Bool, true, false, codes, if◌then◌else◌, refl}
+use Rattle.std.specs.Prelude.{◌≡◌, ◌||◌, Bool, true, false, codes, if◌then◌else◌, refl}
 use Rattle.rhai_lower.specs.Texts.{Text, same_text}
 use Rattle.rhai_lower.specs.Names.{reserved_as}
 use Rattle.rhai_lower.specs.Lexemes.{Lexeme, Integer, Character, String, Interpolated, Name, Reserved, Faulty, Sign}
@@ -11,7 +11,7 @@ use Rattle.rhai_lower.specs.declared.token.Token.TheVariants.{Unit, True, False,
 use Rattle.rhai_lower.specs.declared.token.Token.TheVariants.{RightBracket, QuestionBracket, Period, Elvis, MapStart}
 use Rattle.rhai_lower.specs.declared.token.Token.TheVariants.{LeftBrace, RightBrace, Comma, SemiColon, DoubleArrow}
 use Rattle.rhai_lower.specs.declared.token.Token.TheVariants.{Minus, UnaryMinus, Plus, UnaryPlus, Bang, ExclusiveRange}
-use Rattle.rhai_lower.specs.declared.token.Token.TheVariants.{InclusiveRange}
+use Rattle.rhai_lower.specs.declared.token.Token.TheVariants.{InclusiveRange, DoubleColon}
 use Rattle.rhai_lower.specs.declared.token.Token.TheVariants as token
 use Rattle.rhai_grammar.specs.Causes as cause
 use Rattle.rhai_grammar.specs.Causes.{Cause}
@@ -138,6 +138,19 @@ is_list _ = false
 
 abbrev pub calls : Lexeme → Bool
 calls l = is_call (calling l)
+
+abbrev pub sign_qualifies : Token → Bool
+sign_qualifies DoubleColon = true
+sign_qualifies _ = false
+
+-- `::`, which makes the name before it part of a path
+abbrev pub qualifies : Lexeme → Bool
+qualifies (Sign t) = sign_qualifies t
+qualifies _ = false
+
+-- The name before this token is no use of a variable: it is called, or part of a path.
+abbrev pub excludes_use : Lexeme → Bool
+excludes_use l = calls l || qualifies l
 
 abbrev pub is_this : Text → Bool
 is_this word = same_text word (codes "this")

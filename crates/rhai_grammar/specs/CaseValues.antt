@@ -48,7 +48,7 @@ range_over inclusive (one_node first (one_node last no_nodes)) =
     range_from inclusive (range_start first) (range_end last)
 range_over inclusive _ = None
 
--- the range that a node is, if it is one with fixed ends
+-- the range that a node is, if it is one of integers; the end of an open one is the greatest integer
 abbrev pub range_of : Node → Option IntegerRange
 range_of (call c ns p) = range_over (inclusion c.op_token) ns
 range_of _ = None

@@ -50,7 +50,8 @@ may_stand context construct.Do = allows_looping context
 may_stand context construct.For = allows_looping context
 may_stand context _ = true
 
--- A construct may be an operand: each kind by an option of its own; `try` never.
+-- A construct may be an operand: a block, `if` and `switch` by an option each; the loops by one that they share, where
+-- the engine lets scripts have loops; `try` never.
 abbrev pub may_be_value : Context → Construct → Bool
 may_be_value context construct.Block = has_block_values context
 may_be_value context construct.If = has_if_values context

@@ -1,6 +1,7 @@
 -- What the meaning of a form depends on: the settings and limits around it, and what was defined before it.
 use Rattle.std.specs.Prelude.{◌≡◌, ℕ, ◌==◌, Bool, true, false, ◌&&◌, not, List, [], length, nat_lt, refl}
 use Rattle.std.specs.Int.RustNames.{bit_and}
+use Rattle.rhai_lower.specs.Texts.{Text}
 use Rattle.rhai_lower.specs.Slots.{SlotValue}
 use Rattle.rhai_grammar.specs.Settings as settings
 use Rattle.rhai_grammar.specs.declared.filter.ExprFilter.{ExprFilter}
@@ -12,13 +13,25 @@ pub record Sizes : Type 0 where
   pub array : ℕ
   pub map : ℕ
 
+-- What is known before a script defines or imports anything: the variables that its caller gives it, the modules that
+-- were imported around it, and those that the engine has.
+pub record Known : Type 0 where
+  pub variables : List SlotValue
+  pub imports : List Text
+  pub modules : List Text
+
+-- nothing is known
+abbrev pub nothing_known : Known
+nothing_known = record { variables = []; imports = []; modules = [] }
+
 -- What a form passes on to its parts, with little but the level changed: the settings, the engine's options (as bits)
--- and limits, and which tokens an expression may have.
+-- and limits, which tokens an expression may have, and what is known.
 pub record Context : Type 0 where
   pub settings : Settings
   pub options : ℕ
   pub sizes : Sizes
   pub filter : ExprFilter
+  pub known : Known
 
 -- What was defined before a form, in written order, and is still live.
 pub record Live : Type 0 where
@@ -26,14 +39,28 @@ pub record Live : Type 0 where
   pub slots : List SlotValue
   -- the number of slots before the current block
   pub block : ℕ
+  -- the names of the imports, the oldest first; that of an import without a name is empty
+  pub imports : List Text
 
 -- nothing was defined
 abbrev pub nothing_live : Live
-nothing_live = record { slots = []; block = 0 }
+nothing_live = record { slots = []; block = 0; imports = [] }
 
 -- at the beginning of a block
 abbrev pub in_block : Live → Live
 in_block live = record live { block = length live.slots }
+
+-- at the global level of a script, where it may export
+abbrev pub is_global : Context → Bool
+is_global context = settings.at_global_level context.settings
+
+-- in a block, an arm of a `switch`, or a jump in place of an operand
+abbrev pub below_global : Context → Context
+below_global context = record context { settings = settings.below_global_level context.settings }
+
+-- variables and modules have to be known
+abbrev pub is_strict : Context → Bool
+is_strict context = settings.strict_names context.settings
 
 -- the engine lets a definition shadow a variable of the same name
 abbrev pub allows_shadowing : Context → Bool

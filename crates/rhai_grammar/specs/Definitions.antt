@@ -1,14 +1,14 @@
 -- What a definition does to the slots: the latest slot of its name is used again if it is in the current block and is
 -- not exported; otherwise there is a new slot.
-use Rattle.std.specs.Prelude.{◌≡◌, ℕ, ◌-◌, Bool, true, false, ◌&&◌, ◌||◌, not, List, [], ◌∷◌, Option, Some, None}
-use Rattle.std.specs.Prelude.{length, nat_lt, codes, refl}
+use Rattle.std.specs.Prelude.{◌≡◌, ℕ, ◌-◌, Bool, true, false, ◌&&◌, ◌||◌, ◌++◌, not, List, [], ◌∷◌, Option, Some, None}
+use Rattle.std.specs.Prelude.{length, nat_lt, unwrap_or, codes, refl}
 use Rattle.std.specs.Prelude.{if◌then◌else◌}
 use Rattle.rhai_lower.specs.Texts.{Text}
-use Rattle.rhai_lower.specs.Slots.{SlotValue, fresh_slot, with_slot, with_constant}
+use Rattle.rhai_lower.specs.Slots.{SlotValue, fresh_slot, with_slot, with_alias, with_constant}
 use Rattle.rhai_grammar.specs.Contexts.{Context, Live, allows_shadowing, in_block}
 use Rattle.rhai_grammar.specs.Slots.{number, slot_from_latest}
 use Rattle.rhai_grammar.specs.Forms as form
-use Rattle.rhai_grammar.specs.Forms.{Statement, Statements}
+use Rattle.rhai_grammar.specs.Forms.{Alias, Statement, Statements}
 
 -- a slot that is exported under some name
 abbrev pub is_exported : SlotValue → Bool
@@ -67,9 +67,38 @@ abbrev pub catch_live : Option Text → Live → Live
 catch_live None live = in_block live
 catch_live (Some name) live = declared name (in_block live)
 
+-- The slots after an export under a name: the slot with this number has it as one more name, if it is in the block.
+-- Exports stand at the global level, whose block has all slots where the state is fresh.
+abbrev pub export_at : (block : ℕ) → (alias : Text) → List SlotValue → Option ℕ → List SlotValue
+export_at block alias slots None = slots
+export_at block alias slots (Some place) =
+    if is_in_block block slots place then with_alias slots (length slots - place) alias else slots
+
+-- what is live after the export of a variable under a name: its latest slot is exported, if it has one
+abbrev pub exported : (name alias : Text) → Live → Live
+exported name alias live = record live { slots = export_at live.block alias live.slots (number name live.slots) }
+
+-- what is live after a definition that may be exported
+abbrev pub defined_as : (is_exported : Bool) → Text → (constant : Bool) → Live → Live
+defined_as false name constant live = defined name constant live
+defined_as true name constant live = exported name name (defined name constant live)
+
+-- what is live after an import; without a name it gets the empty one
+abbrev pub imported : Option Text → Live → Live
+imported name live = record live { imports = live.imports ++ unwrap_or name [] ∷ [] }
+
+-- the other name, if there is one
+abbrev pub alias_of : Alias → Option Text
+alias_of form.NoAlias = None
+alias_of (form.As as_at name at) = Some name
+
 -- what is live after a statement; a construct gives back what it found
 abbrev pub after_statement : Statement → Live → Live
 after_statement (form.Define constant at name name_at value) live = defined name constant live
+after_statement (form.Import at source other) live = imported (alias_of other) live
+after_statement (form.Export at name name_at other) live = exported name (unwrap_or (alias_of other) name) live
+after_statement (form.ExportDefined at constant keyword name name_at value) live =
+    defined_as true name constant live
 after_statement _ live = live
 
 -- what is live after statements
@@ -80,11 +109,12 @@ after_statements (form.Ended f semicolon rest) live = after_statements rest (aft
 after_statements (form.Standing f rest) live = after_statements rest (after_statement f live)
 
 -- `let x = 1; const x = 2;` has one slot, which is constant in the end. In a block of its own, the second definition
--- gets a new slot.
+-- gets a new slot; so it does after an export of the first.
 abbrev example_slots : List SlotValue
 example_slots = define 0 (codes "x") false []
 
 example : (define 0 (codes "x") true example_slots ≡ fresh_slot (codes "x") true ∷ [])
     × (reused 0 (codes "x") example_slots ≡ Some 1) × (reused 1 (codes "x") example_slots ≡ None)
+    × (reused 0 (codes "x") (export_at 0 (codes "y") example_slots (Some 1)) ≡ None)
 unfolding number
-example = (refl, refl, refl)
+example = (refl, refl, refl, refl)

@@ -43,45 +43,49 @@ mutual
 -- No form continues over a token for which the tokenizer ran out of memory: the parser refuses with `OutOfMemory`
 -- there, whatever is expected.
 abbrev pub verdict : (Lexeme → Verdict) → Lexeme → Verdict
-verdict v l = if is_memory l then Otherwise else v l
+verdict test lexeme = if is_memory lexeme then Otherwise else test lexeme
 
 -- All demands are met along the stream, from one point to another.
-abbrev pub Met : Demands → Point → Point → Type 0
-Met Nothing s t = s ≡ t
-Met (Tok m i others ▸ ds) s t = (next_at m s ≡ i) × Met ds (past m s) t
-Met (Ahead i others ▸ ds) s t = (next_at code s ≡ i) × Met ds s t
-Met (Next v ▸ ds) s t = (verdict v (next_at code s).lexeme ≡ Fine) × Met ds s t
-Met (Test holds e ▸ ds) s t = (holds ≡ true) × Met ds s t
-Met (Shape holds ▸ ds) s t = (holds ≡ true) × Met ds s t
-Met (Literally ds ▸ more) s t = (u : Point) × Met ds s u × Met more u t
+abbrev pub Met : Demands → (start end : Point) → Type 0
+Met Nothing start end = start ≡ end
+Met (Tok mode token others ▸ rest) start end = (next_at mode start ≡ token) × Met rest (past mode start) end
+Met (Ahead token others ▸ rest) start end = (next_at code start ≡ token) × Met rest start end
+Met (Next test ▸ rest) start end = (verdict test (next_at code start).lexeme ≡ Fine) × Met rest start end
+Met (Test holds why ▸ rest) start end = (holds ≡ true) × Met rest start end
+Met (Shape holds ▸ rest) start end = (holds ≡ true) × Met rest start end
+Met (Literally inner ▸ rest) start end = (between : Point) × Met inner start between × Met rest between end
 
 -- the error that follows from a verdict on a token at this position
 abbrev pub Refuses : Verdict → Position → Refusal → Type 0
-Refuses (Wrong cause) at e = e ≡ refusal cause at
-Refuses (Blames d) at e = e ≡ d
-Refuses Fine at e = ⊥
-Refuses Otherwise at e = ⊥
+Refuses (Wrong cause) at error = error ≡ refusal cause at
+Refuses (Blames why) at error = error ≡ why
+Refuses Fine at error = ⊥
+Refuses Otherwise at error = ⊥
 
 -- The verdict on the token at a point is this error.
 abbrev pub Refused : (Lexeme → Verdict) → Item → Refusal → Type 0
-Refused v i e = Refuses (verdict v i.lexeme) i.at e
+Refused test token error = Refuses (verdict test token.lexeme) token.at error
 
--- The demands are met from one point up to another, and there the next one is missed, with this error. The mode `n` is
--- the one in which the next token is requested there: text mode where a text is missed, otherwise code mode.
-abbrev pub Missed : Demands → Point → Refusal → (n : Mode) → Point → Type 0
-Missed Nothing s e n u = ⊥
-Missed (Tok m i others ▸ ds) s e n u =
-    (Refused others (next_at m s) e × (n ≡ m) × (u ≡ s)) ⊎ ((next_at m s ≡ i) × Missed ds (past m s) e n u)
-Missed (Ahead i others ▸ ds) s e n u =
-    (Refused others (next_at code s) e × (n ≡ code) × (u ≡ s)) ⊎ ((next_at code s ≡ i) × Missed ds s e n u)
-Missed (Next v ▸ ds) s e n u =
-    (Refused v (next_at code s) e × (n ≡ code) × (u ≡ s))
-    ⊎ ((verdict v (next_at code s).lexeme ≡ Fine) × Missed ds s e n u)
-Missed (Test holds d ▸ ds) s e n u =
-    ((holds ≡ false) × (e ≡ d) × (n ≡ code) × (u ≡ s)) ⊎ ((holds ≡ true) × Missed ds s e n u)
-Missed (Shape holds ▸ ds) s e n u = (holds ≡ true) × Missed ds s e n u
-Missed (Literally ds ▸ more) s e n u =
-    ((d : Refusal) × Missed ds s d n u × (e ≡ as_literal d)) ⊎ ((v : Point) × Met ds s v × Missed more v e n u)
+-- The demands are met from one point up to another, and there the next one is missed, with this error. The mode is the
+-- one in which the next token is requested there: text mode where a text is missed, otherwise code mode.
+abbrev pub Missed : Demands → (start : Point) → (error : Refusal) → (mode : Mode) → (end : Point) → Type 0
+Missed Nothing start error mode end = ⊥
+Missed (Tok due token others ▸ rest) start error mode end =
+    (Refused others (next_at due start) error × (mode ≡ due) × (end ≡ start))
+    ⊎ ((next_at due start ≡ token) × Missed rest (past due start) error mode end)
+Missed (Ahead token others ▸ rest) start error mode end =
+    (Refused others (next_at code start) error × (mode ≡ code) × (end ≡ start))
+    ⊎ ((next_at code start ≡ token) × Missed rest start error mode end)
+Missed (Next test ▸ rest) start error mode end =
+    (Refused test (next_at code start) error × (mode ≡ code) × (end ≡ start))
+    ⊎ ((verdict test (next_at code start).lexeme ≡ Fine) × Missed rest start error mode end)
+Missed (Test holds why ▸ rest) start error mode end =
+    ((holds ≡ false) × (error ≡ why) × (mode ≡ code) × (end ≡ start))
+    ⊎ ((holds ≡ true) × Missed rest start error mode end)
+Missed (Shape holds ▸ rest) start error mode end = (holds ≡ true) × Missed rest start error mode end
+Missed (Literally inner ▸ rest) start error mode end =
+    ((why : Refusal) × Missed inner start why mode end × (error ≡ as_literal why))
+    ⊎ ((between : Point) × Met inner start between × Missed rest between error mode end)
 
 -- A raise of the level that finds no room is refused as a missing literal.
 example : (s : Point) (at : Position) → Missed (Literally (Test false (refusal ExprTooDeep at) ▸ Nothing) ▸ Nothing) s

@@ -10,7 +10,7 @@ use Rattle.rhai_grammar.specs.Causes.{Cause}
 use Rattle.rhai_grammar.specs.declared.due.DueToken.{DueToken}
 use Rattle.rhai_grammar.specs.declared.due.DueToken.TheVariants.{LeftParen, RightParen, RightBracket, Colon, LeftBrace}
 use Rattle.rhai_grammar.specs.declared.due.DueToken.TheVariants.{RightBrace, Comma, Equals, Pipe, DoubleArrow, In}
-use Rattle.rhai_grammar.specs.declared.due.DueToken.TheVariants.{If, Else, Catch}
+use Rattle.rhai_grammar.specs.declared.due.DueToken.TheVariants.{As, If, Else, Catch}
 
 abbrev pub token_of : DueToken → Token
 token_of LeftParen = token.LeftParen
@@ -27,6 +27,7 @@ token_of In = token.In
 token_of If = token.If
 token_of Else = token.Else
 token_of Catch = token.Catch
+token_of As = token.As
 
 -- how it is written
 abbrev pub text_of_due : DueToken → Text
@@ -44,6 +45,7 @@ text_of_due In = codes "in"
 text_of_due If = codes "if"
 text_of_due Else = codes "else"
 text_of_due Catch = codes "catch"
+text_of_due As = codes "as"
 
 abbrev is_due_sign : DueToken → Token → Bool
 is_due_sign LeftParen token.LeftParen = true
@@ -60,6 +62,7 @@ is_due_sign In token.In = true
 is_due_sign If token.If = true
 is_due_sign Else token.Else = true
 is_due_sign Catch token.Catch = true
+is_due_sign As token.As = true
 is_due_sign _ _ = false
 
 -- a token is the required one

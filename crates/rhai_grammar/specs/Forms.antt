@@ -11,6 +11,16 @@ pub data LoopNames : Type 0 where
   Counted : (opening : Position) (name : Text) (at comma : Position) (counter : Text) (counter_at closing : Position)
       → LoopNames
 
+-- the names after `::` in a qualified name
+pub data Path : Type 0 where
+  NoPath : Path
+  Scoped : (colons : Position) (name : Text) (at : Position) → Path → Path
+
+-- another name, after `as`
+pub data Alias : Type 0 where
+  NoAlias : Alias
+  As : (as_at : Position) (name : Text) (at : Position) → Alias
+
 -- the variable of `catch`, in parentheses
 pub data CatchName : Type 0 where
   NoName : CatchName
@@ -38,11 +48,11 @@ mutual
     -- the omitted zero before a range operator; it names the operator, which is not one of this form's tokens
     Zero : (range : Lexeme) (at : Position) → Primary
 
-  -- an operand without signs and links
+  -- an operand without signs and links; a name may be followed by a path
   pub data Base : Type 0 where
-    Plain : Primary → Base
+    Plain : Primary → Path → Base
     -- a call, with or without `!`
-    Call : (called : Primary) (bang : Option Position) (arguments : Arguments) → Base
+    Call : (called : Primary) → Path → (bang : Option Position) (arguments : Arguments) → Base
 
   -- the brackets and dots after an operand, with their contents
   pub data Links : Type 0 where
@@ -130,6 +140,13 @@ mutual
     Return : (throws : Bool) (at : Position) → JumpValue → Statement
     Break : (at : Position) → JumpValue → Statement
     Continue : (at : Position) → Statement
+    -- `import` of the module that an expression gives, with a name for it or none
+    Import : (at : Position) (source : Run) → Alias → Statement
+    -- `export` of a variable, under its own name or another
+    Export : (at : Position) (name : Text) (name_at : Position) → Alias → Statement
+    -- `export` of a definition, whose `let` or `const` is at `keyword`
+    ExportDefined : (at : Position) (constant : Bool) (keyword : Position) (name : Text) (name_at : Position)
+        → Initializer → Statement
 
   -- a construct after its first token
   pub data Construct : Type 0 where
@@ -154,7 +171,8 @@ mutual
     Else : (at opening : Position) → Body → Branch
     ElseIf : (at if_at : Position) → Conditional → Branch
 
-  -- The arms of a `switch` up to its `}`. A comma may follow each of them, and the default arm is the last one.
+  -- The arms of a `switch` up to its `}`. A comma may follow each of them; it has to, unless the arm ends by itself or
+  -- the `}` follows. The default arm is the last one.
   pub data Arms : Type 0 where
     -- no further arm
     NoArm : (closing : Position) → Arms

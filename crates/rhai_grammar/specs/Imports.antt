@@ -1,6 +1,7 @@
 -- Which import a module name refers to. Imports are listed from the oldest to the latest; an import's number counts
 -- from 1 at the latest.
-use Rattle.std.specs.Prelude.{◌≡◌, ℕ, ◌+◌, List, [], ◌∷◌, Option, None, Some, length, if◌then◌else◌, codes, refl}
+use Rattle.std.specs.Prelude.{◌≡◌, ℕ, ◌+◌, Bool, List, [], ◌∷◌, Option, None, Some, length, if◌then◌else◌, codes, refl}
+use Rattle.std.specs.List.{list_any}
 use Rattle.std.specs.Option.{option_or}
 use Rattle.rhai_lower.specs.Texts.{Text, same_text}
 
@@ -9,6 +10,10 @@ unfoldable pub module_number : Text → List Text → Option ℕ
 module_number name [] = None
 module_number name (imported ∷ later) =
     option_or (module_number name later) (if same_text imported name then Some (length later + 1) else None)
+
+-- A module of this name is among these.
+abbrev pub is_among : Text → List Text → Bool
+is_among name modules = list_any (λ m. same_text m name) modules
 
 abbrev example_imports : List Text
 example_imports = codes "m" ∷ codes "n" ∷ codes "m" ∷ []

@@ -125,7 +125,8 @@ abbrev pub are_bounds : Nodes → Bool
 are_bounds (one_node first (one_node last no_nodes)) = is_range_start first && is_range_end last
 are_bounds _ = false
 
--- A value of a `switch` case: a constant, or a range of integers.
+-- A value of a `switch` case: a literal without parts, a range of integers, whose end may be open, or an array or
+-- object map of such values.
 abbrev mutual
   pub is_literal_value : Node → Bool
   is_literal_value (unit p) = true

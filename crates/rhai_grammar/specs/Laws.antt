@@ -9,7 +9,7 @@ use Rattle.rhai_grammar.specs.Cursors.{Cursor, delivered}
 use Rattle.rhai_grammar.specs.Seen.{Gives, leads}
 use Rattle.rhai_grammar.specs.Contexts.{Context, Live}
 use Rattle.rhai_grammar.specs.Forms.{Base, Links, NoLink, Bracket, Property, Method, Run, Group, Plain, Linked, Just}
-use Rattle.rhai_grammar.specs.Forms.{Statements}
+use Rattle.rhai_grammar.specs.Forms.{NoPath, Statements}
 use Rattle.rhai_grammar.specs.Trees.{statement_trees, tree}
 use Rattle.rhai_grammar.specs.Definitions.{after_statements}
 use Rattle.rhai_grammar.specs.Shapes.{run_shape, node_shape, script_shape, statements_shape}
@@ -64,7 +64,7 @@ FormsHaveOneTree =
     → IsWritten (expressions context live) g s
     → tree f live ≡ tree g live
 
--- Two scripts that fit and spell the same stream have the same statements, and leave the same slots.
+-- Two scripts that fit and spell the same stream have the same statements, and leave the same slots and imports.
 abbrev pub ScriptsHaveOneTree : Type 0
 ScriptsHaveOneTree =
     (context : Context) (live : Live) (s : Cursor) (fs gs : Statements) → IsWritten (scripts context live) fs s
@@ -116,7 +116,8 @@ followed (Method dot at name name_at bang arguments rest) more =
 
 -- a chain in parentheses, with links after it
 abbrev pub grouped_chain : (opening : Position) → Base → Links → (closing : Position) → (more : Links) → Run
-grouped_chain opening x links closing more = Just (Linked (Plain (Group opening (Just (Linked x links)) closing)) more)
+grouped_chain opening x links closing more =
+    Just (Linked (Plain (Group opening (Just (Linked x links)) closing) NoPath) more)
 
 -- A chain in parentheses that is followed by links has the tree of the chain written without the parentheses, whether
 -- the two forms fit or not. If the other tokens keep their positions, the trees are equal: the parentheses leave no

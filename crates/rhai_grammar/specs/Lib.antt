@@ -18,6 +18,7 @@ pub mod CommaLists
 pub mod Literals
 pub mod Chains
 pub mod Definitions
+pub mod Modules
 pub mod Targets
 pub mod Interpolations
 pub mod Trees
@@ -39,6 +40,7 @@ pub mod RowsOfChains
 pub mod RowsOfStatements
 pub mod RowsOfStrings
 pub mod RowsOfConstructs
+pub mod RowsOfModules
 pub mod StartLaws
 pub mod SlotLaws
 pub mod Imports

@@ -1,11 +1,12 @@
 -- Demands that several forms have.
-use Rattle.std.specs.Prelude.{Bool, false, not, Option, Some, None}
+use Rattle.std.specs.Prelude.{Bool, true, false, not, Option, Some, None, List}
 use Rattle.rhai_lower.specs.Texts.{Text}
 use Rattle.rhai_lower.specs.Lexemes.{Lexeme, Name, Sign, text_of}
 use Rattle.rhai_lower.specs.Nodes.{Node, Properties}
 use Rattle.rhai_lower.specs.declared.position.Position.{Position}
 use Rattle.rhai_lower.specs.declared.token.Token.TheVariants.{LeftParen}
-use Rattle.rhai_lower.specs.declared.token.Token.TheVariants.{Comma}
+use Rattle.rhai_lower.specs.declared.token.Token.TheVariants.{Comma, DoubleColon}
+use Rattle.rhai_lower.specs.declared.token.Token.TheVariants as token
 use Rattle.rhai_grammar.specs.Causes as cause
 use Rattle.rhai_grammar.specs.Causes.{Refusal, refusal}
 use Rattle.rhai_grammar.specs.Delivered.{code, item}
@@ -25,7 +26,7 @@ use Rattle.rhai_grammar.specs.Definitions.{may_define}
 use Rattle.rhai_grammar.specs.Statements.{name_due}
 use Rattle.rhai_grammar.specs.Demands.{Demands, Nothing, Tok, Next, Literally}
 use Rattle.rhai_grammar.specs.Demands.{Test, Shape, ◌▸◌}
-use Rattle.rhai_grammar.specs.Verdicts.{unless_due, anything, member_due}
+use Rattle.rhai_grammar.specs.Verdicts.{unless_due, anything, member_due, no_bang, unqualified}
 use Rattle.rhai_grammar.specs.Verdicts.{after_method}
 use Rattle.rhai_grammar.specs.Verdicts.{following_due, next_key, key_due}
 use Rattle.rhai_grammar.specs.Verdicts.{value_due, run_ends, side_ends, room_due}
@@ -33,11 +34,13 @@ use Rattle.rhai_grammar.specs.Spots.{Height, Side, Spot, outermost}
 use Rattle.rhai_grammar.specs.Spots.{LinkSpot}
 use Rattle.rhai_grammar.specs.Spots.{Outermost, RightOf}
 use Rattle.rhai_lower.specs.Texts.{same_text}
-use Rattle.rhai_grammar.specs.Contexts.{is_in_loop}
+use Rattle.rhai_grammar.specs.Contexts.{is_global, is_in_loop}
 use Rattle.rhai_grammar.specs.declared.filter.ExprFilter.{ExprFilter}
 use Rattle.rhai_grammar.specs.Constructs.{absent, guard_begins, guard_ends, guard_fault, iterated_fault}
 use Rattle.rhai_grammar.specs.Statements.{loop_variable_due}
-use Rattle.rhai_grammar.specs.Forms.{CatchName, LoopNames}
+use Rattle.rhai_grammar.specs.Forms.{Alias, CatchName, LoopNames, Path}
+use Rattle.rhai_grammar.specs.Modules.{qualified}
+use Rattle.rhai_grammar.specs.Trees.{is_variable}
 use Rattle.rhai_grammar.specs.Switches.{arm_ends}
 use Rattle.rhai_grammar.specs.Contexts.{in_block, in_case}
 
@@ -96,6 +99,18 @@ abbrev pub unfaulted : Option Refusal → Demands → Demands
 unfaulted None more = more
 unfaulted (Some e) more = Test false e ▸ more
 
+-- the names after a name, which is a variable's; `x` is the node so far
+abbrev pub path : Path → (imports : List Text) → (x : Node) → Demands → Demands
+path form.NoPath imports x more = Next (unqualified x) ▸ more
+path (form.Scoped colons name at rest) imports x more =
+    Shape (is_variable x) ▸ Tok code (item (Sign DoubleColon) colons) anything ▸
+    Tok code (item (Name name) at) name_due ▸ path rest imports (qualified imports x name at) more
+
+-- after the `!` of a call, which may not follow a name with a path
+abbrev pub banged : (is_qualified : Bool) → (bang : Position) → Demands → Demands
+banged false bang more = more
+banged true bang more = Next (no_bang bang) ▸ more
+
 -- a dot with the name of a method
 abbrev pub method : (dot : Lexeme) (at : Position) (name : Lexeme) (name_at : Position) → LinkSpot → Demands → Demands
 method dot at name name_at spot more =
@@ -153,9 +168,20 @@ abbrev pub separated : (comma : Option Position) → (itself : Bool) → Demands
 separated None itself more = Next (arm_ends itself) ▸ more
 separated (Some comma) itself more = Tok code (item (Sign Comma) comma) anything ▸ more
 
--- A case is in a block of its own, with `|` between the cases, and each error in it is that of a missing literal.
+-- A case stands between `|`, and each error in it is that of a missing literal. It is in a block of its own, which
+-- changes nothing, since only an expression stands there.
 abbrev pub as_case : (inside : Spot → Demands → Demands) → Context → Live → Demands → Demands
 as_case inside context live more = Literally (as_expression inside (in_case context) (in_block live) Nothing) ▸ more
+
+-- another name, after `as`
+abbrev pub other_name : Alias → Demands → Demands
+other_name form.NoAlias more = Next (absent due.As) ▸ more
+other_name (form.As as_at name at) more =
+    Tok code (item (Sign token.As) as_at) anything ▸ Tok code (item (Name name) at) name_due ▸ more
+
+-- `export` stands at the global level
+abbrev pub global_at : Context → Position → Demands → Demands
+global_at context at more = Test (is_global context) (refusal cause.WrongExport at) ▸ more
 
 -- `break` and `continue` stand in a loop
 abbrev pub loop_at : Context → Position → Demands → Demands

@@ -2,6 +2,7 @@
 use Rattle.std.specs.Prelude.{◌≡◌, ◌⊎◌, Bool, true, false, List, [], Result, Ok, Err, IfOk, IfErr, Vec}
 use Rattle.std.specs.declared.alloc.Global.{Global}
 use Rattle.std.specs.declared.rc.Rc.{Rc}
+use Rattle.rhai_lower.specs.Texts.{Text}
 use Rattle.rhai_lower.specs.Slots.{SlotValue}
 use Rattle.rhai_lower.specs.Nodes.{Node, expression, no_statements, one_statement}
 use Rattle.rhai_lower.specs.View.{statement_views}
@@ -43,12 +44,15 @@ pub record IsScriptOf (x : Node) (script : AST) : Type 0 where
   pub statements : statement_views script.statements.items ≡ one_statement (expression x) no_statements
   pub functions : script.functions.items ≡ []
 
--- the statements and functions of a script, and the slots that are left after it
+-- the statements and functions of a script, and the slots and imports that are left after it
 pub record IsScript (fs : Statements) (live : Live)
-    (script : Vec Stmt Global × Vec (Rc ScriptFuncDef Global) Global) (left : List SlotValue) : Type 0 where
-  pub statements : statement_views script.0.items ≡ statement_trees fs live
-  pub functions : script.1.items ≡ []
-  pub slots : left ≡ (after_statements fs live).slots
+    (script : Vec Stmt Global × Vec (Rc ScriptFuncDef Global) Global) (left : List SlotValue) (modules : List Text) :
+    Type 0
+  where
+    pub statements : statement_views script.0.items ≡ statement_trees fs live
+    pub functions : script.1.items ≡ []
+    pub slots : left ≡ (after_statements fs live).slots
+    pub imports : modules ≡ (after_statements fs live).imports
 
 -- the result is such a one, unless memory ran out
 abbrev pub Returns : {X : Type 0} → (X → Type 0) → Result X ParseError → Type 0
@@ -141,9 +145,9 @@ abbrev pub ReadsExpression : {L : Type 0} → (library : List L) → Context →
 ReadsExpression library context live start left result =
     ReadsWhole library (expressions context live) (λ f script. IsScriptOf (tree f live) script) start left result
 
--- A stream that is a script gives its statements, no function, and the slots that its definitions leave.
+-- A stream that is a script gives its statements, no function, and the slots and imports that its statements leave.
 abbrev pub ReadsScript : {L : Type 0} → (library : List L) → Context → Live → (start left : Cursor)
     → Result (Vec Stmt Global × Vec (Rc ScriptFuncDef Global) Global) ParseError → (slots : List SlotValue)
-    → Type 0
-ReadsScript library context live start left result slots =
-    ReadsWhole library (scripts context live) (λ fs script. IsScript fs live script slots) start left result
+    → (imports : List Text) → Type 0
+ReadsScript library context live start left result slots imports =
+    ReadsWhole library (scripts context live) (λ fs script. IsScript fs live script slots imports) start left result

@@ -9,12 +9,12 @@ use Rattle.rhai_grammar.specs.declared.filter.ExprFilter.TheVariants.{All}
 use Rattle.rhai_grammar.specs.Causes as cause
 use Rattle.rhai_grammar.specs.Causes.{Refusal, refusal}
 use Rattle.rhai_grammar.specs.Delivered.{code, item, Tokens, Ends, Then, Taken, Point}
-use Rattle.rhai_grammar.specs.Contexts.{Context, nothing_live}
+use Rattle.rhai_grammar.specs.Contexts.{Context, nothing_known, nothing_live}
 use Rattle.rhai_grammar.specs.Operators.{operator_call}
-use Rattle.rhai_grammar.specs.Forms.{Primary, Operand, Run, Just, Binary, Linked, NoLink, Plain, Value, Named, Zero}
-use Rattle.rhai_grammar.specs.Forms.{Array, Call, Signed, NoOperand, Listed, Last, Element, LastElement}
+use Rattle.rhai_grammar.specs.Forms.{Primary, Operand, Run, Just, Binary, Linked, NoLink, NoPath, Plain, Value, Named}
+use Rattle.rhai_grammar.specs.Forms.{Array, Call, Signed, NoOperand, Listed, Last, Element, LastElement, Zero}
 use Rattle.rhai_grammar.specs.Literals.{too_many_items}
-use Rattle.rhai_grammar.specs.Trees.{function_called, tree}
+use Rattle.rhai_grammar.specs.Trees.{function_called, named_by, tree, variable_of}
 use Rattle.rhai_grammar.specs.Demands.{Met, Missed}
 use Rattle.rhai_grammar.specs.Written.{whole_expression}
 
@@ -41,11 +41,12 @@ depth limit = record {
   options = 191;
   sizes = record { array = 0; map = 0 };
   filter = All;
+  known = nothing_known;
 }
 
 -- an operand without links
 abbrev pub plain : Primary → Operand
-plain x = Linked (Plain x) NoLink
+plain x = Linked (Plain x NoPath) NoLink
 
 abbrev pub number : ℕ → ℕ → Run
 number n column = Just (plain (Value (Integer (pos n)) (place 1 column)))
@@ -177,7 +178,7 @@ abbrev pub call_tokens : List (Lexeme × ℕ)
 call_tokens = (Name (codes "f"), 1) ∷ (Sign LeftParen, 2) ∷ (Integer (pos 1), 3) ∷ (Sign RightParen, 4) ∷ []
 
 abbrev pub call_form : Run
-call_form = Just (Linked (Call (Named (codes "f") (place 1 1)) None
+call_form = Just (Linked (Call (Named (codes "f") (place 1 1)) NoPath None
     (Listed (place 1 2) (Last (number 1 3) (place 1 4)))) NoLink)
 
 abbrev pub call_begun : List (Lexeme × ℕ)
@@ -188,7 +189,8 @@ call_rest = (Integer (pos 1), 3) ∷ (Sign RightParen, 4) ∷ []
 
 pub record CallRow : Type 0 where
   pub tree_is : tree call_form nothing_live
-      ≡ call (function_called (codes "f") false 1) (one_node (integer (pos 1) (place 1 3)) no_nodes) (place 1 1)
+      ≡ call (function_called (named_by (variable_of None (codes "f") (place 1 1))) false 1)
+      (one_node (integer (pos 1) (place 1 3)) no_nodes) (place 1 1)
   pub fits : Met (whole_expression call_form (depth 3) nothing_live) (unread call_tokens 5) (between call_tokens [] 5)
   pub argument_deep : Missed (whole_expression call_form (depth 2) nothing_live) (unread call_tokens 5)
       (refusal cause.ExprTooDeep (place 1 3)) code (between call_begun call_rest 5)

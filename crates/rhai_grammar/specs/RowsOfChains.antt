@@ -10,8 +10,8 @@ use Rattle.rhai_lower.specs.declared.token.Token.TheVariants as token
 use Rattle.rhai_grammar.specs.Causes as cause
 use Rattle.rhai_grammar.specs.Causes.{Refusal, refusal}
 use Rattle.rhai_grammar.specs.Contexts.{nothing_live}
-use Rattle.rhai_grammar.specs.Forms.{Links, Run, Just, Linked, NoLink, Bracket, Property, Method, Plain, Named, Group}
-use Rattle.rhai_grammar.specs.Forms.{EmptyPair}
+use Rattle.rhai_grammar.specs.Forms.{Links, Run, Just, Linked, NoLink, Bracket, Property, Method, NoPath, Plain, Named}
+use Rattle.rhai_grammar.specs.Forms.{EmptyPair, Group}
 use Rattle.rhai_grammar.specs.Trees.{variable_of, tree}
 use Rattle.rhai_grammar.specs.Delivered.{code}
 use Rattle.rhai_grammar.specs.Demands.{Missed}
@@ -22,11 +22,12 @@ use Rattle.rhai_grammar.specs.Rows.{unread, between, depth, Fits}
 
 -- a name followed by links
 abbrev pub linked : Text → ℕ → Links → Run
-linked name column links = Just (Linked (Plain (Named name (place 1 column))) links)
+linked name column links = Just (Linked (Plain (Named name (place 1 column)) NoPath) links)
 
 -- a run in parentheses, followed by links
 abbrev pub grouped : (opening : ℕ) → Run → (closing : ℕ) → Links → Run
-grouped opening inside closing links = Just (Linked (Plain (Group (place 1 opening) inside (place 1 closing))) links)
+grouped opening inside closing links =
+    Just (Linked (Plain (Group (place 1 opening) inside (place 1 closing)) NoPath) links)
 
 -- a name in brackets
 abbrev pub bracketed : (opening : ℕ) → Text → (name_at closing : ℕ) → Links → Links

@@ -9,6 +9,14 @@ pub record Settings : Type 0 where
   pub level : ℕ
   pub limit : ℕ
 
+-- the bit of the flags that says that the global level of a script is parsed
+abbrev pub at_global_level : Settings → Bool
+at_global_level settings = bit_and settings.flags 1 == 1
+
+-- the settings below the global level
+abbrev pub below_global_level : Settings → Settings
+below_global_level settings = record settings { flags = bit_and settings.flags 254 }
+
 -- the bit of the flags that says that a function's body is parsed
 abbrev pub in_function : Settings → Bool
 in_function settings = bit_and settings.flags 2 == 2
@@ -44,6 +52,10 @@ loop_values settings = bit_and settings.options 4 == 4
 -- the bit of the options that makes a block an operand
 abbrev pub block_values : Settings → Bool
 block_values settings = bit_and settings.options 8 == 8
+
+-- the bit of the options that requires variables and modules to be known
+abbrev pub strict_names : Settings → Bool
+strict_names settings = bit_and settings.options 64 == 64
 
 -- a raise is possible
 abbrev pub has_room : Settings → Bool

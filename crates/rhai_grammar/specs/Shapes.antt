@@ -12,11 +12,11 @@ use Rattle.rhai_grammar.specs.Trees.{tree}
 use Rattle.rhai_grammar.specs.Forms as form
 use Rattle.rhai_grammar.specs.Forms.{Arguments, Base, Body, Elements, ExprStatement, Fields, Initializer, Items, Links}
 use Rattle.rhai_grammar.specs.Forms.{Branch, CatchName, Conditional, Construct, JumpValue, LoopNames, Operand}
-use Rattle.rhai_grammar.specs.Forms.{Action, CaseGuard, Primary, Run, Segments}
+use Rattle.rhai_grammar.specs.Forms.{Action, Alias, CaseGuard, Path, Primary, Run, Segments}
 
 -- ---- trees
 
-abbrev path_shape : List (Text × Position) → List (Text × Position)
+abbrev pub path_shape : List (Text × Position) → List (Text × Position)
 path_shape [] = []
 path_shape (part ∷ parts) = (part.0, nowhere) ∷ path_shape parts
 
@@ -105,6 +105,14 @@ abbrev mutual
 abbrev pub bang_shape : Option Position → Option Position
 bang_shape bang = option_map (λ at. nowhere) bang
 
+abbrev pub scoped_shape : Path → Path
+scoped_shape form.NoPath = form.NoPath
+scoped_shape (form.Scoped colons name at rest) = form.Scoped nowhere name nowhere (scoped_shape rest)
+
+abbrev pub alias_shape : Alias → Alias
+alias_shape form.NoAlias = form.NoAlias
+alias_shape (form.As as_at name at) = form.As nowhere name nowhere
+
 abbrev pub names_shape : LoopNames → LoopNames
 names_shape (form.Variable name at) = form.Variable name nowhere
 names_shape (form.Counted opening name at comma counter counter_at closing) =
@@ -127,8 +135,9 @@ abbrev mutual
   primary_shape (form.Zero range at) = form.Zero range nowhere
 
   pub base_shape : Base → Base
-  base_shape (form.Plain x) = form.Plain (primary_shape x)
-  base_shape (form.Call x bang arguments) = form.Call (primary_shape x) (bang_shape bang) (arguments_shape arguments)
+  base_shape (form.Plain x names) = form.Plain (primary_shape x) (scoped_shape names)
+  base_shape (form.Call x names bang arguments) =
+      form.Call (primary_shape x) (scoped_shape names) (bang_shape bang) (arguments_shape arguments)
 
   pub links_shape : Links → Links
   links_shape form.NoLink = form.NoLink
@@ -195,6 +204,10 @@ abbrev mutual
   written_shape (form.Return throws at value) = form.Return throws nowhere (jump_shape value)
   written_shape (form.Break at value) = form.Break nowhere (jump_shape value)
   written_shape (form.Continue at) = form.Continue nowhere
+  written_shape (form.Import at f other) = form.Import nowhere (run_shape f) (alias_shape other)
+  written_shape (form.Export at name name_at other) = form.Export nowhere name nowhere (alias_shape other)
+  written_shape (form.ExportDefined at constant keyword name name_at value) =
+      form.ExportDefined nowhere constant nowhere name nowhere (initializer_shape value)
 
   pub construct_shape : Construct → Construct
   construct_shape (form.Block body) = form.Block (body_shape body)
@@ -249,7 +262,8 @@ abbrev mutual
   body_shape (form.Single x closing) = form.Single (evaluation_shape x) nowhere
 
 abbrev example_name : (column : ℕ) → Run
-example_name column = form.Just (form.Linked (form.Plain (form.Named (codes "a") (place 1 column))) form.NoLink)
+example_name column =
+    form.Just (form.Linked (form.Plain (form.Named (codes "a") (place 1 column)) form.NoPath) form.NoLink)
 
 -- `a` at two positions has one form and one tree up to positions.
 example :

@@ -11,11 +11,12 @@ use Rattle.rhai_grammar.specs.Contexts.{Live, in_block}
 use Rattle.rhai_grammar.specs.Definitions.{after_statement, after_statements, catch_live, define, is_exported}
 use Rattle.rhai_grammar.specs.Definitions.{loop_live, reused}
 use Rattle.rhai_grammar.specs.Forms as form
-use Rattle.rhai_grammar.specs.Forms.{Construct, ExprStatement, Named, Statements}
+use Rattle.rhai_grammar.specs.Forms.{Construct, ExprStatement, Named, Statement, Statements}
 use Rattle.rhai_grammar.specs.Slots.{IsLatest, is_barrier, number, slot_from_latest}
 use Rattle.rhai_grammar.specs.Trees.{primary_tree, variable_of}
 
--- A name that has a number in its tree is not called, and the slot with that number is the latest of the name.
+-- A name that has a number in its tree is not called, that is not directly before what calls it or before `::`; and the
+-- slot with that number is the latest of the name.
 pub record NumberedSlot : Type 0 where
   pub uncalled : (live : Live) (called : Bool) (name : Text) (at : Position) (place : ℕ) →
       primary_tree (Named name at) live called ≡ variable_of (Some place) name at → called ≡ false
@@ -23,7 +24,7 @@ pub record NumberedSlot : Type 0 where
       primary_tree (Named name at) live called ≡ variable_of (Some place) name at →
       IsLatest name live.slots (Some place)
 
--- A name that has no number in its tree is called, or no live slot has the name.
+-- A name that has no number in its tree is directly before what calls it or before `::`, or no live slot has the name.
 abbrev pub NoSlot : Type 0
 NoSlot =
     (live : Live) (called : Bool) (name : Text) (at : Position)
@@ -58,8 +59,8 @@ pub record Reuse : Type 0 where
       is_identifier name ≡ true → is_barrier (fresh_slot name constant) ≡ false
 
 -- A construct and an expression leave live what was live before them. Statements leave the slots before their block as
--- they were, so a block's end gives back the slots that the block found. The variables of `for` and of `catch` are
--- above all that were there.
+-- they were, so the end of a block, or of an arm of `switch`, gives back the slots that it found; and they leave the
+-- imports before them. The variables of `for` and of `catch` are above all that were there.
 pub record ScopesClose : Type 0 where
   pub construct : (at : Position) (x : Construct) (live : Live) → after_statement (form.Compound at x) live ≡ live
   pub expression : (x : ExprStatement) (live : Live) → after_statement (form.Expression x) live ≡ live
@@ -68,6 +69,10 @@ pub record ScopesClose : Type 0 where
       take live.block (after_statements fs live).slots ≡ take live.block live.slots
   pub given_back : (fs : Statements) (live : Live) →
       take (length live.slots) (after_statements fs (in_block live)).slots ≡ live.slots
+  pub arm : (f : Statement) (live : Live) →
+      take (length live.slots) (after_statement f (in_block live)).slots ≡ live.slots
+  pub imports : (fs : Statements) (live : Live) →
+      take (length live.imports) (after_statements fs live).imports ≡ live.imports
   pub loop : (name : Text) (counter : Option Text) (live : Live) →
       (loop_live name counter live).block ≡ length live.slots
       × take (length live.slots) (loop_live name counter live).slots ≡ live.slots
@@ -81,6 +86,7 @@ abbrev example_live : Live
 example_live = record {
   slots = fresh_slot (codes "x") true ∷ fresh_slot (codes "x") false ∷ [];
   block = 1;
+  imports = [];
 }
 
 example : (primary_tree (Named (codes "x") (place 1 1)) example_live false

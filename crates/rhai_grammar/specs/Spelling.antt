@@ -12,7 +12,7 @@ use Rattle.rhai_grammar.specs.Delivered.{code, text, item, Tokens, Ends, Then, T
 use Rattle.rhai_grammar.specs.Forms as form
 use Rattle.rhai_grammar.specs.Forms.{Primary, Base, Links, Operand, Arguments, Items, Elements, Fields, Run}
 use Rattle.rhai_grammar.specs.Forms.{Body, Branch, CatchName, Conditional, Construct, ExprStatement, Initializer}
-use Rattle.rhai_grammar.specs.Forms.{JumpValue, LoopNames, Segments, Statement, Statements}
+use Rattle.rhai_grammar.specs.Forms.{Alias, JumpValue, LoopNames, Path, Segments, Statement, Statements}
 use Rattle.rhai_grammar.specs.Forms.{Action, Arms, CaseGuard, Cases}
 use Rattle.rhai_grammar.specs.Constructs.{construct_token, do_token, kind_of}
 use Rattle.rhai_grammar.specs.Starts.{jump_token}
@@ -35,6 +35,17 @@ bang_spelling (Some at) = in_code (Sign Bang) at ∷ []
 abbrev pub comma_spelling : Option Position → List Taken
 comma_spelling None = []
 comma_spelling (Some at) = in_code (Sign Comma) at ∷ []
+
+-- the names of a path
+abbrev pub path_spelling : Path → List Taken
+path_spelling form.NoPath = []
+path_spelling (form.Scoped colons name at rest) =
+    in_code (Sign token.DoubleColon) colons ∷ in_code (Name name) at ∷ path_spelling rest
+
+-- another name, with its `as`
+abbrev pub alias_spelling : Alias → List Taken
+alias_spelling form.NoAlias = []
+alias_spelling (form.As as_at name at) = in_code (Sign token.As) as_at ∷ in_code (Name name) at ∷ []
 
 abbrev pub names_spelling : LoopNames → List Taken
 names_spelling (form.Variable name at) = in_code (Name name) at ∷ []
@@ -63,8 +74,9 @@ abbrev mutual
   primary_spelling (form.Zero range at) = []
 
   pub base_spelling : Base → List Taken
-  base_spelling (form.Plain x) = primary_spelling x
-  base_spelling (form.Call x bang args) = primary_spelling x ++ (bang_spelling bang ++ argument_spelling args)
+  base_spelling (form.Plain x names) = primary_spelling x ++ path_spelling names
+  base_spelling (form.Call x names bang args) =
+      primary_spelling x ++ (path_spelling names ++ (bang_spelling bang ++ argument_spelling args))
 
   pub link_spelling : Links → List Taken
   link_spelling form.NoLink = []
@@ -137,6 +149,12 @@ abbrev mutual
   statement_spelling (form.Return throws at value) = in_code (Sign (jump_token throws)) at ∷ jump_spelling value
   statement_spelling (form.Break at value) = in_code (Sign token.Break) at ∷ jump_spelling value
   statement_spelling (form.Continue at) = in_code (Sign token.Continue) at ∷ []
+  statement_spelling (form.Import at f other) = in_code (Sign token.Import) at ∷ (spelling f ++ alias_spelling other)
+  statement_spelling (form.Export at name name_at other) =
+      in_code (Sign token.Export) at ∷ in_code (Name name) name_at ∷ alias_spelling other
+  statement_spelling (form.ExportDefined at constant keyword name name_at value) =
+      in_code (Sign token.Export) at ∷ in_code (Sign (keyword_of constant)) keyword ∷ in_code (Name name) name_at
+      ∷ initializer_spelling value
 
   pub construct_spelling : Construct → List Taken
   construct_spelling (form.Block body) = body_spelling body
@@ -213,9 +231,10 @@ IsDelivered (Then a b s t) =
 
 -- `f(1)`
 example : spelling (form.Just (form.Linked
-    (form.Call (form.Named (codes "f") (place 1 1)) None
+    (form.Call (form.Named (codes "f") (place 1 1)) form.NoPath None
     (form.Listed (place 1 2) (form.Last (form.Just
-    (form.Linked (form.Plain (form.Value (Integer (pos 1)) (place 1 3))) form.NoLink)) (place 1 4)))) form.NoLink))
+    (form.Linked (form.Plain (form.Value (Integer (pos 1)) (place 1 3)) form.NoPath) form.NoLink)) (place 1 4))))
+    form.NoLink))
     ≡ in_code (Name (codes "f")) (place 1 1) ∷ in_code (Sign LeftParen) (place 1 2) ∷ in_code (Integer (pos 1))
     (place 1 3) ∷ in_code (Sign RightParen) (place 1 4) ∷ []
 example = refl

@@ -1,6 +1,7 @@
 -- What a token does where a statement begins, in a definition, and after a statement; and which tokens are refused
 -- there.
-use Rattle.std.specs.Prelude.{◌≡◌, Bool, true, false, codes, if◌then◌else◌, refl}
+use Rattle.std.specs.Prelude.{◌≡◌, Bool, true, false, Option, Some, None, codes}
+use Rattle.std.specs.Prelude.{if◌then◌else◌, refl}
 use Rattle.rhai_grammar.specs.Constructs.{may_stand}
 use Rattle.rhai_grammar.specs.Contexts.{Context, allows_looping}
 use Rattle.rhai_grammar.specs.declared.role.Construct.TheVariants as construct
@@ -41,6 +42,8 @@ sign_start token.Return = start.Return
 sign_start token.Throw = start.Throw
 sign_start token.Break = start.Break
 sign_start token.Continue = start.Continue
+sign_start token.Import = start.Import
+sign_start token.Export = start.Export
 sign_start _ = start.Expression
 
 -- what a token begins where a statement is expected, if the engine lets scripts have loops
@@ -99,6 +102,18 @@ ends_itself _ = false
 abbrev pub keyword_of : (constant : Bool) → Token
 keyword_of true = token.Const
 keyword_of false = token.Let
+
+-- ---- after `export`
+
+abbrev pub sign_defines : Token → Option Bool
+sign_defines token.Let = Some false
+sign_defines token.Const = Some true
+sign_defines _ = None
+
+-- whether a definition that a token begins is a constant's; none if it begins no definition
+abbrev pub defines : Lexeme → Option Bool
+defines (Sign t) = sign_defines t
+defines _ = None
 
 -- the error for a token that is no name where a variable is defined
 abbrev pub no_variable : Lexeme → Cause
@@ -159,6 +174,22 @@ unassigned token = if is_assignment token then Otherwise else Fine
 abbrev pub name_due : Lexeme → Verdict
 name_due (Name t) = Otherwise
 name_due token = Wrong (no_variable token)
+
+-- after `export`: a definition
+abbrev pub definition_by : Option Bool → Verdict
+definition_by (Some constant) = Fine
+definition_by None = Otherwise
+
+abbrev pub exports_definition : Lexeme → Verdict
+exports_definition token = definition_by (defines token)
+
+-- after `export` without a definition: a name
+abbrev pub exported_by : Lexeme → Option Bool → Verdict
+exported_by token (Some constant) = Otherwise
+exported_by token None = name_due token
+
+abbrev pub exported_due : Lexeme → Verdict
+exported_due token = exported_by token (defines token)
 
 -- after `for`: a name, or the `(` before two names
 abbrev pub loop_variable_due : Lexeme → Verdict

@@ -1,12 +1,14 @@
 -- The tree of a written form.
-use Rattle.std.specs.Prelude.{◌≡◌, ℕ, ◌+◌, ◌∷◌, pos, negsuc, Bool, true, false, Option, Some, None, List, []}
+use Rattle.std.specs.Prelude.{◌≡◌, ℕ, ◌+◌, ◌∷◌, ◌||◌, pos, negsuc, Bool, true, false, Option, Some, None, List, []}
+use Rattle.std.specs.Prelude.{unwrap_or}
 use Rattle.std.specs.Prelude.{if◌then◌else◌, refl}
 use Rattle.std.specs.Option.{is_some}
 use Rattle.rhai_lower.specs.Texts.{Text}
 use Rattle.rhai_lower.specs.Positions.{nowhere, place}
 use Rattle.rhai_lower.specs.Slots.{SlotValue}
 use Rattle.rhai_lower.specs.Lexemes.{Lexeme, Integer, Sign, text_of}
-use Rattle.rhai_lower.specs.Nodes.{Called, Node, Nodes, Properties, unit, integer, array, object_map, variable, this}
+use Rattle.rhai_lower.specs.Nodes.{Called, Named, Node, Nodes, Properties, array, integer, object_map, this, unit}
+use Rattle.rhai_lower.specs.Nodes.{variable}
 use Rattle.rhai_lower.specs.Nodes.{call, method_call, property, no_nodes, one_node, no_properties, one_property}
 use Rattle.rhai_lower.specs.Nodes.{position_of, noop, expression, assignment, block_statement, block_value}
 use Rattle.rhai_lower.specs.Nodes.{braces, interpolated, no_statements, one_statement, var_statement}
@@ -21,15 +23,16 @@ use Rattle.rhai_grammar.specs.Signs.{signed}
 use Rattle.rhai_grammar.specs.Operators.{operator_tree, operator_call}
 use Rattle.rhai_grammar.specs.Slots.{number}
 use Rattle.rhai_grammar.specs.Contexts.{Live, in_block, nothing_live}
-use Rattle.rhai_grammar.specs.Definitions.{after_statement, catch_live, loop_live, reused}
+use Rattle.rhai_grammar.specs.Definitions.{after_statement, alias_of, catch_live, loop_live, reused}
 use Rattle.rhai_grammar.specs.Interpolations.{with_text}
+use Rattle.rhai_grammar.specs.Modules.{is_scoped, path_tree}
 use Rattle.rhai_grammar.specs.Switches.{Collected, ends_arm, no_guard, nothing_collected, switch_tree}
 use Rattle.rhai_grammar.specs.Switches.{with_arm_collected, with_default_collected}
 use Rattle.rhai_grammar.specs.Targets.{update_of}
 use Rattle.rhai_grammar.specs.Forms as form
 use Rattle.rhai_grammar.specs.Forms.{Primary, Base, Links, Operand, Arguments, Items, Elements, Fields, Run}
 use Rattle.rhai_grammar.specs.Forms.{Body, Branch, CatchName, Conditional, Construct, ExprStatement, Initializer}
-use Rattle.rhai_grammar.specs.Forms.{JumpValue, LoopNames, Segments, Statement, Statements}
+use Rattle.rhai_grammar.specs.Forms.{JumpValue, LoopNames, Path, Segments, Statement, Statements}
 use Rattle.rhai_grammar.specs.Forms.{Action, Arms, CaseGuard, Cases}
 
 -- ---- names and calls
@@ -38,7 +41,7 @@ use Rattle.rhai_grammar.specs.Forms.{Action, Arms, CaseGuard, Cases}
 abbrev pub variable_of : Option ℕ → Text → Position → Node
 variable_of slot name at = variable (record { number = slot; name = name; path = []; module_index = None }) at
 
--- A name that is called does not refer to a variable, and has no number.
+-- A name that is called, or part of a path, does not refer to a variable, and has no number.
 abbrev pub name_tree : List SlotValue → (called : Bool) → Text → Position → Node
 name_tree slots called name at = variable_of (if called then None else number name slots) name at
 
@@ -50,20 +53,21 @@ abbrev pub is_variable : Node → Bool
 is_variable (variable v p) = true
 is_variable _ = false
 
-abbrev pub name_of : Node → Text
-name_of (variable v p) = v.name
-name_of _ = []
+-- the name of a variable, with its path
+abbrev pub named_by : Node → Named
+named_by (variable v p) = v
+named_by _ = record { number = None; name = []; path = []; module_index = None }
 
 abbrev pub node_count : Nodes → ℕ
 node_count no_nodes = 0
 node_count (one_node n ns) = node_count ns + 1
 
 -- a call that a script function as well as a native function may answer
-abbrev pub function_called : Text → (bang : Bool) → ℕ → Called
-function_called name bang count = record {
-  name = name;
-  path = [];
-  module_index = None;
+abbrev pub function_called : Named → (bang : Bool) → ℕ → Called
+function_called called bang count = record {
+  name = called.name;
+  path = called.path;
+  module_index = called.module_index;
   script_args = Some count;
   native_args = count;
   captures_scope = bang;
@@ -73,7 +77,7 @@ function_called name bang count = record {
 -- the call of a name, at the name's position
 abbrev pub call_tree : Node → (bang : Bool) → Nodes → Node
 call_tree name bang arguments =
-    call (function_called (name_of name) bang (node_count arguments)) arguments (position_of name)
+    call (function_called (named_by name) bang (node_count arguments)) arguments (position_of name)
 
 -- ---- links
 
@@ -103,10 +107,17 @@ method_tree name at bang arguments = method_call (method_called name bang (node_
 
 -- ---- statements
 
--- a definition, and the number of the slot that it uses again
-abbrev pub definition_tree : (constant : Bool) → Position → Text → Node → Live → node.Statement
-definition_tree constant at name x live =
-    var_statement name x (reused live.block name live.slots) constant false at
+-- a definition, which may be exported, and the number of the slot that it uses again
+abbrev pub definition_tree : (constant exported : Bool) → Position → Text → Node → Live → node.Statement
+definition_tree constant exported at name x live =
+    var_statement name x (reused live.block name live.slots) constant exported at
+
+-- an import or export; an absent name is empty
+abbrev pub import_tree : Node → Option Text → Position → node.Statement
+import_tree source name at = node.import_statement source (unwrap_or name []) at
+
+abbrev pub export_tree : Text → Option Text → Position → node.Statement
+export_tree name other at = node.export_statement name (unwrap_or other []) at
 
 -- a statement before others; an empty one leaves no trace
 abbrev pub kept : node.Statement → node.Statements → node.Statements
@@ -163,9 +174,9 @@ abbrev mutual
   primary_tree (form.Zero range at) live called = integer (pos 0) at
 
   pub base_tree : Base → Live → Node
-  base_tree (form.Plain x) live = primary_tree x live false
-  base_tree (form.Call x bang arguments) live =
-      call_tree (primary_tree x live true) (is_some bang) (argument_trees arguments live)
+  base_tree (form.Plain x path) live = path_tree path live.imports (primary_tree x live (is_scoped path))
+  base_tree (form.Call x path bang arguments) live =
+      call_tree (path_tree path live.imports (primary_tree x live true)) (is_some bang) (argument_trees arguments live)
 
   pub link_list : Links → Live → List Link
   link_list form.NoLink live = []
@@ -231,11 +242,15 @@ abbrev mutual
   statement_tree (form.EmptyStatement at) live = noop at
   statement_tree (form.Expression x) live = statement_of x live
   statement_tree (form.Define constant at name name_at value) live =
-      definition_tree constant at name (value_tree value live) live
+      definition_tree constant false at name (value_tree value live) live
   statement_tree (form.Compound at x) live = construct_tree x live at
   statement_tree (form.Return throws at value) live = return_statement (jump_result value live) throws at
   statement_tree (form.Break at value) live = break_loop (jump_result value live) true at
   statement_tree (form.Continue at) live = break_loop absent false at
+  statement_tree (form.Import at source other) live = import_tree (tree source live) (alias_of other) at
+  statement_tree (form.Export at name name_at other) live = export_tree name (alias_of other) at
+  statement_tree (form.ExportDefined at constant keyword name name_at value) live =
+      definition_tree constant true keyword name (value_tree value live) live
 
   -- of a construct whose first token is at a position
   pub construct_tree : Construct → Live → Position → node.Statement
@@ -264,7 +279,7 @@ abbrev mutual
   branch_tree (form.Else at opening body) live = block_tree opening body live
   branch_tree (form.ElseIf at if_at x) live = made_block (conditional_tree x live if_at)
 
-  -- Each case is in a block of its own.
+  -- Each case is in a block of its own, though only an expression stands there.
   pub case_trees : Cases → Live → Nodes
   case_trees (form.LastCase f) live = one_node (tree f (in_block live)) no_nodes
   case_trees (form.Case f pipe rest) live = one_node (tree f (in_block live)) (case_trees rest live)
@@ -300,17 +315,23 @@ abbrev mutual
   block_tree opening (form.Single x closing) live =
       braces (one_statement (statement_of x live) no_statements) opening closing
 
+-- A name with its path. `called` says that something calls it.
+abbrev pub named_tree : Primary → Path → (called : Bool) → Live → Node
+named_tree x path called live = path_tree path live.imports (primary_tree x live (called || is_scoped path))
+
 -- An arm that does this needs no comma after it.
 abbrev pub action_ends : Action → Live → Bool
 action_ends (form.Does f) live = ends_arm (statement_tree f (in_block live))
 action_ends (form.Gives f) live = false
 
 abbrev example_one : (column : ℕ) → Run
-example_one column = form.Just (form.Linked (form.Plain (form.Value (Integer (pos 1)) (place 1 column))) form.NoLink)
+example_one column =
+    form.Just (form.Linked (form.Plain (form.Value (Integer (pos 1)) (place 1 column)) form.NoPath) form.NoLink)
 
 -- `-1 + 1`
 example : tree (form.Binary (Sign Plus) (place 1 4)
     (form.Just (form.Signed (Sign UnaryMinus) (place 1 1)
-    (form.Linked (form.Plain (form.Value (Integer (pos 1)) (place 1 2))) form.NoLink))) (example_one 6)) nothing_live
+    (form.Linked (form.Plain (form.Value (Integer (pos 1)) (place 1 2)) form.NoPath) form.NoLink))) (example_one 6))
+    nothing_live
     ≡ operator_call (Sign Plus) (place 1 4) (integer (negsuc 0) (place 1 1)) (integer (pos 1) (place 1 6))
 example = refl

@@ -1,24 +1,25 @@
 -- Which tokens are refused in place of a required one, and for which cause.
-use Rattle.std.specs.Prelude.{ℕ, ◌==◌, Bool, ◌&&◌}
+use Rattle.std.specs.Prelude.{ℕ, ◌==◌, Bool, ◌&&◌, ◌||◌}
 use Rattle.std.specs.Prelude.{codes, if◌then◌else◌}
 use Rattle.rhai_lower.specs.Texts.{Text}
 use Rattle.rhai_lower.specs.Lexemes.{Lexeme, Reserved}
 use Rattle.rhai_lower.specs.Nodes.{Node, Properties}
 use Rattle.rhai_lower.specs.declared.position.Position.{Position}
 use Rattle.rhai_grammar.specs.Causes as cause
-use Rattle.rhai_grammar.specs.Causes.{refusal}
+use Rattle.rhai_grammar.specs.Causes.{Cause, Refusal, refusal}
 use Rattle.rhai_grammar.specs.Delivered.{is_end}
 use Rattle.rhai_grammar.specs.Settings.{Settings, in_function, quoted_keys}
 use Rattle.rhai_grammar.specs.DueTokens.{is_due, not_due}
 use Rattle.rhai_grammar.specs.declared.due.DueToken.{DueToken}
-use Rattle.rhai_grammar.specs.Contexts.{Context, full, has_room}
+use Rattle.rhai_grammar.specs.Contexts.{Context, Live, full, has_room}
 use Rattle.rhai_grammar.specs.Beginnings.{beginning, no_operand, unexpected, missing}
+use Rattle.rhai_grammar.specs.Modules.{may_use}
 use Rattle.rhai_grammar.specs.Starts.{begins, operand_start}
 use Rattle.rhai_grammar.specs.declared.role.OperandPlace.{OperandPlace}
 use Rattle.rhai_grammar.specs.declared.role.OperandStart.{OperandStart}
 use Rattle.rhai_grammar.specs.declared.role.OperandStart.TheVariants as start
 use Rattle.rhai_grammar.specs.Beginnings.{calling, calls, is_list, may_be_called, is_this, linking}
-use Rattle.rhai_grammar.specs.Beginnings.{is_link}
+use Rattle.rhai_grammar.specs.Beginnings.{excludes_use, is_link, qualifies}
 use Rattle.rhai_grammar.specs.Beginnings.{MemberPlace, AMember, NoMember, member_place}
 use Rattle.rhai_grammar.specs.declared.list.AfterPart.{AfterPart}
 use Rattle.rhai_grammar.specs.declared.list.AfterPart.TheVariants as after
@@ -53,6 +54,12 @@ operand_due context place token = beginning_due context token (operand_start pla
 abbrev pub anything : Lexeme → Verdict
 anything token = Otherwise
 
+-- After a name: what makes it no use of a variable. A variable that is used may have to be known.
+abbrev pub after_name : Context → Live → Text → Position → Lexeme → Verdict
+after_name context live name at token =
+    if excludes_use token || may_use context live name then Fine else
+    Blames (refusal (cause.VariableUndefined name) at)
+
 -- After a reserved word: what calls it, if it may be called. In a function `this` may be followed by anything.
 abbrev pub word_use : Context → Text → Position → (called : Bool) → Verdict
 word_use context word at called =
@@ -64,6 +71,10 @@ word_use context word at called =
 
 abbrev pub after_word : Context → Text → Position → Lexeme → Verdict
 after_word context word at token = word_use context word at (calls token)
+
+-- after a name with its path: nothing that makes the path longer
+abbrev pub unqualified : Node → Lexeme → Verdict
+unqualified x token = if is_variable x && qualifies token then Otherwise else Fine
 
 -- after an operand that is not called: nothing that calls a variable
 abbrev pub uncalled : Node → Lexeme → Verdict
@@ -81,9 +92,12 @@ member_at (NoMember why) = Wrong why
 abbrev pub member_due : Lexeme → Verdict
 member_due token = member_at (member_place token)
 
--- after a property's name: nothing that calls it
+-- after a property's name: nothing that calls it; and it is not part of a path
+abbrev pub no_path : Cause
+no_path = cause.BadInput (cause.ImproperSymbol (codes "::"))
+
 abbrev pub uncalled_member : Lexeme → Verdict
-uncalled_member token = if calls token then Otherwise else Fine
+uncalled_member token = if calls token then Otherwise else (if qualifies token then Wrong no_path else Fine)
 
 -- After a method's name: what calls it. A reserved word cannot be a property.
 abbrev pub no_method : Lexeme → Position → Verdict
@@ -96,6 +110,15 @@ after_method name at token = if calls token then Fine else no_method name at
 -- after the `!` of a call
 abbrev pub list_due : Lexeme → Verdict
 list_due token = if is_list (calling token) then Otherwise else Wrong (missing (codes "(") token)
+
+-- after the `!` of a call by a name with a path, which may not have one; the `!` is at a position
+abbrev pub bang_refusal : Position → Lexeme → Refusal
+bang_refusal bang token =
+    refusal (cause.BadInput (if is_list (calling token) then cause.UnexpectedInput (codes "!")
+    else cause.ImproperSymbol (codes "!"))) bang
+
+abbrev pub no_bang : Position → Lexeme → Verdict
+no_bang bang token = Blames (bang_refusal bang token)
 
 -- after the `(` of a call: neither the end mark nor an error of the tokenizer
 abbrev pub close_or_argument : Lexeme → Verdict

@@ -8,7 +8,7 @@ use Rattle.rhai_lower.specs.declared.token.Token.TheVariants.{MapStart, RightBra
 use Rattle.rhai_lower.specs.declared.token.Token.TheVariants.{Bang, Equals}
 use Rattle.rhai_grammar.specs.Delivered.{code, text, item}
 use Rattle.rhai_grammar.specs.declared.due.DueToken.TheVariants as due
-use Rattle.rhai_grammar.specs.Contexts.{Context, Live, has_single_blocks, in_block, level_up}
+use Rattle.rhai_grammar.specs.Contexts.{Context, Live, below_global, has_single_blocks, in_block, level_up}
 use Rattle.rhai_grammar.specs.Beginnings.{beginning, is_value, is_sign, is_range}
 use Rattle.rhai_grammar.specs.Starts.{is_omitted, jump_token, no_value_follows, operand_start, value_follows}
 use Rattle.rhai_grammar.specs.Interpolations.{text_due}
@@ -20,19 +20,21 @@ use Rattle.rhai_grammar.specs.Signs.{sign_holds, malformed}
 use Rattle.rhai_grammar.specs.Strengths.{is_operator}
 use Rattle.rhai_grammar.specs.Forms as form
 use Rattle.rhai_grammar.specs.Forms.{Primary, Base, Links, Operand, Arguments, Items, Elements, Fields, Run}
-use Rattle.rhai_grammar.specs.Forms.{Body, ExprStatement, Initializer, JumpValue, Segments, Statement, Statements}
+use Rattle.rhai_grammar.specs.Forms.{Body, ExprStatement, Initializer, JumpValue, Path, Segments, Statement, Statements}
 use Rattle.rhai_grammar.specs.Definitions.{after_statement}
 use Rattle.rhai_grammar.specs.Targets.{is_assignment, is_constant_use, target_fault}
 use Rattle.rhai_grammar.specs.Statements.{closed_due, ends_itself, expression_begins, keyword_of, list_ends}
-use Rattle.rhai_grammar.specs.Statements.{semicolon_due, statement_begins, unassigned, without_value}
+use Rattle.rhai_grammar.specs.Statements.{exported_due, exports_definition, semicolon_due, statement_begins, unassigned}
+use Rattle.rhai_grammar.specs.Statements.{without_value}
 use Rattle.rhai_grammar.specs.declared.role.Closing.{Closing}
 use Rattle.rhai_grammar.specs.declared.role.Closing.TheVariants.{Brace, EndMark}
 use Rattle.rhai_grammar.specs.Trees.{is_variable, bracket_link, member_link, method_tree, primary_tree, base_tree}
-use Rattle.rhai_grammar.specs.Trees.{argument_trees, operand_tree, statement_tree, tree}
+use Rattle.rhai_grammar.specs.Trees.{argument_trees, named_tree, operand_tree, statement_tree, tree}
+use Rattle.rhai_grammar.specs.Modules.{is_qualified, is_scoped, module_fault}
 use Rattle.rhai_grammar.specs.Chains.{index_refusal, last_fault}
 use Rattle.rhai_grammar.specs.Demands.{Verdict, Demands, Nothing, Tok, Ahead, Next}
 use Rattle.rhai_grammar.specs.Demands.{Test, Shape, ◌▸◌}
-use Rattle.rhai_grammar.specs.Verdicts.{operand_due, anything, after_word, uncalled, unlinked, member_due}
+use Rattle.rhai_grammar.specs.Verdicts.{operand_due, anything, after_name, after_word, uncalled, unlinked, member_due}
 use Rattle.rhai_grammar.specs.Verdicts.{uncalled_member, list_due, close_or_argument, argument_due}
 use Rattle.rhai_grammar.specs.Verdicts.{argument_follows, item_due, no_item_due, key_due}
 use Rattle.rhai_grammar.specs.Verdicts.{operator_known, end_due}
@@ -52,7 +54,7 @@ use Rattle.rhai_lower.specs.declared.token.Token.TheVariants as token
 pub use Rattle.rhai_grammar.specs.Parts.{due_token, comma_at, closed_at, raise, raise_at, raise_after, begun, ended}
 pub use Rattle.rhai_grammar.specs.Parts.{as_expression, operands_fit, field, unfaulted, method, new_name, inside_at}
 pub use Rattle.rhai_grammar.specs.Parts.{in_braces, as_guard, as_iterated, loop_names, catch_name, loop_at, separated}
-pub use Rattle.rhai_grammar.specs.Parts.{as_case}
+pub use Rattle.rhai_grammar.specs.Parts.{as_case, banged, global_at, other_name, path}
 
 -- ---- the forms
 
@@ -61,7 +63,7 @@ abbrev mutual
   primary (form.Value token at) context live place more =
       Shape (is_value (beginning token)) ▸ Tok code (item token at) (operand_due context place) ▸ more
   primary (form.Named name at) context live place more =
-      Tok code (item (Name name) at) (operand_due context place) ▸ more
+      Tok code (item (Name name) at) (operand_due context place) ▸ Next (after_name context live name at) ▸ more
   primary (form.Word word at) context live place more =
       Tok code (item (Reserved word) at) (operand_due context place) ▸ Next (after_word context word at) ▸ more
   primary (form.Group opening inside closing) context live place more =
@@ -84,17 +86,21 @@ abbrev mutual
       Shape (is_range (beginning range)) ▸ Ahead (item range at) (operand_due context place) ▸ more
 
   -- A variable that is called is the name of a call. Only what calls it may follow a reserved word other than `this`.
+  -- Where the name has a path, the module that it begins with is tested after the arguments.
   pub base : Base → Context → Live → OperandPlace → Demands → Demands
-  base (form.Plain x) context live place more =
-      primary x context live place (Next (uncalled (primary_tree x live false)) ▸ more)
-  base (form.Call x None args) context live place more =
-      primary x context live place (
-      Shape (is_variable (primary_tree x live true)) ▸
-      arguments args anything context live (position_of (primary_tree x live true)) more)
-  base (form.Call x (Some bang) args) context live place more =
-      primary x context live place (
-      Shape (is_variable (primary_tree x live true)) ▸ Tok code (item (Sign Bang) bang) anything ▸
-      arguments args list_due context live (position_of (primary_tree x live true)) more)
+  base (form.Plain x names) context live place more =
+      primary x context live place (path names live.imports (primary_tree x live (is_scoped names)) (
+      Next (uncalled (named_tree x names false live)) ▸ more))
+  base (form.Call x names None args) context live place more =
+      let name = named_tree x names true live in
+      primary x context live place (path names live.imports (primary_tree x live true) (
+      Shape (is_variable name) ▸ arguments args anything context live (position_of name) (
+      unfaulted (module_fault context live name) more)))
+  base (form.Call x names (Some bang) args) context live place more =
+      let name = named_tree x names true live in
+      primary x context live place (path names live.imports (primary_tree x live true) (
+      Shape (is_variable name) ▸ Tok code (item (Sign Bang) bang) anything ▸ banged (is_qualified name) bang (
+      arguments args list_due context live (position_of name) (unfaulted (module_fault context live name) more))))
 
   -- A bracket raises the level, and its index once more; a dot raises that of the operand, for everything to its right.
   -- After the links the members are tested: some are not allowed as methods.
@@ -123,9 +129,12 @@ abbrev mutual
       Tok code (item (Sign Bang) bang) anything ▸ arguments args list_due (level_up spot.settings) live name_at (
       links rest (spot_after_dot spot (member_link dot at called)) live more))
 
+  -- After its links, the module of a name with a path is tested.
   pub operand : Operand → Context → Live → OperandPlace → Demands → Demands
   operand (form.Linked x list) context live place more =
-      base x context live place (links list (spot_after_operand context (base_tree x live)) live more)
+      base x context live place (
+      links list (spot_after_operand context (base_tree x live)) live (
+      unfaulted (module_fault context live (base_tree x live)) more))
   operand (form.Signed sign at x) context live place more =
       Shape (is_sign (beginning sign)) ▸ Tok code (item sign at) (operand_due context place) ▸
       raise_at context at (
@@ -134,7 +143,7 @@ abbrev mutual
   operand (form.NoOperand token at) context live place more =
       Shape (is_omitted (operand_start place token)) ▸ Ahead (item token at) (operand_due context place) ▸ more
   operand (form.Jump x) context live place more =
-      Next (jump_stands place) ▸ statement x context (in_block live) more
+      Next (jump_stands place) ▸ statement x (below_global context) (in_block live) more
 
   -- The level of arguments is raised once for all of them; the refusal has the position of the name that is called.
   pub arguments : Arguments → (others : Lexeme → Verdict) → Context → Live → Position → Demands → Demands
@@ -226,7 +235,8 @@ abbrev mutual
   jump_value (form.Present f) context live at more =
       Next (value_follows context) ▸ raise_at context at (as_expression (run f) (level_up context) live more)
 
-  -- A statement raises the level at its first token; a construct raises it once more.
+  -- A statement raises the level at its first token, but for `;` and `continue`; a construct and `import` raise it once
+  -- more, and so does `export` before a definition.
   pub statement : Statement → Context → Live → Demands → Demands
   statement (form.EmptyStatement at) context live more = Tok code (item (Sign SemiColon) at) anything ▸ more
   statement (form.Expression x) context live more =
@@ -244,6 +254,18 @@ abbrev mutual
       loop_at context at (jump_value value context live at more)
   statement (form.Continue at) context live more =
       Shape (allows_looping context) ▸ Tok code (item (Sign token.Continue) at) anything ▸ loop_at context at more
+  statement (form.Import at f other) context live more =
+      Tok code (item (Sign token.Import) at) anything ▸ inside_at at context (
+      as_expression (run f) (level_up (level_up context)) live (other_name other more))
+  statement (form.Export at name name_at other) context live more =
+      Tok code (item (Sign token.Export) at) anything ▸ global_at context at (raise_at context at (
+      Tok code (item (Name name) name_at) exported_due ▸ other_name other more))
+  statement (form.ExportDefined at constant keyword name name_at value) context live more =
+      let inner = level_up (level_up context) in
+      Tok code (item (Sign token.Export) at) anything ▸ global_at context at (raise_at context at (
+      Next exports_definition ▸ raise_at (level_up context) at (
+      Tok code (item (Sign (keyword_of constant)) keyword) anything ▸
+      new_name name name_at inner live (definition_value value inner live keyword more))))
 
   -- A construct after its first token, which is at a position. Only its body is in a loop.
   pub construct : Construct → Context → Live → (at : Position) → Demands → Demands
@@ -312,10 +334,11 @@ abbrev mutual
   case_guard (form.Guard at f) context live more =
       Tok code (item (Sign token.If) at) anything ▸ as_guard (run f) (tree f live) context live more
 
-  -- A statement of an arm is in a block of its own.
+  -- A statement of an arm is in a block of its own, below the global level.
   pub action : Action → Context → Live → Demands → Demands
   action (form.Does f) context live more =
-      Shape (not (has_single_blocks context)) ▸ Next action_due ▸ statement f context (in_block live) more
+      Shape (not (has_single_blocks context)) ▸ Next action_due ▸
+      statement f (below_global context) (in_block live) more
   action (form.Gives f) context live more =
       Shape (has_single_blocks context) ▸ as_expression (run f) context live more
 
@@ -335,10 +358,11 @@ abbrev mutual
       Shape (ends_itself (statement_tree f live)) ▸
       statements rest closing context (after_statement f live) more)
 
+  -- The statements of a block are below the global level.
   pub block : Body → Context → Live → Demands → Demands
   block (form.Many fs closing) context live more =
       Shape (not (has_single_blocks context)) ▸
-      statements fs Brace context (in_block live) (due_token due.RightBrace closing more)
+      statements fs Brace (below_global context) (in_block live) (due_token due.RightBrace closing more)
   block (form.Single x closing) context live more =
       Shape (has_single_blocks context) ▸ expr_statement x context live (due_token due.RightBrace closing more)
 

@@ -31,4 +31,6 @@ pub enum DueToken {
     Else,
     /// `catch`, after the block of `try`.
     Catch,
+    /// `as`, before another name, after `import` and `export`.
+    As,
 }

@@ -6,7 +6,9 @@ ghost use Rattle.rhai_grammar.specs.Rows.{CallRow, EndedRow, FlatRow, LateRow, M
 ghost use Rattle.rhai_grammar.specs.Rows.{PairRow, RangedRow, SizedRow, SumRow};
 ghost use Rattle.rhai_grammar.specs.RowsOfChains.{CaptureRow, GroupedRow, JoinedRow, QuestionedRow};
 ghost use Rattle.rhai_grammar.specs.RowsOfConstructs.{ArmRow, BreakRow, DefaultRow, IntegerRow, LoopRow, PipeRow};
-ghost use Rattle.rhai_grammar.specs.RowsOfStatements.{AgainRow, ConstantRow, LetRow, OpenBlockRow, ScopesRow, SingleRow};
+ghost use Rattle.rhai_grammar.specs.RowsOfModules.{ExportedRow, TwiceRow};
+ghost use Rattle.rhai_grammar.specs.RowsOfStatements.{AgainRow, ConstantRow, LetRow, OpenBlockRow};
+ghost use Rattle.rhai_grammar.specs.RowsOfStatements.{ScopesRow, SingleRow};
 ghost use Rattle.rhai_grammar.specs.RowsOfStrings.{JumpRow, ReturnRow, StringRow};
 ghost use Rattle.rhai_grammar.specs.SlotLaws.{NoSlot, NumberedSlot, Reuse, ScopesClose};
 ghost use Rattle.rhai_grammar.specs.StartLaws.{StartsOfExpressions};
@@ -226,6 +228,20 @@ pub fn arm_row()
     ensures { ArmRow }
 {}
 
+/// In `import "a" as m; import "b" as m; m::f()` the call refers to the second import, and both are left after the
+/// script.
+#[tactic(auto, using(crate::proofs::ModuleRowLemmas::twice_row))]
+pub fn twice_row()
+    ensures { TwiceRow }
+{}
+
+/// In `let x; let y; export let x; let x` the exported definition uses the first slot again, which has number 2; the
+/// last one gets a new slot.
+#[tactic(auto, using(crate::proofs::ModuleRowLemmas::exported_row))]
+pub fn exported_row()
+    ensures { ExportedRow }
+{}
+
 /// `switch 1 { _ => 2, 3 => 4 }` is refused at the `_`: the default arm is the last one.
 #[tactic(auto, using(crate::proofs::ConstructRowLemmas::default_row))]
 pub fn default_row()
@@ -244,13 +260,14 @@ pub fn pipe_row()
     ensures { PipeRow }
 {}
 
-/// A name that has a number in its tree is not called, and the slot with that number is the latest of the name.
+/// A name that has a number in its tree is not directly before what calls it or before `::`, and the slot with that
+/// number is the latest of the name.
 #[tactic(auto, using(crate::proofs::SlotLemmas::numbered_slot))]
 pub fn numbered_slot()
     ensures { NumberedSlot }
 {}
 
-/// A name that has no number in its tree is called, or no live slot has the name.
+/// A name that has no number in its tree is directly before what calls it or before `::`, or no live slot has the name.
 #[tactic(auto, using(crate::proofs::SlotLemmas::no_slot))]
 pub fn no_slot()
     ensures { NoSlot }
@@ -263,7 +280,8 @@ pub fn reuse()
     ensures { Reuse }
 {}
 
-/// A block and an expression leave live what was live before them, and statements keep the slots before their block.
+/// A construct and an expression leave live what was live before them. Statements keep the slots before their block,
+/// and the imports before them.
 #[tactic(auto, using(crate::proofs::SlotLemmas::scopes_close))]
 pub fn scopes_close()
     ensures { ScopesClose }

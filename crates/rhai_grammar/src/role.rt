@@ -160,6 +160,10 @@ pub enum StatementStart {
     Break,
     /// `continue`.
     Continue,
+    /// `import`.
+    Import,
+    /// `export`.
+    Export,
     /// An expression, or nothing that may stand there.
     Expression,
 }

@@ -5,6 +5,7 @@
 pub mod ast;
 pub mod names;
 pub mod optimizer;
+mod places;
 pub mod position;
 pub mod scope;
 pub mod stream;

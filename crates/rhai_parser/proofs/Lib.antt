@@ -1,1 +1,2 @@
 pub mod PromiseLemmas
+pub mod FrameLemmas

@@ -5,6 +5,7 @@ use Rattle.std.specs.declared.alloc.Global.{Global}
 use Rattle.std.specs.declared.rc.Rc.{Rc}
 use Rattle.rhai_lower.specs.Nodes.{Node, Statements}
 use Rattle.rhai_lower.specs.Slots.{SlotValue}
+use Rattle.rhai_lower.specs.Texts.{Text}
 use Rattle.rhai_lower.specs.View.{statement_views}
 use Rattle.rhai_lower.specs.declared.ast.AST.{AST}
 use Rattle.rhai_lower.specs.declared.ast.ScriptFuncDef.{ScriptFuncDef}
@@ -14,7 +15,6 @@ use Rattle.rhai_grammar.specs.Cursors.{Cursor}
 use Rattle.rhai_grammar.specs.Delivered.{code}
 use Rattle.rhai_grammar.specs.Contexts.{Context, Live}
 use Rattle.rhai_grammar.specs.Demands.{Demands}
-use Rattle.rhai_grammar.specs.Forms.{Run}
 use Rattle.rhai_grammar.specs.Forms as form
 use Rattle.rhai_grammar.specs.Trees.{statement_trees, tree}
 use Rattle.rhai_grammar.specs.Definitions.{after_statements}
@@ -25,7 +25,7 @@ use Rattle.rhai_base.proofs.ErrorLemmas.{memory_cause}
 use Rattle.rhai_reading.specs.Reading.{Goal, Script, Val, Whole}
 use Rattle.rhai_reading.specs.Running.{Done, Fails, result_of}
 use Rattle.rhai_reading.proofs.Main as M
-use Rattle.rhai_reading.proofs.Main.{Entry, expression_entry, script_entry, script_of}
+use Rattle.rhai_reading.proofs.Main.{Entry, expression_entry, script_entry}
 
 -- memory ran out after a form was read
 pub ran_out : {X : Type 0} (Is : X → Type 0) (result : Result X ParseError) → Returns Is result
@@ -113,22 +113,29 @@ abbrev IsMade : {V : Type 0} → List (V × Rc ScriptFuncDef Global) → Stateme
 IsMade library ss result =
     IfOk result (λ r. (statement_views r.0.items ≡ ss) × (functions_of r.1.items ≡ functions_of (library_of library)))
 
-made_so : {V : Type 0} (library : List (V × Rc ScriptFuncDef Global)) (live left : Live) (ss : Statements) (slots : List SlotValue) (result : Result Read ParseError) → slots ≡ left.slots → IfErr result (λ e. is_for_memory e ≡ true) → IsMade library ss result → library ≡ [] → (fs : form.Statements) → statement_trees fs live ≡ ss → after_statements fs live ≡ left → Returns (λ script. IsScript fs live script slots) result
-made_so library live left ss slots (Ok r) same out is empty fs trees lives = record {
+made_so : {V : Type 0} (library : List (V × Rc ScriptFuncDef Global)) (live left : Live) (ss : Statements) (slots : List SlotValue) (modules : List Text) (result : Result Read ParseError) → slots ≡ left.slots → modules ≡ left.imports → IfErr result (λ e. is_for_memory e ≡ true) → IsMade library ss result → library ≡ [] → (fs : form.Statements) → statement_trees fs live ≡ ss → after_statements fs live ≡ left → Returns (λ script. IsScript fs live script slots modules) result
+made_so library live left ss slots modules (Ok r) same too out is empty fs trees lives = record {
   statements = is.0 ∙ sym trees;
   functions = none_mapped r.1.items (is.1 ∙ ap (λ l. functions_of (library_of l)) empty);
   slots = same ∙ ap (λ (w : Live). w.slots) (sym lives);
+  imports = too ∙ ap (λ (w : Live). w.imports) (sym lives);
 }
-made_so library live left ss slots (Err e) same out is empty fs trees lives = out
+made_so library live left ss slots modules (Err e) same too out is empty fs trees lives = out
 
--- a script that was read, and the slots that it leaves
-pub script_done : {V : Type 0} (library : List (V × Rc ScriptFuncDef Global)) (c : Context) (live left : Live) (s t : Cursor) (ss : Statements) (slots : List SlotValue) (result : Result Read ParseError) → s.mode ≡ code → result_of (Script c live) s ≡ Done (ss, left) t → slots ≡ left.slots → IfErr result (λ e. is_for_memory e ≡ true) → IsMade library ss result → ReadsScript library c live s t result slots
-script_done library c live left s t ss slots result mode read same out is =
-    reads_done (script_entry c live) (λ fs script. IsScript fs live script slots) library s t (ss, left) result mode read out
-    (λ empty fs tree. made_so library live left ss slots result same out is empty fs (ap (λ v. v.0) tree) (ap (λ v. v.1) tree))
+-- a script that was read, and the slots and imports that it leaves
+pub script_done : {V : Type 0} (library : List (V × Rc ScriptFuncDef Global)) (c : Context) (live left : Live) (s t : Cursor)
+    (ss : Statements) (slots : List SlotValue) (modules : List Text) (result : Result Read ParseError) → s.mode ≡ code
+    → result_of (Script c live) s ≡ Done (ss, left) t → slots ≡ left.slots → modules ≡ left.imports
+    → IfErr result (λ e. is_for_memory e ≡ true) → IsMade library ss result
+    → ReadsScript library c live s t result slots modules
+script_done library c live left s t ss slots modules result mode read same too out is =
+    reads_done (script_entry c live) (λ fs script. IsScript fs live script slots modules) library s t (ss, left) result mode read out
+    (λ empty fs tree. made_so library live left ss slots modules result same too out is empty fs (ap (λ v. v.0) tree) (ap (λ v. v.1) tree))
 
-pub script_fails : {L : Type 0} (library : List L) (c : Context) (live : Live) (s left : Cursor) (e : ParseError) (slots : List SlotValue) → s.mode ≡ code → Fails (result_of (Script c live) s) e left → ReadsScript library c live s left (Err e) slots
-script_fails library c live s left e slots mode fails =
-    reads_fails (script_entry c live) (λ fs script. IsScript fs live script slots) library s left e mode fails
+pub script_fails : {L : Type 0} (library : List L) (c : Context) (live : Live) (s left : Cursor) (e : ParseError)
+    (slots : List SlotValue) (modules : List Text) → s.mode ≡ code → Fails (result_of (Script c live) s) e left
+    → ReadsScript library c live s left (Err e) slots modules
+script_fails library c live s left e slots modules mode fails =
+    reads_fails (script_entry c live) (λ fs script. IsScript fs live script slots modules) library s left e mode fails
 
 pub ruleset expressions_read = (expression_done, expression_fails)

@@ -1,9 +1,7 @@
 -- An engine as contracts see it: by the options and limits of its language.
-use Rattle.std.specs.Prelude.{ℕ, Bool, List, [], ◌-◌, ◌^◌, if◌then◌else◌}
+use Rattle.std.specs.Prelude.{ℕ, Bool, [], ◌-◌, ◌^◌, if◌then◌else◌}
 use Rattle.std.specs.Int.RustNames.{bit_or}
 use Rattle.bitflags.specs.Sets.{without}
-use Rattle.std.specs.List.{list_any}
-use Rattle.rhai_lower.specs.Texts.{Text, same_text}
 use Rattle.rhai_lower.specs.Positions.{place}
 use Rattle.rhai_base.specs.declared.settings.ParseSettings.{ParseSettings}
 use Rattle.rhai_readers.specs.Languages.{LanguageValue}
@@ -44,7 +42,3 @@ script_settings e = record {
   pos = place 1 1;
   max_expr_depth = e.max_expr_depth;
 }
-
--- whether a name is among those of the modules
-abbrev pub has_module : Text → List Text → Bool
-has_module name modules = list_any (λ m. same_text m name) modules

@@ -1,10 +1,12 @@
 -- What a whole script or expression stands in at an entry, in the state that it is given.
-use Rattle.std.specs.Prelude.{List, Vec}
+use Rattle.std.specs.Prelude.{List, Vec, map}
+use Rattle.std.specs.Rc.{rc_str_bytes}
 use Rattle.std.specs.declared.alloc.Global.{Global}
 use Rattle.std.specs.declared.rc.RcStr.{RcStr}
 use Rattle.rhai_lower.specs.Slots.{SlotValue}
 use Rattle.rhai_lower.specs.declared.position.Position.{Position}
-use Rattle.rhai_grammar.specs.Contexts.{Context, Live}
+use Rattle.rhai_grammar.specs.Contexts.{Context, Known, Live}
+use Rattle.rhai_base.specs.Frames.{FrameValue, known_variables}
 use Rattle.rhai_base.specs.declared.settings.ParseSettings.{ParseSettings}
 use Rattle.rhai_base.specs.declared.state.ParseState.{ParseState}
 use Rattle.rhai_readers.specs.Frames.{context_of}
@@ -13,10 +15,28 @@ use Rattle.rhai_readers.specs.Languages.{LanguageValue}
 abbrev pub StateValue : Type 0
 StateValue = ParseState (List SlotValue) (Vec (RcStr Global × Position) Global) (Vec (RcStr Global) Global)
 
+-- what is live before the whole form
+abbrev pub live_in : StateValue → Live
+live_in state = record {
+  slots = state.stack;
+  block = state.frame_pointer;
+  imports = map rc_str_bytes state.imports.items;
+}
+
+-- what is known around it: the state's variables from outside and the imports of enclosing scripts, and the engine's
+-- modules
+abbrev pub known_in : LanguageValue → StateValue → Known
+known_in engine state = record {
+  variables = known_variables state.external_constants;
+  imports = map rc_str_bytes state.global_imports.items;
+  modules = engine.sub_modules;
+}
+
+-- the frame in which the whole form is read
+abbrev pub frame_in : LanguageValue → StateValue → FrameValue
+frame_in engine state =
+    record { live = live_in state; depth = 0; filter = state.expr_filter; known = known_in engine state }
+
 -- what goes down into the whole form, under the settings that the caller chose
 abbrev pub starts_in : LanguageValue → StateValue → ParseSettings → Context
-starts_in engine state settings = context_of engine state.expr_filter settings
-
--- what is live before it
-abbrev pub live_in : StateValue → Live
-live_in state = record { slots = state.stack; block = state.frame_pointer }
+starts_in engine state settings = context_of engine (frame_in engine state) settings

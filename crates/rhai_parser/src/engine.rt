@@ -1,6 +1,6 @@
 //! The engine: language options and limits, and the entries of the parser.
 
-ghost use Rattle.std.specs.Prelude.{◌≡◌, ◌==◌, ◌++◌, ◌∷◌, List, [], IfErr, OnErr, OnOk};
+ghost use Rattle.std.specs.Prelude.{◌≡◌, ◌==◌, ◌++◌, ◌∷◌, List, [], IfErr, OnErr, OnOk, map};
 ghost use Rattle.std.specs.Int.RustNames.{bit_and};
 ghost use Rattle.std.specs.Fn.{FnOnceReturnsAtMut, FnOnceTakesAtMut};
 ghost use Rattle.std.specs.declared.alloc.Global.{Global};
@@ -15,10 +15,14 @@ ghost use Rattle.rhai_grammar.specs.Promises.{Accepts, HasRead, ReadsExpression,
 ghost use Rattle.rhai_base.specs.States.{IsFresh};
 ghost use Rattle.rhai_readers.specs.Frames.{context_of, live_of};
 ghost use Rattle.rhai_parser.specs.Starts.{live_in, starts_in};
-ghost use Rattle.rhai_parser.specs.Engines.{fresh_engine, with_bits, expr_settings, has_module};
+ghost use Rattle.rhai_base.specs.Frames.{known_of, known_variables};
+ghost use Rattle.std.specs.Rc.{rc_str_bytes};
+ghost use Rattle.rhai_grammar.specs.Imports.{is_among};
+ghost use Rattle.rhai_parser.specs.Engines.{fresh_engine, with_bits, expr_settings};
 
 use bitflags::Flags;
-use rhai_base::{Frame, LangOptions, ParseSettingFlags, ParseSettings, ParseState};
+use rhai_base::known::is_among;
+use rhai_base::{Frame, Known, LangOptions, ParseSettingFlags, ParseSettings, ParseState};
 use rhai_grammar::ParseResult;
 use rhai_lower::{
     AST, Expr, OptimizationLevel, Position, Scope, Stmt, TokenStream, optimize_into_ast,
@@ -196,14 +200,9 @@ impl Engine {
 
     /// Whether scripts find a module of this name without importing it. It does not allocate.
     pub fn has_sub_module(&self, name: &str) -> bool
-        ensures { result ≡ has_module name.now self.now.sub_modules }
+        ensures { result ≡ is_among name.now self.now.sub_modules }
     {
-        for module in &self.language.sub_modules {
-            if module.as_str() == name {
-                return true;
-            }
-        }
-        false
+        is_among(&self.language.sub_modules, name)
     }
 
     /// Lets scripts find a module of this name without importing it. Where there is no memory for that, nothing
@@ -215,6 +214,25 @@ impl Engine {
         let name = RcStr::from_str(self.language.alloc, name)?;
         self.language.sub_modules.push(name)?;
         Ok(())
+    }
+
+    // What is known around a script: these variables, these imports, and the modules of the engine.
+    pub(crate) fn known<'k>(
+        &'k self,
+        variables: Option<&'k Scope>,
+        imports: &'k [RcStr],
+    ) -> Known<'k>
+        ensures { known_of result ≡ record {
+          variables = known_variables variables.entry;
+          imports = map rc_str_bytes imports.now;
+          modules = self.now.sub_modules;
+        } }
+    {
+        Known {
+            variables,
+            imports,
+            modules: &self.language.sub_modules,
+        }
     }
 
     // The settings that one expression is read under, before the caller changes them.
@@ -259,7 +277,7 @@ impl Engine {
         level: OptimizationLevel,
     ) -> ParseResult<AST>
         ensures reads { (library : List (FnKey × Rc ScriptFuncDef Global)) → (cursor_of input.old).mode ≡ code
-            → ReadsExpression library (context_of self.now frame.now.filter settings) (live_of frame.now)
+            → ReadsExpression library (context_of self.now frame.now settings) (live_of frame.now)
             (cursor_of input.old) (cursor_of input.new) result }
         ensures memory { UnlessMemory (HasRead (cursor_of input.old) (cursor_of input.new)) result }
         ensures nowhere { IfErr result MemoryIsNowhere }
@@ -307,11 +325,12 @@ impl Engine {
             frame_pointer,
             external_vars: _,
             allow_capture: _,
-            imports: _,
-            global_imports: _,
+            imports,
+            global_imports,
             counts: _,
         } = state;
-        let frame = Frame::new(stack, frame_pointer, expr_filter);
+        let known = self.known(external_constants, &global_imports);
+        let frame = Frame::new(stack, frame_pointer, imports, expr_filter, known);
         self.read_script(input, &frame, chosen, external_constants, level)
     }
 }

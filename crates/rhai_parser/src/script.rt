@@ -1,6 +1,7 @@
 //! The entry that reads a whole script.
 
 ghost use Rattle.std.specs.Prelude.{◌≡◌, IfErr, IfOk, map, true};
+ghost use Rattle.std.specs.Rc.{rc_str_bytes};
 ghost use Rattle.std.specs.Fn.{FnOnceReturnsAtMut, FnOnceTakesAtMut};
 ghost use Rattle.rhai_lower.specs.View.{statement_views};
 ghost use Rattle.rhai_grammar.specs.Causes.{MemoryIsNowhere, is_for_memory};
@@ -17,11 +18,11 @@ ghost use Rattle.rhai_parser.specs.Starts.{live_in, starts_in};
 use crate::engine::Engine;
 use rhai_base::library::functions;
 use rhai_base::{FnLib, Frame, ParseSettingFlags, ParseSettings, ParseState};
-use rhai_grammar::{Closing, ExprFilter, ParseResult};
+use rhai_grammar::{Closing, ParseResult};
 use rhai_lower::{Position, Scope, ScriptFuncDef, Stmt, StmtBlockContainer, TokenStream};
 use rhai_readers::Shared;
 use std::mem;
-use std::rc::Rc;
+use std::rc::{Rc, RcStr};
 
 impl Engine {
     // The settings that a script is read under, before the caller changes them.
@@ -37,23 +38,23 @@ impl Engine {
         }
     }
 
-    // Reads the statements of a script in the block that begins after `block` slots, and leaves the slots that are live
-    // after them.
+    // Reads the statements of a script in this outermost frame, and leaves the slots and imports that are live after
+    // them in `stack` and `imports`.
     fn read_statements(
         &self,
         input: &mut TokenStream,
+        frame: Frame<'_>,
         stack: &mut Scope,
-        block: usize,
-        filter: ExprFilter,
+        imports: &mut Vec<RcStr>,
         settings: ParseSettings,
     ) -> ParseResult<Vec<Stmt>>
-        ensures reads { (left : Live) × (left.slots ≡ stack.new)
+        requires { frame.depth ≡ 0 }
+        ensures reads { (left : Live) × (left.slots ≡ stack.new) × (left.imports ≡ map rc_str_bytes imports.new.items)
             × Gives (λ ss. (statement_views ss.items, left))
-            (result_of (Script (context_of self.now filter settings) (record { slots = stack.old; block = block }))
+            (result_of (Script (context_of self.now frame.entry settings) frame.entry.live)
             (cursor_of input.old)) result (cursor_of input.new) }
     {
-        let slots = mem::replace(stack, Scope::new(self.alloc()));
-        let mut frame = Frame::new(slots, block, filter);
+        let mut frame = frame;
         let mut shared = Shared { input };
         let language = self.language();
         let statements = language.parse_statements(
@@ -62,7 +63,7 @@ impl Engine {
             settings,
             Closing::EndMark,
         );
-        *stack = frame.into_stack();
+        (*stack, *imports) = frame.into_parts();
         statements
     }
 
@@ -82,7 +83,8 @@ impl Engine {
     }
 
     /// Reads a script up to the end mark of the stream: its statements, before the optimizer, and all functions of the
-    /// library, in the order in which they ended. The state keeps the slots of the script's variables and the library.
+    /// library, in the order in which they ended. The state keeps the slots of the script's variables, its imports, and
+    /// the library.
     ///
     /// `settings` may change the settings that the script is read under: level 0 at 1:1, the engine's depth for a
     /// script, its options, and the flag `GLOBAL_LEVEL`.
@@ -98,16 +100,39 @@ impl Engine {
         ensures reads { IsFresh state.old → (chosen : _)
             × FnOnceReturnsAtMut F.FnOnce settings (script_settings self.now) tt chosen
             × ReadsScript state.old.lib.now.entries (starts_in self.now state.old chosen) (live_in state.old)
-            (cursor_of state.old.input.now) (cursor_of state.new.input.now) result state.new.stack }
+            (cursor_of state.old.input.now) (cursor_of state.new.input.now) result state.new.stack
+            (map rc_str_bytes state.new.imports.items) }
         ensures memory { UnlessMemory (HasRead (cursor_of state.old.input.now) (cursor_of state.new.input.now)) result }
         ensures nowhere { IfErr result MemoryIsNowhere }
         ensures library { state.new.lib.now ≡ state.old.lib.now }
+        ensures kept { (state.new.global_imports ≡ state.old.global_imports)
+            × (state.new.external_constants ≡ state.old.external_constants)
+            × (state.new.frame_pointer ≡ state.old.frame_pointer)
+            × (state.new.expr_filter ≡ state.old.expr_filter) }
     {
         let mut chosen = self.script_settings();
         settings(&mut chosen);
-        let block = state.frame_pointer;
-        let filter = state.expr_filter;
-        match self.read_statements(state.input, &mut state.stack, block, filter, chosen) {
+        let alloc = self.alloc();
+        let stack = mem::replace(&mut state.stack, Scope::new(alloc));
+        let imports = mem::replace(&mut state.imports, Vec::new(alloc));
+        let around = mem::replace(&mut state.global_imports, Vec::new(alloc));
+        let known = self.known(state.external_constants, &around);
+        let frame = Frame::new(
+            stack,
+            state.frame_pointer,
+            imports,
+            state.expr_filter,
+            known,
+        );
+        let read = self.read_statements(
+            state.input,
+            frame,
+            &mut state.stack,
+            &mut state.imports,
+            chosen,
+        );
+        state.global_imports = around;
+        match read {
             Ok(statements) => self.with_functions(statements, state.lib),
             Err(error) => Err(error),
         }

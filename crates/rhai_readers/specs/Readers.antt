@@ -4,8 +4,10 @@ use Rattle.std.specs.declared.alloc.Global.{Global}
 use Rattle.std.specs.declared.rc.RcStr.{RcStr}
 use Rattle.std.specs.Rc.{rc_str_bytes}
 use Rattle.rhai_lower.specs.Texts.{Text}
-use Rattle.rhai_lower.specs.Nodes.{Node, Nodes, Properties, Statements}
-use Rattle.rhai_lower.specs.View.{property_views, statement_views, views}
+use Rattle.rhai_lower.specs.Nodes.{Node, Nodes, Properties, Statements, variable}
+use Rattle.rhai_lower.specs.View.{named, property_views, statement_views, views}
+use Rattle.rhai_lower.specs.declared.ast.VariableExpr.{VariableExpr}
+use Rattle.std.specs.declared.boxed.Box.{Box}
 use Rattle.rhai_lower.specs.declared.ast.Expr.{Expr}
 use Rattle.rhai_lower.specs.declared.ast.Ident.{Ident}
 use Rattle.rhai_lower.specs.declared.ast.Stmt.{Stmt}
@@ -37,163 +39,176 @@ use Rattle.rhai_readers.specs.declared.shared.Shared.{Shared}
 
 -- an expression up to the end mark
 abbrev pub whole : LanguageValue → FrameValue → ParseSettings → Goal
-whole language frame settings = reading.Whole (context_of language frame.filter settings) (live_of frame)
+whole language frame settings = reading.Whole (context_of language frame settings) (live_of frame)
 
 abbrev pub expression : LanguageValue → FrameValue → ParseSettings → Goal
-expression language frame settings = reading.Expression (context_of language frame.filter settings) (live_of frame)
+expression language frame settings = reading.Expression (context_of language frame settings) (live_of frame)
 
 -- a written operand with its signs and its call
 abbrev pub operand : LanguageValue → FrameValue → ParseSettings → Goal
-operand language frame settings = reading.Operand (context_of language frame.filter settings) (live_of frame)
+operand language frame settings = reading.Operand (context_of language frame settings) (live_of frame)
 
 -- an operand at this place after an operator
 abbrev pub right_operand : LanguageValue → FrameValue → ParseSettings → OperandPlace → Goal
 right_operand language frame settings place =
-    reading.RightOperand (context_of language frame.filter settings) (live_of frame) place
+    reading.RightOperand (context_of language frame settings) (live_of frame) place
 
 abbrev pub primary : LanguageValue → FrameValue → ParseSettings → Goal
-primary language frame settings = reading.Primary (context_of language frame.filter settings) (live_of frame)
+primary language frame settings = reading.Primary (context_of language frame settings) (live_of frame)
 
 -- what calls an operand, if it is a variable
 abbrev pub postfix : LanguageValue → FrameValue → ParseSettings → (operand : Node) → Goal
-postfix language frame settings operand = reading.Postfix (context_of language frame.filter settings) (live_of frame) operand
+postfix language frame settings operand = reading.Postfix (context_of language frame settings) (live_of frame) operand
 
--- what calls a name
-abbrev pub called : LanguageValue → FrameValue → ParseSettings → Goal
-called language frame settings = reading.Called (context_of language frame.filter settings) (live_of frame) settings.pos
+-- what calls a name, which may have a path
+abbrev pub called : LanguageValue → FrameValue → ParseSettings → (qualified : Bool) → Goal
+called language frame settings qualified =
+    reading.Called (context_of language frame settings) (live_of frame) settings.pos qualified
 
 -- the arguments after a `(`
 abbrev pub arguments : LanguageValue → FrameValue → ParseSettings → Goal
-arguments language frame settings = reading.Arguments (context_of language frame.filter settings) (live_of frame) settings.pos
+arguments language frame settings = reading.Arguments (context_of language frame settings) (live_of frame) settings.pos
 
 -- an argument, and those that follow, after these
 abbrev pub items : LanguageValue → FrameValue → ParseSettings → (before : Nodes) → Goal
-items language frame settings before = reading.Items (context_of language frame.filter settings) (live_of frame) before
+items language frame settings before = reading.Items (context_of language frame settings) (live_of frame) before
 
 -- the items of an array, after these
 abbrev pub elements : LanguageValue → FrameValue → ParseSettings → (before : Nodes) → Goal
 elements language frame settings before =
-    reading.Elements (context_of language frame.filter settings) (live_of frame) settings.pos before
+    reading.Elements (context_of language frame settings) (live_of frame) settings.pos before
 
 -- the properties of an object map, after these
 abbrev pub fields : LanguageValue → FrameValue → ParseSettings → (before : Properties) → Goal
 fields language frame settings before =
-    reading.Fields (context_of language frame.filter settings) (live_of frame) settings.pos before
+    reading.Fields (context_of language frame settings) (live_of frame) settings.pos before
 
 -- the blocks and texts of an interpolated string, after these segments
 abbrev pub segments : LanguageValue → FrameValue → ParseSettings → (before : Nodes) → Goal
 segments language frame settings before =
-    reading.Segments (context_of language frame.filter settings) (live_of frame) settings.pos before
+    reading.Segments (context_of language frame settings) (live_of frame) settings.pos before
 
 -- what follows `return`, `throw` or `break`
 abbrev pub jump : LanguageValue → FrameValue → ParseSettings → Goal
-jump language frame settings = reading.Jump (context_of language frame.filter settings) (live_of frame) settings.pos
+jump language frame settings = reading.Jump (context_of language frame settings) (live_of frame) settings.pos
 
 -- the links after an operand
 abbrev pub links : LanguageValue → FrameValue → ParseSettings → (root : Node) → Goal
 links language frame settings root =
-    reading.Links (live_of frame) (spot_after_operand (context_of language frame.filter settings) root)
+    reading.Links (live_of frame) (spot_after_operand (context_of language frame settings) root)
 
 -- the index in a bracket; whose index it is, if that is tested
 abbrev pub index : LanguageValue → FrameValue → ParseSettings → (indexed : Option Node) → Goal
-index language frame settings indexed = reading.Index (context_of language frame.filter settings) (live_of frame) indexed
+index language frame settings indexed = reading.Index (context_of language frame settings) (live_of frame) indexed
 
 -- the member after a dot
 abbrev pub member : LanguageValue → FrameValue → ParseSettings → Goal
-member language frame settings = reading.Member (context_of language frame.filter settings) (live_of frame)
+member language frame settings = reading.Member (context_of language frame settings) (live_of frame)
 
 -- the operators after a left operand that go on with a run of this strength
 abbrev pub binary_op : LanguageValue → FrameValue → ParseSettings → (at : Position) (parent : ℕ) (lhs : Node)
     → Goal
 binary_op language frame settings at parent lhs =
-    reading.BinaryOp (context_of language frame.filter settings) (live_of frame) at parent lhs
+    reading.BinaryOp (context_of language frame settings) (live_of frame) at parent lhs
 
 -- an expression or an assignment
 abbrev pub expr_statement : LanguageValue → FrameValue → ParseSettings → Goal
-expr_statement language frame settings = reading.ExprStatement (context_of language frame.filter settings) (live_of frame)
+expr_statement language frame settings = reading.ExprStatement (context_of language frame settings) (live_of frame)
 
 -- the name of a definition
 abbrev pub var_name : LanguageValue → FrameValue → ParseSettings → Goal
-var_name language frame settings = reading.VarName (context_of language frame.filter settings) (live_of frame)
+var_name language frame settings = reading.VarName (context_of language frame settings) (live_of frame)
 
 -- the value of a definition
 abbrev pub initializer : LanguageValue → FrameValue → ParseSettings → Goal
-initializer language frame settings = reading.Initializer (context_of language frame.filter settings) (live_of frame) settings.pos
+initializer language frame settings =
+    reading.Initializer (context_of language frame settings) (live_of frame) settings.pos
 
 -- a definition after its keyword
-abbrev pub definition : LanguageValue → FrameValue → ParseSettings → (constant : Bool) → Goal
-definition language frame settings constant =
-    reading.Definition (context_of language frame.filter settings) (live_of frame) settings.pos constant
+abbrev pub definition : LanguageValue → FrameValue → ParseSettings → (constant exported : Bool) → Goal
+definition language frame settings constant exported =
+    reading.Definition (context_of language frame settings) (live_of frame) settings.pos constant exported
+
+-- what follows `import`
+abbrev pub imported : LanguageValue → FrameValue → ParseSettings → Goal
+imported language frame settings =
+    reading.Import (context_of language frame settings) (live_of frame) settings.pos
+
+-- what follows `export`
+abbrev pub exported : LanguageValue → FrameValue → ParseSettings → Goal
+exported language frame settings =
+    reading.Export (context_of language frame settings) (live_of frame) settings.pos
 
 abbrev pub statement : LanguageValue → FrameValue → ParseSettings → Goal
-statement language frame settings = reading.Statement (context_of language frame.filter settings) (live_of frame)
+statement language frame settings = reading.Statement (context_of language frame settings) (live_of frame)
 
 -- the statements of a list, after these
 abbrev pub statements : LanguageValue → FrameValue → ParseSettings → Closing → (before : Statements) → Goal
 statements language frame settings closing before =
-    reading.Statements closing (context_of language frame.filter settings) (live_of frame) before
+    reading.Statements closing (context_of language frame settings) (live_of frame) before
 
 -- the statements of a block, up to its `}`
 abbrev pub inside : LanguageValue → FrameValue → ParseSettings → Goal
-inside language frame settings = reading.Inside (context_of language frame.filter settings) (live_of frame)
+inside language frame settings = reading.Inside (context_of language frame settings) (live_of frame)
 
 -- a block after its `{`
 abbrev pub block : LanguageValue → FrameValue → ParseSettings → Goal
-block language frame settings = reading.Block (context_of language frame.filter settings) (live_of frame) settings.pos
+block language frame settings = reading.Block (context_of language frame settings) (live_of frame) settings.pos
 
 -- a construct of this kind after its first token
 abbrev pub construct : LanguageValue → FrameValue → ParseSettings → Construct → Goal
 construct language frame settings kind =
-    reading.Construct (context_of language frame.filter settings) (live_of frame) settings.pos kind
+    reading.Construct (context_of language frame settings) (live_of frame) settings.pos kind
 
 -- a block of a construct from its `{`
 abbrev pub braced : LanguageValue → FrameValue → ParseSettings → Goal
-braced language frame settings = reading.Braced (context_of language frame.filter settings) (live_of frame) settings.pos
+braced language frame settings = reading.Braced (context_of language frame settings) (live_of frame) settings.pos
 
 abbrev pub guard : LanguageValue → FrameValue → ParseSettings → Goal
-guard language frame settings = reading.Guard (context_of language frame.filter settings) (live_of frame)
+guard language frame settings = reading.Guard (context_of language frame settings) (live_of frame)
 
 -- what `for` goes over
 abbrev pub iterated : LanguageValue → FrameValue → ParseSettings → Goal
-iterated language frame settings = reading.Iterated (context_of language frame.filter settings) (live_of frame)
+iterated language frame settings = reading.Iterated (context_of language frame settings) (live_of frame)
 
 -- what follows `if`
 abbrev pub conditional : LanguageValue → FrameValue → ParseSettings → Goal
-conditional language frame settings = reading.Conditional (context_of language frame.filter settings) (live_of frame) settings.pos
+conditional language frame settings =
+    reading.Conditional (context_of language frame settings) (live_of frame) settings.pos
 
 -- what follows the block of an `if`
 abbrev pub branch : LanguageValue → FrameValue → ParseSettings → Goal
-branch language frame settings = reading.Branch (context_of language frame.filter settings) (live_of frame) settings.pos
+branch language frame settings = reading.Branch (context_of language frame settings) (live_of frame) settings.pos
 
 -- the arms of `switch`, after those that were collected
 abbrev pub arms : LanguageValue → FrameValue → ParseSettings → (before : Collected) → Goal
 arms language frame settings before =
-    reading.Arms (context_of language frame.filter settings) (live_of frame) before
+    reading.Arms (context_of language frame settings) (live_of frame) before
 
 -- an arm with cases, after those that were collected
 abbrev pub arm : LanguageValue → FrameValue → ParseSettings → (before : Collected) → Goal
-arm language frame settings before = reading.Arm (context_of language frame.filter settings) (live_of frame) before
+arm language frame settings before = reading.Arm (context_of language frame settings) (live_of frame) before
 
 -- the default arm after its `_`
 abbrev pub default_arm : LanguageValue → FrameValue → ParseSettings → (default : Position) → Goal
 default_arm language frame settings default =
-    reading.DefaultArm (context_of language frame.filter settings) (live_of frame) default
+    reading.DefaultArm (context_of language frame settings) (live_of frame) default
 
 -- the cases of an arm, after these
 abbrev pub cases : LanguageValue → FrameValue → ParseSettings → (before : Nodes) → Goal
 cases language frame settings before =
-    reading.Cases (context_of language frame.filter settings) (live_of frame) before
+    reading.Cases (context_of language frame settings) (live_of frame) before
 
 abbrev pub case : LanguageValue → FrameValue → ParseSettings → Goal
-case language frame settings = reading.Case (context_of language frame.filter settings) (live_of frame)
+case language frame settings = reading.Case (context_of language frame settings) (live_of frame)
 
 -- the guard of an arm, if it has one
 abbrev pub case_guard : LanguageValue → FrameValue → ParseSettings → Goal
-case_guard language frame settings = reading.CaseGuard (context_of language frame.filter settings) (live_of frame)
+case_guard language frame settings = reading.CaseGuard (context_of language frame settings) (live_of frame)
 
 -- what an arm does
 abbrev pub action : LanguageValue → FrameValue → ParseSettings → Goal
-action language frame settings = reading.Action (context_of language frame.filter settings) (live_of frame)
+action language frame settings = reading.Action (context_of language frame settings) (live_of frame)
 
 -- the variables of `for`, and its `in`
 abbrev pub loop_names : Goal
@@ -229,6 +244,10 @@ with_live view frame x = (view x, live_of frame)
 -- a name and its position
 abbrev pub name_view : RcStr Global × Position → Text × Position
 name_view n = (rc_str_bytes n.0, n.1)
+
+-- a variable at a position
+abbrev pub variable_view : Box VariableExpr Global × Position → Node
+variable_view v = variable (named v.0.value) v.1
 
 -- the variables of `for`
 abbrev pub loop_view : LoopNames → Text × Option Text

@@ -9,7 +9,7 @@ ghost use Rattle.rhai_grammar.specs.Chains.{index_refusal};
 ghost use Rattle.rhai_grammar.specs.Cursors.{Cursor, asked, cursor_of, left, looking};
 ghost use Rattle.rhai_grammar.specs.Delivered.{is_end, is_memory};
 ghost use Rattle.rhai_grammar.specs.Statements.{ends_itself};
-ghost use Rattle.rhai_grammar.specs.declared.filter.ExprFilter.{ExprFilter};
+ghost use Rattle.rhai_base.specs.Frames.{FrameValue};
 ghost use Rattle.rhai_grammar.specs.Targets.{is_constant_use, target_fault, update_of};
 ghost use Rattle.rhai_reading.specs.Reading.{BlockEnd, BlockStart, NextKey, NextOperator, TextAfter};
 ghost use Rattle.rhai_reading.specs.Reading.{assigned_on, index_on};
@@ -57,8 +57,8 @@ pub(crate) fn next_key(
     settings: ParseSettings,
     properties: &[(Ident, Expr)],
 ) -> ParseResult<Option<Ident>>
-    ensures gives { (filter : ExprFilter) → Gives (option_map written)
-        (result_of (NextKey (context_of language.now filter settings) (property_views properties.now))
+    ensures gives { (frame : FrameValue) → Gives (option_map written)
+        (result_of (NextKey (context_of language.now frame settings) (property_views properties.now))
         (cursor_of input.old)) result (cursor_of input.new) }
     ensures shorter { left (cursor_of input.new).tokens ≤ left (cursor_of input.old).tokens }
 {

@@ -10,8 +10,8 @@ use crate::asks::end_index;
 use crate::language::Language;
 use crate::shared::Shared;
 use rhai_base::cursor::{peek, skip};
-use rhai_base::leaves::due::arguments_due;
-use rhai_base::leaves::links::{is_name, is_negated, member_due, what_links};
+use rhai_base::leaves::due::{arguments_due, no_bang};
+use rhai_base::leaves::links::{is_name, is_negated, member_due, unscoped, what_links};
 use rhai_base::leaves::names::{Call, make_method};
 use rhai_base::leaves::refusals::reserved;
 use rhai_base::leaves::tokens::{is_called, what_calls};
@@ -22,23 +22,29 @@ use rhai_trees::{Link, LinkKind, indexed_operand, test_links};
 
 #[tactic(auto, using(crate::proofs::Readers::chains))]
 impl Language {
-    /// Reads what calls the name before it; without that, there is no `!` and no argument. A raise of the arguments'
-    /// level is refused where the settings stand.
+    /// Reads what calls the name before it; without that, there is no `!` and no argument. A name with a path, which
+    /// `qualified` says it is, may not be called with a `!`. A raise of the arguments' level is refused where the
+    /// settings stand.
     #[cycle(parser)]
     pub(crate) fn parse_call(
         &self,
         shared: &mut Shared<'_>,
         frame: &Frame<'_>,
         settings: ParseSettings,
+        qualified: bool,
     ) -> ParseResult<Call>
         ensures goes_on { GoesOn shared.old shared.new }
-        ensures reads { Reads (called self.now frame.now settings) call_view shared.old result shared.new }
+        ensures reads { Reads (called self.now frame.now settings qualified) call_view shared.old result shared.new }
     {
-        let (token, _) = peek(shared.input)?;
+        let (token, pos) = peek(shared.input)?;
+        let pos = *pos;
         let mut calling = what_calls(token);
         let bang = matches!(calling, Calling::Bang);
         if bang {
             skip(shared.input);
+            if qualified {
+                return Err(no_bang(self.alloc(), shared.input, pos));
+            }
             calling = arguments_due(self.alloc(), shared.input)?;
         }
         match calling {
@@ -154,12 +160,13 @@ impl Language {
         let is_name = is_name(token);
         skip(shared.input);
         if is_called(shared.input)? {
-            let call = self.parse_call(shared, frame, settings.at(pos))?;
+            let call = self.parse_call(shared, frame, settings.at(pos), false)?;
             return Ok(make_method(self.alloc(), name, pos, call)?);
         }
-        if is_name {
-            return Ok(Expr::Property(name, pos));
+        if !is_name {
+            return Err(reserved(name, pos));
         }
-        Err(reserved(name, pos))
+        unscoped(self.alloc(), shared.input)?;
+        Ok(Expr::Property(name, pos))
     }
 }

@@ -124,6 +124,7 @@ pub(crate) fn loop_frame<'f>(
     ensures live { IfOk result (λ inner. inner.live
         ≡ loop_live (rc_str_bytes names.now.name) (option_map rc_str_bytes names.now.counter) frame.now.live) }
     ensures filter { IfOk result (λ inner. inner.filter ≡ frame.now.filter) }
+    ensures known { IfOk result (λ inner. inner.known ≡ frame.now.known) }
 {
     let mut inner = frame.inner(alloc);
     if let Some(counter) = &names.counter {
@@ -142,6 +143,7 @@ pub(crate) fn catch_frame<'f>(
     ensures live { IfOk result (λ inner. inner.live
         ≡ catch_live (caught_name (option_map name_view name.now)) frame.now.live) }
     ensures filter { IfOk result (λ inner. inner.filter ≡ frame.now.filter) }
+    ensures known { IfOk result (λ inner. inner.known ≡ frame.now.known) }
 {
     let mut inner = frame.inner(alloc);
     if let Some((name, _)) = name {

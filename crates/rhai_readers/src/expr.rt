@@ -7,15 +7,18 @@ ghost use Rattle.rhai_readers.specs.Readers.{primary, right_operand, views_of, w
 
 use crate::asks::next_operator;
 use crate::language::Language;
+use crate::modules::{NamedOperand, named_operand};
 use crate::shared::Shared;
 use rhai_base::cursor::{peek, skip, take};
 use rhai_base::leaves::constructs::may_be_value;
 use rhai_base::leaves::due::{end_due, match_token};
 use rhai_base::leaves::lists::{closes_list, list_continues};
-use rhai_base::leaves::names::{as_variable, make_call, name_node, word_node};
+use rhai_base::leaves::modules::{test_module, test_path};
+use rhai_base::leaves::names::{as_variable, is_qualified_name, make_call, name_node, word_node};
 use rhai_base::leaves::refusals::{missing, no_operand};
 use rhai_base::leaves::tokens::{
-    is_called, is_no_argument, is_sign, place_after, value_of, what_begins, what_operand,
+    excludes_use, is_called, is_no_argument, is_sign, place_after, value_of, what_begins,
+    what_operand,
 };
 use rhai_base::{Frame, ParseSettings};
 use rhai_grammar::{Beginning, CommaList, DueToken, OperandPlace, OperandStart, ParseResult};
@@ -46,8 +49,8 @@ impl Language {
             Beginning::Name => {
                 let name = token.text(self.alloc())?;
                 skip(shared.input);
-                let called = is_called(shared.input)?;
-                Ok(name_node(self.alloc(), frame, name, called, pos)?)
+                let excluded = excludes_use(shared.input)?;
+                name_node(self.alloc(), frame, settings, name, excluded, pos)
             }
             Beginning::Word => {
                 let word = token.text(self.alloc())?;
@@ -96,7 +99,8 @@ impl Language {
         }
     }
 
-    /// Reads what calls an operand, if it is a name.
+    /// Reads the path and what calls an operand, if it is a name. The module that the path begins at is tested after
+    /// the arguments.
     #[cycle(parser)]
     fn parse_postfix(
         &self,
@@ -108,14 +112,21 @@ impl Language {
         ensures goes_on { GoesOn shared.old shared.new }
         ensures reads { Reads (postfix self.now frame.now settings (view operand)) view shared.old result shared.new }
     {
-        if !is_called(shared.input)? {
-            return Ok(operand);
-        }
         let (name, pos) = match as_variable(operand) {
             Ok(variable) => variable,
-            Err(other) => return Ok(other),
+            Err(other) => {
+                peek(shared.input)?;
+                return Ok(other);
+            }
         };
-        let call = self.parse_call(shared, frame, settings.at(pos))?;
+        let named = named_operand(self.alloc(), shared.input, frame, name, pos)?;
+        let NamedOperand { name, pos, called } = named;
+        if !called {
+            return Ok(Expr::Variable(name, pos));
+        }
+        let qualified = is_qualified_name(&name);
+        let call = self.parse_call(shared, frame, settings.at(pos), qualified)?;
+        test_path(frame, settings, &name, pos)?;
         Ok(make_call(self.alloc(), name, pos, call)?)
     }
 
@@ -187,7 +198,7 @@ impl Language {
             OperandStart::Omitted => Ok(Expr::Unit(*pos)),
             OperandStart::Jump => {
                 let mut inner = frame.inner(self.alloc());
-                let jump = self.parse_stmt(shared, &mut inner, settings)?;
+                let jump = self.parse_stmt(shared, &mut inner, settings.below_global_level())?;
                 Ok(make_statement_value(self.alloc(), jump)?)
             }
             OperandStart::Written => self.parse_unary(shared, frame, settings),
@@ -215,6 +226,7 @@ impl Language {
         let primary = self.parse_primary(shared, frame, settings)?;
         let operand = self.parse_postfix(shared, frame, settings, primary)?;
         let links = self.parse_links(shared, frame, settings, &operand)?;
+        test_module(frame, settings, &operand)?;
         Ok(make_chain(self.alloc(), operand, links)?)
     }
 

@@ -9,6 +9,7 @@ pub mod control;
 mod expr;
 pub mod language;
 mod literals;
+mod modules;
 pub mod shared;
 mod stmt;
 mod switch;

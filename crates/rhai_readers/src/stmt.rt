@@ -4,27 +4,30 @@ ghost use Rattle.std.specs.Prelude.{◌≡◌, ◌+◌, ◌≤◌, IfOk, false, 
 ghost use Rattle.rhai_lower.specs.Nodes.{no_statements};
 ghost use Rattle.rhai_lower.specs.View.{block_view, statement_view, view};
 ghost use Rattle.rhai_readers.specs.Readers.{GoesOn, Reads, block, definition, expr_statement, initializer, statement};
+ghost use Rattle.rhai_readers.specs.Readers.{exported, imported};
 ghost use Rattle.rhai_grammar.specs.Cursors.{left};
 ghost use Rattle.rhai_grammar.specs.Statements.{ends_itself};
-ghost use Rattle.rhai_readers.specs.Frames.{SamePlace};
+ghost use Rattle.rhai_base.specs.Frames.{SamePlace};
 ghost use Rattle.rhai_readers.specs.Readers.{inside, jump, state_of, statements, statements_of, with_live};
 ghost use Rattle.rhai_trees.specs.Statements.{optional_view};
 
 use crate::asks::{end_assignment, end_block, next_var_name};
 use crate::language::Language;
+use crate::modules::{define_as, export_name, next_alias};
 use crate::shared::Shared;
 use rhai_base::cursor::{peek, skip, take};
-use rhai_base::leaves::constructs::test_loop;
+use rhai_base::leaves::constructs::{test_global, test_loop};
 use rhai_base::leaves::statements::{
-    assigns, has_value, list_ends, statement_continues, what_starts,
+    assigns, has_value, list_ends, parse_var_name, statement_continues, what_is_exported,
+    what_starts,
 };
 use rhai_base::leaves::tokens::starts_expression;
 use rhai_base::{Frame, ParseSettingFlags, ParseSettings};
 use rhai_grammar::{Closing, ParseResult, StatementStart};
 use rhai_lower::{Expr, Position, Stmt, StmtBlock};
 use rhai_trees::{
-    ends_itself, make_break, make_continue, make_definition, make_expression, make_jump,
-    push_statement,
+    ends_itself, make_break, make_continue, make_definition, make_expression, make_import,
+    make_jump, push_statement,
 };
 
 #[tactic(auto, using(crate::proofs::Readers::statements))]
@@ -91,11 +94,11 @@ impl Language {
             }
             StatementStart::Let => {
                 skip(shared.input);
-                self.parse_let(shared, frame, settings.level_up()?, false)
+                self.parse_let(shared, frame, settings.level_up()?, false, false)
             }
             StatementStart::Const => {
                 skip(shared.input);
-                self.parse_let(shared, frame, settings.level_up()?, true)
+                self.parse_let(shared, frame, settings.level_up()?, true, false)
             }
             StatementStart::Return => {
                 skip(shared.input);
@@ -118,13 +121,66 @@ impl Language {
                 test_loop(settings, settings.pos)?;
                 Ok(make_continue(settings.pos))
             }
+            StatementStart::Import => {
+                skip(shared.input);
+                self.parse_import(shared, frame, settings.level_up()?.level_up()?)
+            }
+            StatementStart::Export => {
+                skip(shared.input);
+                test_global(settings, settings.pos)?;
+                self.parse_export(shared, frame, settings.level_up()?)
+            }
             StatementStart::Expression => {
                 self.parse_expr_stmt(shared, frame, settings.level_up()?)
             }
         }
     }
 
-    /// Reads a definition after its keyword, where the settings stand. Its slot is made after its value is read.
+    /// Reads an `import` after its keyword, where the settings stand.
+    #[cycle(parser)]
+    fn parse_import(
+        &self,
+        shared: &mut Shared<'_>,
+        frame: &mut Frame<'_>,
+        settings: ParseSettings,
+    ) -> ParseResult<Stmt>
+        ensures goes_on { GoesOn shared.old shared.new }
+        ensures place { SamePlace frame.old frame.new }
+        ensures reads { Reads (imported self.now frame.old settings) (with_live statement_view frame.new) shared.old
+            result shared.new }
+    {
+        let source = self.parse_expr(shared, frame, settings)?;
+        let name = next_alias(shared.input)?;
+        frame.import(self.alloc(), &name)?;
+        Ok(make_import(self.alloc(), source, name, settings.pos)?)
+    }
+
+    /// Reads an `export` after its keyword, where the settings stand: of a definition, which raises the level once
+    /// more, or of a variable.
+    #[cycle(parser)]
+    fn parse_export(
+        &self,
+        shared: &mut Shared<'_>,
+        frame: &mut Frame<'_>,
+        settings: ParseSettings,
+    ) -> ParseResult<Stmt>
+        ensures goes_on { GoesOn shared.old shared.new }
+        ensures place { SamePlace frame.old frame.new }
+        ensures reads { Reads (exported self.now frame.old settings) (with_live statement_view frame.new) shared.old
+            result shared.new }
+    {
+        if let Some(constant) = what_is_exported(shared.input)? {
+            let deeper = settings.level_up()?;
+            let (_, pos) = take(shared.input);
+            return self.parse_let(shared, frame, deeper.at(pos), constant, true);
+        }
+        let (name, _) = parse_var_name(shared.input)?;
+        let alias = next_alias(shared.input)?;
+        Ok(export_name(self.alloc(), frame, name, alias, settings.pos)?)
+    }
+
+    /// Reads a definition after its keyword, where the settings stand. Its slot is made after its value is read, and is
+    /// exported if `exported` says so.
     #[cycle(parser)]
     fn parse_let(
         &self,
@@ -132,16 +188,18 @@ impl Language {
         frame: &mut Frame<'_>,
         settings: ParseSettings,
         constant: bool,
+        exported: bool,
     ) -> ParseResult<Stmt>
         ensures goes_on { GoesOn shared.old shared.new }
         ensures place { SamePlace frame.old frame.new }
-        ensures reads { Reads (definition self.now frame.old settings constant) (with_live statement_view frame.new)
-            shared.old result shared.new }
+        ensures reads { Reads (definition self.now frame.old settings constant exported)
+            (with_live statement_view frame.new) shared.old result shared.new }
     {
         let (name, _) = next_var_name(self, shared.input, frame, settings)?;
         let value = self.parse_initializer(shared, frame, settings)?;
-        let number = frame.define(&name, constant)?;
-        Ok(make_definition(self.alloc(), name, value, number, constant, settings.pos)?)
+        let number = define_as(frame, &name, constant, exported)?;
+        let pos = settings.pos;
+        Ok(make_definition(self.alloc(), name, value, number, constant, exported, pos)?)
     }
 
     /// Reads the value of a definition; without one it is unit. A raise of its level is refused where the settings
@@ -215,6 +273,7 @@ impl Language {
             return Ok(vec![in self.alloc(); statement]?);
         }
         let mut inner = frame.inner(self.alloc());
+        let settings = settings.below_global_level();
         self.parse_statements(shared, &mut inner, settings, Closing::Brace)
     }
 

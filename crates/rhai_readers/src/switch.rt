@@ -194,7 +194,7 @@ impl Language {
         }
         action_due(shared.input)?;
         let mut inner = frame.inner(self.alloc());
-        let statement = self.parse_stmt(shared, &mut inner, settings)?;
+        let statement = self.parse_stmt(shared, &mut inner, settings.below_global_level())?;
         end_statement_action(self.alloc(), statement)
     }
 }

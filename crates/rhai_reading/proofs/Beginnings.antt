@@ -18,11 +18,11 @@ use Rattle.rhai_grammar.specs.declared.role.Calling.{Calling}
 use Rattle.rhai_grammar.specs.declared.role.Calling.TheVariants as calls_by
 use Rattle.rhai_grammar.specs.declared.role.ItemPlace.{ItemPlace}
 use Rattle.rhai_grammar.specs.declared.role.ItemPlace.TheVariants as place
-use Rattle.rhai_grammar.specs.Beginnings.{beginning, calling, is_name, member_place, is_member}
+use Rattle.rhai_grammar.specs.Beginnings.{beginning, calling, is_name, member_place, is_member, qualifies}
 use Rattle.rhai_grammar.specs.Literals.{item_place, KeyPlace, FieldsEnd, AKey, key_place}
 use Rattle.rhai_grammar.specs.Verdicts.{no_method}
 use Rattle.rhai_grammar.specs.Targets.{is_equals}
-use Rattle.rhai_grammar.specs.Statements.{after_statement, allowed_start, any_start, keyword_of, name_due, no_variable}
+use Rattle.rhai_grammar.specs.Statements.{after_statement, allowed_start, any_start, defines, keyword_of, name_due, no_variable}
 use Rattle.rhai_grammar.specs.Statements.{statement_start}
 use Rattle.rhai_grammar.specs.Constructs.{construct_token, do_end, do_token, may_be_value, may_stand}
 use Rattle.rhai_grammar.specs.Contexts.{Context, allows_looping}
@@ -137,6 +137,8 @@ Starts start.Return i = i ≡ item (Sign (jump_token false)) i.at
 Starts start.Throw i = i ≡ item (Sign (jump_token true)) i.at
 Starts start.Break i = i ≡ item (Sign token.Break) i.at
 Starts start.Continue i = i ≡ item (Sign token.Continue) i.at
+Starts start.Import i = i ≡ item (Sign token.Import) i.at
+Starts start.Export i = i ≡ item (Sign token.Export) i.at
 Starts start.Expression i = Unit {0}
 
 starts : (l : Lexeme) (p : Position) → Starts (any_start l) (item l p)
@@ -155,6 +157,8 @@ starts (Sign token.Return) p = refl
 starts (Sign token.Throw) p = refl
 starts (Sign token.Break) p = refl
 starts (Sign token.Continue) p = refl
+starts (Sign token.Import) p = refl
+starts (Sign token.Export) p = refl
 starts _ p = tt
 
 -- and the engine allows it
@@ -182,6 +186,8 @@ allowed c start.Let i h = (tt, h)
 allowed c start.Const i h = (tt, h)
 allowed c start.Return i h = (tt, h)
 allowed c start.Throw i h = (tt, h)
+allowed c start.Import i h = (tt, h)
+allowed c start.Export i h = (tt, h)
 allowed c start.Expression i h = (tt, h)
 
 pub started : {v : StatementStart} (c : Context) (s : Point) → statement_start c (op_at s) ≡ v
@@ -276,6 +282,23 @@ ends_do false = refl
 pub equals_is : (l : Lexeme) (p : Position) → is_equals l ≡ true → item l p ≡ item (Sign token.Equals) p
 equals_is (Sign token.Equals) p e = refl
 equals_is _ p e = absurd cc
+
+pub colons_are : (l : Lexeme) (p : Position) → qualifies l ≡ true → item l p ≡ item (Sign token.DoubleColon) p
+colons_are (Sign token.DoubleColon) p e = refl
+colons_are _ p e = absurd cc
+
+-- after `export`: the token of a definition, or none
+pub defines_is : (l : Lexeme) (p : Position) (constant : Bool) → defines l ≡ Some constant
+    → item l p ≡ item (Sign (keyword_of constant)) p
+defines_is (Sign token.Let) p true e = absurd cc
+defines_is (Sign token.Let) p false e = refl
+defines_is (Sign token.Const) p true e = refl
+defines_is (Sign token.Const) p false e = absurd cc
+defines_is _ p constant e = absurd cc
+
+pub keyword_defines : (constant : Bool) → defines (Sign (keyword_of constant)) ≡ Some constant
+keyword_defines true = refl
+keyword_defines false = refl
 
 pub no_name : (l : Lexeme) → is_name l ≡ false → name_due l ≡ Wrong (no_variable l)
 no_name (Name t) e = absurd cc

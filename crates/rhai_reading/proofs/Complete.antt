@@ -58,8 +58,8 @@ mutual
   primary (form.Zero range pos) = O.zero range pos
 
   base : (x : Base) → BaseRead x
-  base (form.Plain x) = C.plain x (primary x)
-  base (form.Call x bang args) = C.call x bang args (primary x) (arguments args)
+  base (form.Plain x names) = C.plain x names (primary x)
+  base (form.Call x names bang args) = C.call x names bang args (primary x) (arguments args)
 
   links : (x : Links) → LinksRead x
   links form.NoLink = K.no_link
@@ -126,6 +126,10 @@ mutual
   statement (form.Return throws pos x) = T.return throws pos x (jump x)
   statement (form.Break pos x) = T.break pos x (jump x)
   statement (form.Continue pos) = T.continue pos
+  statement (form.Import pos f other) = T.import pos f other (expression f (run f))
+  statement (form.Export pos name name_at other) = T.export pos name name_at other
+  statement (form.ExportDefined pos constant keyword name name_at value) =
+      T.export_defined pos constant keyword name name_at value (initializer value)
 
   construct : (x : Construct) → ConstructRead x
   construct (form.Block f) = B.block f (block f)

@@ -40,6 +40,7 @@ stands due.In (Sign token.In) p e = refl
 stands due.If (Sign token.If) p e = refl
 stands due.Else (Sign token.Else) p e = refl
 stands due.Catch (Sign token.Catch) p e = refl
+stands due.As (Sign token.As) p e = refl
 stands _ _ p e = absurd cc
 
 -- the token that is due is missed at a point

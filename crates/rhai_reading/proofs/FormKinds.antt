@@ -11,8 +11,8 @@ use Rattle.rhai_grammar.specs.declared.due.DueToken.TheVariants as due
 use Rattle.rhai_grammar.specs.Causes as cause
 use Rattle.rhai_grammar.specs.Causes.{Refusal, refusal}
 use Rattle.rhai_grammar.specs.Delivered.{code, text, item, Point}
-use Rattle.rhai_grammar.specs.Contexts.{Context, Live, has_single_blocks, in_block, level_up}
-use Rattle.rhai_grammar.specs.Beginnings.{calls, member_place, is_member}
+use Rattle.rhai_grammar.specs.Contexts.{Context, Live, below_global, has_single_blocks, in_block, level_up}
+use Rattle.rhai_grammar.specs.Beginnings.{excludes_use, member_place, is_member}
 use Rattle.rhai_grammar.specs.Literals.{is_key, has_key, property_count}
 use Rattle.rhai_grammar.specs.Chains.{Link, index_refusal}
 use Rattle.rhai_grammar.specs.Operators.{joined}
@@ -27,10 +27,13 @@ use Rattle.rhai_grammar.specs.Spots.{LinkSpot, Spot}
 use Rattle.rhai_lower.specs.Nodes as node
 use Rattle.rhai_grammar.specs.Forms as form
 use Rattle.rhai_grammar.specs.Forms.{Body, Branch, CatchName, Conditional, Construct, ExprStatement, Initializer}
-use Rattle.rhai_grammar.specs.Forms.{JumpValue, LoopNames, Segments, Statement, Statements}
+use Rattle.rhai_grammar.specs.Forms.{Alias, JumpValue, LoopNames, Path, Segments, Statement, Statements}
 use Rattle.rhai_grammar.specs.Constructs.{do_end_due, do_token, kind_of}
 use Rattle.rhai_grammar.specs.declared.role.Construct.{Construct as ConstructKind}
-use Rattle.rhai_grammar.specs.Definitions.{after_statement, after_statements}
+use Rattle.rhai_grammar.specs.Definitions.{after_statement, after_statements, alias_of, defined_as, imported}
+use Rattle.rhai_grammar.specs.Modules.{path_tree}
+use Rattle.rhai_grammar.specs.Statements.{exported_due, exports_definition, keyword_of}
+use Rattle.rhai_grammar.specs.Trees.{definition_tree, import_tree}
 use Rattle.rhai_grammar.specs.Trees.{block_tree, branch_tree, caught, conditional_tree, construct_tree, counter_of, jump_result}
 use Rattle.rhai_grammar.specs.Trees.{loop_name, segment_trees, statement_of, statement_tree, statement_trees, value_tree}
 use Rattle.rhai_grammar.specs.declared.role.Closing.{Closing}
@@ -49,9 +52,9 @@ expressions c w = record { tree = λ t f. tree f w; demands = λ f k. W.expressi
 abbrev pub operands : Context → Live → OperandPlace → Kind Operand Node
 operands c w place = record { tree = λ t x. operand_tree x w; demands = λ x k. W.operand x c w place k }
 
--- the token behind a primary may call it
+-- the token behind a primary may call it, or make it part of a path
 abbrev pub tree_before : Live → Point → Primary → Node
-tree_before w t x = primary_tree x w (calls (op_at t))
+tree_before w t x = primary_tree x w (excludes_use (op_at t))
 
 abbrev pub primaries : Context → Live → OperandPlace → Kind Primary Node
 primaries c w place = record { tree = tree_before w; demands = λ x k. W.primary x c w place k }
@@ -85,16 +88,33 @@ enclosed c w name = record { tree = λ t list. enclosed_trees w list; demands = 
 pub data CallForm : Type 0 where
   By : (bang : Option Position) → Arguments → CallForm
 
-abbrev pub call_of : Context → Live → Position → CallForm → Demands → Demands
-call_of c w name (By None args) k = W.arguments args V.anything c w name k
-call_of c w name (By (Some bang) args) k =
-    Tok code (item (Sign token.Bang) bang) V.anything ▸ W.arguments args V.list_due c w name k
+abbrev pub call_of : Context → Live → Position → (qualified : Bool) → CallForm → Demands → Demands
+call_of c w name qualified (By None args) k = W.arguments args V.anything c w name k
+call_of c w name qualified (By (Some bang) args) k =
+    Tok code (item (Sign token.Bang) bang) V.anything ▸ W.banged qualified bang (
+    W.arguments args V.list_due c w name k)
 
 abbrev pub call_answer : Live → CallForm → Bool × Nodes
 call_answer w (By bang args) = (is_some bang, argument_trees args w)
 
-abbrev pub callings : Context → Live → Position → Kind CallForm (Bool × Nodes)
-callings c w name = record { tree = λ t f. call_answer w f; demands = call_of c w name }
+abbrev pub callings : Context → Live → Position → (qualified : Bool) → Kind CallForm (Bool × Nodes)
+callings c w name qualified = record { tree = λ t f. call_answer w f; demands = call_of c w name qualified }
+
+-- the names of a path, of which there is one at least
+pub record PathForm : Type 0 where
+  pub colons : Position
+  pub name : Text
+  pub at : Position
+  pub more : Path
+
+abbrev pub path_of : PathForm → Path
+path_of f = form.Scoped f.colons f.name f.at f.more
+
+abbrev pub paths : Live → Node → Kind PathForm Node
+paths w x = record {
+  tree = λ t f. path_tree (path_of f) w.imports x;
+  demands = λ f k. W.path (path_of f) w.imports x k;
+}
 
 -- ---- literals
 
@@ -155,7 +175,7 @@ pub data MemberForm : Type 0 where
 abbrev pub member_of : Context → Live → MemberForm → Demands → Demands
 member_of c w (AProperty name pos) k = Tok code (item (Name name) pos) V.anything ▸ Next V.uncalled_member ▸ k
 member_of c w (AMethod name is pos call) k =
-    Tok code (item name pos) V.anything ▸ Next (V.after_method name pos) ▸ call_of c w pos call k
+    Tok code (item name pos) V.anything ▸ Next (V.after_method name pos) ▸ call_of c w pos false call k
 
 abbrev pub member_tree : Live → MemberForm → Node
 member_tree w (AProperty name pos) = property name pos
@@ -176,7 +196,8 @@ pub data InsideForm : Type 0 where
   SingleInside : ExprStatement → InsideForm
 
 abbrev pub inside_of : Context → Live → InsideForm → Demands → Demands
-inside_of c w (ManyInside fs) k = Shape (not (has_single_blocks c)) ▸ W.statements fs Brace c (in_block w) k
+inside_of c w (ManyInside fs) k =
+    Shape (not (has_single_blocks c)) ▸ W.statements fs Brace (below_global c) (in_block w) k
 inside_of c w (SingleInside x) k = Shape (has_single_blocks c) ▸ W.expr_statement x c w k
 
 abbrev pub inside_statements : Live → InsideForm → node.Statements
@@ -249,10 +270,57 @@ pub record DefinitionForm : Type 0 where
 abbrev pub definition_of : (constant : Bool) → Position → DefinitionForm → Statement
 definition_of constant at f = form.Define constant at f.name.name f.name.at f.value
 
-abbrev pub definitions : Context → Live → Position → (constant : Bool) → Kind DefinitionForm (node.Statement × Live)
-definitions c w at constant = record {
-  tree = λ t f. (statement_tree (definition_of constant at f) w, after_statement (definition_of constant at f) w);
-  demands = λ f k. W.new_name f.name.name f.name.at c w (W.definition_value f.value c w at k);
+abbrev pub definition_demands : Context → Live → Position → DefinitionForm → Demands → Demands
+definition_demands c w at f k = W.new_name f.name.name f.name.at c w (W.definition_value f.value c w at k)
+
+abbrev pub definitions : Context → Live → Position → (constant exported : Bool)
+    → Kind DefinitionForm (node.Statement × Live)
+definitions c w at constant exported = record {
+  tree = λ t f. (
+    definition_tree constant exported at f.name.name (value_tree f.value w) w,
+    defined_as exported f.name.name constant w,
+  );
+  demands = definition_demands c w at;
+}
+
+-- ---- modules
+
+-- another name, if there is one
+abbrev pub aliases : Kind Alias (Option Text)
+aliases = record { tree = λ t f. alias_of f; demands = λ f k. W.other_name f k }
+
+-- what follows `import`
+pub record ImportForm : Type 0 where
+  pub source : Run
+  pub other : Alias
+
+abbrev pub imports : Context → Live → Position → Kind ImportForm (node.Statement × Live)
+imports c w at = record {
+  tree = λ t f. (import_tree (tree f.source w) (alias_of f.other) at, imported (alias_of f.other) w);
+  demands = λ f k. W.expression f.source c w (W.other_name f.other k);
+}
+
+-- what follows `export`
+pub data ExportForm : Type 0 where
+  ExportName : (name : Text) → Position → Alias → ExportForm
+  ExportDefinition : (constant : Bool) → Position → DefinitionForm → ExportForm
+
+abbrev pub export_form : Position → ExportForm → Statement
+export_form at (ExportName name name_at other) = form.Export at name name_at other
+export_form at (ExportDefinition constant keyword f) =
+    form.ExportDefined at constant keyword f.name.name f.name.at f.value
+
+abbrev pub export_demands : Context → Live → Position → ExportForm → Demands → Demands
+export_demands c w at (ExportName name name_at other) k =
+    Tok code (item (Name name) name_at) exported_due ▸ W.other_name other k
+export_demands c w at (ExportDefinition constant keyword f) k =
+    Next exports_definition ▸ W.raise_at c at (
+    Tok code (item (Sign (keyword_of constant)) keyword) V.anything ▸ definition_demands (level_up c) w keyword f k)
+
+abbrev pub exports : Context → Live → Position → Kind ExportForm (node.Statement × Live)
+exports c w at = record {
+  tree = λ t f. (statement_tree (export_form at f) w, after_statement (export_form at f) w);
+  demands = export_demands c w at;
 }
 
 -- the position of the `{` of a block

@@ -22,6 +22,7 @@ pub mod Main
 pub mod Outcomes
 pub mod RunSteps
 pub mod WordSteps
+pub mod PathSteps
 pub mod TextSteps
 pub mod ChainSteps
 pub mod FieldSteps

@@ -15,9 +15,10 @@ use Rattle.rhai_grammar.specs.declared.role.Calling.TheVariants as calls_by
 use Rattle.rhai_grammar.specs.Beginnings.{is_sign, is_list, missing}
 use Rattle.rhai_grammar.specs.Spots.{spot_after_operand}
 use Rattle.rhai_grammar.specs.Chains.{chained}
+use Rattle.rhai_grammar.specs.Modules.{module_fault}
 use Rattle.rhai_grammar.specs.Signs.{sign_result, sign_holds, signed, malformed}
 use Rattle.rhai_grammar.specs.Operators.{operator_result, operator_tree, boolean_holds, mismatched}
-use Rattle.rhai_reading.specs.Reading.{Prog, Ret, Fail, Take, Call, Primary, Postfix, Links, Operand, BinaryOp, sign_on, operand_by, bang_at, binary_next, raised}
+use Rattle.rhai_reading.specs.Reading.{Prog, Ret, Fail, Take, Call, Primary, Postfix, Links, Operand, BinaryOp, sign_on, operand_by, bang_at, binary_next, raised, tested}
 use Rattle.rhai_reading.specs.Running as R
 use Rattle.rhai_reading.specs.Running.{Caller, Gives, exec}
 
@@ -48,7 +49,7 @@ pub operand_sign : (c : Context) (w : Live) (l : Lexeme) (at : Position) (b : Be
 operand_sign c w l at begin.Sign e = refl
 operand_sign c w l at _ e = absurd cc
 
-pub operand_other : (c : Context) (w : Live) (l : Lexeme) (at : Position) (b : Beginning) → is_sign b ≡ false → operand_by c w l at b ≡ Call (Primary c w) (λ x. Call (Postfix c w x) (λ y. Call (Links w (spot_after_operand c y)) (λ ls. Ret (chained y ls))))
+pub operand_other : (c : Context) (w : Live) (l : Lexeme) (at : Position) (b : Beginning) → is_sign b ≡ false → operand_by c w l at b ≡ Call (Primary c w) (λ x. Call (Postfix c w x) (λ y. Call (Links w (spot_after_operand c y)) (λ ls. tested (chained y ls) (module_fault c w y))))
 operand_other c w l at begin.Sign e = absurd cc
 operand_other c w l at _ e = refl
 

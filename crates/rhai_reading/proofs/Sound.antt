@@ -45,7 +45,8 @@ step ih (R.Operand c w) s b = λ place written. tells (O.operand ih c w place s 
 step ih (R.RightOperand c w place) s b = tells (O.right_operand ih c w place s b)
 step ih (R.Primary c w) s b = λ place written sign. tells (O.primary ih c w place s b written sign)
 step ih (R.Postfix c w x) s b = λ place from p is G. tells (C.postfix ih c w place from p s G x b is)
-step ih (R.Called c w name) s b = λ on. tells (C.calling_by ih c w name s b on)
+step ih (R.Called c w name qualified) s b = λ on. tells (C.calling_by ih c w name qualified s b on)
+step ih (R.Path w x) s b = λ named on. tells (C.path ih w x named s b on)
 step ih (R.Links w q) s b = tells (K.link_chain ih w q s b)
 step ih (R.Index c w indexed) s b = tells (K.index ih c w indexed s b)
 step ih (R.Member c w) s b = λ is. tells (K.member ih c w s b is)
@@ -61,7 +62,10 @@ step {call = call} ih (R.NextOperator filter) s b = tells (N.next_operator call 
 step ih (R.ExprStatement c w) s b = tells (T.evaluated ih c w s b)
 step ih (R.VarName c w) s b = tells (T.var_name ih c w s b)
 step ih (R.Initializer c w pos) s b = tells (T.initializer ih c w s pos b)
-step ih (R.Definition c w pos constant) s b = tells (T.definition ih c w s pos constant b)
+step ih (R.Definition c w pos constant exported) s b = tells (T.definition ih c w s pos constant exported b)
+step ih (R.Import c w pos) s b = tells (T.import ih c w s pos b)
+step ih (R.Export c w pos) s b = tells (T.export ih c w s pos b)
+step {call = call} ih R.Alias s b = tells (T.other_name call s b)
 step ih (R.Statement c w) s b = tells (T.statement ih c w s b)
 step ih (R.Statements closing c w before) s b = tells (T.list_of ih closing c w before s b)
 step ih (R.Construct c w pos kind) s b = tells (B.construct ih c w pos s b kind)
@@ -96,7 +100,8 @@ none (R.Whole c w) s b = tt
 none (R.Operand c w) s b = λ place written. record { told = tt }
 none (R.Primary c w) s b = λ place written sign. record { told = tt }
 none (R.Postfix c w x) s b = λ place from p is G. record { told = tt }
-none (R.Called c w name) s b = λ on. record { told = tt }
+none (R.Called c w name qualified) s b = λ on. record { told = tt }
+none (R.Path w x) s b = λ named on. record { told = tt }
 none (R.Member c w) s b = λ is. record { told = tt }
 none (R.BinaryOp c w pos p lhs) s b = λ q from L live is height same suits ended stands. record { told = tt }
 none _ s b = record { told = tt }

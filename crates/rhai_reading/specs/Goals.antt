@@ -11,7 +11,7 @@ use Rattle.rhai_grammar.specs.declared.list.AfterPart.{AfterPart}
 use Rattle.rhai_grammar.specs.declared.list.AfterPart.TheVariants as after
 use Rattle.rhai_grammar.specs.declared.list.CommaList.{CommaList}
 use Rattle.rhai_grammar.specs.CommaLists.{after_part, not_after}
-use Rattle.std.specs.Prelude.{ℕ, Bool, Option, List}
+use Rattle.std.specs.Prelude.{ℕ, Bool, Option, Some, None, List}
 use Rattle.rhai_lower.specs.Texts.{Text}
 use Rattle.rhai_lower.specs.Nodes.{Node, Nodes, Properties, unit, integer, array, object_map, property, this, no_nodes}
 use Rattle.rhai_lower.specs.Nodes.{with_node, no_properties, with_property, position_of, noop, expression, assignment}
@@ -40,8 +40,11 @@ pub data Goal : Type 0 where
   -- an operand at this place after an operator
   RightOperand : Context → Live → OperandPlace → Goal
   Primary : Context → Live → Goal
-  -- what calls a name: whether it has a `!`, and the arguments; at is where the raise of their level is refused
-  Called : Context → Live → (at : Position) → Goal
+  -- what calls a name, which may have a path: whether it has a `!`, and the arguments; at is where the raise of their
+  -- level is refused
+  Called : Context → Live → (at : Position) (qualified : Bool) → Goal
+  -- the names after a name, of which this is the node so far; a `::` comes next
+  Path : Live → (name : Node) → Goal
   -- the links after an operand, up to what is no link
   Links : Live → LinkSpot → Goal
   -- the index in a bracket up to the `]`; whose index it is, if that is tested
@@ -77,7 +80,13 @@ pub data Goal : Type 0 where
   -- the value of a definition, which is unit where it is absent; at is where the raise of its level is refused
   Initializer : Context → Live → (at : Position) → Goal
   -- a definition after its keyword, which is at a position
-  Definition : Context → Live → (at : Position) (constant : Bool) → Goal
+  Definition : Context → Live → (at : Position) (constant exported : Bool) → Goal
+  -- what follows `import`, which is at a position
+  Import : Context → Live → (at : Position) → Goal
+  -- what follows `export`, which is at a position
+  Export : Context → Live → (at : Position) → Goal
+  -- another name, after `as`, if there is one
+  Alias : Goal
   Statement : Context → Live → Goal
   -- the statements of a list, after these, up to the token that closes it
   Statements : Closing → Context → Live → (before : node.Statements) → Goal
@@ -88,7 +97,7 @@ pub data Goal : Type 0 where
   -- a block after its `{`, which is at a position
   Block : Context → Live → (at : Position) → Goal
   -- the `}` of a block of these statements
-  BlockEnd : (at : Position) (fs : node.Statements) → Goal
+  BlockEnd : (at : Position) (statements : node.Statements) → Goal
   -- a construct of this kind after its first token, which is at a position
   Construct : Context → Live → (at : Position) → Kind → Goal
   -- a block from its `{`, of a construct that is at a position
@@ -128,56 +137,60 @@ pub data Goal : Type 0 where
 
 -- a script, up to the end mark
 abbrev pub Script : Context → Live → Goal
-Script c w = Statements EndMark c w no_statements
+Script context live = Statements EndMark context live no_statements
 
 -- what it gives
 abbrev pub Val : Goal → Type 0
-Val (Whole c w) = Node
-Val (Expression c w) = Node
-Val (Operand c w) = Node
-Val (RightOperand c w place) = Node
-Val (Primary c w) = Node
-Val (Called c w at) = Bool × Nodes
-Val (Links w q) = List Link
-Val (Index c w indexed) = Node
-Val (Member c w) = Node
-Val (Postfix c w x) = Node
-Val (Arguments c w at) = Nodes
-Val (Items c w before) = Nodes
-Val (Elements c w at before) = Nodes
-Val (Fields c w at before) = Properties
-Val (Segments c w start before) = Nodes
+Val (Whole context live) = Node
+Val (Expression context live) = Node
+Val (Operand context live) = Node
+Val (RightOperand context live place) = Node
+Val (Primary context live) = Node
+Val (Called context live at qualified) = Bool × Nodes
+Val (Path live name) = Node
+Val (Links live spot) = List Link
+Val (Index context live indexed) = Node
+Val (Member context live) = Node
+Val (Postfix context live x) = Node
+Val (Arguments context live at) = Nodes
+Val (Items context live before) = Nodes
+Val (Elements context live at before) = Nodes
+Val (Fields context live at before) = Properties
+Val (Segments context live start before) = Nodes
 Val TextAfter = Position × Text × Bool × Position
-Val (Jump c w at) = Optional
-Val (NextKey c before) = Option (Text × Position)
+Val (Jump context live at) = Optional
+Val (NextKey context before) = Option (Text × Position)
 Val (NextOperator filter) = Option (ℕ × Bool)
-Val (BinaryOp c w at parent lhs) = Node
-Val (ExprStatement c w) = node.Statement
-Val (VarName c w) = Text × Position
-Val (Initializer c w at) = Node
-Val (Definition c w at constant) = node.Statement × Live
-Val (Statement c w) = node.Statement × Live
-Val (Statements closing c w before) = node.Statements × Live
+Val (BinaryOp context live at parent lhs) = Node
+Val (ExprStatement context live) = node.Statement
+Val (VarName context live) = Text × Position
+Val (Initializer context live at) = Node
+Val (Definition context live at constant exported) = node.Statement × Live
+Val (Import context live at) = node.Statement × Live
+Val (Export context live at) = node.Statement × Live
+Val Alias = Option Text
+Val (Statement context live) = node.Statement × Live
+Val (Statements closing context live before) = node.Statements × Live
 Val BlockStart = Position
-Val (Inside c w) = node.Statements
-Val (Block c w at) = node.Block
+Val (Inside context live) = node.Statements
+Val (Block context live at) = node.Block
 Val (BlockEnd at fs) = node.Block
-Val (Construct c w at kind) = node.Statement
-Val (Braced c w at) = node.Block
-Val (Guard c w) = Node
-Val (Iterated c w) = Node
-Val (Conditional c w at) = node.Statement
-Val (Branch c w at) = node.Block
+Val (Construct context live at kind) = node.Statement
+Val (Braced context live at) = node.Block
+Val (Guard context live) = Node
+Val (Iterated context live) = Node
+Val (Conditional context live at) = node.Statement
+Val (Branch context live at) = node.Block
 Val LoopNames = Text × Option Text
 Val Catch = Option (Text × Position)
 Val DoEnd = Bool
-Val (Arms c w before) = Collected
-Val (Arm c w before) = Nodes × Node × Node
-Val (DefaultArm c w default) = Node
-Val (Cases c w before) = Nodes
-Val (Case c w) = Node
-Val (CaseGuard c w) = Node
-Val (Action c w) = Node × Bool
+Val (Arms context live before) = Collected
+Val (Arm context live before) = Nodes × Node × Node
+Val (DefaultArm context live default) = Node
+Val (Cases context live before) = Nodes
+Val (Case context live) = Node
+Val (CaseGuard context live) = Node
+Val (Action context live) = Node × Bool
 Val (ArmEnd itself) = Unit {0}
 Val (DefaultEnd default) = Unit {0}
 
@@ -191,34 +204,43 @@ pub data Prog (A : Type 0) : Type 0 where
   Take : Prog A → Prog A
   -- Takes the `}` that is due and then, in text mode, the text that is due after it; another token there is refused.
   TakeText : (Position → Lexeme → Position → Prog A) → Prog A
-  Call : (g : Goal) → (Val g → Prog A) → Prog A
+  Call : (goal : Goal) → (Val goal → Prog A) → Prog A
   -- calls a reader, and reports what it refuses as a missing literal
-  CallLiteral : (g : Goal) → (Val g → Prog A) → Prog A
+  CallLiteral : (goal : Goal) → (Val goal → Prog A) → Prog A
 
 -- ---- terms that several readers have
 
 -- the level is raised, or that is refused at a position
 abbrev pub raised : {A : Type 0} → Context → Position → (Context → Prog A) → Prog A
-raised c at k = if has_room c then k (level_up c) else Fail (refusal cause.ExprTooDeep at)
+raised context at rest = if has_room context then rest (level_up context) else Fail (refusal cause.ExprTooDeep at)
 
 -- this token is due, or what else is there is refused
 abbrev pub match_token : {A : Type 0} → DueToken → Prog A → Prog A
-match_token d p = Peek (λ l at. if is_due d l then Take p else Fail (refusal (not_due d l) at))
+match_token token rest =
+    Peek (λ lexeme at. if is_due token lexeme then Take rest else Fail (refusal (not_due token lexeme) at))
+
+-- what is given, unless it is refused
+abbrev pub tested : {A : Type 0} → A → Option Refusal → Prog A
+tested x None = Ret x
+tested x (Some why) = Fail why
 
 -- where a construct stands: its first token, with a raise there and one more inside
 abbrev pub construct_on : {A : Type 0} → Context → Live → Position → Kind → (node.Statement → Prog A) → Prog A
-construct_on c w at kind k = Take (raised c at (λ d. raised d at (λ e. Call (Construct e w at kind) k)))
+construct_on context live at kind rest =
+    Take (raised context at (λ deeper. raised deeper at (λ inside. Call (Construct inside live at kind) rest)))
 
 -- a name is due, or what else is there is refused
 abbrev pub match_name : {A : Type 0} → (Text → Position → Prog A) → Prog A
-match_name k = Peek (λ l at. if is_name l then Take (k (text_of l) at) else Fail (refusal (no_variable l) at))
+match_name rest =
+    Peek (λ lexeme at. if is_name lexeme then Take (rest (text_of lexeme) at)
+    else Fail (refusal (no_variable lexeme) at))
 
 -- After a part of a list: on after a comma, end after the token that closes the list, or what else is there is
 -- refused.
 abbrev pub part_next : {A : Type 0} → CommaList → (on end : Prog A) → Lexeme → Position → AfterPart → Prog A
-part_next parts on end l at after.Comma = Take on
-part_next parts on end l at after.Close = Take end
-part_next parts on end l at after.Nothing = Fail (refusal (not_after parts l) at)
+part_next parts on end lexeme at after.Comma = Take on
+part_next parts on end lexeme at after.Close = Take end
+part_next parts on end lexeme at after.Nothing = Fail (refusal (not_after parts lexeme) at)
 
 abbrev pub after_a_part : {A : Type 0} → CommaList → (on end : Prog A) → Prog A
-after_a_part parts on end = Peek (λ l at. part_next parts on end l at (after_part parts l))
+after_a_part parts on end = Peek (λ lexeme at. part_next parts on end lexeme at (after_part parts lexeme))

@@ -17,10 +17,12 @@ use Rattle.rhai_grammar.specs.Causes.{Refusal, refusal}
 use Rattle.rhai_grammar.specs.Delivered.{is_end}
 use Rattle.rhai_grammar.specs.Settings.{in_function}
 use Rattle.rhai_grammar.specs.declared.due.DueToken.TheVariants as due
-use Rattle.rhai_grammar.specs.Contexts.{Context, Live, full, has_single_blocks, in_block, in_case}
+use Rattle.rhai_grammar.specs.Contexts.{Context, Live, below_global, full, has_single_blocks, in_block}
+use Rattle.rhai_grammar.specs.Contexts.{in_case}
 use Rattle.rhai_grammar.specs.Constructs.{do_end, guard_fault, iterated_fault, may_be_value}
-use Rattle.rhai_grammar.specs.Definitions.{defined}
-use Rattle.rhai_grammar.specs.Statements.{statement_place, statement_start}
+use Rattle.rhai_grammar.specs.Definitions.{defined_as}
+use Rattle.rhai_grammar.specs.Modules.{is_qualified, may_use, module_fault, qualified}
+use Rattle.rhai_grammar.specs.Statements.{defines, statement_place, statement_start}
 use Rattle.rhai_grammar.specs.declared.list.CommaList.TheVariants as lists
 use Rattle.rhai_grammar.specs.CommaLists.{after_part, is_close, no_argument}
 use Rattle.rhai_grammar.specs.declared.role.ItemPlace.{ItemPlace}
@@ -28,7 +30,7 @@ use Rattle.rhai_grammar.specs.declared.role.ItemPlace.TheVariants as place
 use Rattle.rhai_grammar.specs.Literals.{item_place, no_item, KeyPlace, FieldsEnd, AKey, NoKey, has_key}
 use Rattle.rhai_grammar.specs.Literals.{property_count}
 use Rattle.rhai_grammar.specs.Literals.{too_many_fields}
-use Rattle.rhai_grammar.specs.Verdicts.{next_key}
+use Rattle.rhai_grammar.specs.Verdicts.{bang_refusal, next_key, no_path}
 use Rattle.rhai_grammar.specs.Spots.{LinkSpot, spot_after_operand, spot_after_bracket, spot_after_dot}
 use Rattle.rhai_grammar.specs.Chains.{Link, chained, index_refusal, last_fault}
 use Rattle.rhai_grammar.specs.declared.role.Beginning.{Beginning}
@@ -39,7 +41,7 @@ use Rattle.rhai_grammar.specs.declared.role.Linking.{Linking}
 use Rattle.rhai_grammar.specs.declared.role.Linking.TheVariants as link
 use Rattle.rhai_grammar.specs.Beginnings.{beginning, value_of, no_operand, unexpected, missing, calling, calls}
 use Rattle.rhai_grammar.specs.Beginnings.{may_be_called, is_this, linking, is_name, MemberPlace, AMember, NoMember}
-use Rattle.rhai_grammar.specs.Beginnings.{member_place}
+use Rattle.rhai_grammar.specs.Beginnings.{excludes_use, member_place, qualifies}
 use Rattle.rhai_grammar.specs.Interpolations.{added_text, is_last_text}
 use Rattle.rhai_grammar.specs.Starts.{operand_start, place_after, starts}
 use Rattle.rhai_grammar.specs.declared.role.OperandStart.{OperandStart}
@@ -55,194 +57,230 @@ pub use Rattle.rhai_reading.specs.Goals.{Postfix, Arguments, Items, Elements, Fi
 pub use Rattle.rhai_reading.specs.Goals.{NextKey, NextOperator, BinaryOp, ExprStatement, VarName, Initializer}
 pub use Rattle.rhai_reading.specs.Goals.{Definition, Statement, Statements, BlockStart, Inside, Block, BlockEnd}
 pub use Rattle.rhai_reading.specs.Goals.{Branch, Braced, Catch, Conditional, Construct, DoEnd, Guard, Iterated}
-pub use Rattle.rhai_reading.specs.Goals.{LoopNames, RightOperand}
+pub use Rattle.rhai_reading.specs.Goals.{Alias, Export, Import, LoopNames, Path, RightOperand}
 pub use Rattle.rhai_reading.specs.Goals.{Action, Arm, ArmEnd, Arms, Case, CaseGuard, Cases, DefaultArm}
 pub use Rattle.rhai_reading.specs.Goals.{DefaultEnd}
 pub use Rattle.rhai_reading.specs.Goals.{Ret, Fail, Peek, Take, TakeText, Call, CallLiteral, Script, Val, Prog}
-pub use Rattle.rhai_reading.specs.Goals.{after_a_part, construct_on, match_name, match_token, part_next, raised}
+pub use Rattle.rhai_reading.specs.Goals.{after_a_part, construct_on, match_name, match_token, part_next, raised, tested}
 pub use Rattle.rhai_reading.specs.ReadingStatements.{assigned_on, evaluated_at, var_name_at, value_at, definition_on}
 pub use Rattle.rhai_reading.specs.ReadingStatements.{jump_on, loop_at, statement_at, separated_at, statements_on}
 pub use Rattle.rhai_reading.specs.ReadingStatements.{statements_at, inside_on, inside_construct, guard_on}
 pub use Rattle.rhai_reading.specs.ReadingStatements.{iterated_on, no_brace, else_at, branch_at, counted_on}
 pub use Rattle.rhai_reading.specs.ReadingStatements.{first_of_two, loop_names_at, catch_at, do_end_at}
+pub use Rattle.rhai_reading.specs.ReadingStatements.{alias_at, export_at, export_on, global_at, import_on}
 pub use Rattle.rhai_reading.specs.ReadingSwitches.{cases_at, case_guard_at, action_at, action_on, arm_end_at}
 pub use Rattle.rhai_reading.specs.ReadingSwitches.{default_end_at, arm_on, default_at, default_on, arms_at}
 
 -- ---- each reader
 
 abbrev pub whole_at : Node → Lexeme → Position → Prog Node
-whole_at e l at = if is_end l then Ret e else Fail (refusal (unexpected l) at)
+whole_at expr lexeme at = if is_end lexeme then Ret expr else Fail (refusal (unexpected lexeme) at)
 
 -- ---- operands
 
--- after a name, which is no variable's where something calls it
-abbrev pub name_at : Live → Text → Position → Lexeme → Position → Prog Node
-name_at w name at l pos = Ret (name_tree w.slots (calls l) name at)
+-- after a name, which is no variable's where something calls it or makes it part of a path
+abbrev pub name_at : Context → Live → Text → Position → Lexeme → Position → Prog Node
+name_at context live name at lexeme pos =
+    if excludes_use lexeme || may_use context live name then Ret (name_tree live.slots (excludes_use lexeme) name at)
+    else Fail (refusal (cause.VariableUndefined name) at)
 
 -- after a reserved word
 abbrev pub word_at : Context → Text → Position → Lexeme → Position → Prog Node
-word_at c word at l pos =
-    if may_be_called word && calls l then Ret (variable_of None word at) else
-    if is_this word then (if in_function c.settings then Ret (this at)
+word_at context word at lexeme pos =
+    if may_be_called word && calls lexeme then Ret (variable_of None word at) else
+    if is_this word then (if in_function context.settings then Ret (this at)
     else Fail (refusal (cause.BadInput (cause.ImproperSymbol word)) at)) else
     Fail (refusal (cause.Reserved word) at)
 
 abbrev pub primary_at : Context → Live → Lexeme → Position → Beginning → Prog Node
-primary_at c w l at begin.Value = Take (Ret (value_of l at))
-primary_at c w l at begin.Name = Take (Peek (name_at w (text_of l) at))
-primary_at c w l at begin.Word = Take (Peek (word_at c (text_of l) at))
-primary_at c w l at begin.Group =
-    Take (raised c at (λ d. Call (Expression d w) (λ x. match_token due.RightParen (Ret x))))
-primary_at c w l at begin.Array = Take (raised c at (λ d. Call (Elements d w at no_nodes) (λ ns. Ret (array ns at))))
-primary_at c w l at begin.Map =
-    Take (raised c at (λ d. Call (Fields d w at no_properties) (λ ps. Ret (object_map ps at))))
-primary_at c w l at begin.Interpolated =
-    Take (raised c at (λ d. Call (Segments d w at (added_text no_nodes (text_of l) at)) (λ ns.
+primary_at context live lexeme at begin.Value = Take (Ret (value_of lexeme at))
+primary_at context live lexeme at begin.Name = Take (Peek (name_at context live (text_of lexeme) at))
+primary_at context live lexeme at begin.Word = Take (Peek (word_at context (text_of lexeme) at))
+primary_at context live lexeme at begin.Group =
+    Take (raised context at (λ deeper. Call (Expression deeper live) (λ x. match_token due.RightParen (Ret x))))
+primary_at context live lexeme at begin.Array =
+    Take (raised context at (λ deeper. Call (Elements deeper live at no_nodes) (λ ns. Ret (array ns at))))
+primary_at context live lexeme at begin.Map =
+    Take (raised context at (λ deeper. Call (Fields deeper live at no_properties) (λ ps. Ret (object_map ps at))))
+primary_at context live lexeme at begin.Interpolated =
+    Take (raised context at (λ deeper. Call (Segments deeper live at (added_text no_nodes (text_of lexeme) at)) (λ ns.
     Ret (interpolated ns at))))
-primary_at c w l at (begin.Construct kind) =
-    if may_be_value c kind then construct_on c w at kind (λ f. Ret (block_value (made_block f)))
-    else Fail (refusal (no_operand l) at)
-primary_at c w l at begin.Sign = Fail (refusal (unexpected l) at)
-primary_at c w l at begin.Range = Ret (integer (lib.IntN.pos 0) at)
-primary_at c w l at begin.Nothing = Fail (refusal (no_operand l) at)
+primary_at context live lexeme at (begin.Construct kind) =
+    if may_be_value context kind then construct_on context live at kind (λ f. Ret (block_value (made_block f)))
+    else Fail (refusal (no_operand lexeme) at)
+primary_at context live lexeme at begin.Sign = Fail (refusal (unexpected lexeme) at)
+primary_at context live lexeme at begin.Range = Ret (integer (lib.IntN.pos 0) at)
+primary_at context live lexeme at begin.Nothing = Fail (refusal (no_operand lexeme) at)
 
 -- after the `{` of a block in an interpolated string: the block, and the text after it
 abbrev pub text_on : Context → Live → (start opening : Position) → Nodes → node.Statements
     → Position × Text × Bool × Position → Prog Nodes
-text_on c w start opening before fs part =
+text_on context live start opening before fs part =
     let block = block_value (braces fs opening part.0) in
     let segments = added_text (with_node before block) part.1 part.3 in
-    if part.2 then Ret segments else Call (Segments c w start segments) Ret
+    if part.2 then Ret segments else Call (Segments context live start segments) Ret
 
 abbrev pub segment_on : Context → Live → (start opening : Position) → Nodes → Prog Nodes
-segment_on c w start opening before =
-    raised c start (λ d. Call (Inside d w) (λ fs. Call TextAfter (text_on c w start opening before fs)))
+segment_on context live start opening before =
+    raised context start (λ deeper. Call (Inside deeper live) (λ fs.
+    Call TextAfter (text_on context live start opening before fs)))
 
 -- after `return`, `throw` or `break`
 abbrev pub jump_at : Context → Live → (at : Position) → (valued : Bool) → Prog Optional
-jump_at c w at valued =
-    raised c at (λ d. if valued then Call (Expression d w) (λ x. Ret (present x)) else Ret absent)
+jump_at context live at valued =
+    raised context at (λ deeper. if valued then Call (Expression deeper live) (λ x. Ret (present x)) else Ret absent)
 
 -- after the operand of a sign
 abbrev pub sign_on : Lexeme → Position → Node → Prog Node
 sign_on sign at x = if sign_holds sign x then Ret (signed sign at x) else Fail (malformed at x)
 
 abbrev pub operand_by : Context → Live → Lexeme → Position → Beginning → Prog Node
-operand_by c w l at begin.Sign = Take (raised c at (λ d. Call (Operand d w) (sign_on l at)))
-operand_by c w l at _ =
-    Call (Primary c w) (λ x. Call (Postfix c w x) (λ y.
-    Call (Links w (spot_after_operand c y)) (λ ls. Ret (chained y ls))))
+operand_by context live lexeme at begin.Sign =
+    Take (raised context at (λ deeper. Call (Operand deeper live) (sign_on lexeme at)))
+operand_by context live lexeme at _ =
+    Call (Primary context live) (λ x. Call (Postfix context live x) (λ y.
+    Call (Links live (spot_after_operand context y)) (λ ls. tested (chained y ls) (module_fault context live y))))
 
 -- after an operator
 abbrev pub right_at : Context → Live → Position → OperandStart → Prog Node
-right_at c w at first.Omitted = Ret (unit at)
-right_at c w at first.Jump = Call (Statement c (in_block w)) (λ f. Ret (block_value (made_block f.0)))
-right_at c w at first.Written = Call (Operand c w) Ret
+right_at context live at first.Omitted = Ret (unit at)
+right_at context live at first.Jump =
+    Call (Statement (below_global context) (in_block live)) (λ f. Ret (block_value (made_block f.0)))
+right_at context live at first.Written = Call (Operand context live) Ret
 
 -- ---- calls
 
 -- after the `(` of a call
 abbrev pub list_on : Context → Live → Position → (bang : Bool) → Prog (Bool × Nodes)
-list_on c w name bang = Take (Call (Arguments c w name) (λ ns. Ret (bang, ns)))
+list_on context live name bang = Take (Call (Arguments context live name) (λ ns. Ret (bang, ns)))
 
 -- after the `!` of a call
 abbrev pub bang_at : Context → Live → Position → Lexeme → Position → Calling → Prog (Bool × Nodes)
-bang_at c w name l at calls_by.Pair = Take (Ret (true, no_nodes))
-bang_at c w name l at calls_by.List = list_on c w name true
-bang_at c w name l at _ = Fail (refusal (missing (codes "(") l) at)
+bang_at context live name lexeme at calls_by.Pair = Take (Ret (true, no_nodes))
+bang_at context live name lexeme at calls_by.List = list_on context live name true
+bang_at context live name lexeme at _ = Fail (refusal (missing (codes "(") lexeme) at)
 
-abbrev pub called_at : Context → Live → Position → Calling → Prog (Bool × Nodes)
-called_at c w name calls_by.Pair = Take (Ret (false, no_nodes))
-called_at c w name calls_by.List = list_on c w name false
-called_at c w name calls_by.Bang = Take (Peek (λ l at. bang_at c w name l at (calling l)))
-called_at c w name calls_by.Nothing = Ret (false, no_nodes)
+-- after the `!` of a call, which is at a position, and which may not follow a name with a path
+abbrev pub unless_qualified : (qualified : Bool) → Position → Lexeme → Prog (Bool × Nodes) → Prog (Bool × Nodes)
+unless_qualified qualified bang lexeme rest = if qualified then Fail (bang_refusal bang lexeme) else rest
 
-abbrev pub postfix_at : Context → Live → Node → Lexeme → Position → Prog Node
-postfix_at c w x l at =
-    if is_variable x && calls l then Call (Called c w (position_of x)) (λ a. Ret (call_tree x a.0 a.1)) else Ret x
+abbrev pub called_at : Context → Live → Position → (qualified : Bool) → Position → Calling → Prog (Bool × Nodes)
+called_at context live name qualified at calls_by.Pair = Take (Ret (false, no_nodes))
+called_at context live name qualified at calls_by.List = list_on context live name false
+called_at context live name qualified at calls_by.Bang =
+    Take (Peek (λ following pos.
+    unless_qualified qualified at following (bang_at context live name following pos (calling following))))
+called_at context live name qualified at calls_by.Nothing = Ret (false, no_nodes)
+
+-- after an operand, which may have a path
+abbrev pub call_on : Context → Live → Node → (called : Bool) → Prog Node
+call_on context live x called =
+    if called then Call (Called context live (position_of x) (is_qualified x)) (λ call.
+    tested (call_tree x call.0 call.1) (module_fault context live x)) else Ret x
+
+abbrev pub call_at : Context → Live → Node → Lexeme → Prog Node
+call_at context live x lexeme = call_on context live x (is_variable x && calls lexeme)
+
+abbrev pub postfix_at : Context → Live → Node → Lexeme → Prog Node
+postfix_at context live x lexeme =
+    if is_variable x && qualifies lexeme
+    then Call (Path live x) (λ y. Peek (λ following pos. call_at context live y following))
+    else call_at context live x lexeme
+
+-- after one more name of a path
+abbrev pub path_on : Live → Node → Prog Node
+path_on live x = Peek (λ lexeme at. if qualifies lexeme then Call (Path live x) Ret else Ret x)
 
 abbrev pub arguments_at : Context → Live → Position → Lexeme → Position → Prog Nodes
-arguments_at c w name l at =
-    if no_argument l then Fail (refusal (missing (codes ")") l) at) else
-    if is_close (after_part lists.Arguments l) then Take (Ret no_nodes) else
-    raised c name (λ d. Call (Items d w no_nodes) Ret)
+arguments_at context live name lexeme at =
+    if no_argument lexeme then Fail (refusal (missing (codes ")") lexeme) at) else
+    if is_close (after_part lists.Arguments lexeme) then Take (Ret no_nodes) else
+    raised context name (λ deeper. Call (Items deeper live no_nodes) Ret)
 
 -- after the comma of an argument
 abbrev pub comma_at : Context → Live → Nodes → Lexeme → Position → Prog Nodes
-comma_at c w ns l at = if is_close (after_part lists.Arguments l) then Take (Ret ns) else Call (Items c w ns) Ret
+comma_at context live ns lexeme at =
+    if is_close (after_part lists.Arguments lexeme) then Take (Ret ns) else Call (Items context live ns) Ret
 
 -- after an argument
 abbrev pub items_at : Context → Live → Nodes → Prog Nodes
-items_at c w ns = after_a_part lists.Arguments (Peek (comma_at c w ns)) (Ret ns)
+items_at context live ns = after_a_part lists.Arguments (Peek (comma_at context live ns)) (Ret ns)
 
 -- ---- arrays and object maps
 
 -- after an item
 abbrev pub element_next : Context → Live → (opening : Position) → Nodes → Prog Nodes
-element_next c w opening ns = after_a_part lists.Array (Call (Elements c w opening ns) Ret) (Ret ns)
+element_next context live opening ns = after_a_part lists.Array (Call (Elements context live opening ns) Ret) (Ret ns)
 
 -- where an item may begin
 abbrev pub element_at : Context → Live → (opening : Position) → Nodes → Lexeme → Position → ItemPlace
     → Prog Nodes
-element_at c w opening before l at place.End = Take (Ret before)
-element_at c w opening before l at place.Item =
-    raised c opening (λ d. Call (Expression d w) (λ x. element_next c w opening (with_node before x)))
-element_at c w opening before l at place.Nothing = Fail (refusal (no_item c.sizes.array l) at)
+element_at context live opening before lexeme at place.End = Take (Ret before)
+element_at context live opening before lexeme at place.Item =
+    raised context opening (λ deeper. Call (Expression deeper live) (λ x.
+    element_next context live opening (with_node before x)))
+element_at context live opening before lexeme at place.Nothing = Fail (refusal (no_item context.sizes.array lexeme) at)
 
 -- after the colon of one more property
 abbrev pub room_at : Context → Properties → Text → Position → Lexeme → Position → Prog (Option (Text × Position))
-room_at c before key at l pos =
-    if full c.sizes.map (property_count before) then Fail (refusal (too_many_fields c.sizes.map) pos)
+room_at context before key at lexeme pos =
+    if full context.sizes.map (property_count before) then Fail (refusal (too_many_fields context.sizes.map) pos)
     else Ret (Some (key, at))
 
 abbrev pub key_on : Context → Properties → Position → KeyPlace → Prog (Option (Text × Position))
-key_on c before at FieldsEnd = Take (Ret None)
-key_on c before at (AKey key) =
+key_on context before at FieldsEnd = Take (Ret None)
+key_on context before at (AKey key) =
     Take (if has_key key before then Fail (refusal (cause.DuplicatedProperty key) at)
-    else match_token due.Colon (Peek (room_at c before key at)))
-key_on c before at (NoKey why) = Fail (refusal why at)
+    else match_token due.Colon (Peek (room_at context before key at)))
+key_on context before at (NoKey why) = Fail (refusal why at)
 
 -- after a value
 abbrev pub field_next : Context → Live → (opening : Position) → Properties → Prog Properties
-field_next c w opening ps = after_a_part lists.Map (Call (Fields c w opening ps) Ret) (Ret ps)
+field_next context live opening ps = after_a_part lists.Map (Call (Fields context live opening ps) Ret) (Ret ps)
 
 -- after a key and its colon
 abbrev pub field_on : Context → Live → (opening : Position) → Properties → Option (Text × Position) → Prog Properties
-field_on c w opening before None = Ret before
-field_on c w opening before (Some key) =
-    raised c opening (λ d. Call (Expression d w) (λ x. field_next c w opening (with_property before key.0 key.1 x)))
+field_on context live opening before None = Ret before
+field_on context live opening before (Some key) =
+    raised context opening (λ deeper. Call (Expression deeper live) (λ x.
+    field_next context live opening (with_property before key.0 key.1 x)))
 
 -- ---- chains
 
 -- after an index, which may be refused
 abbrev pub index_on : Node → Option Refusal → Prog Node
 index_on x None = match_token due.RightBracket (Ret x)
-index_on x (Some e) = Fail e
+index_on x (Some why) = Fail why
 
 -- after a member's name
 abbrev pub member_on : Context → Live → (name : Lexeme) → Position → Lexeme → Position → Prog Node
-member_on c w name name_at l at =
-    if calls l then Call (Called c w name_at) (λ a. Ret (method_tree (text_of name) name_at a.0 a.1)) else
-    if is_name name then Ret (property (text_of name) name_at) else
+member_on context live name name_at lexeme at =
+    if calls lexeme then Call (Called context live name_at false) (λ call.
+    Ret (method_tree (text_of name) name_at call.0 call.1)) else
+    if is_name name then (if qualifies lexeme then Fail (refusal no_path at)
+    else Ret (property (text_of name) name_at)) else
     Fail (refusal (cause.Reserved (text_of name)) name_at)
 
 -- after a dot
 abbrev pub dot_at : Live → LinkSpot → (dot : Lexeme) → Position → Position → MemberPlace → Prog (List Link)
-dot_at w q dot at pos AMember =
-    raised q.settings at (λ d. Call (Member d w) (λ x. Call (Links w (spot_after_dot q (member_link dot at x))) Ret))
-dot_at w q dot at pos (NoMember why) = Fail (refusal why pos)
+dot_at live spot dot at pos AMember =
+    raised spot.settings at (λ deeper. Call (Member deeper live) (λ x.
+    Call (Links live (spot_after_dot spot (member_link dot at x))) Ret))
+dot_at live spot dot at pos (NoMember why) = Fail (refusal why pos)
 
 -- after the last link
 abbrev pub links_end : List Link → Option Refusal → Prog (List Link)
 links_end ls None = Ret ls
-links_end ls (Some e) = Fail e
+links_end ls (Some why) = Fail why
 
 abbrev pub links_at : Live → LinkSpot → Lexeme → Position → Linking → Prog (List Link)
-links_at w q l at link.Bracket =
-    Take (raised q.brackets at (λ d. raised d at (λ e.
-    Call (Index e w q.indexed) (λ x. Call (Links w (spot_after_bracket q (bracket_link l at x))) Ret))))
-links_at w q l at link.Dot = Take (Peek (λ m pos. dot_at w q l at pos (member_place m)))
-links_at w q l at link.Nothing = links_end q.before (last_fault q.before)
+links_at live spot lexeme at link.Bracket =
+    Take (raised spot.brackets at (λ deeper. raised deeper at (λ inside.
+    Call (Index inside live spot.indexed) (λ x.
+    Call (Links live (spot_after_bracket spot (bracket_link lexeme at x))) Ret))))
+links_at live spot lexeme at link.Dot =
+    Take (Peek (λ member pos. dot_at live spot lexeme at pos (member_place member)))
+links_at live spot lexeme at link.Nothing = links_end spot.before (last_fault spot.before)
 
 -- ---- operators
 
@@ -258,83 +296,93 @@ next_operator_at at Other = Ret None
 
 -- after an operator's right side
 abbrev pub binary_next : Context → Live → ℕ → Node → Lexeme → Position → Node → Prog Node
-binary_next d w parent lhs op pos rhs =
+binary_next context live parent lhs op pos rhs =
     if boolean_holds op lhs then
-    (if boolean_holds op rhs then Call (BinaryOp d w pos parent (operator_tree op pos lhs rhs)) Ret
+    (if boolean_holds op rhs then Call (BinaryOp context live pos parent (operator_tree op pos lhs rhs)) Ret
     else Fail (mismatched rhs))
     else Fail (mismatched lhs)
 
 -- after an operator's right operand: the tighter run that begins there, if one does
 abbrev pub binary_right : Context → Live → Position → ℕ → Node → ℕ → Lexeme → Position → Node → Prog Node
-binary_right c w at parent lhs strength op pos rhs =
-    Call (NextOperator c.filter) (λ next. raised c at (λ d.
-    Call (BinaryOp d w (position_of rhs) strength rhs) (binary_next d w parent lhs op pos)))
+binary_right context live at parent lhs strength op pos rhs =
+    Call (NextOperator context.filter) (λ next. raised context at (λ deeper.
+    Call (BinaryOp deeper live (position_of rhs) strength rhs) (binary_next deeper live parent lhs op pos)))
 
 -- after an operator
 abbrev pub binary_on : Context → Live → Position → ℕ → Node → ℕ → Lexeme → Position → Prog Node
-binary_on c w at parent lhs strength op pos =
-    Take (Call (RightOperand c w (place_after op)) (binary_right c w at parent lhs strength op pos))
+binary_on context live at parent lhs strength op pos =
+    Take (Call (RightOperand context live (place_after op)) (binary_right context live at parent lhs strength op pos))
 
 abbrev pub binary_at : Context → Live → Position → ℕ → Node → Option (ℕ × Bool) → Prog Node
-binary_at c w at parent lhs None = Ret lhs
-binary_at c w at parent lhs (Some op) =
-    if continues parent op.0 op.1 then Peek (binary_on c w at parent lhs op.0) else Ret lhs
+binary_at context live at parent lhs None = Ret lhs
+binary_at context live at parent lhs (Some op) =
+    if continues parent op.0 op.1 then Peek (binary_on context live at parent lhs op.0) else Ret lhs
 
 abbrev pub body : (g : Goal) → Prog (Val g)
-body (Whole c w) = Call (Expression c w) (λ e. Peek (whole_at e))
-body (Expression c w) =
-    Peek (λ l at. raised c at (λ d. Call (Operand d w) (λ lhs.
-    Call (BinaryOp d w (position_of lhs) 1 lhs) Ret)))
-body (Operand c w) = Peek (λ l at. operand_by c w l at (beginning l))
-body (RightOperand c w place) = Peek (λ l at. right_at c w at (operand_start place l))
-body (Primary c w) = Peek (λ l at. primary_at c w l at (beginning l))
-body (Called c w name) = Peek (λ l at. called_at c w name (calling l))
-body (Links w q) = Peek (λ l at. links_at w q l at (linking l))
-body (Index c w indexed) = Call (Expression c w) (λ x. index_on x (index_refusal indexed x))
-body (Member c w) = Peek (λ name at. Take (Peek (member_on c w name at)))
-body (Postfix c w x) = Peek (postfix_at c w x)
-body (Arguments c w at) = Peek (arguments_at c w at)
-body (Items c w before) = Call (Expression c w) (λ x. items_at c w (with_node before x))
-body (Elements c w opening before) =
-    Peek (λ l at. element_at c w opening before l at (item_place c.sizes.array (node_count before) l))
-body (Fields c w opening before) = Call (NextKey c before) (field_on c w opening before)
-body (Segments c w start before) = Call BlockStart (λ opening. segment_on c w start opening before)
-body TextAfter = TakeText (λ end l at. Ret (end, text_of l, is_last_text l, at))
-body (Jump c w at) = Peek (λ l pos. jump_at c w at (starts c l))
-body (NextKey c before) = Peek (λ l at. key_on c before at (next_key c.settings before l))
-body (NextOperator filter) = Peek (λ l at. next_operator_at at (follower_of filter l))
-body (BinaryOp c w at parent lhs) = Call (NextOperator c.filter) (binary_at c w at parent lhs)
-body (ExprStatement c w) = Call (Expression c w) (λ x. Peek (evaluated_at c w x))
-body (VarName c w) = Peek (var_name_at c w)
-body (Initializer c w at) = Peek (value_at c w at)
-body (Definition c w at constant) =
-    Call (VarName c w) (λ name. Call (Initializer c w at) (λ x.
-    Ret (definition_tree constant at name.0 x w, defined name.0 constant w)))
-body (Statement c w) = Peek (λ l at. statement_at c w at (statement_start c l))
-body (Statements closing c w before) =
-    Peek (λ l at. statements_at closing c w before l at (statement_place closing l))
-body BlockStart = Peek (λ l at. match_token due.LeftBrace (Ret at))
-body (Inside c w) = inside_on c w (has_single_blocks c)
-body (Block c w at) = Call (Inside c w) (λ fs. Call (BlockEnd at fs) Ret)
-body (BlockEnd at fs) = Peek (λ l end. match_token due.RightBrace (Ret (braces fs at end)))
-body (Construct c w at kind) = inside_construct c w at kind
-body (Braced c w at) = Call BlockStart (λ opening. raised c at (λ d. Call (Block d w opening) Ret))
-body (Guard c w) = no_brace (Call (Expression c w) (λ x. guard_on x (guard_fault x)))
-body (Iterated c w) = no_brace (Call (Expression c w) (λ x. iterated_on x (iterated_fault x)))
-body (Conditional c w at) =
-    Call (Guard c w) (λ x. Call (Braced c w at) (λ b. Call (Branch c w at) (λ d. Ret (if_statement x b d at))))
-body (Branch c w at) = Peek (λ l pos. branch_at c w at l)
-body LoopNames = Peek (λ l at. loop_names_at l)
-body Catch = match_token due.Catch (Peek (λ l at. catch_at l))
-body DoEnd = Peek (λ l at. do_end_at l at (do_end l))
-body (Arms c w before) = Peek (λ l at. arms_at c w before l at (arm_place l))
-body (Arm c w before) =
-    Call (Cases c w no_nodes) (λ xs. Call (CaseGuard c w) (λ guard. match_token due.DoubleArrow (
-    Call (Action c w) (λ does. arm_on xs guard does (arm_fault before xs)))))
-body (DefaultArm c w default) = Peek (default_at c w default)
-body (Cases c w before) = Call (Case c w) (λ x. Peek (λ l at. cases_at c w (with_node before x) l))
-body (Case c w) = CallLiteral (Expression (in_case c) (in_block w)) Ret
-body (CaseGuard c w) = Peek (λ l at. case_guard_at c w l)
-body (Action c w) = action_on c w (has_single_blocks c)
-body (ArmEnd itself) = Peek (λ l at. arm_end_at itself l at (after_part lists.Arms l))
-body (DefaultEnd default) = Peek (λ l at. default_end_at default l at (arm_place l))
+body (Whole context live) = Call (Expression context live) (λ expr. Peek (whole_at expr))
+body (Expression context live) =
+    Peek (λ lexeme at. raised context at (λ deeper. Call (Operand deeper live) (λ lhs.
+    Call (BinaryOp deeper live (position_of lhs) 1 lhs) Ret)))
+body (Operand context live) = Peek (λ lexeme at. operand_by context live lexeme at (beginning lexeme))
+body (RightOperand context live place) = Peek (λ lexeme at. right_at context live at (operand_start place lexeme))
+body (Primary context live) = Peek (λ lexeme at. primary_at context live lexeme at (beginning lexeme))
+body (Called context live name qualified) =
+    Peek (λ lexeme at. called_at context live name qualified at (calling lexeme))
+body (Path live x) =
+    Peek (λ lexeme at. Take (match_name (λ name pos. path_on live (qualified live.imports x name pos))))
+body (Links live spot) = Peek (λ lexeme at. links_at live spot lexeme at (linking lexeme))
+body (Index context live indexed) = Call (Expression context live) (λ x. index_on x (index_refusal indexed x))
+body (Member context live) = Peek (λ name at. Take (Peek (member_on context live name at)))
+body (Postfix context live x) = Peek (λ lexeme at. postfix_at context live x lexeme)
+body (Arguments context live at) = Peek (arguments_at context live at)
+body (Items context live before) = Call (Expression context live) (λ x. items_at context live (with_node before x))
+body (Elements context live opening before) =
+    Peek (λ lexeme at.
+    element_at context live opening before lexeme at (item_place context.sizes.array (node_count before) lexeme))
+body (Fields context live opening before) = Call (NextKey context before) (field_on context live opening before)
+body (Segments context live start before) = Call BlockStart (λ opening. segment_on context live start opening before)
+body TextAfter = TakeText (λ end lexeme at. Ret (end, text_of lexeme, is_last_text lexeme, at))
+body (Jump context live at) = Peek (λ lexeme pos. jump_at context live at (starts context lexeme))
+body (NextKey context before) = Peek (λ lexeme at. key_on context before at (next_key context.settings before lexeme))
+body (NextOperator filter) = Peek (λ lexeme at. next_operator_at at (follower_of filter lexeme))
+body (BinaryOp context live at parent lhs) = Call (NextOperator context.filter) (binary_at context live at parent lhs)
+body (ExprStatement context live) = Call (Expression context live) (λ x. Peek (evaluated_at context live x))
+body (VarName context live) = Peek (var_name_at context live)
+body (Initializer context live at) = Peek (value_at context live at)
+body (Definition context live at constant exported) =
+    Call (VarName context live) (λ name. Call (Initializer context live at) (λ x.
+    Ret (definition_tree constant exported at name.0 x live, defined_as exported name.0 constant live)))
+body (Import context live at) = Call (Expression context live) (λ x. Call Alias (import_on live at x))
+body (Export context live at) = Peek (λ lexeme pos. export_at context live at pos (defines lexeme))
+body Alias = Peek (λ lexeme at. alias_at lexeme)
+body (Statement context live) = Peek (λ lexeme at. statement_at context live at (statement_start context lexeme))
+body (Statements closing context live before) =
+    Peek (λ lexeme at. statements_at closing context live before lexeme at (statement_place closing lexeme))
+body BlockStart = Peek (λ lexeme at. match_token due.LeftBrace (Ret at))
+body (Inside context live) = inside_on context live (has_single_blocks context)
+body (Block context live at) = Call (Inside context live) (λ fs. Call (BlockEnd at fs) Ret)
+body (BlockEnd at fs) = Peek (λ lexeme end. match_token due.RightBrace (Ret (braces fs at end)))
+body (Construct context live at kind) = inside_construct context live at kind
+body (Braced context live at) =
+    Call BlockStart (λ opening. raised context at (λ deeper. Call (Block deeper live opening) Ret))
+body (Guard context live) = no_brace (Call (Expression context live) (λ x. guard_on x (guard_fault x)))
+body (Iterated context live) = no_brace (Call (Expression context live) (λ x. iterated_on x (iterated_fault x)))
+body (Conditional context live at) =
+    Call (Guard context live) (λ guard. Call (Braced context live at) (λ block. Call (Branch context live at) (λ branch.
+    Ret (if_statement guard block branch at))))
+body (Branch context live at) = Peek (λ lexeme pos. branch_at context live at lexeme)
+body LoopNames = Peek (λ lexeme at. loop_names_at lexeme)
+body Catch = match_token due.Catch (Peek (λ lexeme at. catch_at lexeme))
+body DoEnd = Peek (λ lexeme at. do_end_at lexeme at (do_end lexeme))
+body (Arms context live before) = Peek (λ lexeme at. arms_at context live before lexeme at (arm_place lexeme))
+body (Arm context live before) =
+    Call (Cases context live no_nodes) (λ xs. Call (CaseGuard context live) (λ guard. match_token due.DoubleArrow (
+    Call (Action context live) (λ does. arm_on xs guard does (arm_fault before xs)))))
+body (DefaultArm context live default) = Peek (default_at context live default)
+body (Cases context live before) =
+    Call (Case context live) (λ x. Peek (λ lexeme at. cases_at context live (with_node before x) lexeme))
+body (Case context live) = CallLiteral (Expression (in_case context) (in_block live)) Ret
+body (CaseGuard context live) = Peek (λ lexeme at. case_guard_at context live lexeme)
+body (Action context live) = action_on context live (has_single_blocks context)
+body (ArmEnd itself) = Peek (λ lexeme at. arm_end_at itself lexeme at (after_part lists.Arms lexeme))
+body (DefaultEnd default) = Peek (λ lexeme at. default_end_at default lexeme at (arm_place lexeme))

@@ -7,7 +7,7 @@ use Rattle.rhai_grammar.specs.Beginnings.{missing}
 use Rattle.rhai_grammar.specs.Causes as cause
 use Rattle.rhai_grammar.specs.Causes.{Refusal, refusal}
 use Rattle.rhai_grammar.specs.CommaLists.{not_after}
-use Rattle.rhai_grammar.specs.Contexts.{Context, Live, in_block}
+use Rattle.rhai_grammar.specs.Contexts.{Context, Live, below_global, in_block}
 use Rattle.rhai_grammar.specs.Delivered.{is_end}
 use Rattle.rhai_grammar.specs.DueTokens.{is_due}
 use Rattle.rhai_grammar.specs.Switches.{Collected, ends_arm, no_guard, with_arm_collected}
@@ -24,34 +24,34 @@ use Rattle.rhai_reading.specs.Goals.{Prog, Ret, Fail, Peek, Take, Call, match_to
 
 -- after the case of an arm, of which it has these so far
 abbrev pub cases_at : Context → Live → Nodes → Lexeme → Prog Nodes
-cases_at c w xs l = if is_due due.Pipe l then Take (Call (Cases c w xs) Ret) else Ret xs
+cases_at context live xs lexeme = if is_due due.Pipe lexeme then Take (Call (Cases context live xs) Ret) else Ret xs
 
 -- after the cases of an arm
 abbrev pub case_guard_at : Context → Live → Lexeme → Prog Node
-case_guard_at c w l = if is_due due.If l then Take (Call (Guard c w) Ret) else Ret no_guard
+case_guard_at context live lexeme = if is_due due.If lexeme then Take (Call (Guard context live) Ret) else Ret no_guard
 
 -- where a statement has to be
 abbrev pub action_at : Context → Live → Lexeme → Position → Prog (Node × Bool)
-action_at c w l at =
-    if is_end l then Fail (refusal cause.UnexpectedEOF at)
-    else Call (Statement c (in_block w)) (λ f. Ret (block_value (made_block f.0), ends_arm f.0))
+action_at context live lexeme at =
+    if is_end lexeme then Fail (refusal cause.UnexpectedEOF at)
+    else Call (Statement (below_global context) (in_block live)) (λ f. Ret (block_value (made_block f.0), ends_arm f.0))
 
 -- after a `=>`
 abbrev pub action_on : Context → Live → (single : Bool) → Prog (Node × Bool)
-action_on c w true = Call (Expression c w) (λ x. Ret (x, false))
-action_on c w false = Peek (action_at c w)
+action_on context live true = Call (Expression context live) (λ x. Ret (x, false))
+action_on context live false = Peek (action_at context live)
 
 -- after what an arm does
 abbrev pub arm_end_at : (itself : Bool) → Lexeme → Position → AfterPart → Prog (Unit {0})
-arm_end_at itself l at after.Comma = Take (Ret tt)
-arm_end_at itself l at after.Close = Ret tt
-arm_end_at itself l at after.Nothing = if itself then Ret tt else Fail (refusal (not_after lists.Arms l) at)
+arm_end_at itself lexeme at after.Comma = Take (Ret tt)
+arm_end_at itself lexeme at after.Close = Ret tt
+arm_end_at itself lexeme at after.Nothing = if itself then Ret tt else Fail (refusal (not_after lists.Arms lexeme) at)
 
 -- after the default arm, whose `_` is at a position
 abbrev pub default_end_at : (default : Position) → Lexeme → Position → ArmPlace → Prog (Unit {0})
-default_end_at default l at arm.Close = Take (Ret tt)
-default_end_at default l at arm.Nothing = Fail (refusal (missing (codes "}") l) at)
-default_end_at default l at _ = Fail (refusal cause.WrongSwitchDefaultCase default)
+default_end_at default lexeme at arm.Close = Take (Ret tt)
+default_end_at default lexeme at arm.Nothing = Fail (refusal (missing (codes "}") lexeme) at)
+default_end_at default lexeme at _ = Fail (refusal cause.WrongSwitchDefaultCase default)
 
 -- after what an arm with cases does; one of these may be refused
 abbrev pub arm_on : Nodes → (guard : Node) → Node × Bool → Option Refusal → Prog (Nodes × Node × Node)
@@ -64,14 +64,15 @@ default_on does default = Call (ArmEnd does.1) (λ end. Call (DefaultEnd default
 
 -- after the `_` of the default arm, which is at a position
 abbrev pub default_at : Context → Live → (default : Position) → Lexeme → Position → Prog Node
-default_at c w default l at =
-    if is_due due.If l then Fail (refusal cause.WrongSwitchCaseCondition at)
-    else match_token due.DoubleArrow (Call (Action c w) (λ does. default_on does default))
+default_at context live default lexeme at =
+    if is_due due.If lexeme then Fail (refusal cause.WrongSwitchCaseCondition at)
+    else match_token due.DoubleArrow (Call (Action context live) (λ does. default_on does default))
 
 -- where an arm may begin
 abbrev pub arms_at : Context → Live → Collected → Lexeme → Position → ArmPlace → Prog Collected
-arms_at c w before l at arm.Case =
-    Call (Arm c w before) (λ a. Call (Arms c w (with_arm_collected before a.0 a.1 a.2)) Ret)
-arms_at c w before l at arm.Default = Take (Call (DefaultArm c w at) (λ x. Ret (with_default_collected before x)))
-arms_at c w before l at arm.Close = Take (Ret before)
-arms_at c w before l at arm.Nothing = Fail (refusal (missing (codes "}") l) at)
+arms_at context live before lexeme at arm.Case =
+    Call (Arm context live before) (λ a. Call (Arms context live (with_arm_collected before a.0 a.1 a.2)) Ret)
+arms_at context live before lexeme at arm.Default =
+    Take (Call (DefaultArm context live at) (λ x. Ret (with_default_collected before x)))
+arms_at context live before lexeme at arm.Close = Take (Ret before)
+arms_at context live before lexeme at arm.Nothing = Fail (refusal (missing (codes "}") lexeme) at)

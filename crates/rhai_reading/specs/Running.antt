@@ -15,8 +15,10 @@ use Rattle.rhai_reading.specs.Reading.{Goal, Whole, Expression, Operand, Primary
 use Rattle.rhai_reading.specs.Reading.{Fields, NextKey, Called, Links, Index, Member, NextOperator, BinaryOp, Val}
 use Rattle.rhai_reading.specs.Reading.{ExprStatement, VarName, Initializer, Definition, Statement, Statements, Block}
 use Rattle.rhai_reading.specs.Reading.{BlockEnd, BlockStart, Inside, Jump, Prog, Segments, TextAfter}
+use Rattle.rhai_reading.specs.Reading.{Alias, Export, Import, Path}
 use Rattle.rhai_reading.specs.Reading.{Branch, Braced, Catch, Conditional, Construct, DoEnd, Guard, Iterated, LoopNames}
-use Rattle.rhai_reading.specs.Reading.{Action, Arm, ArmEnd, Arms, Case, CaseGuard, Cases, DefaultArm, DefaultEnd, RightOperand}
+use Rattle.rhai_reading.specs.Reading.{Action, Arm, ArmEnd, Arms, Case, CaseGuard, Cases, DefaultArm, DefaultEnd}
+use Rattle.rhai_reading.specs.Reading.{RightOperand}
 use Rattle.rhai_reading.specs.Reading.{Ret, Fail, Peek, Take, TakeText, Call, CallLiteral, body}
 
 -- what came of a reader, with the cursor that it left
@@ -59,59 +61,63 @@ exec call (Peek k) s = if is_memory (asked s).lexeme then Refused out_of_memory 
 exec call (Take p) s = if is_memory (asked s).lexeme then Refused out_of_memory (looking s) else exec call p (taking s)
 exec call (TakeText k) s = if is_memory (asked s).lexeme then Refused out_of_memory (looking s)
     else if is_due RightBrace (asked s).lexeme
-    then text_from (λ l at t. exec call (k (asked s).at l at) t) (after_brace s)
+    then text_from (λ lexeme at t. exec call (k (asked s).at lexeme at) t) (after_brace s)
     else Refused (refusal (not_due RightBrace (asked s).lexeme) (asked s).at) (looking s)
 exec call (Call g k) s = and_then (call g s) (λ v t. exec call (k v) t)
 exec call (CallLiteral g k) s = and_then (recast (call g s)) (λ v t. exec call (k v) t)
 
 -- A call at the same token is one to a goal of lower rank.
 abbrev pub rank : Goal → ℕ
-rank (Whole c w) = 5
-rank (Expression c w) = 3
-rank (Operand c w) = 2
-rank (RightOperand c w place) = 6
-rank (Primary c w) = 1
-rank (Postfix c w x) = 1
-rank (Arguments c w at) = 5
-rank (Items c w before) = 4
-rank (Elements c w at before) = 4
-rank (Fields c w at before) = 4
-rank (Segments c w start before) = 1
+rank (Whole context live) = 5
+rank (Expression context live) = 3
+rank (Operand context live) = 2
+rank (RightOperand context live place) = 6
+rank (Primary context live) = 1
+rank (Postfix context live x) = 1
+rank (Arguments context live at) = 5
+rank (Items context live before) = 4
+rank (Elements context live at before) = 4
+rank (Fields context live at before) = 4
+rank (Segments context live start before) = 1
 rank TextAfter = 0
-rank (Jump c w at) = 4
-rank (NextKey c before) = 0
-rank (Called c w at) = 0
-rank (Links w q) = 1
-rank (Index c w indexed) = 4
-rank (Member c w) = 0
+rank (Jump context live at) = 4
+rank (NextKey context before) = 0
+rank (Called context live at qualified) = 0
+rank (Path live x) = 0
+rank (Links live spot) = 1
+rank (Index context live indexed) = 4
+rank (Member context live) = 0
 rank (NextOperator filter) = 0
-rank (BinaryOp c w at parent lhs) = 1
-rank (ExprStatement c w) = 4
-rank (VarName c w) = 0
-rank (Initializer c w at) = 0
-rank (Definition c w at constant) = 1
-rank (Statement c w) = 5
-rank (Statements closing c w before) = 6
+rank (BinaryOp context live at parent lhs) = 1
+rank (ExprStatement context live) = 4
+rank (VarName context live) = 0
+rank (Initializer context live at) = 0
+rank (Definition context live at constant exported) = 1
+rank (Import context live at) = 4
+rank (Export context live at) = 1
+rank Alias = 0
+rank (Statement context live) = 5
+rank (Statements closing context live before) = 6
 rank BlockStart = 0
-rank (Inside c w) = 7
-rank (Block c w at) = 8
+rank (Inside context live) = 7
+rank (Block context live at) = 8
 rank (BlockEnd at fs) = 0
-rank (Construct c w at kind) = 9
-rank (Braced c w at) = 1
-rank (Guard c w) = 4
-rank (Iterated c w) = 4
-rank (Conditional c w at) = 5
-rank (Branch c w at) = 2
+rank (Construct context live at kind) = 9
+rank (Braced context live at) = 1
+rank (Guard context live) = 4
+rank (Iterated context live) = 4
+rank (Conditional context live at) = 5
+rank (Branch context live at) = 2
 rank LoopNames = 0
 rank Catch = 0
 rank DoEnd = 0
-rank (Arms c w before) = 7
-rank (Arm c w before) = 6
-rank (DefaultArm c w default) = 0
-rank (Cases c w before) = 5
-rank (Case c w) = 4
-rank (CaseGuard c w) = 0
-rank (Action c w) = 6
+rank (Arms context live before) = 7
+rank (Arm context live before) = 6
+rank (DefaultArm context live default) = 0
+rank (Cases context live before) = 5
+rank (Case context live) = 4
+rank (CaseGuard context live) = 0
+rank (Action context live) = 6
 rank (ArmEnd itself) = 0
 rank (DefaultEnd default) = 0
 

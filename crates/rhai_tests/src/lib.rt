@@ -8,6 +8,8 @@ mod caller_settings;
 #[cfg(test)]
 mod long_scripts;
 #[cfg(test)]
+mod modules;
+#[cfg(test)]
 mod script;
 #[cfg(test)]
 mod text_mode;

@@ -22,6 +22,7 @@ fn symbol(word: &str) -> Option<Token> {
         "." => Token::Period,
         "," => Token::Comma,
         ":" => Token::Colon,
+        "::" => Token::DoubleColon,
         "()" => Token::Unit,
         "(" => Token::LeftParen,
         ")" => Token::RightParen,

@@ -22,8 +22,8 @@ pub use operator::make_binary;
 pub use sign::make_unary;
 pub use statement::{
     ends_itself, make_assignment, make_block, make_block_statement, make_block_value, make_break,
-    make_continue, make_definition, make_expression, make_jump, make_statement_value, no_block,
-    push_statement,
+    make_continue, make_definition, make_export, make_expression, make_import, make_jump,
+    make_statement_value, no_block, push_statement,
 };
 pub use strings::{push_segment, push_text};
 pub use switch::{ends_arm, make_switch, new_arms, no_guard, push_arm, push_default, test_cases};

@@ -1,7 +1,7 @@
-//! Statements: which end by themselves, lists of them, the nodes of definitions, assignments, blocks and jumps, and
-//! statements as operands.
+//! Statements: which end by themselves, lists of them, the nodes of definitions, imports, exports, assignments, blocks
+//! and jumps, and statements as operands.
 
-ghost use Rattle.std.specs.Prelude.{◌≡◌, IfOk, OnOk, false, option_map, true};
+ghost use Rattle.std.specs.Prelude.{◌≡◌, [], IfOk, OnOk, false, option_map, true, unwrap_or};
 ghost use Rattle.std.specs.Int.NonZero.{non_zero_usize_get};
 ghost use Rattle.std.specs.Rc.{rc_str_bytes};
 ghost use Rattle.rhai_lower.specs.Lexemes.{lexeme};
@@ -10,7 +10,7 @@ ghost use Rattle.rhai_lower.specs.Nodes.{expression, made_block, return_statemen
 ghost use Rattle.rhai_lower.specs.View.{block_view, statement_view, statement_views, view};
 ghost use Rattle.rhai_grammar.specs.Statements.{ends_itself};
 ghost use Rattle.rhai_grammar.specs.Targets.{update_of};
-ghost use Rattle.rhai_grammar.specs.Trees.{with_kept};
+ghost use Rattle.rhai_grammar.specs.Trees.{export_tree, import_tree, with_kept};
 ghost use Rattle.rhai_grammar.specs.Trees as tree;
 ghost use Rattle.rhai_trees.specs.Statements.{boxed_view, is_empty, optional_view};
 
@@ -120,7 +120,7 @@ pub fn make_expression(alloc: Global, expr: Expr) -> Result<Stmt, AllocError>
     Ok(Stmt::Expr(Box::new(alloc, expr)?))
 }
 
-/// The definition of a variable or a constant, which is not exported; `number` is that of the slot that it uses again.
+/// The definition of a variable or a constant, which may be exported; `number` is that of the slot that it uses again.
 /// Returns `AllocError` if memory runs out.
 pub fn make_definition(
     alloc: Global,
@@ -128,19 +128,63 @@ pub fn make_definition(
     value: Expr,
     number: Option<NonZeroUsize>,
     constant: bool,
+    exported: bool,
     pos: Position,
 ) -> Result<Stmt, AllocError>
     ensures { IfOk result (λ s. statement_view s ≡ var_statement
-        (rc_str_bytes name) (view value) (option_map non_zero_usize_get number) constant false pos) }
+        (rc_str_bytes name) (view value) (option_map non_zero_usize_get number) constant exported pos) }
 {
     Ok(Stmt::Var {
         name,
         value: Box::new(alloc, value)?,
         index: number,
         constant,
-        exported: false,
+        exported,
         pos,
     })
+}
+
+// A name that may be absent; an absent one is empty.
+fn name_or_empty(alloc: Global, name: Option<RcStr>) -> Result<RcStr, AllocError>
+    ensures { IfOk result (λ t. rc_str_bytes t ≡ unwrap_or (option_map rc_str_bytes name) []) }
+{
+    match name {
+        Some(name) => Ok(name),
+        None => RcStr::from_str(alloc, ""),
+    }
+}
+
+/// An `import` at `pos` of what `source` gives, under a name, if it has one. Returns `AllocError` if memory runs out.
+pub fn make_import(
+    alloc: Global,
+    source: Expr,
+    name: Option<RcStr>,
+    pos: Position,
+) -> Result<Stmt, AllocError>
+    ensures { IfOk result (λ s. statement_view s
+        ≡ import_tree (view source) (option_map rc_str_bytes name) pos) }
+{
+    let name = name_or_empty(alloc, name)?;
+    Ok(Stmt::Import {
+        path: Box::new(alloc, source)?,
+        name,
+        pos,
+    })
+}
+
+/// An `export` at `pos` of the variable `name`, under another name, if it has one. Returns `AllocError` if memory runs
+/// out.
+pub fn make_export(
+    alloc: Global,
+    name: RcStr,
+    alias: Option<RcStr>,
+    pos: Position,
+) -> Result<Stmt, AllocError>
+    ensures { IfOk result (λ s. statement_view s
+        ≡ export_tree (rc_str_bytes name) (option_map rc_str_bytes alias) pos) }
+{
+    let alias = name_or_empty(alloc, alias)?;
+    Ok(Stmt::Export { name, alias, pos })
 }
 
 /// Statements in braces, which are at these positions. Does not allocate.

@@ -1,5 +1,5 @@
 //! Constructs: where each may stand, what begins and ends a guard, the end of `do`, the variables of `for`, and where
-//! `break` and `continue` may stand.
+//! `break`, `continue` and `export` may stand.
 
 ghost use Rattle.std.specs.Prelude.{◌≡◌, ◌+◌, ◌≤◌, IfErr, IfSome, OnOk, false, true};
 ghost use Rattle.std.specs.Rc.{rc_str_bytes};
@@ -11,15 +11,16 @@ ghost use Rattle.rhai_grammar.specs.Contexts.{Context, allows_looping};
 ghost use Rattle.rhai_grammar.specs.Cursors.{asked, cursor_of, left, looking};
 ghost use Rattle.rhai_grammar.specs.Delivered.{is_end, is_memory};
 ghost use Rattle.rhai_grammar.specs.DueTokens.{is_due};
-ghost use Rattle.rhai_grammar.specs.Settings.{in_loop};
+ghost use Rattle.rhai_grammar.specs.Settings.{at_global_level, in_loop};
 ghost use Rattle.rhai_grammar.specs.declared.due.DueToken.TheVariants.{Equals, LeftBrace};
 ghost use Rattle.rhai_base.specs.Constructs.{EndsDo};
-ghost use Rattle.rhai_base.specs.Settings.{no_loop, settings_of};
+ghost use Rattle.rhai_base.specs.Settings.{no_export, no_loop, settings_of};
 
 use crate::cursor::{peek, skip};
+use crate::flags::{LangOptions, ParseSettingFlags};
 use crate::leaves::due::is_due;
 use crate::leaves::refusals::missing;
-use crate::settings::{LangOptions, ParseSettingFlags, ParseSettings};
+use crate::settings::ParseSettings;
 use rhai_grammar::{Construct, DueToken, InputError, ParseError, ParseErrorType, ParseResult};
 use rhai_lower::{Position, Token, TokenStream};
 use std::alloc::{AllocError, Global};
@@ -154,4 +155,16 @@ pub fn test_loop(settings: ParseSettings, pos: Position) -> ParseResult<()>
         return Ok(());
     }
     Err(ParseError(ParseErrorType::LoopBreak, pos))
+}
+
+/// Refuses an `export` that is not at the global level of a script. The error is `WrongExport` at `pos`. Does not
+/// allocate.
+pub fn test_global(settings: ParseSettings, pos: Position) -> ParseResult<()>
+    ensures passes { OnOk result (at_global_level (settings_of settings) ≡ true) }
+    ensures refused { IfErr result (λ e. (at_global_level (settings_of settings) ≡ false) × (e ≡ no_export pos)) }
+{
+    if settings.has_flag(ParseSettingFlags::GLOBAL_LEVEL) {
+        return Ok(());
+    }
+    Err(ParseError(ParseErrorType::WrongExport, pos))
 }

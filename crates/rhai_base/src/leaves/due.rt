@@ -1,21 +1,25 @@
-//! Tokens that are due: one that is taken; one that is taken if it is there; the arguments after the `!` of a call, and
-//! the end mark.
+//! Tokens that are due: one that is taken; one that is taken if it is there; the arguments after the `!` of a call,
+//! which a name with a path may not have; and the end mark.
 
 ghost use Rattle.std.specs.Prelude.{◌≡◌, ◌+◌, ◌≤◌, IfErr, IfOk, IsTrue, OnOk, codes, false, true};
 ghost use Rattle.rhai_lower.specs.Lexemes.{lexeme};
+ghost use Rattle.rhai_lower.specs.Positions.{nowhere};
 ghost use Rattle.rhai_grammar.specs.Beginnings.{calling, is_list, missing, unexpected};
-ghost use Rattle.rhai_grammar.specs.Causes.{MemoryIsNowhere, is_for_memory, refusal, refusal_of};
+ghost use Rattle.rhai_grammar.specs.Causes.{BadInput, MemoryIsNowhere, input_cause, is_for_memory, refusal};
+ghost use Rattle.rhai_grammar.specs.Causes.{refusal_of};
 ghost use Rattle.rhai_grammar.specs.Cursors.{asked, cursor_of, left, looking};
 ghost use Rattle.rhai_grammar.specs.Delivered.{is_end, is_memory};
 ghost use Rattle.rhai_grammar.specs.DueTokens.{is_due, text_of_due};
+ghost use Rattle.rhai_grammar.specs.Verdicts.{bang_refusal};
 ghost use Rattle.rhai_base.specs.DueTokens.{Passes, Tries};
 
 use crate::cursor::{peek, skip};
 use crate::leaves::refusals::{missing, unexpected};
 use crate::leaves::tokens::{is_end, what_calls};
-use rhai_grammar::{Calling, DueToken, ParseResult};
-use rhai_lower::{Token, TokenStream};
+use rhai_grammar::{Calling, DueToken, InputError, ParseError, ParseErrorType, ParseResult};
+use rhai_lower::{Position, Token, TokenStream};
 use std::alloc::{AllocError, Global};
+use std::rc::RcStr;
 
 // How a due token is written.
 fn text_of_due(due: DueToken) -> &'static str
@@ -36,6 +40,7 @@ fn text_of_due(due: DueToken) -> &'static str
         DueToken::If => "if",
         DueToken::Else => "else",
         DueToken::Catch => "catch",
+        DueToken::As => "as",
     }
 }
 
@@ -59,6 +64,7 @@ pub(crate) fn is_due(due: DueToken, token: &Token) -> bool
         DueToken::If => matches!(token, Token::If),
         DueToken::Else => matches!(token, Token::Else),
         DueToken::Catch => matches!(token, Token::Catch),
+        DueToken::As => matches!(token, Token::As),
     }
 }
 
@@ -122,6 +128,38 @@ pub fn arguments_due(alloc: Global, input: &mut TokenStream) -> ParseResult<Call
         Calling::Bang | Calling::Nothing => {
             Err(missing(alloc, "(", "to begin the arguments of a call", token, *pos))
         }
+    }
+}
+
+// Why the `!` of a call is refused whose name has a path; the next token, which stays, is behind it.
+fn bang_input(alloc: Global, input: &mut TokenStream) -> Result<InputError, AllocError>
+    ensures input { IfOk result (λ e. (is_memory (asked (cursor_of input.old)).lexeme ≡ false)
+        × (BadInput (input_cause e) ≡ (bang_refusal nowhere (asked (cursor_of input.old)).lexeme).cause)) }
+    ensures after { cursor_of input.new ≡ looking (cursor_of input.old) }
+{
+    let (token, _) = peek(input)?;
+    let bang = RcStr::from_str(alloc, "!")?;
+    match what_calls(token) {
+        Calling::Pair | Calling::List => Ok(InputError::UnexpectedInput(bang)),
+        Calling::Bang | Calling::Nothing => {
+            let note = RcStr::from_str(alloc, "a name with a path may not be called with it")?;
+            Ok(InputError::ImproperSymbol(bang, note))
+        }
+    }
+}
+
+/// The refusal of the `!` at `bang` of a call whose name has a path: `UnexpectedInput` before arguments, and
+/// `ImproperSymbol` before any other token, which stays; if memory runs out, `OutOfMemory`.
+pub fn no_bang(alloc: Global, input: &mut TokenStream, bang: Position) -> ParseError
+    ensures refused { is_for_memory result ≡ false
+        → (is_memory (asked (cursor_of input.old)).lexeme ≡ false)
+        × (refusal_of result ≡ bang_refusal bang (asked (cursor_of input.old)).lexeme) }
+    ensures nowhere { MemoryIsNowhere result }
+    ensures after { cursor_of input.new ≡ looking (cursor_of input.old) }
+{
+    match bang_input(alloc, input) {
+        Ok(input) => ParseError(ParseErrorType::BadInput(input), bang),
+        Err(error) => ParseError::from(error),
     }
 }
 

@@ -13,9 +13,10 @@ ghost use Rattle.rhai_base.specs.MapKeys.{KeyIs, KeyRefused, is_interpolated, is
 ghost use Rattle.rhai_base.specs.MapKeys.{refused_key};
 
 use crate::cursor::{peek, skip};
+use crate::flags::ParseSettingFlags;
 use crate::leaves::refusals::missing_token;
 use crate::leaves::tokens::is_end;
-use crate::settings::{ParseSettingFlags, ParseSettings};
+use crate::settings::ParseSettings;
 use rhai_grammar::{InputError, ParseError, ParseErrorType, ParseResult};
 use rhai_lower::{Expr, Ident, Position, Token, TokenStream, is_valid_identifier};
 use std::alloc::{AllocError, Global};

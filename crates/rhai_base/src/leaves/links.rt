@@ -1,18 +1,22 @@
-//! Links after an operand: what a token is there, and the member after a dot.
+//! Links after an operand: what a token is there, the member after a dot, and what may not follow a property.
 
 ghost use Rattle.std.specs.Prelude.{◌≡◌, IfErr, IfOk, IsTrue, OnOk, false, true};
 ghost use Rattle.rhai_lower.specs.Lexemes.{lexeme};
 ghost use Rattle.rhai_grammar.specs.Beginnings.{AMember, NoMember, is_link, is_name, is_negated, linking};
-ghost use Rattle.rhai_grammar.specs.Beginnings.{may_be_method, member_place};
+ghost use Rattle.rhai_grammar.specs.Beginnings.{may_be_method, member_place, qualifies};
 ghost use Rattle.rhai_grammar.specs.Causes.{MemoryIsNowhere, is_for_memory, refusal, refusal_of};
 ghost use Rattle.rhai_grammar.specs.Cursors.{asked, cursor_of, looking};
 ghost use Rattle.rhai_grammar.specs.Delivered.{is_end, is_memory};
+ghost use Rattle.rhai_grammar.specs.Verdicts.{no_path};
 ghost use Rattle.rhai_base.specs.Members.{no_member};
 
 use crate::cursor::peek;
 use crate::leaves::refusals::no_member;
-use rhai_grammar::{Linking, ParseResult};
+use crate::leaves::tokens::qualifies;
+use rhai_grammar::{InputError, Linking, ParseError, ParseErrorType, ParseResult};
 use rhai_lower::{Token, TokenStream, is_reserved_keyword_or_symbol};
+use std::alloc::Global;
+use std::rc::RcStr;
 
 /// How a token continues the operand before it.
 pub fn what_links(token: &Token) -> Linking
@@ -78,4 +82,27 @@ pub fn is_name(token: &Token) -> bool
     ensures { result ≡ is_name (lexeme token.now) }
 {
     matches!(token, Token::Identifier(_))
+}
+
+/// Refuses a `::` after the name of a property, which is part of no path; the next token stays in any case.
+///
+/// The error is `ImproperSymbol` at the `::`, or `OutOfMemory`.
+pub fn unscoped(alloc: Global, input: &mut TokenStream) -> ParseResult<()>
+    ensures passes { OnOk result ((qualifies (asked (cursor_of input.old)).lexeme ≡ false)
+        × (is_memory (asked (cursor_of input.old)).lexeme ≡ false)) }
+    ensures refused { IfErr result (λ e. is_for_memory e ≡ false
+        → (qualifies (asked (cursor_of input.old)).lexeme ≡ true)
+        × (is_memory (asked (cursor_of input.old)).lexeme ≡ false)
+        × (refusal_of e ≡ refusal no_path (asked (cursor_of input.old)).at)) }
+    ensures nowhere { IfErr result MemoryIsNowhere }
+    ensures after { cursor_of input.new ≡ looking (cursor_of input.old) }
+{
+    let (token, pos) = peek(input)?;
+    if qualifies(token) {
+        let symbol = RcStr::from_str(alloc, "::")?;
+        let note = RcStr::from_str(alloc, "a property is part of no path")?;
+        let input = InputError::ImproperSymbol(symbol, note);
+        return Err(ParseError(ParseErrorType::BadInput(input), *pos));
+    }
+    Ok(())
 }

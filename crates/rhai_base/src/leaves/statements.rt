@@ -1,14 +1,15 @@
-//! Statements: what begins one, what follows it in a list, the name of a definition, and the signs of assignments.
+//! Statements: what begins one, what follows it in a list, the name of a definition, what is exported, and the signs of
+//! assignments.
 
-ghost use Rattle.std.specs.Prelude.{◌≡◌, ◌+◌, ◌≤◌, IfErr, IfOk, IsTrue, OnOk, codes, false};
+ghost use Rattle.std.specs.Prelude.{◌≡◌, ◌+◌, ◌≤◌, IfErr, IfOk, IfSome, IsTrue, OnOk, codes, false};
 ghost use Rattle.rhai_lower.specs.Lexemes.{lexeme};
 ghost use Rattle.rhai_grammar.specs.Beginnings.{missing};
 ghost use Rattle.rhai_grammar.specs.Causes.{MemoryIsNowhere, cause_of, is_for_memory, refusal, refusal_of};
 ghost use Rattle.rhai_grammar.specs.Contexts.{Context, allows_looping};
 ghost use Rattle.rhai_grammar.specs.Cursors.{asked, cursor_of, left, looking};
 ghost use Rattle.rhai_grammar.specs.Delivered.{is_end, is_memory};
-ghost use Rattle.rhai_grammar.specs.Statements.{after_statement, allowed_start, any_start, no_variable};
-ghost use Rattle.rhai_grammar.specs.Statements.{statement_place, statement_start};
+ghost use Rattle.rhai_grammar.specs.Statements.{after_statement, allowed_start, any_start, defines};
+ghost use Rattle.rhai_grammar.specs.Statements.{no_variable, statement_place, statement_start};
 ghost use Rattle.rhai_grammar.specs.Targets.{is_assignment, is_equals};
 ghost use Rattle.rhai_grammar.specs.declared.role.AfterStatement.TheVariants.{SemiColon};
 ghost use Rattle.rhai_grammar.specs.declared.role.StatementPlace.TheVariants.{Nothing, Statement};
@@ -46,6 +47,8 @@ fn any_start(token: &Token) -> StatementStart
         Token::Throw => StatementStart::Throw,
         Token::Break => StatementStart::Break,
         Token::Continue => StatementStart::Continue,
+        Token::Import => StatementStart::Import,
+        Token::Export => StatementStart::Export,
         _ => StatementStart::Expression,
     }
 }
@@ -201,6 +204,31 @@ pub fn parse_var_name(input: &mut TokenStream) -> ParseResult<(RcStr, Position)>
     };
     skip(input);
     Ok((name, pos))
+}
+
+// Whether a definition that a token begins is a constant's; none if it begins no definition.
+fn defines(token: &Token) -> Option<bool>
+    ensures defines { result ≡ defines (lexeme token.now) }
+    ensures more { IfSome result (λ constant. is_end (lexeme token.now) ≡ false) }
+{
+    match token {
+        Token::Let => Some(false),
+        Token::Const => Some(true),
+        _ => None,
+    }
+}
+
+/// What stands after `export`, whose token stays: a definition, and then whether it is a constant's, or none, where a
+/// name is due. The error comes where the tokenizer ran out of memory at that token.
+pub fn what_is_exported(input: &mut TokenStream) -> Result<Option<bool>, AllocError>
+    ensures value { IfOk result (λ constant. constant ≡ defines (asked (cursor_of input.old)).lexeme) }
+    ensures more { IfOk result (λ constant. IfSome constant (λ b.
+        is_end (asked (cursor_of input.old)).lexeme ≡ false)) }
+    ensures after { cursor_of input.new ≡ looking (cursor_of input.old) }
+    ensures readable { OnOk result (is_memory (asked (cursor_of input.old)).lexeme ≡ false) }
+{
+    let (token, _) = peek(input)?;
+    Ok(defines(token))
 }
 
 /// Whether a token is `=`.

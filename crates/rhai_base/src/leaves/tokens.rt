@@ -5,8 +5,8 @@ ghost use Rattle.rhai_lower.specs.Lexemes.{lexeme};
 ghost use Rattle.rhai_lower.specs.View.{view};
 ghost use Rattle.rhai_grammar.specs.Delivered.{is_end, is_memory};
 ghost use Rattle.rhai_grammar.specs.Cursors.{asked, cursor_of, looking};
-ghost use Rattle.rhai_grammar.specs.Beginnings.{beginning, calling, calls, omits_operand, is_begun, is_call, is_sign};
-ghost use Rattle.rhai_grammar.specs.Beginnings.{value_of};
+ghost use Rattle.rhai_grammar.specs.Beginnings.{beginning, calling, calls, excludes_use, is_begun, is_call};
+ghost use Rattle.rhai_grammar.specs.Beginnings.{is_sign, omits_operand, qualifies, value_of};
 ghost use Rattle.rhai_grammar.specs.CommaLists.{no_argument};
 ghost use Rattle.rhai_grammar.specs.Contexts.{Context, allows_looping};
 ghost use Rattle.rhai_grammar.specs.Starts.{jumps, operand_start, place_after, starts};
@@ -199,4 +199,36 @@ pub fn is_called(input: &mut TokenStream) -> Result<bool, AllocError>
 {
     let (token, _) = peek(input)?;
     Ok(calls(token))
+}
+
+// Whether a token is `::`, which makes the name before it part of a path.
+pub(crate) fn qualifies(token: &Token) -> bool
+    ensures qualifies { result ≡ qualifies (lexeme token.now) }
+    ensures more { IsTrue result → is_end (lexeme token.now) ≡ false }
+{
+    matches!(token, Token::DoubleColon)
+}
+
+/// Whether the name before the next token, which stays, is no use of a variable: it is called, or part of a path. The
+/// error comes where the tokenizer ran out of memory at that token.
+pub fn excludes_use(input: &mut TokenStream) -> Result<bool, AllocError>
+    ensures value { IfOk result (λ excluded. excluded ≡ excludes_use (asked (cursor_of input.old)).lexeme) }
+    ensures after { cursor_of input.new ≡ looking (cursor_of input.old) }
+    ensures readable { OnOk result (is_memory (asked (cursor_of input.old)).lexeme ≡ false) }
+{
+    let (token, _) = peek(input)?;
+    Ok(calls(token) || qualifies(token))
+}
+
+/// Whether the next token, which stays, is the `::` that makes the name before it part of a path. The error comes where
+/// the tokenizer ran out of memory at that token.
+pub fn is_qualified(input: &mut TokenStream) -> Result<bool, AllocError>
+    ensures value { IfOk result (λ qualified. qualified ≡ qualifies (asked (cursor_of input.old)).lexeme) }
+    ensures more { IfOk result (λ qualified. IsTrue qualified
+        → is_end (asked (cursor_of input.old)).lexeme ≡ false) }
+    ensures after { cursor_of input.new ≡ looking (cursor_of input.old) }
+    ensures readable { OnOk result (is_memory (asked (cursor_of input.old)).lexeme ≡ false) }
+{
+    let (token, _) = peek(input)?;
+    Ok(qualifies(token))
 }

@@ -10,6 +10,7 @@ use Rattle.rhai_grammar.specs.Causes.{Refusal}
 use Rattle.rhai_grammar.specs.Delivered.{code, item, Point, next_at, past}
 use Rattle.rhai_grammar.specs.Contexts.{Context, Live, has_room, level_up}
 use Rattle.rhai_grammar.specs.Beginnings.{calls, linking, is_bracket, is_dot, is_link, member_place, is_member}
+use Rattle.rhai_grammar.specs.Beginnings.{qualifies}
 use Rattle.rhai_grammar.specs.Chains.{Link, index_refusal, last_fault}
 use Rattle.rhai_grammar.specs.Forms as form
 use Rattle.rhai_grammar.specs.Forms.{Links, Arguments, Run}
@@ -25,7 +26,7 @@ use Rattle.rhai_reading.proofs.FormKinds.{By, call_of}
 use Rattle.rhai_reading.proofs.Lists.{spot_after_one_more}
 use Rattle.rhai_reading.proofs.Tokens.{bracket_is, dot_is, no_link_is, member_is, readable, member_readable}
 use Rattle.rhai_reading.proofs.Reaches.{Reaches, seen, next, ret, gives, look, peek, take, due, if_true, if_false, part}
-use Rattle.rhai_reading.proofs.Looks.{op_at, pos_at, no_other}
+use Rattle.rhai_reading.proofs.Looks.{op_at, pos_at, no_other, no_wrong}
 use Rattle.rhai_reading.proofs.Complete.Law.{ArgumentsRead, LinksRead, ExpressionRead}
 use Rattle.rhai_reading.proofs.Complete.Calls.{call_here, called_by}
 
@@ -86,13 +87,15 @@ a_property dot pos name name_at rest links q w k s t b m =
     let h = m.1.1.1 in
     dotted w q (link_list rest w) dot pos (Name name) name_at m.0 m.1.0 refl h.1.0 h.0
     (due h.1.0 refl refl (next V.uncalled_member h.1.1.0
-    (λ e. if_false _ (no_other (calls (op_at (past code (past code s)))) e).0 (ret h.1.1.1)))) (λ u l n.
+    (λ e. let next_token = op_at (past code (past code s)) in
+    let f = no_other (calls next_token) e in
+    if_false _ f.0 (if_false _ (no_wrong (qualifies next_token) _ f.1).0 (ret h.1.1.1))))) (λ u l n.
     links (spot_after_dot q (member_link dot pos (property name name_at))) w k u t l n)
 
 method_met : (dot : Lexeme) (pos : Position) (name : Lexeme) (name_at : Position) (bang : Option Position)
     (args : Arguments) (rest : Links) (q : LinkSpot) (w : Live) (k : Demands) (s t : Point)
     → Met (W.links (form.Method dot pos name name_at bang args rest) q w k) s t
-    → Met (W.method dot pos name name_at q (call_of (level_up q.settings) w name_at (By bang args)
+    → Met (W.method dot pos name name_at q (call_of (level_up q.settings) w name_at false (By bang args)
     (W.links rest (spot_after_dot q (member_link dot pos
     (method_tree (text_of name) name_at (is_some bang) (argument_trees args w)))) w k))) s t
 method_met dot pos name name_at None args rest q w k s t m = m
@@ -106,9 +109,9 @@ a_method dot pos name name_at bang args rest arguments links q w k s t b m =
     let p = past code (past code s) in
     let i = method_met dot pos name name_at bang args rest q w k s t m in
     let h = i.1.1.1.1 in
-    let on = call_here bang args c w name_at _ p t h.1.1.1 in
+    let on = call_here bang args c w name_at false _ p t h.1.1.1 in
     dotted w q (link_list rest w) dot pos name name_at i.0 i.1.1.0 i.1.0 h.1.0 h.0
     (due h.1.0 (member_readable name i.1.0) refl (look on.0
-    (if_true _ on.1 (part (called_by bang args arguments c w name_at _ p t true h.1.1.1) (λ u l n. ret n))))) (λ u l n.
+    (if_true _ on.1 (part (called_by bang args arguments c w name_at false _ p t true h.1.1.1) (λ u l n. ret n))))) (λ u l n.
     links (spot_after_dot q (member_link dot pos (method_tree (text_of name) name_at (is_some bang)
     (argument_trees args w)))) w k u t l n)

@@ -7,7 +7,7 @@ use Rattle.rhai_grammar.specs.Delivered.{code, Point, next_at, is_memory}
 use Rattle.rhai_grammar.specs.Contexts.{Context, Live, has_room}
 use Rattle.rhai_grammar.specs.declared.role.Calling.{Calling}
 use Rattle.rhai_grammar.specs.declared.role.Calling.TheVariants as calls_by
-use Rattle.rhai_grammar.specs.Beginnings.{calling, calls}
+use Rattle.rhai_grammar.specs.Beginnings.{calling, excludes_use}
 use Rattle.rhai_grammar.specs.declared.filter.ExprFilter.{ExprFilter}
 use Rattle.rhai_grammar.specs.Strengths.{Follower, follower_of, is_operator, strength}
 use Rattle.rhai_grammar.specs.Forms.{Primary, Base, Links, Operand, Arguments, Items, Elements, Fields, Run, Just}
@@ -43,9 +43,9 @@ use Rattle.rhai_reading.proofs.Strengths.{next_continues}
 
 -- ---- what stands in the laws
 
--- No token after x is in the way: it can be read, and calls x only where that is called.
-abbrev pub Usable : Node → (called : Bool) → Lexeme → Type 0
-Usable x called l = (is_memory l ≡ false) × (is_variable x ≡ true → calls l ≡ called)
+-- No token after x is in the way: it can be read, and calls x, or makes it part of a path, only where that is so.
+abbrev pub Usable : Node → (excluded : Bool) → Lexeme → Type 0
+Usable x excluded l = (is_memory l ≡ false) × (is_variable x ≡ true → excludes_use l ≡ excluded)
 
 -- what a reader does at the arguments of a call
 pub record Lists (c : Context) (w : Live) (name : Position) (bang : Bool)

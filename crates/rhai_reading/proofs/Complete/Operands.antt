@@ -10,10 +10,13 @@ use Rattle.rhai_lower.specs.declared.position.Position.{Position}
 use Rattle.rhai_grammar.specs.Causes.{Refusal}
 use Rattle.rhai_grammar.specs.Chains.{chained}
 use Rattle.rhai_grammar.specs.Delivered.{code, Item, Point, next_at, past}
-use Rattle.rhai_grammar.specs.Contexts.{Context, Live, in_block, level_up}
+use Rattle.rhai_grammar.specs.Contexts.{Context, Live, below_global, in_block, level_up}
 use Rattle.rhai_grammar.specs.declared.role.Beginning.{Beginning}
 use Rattle.rhai_grammar.specs.declared.role.Beginning.TheVariants as begin
-use Rattle.rhai_grammar.specs.Beginnings.{beginning}
+use Rattle.rhai_grammar.specs.Beginnings.{beginning, excludes_use}
+use Rattle.rhai_grammar.specs.Modules.{may_use, module_fault}
+use Rattle.rhai_reading.proofs.Complete.Calls.{tested_fine}
+use Rattle.std.specs.Prelude.{◌||◌}
 use Rattle.rhai_grammar.specs.Forms as form
 use Rattle.rhai_grammar.specs.Forms.{Primary, Base, Links, Operand, Run}
 use Rattle.rhai_grammar.specs.Trees.{name_tree, base_tree}
@@ -58,9 +61,9 @@ begins_here (form.Zero range pos) c w place k s t m =
 
 base_begins : (x : Base) (c : Context) (w : Live) (place : OperandPlace) (k : Demands) (s t : Point)
     → Met (W.base x c w place k) s t → is_primary (beginning (op_at s)) ≡ true
-base_begins (form.Plain x) c w place k s t m = begins_here x c w place _ s t m
-base_begins (form.Call x None args) c w place k s t m = begins_here x c w place _ s t m
-base_begins (form.Call x (Some bang) args) c w place k s t m = begins_here x c w place _ s t m
+base_begins (form.Plain x names) c w place k s t m = begins_here x c w place _ s t m
+base_begins (form.Call x names None args) c w place k s t m = begins_here x c w place _ s t m
+base_begins (form.Call x names (Some bang) args) c w place k s t m = begins_here x c w place _ s t m
 
 -- a reserved word: called, or `this` in a function
 word_by : (called this_word function : Bool) (x y : Node) (d e : Refusal) (k : Demands) (s t : Point) (b : Bool)
@@ -77,7 +80,7 @@ word_by false false function x y d e k s t b h ok m = absurd cc
 
 -- the links behind an operand
 abbrev links_on : Context → Live → Node → Prog Node
-links_on c w y = Call (R.Links w (spot_after_operand c y)) (λ ls. Ret (chained y ls))
+links_on c w y = Call (R.Links w (spot_after_operand c y)) (λ ls. R.tested (chained y ls) (module_fault c w y))
 
 -- an operand that no sign stands before, and that is written
 opened : (c : Context) (w : Live) (place : OperandPlace) {s : Point} {b : Bool} {x : Node} {k : Demands} {t : Point}
@@ -102,10 +105,16 @@ value token pos c w place called k s t b m behind =
     let can = begun_readable token (primary_begun _ (value_primary (beginning token) m.0)) in
     peek m.1.0 can (seen (value_is (beginning token) m.0) (R.primary_at c w token pos) (take m.1.0 can (ret m.1.1)))
 
+may_so : (b : Bool) (e : Refusal) → (if b then Fine else Blames e) ≡ Fine → b ≡ true
+may_so true e h = refl
+may_so false e h = absurd cc
+
 pub named : (name : Text) (pos : Position) → PrimaryRead (form.Named name pos)
 named name pos c w place called k s t b m behind =
-    let u = behind (past code s) m.1 in
-    due m.0 refl refl (look u.0 (gives (ap (λ v. name_tree w.slots v name pos) (u.1 refl)) m.1))
+    let u = behind (past code s) m.1.1 in
+    due m.0 refl refl (next (V.after_name c w name pos) m.1.0 (λ e.
+    if_true _ (may_so (excludes_use (op_at (past code s)) || may_use c w name) _ e)
+    (gives (ap (λ v. name_tree w.slots v name pos) (u.1 refl)) m.1.1)))
 
 pub word : (text : Text) (pos : Position) → PrimaryRead (form.Word text pos)
 word text pos c w place called k s t b m behind =
@@ -156,7 +165,8 @@ written_read r = record { end = r.end; met = r.met; looked = r.looked; runs = be
 pub linked : (x : Base) (list : Links) → BaseRead x → LinksRead list → OperandRead (form.Linked x list)
 linked x list base links c w place k s t b m =
     opened c w place (base_begins x c w place _ s t m) (base c w place _ k s t _ (links_on c w) m (λ u l h.
-    part (links (spot_after_operand c (base_tree x w)) w k u t l h) (λ v a n. ret n)))
+    part (links (spot_after_operand c (base_tree x w)) w _ u t l h) (λ v a n.
+    tested_fine (module_fault c w (base_tree x w)) n)))
 
 pub signed : (sign : Lexeme) (pos : Position) (x : Operand) → OperandRead x → OperandRead (form.Signed sign pos x)
 signed sign pos x operand c w place k s t b m =
@@ -177,4 +187,4 @@ pub jump : (x : Statement) → StatementRead x → OperandRead (form.Jump x)
 jump x reads c w place k s t b m =
     next (jump_stands place) m.0 (λ e.
     seen (jump_start_is (operand_start place (op_at s)) e) (R.right_at c w (pos_at s))
-    (part (reads c (in_block w) k s t true m.1) (λ u l n. ret n)))
+    (part (reads (below_global c) (in_block w) k s t true m.1) (λ u l n. ret n)))

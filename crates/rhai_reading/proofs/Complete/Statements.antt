@@ -12,12 +12,15 @@ use Rattle.rhai_lower.specs.declared.position.Position.{Position}
 use Rattle.rhai_lower.specs.declared.token.Token.TheVariants as token
 use Rattle.rhai_grammar.specs.Causes.{Refusal}
 use Rattle.rhai_grammar.specs.Delivered.{code, item, text, Point, past}
-use Rattle.rhai_grammar.specs.Contexts.{Context, Live, allows_looping, has_room, in_block, level_up}
+use Rattle.rhai_grammar.specs.Contexts.{Context, Live, below_global, allows_looping, has_room, in_block, level_up}
 use Rattle.rhai_grammar.specs.Definitions as walk
 use Rattle.rhai_grammar.specs.Demands.{Fine, Otherwise, Demands, Met, Next, Tok, ◌▸◌}
 use Rattle.rhai_grammar.specs.Forms as form
 use Rattle.rhai_grammar.specs.Forms.{Body, Construct, ExprStatement, Initializer, JumpValue, Run, Segments, Statement}
-use Rattle.rhai_grammar.specs.Forms.{Statements}
+use Rattle.rhai_grammar.specs.Forms.{Alias, Statements}
+use Rattle.rhai_grammar.specs.Constructs.{absent as without}
+use Rattle.rhai_grammar.specs.DueTokens.{is_due}
+use Rattle.rhai_reading.proofs.Beginnings.{keyword_defines}
 use Rattle.rhai_grammar.specs.Constructs.{construct_token, kind_of}
 use Rattle.rhai_reading.proofs.Beginnings.{construct_readable, starts_construct, starts_value}
 use Rattle.rhai_grammar.specs.Statements as V
@@ -39,7 +42,7 @@ use Rattle.rhai_reading.specs.Reading.{body}
 use Rattle.rhai_reading.proofs.Complete.Law.{ExpressionRead, ExprStatementRead, InitializerRead, StatementRead}
 use Rattle.rhai_reading.proofs.Complete.Law.{ConstructRead, StatementsRead, BodyRead, IsRead, PrimaryRead}
 use Rattle.rhai_reading.proofs.Complete.Law.{InsideRead, JumpRead, SegmentsRead, closing_at, inside_part}
-use Rattle.rhai_reading.proofs.FormKinds.{NameForm, block_ends, block_starts, definitions, inside_of, inside_statements, text_afters, text_token, var_names}
+use Rattle.rhai_reading.proofs.FormKinds.{NameForm, aliases, block_ends, block_starts, definitions, inside_of, inside_statements, text_afters, text_token, var_names}
 use Rattle.rhai_reading.proofs.Lists.{first_text, kept_statement, last_kept, no_statement, segment_added, segment_last}
 use Rattle.rhai_reading.proofs.Looks.{op_at, pos_at, fine, no_other, or_wrong}
 use Rattle.rhai_reading.proofs.Reaches.{Reaches, seen, next, ret, gives, peek, take, text_taken, due, if_true, if_false, part}
@@ -120,21 +123,55 @@ define_is : (c : Context) (w : Live) (at : Position) (constant : Bool)
 define_is c w at true = refl
 define_is c w at false = refl
 
-definition : (c : Context) (w : Live) (at : Position) (constant : Bool) (name : NameForm) (value : Initializer)
+definition : (c : Context) (w : Live) (at : Position) (constant exported : Bool) (name : NameForm) (value : Initializer)
     → InitializerRead value
-    → IsRead (R.Definition c w at constant) (definitions c w at constant) (record { name = name; value = value })
-definition c w at constant name value reads k s t b m =
+    → IsRead (R.Definition c w at constant exported) (definitions c w at constant exported)
+    (record { name = name; value = value })
+definition c w at constant exported name value reads k s t b m =
     part (var_name c w name _ s t b m) (λ u l n. part (reads c w at k u t l n) (λ v a i. ret i))
 
 pub define : (constant : Bool) (at : Position) (name : Text) (name_at : Position) (value : Initializer)
     → InitializerRead value → StatementRead (form.Define constant at name name_at value)
 define constant at name name_at value reads c w k s t b m =
     due m.0 refl (define_is c w at constant) (if_true _ m.1.0
-    (part (definition (level_up c) w at constant (record { name = name; at = name_at }) value reads k (past code s) t false
-    m.1.1) (λ u l n. ret n)))
+    (part (definition (level_up c) w at constant false (record { name = name; at = name_at }) value reads k (past code s) t
+    false m.1.1) (λ u l n. ret n)))
+
+-- ---- modules
 
 abbrev two_up : Context → Context
 two_up c = level_up (level_up c)
+
+other_name : (x : Alias) → IsRead R.Alias aliases x
+other_name form.NoAlias k s t b m =
+    next (without due.As) m.0 (λ e. if_false _ (no_other (is_due due.As (op_at s)) e).0 (ret m.1))
+other_name (form.As as_at name at) k s t b m = due m.0 refl refl (due m.1.0 refl refl (ret m.1.1))
+
+pub import : (at : Position) (f : Run) (other : Alias) → ExpressionRead f → StatementRead (form.Import at f other)
+import at f other expression c w k s t b m =
+    due m.0 refl refl (if_true _ m.1.0 (if_true _ m.1.1.0
+    (part (part (expression (two_up c) w _ (past code s) t false m.1.1.1)
+    (λ u l n. part (other_name other k u t l n) (λ v a i. ret i))) (λ u l n. ret n))))
+
+pub export : (at : Position) (name : Text) (name_at : Position) (other : Alias)
+    → StatementRead (form.Export at name name_at other)
+export at name name_at other c w k s t b m =
+    let u = past code s in
+    due m.0 refl refl (if_true _ m.1.0 (if_true _ m.1.1.0
+    (part (peek m.1.1.1.0 refl (due m.1.1.1.0 refl refl
+    (part (other_name other k (past code u) t false m.1.1.1.1) (λ v a i. ret i)))) (λ v a i. ret i))))
+
+pub export_defined : (at : Position) (constant : Bool) (keyword : Position) (name : Text) (name_at : Position)
+    (value : Initializer) → InitializerRead value
+    → StatementRead (form.ExportDefined at constant keyword name name_at value)
+export_defined at constant keyword name name_at value reads c w k s t b m =
+    let u = past code s in
+    let h = m.1.1.1.1 in
+    due m.0 refl refl (if_true _ m.1.0 (if_true _ m.1.1.0
+    (part (peek h.1.0 refl (seen (keyword_defines constant) (R.export_at (level_up c) w at keyword)
+    (if_true _ h.0 (take h.1.0 refl
+    (part (definition (two_up c) w keyword constant true (record { name = name; at = name_at }) value reads k
+    (past code u) t false h.1.1) (λ v a i. ret i)))))) (λ v a i. ret i))))
 
 pub compound : (pos : Position) (x : Construct) → ConstructRead x → StatementRead (form.Compound pos x)
 compound pos x reads c w k s t b m =
@@ -217,7 +254,7 @@ block_end at fs closing k s t b m = peek m.0 refl (due m.0 refl refl (ret m.1))
 
 pub many : (fs : Statements) (closing : Position) → StatementsRead fs → InsideRead (form.Many fs closing)
 many fs closing reads c w k s t b m =
-    seen (not_true _ m.0) (R.inside_on c w) (part (reads Brace c (in_block w) node.no_statements _ s t b m.1)
+    seen (not_true _ m.0) (R.inside_on c w) (part (reads Brace (below_global c) (in_block w) node.no_statements _ s t b m.1)
     (λ u l n. ret n))
 
 pub single : (x : ExprStatement) (closing : Position) → ExprStatementRead x → InsideRead (form.Single x closing)

@@ -8,7 +8,7 @@ use Rattle.rhai_grammar.specs.Causes as cause
 use Rattle.rhai_grammar.specs.Causes.{Refusal}
 use Rattle.rhai_grammar.specs.CommaLists.{after_part}
 use Rattle.rhai_grammar.specs.Constructs.{absent}
-use Rattle.rhai_grammar.specs.Contexts.{Context, Live, in_block, in_case}
+use Rattle.rhai_grammar.specs.Contexts.{Context, Live, below_global, in_block, in_case}
 use Rattle.rhai_grammar.specs.Delivered.{code, item, Point, is_end, past}
 use Rattle.rhai_grammar.specs.Demands.{Fine, Met, Next, Nothing, Tok, ◌▸◌}
 use Rattle.rhai_grammar.specs.Verdicts.{anything}
@@ -78,7 +78,7 @@ case_guard at f expression c w k s t b m =
 pub does : (f : Statement) → StatementRead f → ActionRead (form.Does f)
 does f statement c w k s t b m =
     seen (not_true _ m.0) (R.action_on c w) (next action_due m.1.0 (λ e. if_false _ (no_end (op_at s) e)
-    (part (statement c (in_block w) k s t true m.1.1) (λ u l n. ret n))))
+    (part (statement (below_global c) (in_block w) k s t true m.1.1) (λ u l n. ret n))))
 
 pub gives_value : (f : Run) → ExpressionRead f → ActionRead (form.Gives f)
 gives_value f expression c w k s t b m =

@@ -6,7 +6,7 @@ use Rattle.std.specs.Option.{option_or}
 use Rattle.rhai_lower.specs.Texts.{Text}
 use Rattle.rhai_lower.specs.Lexemes.{Lexeme, text_of}
 use Rattle.rhai_lower.specs.Positions.{nowhere}
-use Rattle.rhai_lower.specs.Nodes.{Node, method_call, start_of}
+use Rattle.rhai_lower.specs.Nodes.{Node, method_call, start_of, variable}
 use Rattle.rhai_lower.specs.declared.position.Position.{Position}
 use Rattle.rhai_grammar.specs.declared.due.DueToken.TheVariants as due
 use Rattle.rhai_grammar.specs.Causes as cause
@@ -16,11 +16,12 @@ use Rattle.rhai_grammar.specs.Seen.{is_at_last}
 use Rattle.rhai_grammar.specs.Contexts.{Context, Live, has_room, level_up}
 use Rattle.rhai_grammar.specs.declared.role.Linking.{Linking}
 use Rattle.rhai_grammar.specs.declared.role.Linking.TheVariants as link
-use Rattle.rhai_grammar.specs.Beginnings.{calls, linking, is_bracket, is_dot, is_name}
+use Rattle.rhai_grammar.specs.Beginnings.{calls, linking, is_bracket, is_dot, is_name, qualifies}
 use Rattle.rhai_grammar.specs.Beginnings.{MemberPlace, AMember, NoMember, member_place, is_member}
 use Rattle.rhai_grammar.specs.Chains as chain
 use Rattle.rhai_grammar.specs.Chains.{Link, LinkKind, link_fault, last_fault, index_refusal}
 use Rattle.rhai_grammar.specs.Kinds.{index_fault}
+use Rattle.rhai_grammar.specs.Modules.{may_enter, module_fault, path_fault}
 use Rattle.rhai_grammar.specs.Forms as form
 use Rattle.rhai_grammar.specs.Forms.{Links, Run}
 use Rattle.rhai_grammar.specs.Trees.{link_list, tree, bracket_link, member_link, method_tree}
@@ -35,7 +36,7 @@ use Rattle.rhai_reading.proofs.Dues.{expect}
 use Rattle.rhai_reading.proofs.Lists.{spot_after_one_more}
 use Rattle.rhai_reading.proofs.Looks.{op_at, pos_at}
 use Rattle.rhai_reading.proofs.Paths.{Fits, Aim, Way, ◌▹◌, Lost}
-use Rattle.rhai_reading.proofs.Shows.{Histories, Goes, ill, blamed, fine, fails, take, look, either, gives, done}
+use Rattle.rhai_reading.proofs.Shows.{Histories, Goes, Kind, ill, blamed, fine, fails, take, look, either, gives, done}
 use Rattle.rhai_reading.proofs.Shows.{refuse, halt, raise, part, first, ends, Passed}
 use Rattle.rhai_reading.proofs.FormKinds.{expressions, CallForm, By, call_answer, links, indices, MemberForm, AProperty}
 use Rattle.rhai_reading.proofs.FormKinds.{AMethod, member_of, member_tree, members}
@@ -86,6 +87,23 @@ unfaulted {k = k} {s = s} {o = o} e r = subst (λ f. Way (W.unfaulted f k) s o) 
 pub faulted : {f : Option Refusal} {e : Refusal} (k : Demands) {s : Point} → f ≡ Some e → Way (W.unfaulted f k) s (Lost e s)
 faulted {e = e} k {s = s} is = subst (λ f. Way (W.unfaulted f k) s (Lost e s)) (sym is) (fails refl)
 
+-- what is given, unless it is refused
+pub tested : {A F : Type 0} {call : Histories} (K : Kind F A) (from : Point) (f : F) (v : Option Refusal) → Early v
+    → {t : Point} {b : Bool} {y : A} → K.tree t f ≡ y
+    → ((k : Demands) (o : Aim) → Way (W.unfaulted v k) t o → Way (K.demands f k) from o)
+    → Goes call K from (R.tested y v) t b
+tested K from f None h is way = gives f is way
+tested K from f (Some d) h is way = halt f h (λ k. way k _ (fails refl))
+
+path_early : (c : Context) (w : Live) (path : List (Text × Position)) → Early (path_fault c w path)
+path_early c w [] = tt
+path_early c w (root ∷ path) =
+    early_if (may_enter c w root.0) None (Some (refusal (cause.ModuleUndefined root.0) root.1)) tt refl
+
+pub module_early : (c : Context) (w : Live) (x : Node) → Early (module_fault c w x)
+module_early c w (variable v p) = path_early c w v.path
+module_early c w _ = tt
+
 -- ---- the index in a bracket, and the member behind a dot
 
 method_is : (w : Live) (name : Lexeme) (is : is_member (member_place name) ≡ true) (pos : Position) (f : CallForm)
@@ -117,10 +135,12 @@ module _ {call : Histories} (ih : AllSound call) (c : Context) (w : Live) where
       let pos = pos_at s in
       let t = past code s in
       look (λ m. take (look (λ n. either (calls (op_at t))
-      (λ on. ends (ih.of (R.Called c w pos) t true on) (AMethod name is pos) (λ u f. method_is w name is pos f)
+      (λ on. ends (ih.of (R.Called c w pos false) t true on) (AMethod name is pos) (λ u f. method_is w name is pos f)
       (λ f k o r. refl ▹ fine n (rw on) ▹ r))
       (λ off. either (is_name name)
-      (λ named. done (AProperty (text_of name) pos) (λ k o r. name_is name pos named ▹ fine n (rw off) ▹ r))
+      (λ named. either (qualifies (op_at t))
+      (λ colons. refuse (AProperty (text_of name) pos) (λ k. name_is name pos named ▹ ill n (rw (off, colons))))
+      (λ none. done (AProperty (text_of name) pos) (λ k o r. name_is name pos named ▹ fine n (rw (off, none)) ▹ r)))
       (λ word. halt (AMethod name is pos (By None (form.EmptyPair nowhere))) refl
       (λ k. refl ▹ blamed n (rw (off, word_is name pos is word))))))))
 

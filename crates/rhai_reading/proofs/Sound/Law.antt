@@ -7,7 +7,7 @@ use Rattle.rhai_grammar.specs.Causes.{Refusal}
 use Rattle.rhai_grammar.specs.Delivered.{code, Point}
 use Rattle.rhai_grammar.specs.Seen.{StandsAtLast}
 use Rattle.rhai_grammar.specs.Contexts.{Context, Live}
-use Rattle.rhai_grammar.specs.Beginnings.{beginning, is_sign, calls, member_place, is_member}
+use Rattle.rhai_grammar.specs.Beginnings.{beginning, is_sign, calls, member_place, is_member, qualifies}
 use Rattle.rhai_grammar.specs.Starts.{operand_start}
 use Rattle.rhai_grammar.specs.declared.role.OperandPlace.{OperandPlace}
 use Rattle.rhai_grammar.specs.declared.role.OperandStart.TheVariants as first
@@ -18,7 +18,7 @@ use Rattle.rhai_grammar.specs.Forms.{Primary, Base, Links, Operand, Arguments, I
 use Rattle.rhai_grammar.specs.Forms.{Binary, Body, Conditional, Segments}
 use Rattle.rhai_grammar.specs.declared.role.Construct.{Construct as Kind}
 use Rattle.rhai_grammar.specs.declared.role.Construct.TheVariants as kind
-use Rattle.rhai_grammar.specs.Trees.{tree}
+use Rattle.rhai_grammar.specs.Trees.{is_variable, tree}
 use Rattle.rhai_grammar.specs.Demands.{Demands, Next, Met, Missed}
 use Rattle.rhai_grammar.specs.Written as W
 use Rattle.rhai_grammar.specs.Verdicts.{operator_known}
@@ -35,6 +35,7 @@ use Rattle.rhai_reading.proofs.FormKinds.{expr_statements, var_names, initialize
 use Rattle.rhai_reading.proofs.FormKinds.{block_ends, block_starts, definitions, insides, jump_values, segments, text_afters}
 use Rattle.rhai_reading.proofs.FormKinds.{BracedForm, CatchForm, DoForm, LoopForm, OfKind, braced, branches, catches}
 use Rattle.rhai_reading.proofs.FormKinds.{conditionals, constructs, do_ends, guards, iterated_values, loops}
+use Rattle.rhai_reading.proofs.FormKinds.{DefinitionForm, aliases, exports, imports, paths}
 use Rattle.rhai_reading.proofs.SwitchKinds.{actions, arm_ends, arm_lists, case_guards, cases, default_ends}
 use Rattle.rhai_reading.proofs.SwitchKinds.{DefaultForm, arms_with_cases, default_arms, one_cases}
 use Rattle.rhai_reading.proofs.Looks.{op_at, follower_at, operator_in}
@@ -89,7 +90,8 @@ Sound (R.Primary c w) s o =
 Sound (R.Postfix c w x) s o =
     (place : OperandPlace) (from : Point) (p : Primary) → tree_before w s p ≡ x
     → Passed (primaries c w place) p from s → Answers (bases c w place) from o
-Sound (R.Called c w name) s o = calls (op_at s) ≡ true → Answers (callings c w name) s o
+Sound (R.Called c w name qualified) s o = calls (op_at s) ≡ true → Answers (callings c w name qualified) s o
+Sound (R.Path w x) s o = is_variable x ≡ true → qualifies (op_at s) ≡ true → Answers (paths w x) s o
 Sound (R.Links w q) s o = Answers (links w q) s o
 Sound (R.Index c w indexed) s o = Answers (indices c w indexed) s o
 Sound (R.Member c w) s o = is_member (member_place (op_at s)) ≡ true → Answers (members c w) s o
@@ -111,7 +113,10 @@ Sound (R.BinaryOp c w pos p lhs) s o =
 Sound (R.ExprStatement c w) s o = Answers (expr_statements c w) s o
 Sound (R.VarName c w) s o = Answers (var_names c w) s o
 Sound (R.Initializer c w pos) s o = Answers (initializers c w pos) s o
-Sound (R.Definition c w pos constant) s o = Answers (definitions c w pos constant) s o
+Sound (R.Definition c w pos constant exported) s o = Answers (definitions c w pos constant exported) s o
+Sound (R.Import c w pos) s o = Answers (imports c w pos) s o
+Sound (R.Export c w pos) s o = Answers (exports c w pos) s o
+Sound R.Alias s o = Answers aliases s o
 Sound (R.Statement c w) s o = Answers (statements c w) s o
 Sound (R.Statements closing c w before) s o = Answers (statement_lists closing c w before) s o
 Sound R.BlockStart s o = Answers block_starts s o
@@ -146,7 +151,7 @@ abbrev pub any_primary : Primary
 any_primary = form.Value (Integer (lib.IntN.pos 0)) nowhere
 
 abbrev pub any_operand : Operand
-any_operand = form.Linked (form.Plain any_primary) form.NoLink
+any_operand = form.Linked (form.Plain any_primary form.NoPath) form.NoLink
 
 abbrev pub any_run : Run
 any_run = Just any_operand
@@ -192,6 +197,9 @@ any_construct kind.For =
     record { construct = form.For (form.Variable [] nowhere) nowhere any_run nowhere any_body; is = refl }
 any_construct kind.Try =
     record { construct = form.Try nowhere any_body nowhere form.NoName nowhere any_body; is = refl }
+
+abbrev pub any_definition : DefinitionForm
+any_definition = record { name = record { name = []; at = nowhere }; value = form.NoValue }
 
 abbrev pub any_default : DefaultForm
 any_default = record { arrow = nowhere; action = any_action; comma = None; closing = nowhere }

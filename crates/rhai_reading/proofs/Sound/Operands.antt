@@ -1,6 +1,11 @@
 -- Primaries, and operands with their signs.
 use Rattle.std.proofs.Common.{◌≡◌, Bool, true, false, refl, sym, ap}
-use Rattle.std.specs.Prelude.{◌&&◌}
+use Rattle.std.specs.Prelude.{◌&&◌, ◌||◌}
+use Rattle.rhai_lower.specs.Nodes.{Node}
+use Rattle.rhai_grammar.specs.Forms.{Base, Links}
+use Rattle.rhai_grammar.specs.Modules.{may_use, module_fault}
+use Rattle.rhai_grammar.specs.Written as W
+use Rattle.rhai_reading.proofs.Sound.Chains.{module_early, tested}
 use Rattle.rhai_lower.specs.Lexemes.{text_of}
 use Rattle.rhai_lower.specs.Positions.{nowhere}
 use Rattle.rhai_lower.specs.Nodes.{no_nodes, no_properties}
@@ -8,10 +13,10 @@ use Rattle.rhai_grammar.specs.declared.due.DueToken.TheVariants as due
 use Rattle.rhai_grammar.specs.Delivered.{code, Point, past, is_memory}
 use Rattle.rhai_grammar.specs.Settings.{in_function}
 use Rattle.rhai_grammar.specs.Constructs.{construct_token, kind_of, may_be_value}
-use Rattle.rhai_grammar.specs.Contexts.{Context, Live, in_block, level_up}
+use Rattle.rhai_grammar.specs.Contexts.{Context, Live, below_global, in_block, level_up}
 use Rattle.rhai_grammar.specs.declared.role.Beginning.{Beginning}
 use Rattle.rhai_grammar.specs.declared.role.Beginning.TheVariants as begin
-use Rattle.rhai_grammar.specs.Beginnings.{beginning, is_value, is_sign, is_range, calls}
+use Rattle.rhai_grammar.specs.Beginnings.{beginning, is_value, is_sign, is_range, calls, excludes_use}
 use Rattle.rhai_grammar.specs.Beginnings.{may_be_called, is_this}
 use Rattle.rhai_grammar.specs.Signs.{sign_holds}
 use Rattle.rhai_grammar.specs.Forms as form
@@ -38,7 +43,7 @@ use Rattle.rhai_reading.proofs.Dues.{expect}
 use Rattle.rhai_reading.proofs.Tokens.{called_no_this}
 use Rattle.rhai_reading.proofs.Looks.{op_at, pos_at}
 use Rattle.rhai_reading.proofs.Paths.{◌▹◌}
-use Rattle.rhai_reading.proofs.Shows.{Histories, Goes, wrong, blamed, fine, fails, take, look, either, gives, done}
+use Rattle.rhai_reading.proofs.Shows.{Histories, Goes, Kind, wrong, blamed, fine, fails, take, look, either, gives, done}
 use Rattle.rhai_reading.proofs.Shows.{refuse, halt, test, raise, part, first, ends}
 use Rattle.rhai_reading.proofs.FormKinds.{tree_before, operands, primaries}
 use Rattle.rhai_reading.proofs.Sound.Law.{AllSound, any_construct, any_primary, any_operand, any_run}
@@ -50,7 +55,12 @@ module _ {call : Histories} (ih : AllSound call) (c : Context) (w : Live) (place
   primary_by begin.Value e written sign m =
       take (done (form.Value (op_at s) (pos_at s)) (λ k o r. ap is_value e ▹ refl ▹ r))
   primary_by begin.Name e written sign m =
-      take (look (λ n. done (form.Named (text_of (op_at s)) (pos_at s)) (λ k o r. begun s e ▹ r)))
+      let name = text_of (op_at s) in
+      let x = form.Named name (pos_at s) in
+      let next = op_at (past code s) in
+      take (look (λ n. either (excludes_use next || may_use c w name)
+      (λ may. done x (λ k o r. begun s e ▹ fine n (rw may) ▹ r))
+      (λ none. halt x refl (λ k. begun s e ▹ blamed n (rw none)))))
   primary_by begin.Word e written sign m =
       let word = text_of (op_at s) in
       let x = form.Word word (pos_at s) in
@@ -108,18 +118,28 @@ module _ {call : Histories} (ih : AllSound call) (c : Context) (w : Live) (place
   primary_by begin.Range e written sign m = done (form.Zero (op_at s) (pos_at s)) (λ k o r. ap is_range e ▹ refl ▹ r)
   primary_by begin.Nothing e written sign m = refuse any_primary (λ k. refl ▹ wrong m (rw (written, e)))
 
+  -- what stands after an operand without its links
+  abbrev linked : Base → Kind Links Node
+  linked y = record {
+    tree = λ t list. operand_tree (form.Linked y list) w;
+    demands = λ list k.
+        W.links list (spot_after_operand c (base_tree y w)) w (W.unfaulted (module_fault c w (base_tree y w)) k);
+  }
+
   -- an operand without a sign
   unsigned : operand_start place (op_at s) ≡ first.Written → is_sign (beginning (op_at s)) ≡ false
       → Goes call (operands c w place) s (R.Call (R.Primary c w)
       (λ x. R.Call (R.Postfix c w x) (λ y. R.Call (R.Links w (spot_after_operand c y))
-      (λ ls. R.Ret (chained y ls))))) s true
+      (λ ls. R.tested (chained y ls) (module_fault c w y))))) s true
   unsigned written sign =
-      part (ih.of (R.Primary c w) s true place written sign) (λ x. form.Linked (form.Plain x) form.NoLink)
-      (λ x k o r. r _) (λ x t b G.
+      part (ih.of (R.Primary c w) s true place written sign)
+      (λ x. form.Linked (form.Plain x form.NoPath) form.NoLink) (λ x k o r. r _) (λ x t b G.
       first (ih.of (R.Postfix c w (tree_before w t x)) t b place s x refl G) form.Linked form.NoLink
       (λ y list k o r. r) (λ y u a.
-      ends (ih.of (R.Links w (spot_after_operand c (base_tree y w))) u a) (λ list. list) (λ v list. refl)
-      (λ list k o r. r)))
+      part (ih.of (R.Links w (spot_after_operand c (base_tree y w))) u a) (λ list. list) (λ list k o r. r _)
+      (λ list v d H.
+      tested (linked y) u list (module_fault c w (base_tree y w)) (module_early c w (base_tree y w)) refl
+      (λ k o r. H.on r))))
 
   operand_by : (v : Beginning) → beginning (op_at s) ≡ v → operand_start place (op_at s) ≡ first.Written
       → Goes call (operands c w place) s (R.operand_by c w (op_at s) (pos_at s) v) s true
@@ -137,7 +157,7 @@ module _ {call : Histories} (ih : AllSound call) (c : Context) (w : Live) (place
       → Goes call (operands c w place) s (R.right_at c w (pos_at s) v) s true
   starts_by first.Omitted e m = done (form.NoOperand (op_at s) (pos_at s)) (λ k o r. ap is_omitted e ▹ refl ▹ r)
   starts_by first.Jump e m =
-      ends {v = λ f. block_value (made_block f.0)} (ih.of (R.Statement c (in_block w)) s true) form.Jump
+      ends {v = λ f. block_value (made_block f.0)} (ih.of (R.Statement (below_global c) (in_block w)) s true) form.Jump
       (λ v f. refl) (λ f k o r. fine m (rw e) ▹ r)
   starts_by first.Written e m = ends (ih.of (R.Operand c w) s true place e) (λ x. x) (λ v x. refl) (λ x k o r. r)
 

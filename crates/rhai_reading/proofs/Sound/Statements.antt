@@ -8,7 +8,7 @@ use Rattle.rhai_lower.specs.Nodes as node
 use Rattle.rhai_lower.specs.declared.position.Position.{Position}
 use Rattle.rhai_grammar.specs.Causes.{AssignmentToConstant, Refusal, refusal}
 use Rattle.rhai_grammar.specs.Delivered.{code, item, Point, next_at, past, is_memory}
-use Rattle.rhai_grammar.specs.Contexts.{Context, Live, has_single_blocks, in_block, is_in_loop, level_up}
+use Rattle.rhai_grammar.specs.Contexts.{Context, Live, below_global, has_room, has_single_blocks, in_block, is_global, is_in_loop, level_up}
 use Rattle.rhai_grammar.specs.Beginnings.{is_name}
 use Rattle.rhai_grammar.specs.Definitions as walk
 use Rattle.rhai_grammar.specs.Forms as form
@@ -30,8 +30,15 @@ use Rattle.rhai_grammar.specs.declared.role.StatementStart.{StatementStart}
 use Rattle.rhai_grammar.specs.declared.role.StatementStart.TheVariants as start
 use Rattle.rhai_reading.specs.Reading as R
 use Rattle.rhai_reading.specs.Reading.{body}
-use Rattle.rhai_reading.proofs.Beginnings.{equals_is, name_is, no_name, separated, started}
-use Rattle.rhai_reading.proofs.Dues.{expect}
+use Rattle.rhai_reading.proofs.Beginnings.{defines_is, equals_is, name_is, no_name, separated, started}
+use Rattle.rhai_grammar.specs.DueTokens.{is_due}
+use Rattle.rhai_grammar.specs.Forms.{Alias}
+use Rattle.rhai_grammar.specs.Trees.{export_tree, import_tree}
+use Rattle.rhai_lower.specs.declared.token.Token.TheVariants as token
+use Rattle.rhai_reading.proofs.FormKinds.{ExportDefinition, ExportForm, ExportName, aliases, export_demands, export_form, exports, imports}
+use Rattle.rhai_reading.proofs.Sound.Law.{any_definition}
+use Rattle.std.specs.Prelude.{unwrap_or}
+use Rattle.rhai_reading.proofs.Dues.{expect, expect_name, stands}
 use Rattle.rhai_reading.proofs.FormKinds.{expressions, expr_statements, NameForm, var_names, initializers, statements}
 use Rattle.rhai_reading.proofs.FormKinds.{statement_lists, blocks, block_ends, body_form, definition_of, definitions}
 use Rattle.rhai_reading.proofs.FormKinds.{InsideForm, ManyInside, SingleInside, inside_of, inside_statements, insides, jump_values}
@@ -125,19 +132,48 @@ module _ {call : Histories} (ih : AllSound call) (c : Context) (w : Live) (s : P
       (λ f k o r. equals_is (op_at s) (pos_at s) is ▹ below ▹ r))))
       (λ none. done form.NoValue (λ k o r. fine m (rw none) ▹ r)))
 
-  pub definition : (at : Position) (constant : Bool) (b : Bool)
-      → Goes call (definitions c w at constant) s (body (R.Definition c w at constant)) s b
-  definition at constant b =
+  pub definition : (at : Position) (constant exported : Bool) (b : Bool)
+      → Goes call (definitions c w at constant exported) s (body (R.Definition c w at constant exported)) s b
+  definition at constant exported b =
       first (ih.of (R.VarName c w) s b) (λ f x. record { name = f; value = x }) form.NoValue (λ f x k o r. r) (λ f t a.
-      ends {v = λ x. (definition_tree constant at f.name x w, walk.defined f.name constant w)}
+      ends {v = λ x. (definition_tree constant exported at f.name x w, walk.defined_as exported f.name constant w)}
       (ih.of (R.Initializer c w at) t a) (λ x. x) (λ v x. refl) (λ x k o r. r))
 
   defined : (constant : Bool) → next_at code s ≡ item (Sign (V.keyword_of constant)) (pos_at s)
       → Goes call (statements c w) s (R.definition_on c w (pos_at s) constant) s true
   defined constant here =
       take (raise c (form.Define constant (pos_at s) [] nowhere form.NoValue) (λ high k. here ▹ fails high) (λ below.
-      ends (ih.of (R.Definition (level_up c) w (pos_at s) constant) (past code s) false) (definition_of constant (pos_at s))
+      ends (ih.of (R.Definition (level_up c) w (pos_at s) constant false) (past code s) false)
+      (definition_of constant (pos_at s))
       (λ v f. refl) (λ f k o r. here ▹ below ▹ r)))
+
+  -- ---- modules
+
+  pub import : (at : Position) (b : Bool) → Goes call (imports c w at) s (body (R.Import c w at)) s b
+  import at b =
+      first (ih.of (R.Expression c w) s b) (λ f (x : Alias). record { source = f; other = x }) form.NoAlias
+      (λ f x k o r. r) (λ f t a.
+      ends {v = λ x. (import_tree (tree f w) x at, walk.imported x w)} (ih.of R.Alias t a) (λ x. x) (λ v x. refl)
+      (λ x k o r. r))
+
+  export_by : (at : Position) (v : Option Bool) → V.defines (op_at s) ≡ v → is_memory (op_at s) ≡ false
+      → Goes call (exports c w at) s (R.export_at c w at (pos_at s) v) s true
+  export_by at (Some constant) e m =
+      let begins : Fits V.exports_definition s = fine m (rw e) in
+      let here = defines_is (op_at s) (pos_at s) constant e in
+      raise c (ExportDefinition constant (pos_at s) any_definition) (λ high k. begins ▹ fails high) (λ below.
+      take (ends (ih.of (R.Definition (level_up c) w (pos_at s) constant true) (past code s) false)
+      (ExportDefinition constant (pos_at s)) (λ v f. refl) (λ f k o r. begins ▹ below ▹ here ▹ r)))
+  export_by at None e m =
+      look (λ n. either (is_name (op_at s))
+      (λ named. take (
+      ends {v = λ x. (export_tree (text_of (op_at s)) x at, walk.exported (text_of (op_at s)) (unwrap_or x (text_of (op_at s))) w)}
+      (ih.of R.Alias (past code s) false) (ExportName (text_of (op_at s)) (pos_at s)) (λ v x. refl)
+      (λ x k o r. name_is (op_at s) (pos_at s) named ▹ r)))
+      (λ other. refuse (ExportName [] nowhere form.NoAlias) (λ k. wrong m (rw (e, no_name (op_at s) other)))))
+
+  pub export : (at : Position) (b : Bool) → Goes call (exports c w at) s (body (R.Export c w at)) s b
+  export at b = look (λ m. export_by at (V.defines (op_at s)) refl m)
 
   -- ---- jumps
 
@@ -162,6 +198,12 @@ module _ {call : Histories} (ih : AllSound call) (c : Context) (w : Live) (s : P
       (λ f k o r. here ▹ r))
 
   -- ---- statements
+
+  export_way : next_at code s ≡ item (Sign token.Export) (pos_at s) → is_global c ≡ true → has_room c ≡ true
+      → (f : ExportForm) (k : Demands) (o : Aim) → Way (export_demands (level_up c) w (pos_at s) f k) (past code s) o
+      → Way (W.statement (export_form (pos_at s) f) c w k) s o
+  export_way here global below (ExportName name name_at other) k o r = here ▹ global ▹ below ▹ r
+  export_way here global below (ExportDefinition constant keyword f) k o r = here ▹ global ▹ below ▹ r
 
   statement_by : (v : StatementStart) → V.statement_start c (op_at s) ≡ v → is_memory (op_at s) ≡ false
       → Goes call (statements c w) s (R.statement_at c w (pos_at s) v) s true
@@ -190,6 +232,20 @@ module _ {call : Histories} (ih : AllSound call) (c : Context) (w : Live) (s : P
       let h = started c s e in
       take (test (is_in_loop c) (form.Continue (pos_at s)) refl (λ out k. h.0 ▹ h.1 ▹ fails out) (λ within.
       done (form.Continue (pos_at s)) (λ k o r. h.0 ▹ h.1 ▹ within ▹ r)))
+  statement_by start.Import e m =
+      let here = (started c s e).1 in
+      let any = form.Import (pos_at s) any_run form.NoAlias in
+      take (raise c any (λ high k. here ▹ fails high) (λ below.
+      raise (level_up c) any (λ high k. here ▹ below ▹ fails high) (λ deeper.
+      ends (ih.of (R.Import (level_up (level_up c)) w (pos_at s)) (past code s) false)
+      (λ f. form.Import (pos_at s) f.source f.other) (λ v f. refl) (λ f k o r. here ▹ below ▹ deeper ▹ r))))
+  statement_by start.Export e m =
+      let here = (started c s e).1 in
+      let any = form.Export (pos_at s) [] nowhere form.NoAlias in
+      take (test (is_global c) any refl (λ out k. here ▹ fails out) (λ global.
+      raise c any (λ high k. here ▹ global ▹ fails high) (λ below.
+      ends (ih.of (R.Export (level_up c) w (pos_at s)) (past code s) false) (export_form (pos_at s)) (λ v f. refl)
+      (export_way here global below))))
   statement_by start.Expression e m =
       let begins : Fits (V.expression_begins c) s = fine m (rw e) in
       raise c (form.Expression (form.Evaluate any_run)) (λ high k. begins ▹ ill m (rw high)) (λ below.
@@ -198,6 +254,17 @@ module _ {call : Histories} (ih : AllSound call) (c : Context) (w : Live) (s : P
 
   pub statement : (b : Bool) → Goes call (statements c w) s (body (R.Statement c w)) s b
   statement b = look (λ m. statement_by (V.statement_start c (op_at s)) refl m)
+
+module _ (call : Histories) (s : Point) where
+  pub other_name : (b : Bool) → Goes call aliases s (body R.Alias) s b
+  other_name b =
+      let t = past code s in
+      look (λ m. either (is_due due.As (op_at s))
+      (λ is.
+      let here = stands due.As (op_at s) (pos_at s) is in
+      take (expect_name (form.As (pos_at s) [] nowhere) (λ name at. R.Ret (Some name)) (λ none k. here ▹ none.way)
+      (λ name. done (form.As (pos_at s) (text_of (op_at t)) (pos_at t)) (λ k o r. here ▹ name ▹ r))))
+      (λ none. done form.NoAlias (λ k o r. fine m (rw none) ▹ r)))
 
 -- ---- lists of statements
 
@@ -257,7 +324,7 @@ module _ {call : Histories} (ih : AllSound call) (c : Context) (w : Live) (s : P
       ends {v = λ f. node.one_statement f node.no_statements} (ih.of (R.ExprStatement c w) s b) SingleInside
       (λ v f. refl) (λ f k o r. e ▹ r)
   inside_by false e b =
-      ends {v = λ fs. fs.0} (ih.of (R.Statements Brace c (in_block w) node.no_statements) s b) ManyInside
+      ends {v = λ fs. fs.0} (ih.of (R.Statements Brace (below_global c) (in_block w) node.no_statements) s b) ManyInside
       (λ v f. refl) (λ f k o r. ap not e ▹ r)
 
   pub inside : (b : Bool) → Goes call (insides c w) s (body (R.Inside c w)) s b

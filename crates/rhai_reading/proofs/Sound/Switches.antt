@@ -9,7 +9,7 @@ use Rattle.rhai_lower.specs.declared.token.Token.TheVariants as token
 use Rattle.rhai_grammar.specs.Causes as cause
 use Rattle.rhai_grammar.specs.Causes.{Refusal, refusal}
 use Rattle.rhai_grammar.specs.CommaLists.{after_part}
-use Rattle.rhai_grammar.specs.Contexts.{Context, Live, has_single_blocks, in_block, in_case}
+use Rattle.rhai_grammar.specs.Contexts.{Context, Live, below_global, has_single_blocks, in_block, in_case}
 use Rattle.rhai_grammar.specs.Delivered.{code, Point, is_end, is_memory, past}
 use Rattle.rhai_grammar.specs.Demands.{Fine, Wrong}
 use Rattle.rhai_grammar.specs.DueTokens.{is_due}
@@ -96,7 +96,7 @@ module _ {call : Histories} (ih : AllSound call) (c : Context) (w : Live) (s : P
       look (λ m. either (is_end (op_at s))
       (λ end. refuse any_action (λ k. ap not e ▹ ill m (no_action (op_at s) end)))
       (λ more. ends {v = λ f. (node.block_value (node.made_block f.0), ends_arm f.0)}
-      (ih.of (R.Statement c (in_block w)) s true) form.Does (λ v f. refl)
+      (ih.of (R.Statement (below_global c) (in_block w)) s true) form.Does (λ v f. refl)
       (λ f k o r. ap not e ▹ fine m (some_action (op_at s) more) ▹ r)))
 
   pub action : (b : Bool) → Goes call (actions c w) s (body (R.Action c w)) s b

@@ -1,8 +1,9 @@
-use Rattle.std.proofs.Common.{ap, rules, subst}
+use Rattle.std.proofs.Common.{ap, refl, rules, subst}
 use Rattle.rhai_base.specs.Frames.{FrameValue}
 use Rattle.rhai_grammar.specs.Cursors.{cursor_of, mode_by}
 use Rattle.rhai_grammar.specs.Promises.{ReadsExpression}
 use Rattle.rhai_readers.specs.Frames.{context_of, live_of}
+use Rattle.rhai_parser.proofs.FrameLemmas.{frame_is}
 use Rattle.rhai_parser.proofs.engine.Engine.parse_global_expr.Goals as goal
 
 pub returns-clause-reads : goal.returns-clause-reads
@@ -11,7 +12,7 @@ returns-clause-reads g c = λ fresh.
     let read = c.read_script.ensures.reads library (ap mode_by fresh.mode) in (
       c.settings.new.arg2,
       search rules,
-      subst (λ (frame : FrameValue). ReadsExpression library (context_of c.args.self.now frame.filter c.settings.new.arg2)
+      subst (λ (frame : FrameValue). ReadsExpression library (context_of c.args.self.now frame c.settings.new.arg2)
           (live_of frame) (cursor_of c.args.state.input.now) (cursor_of c.read_script.new.input) c.read_script.result)
-          c.new-frame.ensures read,
+          (frame_is c.args.self.now c.args.state c.new-frame.result _ _ _ _ c.new-frame.ensures c.known-known.ensures refl refl c.deref.ensures.value) read,
     )

@@ -10,8 +10,9 @@ use Rattle.std.specs.Rc.{rc_str_bytes}
 use Rattle.rhai_reading.specs.Reading.{Links}
 use Rattle.rhai_reading.specs.Running.{need, result_of}
 use Rattle.rhai_trees.specs.Chains.{indexed_by}
-use Rattle.rhai_readers.specs.Frames.{SamePlace, context_of, live_of}
-use Rattle.rhai_readers.specs.Readers.{GoesOn, action, arguments, arm, arms, case, case_guard, cases, default_arm, binary_op, block, braced, branch, conditional, construct, guard, iterated, right_operand, called, definition, expr_statement, initializer, inside, jump, segments, statement, statements, statements_of, elements, expression, fields, index, items, links, linked, member, operand, postfix, primary, properties_of, state_of, views_of}
+use Rattle.rhai_base.specs.Frames.{SamePlace}
+use Rattle.rhai_readers.specs.Frames.{context_of, live_of}
+use Rattle.rhai_readers.specs.Readers.{GoesOn, action, arguments, arm, arms, case, case_guard, cases, default_arm, binary_op, block, braced, branch, conditional, construct, guard, iterated, right_operand, called, definition, exported, expr_statement, imported, initializer, inside, jump, segments, statement, statements, statements_of, elements, expression, fields, index, items, links, linked, member, operand, postfix, primary, properties_of, state_of, views_of}
 use Rattle.rhai_readers.proofs.language.Language.+parser.Given as goal
 
 abbrev pub decreases-parse_expr : goal.decreases-parse_expr
@@ -27,7 +28,7 @@ abbrev pub decreases-parse_postfix : goal.decreases-parse_postfix
 decreases-parse_postfix l = need (postfix l.self.now l.frame.now l.settings (view l.operand)) (state_of l.shared.now)
 
 abbrev pub decreases-parse_call : goal.decreases-parse_call
-decreases-parse_call l = need (called l.self.now l.frame.now l.settings) (state_of l.shared.now)
+decreases-parse_call l = need (called l.self.now l.frame.now l.settings l.qualified) (state_of l.shared.now)
 
 abbrev pub decreases-parse_links : goal.decreases-parse_links
 decreases-parse_links l = need (links l.self.now l.frame.now l.settings (view l.lhs.now)) (state_of l.shared.now)
@@ -82,7 +83,7 @@ decreases-parse_map_literal-loop-properties l = left (state_of l.shared).tokens
 
 abbrev pub invariant-parse_links-loop-links : goal.invariant-parse_links-loop-links
 invariant-parse_links-loop-links l = record {
-  same : result_of (links l.fn.self l.fn.frame l.fn.settings (view l.fn.lhs)) (state_of l.fn.shared) ≡ result_of (Links (live_of l.frame) (record { settings = context_of l.self l.frame.filter l.settings; brackets = context_of l.self l.frame.filter l.brackets; indexed = indexed_by (view l.fn.lhs) (linked l.links); before = linked l.links })) (state_of l.shared);
+  same : result_of (links l.fn.self l.fn.frame l.fn.settings (view l.fn.lhs)) (state_of l.fn.shared) ≡ result_of (Links (live_of l.frame) (record { settings = context_of l.self l.frame l.settings; brackets = context_of l.self l.frame l.brackets; indexed = indexed_by (view l.fn.lhs) (linked l.links); before = linked l.links })) (state_of l.shared);
   goes_on : GoesOn l.fn.shared l.shared;
 }
 
@@ -105,7 +106,13 @@ abbrev pub decreases-parse_initializer : goal.decreases-parse_initializer
 decreases-parse_initializer l = need (initializer l.self.now l.frame.now l.settings) (state_of l.shared.now)
 
 abbrev pub decreases-parse_let : goal.decreases-parse_let
-decreases-parse_let l = need (definition l.self.now l.frame.now l.settings l.constant) (state_of l.shared.now)
+decreases-parse_let l = need (definition l.self.now l.frame.now l.settings l.constant l.exported) (state_of l.shared.now)
+
+abbrev pub decreases-parse_import : goal.decreases-parse_import
+decreases-parse_import l = need (imported l.self.now l.frame.now l.settings) (state_of l.shared.now)
+
+abbrev pub decreases-parse_export : goal.decreases-parse_export
+decreases-parse_export l = need (exported l.self.now l.frame.now l.settings) (state_of l.shared.now)
 
 abbrev pub decreases-parse_stmt : goal.decreases-parse_stmt
 decreases-parse_stmt l = need (statement l.self.now l.frame.now l.settings) (state_of l.shared.now)

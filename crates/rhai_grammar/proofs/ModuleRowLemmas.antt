@@ -1,0 +1,22 @@
+-- The worked rows of modules, by evaluation.
+use Rattle.std.proofs.Common.{refl}
+use Rattle.rhai_grammar.specs.Imports.{module_number}
+use Rattle.rhai_grammar.specs.Settings.{one_more}
+use Rattle.rhai_grammar.specs.Slots.{number}
+use Rattle.rhai_grammar.specs.RowsOfModules.{ExportedRow, TwiceRow}
+
+pub twice_row : TwiceRow
+unfolding one_more module_number
+twice_row = record {
+  tree_is = refl;
+  fits = (refl, (refl, (refl, (refl, (refl, (refl, (refl, (refl, (refl, (refl, (refl, (refl, (refl, (refl, (refl, (refl, (refl, (refl, (refl, (refl, (refl, (refl, (refl, (refl, (refl, (refl, (refl, (refl, (refl, (refl, (refl, (refl, (refl, (refl, (refl, (refl, (refl, (refl, (refl, (refl, (refl, (refl, (refl, (refl, (refl, (refl, (refl, (refl, (refl, (refl, refl))))))))))))))))))))))))))))))))))))))))))))))))));
+  imports_are = refl;
+}
+
+pub exported_row : ExportedRow
+unfolding one_more number
+exported_row = record {
+  tree_is = refl;
+  fits = (refl, (refl, (refl, (refl, (refl, (refl, (refl, (refl, (refl, (refl, (refl, (refl, (refl, (refl, (refl, (refl, (refl, (refl, (refl, (refl, (refl, (refl, (refl, (refl, (refl, (refl, (refl, (refl, (refl, (refl, (refl, (refl, (refl, (refl, (refl, (refl, refl))))))))))))))))))))))))))))))))))));
+  live_is = refl;
+}

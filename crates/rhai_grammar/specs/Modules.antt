@@ -1,0 +1,92 @@
+-- Modules: names with a path before them, such as `a::b::c`, and what has to be known under strict variables.
+use Rattle.std.specs.Prelude.{◌≡◌, ℕ, Bool, true, false, ◌||◌, ◌++◌, not, Option, Some, None, List, [], ◌∷◌, codes}
+use Rattle.std.specs.Prelude.{if◌then◌else◌, refl}
+use Rattle.std.specs.Option.{is_some}
+use Rattle.rhai_lower.specs.Texts.{Text, same_text}
+use Rattle.rhai_lower.specs.Positions.{place}
+use Rattle.rhai_lower.specs.Slots.{is_declared}
+use Rattle.rhai_lower.specs.Nodes.{Node, variable}
+use Rattle.rhai_lower.specs.declared.position.Position.{Position}
+use Rattle.rhai_grammar.specs.Causes as cause
+use Rattle.rhai_grammar.specs.Causes.{Refusal, refusal}
+use Rattle.rhai_grammar.specs.Contexts.{Context, Live, is_strict}
+use Rattle.rhai_grammar.specs.Forms.{NoPath, Path, Scoped}
+use Rattle.rhai_grammar.specs.Imports.{is_among, module_number}
+use Rattle.rhai_grammar.specs.Slots.{number}
+
+-- ---- names with a path
+
+-- there are names after `::`
+abbrev pub is_scoped : Path → Bool
+is_scoped NoPath = false
+is_scoped (Scoped colons name at rest) = true
+
+-- the first name of a path; without a path, the name itself
+abbrev pub root_of : (path : List (Text × Position)) → (name : Text) → Text
+root_of [] name = name
+root_of (root ∷ path) name = root.0
+
+-- A name after `::`, where the node is what is before: the node's name becomes the last of the path, and the new name
+-- that of the variable. That refers to no slot; the first name of the path refers to the latest import of that name, if
+-- there is one.
+abbrev pub qualified : (imports : List Text) → Node → (name : Text) → Position → Node
+qualified imports (variable v p) name at = variable (record {
+  number = None;
+  name = name;
+  path = v.path ++ (v.name, p) ∷ [];
+  module_index = module_number (root_of v.path v.name) imports;
+}) at
+qualified imports x name at = x
+
+-- a name with all names after it
+abbrev pub path_tree : Path → (imports : List Text) → Node → Node
+path_tree NoPath imports x = x
+path_tree (Scoped colons name at rest) imports x = path_tree rest imports (qualified imports x name at)
+
+abbrev is_empty : List (Text × Position) → Bool
+is_empty [] = true
+is_empty _ = false
+
+-- a variable with a path
+abbrev pub is_qualified : Node → Bool
+is_qualified (variable v p) = not (is_empty v.path)
+is_qualified _ = false
+
+-- ---- what has to be known
+
+-- Under strict variables a name that is used has a slot, or the caller gives it.
+abbrev pub may_use : Context → Live → Text → Bool
+may_use context live name =
+    not (is_strict context) || (is_some (number name live.slots) || is_declared name context.known.variables)
+
+-- Under strict variables the first name of a path is that of an import, here or around the script, `global`, or a
+-- module of the engine.
+abbrev pub may_enter : Context → Live → Text → Bool
+may_enter context live name =
+    not (is_strict context) || (is_some (module_number name live.imports) || (is_among name context.known.imports
+    || (same_text name (codes "global") || is_among name context.known.modules)))
+
+abbrev pub path_fault : Context → Live → List (Text × Position) → Option Refusal
+path_fault context live [] = None
+path_fault context live (root ∷ path) =
+    if may_enter context live root.0 then None else Some (refusal (cause.ModuleUndefined root.0) root.1)
+
+-- the error for the path before a name, if there is one
+abbrev pub module_fault : Context → Live → Node → Option Refusal
+module_fault context live (variable v p) = path_fault context live v.path
+module_fault context live _ = None
+
+abbrev example_name : (name : Text) (column : ℕ) → Node
+example_name name column =
+    variable (record { number = Some 3; name = name; path = []; module_index = None }) (place 1 column)
+
+-- `m::n::x` after two imports of `m`: the path has `m` and `n`, and begins at the second import.
+example : (path_tree (Scoped (place 1 2) (codes "n") (place 1 4) (Scoped (place 1 5) (codes "x") (place 1 7) NoPath))
+    (codes "m" ∷ codes "m" ∷ []) (example_name (codes "m") 1) ≡ variable (record {
+      number = None;
+      name = codes "x";
+      path = (codes "m", place 1 1) ∷ (codes "n", place 1 4) ∷ [];
+      module_index = Some 1;
+    }) (place 1 7))
+unfolding module_number
+example = refl

@@ -1,0 +1,151 @@
+//! What the readers ask for by leaves about modules: the names of a path, another name after `as`, and what an `export`
+//! does.
+
+ghost use Rattle.std.specs.Prelude.{◌≡◌, ◌≤◌, IfErr, IfOk, OnOk, option_map, true, unwrap_or};
+ghost use Rattle.std.specs.Int.NonZero.{non_zero_usize_get};
+ghost use Rattle.std.specs.Rc.{rc_str_bytes};
+ghost use Rattle.rhai_lower.specs.Nodes.{variable};
+ghost use Rattle.rhai_lower.specs.View.{named, statement_view};
+ghost use Rattle.rhai_grammar.specs.Beginnings.{qualifies};
+ghost use Rattle.rhai_grammar.specs.Cursors.{asked, cursor_of, left};
+ghost use Rattle.rhai_grammar.specs.Definitions.{defined_as, exported, reused};
+ghost use Rattle.rhai_grammar.specs.Trees.{export_tree};
+ghost use Rattle.rhai_grammar.specs.Contexts.{Context};
+ghost use Rattle.rhai_reading.specs.Reading.{Alias, Path, Postfix, call_on};
+ghost use Rattle.rhai_reading.specs.Running.{Fails, Gives, exec, guarded, result_of};
+ghost use Rattle.rhai_base.specs.Frames.{SamePlace};
+ghost use Rattle.rhai_readers.specs.Readers.{variable_view};
+
+use rhai_base::Frame;
+use rhai_base::cursor::skip;
+use rhai_base::leaves::due::pass_token;
+use rhai_base::leaves::names::qualify;
+use rhai_base::leaves::statements::parse_var_name;
+use rhai_base::leaves::tokens::{is_called, is_qualified};
+use rhai_grammar::{DueToken, ParseResult};
+use rhai_lower::{Position, Stmt, TokenStream, VariableExpr};
+use rhai_trees::make_export;
+use std::alloc::{AllocError, Global};
+use std::num::NonZeroUsize;
+use std::rc::RcStr;
+
+/// The names of the path that `name`, at `pos`, begins or goes on with: each with the `::` before it, which the caller
+/// has seen. The result is the last name, with the path before it, and where it stands.
+#[tactic(auto, using(crate::proofs::Readers::paths))]
+pub(crate) fn next_path(
+    alloc: Global,
+    input: &mut TokenStream,
+    frame: &Frame<'_>,
+    name: Box<VariableExpr>,
+    pos: Position,
+) -> ParseResult<(Box<VariableExpr>, Position)>
+    requires { qualifies (asked (cursor_of input.old)).lexeme ≡ true }
+    ensures gives { Gives variable_view (result_of (Path frame.now.live (variable (named name.value) pos))
+        (cursor_of input.old)) result (cursor_of input.new) }
+    ensures shorter { left (cursor_of input.new).tokens ≤ left (cursor_of input.old).tokens }
+{
+    let mut name = name;
+    let mut pos = pos;
+    loop {
+        skip(input);
+        let (next, next_pos) = parse_var_name(input)?;
+        name = qualify(alloc, frame, name, pos, next)?;
+        pos = next_pos;
+        if !is_qualified(input)? {
+            return Ok((name, pos));
+        }
+    }
+}
+
+/// A name with its path, and whether it is called.
+#[derive(Drop)]
+pub(crate) struct NamedOperand {
+    pub name: Box<VariableExpr>,
+    pub pos: Position,
+    pub called: bool,
+}
+
+/// The path that the name `name`, at `pos`, begins, if a `::` comes next; the names in it are taken. And whether the
+/// token after them, which stays, calls the name.
+pub(crate) fn named_operand(
+    alloc: Global,
+    input: &mut TokenStream,
+    frame: &Frame<'_>,
+    name: Box<VariableExpr>,
+    pos: Position,
+) -> ParseResult<NamedOperand>
+    ensures found { (c : Context) → IfOk result (λ n.
+        result_of (Postfix c frame.now.live (variable (named name.value) pos)) (cursor_of input.old)
+        ≡ exec (guarded (Postfix c frame.now.live (variable (named name.value) pos)) (cursor_of input.old))
+        (call_on c frame.now.live (variable (named n.name.value) n.pos) n.called) (cursor_of input.new)) }
+    ensures refused { (c : Context) → IfErr result (λ e. Fails
+        (result_of (Postfix c frame.now.live (variable (named name.value) pos)) (cursor_of input.old)) e
+        (cursor_of input.new)) }
+    ensures shorter { left (cursor_of input.new).tokens ≤ left (cursor_of input.old).tokens }
+{
+    if !is_qualified(input)? {
+        let called = is_called(input)?;
+        return Ok(NamedOperand { name, pos, called });
+    }
+    let (name, pos) = next_path(alloc, input, frame, name, pos)?;
+    let called = is_called(input)?;
+    Ok(NamedOperand { name, pos, called })
+}
+
+/// The name after `as`, if that comes next; both are taken.
+#[tactic(auto, using(rhai_reading::proofs::Steps::step_alias))]
+pub(crate) fn next_alias(input: &mut TokenStream) -> ParseResult<Option<RcStr>>
+    ensures gives { Gives (option_map rc_str_bytes) (result_of Alias (cursor_of input.old)) result
+        (cursor_of input.new) }
+    ensures shorter { left (cursor_of input.new).tokens ≤ left (cursor_of input.old).tokens }
+{
+    if !pass_token(input, DueToken::As)? {
+        return Ok(None);
+    }
+    let (name, _) = parse_var_name(input)?;
+    Ok(Some(name))
+}
+
+/// Defines a variable or a constant, as `Frame::define` does, and exports it under its own name if that is so.
+///
+/// The error is that there is no memory for it.
+pub(crate) fn define_as(
+    frame: &mut Frame<'_>,
+    name: &RcStr,
+    constant: bool,
+    exported: bool,
+) -> Result<Option<NonZeroUsize>, AllocError>
+    ensures number { IfOk result (λ number. option_map non_zero_usize_get number
+        ≡ reused frame.old.live.block (rc_str_bytes name.now) frame.old.live.slots) }
+    ensures ok { OnOk result (frame.new.live ≡ defined_as exported (rc_str_bytes name.now) constant frame.old.live) }
+    ensures place { SamePlace frame.old frame.new }
+{
+    let number = frame.define(name, constant)?;
+    if exported {
+        frame.export(name, name)?;
+    }
+    Ok(number)
+}
+
+/// The `export` at `pos` of a variable, under its own name or under `alias`: its slot is exported, if it has one.
+///
+/// The error is that there is no memory for it.
+pub(crate) fn export_name(
+    alloc: Global,
+    frame: &mut Frame<'_>,
+    name: RcStr,
+    alias: Option<RcStr>,
+    pos: Position,
+) -> Result<Stmt, AllocError>
+    ensures statement { IfOk result (λ s. statement_view s
+        ≡ export_tree (rc_str_bytes name) (option_map rc_str_bytes alias) pos) }
+    ensures ok { OnOk result (frame.new.live ≡ exported (rc_str_bytes name)
+        (unwrap_or (option_map rc_str_bytes alias) (rc_str_bytes name)) frame.old.live) }
+    ensures place { SamePlace frame.old frame.new }
+{
+    match &alias {
+        Some(alias) => frame.export(&name, alias)?,
+        None => frame.export(&name, &name)?,
+    }
+    make_export(alloc, name, alias, pos)
+}
