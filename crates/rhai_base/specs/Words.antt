@@ -27,7 +27,8 @@ word_result c word called at =
 
 -- A name: under strict variables it has to be known, if it is used as a variable. `excluded` says that it is no use of
 -- one.
-abbrev pub name_result : Known → List SlotValue → (strict excluded : Bool) → Text → Position → Result Node Refusal
+abbrev pub name_result : Known → List SlotValue → (strict excluded : Bool) → Text → Position
+    → Result Node Refusal
 name_result known slots strict excluded name at =
     if excluded || (not strict || (is_some (number name slots) || is_declared name known.variables))
     then Ok (name_tree slots excluded name at)

@@ -19,7 +19,8 @@ use Rattle.rhai_grammar.specs.Written.{whole_script}
 -- ---- two imports of one name
 
 -- an import by a string under another name, with its `;` and the columns of its tokens
-abbrev pub import_tokens : (at : ℕ) → Text → (source as_at : ℕ) → Text → (name_at semicolon : ℕ) → List (Lexeme × ℕ)
+abbrev pub import_tokens : (at : ℕ) → Text → (source as_at : ℕ) → Text → (name_at semicolon : ℕ)
+    → List (Lexeme × ℕ)
 import_tokens at path source as_at name name_at semicolon =
     (Sign token.Import, at) ∷ (String path, source) ∷ (Sign token.As, as_at) ∷ (Name name, name_at)
     ∷ (Sign token.SemiColon, semicolon) ∷ []
@@ -34,7 +35,8 @@ imports at path source as_at name name_at =
 abbrev pub twice_tokens : List (Lexeme × ℕ)
 twice_tokens =
     import_tokens 1 (codes "a") 8 12 (codes "m") 15 16 ++ import_tokens 18 (codes "b") 25 29 (codes "m") 32 33
-    ++ ((Name (codes "m"), 35) ∷ (Sign token.DoubleColon, 36) ∷ (Name (codes "f"), 38) ∷ (Sign token.Unit, 39) ∷ [])
+    ++ ((Name (codes "m"), 35) ∷ (Sign token.DoubleColon, 36) ∷ (Name (codes "f"), 38)
+    ∷ (Sign token.Unit, 39) ∷ [])
 
 abbrev pub twice_call : Run
 twice_call =

@@ -49,7 +49,8 @@ impl Engine {
         settings: ParseSettings,
     ) -> ParseResult<Vec<Stmt>>
         requires { frame.depth ≡ 0 }
-        ensures reads { (left : Live) × (left.slots ≡ stack.new) × (left.imports ≡ map rc_str_bytes imports.new.items)
+        ensures reads { (left : Live) × (left.slots ≡ stack.new)
+            × (left.imports ≡ map rc_str_bytes imports.new.items)
             × Gives (λ ss. (statement_views ss.items, left))
             (result_of (Script (context_of self.now frame.entry settings) frame.entry.live)
             (cursor_of input.old)) result (cursor_of input.new) }

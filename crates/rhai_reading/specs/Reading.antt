@@ -161,10 +161,12 @@ bang_at context live name lexeme at calls_by.List = list_on context live name tr
 bang_at context live name lexeme at _ = Fail (refusal (missing (codes "(") lexeme) at)
 
 -- after the `!` of a call, which is at a position, and which may not follow a name with a path
-abbrev pub unless_qualified : (qualified : Bool) → Position → Lexeme → Prog (Bool × Nodes) → Prog (Bool × Nodes)
+abbrev pub unless_qualified : (qualified : Bool) → Position → Lexeme → Prog (Bool × Nodes)
+    → Prog (Bool × Nodes)
 unless_qualified qualified bang lexeme rest = if qualified then Fail (bang_refusal bang lexeme) else rest
 
-abbrev pub called_at : Context → Live → Position → (qualified : Bool) → Position → Calling → Prog (Bool × Nodes)
+abbrev pub called_at : Context → Live → Position → (qualified : Bool) → Position → Calling
+    → Prog (Bool × Nodes)
 called_at context live name qualified at calls_by.Pair = Take (Ret (false, no_nodes))
 called_at context live name qualified at calls_by.List = list_on context live name false
 called_at context live name qualified at calls_by.Bang =
@@ -368,8 +370,8 @@ body (Braced context live at) =
 body (Guard context live) = no_brace (Call (Expression context live) (λ x. guard_on x (guard_fault x)))
 body (Iterated context live) = no_brace (Call (Expression context live) (λ x. iterated_on x (iterated_fault x)))
 body (Conditional context live at) =
-    Call (Guard context live) (λ guard. Call (Braced context live at) (λ block. Call (Branch context live at) (λ branch.
-    Ret (if_statement guard block branch at))))
+    Call (Guard context live) (λ guard. Call (Braced context live at) (λ block.
+    Call (Branch context live at) (λ branch. Ret (if_statement guard block branch at))))
 body (Branch context live at) = Peek (λ lexeme pos. branch_at context live at lexeme)
 body LoopNames = Peek (λ lexeme at. loop_names_at lexeme)
 body Catch = match_token due.Catch (Peek (λ lexeme at. catch_at lexeme))

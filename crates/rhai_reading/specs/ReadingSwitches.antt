@@ -34,7 +34,8 @@ case_guard_at context live lexeme = if is_due due.If lexeme then Take (Call (Gua
 abbrev pub action_at : Context → Live → Lexeme → Position → Prog (Node × Bool)
 action_at context live lexeme at =
     if is_end lexeme then Fail (refusal cause.UnexpectedEOF at)
-    else Call (Statement (below_global context) (in_block live)) (λ f. Ret (block_value (made_block f.0), ends_arm f.0))
+    else Call (Statement (below_global context) (in_block live)) (λ f.
+    Ret (block_value (made_block f.0), ends_arm f.0))
 
 -- after a `=>`
 abbrev pub action_on : Context → Live → (single : Bool) → Prog (Node × Bool)
