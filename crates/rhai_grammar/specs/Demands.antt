@@ -69,7 +69,7 @@ Refused test token error = Refuses (verdict test token.lexeme) token.at error
 -- The demands are met from one point up to another, and there the next one is missed, with this error. The mode is the
 -- one in which the next token is requested there: text mode where a text is missed, otherwise code mode.
 abbrev pub Missed : Demands → (start : Point) → (error : Refusal) → (mode : Mode) → (end : Point) → Type 0
-Missed Nothing start error mode end = ⊥
+Missed Nothing _ _ _ _ = ⊥
 Missed (Tok due token others ▸ rest) start error mode end =
     (Refused others (next_at due start) error × (mode ≡ due) × (end ≡ start))
     ⊎ ((next_at due start ≡ token) × Missed rest (past due start) error mode end)
