@@ -1,0 +1,180 @@
+//! Chains: the brackets and dots after an operand, and calls.
+
+ghost use Rattle.std.specs.Prelude.{◌≡◌, false, option_map};
+ghost use Rattle.rhai_lower.specs.View.{view};
+ghost use Rattle.rhai_grammar.specs.Cursors.{asked, cursor_of};
+ghost use Rattle.rhai_grammar.specs.Delivered.{is_end};
+ghost use Rattle.rhai_language.specs.Readers.{Covers, GoesOn, Reads, called, index, links, member};
+ghost use Rattle.rhai_expressions.specs.Views.{call_view, linked};
+
+use crate::asks::end_index;
+use crate::reader::{ExprReader, ReadStatements};
+use rhai_base::cursor::{peek, skip};
+use rhai_base::leaves::due::{arguments_due, no_bang};
+use rhai_base::leaves::links::{is_name, is_negated, member_due, unscoped, what_links};
+use rhai_base::leaves::names::{Call, make_method};
+use rhai_base::leaves::refusals::reserved;
+use rhai_base::leaves::tokens::{is_called, what_calls};
+use rhai_base::{Frame, ParseSettings};
+use rhai_grammar::{Calling, Linking, ParseResult};
+use rhai_language::Shared;
+use rhai_lower::Expr;
+use rhai_trees::{Link, LinkKind, indexed_operand, test_links};
+
+impl<S: ReadStatements> ExprReader<'_, S> {
+    /// Reads what calls the name before it; without that, there is no `!` and no argument. A name with a path, which
+    /// `qualified` says it is, may not be called with a `!`. A raise of the arguments' level is refused where the
+    /// settings stand.
+    #[tactic(auto, using(crate::proofs::Readers::parse_call))]
+    #[cycle(parser)]
+    pub(crate) fn parse_call(
+        &self,
+        shared: &mut Shared<'_>,
+        frame: &Frame<'_>,
+        settings: ParseSettings,
+        qualified: bool,
+    ) -> ParseResult<Call>
+        requires lent { Covers (S.lent self.now.statements) (called self.now.language.now frame.now settings qualified) shared.old }
+        ensures goes_on { GoesOn shared.old shared.new }
+        ensures reads { Reads (called self.now.language.now frame.now settings qualified) call_view shared.old result shared.new }
+    {
+        let (token, pos) = peek(shared.input)?;
+        let pos = *pos;
+        let mut calling = what_calls(token);
+        let bang = matches!(calling, Calling::Bang);
+        if bang {
+            skip(shared.input);
+            if qualified {
+                return Err(no_bang(self.language.alloc(), shared.input, pos));
+            }
+            calling = arguments_due(self.language.alloc(), shared.input)?;
+        }
+        match calling {
+            Calling::Pair => {
+                skip(shared.input);
+                Ok(Call {
+                    bang,
+                    args: Vec::new(self.language.alloc()),
+                })
+            }
+            Calling::List => {
+                skip(shared.input);
+                let args = self.parse_fn_call_args(shared, frame, settings)?;
+                Ok(Call { bang, args })
+            }
+            Calling::Bang | Calling::Nothing => Ok(Call {
+                bang,
+                args: Vec::new(self.language.alloc()),
+            }),
+        }
+    }
+
+    /// Reads the brackets and dots after the operand `lhs`, up to what is none. A bracket raises the level, and its
+    /// index once more; a dot raises that of all to its right.
+    #[tactic(auto, using(crate::proofs::Readers::parse_links))]
+    #[cycle(parser)]
+    pub(crate) fn parse_links(
+        &self,
+        shared: &mut Shared<'_>,
+        frame: &Frame<'_>,
+        settings: ParseSettings,
+        lhs: &Expr,
+    ) -> ParseResult<Vec<Link>>
+        requires lent { Covers (S.lent self.now.statements) (links self.now.language.now frame.now settings (view lhs.now)) shared.old }
+        ensures goes_on { GoesOn shared.old shared.new }
+        ensures reads { Reads (links self.now.language.now frame.now settings (view lhs.now)) linked shared.old result shared.new }
+    {
+        let mut settings = settings;
+        let mut brackets = settings;
+        let mut links = Vec::new(self.language.alloc());
+        loop {
+            let (token, pos) = peek(shared.input)?;
+            let pos = *pos;
+            let negated = is_negated(token);
+            match what_links(token) {
+                Linking::Bracket => {
+                    skip(shared.input);
+                    brackets = brackets.at(pos).level_up()?;
+                    let deeper = brackets.level_up()?;
+                    let indexed = indexed_operand(lhs, &links);
+                    let item = self.parse_index(shared, frame, deeper, indexed)?;
+                    links.push(Link {
+                        kind: LinkKind::Index,
+                        negated,
+                        pos,
+                        item,
+                    })?;
+                    continue;
+                }
+                Linking::Dot => {
+                    skip(shared.input);
+                    member_due(shared.input)?;
+                    settings = settings.at(pos).level_up()?;
+                    brackets = settings;
+                    let item = self.parse_member(shared, frame, settings)?;
+                    links.push(Link {
+                        kind: LinkKind::Dot,
+                        negated,
+                        pos,
+                        item,
+                    })?;
+                    continue;
+                }
+                Linking::Nothing => {
+                    test_links(self.language.alloc(), &links)?;
+                    return Ok(links);
+                }
+            }
+        }
+    }
+
+    /// Reads the index in a bracket, up to the `]`. It is tested for the operand that the bracket stands after, if
+    /// there is one.
+    #[tactic(auto, using(crate::proofs::Readers::parse_index))]
+    #[cycle(parser)]
+    fn parse_index(
+        &self,
+        shared: &mut Shared<'_>,
+        frame: &Frame<'_>,
+        settings: ParseSettings,
+        indexed: Option<&Expr>,
+    ) -> ParseResult<Expr>
+        requires lent { Covers (S.lent self.now.statements) (index self.now.language.now frame.now settings (option_map (λ x. view x.now) indexed.entry)) shared.old }
+        ensures goes_on { GoesOn shared.old shared.new }
+        ensures reads { Reads (index self.now.language.now frame.now settings (option_map (λ x.
+            view x.now) indexed.entry)) view shared.old result shared.new }
+    {
+        let index = self.parse_expr(shared, frame, settings)?;
+        end_index(self.language.alloc(), shared.input, indexed, index)
+    }
+
+    /// Reads the member after a dot: a property, or a call of a method. The caller has looked at it.
+    #[tactic(auto, using(crate::proofs::Readers::parse_member))]
+    #[cycle(parser)]
+    fn parse_member(
+        &self,
+        shared: &mut Shared<'_>,
+        frame: &Frame<'_>,
+        settings: ParseSettings,
+    ) -> ParseResult<Expr>
+        requires { is_end (asked (cursor_of shared.now.input.now)).lexeme ≡ false }
+        requires lent { Covers (S.lent self.now.statements) (member self.now.language.now frame.now settings) shared.old }
+        ensures goes_on { GoesOn shared.old shared.new }
+        ensures reads { Reads (member self.now.language.now frame.now settings) view shared.old result shared.new }
+    {
+        let (token, pos) = peek(shared.input)?;
+        let pos = *pos;
+        let name = token.text(self.language.alloc())?;
+        let is_name = is_name(token);
+        skip(shared.input);
+        if is_called(shared.input)? {
+            let call = self.parse_call(shared, frame, settings.at(pos), false)?;
+            return Ok(make_method(self.language.alloc(), name, pos, call)?);
+        }
+        if !is_name {
+            return Err(reserved(name, pos));
+        }
+        unscoped(self.language.alloc(), shared.input)?;
+        Ok(Expr::Property(name, pos))
+    }
+}

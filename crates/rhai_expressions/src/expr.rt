@@ -1,0 +1,322 @@
+//! Expressions: operands with their signs and calls, joined by binary operators.
+
+ghost use Rattle.rhai_lower.specs.Nodes.{no_nodes, position_of};
+ghost use Rattle.rhai_lower.specs.View.{view};
+ghost use Rattle.rhai_language.specs.Readers.{Covers, GoesOn, Reads, arguments, binary_op, expression, items, operand, postfix};
+ghost use Rattle.rhai_language.specs.Readers.{primary, right_operand, views_of};
+
+use crate::asks::next_operator;
+use crate::language::Language;
+use crate::paths::{NamedOperand, named_operand};
+use crate::reader::{ExprReader, ReadStatements};
+use crate::shared::Shared;
+use rhai_base::cursor::{peek, skip, take};
+use rhai_base::leaves::constructs::may_be_value;
+use rhai_base::leaves::due::match_token;
+use rhai_base::leaves::lists::{closes_list, list_continues};
+use rhai_base::leaves::modules::{test_module, test_path};
+use rhai_base::leaves::names::{as_variable, is_qualified_name, make_call, name_node, word_node};
+use rhai_base::leaves::refusals::{missing, no_operand};
+use rhai_base::leaves::tokens::{
+    excludes_use, is_called, is_no_argument, is_sign, place_after, value_of, what_begins,
+    what_operand,
+};
+use rhai_base::{Frame, ParseSettings};
+use rhai_grammar::{Beginning, CommaList, DueToken, OperandPlace, OperandStart, ParseResult};
+use rhai_language::Shared;
+use rhai_lower::Expr;
+use rhai_trees::{make_binary, make_chain, make_statement_value, make_unary};
+
+impl<S: ReadStatements> ExprReader<'_, S> {
+    /// Reads an operand without its sign, and without what calls it.
+    #[tactic(auto, using(crate::proofs::Readers::parse_primary))]
+    #[cycle(parser)]
+    fn parse_primary(
+        &self,
+        shared: &mut Shared<'_>,
+        frame: &Frame<'_>,
+        settings: ParseSettings,
+    ) -> ParseResult<Expr>
+        requires lent { Covers (S.lent self.now.statements) (primary self.now.language.now frame.now settings) shared.old }
+        ensures goes_on { GoesOn shared.old shared.new }
+        ensures reads { Reads (primary self.now.language.now frame.now settings) view shared.old result shared.new }
+    {
+        let (token, pos) = peek(shared.input)?;
+        let pos = *pos;
+        match what_begins(token) {
+            Beginning::Value => {
+                let value = value_of(token, pos)?;
+                skip(shared.input);
+                Ok(value)
+            }
+            Beginning::Name => {
+                let name = token.text(self.language.alloc())?;
+                skip(shared.input);
+                let excluded = excludes_use(shared.input)?;
+                name_node(self.language.alloc(), frame, settings, name, excluded, pos)
+            }
+            Beginning::Word => {
+                let word = token.text(self.language.alloc())?;
+                skip(shared.input);
+                let called = is_called(shared.input)?;
+                word_node(self.language.alloc(), settings, word, called, pos)
+            }
+            Beginning::Group => {
+                skip(shared.input);
+                let deeper = settings.at(pos).level_up()?;
+                let inside = self.parse_expr(shared, frame, deeper)?;
+                let note = "to close the parentheses";
+                match_token(
+                    self.language.alloc(),
+                    shared.input,
+                    DueToken::RightParen,
+                    note,
+                )?;
+                Ok(inside)
+            }
+            Beginning::Array => {
+                skip(shared.input);
+                let deeper = settings.at(pos).level_up()?;
+                let items = self.parse_array_literal(shared, frame, deeper)?;
+                Ok(Expr::Array(items, pos))
+            }
+            Beginning::Map => {
+                skip(shared.input);
+                let deeper = settings.at(pos).level_up()?;
+                let properties = self.parse_map_literal(shared, frame, deeper)?;
+                Ok(Expr::Map(properties, pos))
+            }
+            Beginning::Interpolated => {
+                let first = token.text(self.language.alloc())?;
+                skip(shared.input);
+                let deeper = settings.at(pos).level_up()?;
+                let segments = self.parse_interpolated_string(shared, frame, deeper, first)?;
+                Ok(Expr::InterpolatedString(segments, pos))
+            }
+            Beginning::Construct(kind) => {
+                if !may_be_value(settings, self.language.allow_looping(), kind) {
+                    return Err(no_operand(self.language.alloc(), token, pos));
+                }
+                skip(shared.input);
+                let deeper = settings.at(pos).level_up()?.level_up()?;
+                let statement = self
+                    .statements
+                    .parse_construct(self.language, shared, frame, deeper, kind)?;
+                Ok(make_statement_value(self.language.alloc(), statement)?)
+            }
+            Beginning::Range => Ok(Expr::IntegerConstant(0, pos)),
+            Beginning::Sign | Beginning::Nothing => Err(no_operand(
+                self.language.alloc(),
+                token,
+                pos,
+            )),
+        }
+    }
+
+    /// Reads the path and what calls an operand, if it is a name. The module that the path begins at is tested after
+    /// the arguments.
+    #[tactic(auto, using(crate::proofs::Readers::parse_postfix))]
+    #[cycle(parser)]
+    fn parse_postfix(
+        &self,
+        shared: &mut Shared<'_>,
+        frame: &Frame<'_>,
+        settings: ParseSettings,
+        operand: Expr,
+    ) -> ParseResult<Expr>
+        requires lent { Covers (S.lent self.now.statements) (postfix self.now.language.now frame.now settings (view operand)) shared.old }
+        ensures goes_on { GoesOn shared.old shared.new }
+        ensures reads { Reads (postfix self.now.language.now frame.now settings (view operand)) view shared.old result shared.new }
+    {
+        let (name, pos) = match as_variable(operand) {
+            Ok(variable) => variable,
+            Err(other) => {
+                peek(shared.input)?;
+                return Ok(other);
+            }
+        };
+        let named = named_operand(self.language.alloc(), shared.input, frame, name, pos)?;
+        let NamedOperand { name, pos, called } = named;
+        if !called {
+            return Ok(Expr::Variable(name, pos));
+        }
+        let qualified = is_qualified_name(&name);
+        let call = self.parse_call(shared, frame, settings.at(pos), qualified)?;
+        test_path(frame, settings, &name, pos)?;
+        Ok(make_call(self.language.alloc(), name, pos, call)?)
+    }
+
+    /// Reads the arguments after the `(` of a call. A raise of their level is refused where the settings stand.
+    #[tactic(auto, using(crate::proofs::Readers::parse_fn_call_args))]
+    #[cycle(parser)]
+    pub(crate) fn parse_fn_call_args(
+        &self,
+        shared: &mut Shared<'_>,
+        frame: &Frame<'_>,
+        settings: ParseSettings,
+    ) -> ParseResult<Vec<Expr>>
+        requires lent { Covers (S.lent self.now.statements) (arguments self.now.language.now frame.now settings) shared.old }
+        ensures goes_on { GoesOn shared.old shared.new }
+        ensures reads { Reads (arguments self.now.language.now frame.now settings) views_of shared.old result shared.new }
+    {
+        let (token, pos) = peek(shared.input)?;
+        if is_no_argument(token) {
+            let note = "to close the arguments of a call";
+            return Err(missing(self.language.alloc(), ")", note, token, *pos));
+        }
+        if closes_list(CommaList::Arguments, token) {
+            skip(shared.input);
+            return Ok(Vec::new(self.language.alloc()));
+        }
+        let settings = settings.level_up()?;
+        self.parse_items(shared, frame, settings)
+    }
+
+    /// Reads an argument, and those that follow, up to the `)`.
+    #[tactic(auto, using(crate::proofs::Readers::parse_items))]
+    #[cycle(parser)]
+    fn parse_items(
+        &self,
+        shared: &mut Shared<'_>,
+        frame: &Frame<'_>,
+        settings: ParseSettings,
+    ) -> ParseResult<Vec<Expr>>
+        requires lent { Covers (S.lent self.now.statements) (items self.now.language.now frame.now settings no_nodes) shared.old }
+        ensures goes_on { GoesOn shared.old shared.new }
+        ensures reads { Reads (items self.now.language.now frame.now settings no_nodes) views_of shared.old result shared.new }
+    {
+        let mut items = Vec::new(self.language.alloc());
+        loop {
+            let item = self.parse_expr(shared, frame, settings)?;
+            items.push(item)?;
+            if !list_continues(self.language.alloc(), shared.input, CommaList::Arguments)? {
+                return Ok(items);
+            }
+            let (token, _) = peek(shared.input)?;
+            if closes_list(CommaList::Arguments, token) {
+                skip(shared.input);
+                return Ok(items);
+            }
+        }
+    }
+
+    /// Reads an operand after an operator. What it may be depends on its place: after a range operator it may be
+    /// missing, and after `??` a jump may stand.
+    #[tactic(auto, using(crate::proofs::Readers::parse_right_operand))]
+    #[cycle(parser)]
+    fn parse_right_operand(
+        &self,
+        shared: &mut Shared<'_>,
+        frame: &Frame<'_>,
+        settings: ParseSettings,
+        place: OperandPlace,
+    ) -> ParseResult<Expr>
+        requires lent { Covers (S.lent self.now.statements) (right_operand self.now.language.now frame.now settings place) shared.old }
+        ensures goes_on { GoesOn shared.old shared.new }
+        ensures reads { Reads (right_operand self.now.language.now frame.now settings place) view shared.old result shared.new }
+    {
+        let (token, pos) = peek(shared.input)?;
+        match what_operand(place, token) {
+            OperandStart::Omitted => Ok(Expr::Unit(*pos)),
+            OperandStart::Jump => {
+                let mut inner = frame.inner(self.language.alloc());
+                let jump = self.statements.parse_stmt(
+                    self.language,
+                    shared,
+                    &mut inner,
+                    settings.below_global_level(),
+                )?;
+                Ok(make_statement_value(self.language.alloc(), jump)?)
+            }
+            OperandStart::Written => self.parse_unary(shared, frame, settings),
+        }
+    }
+
+    /// Reads a written operand with its signs and its call.
+    #[tactic(auto, using(crate::proofs::Readers::parse_unary))]
+    #[cycle(parser)]
+    fn parse_unary(
+        &self,
+        shared: &mut Shared<'_>,
+        frame: &Frame<'_>,
+        settings: ParseSettings,
+    ) -> ParseResult<Expr>
+        requires lent { Covers (S.lent self.now.statements) (operand self.now.language.now frame.now settings) shared.old }
+        ensures goes_on { GoesOn shared.old shared.new }
+        ensures reads { Reads (operand self.now.language.now frame.now settings) view shared.old result shared.new }
+    {
+        let (token, _) = peek(shared.input)?;
+        if is_sign(token) {
+            let (sign, pos) = take(shared.input);
+            let settings = settings.at(pos).level_up()?;
+            let operand = self.parse_unary(shared, frame, settings)?;
+            return make_unary(self.language.alloc(), sign, pos, operand);
+        }
+        let primary = self.parse_primary(shared, frame, settings)?;
+        let operand = self.parse_postfix(shared, frame, settings, primary)?;
+        let links = self.parse_links(shared, frame, settings, &operand)?;
+        test_module(frame, settings, &operand)?;
+        Ok(make_chain(self.language.alloc(), operand, links)?)
+    }
+
+    /// Reads the operators and operands after `lhs` that go on with a run on the right of an operator of strength
+    /// `parent`. A raise of the level is refused at `lhs`, and from the first operator on at the one before.
+    #[tactic(auto, using(crate::proofs::Readers::parse_binary_op))]
+    #[cycle(parser)]
+    fn parse_binary_op(
+        &self,
+        shared: &mut Shared<'_>,
+        frame: &Frame<'_>,
+        settings: ParseSettings,
+        parent: u8,
+        lhs: Expr,
+    ) -> ParseResult<Expr>
+        requires lent { Covers (S.lent self.now.statements) (binary_op self.now.language.now frame.now settings (position_of (view lhs)) parent (view lhs)) shared.old }
+        ensures goes_on { GoesOn shared.old shared.new }
+        ensures reads { Reads (binary_op self.now.language.now frame.now settings (position_of (view lhs)) parent (view lhs)) view
+            shared.old result shared.new }
+    {
+        let mut settings = settings.at(lhs.position());
+        let mut lhs = lhs;
+        loop {
+            let Some(operator) = next_operator(self.language.alloc(), frame.filter(), shared.input)?
+            else {
+                return Ok(lhs);
+            };
+            if !operator.continues(parent) {
+                return Ok(lhs);
+            }
+            let (op_token, pos) = take(shared.input);
+            let place = place_after(&op_token);
+            let rhs = self.parse_right_operand(shared, frame, settings, place)?;
+            // A reserved symbol after the operand is refused before the level is raised.
+            next_operator(self.language.alloc(), frame.filter(), shared.input)?;
+            let deeper = settings.level_up_in_run(pos)?;
+            let rhs = self.parse_binary_op(shared, frame, deeper.side, operator.strength, rhs)?;
+            lhs = match make_binary(self.language.alloc(), op_token, pos, lhs, rhs) {
+                Ok(joined) => joined,
+                Err(error) => return Err(error),
+            };
+            settings = deeper.next;
+        }
+    }
+
+    /// Reads an expression. The level is raised at its first token.
+    #[tactic(auto, using(crate::proofs::Readers::parse_expr))]
+    #[cycle(parser)]
+    pub(crate) fn parse_expr(
+        &self,
+        shared: &mut Shared<'_>,
+        frame: &Frame<'_>,
+        settings: ParseSettings,
+    ) -> ParseResult<Expr>
+        requires lent { Covers (S.lent self.now.statements) (expression self.now.language.now.language.now frame.now settings) shared.old }
+        ensures goes_on { GoesOn shared.old shared.new }
+        ensures reads { Reads (expression self.now.language.now.language.now frame.now settings) view shared.old result shared.new }
+    {
+        let (_, pos) = peek(shared.input)?;
+        let settings = settings.at(*pos).level_up()?;
+        let lhs = self.parse_unary(shared, frame, settings)?;
+        self.parse_binary_op(shared, frame, settings, 1, lhs)
+    }
+}

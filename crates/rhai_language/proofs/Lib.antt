@@ -1,0 +1,3 @@
+pub mod Bounds
+pub mod Given
+pub mod Readers

@@ -1,0 +1,4 @@
+pub mod Bounds
+pub mod Frames
+pub mod Languages
+pub mod Readers

@@ -1,4 +1,0 @@
-pub mod AnswerLemmas
-pub mod Readers
-pub mod SwitchLemmas
-pub mod TextLemmas

@@ -1,7 +1,0 @@
-use Rattle.rhai_readers.proofs.AnswerLemmas.{next_given}
-use Rattle.rhai_readers.proofs.asks.next_operator.Goals as goal
-
-pub returns-clause-gives : goal.returns-clause-gives
-returns-clause-gives c =
-    let h = c.next_operator.ensures in
-    next_given _ _ _ c.next_operator.result h.found h.refused h.nowhere h.after h.readable

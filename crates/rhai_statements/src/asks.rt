@@ -1,0 +1,80 @@
+//! What the readers of statements ask for by leaves, as the reading program gives it: the name of a definition, and the
+//! ends of a block and of an assignment.
+
+ghost use Rattle.std.specs.Prelude.{◌≡◌, ◌≤◌, IfOk, false};
+ghost use Rattle.rhai_lower.specs.Lexemes.{lexeme};
+ghost use Rattle.rhai_lower.specs.Nodes.{assignment};
+ghost use Rattle.rhai_lower.specs.View.{block_view, statement_view, view};
+ghost use Rattle.rhai_grammar.specs.Cursors.{Cursor, cursor_of, left};
+ghost use Rattle.rhai_grammar.specs.Statements.{ends_itself};
+ghost use Rattle.rhai_grammar.specs.Targets.{is_constant_use, target_fault, update_of};
+ghost use Rattle.rhai_reading.specs.Reading.{BlockEnd};
+ghost use Rattle.rhai_reading.specs.Reading.{assigned_on};
+ghost use Rattle.rhai_reading.specs.Running.{Caller, Gives, exec, result_of};
+ghost use Rattle.rhai_statements.specs.Loops.{name_view};
+ghost use Rattle.rhai_language.specs.Readers.{statements_of, var_name};
+
+use rhai_base::cursor::peek;
+use rhai_base::leaves::due::match_token;
+use rhai_base::leaves::statements::parse_var_name;
+use rhai_base::{Frame, ParseSettings};
+use rhai_grammar::{DueToken, ParseResult};
+use rhai_language::Language;
+use rhai_lower::{Expr, Position, Stmt, StmtBlock, Token, TokenStream};
+use rhai_trees::{make_assignment, make_block, slot_of, test_target};
+use std::alloc::Global;
+use std::rc::RcStr;
+
+/// The name of a definition, which is taken, with its position. Without shadowing, a name that a slot has is refused.
+#[tactic(auto, using(rhai_reading::proofs::Steps::step_var_name))]
+pub(crate) fn next_var_name(
+    language: &Language,
+    input: &mut TokenStream,
+    frame: &Frame<'_>,
+    settings: ParseSettings,
+) -> ParseResult<(RcStr, Position)>
+    ensures gives { Gives name_view (result_of (var_name language.now frame.now settings) (cursor_of input.old)) result
+        (cursor_of input.new) }
+    ensures shorter { left (cursor_of input.new).tokens ≤ left (cursor_of input.old).tokens }
+{
+    let (name, pos) = parse_var_name(input)?;
+    frame.test_name(language.allow_shadowing(), &name, pos)?;
+    Ok((name, pos))
+}
+
+/// A block of these statements, from its `{` at `start` to its `}`, which is taken.
+#[tactic(auto, using(rhai_reading::proofs::Steps::step_block_end))]
+pub(crate) fn end_block(
+    alloc: Global,
+    input: &mut TokenStream,
+    statements: Vec<Stmt>,
+    start: Position,
+) -> ParseResult<StmtBlock>
+    ensures gives { Gives block_view (result_of (BlockEnd start (statements_of statements)) (cursor_of input.old))
+        result (cursor_of input.new) }
+    ensures shorter { left (cursor_of input.new).tokens ≤ left (cursor_of input.old).tokens }
+{
+    let (_, end) = peek(input)?;
+    let end = *end;
+    match_token(alloc, input, DueToken::RightBrace, "to end this block")?;
+    Ok(make_block(statements, start, end))
+}
+
+/// An assignment whose token `op` was at `pos`. What is assigned to is tested.
+pub(crate) fn end_assignment(
+    alloc: Global,
+    frame: &Frame<'_>,
+    op: Token,
+    pos: Position,
+    target: Expr,
+    value: Expr,
+) -> ParseResult<Stmt>
+    ensures gives { (call : Caller) (t : Cursor) → Gives statement_view (exec call (assigned_on
+        (assignment (update_of (lexeme op)) (view target) (view value) pos)
+        (target_fault (is_constant_use frame.now.live.slots (view target)) (lexeme op) pos (view target))) t) result t }
+    ensures open { IfOk result (λ s. ends_itself (statement_view s) ≡ false) }
+{
+    let constant = frame.is_constant(slot_of(&target));
+    test_target(alloc, constant, &op, pos, &target)?;
+    Ok(make_assignment(alloc, op, pos, target, value)?)
+}

@@ -1,0 +1,344 @@
+//! Statements: their lists, definitions and blocks.
+
+ghost use Rattle.std.specs.Prelude.{◌≡◌, ◌+◌, ◌≤◌, IfOk, false, true};
+ghost use Rattle.rhai_lower.specs.Nodes.{no_statements};
+ghost use Rattle.rhai_lower.specs.View.{block_view, statement_view, view};
+ghost use Rattle.rhai_language.specs.Readers.{Covers, GoesOn, Reads, block, definition, expr_statement, initializer, statement};
+ghost use Rattle.rhai_language.specs.Readers.{exported, imported};
+ghost use Rattle.rhai_grammar.specs.Cursors.{left};
+ghost use Rattle.rhai_grammar.specs.Statements.{ends_itself};
+ghost use Rattle.rhai_base.specs.Frames.{SamePlace};
+ghost use Rattle.rhai_language.specs.Readers.{inside, jump, state_of, statements, statements_of, with_live};
+ghost use Rattle.rhai_trees.specs.Statements.{optional_view};
+
+use crate::asks::{end_assignment, end_block, next_var_name};
+use crate::language::Language;
+use crate::modules::{define_as, export_name, next_alias};
+use crate::reader::{ReadExpressions, StmtReader};
+use crate::shared::Shared;
+use rhai_base::cursor::{peek, skip, take};
+use rhai_base::leaves::constructs::{test_global, test_loop};
+use rhai_base::leaves::statements::{
+    assigns, has_value, list_ends, parse_var_name, statement_continues, what_is_exported,
+    what_starts,
+};
+use rhai_base::leaves::tokens::starts_expression;
+use rhai_base::{Frame, ParseSettingFlags, ParseSettings};
+use rhai_grammar::{Closing, ParseResult, StatementStart};
+use rhai_language::Shared;
+use rhai_lower::{Expr, Position, Stmt, StmtBlock};
+use rhai_trees::{
+    ends_itself, make_break, make_continue, make_definition, make_expression, make_import,
+    make_jump, push_statement,
+};
+
+impl<E: ReadExpressions> StmtReader<'_, E> {
+    /// Reads the statements of a list, up to the token that closes it, which stays. The definitions among them are
+    /// made in the frame.
+    #[tactic(auto, using(crate::proofs::Readers::parse_statements))]
+    #[cycle(parser)]
+    pub fn parse_statements(
+        &self,
+        shared: &mut Shared<'_>,
+        frame: &mut Frame<'_>,
+        settings: ParseSettings,
+        closing: Closing,
+    ) -> ParseResult<Vec<Stmt>>
+        requires lent { Covers (E.lent self.now.expressions) (statements self.now.language.now frame.old settings closing no_statements) shared.old }
+        ensures goes_on { GoesOn shared.old shared.new }
+        ensures place { SamePlace frame.old frame.new }
+        ensures reads { Reads (statements self.now.language.now frame.old settings closing no_statements)
+            (with_live statements_of frame.new) shared.old result shared.new }
+    {
+        let mut statements = Vec::new(self.language.alloc());
+        loop {
+            if list_ends(self.language.alloc(), shared.input, closing)? {
+                return Ok(statements);
+            }
+            let statement = self.parse_stmt(shared, frame, settings)?;
+            let ended = ends_itself(&statement);
+            push_statement(&mut statements, statement)?;
+            if ended {
+                continue;
+            }
+            if statement_continues(self.language.alloc(), shared.input, closing)? {
+                continue;
+            }
+            return Ok(statements);
+        }
+    }
+
+    /// Reads a statement. The level is raised at its first token.
+    #[tactic(auto, using(crate::proofs::Readers::parse_stmt))]
+    #[cycle(parser)]
+    pub(crate) fn parse_stmt(
+        &self,
+        shared: &mut Shared<'_>,
+        frame: &mut Frame<'_>,
+        settings: ParseSettings,
+    ) -> ParseResult<Stmt>
+        requires lent { Covers (E.lent self.now.expressions) (statement self.now.language.now frame.old settings) shared.old }
+        ensures goes_on { GoesOn shared.old shared.new }
+        ensures place { SamePlace frame.old frame.new }
+        ensures reads { Reads (statement self.now.language.now frame.old settings) (with_live statement_view frame.new) shared.old
+            result shared.new }
+        ensures takes { IfOk result (λ s. ends_itself (statement_view s) ≡ true
+            → left (state_of shared.new).tokens + 1 ≤ left (state_of shared.old).tokens) }
+    {
+        let (token, pos) = peek(shared.input)?;
+        let settings = settings.at(*pos);
+        match what_starts(self.language.allow_looping(), token) {
+            StatementStart::Empty => {
+                skip(shared.input);
+                Ok(Stmt::Noop(settings.pos))
+            }
+            StatementStart::Construct(kind) => {
+                skip(shared.input);
+                let deeper = settings.level_up()?.level_up()?;
+                self.parse_construct(shared, frame, deeper, kind)
+            }
+            StatementStart::Let => {
+                skip(shared.input);
+                self.parse_let(shared, frame, settings.level_up()?, false, false)
+            }
+            StatementStart::Const => {
+                skip(shared.input);
+                self.parse_let(shared, frame, settings.level_up()?, true, false)
+            }
+            StatementStart::Return => {
+                skip(shared.input);
+                let value = self.parse_jump(shared, frame, settings)?;
+                Ok(make_jump(self.language.alloc(), value, false, settings.pos)?)
+            }
+            StatementStart::Throw => {
+                skip(shared.input);
+                let value = self.parse_jump(shared, frame, settings)?;
+                Ok(make_jump(self.language.alloc(), value, true, settings.pos)?)
+            }
+            StatementStart::Break => {
+                skip(shared.input);
+                test_loop(settings, settings.pos)?;
+                let value = self.parse_jump(shared, frame, settings)?;
+                Ok(make_break(self.language.alloc(), value, settings.pos)?)
+            }
+            StatementStart::Continue => {
+                skip(shared.input);
+                test_loop(settings, settings.pos)?;
+                Ok(make_continue(settings.pos))
+            }
+            StatementStart::Import => {
+                skip(shared.input);
+                self.parse_import(shared, frame, settings.level_up()?.level_up()?)
+            }
+            StatementStart::Export => {
+                skip(shared.input);
+                test_global(settings, settings.pos)?;
+                self.parse_export(shared, frame, settings.level_up()?)
+            }
+            StatementStart::Expression => {
+                self.parse_expr_stmt(shared, frame, settings.level_up()?)
+            }
+        }
+    }
+
+    /// Reads an `import` after its keyword, where the settings stand.
+    #[tactic(auto, using(crate::proofs::Readers::parse_import))]
+    #[cycle(parser)]
+    fn parse_import(
+        &self,
+        shared: &mut Shared<'_>,
+        frame: &mut Frame<'_>,
+        settings: ParseSettings,
+    ) -> ParseResult<Stmt>
+        requires lent { Covers (E.lent self.now.expressions) (imported self.now.language.now frame.old settings) shared.old }
+        ensures goes_on { GoesOn shared.old shared.new }
+        ensures place { SamePlace frame.old frame.new }
+        ensures reads { Reads (imported self.now.language.now frame.old settings) (with_live statement_view frame.new) shared.old
+            result shared.new }
+    {
+        let source = self
+            .expressions
+            .parse_expr(self.language, shared, frame, settings)?;
+        let name = next_alias(shared.input)?;
+        frame.import(self.language.alloc(), &name)?;
+        Ok(make_import(self.language.alloc(), source, name, settings.pos)?)
+    }
+
+    /// Reads an `export` after its keyword, where the settings stand: of a definition, which raises the level once
+    /// more, or of a variable.
+    #[tactic(auto, using(crate::proofs::Readers::parse_export))]
+    #[cycle(parser)]
+    fn parse_export(
+        &self,
+        shared: &mut Shared<'_>,
+        frame: &mut Frame<'_>,
+        settings: ParseSettings,
+    ) -> ParseResult<Stmt>
+        requires lent { Covers (E.lent self.now.expressions) (exported self.now.language.now frame.old settings) shared.old }
+        ensures goes_on { GoesOn shared.old shared.new }
+        ensures place { SamePlace frame.old frame.new }
+        ensures reads { Reads (exported self.now.language.now frame.old settings) (with_live statement_view frame.new) shared.old
+            result shared.new }
+    {
+        if let Some(constant) = what_is_exported(shared.input)? {
+            let deeper = settings.level_up()?;
+            let (_, pos) = take(shared.input);
+            return self.parse_let(shared, frame, deeper.at(pos), constant, true);
+        }
+        let (name, _) = parse_var_name(shared.input)?;
+        let alias = next_alias(shared.input)?;
+        Ok(export_name(self.language.alloc(), frame, name, alias, settings.pos)?)
+    }
+
+    /// Reads a definition after its keyword, where the settings stand. Its slot is made after its value is read, and is
+    /// exported if `exported` says so.
+    #[tactic(auto, using(crate::proofs::Readers::parse_let))]
+    #[cycle(parser)]
+    fn parse_let(
+        &self,
+        shared: &mut Shared<'_>,
+        frame: &mut Frame<'_>,
+        settings: ParseSettings,
+        constant: bool,
+        exported: bool,
+    ) -> ParseResult<Stmt>
+        requires lent { Covers (E.lent self.now.expressions) (definition self.now.language.now frame.old settings constant exported) shared.old }
+        ensures goes_on { GoesOn shared.old shared.new }
+        ensures place { SamePlace frame.old frame.new }
+        ensures reads { Reads (definition self.now.language.now frame.old settings constant exported)
+            (with_live statement_view frame.new) shared.old result shared.new }
+    {
+        let (name, _) = next_var_name(self.language, shared.input, frame, settings)?;
+        let value = self.parse_initializer(shared, frame, settings)?;
+        let number = define_as(frame, &name, constant, exported)?;
+        let pos = settings.pos;
+        Ok(make_definition(
+            self.language.alloc(),
+            name,
+            value,
+            number,
+            constant,
+            exported,
+            pos,
+        )?)
+    }
+
+    /// Reads the value of a definition; without one it is unit. A raise of its level is refused where the settings
+    /// stand.
+    #[tactic(auto, using(crate::proofs::Readers::parse_initializer))]
+    #[cycle(parser)]
+    fn parse_initializer(
+        &self,
+        shared: &mut Shared<'_>,
+        frame: &Frame<'_>,
+        settings: ParseSettings,
+    ) -> ParseResult<Expr>
+        requires lent { Covers (E.lent self.now.expressions) (initializer self.now.language.now frame.now settings) shared.old }
+        ensures goes_on { GoesOn shared.old shared.new }
+        ensures reads { Reads (initializer self.now.language.now frame.now settings) view shared.old result shared.new }
+    {
+        if !has_value(shared.input)? {
+            return Ok(Expr::Unit(Position::NONE));
+        }
+        skip(shared.input);
+        self.expressions
+            .parse_expr(self.language, shared, frame, settings.level_up()?)
+    }
+
+    /// Reads an expression or an assignment. What is assigned to is tested after the value is read.
+    #[tactic(auto, using(crate::proofs::Readers::parse_expr_stmt))]
+    #[cycle(parser)]
+    fn parse_expr_stmt(
+        &self,
+        shared: &mut Shared<'_>,
+        frame: &Frame<'_>,
+        settings: ParseSettings,
+    ) -> ParseResult<Stmt>
+        requires lent { Covers (E.lent self.now.expressions) (expr_statement self.now.language.now frame.now settings) shared.old }
+        ensures goes_on { GoesOn shared.old shared.new }
+        ensures reads { Reads (expr_statement self.now.language.now frame.now settings) statement_view shared.old result shared.new }
+        ensures open { IfOk result (λ s. ends_itself (statement_view s) ≡ false) }
+    {
+        let target = self
+            .expressions
+            .parse_expr(self.language, shared, frame, settings)?;
+        if !assigns(shared.input)? {
+            return Ok(make_expression(self.language.alloc(), target)?);
+        }
+        let (op, pos) = take(shared.input);
+        let value = self
+            .expressions
+            .parse_expr(self.language, shared, frame, settings)?;
+        end_assignment(self.language.alloc(), frame, op, pos, target, value)
+    }
+
+    /// Reads a block after its `{`, where the settings stand, up to its `}`. Its definitions end with it.
+    #[tactic(auto, using(crate::proofs::Readers::parse_block))]
+    #[cycle(parser)]
+    pub(crate) fn parse_block(
+        &self,
+        shared: &mut Shared<'_>,
+        frame: &Frame<'_>,
+        settings: ParseSettings,
+    ) -> ParseResult<StmtBlock>
+        requires lent { Covers (E.lent self.now.expressions) (block self.now.language.now frame.now settings) shared.old }
+        ensures goes_on { GoesOn shared.old shared.new }
+        ensures reads { Reads (block self.now.language.now frame.now settings) block_view shared.old result shared.new }
+    {
+        let statements = self.parse_block_inside(shared, frame, settings)?;
+        end_block(
+            self.language.alloc(),
+            shared.input,
+            statements,
+            settings.pos,
+        )
+    }
+
+    /// Reads the statements of a block up to its `}`, which stays. Its definitions end with it.
+    #[tactic(auto, using(crate::proofs::Readers::parse_block_inside))]
+    #[cycle(parser)]
+    pub(crate) fn parse_block_inside(
+        &self,
+        shared: &mut Shared<'_>,
+        frame: &Frame<'_>,
+        settings: ParseSettings,
+    ) -> ParseResult<Vec<Stmt>>
+        requires lent { Covers (E.lent self.now.expressions) (inside self.now.language.now frame.now settings) shared.old }
+        ensures goes_on { GoesOn shared.old shared.new }
+        ensures reads { Reads (inside self.now.language.now frame.now settings) statements_of shared.old result shared.new }
+    {
+        if settings.has_flag(ParseSettingFlags::DISALLOW_STATEMENTS_IN_BLOCKS) {
+            let statement = self.parse_expr_stmt(shared, frame, settings)?;
+            return Ok(vec![in self.language.alloc(); statement]?);
+        }
+        let mut inner = frame.inner(self.language.alloc());
+        let settings = settings.below_global_level();
+        self.parse_statements(shared, &mut inner, settings, Closing::Brace)
+    }
+
+    /// Reads what follows `return`, `throw` or `break`, where the settings stand: a value, exactly where the next token
+    /// begins an expression. The level is raised with or without one.
+    #[tactic(auto, using(crate::proofs::Readers::parse_jump))]
+    #[cycle(parser)]
+    pub(crate) fn parse_jump(
+        &self,
+        shared: &mut Shared<'_>,
+        frame: &Frame<'_>,
+        settings: ParseSettings,
+    ) -> ParseResult<Option<Expr>>
+        requires lent { Covers (E.lent self.now.expressions) (jump self.now.language.now frame.now settings) shared.old }
+        ensures goes_on { GoesOn shared.old shared.new }
+        ensures reads { Reads (jump self.now.language.now frame.now settings) optional_view shared.old result shared.new }
+    {
+        let (token, _) = peek(shared.input)?;
+        let valued = starts_expression(settings, self.language.allow_looping(), token);
+        let deeper = settings.level_up()?;
+        if !valued {
+            return Ok(None);
+        }
+        let value = self
+            .expressions
+            .parse_expr(self.language, shared, frame, deeper)?;
+        Ok(Some(value))
+    }
+}
