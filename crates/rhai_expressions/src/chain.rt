@@ -59,8 +59,10 @@ impl<S: ReadStatements> ExprReader<'_, S> {
             }
             Calling::List => {
                 skip(shared.input);
-                let args = self.parse_fn_call_args(shared, frame, settings)?;
-                Ok(Call { bang, args })
+                match self.parse_fn_call_args(shared, frame, settings) {
+                    Ok(args) => Ok(Call { bang, args }),
+                    Err(error) => Err(error),
+                }
             }
             Calling::Bang | Calling::Nothing => Ok(Call {
                 bang,
@@ -139,7 +141,7 @@ impl<S: ReadStatements> ExprReader<'_, S> {
         settings: ParseSettings,
         indexed: Option<&Expr>,
     ) -> ParseResult<Expr>
-        requires lent { Covers (S.lent self.now.statements) (index self.now.language.now frame.now settings (option_map (λ x. view x.now) indexed.entry)) shared.old }
+        requires lent { Covers (S.lent self.now.statements) (index self.now.language.now frame.now settings (option_map (λ x. view x.now) indexed)) shared.old }
         ensures goes_on { GoesOn shared.old shared.new }
         ensures reads { Reads (index self.now.language.now frame.now settings (option_map (λ x.
             view x.now) indexed.entry)) view shared.old result shared.new }
@@ -157,7 +159,7 @@ impl<S: ReadStatements> ExprReader<'_, S> {
         frame: &Frame<'_>,
         settings: ParseSettings,
     ) -> ParseResult<Expr>
-        requires { is_end (asked (cursor_of shared.now.input.now)).lexeme ≡ false }
+        requires seen { is_end (asked (cursor_of shared.now.input.now)).lexeme ≡ false }
         requires lent { Covers (S.lent self.now.statements) (member self.now.language.now frame.now settings) shared.old }
         ensures goes_on { GoesOn shared.old shared.new }
         ensures reads { Reads (member self.now.language.now frame.now settings) view shared.old result shared.new }

@@ -6,10 +6,8 @@ ghost use Rattle.rhai_language.specs.Readers.{Covers, GoesOn, Reads, arguments, 
 ghost use Rattle.rhai_language.specs.Readers.{primary, right_operand, views_of};
 
 use crate::asks::next_operator;
-use crate::language::Language;
 use crate::paths::{NamedOperand, named_operand};
 use crate::reader::{ExprReader, ReadStatements};
-use crate::shared::Shared;
 use rhai_base::cursor::{peek, skip, take};
 use rhai_base::leaves::constructs::may_be_value;
 use rhai_base::leaves::due::match_token;
@@ -254,7 +252,10 @@ impl<S: ReadStatements> ExprReader<'_, S> {
         }
         let primary = self.parse_primary(shared, frame, settings)?;
         let operand = self.parse_postfix(shared, frame, settings, primary)?;
-        let links = self.parse_links(shared, frame, settings, &operand)?;
+        let links = match self.parse_links(shared, frame, settings, &operand) {
+            Ok(links) => links,
+            Err(error) => return Err(error),
+        };
         test_module(frame, settings, &operand)?;
         Ok(make_chain(self.language.alloc(), operand, links)?)
     }
@@ -304,15 +305,15 @@ impl<S: ReadStatements> ExprReader<'_, S> {
     /// Reads an expression. The level is raised at its first token.
     #[tactic(auto, using(crate::proofs::Readers::parse_expr))]
     #[cycle(parser)]
-    pub(crate) fn parse_expr(
+    pub fn parse_expr(
         &self,
         shared: &mut Shared<'_>,
         frame: &Frame<'_>,
         settings: ParseSettings,
     ) -> ParseResult<Expr>
-        requires lent { Covers (S.lent self.now.statements) (expression self.now.language.now.language.now frame.now settings) shared.old }
+        requires lent { Covers (S.lent self.now.statements) (expression self.now.language.now frame.now settings) shared.old }
         ensures goes_on { GoesOn shared.old shared.new }
-        ensures reads { Reads (expression self.now.language.now.language.now frame.now settings) view shared.old result shared.new }
+        ensures reads { Reads (expression self.now.language.now frame.now settings) view shared.old result shared.new }
     {
         let (_, pos) = peek(shared.input)?;
         let settings = settings.at(*pos).level_up()?;

@@ -93,7 +93,6 @@ impl<S: ReadStatements> ExprReader<'_, S> {
     /// Reads the blocks and texts of an interpolated string after its first text, `first`, where the settings stand, up
     /// to the text that ends it. The level is raised for each block anew, and a raise is refused at the first text.
     #[tactic(auto, using(crate::proofs::Readers::parse_interpolated_string))]
-    #[cycle(parser)]
     pub(crate) fn parse_interpolated_string(
         &self,
         shared: &mut Shared<'_>,

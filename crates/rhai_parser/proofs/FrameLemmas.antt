@@ -7,7 +7,7 @@ use Rattle.std.specs.declared.rc.RcStr.{RcStr}
 use Rattle.rhai_lower.specs.Slots.{SlotValue}
 use Rattle.rhai_grammar.specs.Contexts.{Known}
 use Rattle.rhai_base.specs.Frames.{FrameValue, known_variables}
-use Rattle.rhai_readers.specs.Languages.{LanguageValue}
+use Rattle.rhai_language.specs.Languages.{LanguageValue}
 use Rattle.rhai_parser.specs.Starts.{StateValue, frame_in}
 
 abbrev Names : Type 0

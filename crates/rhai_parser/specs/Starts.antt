@@ -9,8 +9,8 @@ use Rattle.rhai_grammar.specs.Contexts.{Context, Known, Live}
 use Rattle.rhai_base.specs.Frames.{FrameValue, known_variables}
 use Rattle.rhai_base.specs.declared.settings.ParseSettings.{ParseSettings}
 use Rattle.rhai_base.specs.declared.state.ParseState.{ParseState}
-use Rattle.rhai_readers.specs.Frames.{context_of}
-use Rattle.rhai_readers.specs.Languages.{LanguageValue}
+use Rattle.rhai_language.specs.Frames.{context_of}
+use Rattle.rhai_language.specs.Languages.{LanguageValue}
 
 abbrev pub StateValue : Type 0
 StateValue = ParseState (List SlotValue) (Vec (RcStr Global × Position) Global) (Vec (RcStr Global) Global)

@@ -13,13 +13,14 @@ ghost use Rattle.rhai_grammar.specs.Delivered.{code};
 ghost use Rattle.rhai_grammar.specs.declared.key.FnKey.{FnKey};
 ghost use Rattle.rhai_grammar.specs.Promises.{Accepts, HasRead, ReadsExpression, UnlessMemory};
 ghost use Rattle.rhai_base.specs.States.{IsFresh};
-ghost use Rattle.rhai_readers.specs.Frames.{context_of, live_of};
+ghost use Rattle.rhai_language.specs.Frames.{context_of, live_of};
 ghost use Rattle.rhai_parser.specs.Starts.{live_in, starts_in};
 ghost use Rattle.rhai_base.specs.Frames.{known_of, known_variables};
 ghost use Rattle.std.specs.Rc.{rc_str_bytes};
 ghost use Rattle.rhai_grammar.specs.Imports.{is_among};
 ghost use Rattle.rhai_parser.specs.Engines.{fresh_engine, with_bits, expr_settings};
 
+use crate::readers::parse_whole_expr;
 use bitflags::Flags;
 use rhai_base::known::is_among;
 use rhai_base::{Frame, Known, LangOptions, ParseSettingFlags, ParseSettings, ParseState};
@@ -27,7 +28,7 @@ use rhai_grammar::ParseResult;
 use rhai_lower::{
     AST, Expr, OptimizationLevel, Position, Scope, Stmt, TokenStream, optimize_into_ast,
 };
-use rhai_readers::{Language, Shared};
+use rhai_language::{Language, Shared};
 use std::alloc::{AllocError, Global};
 use std::marker::Model;
 use std::rc::RcStr;
@@ -39,7 +40,7 @@ pub struct Engine {
 }
 
 impl Model for Engine {
-    ghost use Rattle.rhai_readers.specs.Languages.{LanguageValue};
+    ghost use Rattle.rhai_language.specs.Languages.{LanguageValue};
 
     ghost Value = { LanguageValue };
 
@@ -283,7 +284,7 @@ impl Engine {
         ensures nowhere { IfErr result MemoryIsNowhere }
     {
         let mut shared = Shared { input };
-        match self.language.parse_whole_expr(&mut shared, frame, settings) {
+        match parse_whole_expr(&self.language, &mut shared, frame, settings) {
             Ok(expr) => self.make_script(expr, constants, level),
             Err(error) => Err(error),
         }

@@ -2,6 +2,7 @@
 #![tactic(auto)]
 
 pub mod engine;
+mod readers;
 mod script;
 
 pub use engine::Engine;

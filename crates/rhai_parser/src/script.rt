@@ -12,15 +12,16 @@ ghost use Rattle.rhai_reading.specs.Reading.{Script};
 ghost use Rattle.rhai_reading.specs.Running.{Gives, result_of};
 ghost use Rattle.rhai_base.specs.States.{IsFresh};
 ghost use Rattle.rhai_parser.specs.Engines.{script_settings};
-ghost use Rattle.rhai_readers.specs.Frames.{context_of};
+ghost use Rattle.rhai_language.specs.Frames.{context_of};
 ghost use Rattle.rhai_parser.specs.Starts.{live_in, starts_in};
 
 use crate::engine::Engine;
+use crate::readers::parse_statements;
 use rhai_base::library::functions;
 use rhai_base::{FnLib, Frame, ParseSettingFlags, ParseSettings, ParseState};
 use rhai_grammar::{Closing, ParseResult};
 use rhai_lower::{Position, Scope, ScriptFuncDef, Stmt, StmtBlockContainer, TokenStream};
-use rhai_readers::Shared;
+use rhai_language::Shared;
 use std::mem;
 use std::rc::{Rc, RcStr};
 
@@ -57,8 +58,8 @@ impl Engine {
     {
         let mut frame = frame;
         let mut shared = Shared { input };
-        let language = self.language();
-        let statements = language.parse_statements(
+        let statements = parse_statements(
+            self.language(),
             &mut shared,
             &mut frame,
             settings,

@@ -24,7 +24,7 @@ impl<E: ReadExpressions> StmtReader<'_, E> {
     /// Reads a construct of this kind after its first token, where the settings stand.
     #[tactic(auto, using(crate::proofs::Readers::parse_construct))]
     #[cycle(parser)]
-    pub(crate) fn parse_construct(
+    pub fn parse_construct(
         &self,
         shared: &mut Shared<'_>,
         frame: &Frame<'_>,
@@ -99,7 +99,6 @@ impl<E: ReadExpressions> StmtReader<'_, E> {
 
     /// Reads the guard of an `if` or of a loop.
     #[tactic(auto, using(crate::proofs::Readers::parse_guard))]
-    #[cycle(parser)]
     pub(crate) fn parse_guard(
         &self,
         shared: &mut Shared<'_>,
@@ -119,7 +118,6 @@ impl<E: ReadExpressions> StmtReader<'_, E> {
 
     /// Reads what a `for` goes over.
     #[tactic(auto, using(crate::proofs::Readers::parse_iterated))]
-    #[cycle(parser)]
     fn parse_iterated(
         &self,
         shared: &mut Shared<'_>,

@@ -12,10 +12,8 @@ ghost use Rattle.rhai_language.specs.Readers.{inside, jump, state_of, statements
 ghost use Rattle.rhai_trees.specs.Statements.{optional_view};
 
 use crate::asks::{end_assignment, end_block, next_var_name};
-use crate::language::Language;
 use crate::modules::{define_as, export_name, next_alias};
 use crate::reader::{ReadExpressions, StmtReader};
-use crate::shared::Shared;
 use rhai_base::cursor::{peek, skip, take};
 use rhai_base::leaves::constructs::{test_global, test_loop};
 use rhai_base::leaves::statements::{
@@ -71,7 +69,7 @@ impl<E: ReadExpressions> StmtReader<'_, E> {
     /// Reads a statement. The level is raised at its first token.
     #[tactic(auto, using(crate::proofs::Readers::parse_stmt))]
     #[cycle(parser)]
-    pub(crate) fn parse_stmt(
+    pub fn parse_stmt(
         &self,
         shared: &mut Shared<'_>,
         frame: &mut Frame<'_>,
@@ -143,7 +141,6 @@ impl<E: ReadExpressions> StmtReader<'_, E> {
 
     /// Reads an `import` after its keyword, where the settings stand.
     #[tactic(auto, using(crate::proofs::Readers::parse_import))]
-    #[cycle(parser)]
     fn parse_import(
         &self,
         shared: &mut Shared<'_>,
@@ -167,7 +164,6 @@ impl<E: ReadExpressions> StmtReader<'_, E> {
     /// Reads an `export` after its keyword, where the settings stand: of a definition, which raises the level once
     /// more, or of a variable.
     #[tactic(auto, using(crate::proofs::Readers::parse_export))]
-    #[cycle(parser)]
     fn parse_export(
         &self,
         shared: &mut Shared<'_>,
@@ -193,7 +189,6 @@ impl<E: ReadExpressions> StmtReader<'_, E> {
     /// Reads a definition after its keyword, where the settings stand. Its slot is made after its value is read, and is
     /// exported if `exported` says so.
     #[tactic(auto, using(crate::proofs::Readers::parse_let))]
-    #[cycle(parser)]
     fn parse_let(
         &self,
         shared: &mut Shared<'_>,
@@ -226,7 +221,6 @@ impl<E: ReadExpressions> StmtReader<'_, E> {
     /// Reads the value of a definition; without one it is unit. A raise of its level is refused where the settings
     /// stand.
     #[tactic(auto, using(crate::proofs::Readers::parse_initializer))]
-    #[cycle(parser)]
     fn parse_initializer(
         &self,
         shared: &mut Shared<'_>,
@@ -247,7 +241,6 @@ impl<E: ReadExpressions> StmtReader<'_, E> {
 
     /// Reads an expression or an assignment. What is assigned to is tested after the value is read.
     #[tactic(auto, using(crate::proofs::Readers::parse_expr_stmt))]
-    #[cycle(parser)]
     fn parse_expr_stmt(
         &self,
         shared: &mut Shared<'_>,
@@ -297,7 +290,7 @@ impl<E: ReadExpressions> StmtReader<'_, E> {
     /// Reads the statements of a block up to its `}`, which stays. Its definitions end with it.
     #[tactic(auto, using(crate::proofs::Readers::parse_block_inside))]
     #[cycle(parser)]
-    pub(crate) fn parse_block_inside(
+    pub fn parse_block_inside(
         &self,
         shared: &mut Shared<'_>,
         frame: &Frame<'_>,
@@ -319,7 +312,6 @@ impl<E: ReadExpressions> StmtReader<'_, E> {
     /// Reads what follows `return`, `throw` or `break`, where the settings stand: a value, exactly where the next token
     /// begins an expression. The level is raised with or without one.
     #[tactic(auto, using(crate::proofs::Readers::parse_jump))]
-    #[cycle(parser)]
     pub(crate) fn parse_jump(
         &self,
         shared: &mut Shared<'_>,

@@ -150,7 +150,6 @@ impl<E: ReadExpressions> StmtReader<'_, E> {
 
     /// Reads the cases of an arm.
     #[tactic(auto, using(crate::proofs::Readers::parse_cases))]
-    #[cycle(parser)]
     fn parse_cases(
         &self,
         shared: &mut Shared<'_>,
@@ -174,7 +173,6 @@ impl<E: ReadExpressions> StmtReader<'_, E> {
 
     /// Reads a case of an arm, in which `|` is no operator. Each error in it is that of a missing literal.
     #[tactic(auto, using(crate::proofs::Readers::parse_case))]
-    #[cycle(parser)]
     fn parse_case(
         &self,
         shared: &mut Shared<'_>,
@@ -194,7 +192,6 @@ impl<E: ReadExpressions> StmtReader<'_, E> {
 
     /// Reads the guard of an arm, if it has one.
     #[tactic(auto, using(crate::proofs::Readers::parse_case_guard))]
-    #[cycle(parser)]
     fn parse_case_guard(
         &self,
         shared: &mut Shared<'_>,

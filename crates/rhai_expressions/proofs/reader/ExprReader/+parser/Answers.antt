@@ -28,6 +28,8 @@ use Rattle.rhai_grammar.specs.declared.role.Beginning.TheVariants as begin
 use Rattle.rhai_expressions.proofs.reader.ExprReader.+parser.Goals as goal
 use Rattle.rhai_expressions.proofs.reader.ExprReader.+parser.Goals.{parse_binary_op-After-make_binary}
 use Rattle.rhai_language.proofs.Given.{gives_so}
+use Rattle.rhai_reading.proofs.Steps.{step_links}
+use Rattle.rhai_language.proofs.Readers.{calls_of_readers}
 use Rattle.rhai_expressions.proofs.Readers as rule
 
 -- an operator of a run with its right side
@@ -159,9 +161,6 @@ parse_unary-returns-then-is_sign-clause-reads g t c =
     let same : result_of (operand c.args.self.now.language.now c.args.frame.now c.args.settings) (state_of c.args.shared.now) ≡ outcome due left = grind (arith, rule.parse_unary) in
     answer_given view due left c.make_unary.result same c.make_unary.ensures.answers c.make_unary.ensures.nowhere
 
-pub parse_unary-returns-in_err-links-clause-reads : goal.parse_unary-returns-in_err-links-clause-reads
-parse_unary-returns-in_err-links-clause-reads g t c = let p = err_from_is_err_and c.from_residual-in_err-links.result c.from_residual-in_err-links.ensures.1 in rw (p.1, p.2) (grind (arith, rule.parse_unary))
-
 pub parse_array_literal-returns-in_err-list_continues-clause-reads : goal.parse_array_literal-returns-in_err-list_continues-clause-reads
 parse_array_literal-returns-in_err-list_continues-clause-reads g t c = let p = err_from_is_err_and c.from_residual-in_err-list_continues.result c.from_residual-in_err-list_continues.ensures.1 in rw (p.1, p.2) (grind (arith, rule.parse_array_literal))
 
@@ -217,7 +216,7 @@ pub parse_links-loop-links-preserved-in-Bracket : goal.parse_links-loop-links-pr
 parse_links-loop-links-preserved-in-Bracket g t c =
     let none : indexed_by (view c.args.lhs.now) (link_views c.push.new.self.items) ≡ None = search (rules, links_push, indexed_after) in
     record {
-      same = c.loop-links.invariant.same ∙ rw none (grind (arith, rule.parse_links));
+      same = c.loop-links.invariant.same ∙ rw none (grind (arith, calls_of_readers, step_links, links_push));
       goes_on = record { same = search rules; shorter = search rules };
     }
 

@@ -2,14 +2,11 @@ use Rattle.std.proofs.Common.{◌≡◌, option_map}
 use Rattle.rhai_lower.specs.Nodes.{no_nodes, no_properties, position_of}
 use Rattle.rhai_lower.specs.View.{view}
 use Rattle.rhai_grammar.specs.Cursors.{left}
-use Rattle.rhai_grammar.specs.declared.role.Construct.TheVariants as kind
-use Rattle.rhai_grammar.specs.Interpolations.{added_text}
-use Rattle.std.specs.Rc.{rc_str_bytes}
 use Rattle.rhai_reading.specs.Reading.{Links}
 use Rattle.rhai_reading.specs.Running.{need, result_of}
 use Rattle.rhai_trees.specs.Chains.{indexed_by}
 use Rattle.rhai_language.specs.Frames.{context_of, live_of}
-use Rattle.rhai_language.specs.Readers.{GoesOn, arguments, binary_op, right_operand, called, segments, elements, expression, fields, index, items, links, member, operand, postfix, primary, properties_of, state_of, views_of}
+use Rattle.rhai_language.specs.Readers.{GoesOn, arguments, binary_op, right_operand, called, elements, expression, fields, index, items, links, member, operand, postfix, primary, properties_of, state_of, views_of}
 use Rattle.rhai_expressions.specs.Views.{linked}
 use Rattle.rhai_expressions.proofs.reader.ExprReader.+parser.Given as goal
 
@@ -96,18 +93,6 @@ invariant-parse_binary_op-loop-lhs g l = record {
 
 abbrev pub decreases-parse_binary_op-loop-lhs : goal.decreases-parse_binary_op-loop-lhs
 decreases-parse_binary_op-loop-lhs g l = left (state_of l.shared).tokens
-
-abbrev pub decreases-parse_interpolated_string : goal.decreases-parse_interpolated_string
-decreases-parse_interpolated_string g l = need (segments l.self.now.language.now l.frame.now l.settings (added_text no_nodes (rc_str_bytes l.first) l.settings.pos)) (state_of l.shared.now)
-
-abbrev pub invariant-parse_interpolated_string-loop-segments : goal.invariant-parse_interpolated_string-loop-segments
-invariant-parse_interpolated_string-loop-segments g l = record {
-  same : result_of (segments l.fn.self.language.now l.fn.frame l.fn.settings (added_text no_nodes (rc_str_bytes l.fn.first) l.fn.settings.pos)) (state_of l.fn.shared) ≡ result_of (segments l.self.language.now l.frame l.settings (views_of l.segments)) (state_of l.shared);
-  goes_on : GoesOn l.fn.shared l.shared;
-}
-
-abbrev pub decreases-parse_interpolated_string-loop-segments : goal.decreases-parse_interpolated_string-loop-segments
-decreases-parse_interpolated_string-loop-segments g l = left (state_of l.shared).tokens
 
 abbrev pub decreases-parse_right_operand : goal.decreases-parse_right_operand
 decreases-parse_right_operand g l = need (right_operand l.self.now.language.now l.frame.now l.settings l.place) (state_of l.shared.now)

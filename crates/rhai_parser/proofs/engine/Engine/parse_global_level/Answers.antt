@@ -7,7 +7,7 @@ use Rattle.rhai_grammar.specs.Cursors.{cursor_of, mode_by}
 use Rattle.rhai_reading.specs.Reading.{Script}
 use Rattle.rhai_reading.specs.Running.{result_of}
 use Rattle.rhai_base.specs.Frames.{FrameValue}
-use Rattle.rhai_readers.specs.Frames.{context_of}
+use Rattle.rhai_language.specs.Frames.{context_of}
 use Rattle.rhai_parser.specs.Starts.{live_in, starts_in}
 use Rattle.rhai_parser.proofs.FrameLemmas.{frame_is}
 use Rattle.rhai_parser.proofs.PromiseLemmas.{script_done, script_fails, has_read_done, has_read_fails}

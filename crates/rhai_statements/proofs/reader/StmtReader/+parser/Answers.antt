@@ -1,28 +1,13 @@
 use Rattle.std.proofs.Common.{arith}
-use Rattle.rhai_lower.specs.View.{statement_view, view}
+use Rattle.rhai_lower.specs.View.{view}
 use Rattle.rhai_grammar.specs.Cursors.{cursor_of}
 use Rattle.rhai_reading.specs.Running.{guarded}
-use Rattle.rhai_language.specs.Readers.{arm, default_arm, expr_statement, guard, iterated, state_of}
+use Rattle.rhai_language.specs.Readers.{arm, default_arm, state_of}
 use Rattle.rhai_statements.specs.Switches.{arm_view}
 use Rattle.rhai_trees.specs.Switches.{collected_view}
 use Rattle.rhai_statements.proofs.reader.StmtReader.+parser.Goals as goal
 use Rattle.rhai_language.proofs.Given.{gives_so}
 use Rattle.rhai_statements.proofs.Readers as rule
-
-pub parse_expr_stmt-returns-clause-reads : goal.parse_expr_stmt-returns-clause-reads
-parse_expr_stmt-returns-clause-reads g t c =
-    let call = guarded (expr_statement c.args.self.now.language.now c.args.frame.now c.args.settings) (state_of c.args.shared.now) in
-    gives_so statement_view c.end_assignment.result (state_of c.parse_expr-2.new.shared) (grind (arith, rule.parse_expr_stmt)) (c.end_assignment.ensures.gives call _)
-
-pub parse_guard-returns-clause-reads : goal.parse_guard-returns-clause-reads
-parse_guard-returns-clause-reads g t c =
-    let call = guarded (guard c.args.self.now.language.now c.args.frame.now c.args.settings) (state_of c.args.shared.now) in
-    gives_so view c.end_guard.result (cursor_of c.end_guard.new.input) (grind (arith, rule.parse_guard)) (c.end_guard.ensures.gives call)
-
-pub parse_iterated-returns-clause-reads : goal.parse_iterated-returns-clause-reads
-parse_iterated-returns-clause-reads g t c =
-    let call = guarded (iterated c.args.self.now.language.now c.args.frame.now c.args.settings) (state_of c.args.shared.now) in
-    gives_so view c.end_iterated.result (state_of c.parse_expr.new.shared) (grind (arith, rule.parse_iterated)) (c.end_iterated.ensures.gives call _)
 
 pub parse_arm-returns-clause-reads : goal.parse_arm-returns-clause-reads
 parse_arm-returns-clause-reads g t c =

@@ -1,28 +1,13 @@
 use Rattle.std.proofs.Common.{◌≡◌, ◌+◌}
-use Rattle.rhai_lower.specs.Nodes.{no_nodes, no_statements}
+use Rattle.rhai_lower.specs.Nodes.{no_statements}
 use Rattle.rhai_grammar.specs.Cursors.{left}
 use Rattle.rhai_grammar.specs.declared.role.Construct.TheVariants as kind
 use Rattle.rhai_grammar.specs.Switches.{nothing_collected}
 use Rattle.rhai_trees.specs.Switches.{collected_view}
 use Rattle.rhai_reading.specs.Running.{need, result_of}
 use Rattle.rhai_base.specs.Frames.{SamePlace}
-use Rattle.rhai_language.specs.Readers.{GoesOn, action, arm, arms, case, case_guard, cases, default_arm, block, braced, branch, conditional, construct, guard, iterated, definition, exported, expr_statement, imported, initializer, inside, jump, statement, statements, statements_of, state_of, views_of}
+use Rattle.rhai_language.specs.Readers.{GoesOn, action, arm, arms, default_arm, block, braced, branch, conditional, construct, inside, statement, statements, statements_of, state_of}
 use Rattle.rhai_statements.proofs.reader.StmtReader.+parser.Given as goal
-
-abbrev pub decreases-parse_expr_stmt : goal.decreases-parse_expr_stmt
-decreases-parse_expr_stmt g l = need (expr_statement l.self.now.language.now l.frame.now l.settings) (state_of l.shared.now)
-
-abbrev pub decreases-parse_initializer : goal.decreases-parse_initializer
-decreases-parse_initializer g l = need (initializer l.self.now.language.now l.frame.now l.settings) (state_of l.shared.now)
-
-abbrev pub decreases-parse_let : goal.decreases-parse_let
-decreases-parse_let g l = need (definition l.self.now.language.now l.frame.now l.settings l.constant l.exported) (state_of l.shared.now)
-
-abbrev pub decreases-parse_import : goal.decreases-parse_import
-decreases-parse_import g l = need (imported l.self.now.language.now l.frame.now l.settings) (state_of l.shared.now)
-
-abbrev pub decreases-parse_export : goal.decreases-parse_export
-decreases-parse_export g l = need (exported l.self.now.language.now l.frame.now l.settings) (state_of l.shared.now)
 
 abbrev pub decreases-parse_stmt : goal.decreases-parse_stmt
 decreases-parse_stmt g l = need (statement l.self.now.language.now l.frame.now l.settings) (state_of l.shared.now)
@@ -35,9 +20,6 @@ decreases-parse_block g l = need (block l.self.now.language.now l.frame.now l.se
 
 abbrev pub decreases-parse_block_inside : goal.decreases-parse_block_inside
 decreases-parse_block_inside g l = need (inside l.self.now.language.now l.frame.now l.settings) (state_of l.shared.now)
-
-abbrev pub decreases-parse_jump : goal.decreases-parse_jump
-decreases-parse_jump g l = need (jump l.self.now.language.now l.frame.now l.settings) (state_of l.shared.now)
 
 abbrev pub invariant-parse_statements-loop-statements : goal.invariant-parse_statements-loop-statements
 invariant-parse_statements-loop-statements g l = record {
@@ -58,12 +40,6 @@ decreases-parse_if g l = need (conditional l.self.now.language.now l.frame.now l
 
 abbrev pub decreases-parse_else : goal.decreases-parse_else
 decreases-parse_else g l = need (branch l.self.now.language.now l.frame.now l.settings) (state_of l.shared.now)
-
-abbrev pub decreases-parse_guard : goal.decreases-parse_guard
-decreases-parse_guard g l = need (guard l.self.now.language.now l.frame.now l.settings) (state_of l.shared.now)
-
-abbrev pub decreases-parse_iterated : goal.decreases-parse_iterated
-decreases-parse_iterated g l = need (iterated l.self.now.language.now l.frame.now l.settings) (state_of l.shared.now)
 
 abbrev pub decreases-parse_braces : goal.decreases-parse_braces
 decreases-parse_braces g l = need (braced l.self.now.language.now l.frame.now l.settings) (state_of l.shared.now)
@@ -95,15 +71,6 @@ decreases-parse_arm g l = need (arm l.self.now.language.now l.frame.now l.settin
 abbrev pub decreases-parse_default_arm : goal.decreases-parse_default_arm
 decreases-parse_default_arm g l = need (default_arm l.self.now.language.now l.frame.now l.settings l.default) (state_of l.shared.now)
 
-abbrev pub decreases-parse_cases : goal.decreases-parse_cases
-decreases-parse_cases g l = need (cases l.self.now.language.now l.frame.now l.settings no_nodes) (state_of l.shared.now)
-
-abbrev pub decreases-parse_case : goal.decreases-parse_case
-decreases-parse_case g l = need (case l.self.now.language.now l.frame.now l.settings) (state_of l.shared.now)
-
-abbrev pub decreases-parse_case_guard : goal.decreases-parse_case_guard
-decreases-parse_case_guard g l = need (case_guard l.self.now.language.now l.frame.now l.settings) (state_of l.shared.now)
-
 abbrev pub decreases-parse_action : goal.decreases-parse_action
 decreases-parse_action g l = need (action l.self.now.language.now l.frame.now l.settings) (state_of l.shared.now)
 
@@ -115,12 +82,3 @@ invariant-parse_arms-loop-arms g l = record {
 
 abbrev pub decreases-parse_arms-loop-arms : goal.decreases-parse_arms-loop-arms
 decreases-parse_arms-loop-arms g l = left (state_of l.shared).tokens
-
-abbrev pub invariant-parse_cases-loop-cases : goal.invariant-parse_cases-loop-cases
-invariant-parse_cases-loop-cases g l = record {
-  same : result_of (cases l.fn.self.language.now l.fn.frame l.fn.settings no_nodes) (state_of l.fn.shared) ≡ result_of (cases l.self.language.now l.frame l.settings (views_of l.cases)) (state_of l.shared);
-  goes_on : GoesOn l.fn.shared l.shared;
-}
-
-abbrev pub decreases-parse_cases-loop-cases : goal.decreases-parse_cases-loop-cases
-decreases-parse_cases-loop-cases g l = left (state_of l.shared).tokens

@@ -1,0 +1,16 @@
+use Rattle.std.proofs.Common.{ℕ}
+use Rattle.rhai_reading.specs.Running.{need}
+use Rattle.rhai_language.specs.Readers.{construct, expression, inside, state_of, statement}
+use Rattle.rhai_parser.proofs.readers.+parser.Given as goal
+
+abbrev pub decreases-parse_expr : goal.decreases-parse_expr
+decreases-parse_expr l = need (expression l.language.now l.frame.now l.settings) (state_of l.shared.now)
+
+abbrev pub decreases-parse_construct : goal.decreases-parse_construct
+decreases-parse_construct l = need (construct l.language.now l.frame.now l.settings l.kind) (state_of l.shared.now)
+
+abbrev pub decreases-parse_block_inside : goal.decreases-parse_block_inside
+decreases-parse_block_inside l = need (inside l.language.now l.frame.now l.settings) (state_of l.shared.now)
+
+abbrev pub decreases-parse_stmt : goal.decreases-parse_stmt
+decreases-parse_stmt l = need (statement l.language.now l.frame.now l.settings) (state_of l.shared.now)

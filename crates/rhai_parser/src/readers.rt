@@ -1,0 +1,233 @@
+//! The readers of expressions and of statements, each lent to the other.
+
+ghost use Rattle.std.specs.Prelude.{◌≡◌};
+ghost use Rattle.rhai_lower.specs.Nodes.{no_statements};
+ghost use Rattle.rhai_lower.specs.View.{statement_view, view};
+ghost use Rattle.rhai_base.specs.Frames.{SamePlace};
+ghost use Rattle.rhai_reading.specs.Running.{need};
+ghost use Rattle.rhai_language.specs.Readers.{GoesOn, Reads, construct, expression, inside, state_of, statement};
+ghost use Rattle.rhai_language.specs.Readers.{statements, statements_of, whole, with_live};
+
+use rhai_base::leaves::due::end_due;
+use rhai_base::{Frame, ParseSettings};
+use rhai_expressions::{ExprReader, ReadStatements};
+use rhai_grammar::{Closing, Construct, ParseResult};
+use rhai_language::{Language, Shared};
+use rhai_lower::{Expr, Stmt};
+use rhai_statements::{ReadExpressions, StmtReader};
+
+// Statements as these functions read them.
+#[derive(Drop)]
+struct Statements<C, I, S> {
+    construct: C,
+    inside: I,
+    stmt: S,
+}
+
+impl<C, I, S> ReadStatements for Statements<C, I, S>
+where
+    C: Fn(&Language, &mut Shared<'_>, &Frame<'_>, ParseSettings, Construct) -> ParseResult<Stmt>,
+    I: Fn(&Language, &mut Shared<'_>, &Frame<'_>, ParseSettings) -> ParseResult<Vec<Stmt>>,
+    S: Fn(&Language, &mut Shared<'_>, &mut Frame<'_>, ParseSettings) -> ParseResult<Stmt>,
+{
+    ghost lent = { λ s n.
+        ((language : _) (shared : _) (frame : _) (settings : _) (kind : _)
+            → need (construct language.now frame.now settings kind) (state_of shared.now) ≡ n
+            → C.pre s.construct language shared frame settings kind
+            × ((result : _) (after : _) → C.post s.construct language shared frame settings kind result after
+            → GoesOn shared.now after.now
+            × Reads (construct language.now frame.now settings kind) statement_view shared.now result after.now))
+        × ((language : _) (shared : _) (frame : _) (settings : _)
+            → need (inside language.now frame.now settings) (state_of shared.now) ≡ n
+            → I.pre s.inside language shared frame settings
+            × ((result : _) (after : _) → I.post s.inside language shared frame settings result after
+            → GoesOn shared.now after.now
+            × Reads (inside language.now frame.now settings) statements_of shared.now result after.now))
+        × ((language : _) (shared : _) (frame : _) (settings : _)
+            → need (statement language.now frame.now settings) (state_of shared.now) ≡ n
+            → S.pre s.stmt language shared frame settings
+            × ((result : _) (after : _) (left : _) → S.post s.stmt language shared frame settings result after left
+            → GoesOn shared.now after.now
+            × Reads (statement language.now frame.now settings) (with_live statement_view left.now) shared.now result after.now))
+    };
+
+    fn parse_construct(
+        &self,
+        language: &Language,
+        shared: &mut Shared<'_>,
+        frame: &Frame<'_>,
+        settings: ParseSettings,
+        kind: Construct,
+    ) -> ParseResult<Stmt> {
+        (self.construct)(language, shared, frame, settings, kind)
+    }
+
+    fn parse_block_inside(
+        &self,
+        language: &Language,
+        shared: &mut Shared<'_>,
+        frame: &Frame<'_>,
+        settings: ParseSettings,
+    ) -> ParseResult<Vec<Stmt>> {
+        (self.inside)(language, shared, frame, settings)
+    }
+
+    fn parse_stmt(
+        &self,
+        language: &Language,
+        shared: &mut Shared<'_>,
+        frame: &mut Frame<'_>,
+        settings: ParseSettings,
+    ) -> ParseResult<Stmt> {
+        (self.stmt)(language, shared, frame, settings)
+    }
+}
+
+// Expressions as this function reads them.
+#[derive(Drop)]
+struct Expressions<E> {
+    expr: E,
+}
+
+impl<E> ReadExpressions for Expressions<E>
+where
+    E: Fn(&Language, &mut Shared<'_>, &Frame<'_>, ParseSettings) -> ParseResult<Expr>,
+{
+    ghost lent = { λ s n. (language : _) (shared : _) (frame : _) (settings : _)
+        → need (expression language.now frame.now settings) (state_of shared.now) ≡ n
+        → E.pre s.expr language shared frame settings
+        × ((result : _) (after : _) → E.post s.expr language shared frame settings result after
+        → GoesOn shared.now after.now
+        × Reads (expression language.now frame.now settings) view shared.now result after.now)
+    };
+
+    fn parse_expr(
+        &self,
+        language: &Language,
+        shared: &mut Shared<'_>,
+        frame: &Frame<'_>,
+        settings: ParseSettings,
+    ) -> ParseResult<Expr> {
+        (self.expr)(language, shared, frame, settings)
+    }
+}
+
+/// Reads an expression. The level is raised at its first token.
+#[cycle(parser)]
+pub(crate) fn parse_expr(
+    language: &Language,
+    shared: &mut Shared<'_>,
+    frame: &Frame<'_>,
+    settings: ParseSettings,
+) -> ParseResult<Expr>
+    ensures goes_on { GoesOn shared.old shared.new }
+    ensures reads { Reads (expression language.now frame.now settings) view shared.old result shared.new }
+{
+    let statements = Statements {
+        construct: parse_construct,
+        inside: parse_block_inside,
+        stmt: parse_stmt,
+    };
+    let reader = ExprReader {
+        language,
+        statements,
+    };
+    reader.parse_expr(shared, frame, settings)
+}
+
+/// Reads a construct of this kind after its first token, where the settings stand.
+#[cycle(parser)]
+fn parse_construct(
+    language: &Language,
+    shared: &mut Shared<'_>,
+    frame: &Frame<'_>,
+    settings: ParseSettings,
+    kind: Construct,
+) -> ParseResult<Stmt>
+    ensures goes_on { GoesOn shared.old shared.new }
+    ensures reads { Reads (construct language.now frame.now settings kind) statement_view shared.old result shared.new }
+{
+    let expressions = Expressions { expr: parse_expr };
+    let reader = StmtReader {
+        language,
+        expressions,
+    };
+    reader.parse_construct(shared, frame, settings, kind)
+}
+
+/// Reads the statements of a block up to its `}`, which stays. Its definitions end with it.
+#[cycle(parser)]
+fn parse_block_inside(
+    language: &Language,
+    shared: &mut Shared<'_>,
+    frame: &Frame<'_>,
+    settings: ParseSettings,
+) -> ParseResult<Vec<Stmt>>
+    ensures goes_on { GoesOn shared.old shared.new }
+    ensures reads { Reads (inside language.now frame.now settings) statements_of shared.old result shared.new }
+{
+    let expressions = Expressions { expr: parse_expr };
+    let reader = StmtReader {
+        language,
+        expressions,
+    };
+    reader.parse_block_inside(shared, frame, settings)
+}
+
+/// Reads a statement. The level is raised at its first token.
+#[cycle(parser)]
+fn parse_stmt(
+    language: &Language,
+    shared: &mut Shared<'_>,
+    frame: &mut Frame<'_>,
+    settings: ParseSettings,
+) -> ParseResult<Stmt>
+    ensures goes_on { GoesOn shared.old shared.new }
+    ensures reads { Reads (statement language.now frame.old settings) (with_live statement_view frame.new) shared.old
+        result shared.new }
+{
+    let expressions = Expressions { expr: parse_expr };
+    let reader = StmtReader {
+        language,
+        expressions,
+    };
+    reader.parse_stmt(shared, frame, settings)
+}
+
+/// Reads an expression that the end mark follows.
+#[tactic(auto, using(rhai_reading::proofs::Steps::step_whole, rhai_language::proofs::Readers::calls_of_readers))]
+pub(crate) fn parse_whole_expr(
+    language: &Language,
+    shared: &mut Shared<'_>,
+    frame: &Frame<'_>,
+    settings: ParseSettings,
+) -> ParseResult<Expr>
+    ensures goes_on { GoesOn shared.old shared.new }
+    ensures reads { Reads (whole language.now frame.now settings) view shared.old result shared.new }
+{
+    let expr = parse_expr(language, shared, frame, settings)?;
+    end_due(language.alloc(), shared.input)?;
+    Ok(expr)
+}
+
+/// Reads the statements of a list, up to the token that closes it, which stays. The definitions among them are made in
+/// the frame.
+pub(crate) fn parse_statements(
+    language: &Language,
+    shared: &mut Shared<'_>,
+    frame: &mut Frame<'_>,
+    settings: ParseSettings,
+    closing: Closing,
+) -> ParseResult<Vec<Stmt>>
+    ensures goes_on { GoesOn shared.old shared.new }
+    ensures place { SamePlace frame.old frame.new }
+    ensures reads { Reads (statements language.now frame.old settings closing no_statements)
+        (with_live statements_of frame.new) shared.old result shared.new }
+{
+    let expressions = Expressions { expr: parse_expr };
+    let reader = StmtReader {
+        language,
+        expressions,
+    };
+    reader.parse_statements(shared, frame, settings, closing)
+}
