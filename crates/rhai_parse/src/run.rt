@@ -42,8 +42,8 @@ impl From<ListError> for Failure {
     }
 }
 
-fn make_engine(alloc: Global, limits: &Limits) -> Engine {
-    let mut engine = Engine::new(alloc);
+// Sets the limits and options that the command line names.
+fn set_limits(engine: &mut Engine, limits: &Limits) {
     if let Some(limit) = limits.expr_depth {
         engine.set_max_expr_depth(limit);
     }
@@ -62,14 +62,14 @@ fn make_engine(alloc: Global, limits: &Limits) -> Engine {
     if let Some(bits) = limits.options {
         engine.set_options(LangOptions::from_bits_retain(bits));
     }
-    engine
 }
 
 // The tree of a list of tokens, parsed by this entry.
 fn parse(alloc: Global, entry: Entry, limits: &Limits, list: TokenList) -> ParseResult<AST>
     requires { All (λ e. IsTrue (may_be_delivered e)) list.entries.items }
 {
-    let engine = make_engine(alloc, limits);
+    let mut engine = Engine::new(alloc);
+    set_limits(&mut engine, limits);
     let mut input = TokenStream::new(list.entries, list.end);
     let mut lib = FnLib::new(alloc);
     let mut state = ParseState::new(alloc, None, &mut input, TokenizerControl, &mut lib);

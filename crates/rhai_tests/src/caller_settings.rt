@@ -9,8 +9,8 @@ use std::test::Fail;
 // What is answered to `#{ key : 1 }` where keys have to be strings.
 fn parse_map(rt: &impl Abort, alloc: Global, key: Token) -> Result<ParseResult<AST>, AllocError> {
     let mut entries = Vec::new(alloc);
-    add(&mut entries, Token::MapStart, false)?;
-    add(&mut entries, key, false)?;
+    add(&mut entries, Token::MapStart)?;
+    add(&mut entries, key)?;
     add_line(alloc, &mut entries, ": 1 }")?;
     Ok(parse(rt, alloc, entries, true))
 }

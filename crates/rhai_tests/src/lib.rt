@@ -11,5 +11,3 @@ mod long_scripts;
 mod modules;
 #[cfg(test)]
 mod script;
-#[cfg(test)]
-mod text_mode;

@@ -1,7 +1,5 @@
 //! Scripts as the tests write them: tokens in one line, with one blank between two. They stand at no position.
 
-ghost use Rattle.std.specs.Prelude.{◌≡◌, false};
-
 use rhai_parser::{
     AST, Engine, Entry, FnLib, OptimizationLevel, ParseResult, ParseSettingFlags, ParseSettings,
     ParseState, Position, Token, TokenStream, TokenizerControl,
@@ -46,9 +44,13 @@ fn token(alloc: Global, word: &str) -> Result<Token, AllocError> {
 }
 
 /// Adds a token.
-pub(crate) fn add(entries: &mut Vec<Entry>, token: Token, text: bool) -> Result<(), AllocError> {
+pub(crate) fn add(entries: &mut Vec<Entry>, token: Token) -> Result<(), AllocError> {
     let pos = Position::NONE;
-    entries.push(Entry { token, pos, text })?;
+    entries.push(Entry {
+        token,
+        pos,
+        text: false,
+    })?;
     Ok(())
 }
 
@@ -59,15 +61,13 @@ pub(crate) fn add_line(
     line: &str,
 ) -> Result<(), AllocError> {
     for word in line.split(' ') {
-        add(entries, token(alloc, word)?, false)?;
+        add(entries, token(alloc, word)?)?;
     }
     Ok(())
 }
 
-/// The stream that delivers these tokens; nothing is peeked.
-pub(crate) fn stream_of(rt: &impl Abort, entries: Vec<Entry>) -> TokenStream
-    ensures { result.peeked ≡ false }
-{
+/// The stream that delivers these tokens.
+pub(crate) fn stream_of(rt: &impl Abort, entries: Vec<Entry>) -> TokenStream {
     assert!(rt; entries.iter().all(|entry| entry.is_deliverable()));
     TokenStream::new(entries, Position::NONE)
 }

@@ -1,0 +1,161 @@
+//! Calls that allocate, each once: no contract says that memory is left. Each is made by a function that ends with
+//! `AllocError` where memory is refused, and two tests run it: one wants it to come to its end, with ample memory. The
+//! other, `.._refused`, lets it end early, and holds however memory is refused (tests/fail_alloc_tests.sh): what was
+//! asserted on the way has to hold all the same.
+
+ghost use Rattle.rhai_base.specs.Keys.{keys_of};
+ghost use Rattle.rhai_base.specs.Index.{Agrees};
+
+use rhai_base::{FnLib, FnNames, add_function, functions, has_function, make_anonymous_fn};
+use rhai_grammar::{FnKey, InputError, ParseError, ParseErrorType};
+use rhai_lower::{Expr, LexError, Position, Scope, ScriptFuncDef, Stmt, StmtBlock, Token};
+use std::alloc::{AllocError, Global};
+use std::process::Abort;
+use std::rc::{Rc, RcStr};
+use std::test::Fail;
+
+// Adds a slot. Where memory is refused, no slot is added.
+fn push(rt: &impl Abort, scope: &mut Scope, name: RcStr) -> Result<(), AllocError> {
+    let before = scope.len();
+    if let Err(error) = scope.push(name, false) {
+        assert!(rt; scope.len() == before);
+        return Err(error);
+    }
+    Ok(())
+}
+
+// Exports the oldest slot. Where memory is refused, the slot keeps the names that it has.
+fn export(rt: &impl Abort, scope: &mut Scope, alias: RcStr) -> Result<(), AllocError> {
+    assert!(rt; scope.len() > 0);
+    let before = scope.aliases(0).len();
+    if let Err(error) = scope.add_alias_by_index(0, alias) {
+        assert!(rt; scope.len() > 0);
+        assert!(rt; scope.aliases(0).len() == before);
+        return Err(error);
+    }
+    Ok(())
+}
+
+fn slots(rt: &impl Abort, alloc: Global) -> Result<(), AllocError> {
+    let mut scope = Scope::new(alloc);
+    push(rt, &mut scope, RcStr::from_str(alloc, "a")?)?;
+    export(rt, &mut scope, RcStr::from_str(alloc, "b")?)
+}
+
+#[test]
+fn slots_with_ample_memory(rt: HostRuntime) -> Result<(), Fail> {
+    Ok(slots(&rt, rt.alloc())?)
+}
+
+#[test]
+fn slots_refused(rt: HostRuntime) {
+    let _ = slots(&rt, rt.alloc());
+}
+
+fn key(alloc: Global, name: &str) -> Result<FnKey, AllocError> {
+    Ok(FnKey {
+        this_type: None,
+        name: RcStr::from_str(alloc, name)?,
+        params: 0,
+    })
+}
+
+// A function of no parameters with an empty body.
+fn function(alloc: Global, name: &str) -> Result<Rc<ScriptFuncDef>, AllocError> {
+    let function = ScriptFuncDef {
+        this_type: None,
+        name: RcStr::from_str(alloc, name)?,
+        private: false,
+        params: Vec::new(alloc),
+        body: StmtBlock {
+            statements: Vec::new(alloc),
+            start: Position::NONE,
+            end: Position::NONE,
+        },
+    };
+    Ok(Rc::new(alloc, function)?)
+}
+
+// Adds a function. Where memory is refused, none is added.
+fn add(rt: &impl Abort, alloc: Global, lib: &mut FnLib, name: &str) -> Result<(), AllocError> {
+    let key = key(alloc, name)?;
+    let function = function(alloc, name)?;
+    let before = lib.len();
+    assert!(rt; !has_function(lib, &key));
+    if let Err(error) = add_function(lib, key, function) {
+        assert!(rt; lib.len() == before);
+        return Err(error);
+    }
+    Ok(())
+}
+
+// Adds a function to a library and its index. Where memory is refused, neither changes.
+fn add_named(
+    rt: &impl Abort,
+    alloc: Global,
+    names: &mut FnNames,
+    lib: &mut FnLib,
+    name: &str,
+) -> Result<(), AllocError>
+    requires { Agrees names.old (keys_of lib.old.entries) }
+    ensures { Agrees names.new (keys_of lib.new.entries) }
+{
+    let key = key(alloc, name)?;
+    let function = function(alloc, name)?;
+    let before = lib.len();
+    assert!(rt; !has_function(lib, &key));
+    if let Err(error) = names.add_function(lib, key, function) {
+        assert!(rt; lib.len() == before && !names.contains(name));
+        return Err(error);
+    }
+    Ok(())
+}
+
+fn library(rt: &impl Abort, alloc: Global) -> Result<(), AllocError> {
+    let mut lib = FnLib::new(alloc);
+    add(rt, alloc, &mut lib, "f")?;
+    let mut names = FnNames::new(alloc, &lib)?;
+    add_named(rt, alloc, &mut names, &mut lib, "g")?;
+    functions(alloc, &lib)?;
+    Ok(())
+}
+
+#[test]
+fn library_with_ample_memory(rt: HostRuntime) -> Result<(), Fail> {
+    Ok(library(&rt, rt.alloc())?)
+}
+
+#[test]
+fn library_refused(rt: HostRuntime) {
+    let _ = library(&rt, rt.alloc());
+}
+
+fn texts_and_blocks(alloc: Global) -> Result<(), AllocError> {
+    make_anonymous_fn(alloc, 7)?;
+    Token::IntegerConstant(-7).text(alloc)?;
+    let seven = Expr::IntegerConstant(7, Position::NONE);
+    StmtBlock::from_stmt(alloc, Stmt::Expr(Box::new(alloc, seven)?))?;
+    Ok(())
+}
+
+#[test]
+fn texts_and_blocks_with_ample_memory(rt: HostRuntime) -> Result<(), Fail> {
+    Ok(texts_and_blocks(rt.alloc())?)
+}
+
+#[test]
+fn texts_and_blocks_refused(rt: HostRuntime) {
+    let _ = texts_and_blocks(rt.alloc());
+}
+
+// A copy shares its texts and allocates nothing, but it is refused where a text has as many owners as can be counted.
+#[test]
+fn copies(rt: HostRuntime) -> Result<(), Fail> {
+    let alloc = rt.alloc();
+    key(alloc, "f")?.clone()?;
+    let error = LexError::UnexpectedInput(RcStr::from_str(alloc, "~")?);
+    Token::LexError(error.clone()?).clone()?;
+    let input = InputError::Lexer(error);
+    ParseError(ParseErrorType::BadInput(input), Position::NONE).clone()?;
+    Ok(())
+}
