@@ -1,4 +1,4 @@
--- A dot with its member, as the reading program takes it.
+-- A dot with its member, and a bracket with its index, as the reading program takes them.
 use Rattle.std.proofs.Common.{◌≡◌, ◌+◌, ◌≤◌, true, false, None, [], ◌∷◌, ◌++◌, sym, ap, ◌∙◌, subst, arith, if◌then◌else◌}
 use Rattle.rhai_lower.specs.Lexemes.{Lexeme}
 use Rattle.rhai_lower.specs.Nodes.{Node}
@@ -9,9 +9,9 @@ use Rattle.rhai_grammar.specs.Causes.{refusal, ExprTooDeep, out_of_memory}
 use Rattle.rhai_grammar.specs.Contexts.{Context, Live, has_room, level_up}
 use Rattle.rhai_grammar.specs.Cursors.{Cursor, asked, looking, taking, left}
 use Rattle.rhai_grammar.specs.Delivered.{Item, item, is_end, is_memory}
-use Rattle.rhai_grammar.specs.Trees.{member_link}
-use Rattle.rhai_grammar.specs.Spots.{LinkSpot, spot_after_dot}
-use Rattle.rhai_reading.specs.Reading.{Fail, Ret, Call, Links, Member, dot_at, links_at}
+use Rattle.rhai_grammar.specs.Trees.{bracket_link, member_link}
+use Rattle.rhai_grammar.specs.Spots.{LinkSpot, spot_after_bracket, spot_after_dot}
+use Rattle.rhai_reading.specs.Reading.{Fail, Ret, Call, Index, Links, Member, dot_at, links_at, raised}
 use Rattle.rhai_reading.specs.Running as R
 use Rattle.rhai_reading.specs.Running.{exec, result_of, guarded}
 use Rattle.rhai_reading.proofs.Steps.{step_links, guarded_is, and_then_done}
@@ -91,4 +91,79 @@ dot_goes_on {d} {w} {q} {next} {l} {at} {x} {s} {s1} {s2} {s3} {t} h =
     dot_taken w q x s t taken
     ∙ ap (λ (i : Item). result_of (Links w (spot_after_dot q (member_link i.lexeme i.at x))) t) (sym h.token)
     ∙ ap (λ (f : Context). result_of (Links w (record { settings = f; brackets = f; indexed = None; before = q.before ++ (member_link l at x ∷ []) })) t) (sym h.deeper)
+    ∙ ap (λ p. result_of (Links w p) t) (sym h.joined)
+
+-- ---- brackets
+
+-- From s a bracket stands, whose index x ends at t.
+record TakesBracket (w : Live) (q : LinkSpot) (x : Node) (s t : Cursor) : Type 0 where
+  readable : is_memory (asked s).lexeme ≡ false
+  bracket : linking (asked s).lexeme ≡ link.Bracket
+  room : has_room q.brackets ≡ true
+  room_on : has_room (level_up q.brackets) ≡ true
+  index : result_of (Index (level_up (level_up q.brackets)) w q.indexed) (taking s) ≡ R.Done x t
+  after_bracket : left (taking s).tokens + 1 ≤ left s.tokens
+  after_index : left t.tokens + 1 ≤ left s.tokens
+
+bracket_taken : (w : Live) (q : LinkSpot) (x : Node) (s t : Cursor) → TakesBracket w q x s t → result_of (Links w q) s ≡ result_of (Links w (spot_after_bracket q (bracket_link (asked s).lexeme (asked s).at x))) t
+bracket_taken w q x s t h =
+    let g = Links w q in
+    let call = guarded g s in
+    let l = (asked s).lexeme in
+    let at = (asked s).at in
+    let u = taking s in
+    let d = level_up q.brackets in
+    let inner = guarded_is g s (Index (level_up d) w q.indexed) u (omega (arith, h.after_bracket)) ∙ h.index in
+    let on = Links w (spot_after_bracket q (bracket_link l at x)) in
+    step_links w q s
+    ∙ ap (λ m. if m then R.Refused out_of_memory (looking s) else exec call (links_at w q l at (linking l)) (looking s)) h.readable
+    ∙ ap (λ b. exec call (links_at w q l at b) (looking s)) h.bracket
+    ∙ ap (λ m. if m then R.Refused out_of_memory (looking (looking s)) else exec call (raised q.brackets at (λ v. raised v at (λ e. Call (Index e w q.indexed) (λ y. Call (Links w (spot_after_bracket q (bracket_link l at y))) Ret)))) u) h.readable
+    ∙ ap (λ b. exec call (if b then raised d at (λ e. Call (Index e w q.indexed) (λ y. Call (Links w (spot_after_bracket q (bracket_link l at y))) Ret)) else Fail (refusal ExprTooDeep at)) u) h.room
+    ∙ ap (λ b. exec call (if b then Call (Index (level_up d) w q.indexed) (λ y. Call (Links w (spot_after_bracket q (bracket_link l at y))) Ret) else Fail (refusal ExprTooDeep at)) u) h.room_on
+    ∙ ap (λ o. R.and_then o (λ y v. exec call (Call (Links w (spot_after_bracket q (bracket_link l at y))) Ret) v)) inner
+    ∙ and_then_done (call on t)
+    ∙ guarded_is g s on t (omega (arith, h.after_index))
+
+-- A bracket with its index, as the code takes it: each step leaves a cursor, and none leaves more tokens than there were.
+pub record BracketTaken (d e : Context) (w : Live) (q next : LinkSpot) (l : Lexeme) (at : Position) (x : Node) (s s1 s2 t : Cursor) : Type 0 where
+  pub token : item l at ≡ asked s
+  pub readable : is_memory (asked s).lexeme ≡ false
+  pub bracket : linking l ≡ link.Bracket
+  pub more : is_end l ≡ false
+  pub look : s1 ≡ looking s
+  pub took : s2 ≡ taking s1
+  pub shrinks : is_end (asked s1).lexeme ≡ false → left s2.tokens + 1 ≤ left s1.tokens
+  pub room : has_room q.brackets ≡ true
+  pub deeper : d ≡ level_up q.brackets
+  pub room_on : has_room d ≡ true
+  pub inside : e ≡ level_up d
+  pub index : result_of (Index e w q.indexed) s2 ≡ R.Done x t
+  pub index_short : left t.tokens ≤ left s2.tokens
+  pub joined : next ≡ record { settings = q.settings; brackets = d; indexed = None; before = q.before ++ (bracket_link l at x ∷ []) }
+
+pub bracket_short : {d e : Context} {w : Live} {q next : LinkSpot} {l : Lexeme} {at : Position} {x : Node} {s s1 s2 t : Cursor} → BracketTaken d e w q next l at x s s1 s2 t → (left s2.tokens + 1 ≤ left s.tokens) × (left t.tokens + 1 ≤ left s.tokens)
+bracket_short {d} {e} {w} {q} {next} {l} {at} {x} {s} {s1} {s2} {t} h =
+    let more : is_end (asked s1).lexeme ≡ false = ap (λ (u : Cursor). is_end (asked u).lexeme) h.look ∙ ap (λ (i : Item). is_end i.lexeme) (sym h.token) ∙ h.more in
+    let same : left s1.tokens ≡ left s.tokens = ap (λ (u : Cursor). left u.tokens) h.look in
+    let less = h.shrinks more in
+    (omega (arith, same, less), omega (arith, same, less, h.index_short))
+
+pub bracket_goes_on : {d e : Context} {w : Live} {q next : LinkSpot} {l : Lexeme} {at : Position} {x : Node} {s s1 s2 t : Cursor} → BracketTaken d e w q next l at x s s1 s2 t → result_of (Links w q) s ≡ result_of (Links w next) t
+bracket_goes_on {d} {e} {w} {q} {next} {l} {at} {x} {s} {s1} {s2} {t} h =
+    let there : s2 ≡ taking s = h.took ∙ ap taking h.look in
+    let short = bracket_short h in
+    let twice : e ≡ level_up (level_up q.brackets) = h.inside ∙ ap level_up h.deeper in
+    let taken : TakesBracket w q x s t = record {
+      readable = h.readable;
+      bracket = ap (λ (i : Item). linking i.lexeme) (sym h.token) ∙ h.bracket;
+      room = h.room;
+      room_on = ap has_room (sym h.deeper) ∙ h.room_on;
+      index = ap (λ (f : Context). result_of (Index f w q.indexed) (taking s)) (sym twice) ∙ ap (result_of (Index e w q.indexed)) (sym there) ∙ h.index;
+      after_bracket = subst (λ (u : Cursor). left u.tokens + 1 ≤ left s.tokens) there short.0;
+      after_index = short.1;
+    } in
+    bracket_taken w q x s t taken
+    ∙ ap (λ (i : Item). result_of (Links w (spot_after_bracket q (bracket_link i.lexeme i.at x))) t) (sym h.token)
+    ∙ ap (λ (f : Context). result_of (Links w (record { settings = q.settings; brackets = f; indexed = None; before = q.before ++ (bracket_link l at x ∷ []) })) t) (sym h.deeper)
     ∙ ap (λ p. result_of (Links w p) t) (sym h.joined)

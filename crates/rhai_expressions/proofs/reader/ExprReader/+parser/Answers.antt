@@ -15,7 +15,7 @@ use Rattle.rhai_trees.specs.Chains.{indexed_by, link_views}
 use Rattle.rhai_language.specs.Frames.{context_of, live_of}
 use Rattle.rhai_expressions.specs.Asks.{operator_pair}
 use Rattle.rhai_language.specs.Readers.{index, operand, state_of}
-use Rattle.rhai_reading.proofs.ChainSteps.{DotTaken, dot_goes_on, dot_short}
+use Rattle.rhai_reading.proofs.ChainSteps.{BracketTaken, DotTaken, bracket_goes_on, bracket_short, dot_goes_on, dot_short}
 use Rattle.rhai_reading.proofs.FieldSteps.{FieldTaken, field_goes_on, field_short}
 use Rattle.rhai_reading.proofs.Outcomes.{answer_given, outcome}
 use Rattle.rhai_reading.proofs.RunSteps.{Walked, walked_on, walked_refused, walked_short}
@@ -28,14 +28,14 @@ use Rattle.rhai_grammar.specs.declared.role.Beginning.TheVariants as begin
 use Rattle.rhai_expressions.proofs.reader.ExprReader.+parser.Goals as goal
 use Rattle.rhai_expressions.proofs.reader.ExprReader.+parser.Goals.{parse_binary_op-After-make_binary}
 use Rattle.rhai_language.proofs.Given.{gives_so}
-use Rattle.rhai_reading.proofs.Steps.{step_links}
+use Rattle.rhai_reading.proofs.Steps.{step_binary_op}
 use Rattle.rhai_language.proofs.Readers.{calls_of_readers}
 use Rattle.rhai_expressions.proofs.Readers as rule
 
 -- an operator of a run with its right side
-walked : (t : _) (c : parse_binary_op-After-make_binary t) → Walked (context_of c.args.self.now.language.now c.args.frame.now c.loop-lhs.settings) (live_of c.args.frame.now) c.args.parent c.in-Some.operator.strength c.in-Some.operator.right c.place_after-place.result (option_map operator_pair c.in_ok-next_operator.field-0) (lexeme c.take-op_token.result.0) c.take-op_token.result.1 (view c.in_ok-rhs.rhs) (view c.in_ok-rhs-2.rhs) (context_of c.args.self.now.language.now c.args.frame.now c.in_ok-deeper.deeper.side)
+walked : (g : _) (t : _) (c : parse_binary_op-After-make_binary g t) → Walked (context_of c.args.self.now.language.now c.args.frame.now c.loop-lhs.settings) (live_of c.args.frame.now) c.args.parent c.in-Some.operator.strength c.in-Some.operator.right c.place_after-place.result (option_map operator_pair c.in_ok-next_operator.field-0) (lexeme c.take-op_token.result.0) c.take-op_token.result.1 (view c.in_ok-rhs.rhs) (view c.in_ok-rhs-2.rhs) (context_of c.args.self.now.language.now c.args.frame.now c.in_ok-deeper.deeper.side)
     (state_of c.loop-lhs.shared) (cursor_of c.next_operator.new.input) (cursor_of c.take-op_token.new.input) (state_of c.parse_right_operand.new.shared) (cursor_of c.next_operator-in-loop-lhs.new.input) (state_of c.parse_binary_op.new.shared)
-walked t c = record {
+walked g t c = record {
   operator = search rules;
   goes = search rules;
   readable = search rules;
@@ -55,14 +55,17 @@ walked t c = record {
   side_short = search rules;
 }
 
+pub parse_binary_op-returns-in_err-rhs-2-clause-reads : goal.parse_binary_op-returns-in_err-rhs-2-clause-reads
+parse_binary_op-returns-in_err-rhs-2-clause-reads g t c = let p = err_from_is_err_and c.from_residual-in_err-rhs-2.result c.from_residual-in_err-rhs-2.ensures.1 in rw (p.1, p.2) (grind (arith, calls_of_readers, step_binary_op))
+
 pub parse_binary_op-returns-in-Err-clause-reads : goal.parse_binary_op-returns-in-Err-clause-reads
 parse_binary_op-returns-in-Err-clause-reads g t c =
-    let h = walked t (goal.at.parse_binary_op-returns-in-Err-clause-reads t c).After-make_binary in
+    let h = walked g t (goal.at.parse_binary_op-returns-in-Err-clause-reads g t c).After-make_binary in
     (λ told. c.loop-lhs.invariant.same ∙ walked_refused h _ _ (c.in-Err.ensures.answers told), c.in-Err.ensures.nowhere)
 
 pub parse_binary_op-loop-lhs-preserved : goal.parse_binary_op-loop-lhs-preserved
 parse_binary_op-loop-lhs-preserved g t c =
-    let h = walked t (goal.at.parse_binary_op-loop-lhs-preserved t c).After-make_binary in
+    let h = walked g t (goal.at.parse_binary_op-loop-lhs-preserved g t c).After-make_binary in
     record {
       same = c.loop-lhs.invariant.same ∙ walked_on h _ _ c.in-Ok.ensures.answers (same_context c.args.self.now.language.now c.args.frame.now c.in_ok-deeper.deeper.next c.in_ok-deeper.deeper.side (search rules)) (search rules);
       goes_on = record { same = search rules; shorter = let less = walked_short h in omega (arith, less, c.loop-lhs.invariant.goes_on.shorter) };
@@ -214,10 +217,28 @@ parse_links-loop-links-preserved g t c =
 
 pub parse_links-loop-links-preserved-in-Bracket : goal.parse_links-loop-links-preserved-in-Bracket
 parse_links-loop-links-preserved-in-Bracket g t c =
-    let none : indexed_by (view c.args.lhs.now) (link_views c.push.new.self.items) ≡ None = search (rules, links_push, indexed_after) in
+    let spot : LinkSpot = record { settings = context_of c.args.self.now.language.now c.args.frame.now c.loop-links.settings; brackets = context_of c.args.self.now.language.now c.args.frame.now c.loop-links.brackets; indexed = indexed_by (view c.args.lhs.now) (link_views c.loop-links.links.items); before = link_views c.loop-links.links.items } in
+    let next : LinkSpot = record { settings = context_of c.args.self.now.language.now c.args.frame.now c.loop-links.settings; brackets = context_of c.args.self.now.language.now c.args.frame.now c.in_ok-brackets.brackets; indexed = indexed_by (view c.args.lhs.now) (link_views c.push.new.self.items); before = link_views c.push.new.self.items } in
+    let taken : BracketTaken (context_of c.args.self.now.language.now c.args.frame.now c.in_ok-brackets.brackets) (context_of c.args.self.now.language.now c.args.frame.now c.in_ok-deeper.deeper) (live_of c.args.frame.now) spot next (lexeme c.in_ok-token.field-0.now.0) c.in_ok-token.field-0.now.1 (view c.in_ok-item.item)
+    (state_of c.loop-links.shared) (cursor_of c.peek.follows.lender-at-none) (cursor_of c.skip.new.input) (state_of c.parse_index.new.shared) = record {
+      token = search rules;
+      readable = search rules;
+      bracket = search rules;
+      more = search rules;
+      look = search rules;
+      took = search rules;
+      shrinks = c.skip.ensures.shrinks;
+      room = search rules;
+      deeper = search rules;
+      room_on = search rules;
+      inside = search rules;
+      index = search rules;
+      index_short = search rules;
+      joined = search (rules, links_push, indexed_after);
+    } in
     record {
-      same = c.loop-links.invariant.same ∙ rw none (grind (arith, calls_of_readers, step_links, links_push));
-      goes_on = record { same = search rules; shorter = search rules };
+      same = c.loop-links.invariant.same ∙ bracket_goes_on taken;
+      goes_on = record { same = search rules; shorter = let less = (bracket_short taken).1 in omega (arith, less, c.loop-links.invariant.goes_on.shorter) };
     }
 
 pub parse_index-returns-clause-reads : goal.parse_index-returns-clause-reads
