@@ -1,5 +1,5 @@
 -- What a binary operator makes of its operands, as the code tests them.
-use Rattle.std.proofs.Common.{◌≡◌, ◌∙◌, IfErr, Bool, true, false, List, [], ◌∷◌, ◌++◌, Option, Some, None, Result, Ok, Err, refl, ap}
+use Rattle.std.proofs.Common.{◌≡◌, ◌∙◌, IfErr, IfOk, Bool, true, false, List, [], ◌∷◌, ◌++◌, Option, Some, None, Result, Ok, Err, refl, sym, ap}
 use Rattle.std.specs.Prelude.{codes, if◌then◌else◌, is_none, unwrap_or}
 use Rattle.rhai_lower.specs.Texts.{Text}
 use Rattle.rhai_lower.specs.Lexemes.{Lexeme}
@@ -7,8 +7,9 @@ use Rattle.rhai_lower.specs.Nodes.{Node, one_node, start_of}
 use Rattle.rhai_lower.specs.View.{view, views}
 use Rattle.rhai_lower.specs.declared.ast.Expr.{Expr}
 use Rattle.rhai_lower.specs.declared.position.Position.{Position}
-use Rattle.rhai_grammar.specs.Causes.{MismatchedType, Refusal, is_for_memory, refusal, refusal_of}
+use Rattle.rhai_grammar.specs.Causes.{MismatchedType, Refusal, is_for_memory, no_memory, refusal, refusal_of}
 use Rattle.rhai_grammar.specs.declared.error.ParseError.{ParseError}
+use Rattle.rhai_grammar.specs.Answers.{Answers}
 use Rattle.rhai_grammar.specs.Constructs.{guard_fault, kind_fault}
 use Rattle.rhai_grammar.specs.Kinds.{not_boolean}
 use Rattle.rhai_grammar.specs.declared.role.ListKind.TheVariants as lists_of
@@ -92,6 +93,10 @@ result_refused l at n m r e = refused (boolean_holds l n) (boolean_holds l m) (m
 
 pub result_taken : (l : Lexeme) (at : Position) (n m : Node) → operand_fault l n m ≡ None → operator_result l at n m ≡ Ok (operator_tree l at n m)
 result_taken l at n m e = taken (boolean_holds l n) (boolean_holds l m) (mismatched n) (mismatched m) (operator_tree l at n m) e
+
+pub answers_tree : (l : Lexeme) (at : Position) (n m : Node) (r : Result Expr ParseError) → operand_fault l n m ≡ None → IfOk r (λ e. view e ≡ operator_tree l at n m) → IfErr r (λ e. e ≡ no_memory) → Answers view (operator_result l at n m) r
+answers_tree l at n m (Ok e) none tree lost = result_taken l at n m none ∙ ap Ok (sym tree)
+answers_tree l at n m (Err e) none tree lost = λ told. let known : is_for_memory e ≡ true = ap is_for_memory lost in absurd cc
 
 pub ruleset operand_faults = (fault_left, fault_right, fault_none)
 

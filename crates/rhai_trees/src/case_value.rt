@@ -56,24 +56,7 @@ fn range_end(expr: &Expr) -> Option<i64>
     match expr {
         Expr::IntegerConstant(number, _) => Some(*number),
         Expr::Unit(_) => Some(i64::MAX),
-        Expr::BoolConstant(_, _)
-        | Expr::CharConstant(_, _)
-        | Expr::StringConstant(_, _)
-        | Expr::InterpolatedString(_, _)
-        | Expr::Array(_, _)
-        | Expr::Map(_, _)
-        | Expr::FnPointer(_, _, _)
-        | Expr::Variable(_, _)
-        | Expr::ThisPtr(_)
-        | Expr::Property(_, _)
-        | Expr::FnCall(_, _)
-        | Expr::MethodCall(_, _)
-        | Expr::Dot(_, _, _)
-        | Expr::Index(_, _, _)
-        | Expr::And(_, _)
-        | Expr::Or(_, _)
-        | Expr::Coalesce(_, _)
-        | Expr::Stmt(_) => None,
+        _ => None,
     }
 }
 

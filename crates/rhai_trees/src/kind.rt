@@ -51,18 +51,7 @@ pub fn not_boolean(expr: &Expr) -> Option<&'static str>
         Expr::StringConstant(_, _) | Expr::InterpolatedString(_, _) => Some("a string"),
         Expr::Array(_, _) => Some("an array"),
         Expr::Map(_, _) => Some("an object map"),
-        Expr::BoolConstant(_, _)
-        | Expr::Variable(_, _)
-        | Expr::ThisPtr(_)
-        | Expr::Property(_, _)
-        | Expr::FnCall(_, _)
-        | Expr::MethodCall(_, _)
-        | Expr::Dot(_, _, _)
-        | Expr::Index(_, _, _)
-        | Expr::And(_, _)
-        | Expr::Or(_, _)
-        | Expr::Coalesce(_, _)
-        | Expr::Stmt(_) => None,
+        _ => None,
     }
 }
 
@@ -76,21 +65,7 @@ pub fn not_iterable(expr: &Expr) -> Option<&'static str>
         Expr::IntegerConstant(_, _) => Some("a number"),
         Expr::CharConstant(_, _) => Some("a character"),
         Expr::Map(_, _) => Some("an object map"),
-        Expr::StringConstant(_, _)
-        | Expr::InterpolatedString(_, _)
-        | Expr::Array(_, _)
-        | Expr::FnPointer(_, _, _)
-        | Expr::Variable(_, _)
-        | Expr::ThisPtr(_)
-        | Expr::Property(_, _)
-        | Expr::FnCall(_, _)
-        | Expr::MethodCall(_, _)
-        | Expr::Dot(_, _, _)
-        | Expr::Index(_, _, _)
-        | Expr::And(_, _)
-        | Expr::Or(_, _)
-        | Expr::Coalesce(_, _)
-        | Expr::Stmt(_) => None,
+        _ => None,
     }
 }
 
@@ -148,21 +123,7 @@ fn index_due(root: &Expr) -> Indexed
         | Expr::Array(_, _)
         | Expr::StringConstant(_, _)
         | Expr::InterpolatedString(_, _) => Indexed::Counted,
-        Expr::Unit(_)
-        | Expr::BoolConstant(_, _)
-        | Expr::CharConstant(_, _)
-        | Expr::FnPointer(_, _, _)
-        | Expr::Variable(_, _)
-        | Expr::ThisPtr(_)
-        | Expr::Property(_, _)
-        | Expr::FnCall(_, _)
-        | Expr::MethodCall(_, _)
-        | Expr::Dot(_, _, _)
-        | Expr::Index(_, _, _)
-        | Expr::And(_, _)
-        | Expr::Or(_, _)
-        | Expr::Coalesce(_, _)
-        | Expr::Stmt(_) => Indexed::Unknown,
+        _ => Indexed::Unknown,
     }
 }
 
@@ -176,18 +137,7 @@ fn index_kind(index: &Expr) -> IndexKind
         Expr::CharConstant(_, _) => IndexKind::Character,
         Expr::Unit(_) => IndexKind::Unit,
         Expr::BoolConstant(_, _) | Expr::And(_, _) | Expr::Or(_, _) => IndexKind::Boolean,
-        Expr::Array(_, _)
-        | Expr::Map(_, _)
-        | Expr::FnPointer(_, _, _)
-        | Expr::Variable(_, _)
-        | Expr::ThisPtr(_)
-        | Expr::Property(_, _)
-        | Expr::FnCall(_, _)
-        | Expr::MethodCall(_, _)
-        | Expr::Dot(_, _, _)
-        | Expr::Index(_, _, _)
-        | Expr::Coalesce(_, _)
-        | Expr::Stmt(_) => IndexKind::Anything,
+        _ => IndexKind::Anything,
     }
 }
 
@@ -207,18 +157,7 @@ pub fn is_constant(expr: &Expr) -> bool
         | Expr::FnPointer(_, _, _) => true,
         Expr::Array(items, _) => are_constant(items),
         Expr::Map(properties, _) => have_constants(properties),
-        Expr::InterpolatedString(_, _)
-        | Expr::Variable(_, _)
-        | Expr::ThisPtr(_)
-        | Expr::Property(_, _)
-        | Expr::FnCall(_, _)
-        | Expr::MethodCall(_, _)
-        | Expr::Dot(_, _, _)
-        | Expr::Index(_, _, _)
-        | Expr::And(_, _)
-        | Expr::Or(_, _)
-        | Expr::Coalesce(_, _)
-        | Expr::Stmt(_) => false,
+        _ => false,
     }
 }
 
@@ -263,17 +202,7 @@ pub fn is_literal_value(expr: &Expr) -> bool
         Expr::Array(items, _) => are_literal_values(items),
         Expr::Map(properties, _) => have_literal_values(properties),
         Expr::FnCall(call, _) => makes_range(&call.op_token) && are_bounds(&call.args),
-        Expr::InterpolatedString(_, _)
-        | Expr::Variable(_, _)
-        | Expr::ThisPtr(_)
-        | Expr::Property(_, _)
-        | Expr::MethodCall(_, _)
-        | Expr::Dot(_, _, _)
-        | Expr::Index(_, _, _)
-        | Expr::And(_, _)
-        | Expr::Or(_, _)
-        | Expr::Coalesce(_, _)
-        | Expr::Stmt(_) => false,
+        _ => false,
     }
 }
 
@@ -327,25 +256,7 @@ fn is_range_start(expr: &Expr) -> bool
 {
     match expr {
         Expr::IntegerConstant(_, _) => true,
-        Expr::Unit(_)
-        | Expr::BoolConstant(_, _)
-        | Expr::CharConstant(_, _)
-        | Expr::StringConstant(_, _)
-        | Expr::InterpolatedString(_, _)
-        | Expr::Array(_, _)
-        | Expr::Map(_, _)
-        | Expr::FnPointer(_, _, _)
-        | Expr::Variable(_, _)
-        | Expr::ThisPtr(_)
-        | Expr::Property(_, _)
-        | Expr::FnCall(_, _)
-        | Expr::MethodCall(_, _)
-        | Expr::Dot(_, _, _)
-        | Expr::Index(_, _, _)
-        | Expr::And(_, _)
-        | Expr::Or(_, _)
-        | Expr::Coalesce(_, _)
-        | Expr::Stmt(_) => false,
+        _ => false,
     }
 }
 
@@ -354,23 +265,6 @@ fn is_range_end(expr: &Expr) -> bool
 {
     match expr {
         Expr::IntegerConstant(_, _) | Expr::Unit(_) => true,
-        Expr::BoolConstant(_, _)
-        | Expr::CharConstant(_, _)
-        | Expr::StringConstant(_, _)
-        | Expr::InterpolatedString(_, _)
-        | Expr::Array(_, _)
-        | Expr::Map(_, _)
-        | Expr::FnPointer(_, _, _)
-        | Expr::Variable(_, _)
-        | Expr::ThisPtr(_)
-        | Expr::Property(_, _)
-        | Expr::FnCall(_, _)
-        | Expr::MethodCall(_, _)
-        | Expr::Dot(_, _, _)
-        | Expr::Index(_, _, _)
-        | Expr::And(_, _)
-        | Expr::Or(_, _)
-        | Expr::Coalesce(_, _)
-        | Expr::Stmt(_) => false,
+        _ => false,
     }
 }

@@ -32,7 +32,6 @@ pub(crate) enum Part {
 ///
 /// `op_token` is the operator, `pos` its position. An operand of `&&` or `||` that cannot be a boolean gives
 /// `MismatchedType` at its start, the left one first. If memory runs out, the error is `OutOfMemory`.
-#[tactic(auto, using(crate::proofs::OperatorLemmas::result_taken, crate::proofs::OperatorLemmas::result_refused))]
 pub fn make_binary(
     alloc: Global,
     op_token: Token,

@@ -32,15 +32,7 @@ pub fn ends_itself(statement: &Stmt) -> bool
         | Stmt::For(_, _)
         | Stmt::Block(_)
         | Stmt::TryCatch(_, _) => true,
-        Stmt::Do { .. }
-        | Stmt::Var { .. }
-        | Stmt::Assignment { .. }
-        | Stmt::Expr(_)
-        | Stmt::BreakLoop { .. }
-        | Stmt::Return { .. }
-        | Stmt::Import { .. }
-        | Stmt::Export { .. }
-        | Stmt::Share(_, _) => false,
+        _ => false,
     }
 }
 
@@ -50,21 +42,7 @@ pub(crate) fn is_empty(statement: &Stmt) -> bool
 {
     match statement {
         Stmt::Noop(_) => true,
-        Stmt::If(_, _)
-        | Stmt::Switch { .. }
-        | Stmt::While(_, _)
-        | Stmt::Do { .. }
-        | Stmt::For(_, _)
-        | Stmt::Var { .. }
-        | Stmt::Assignment { .. }
-        | Stmt::Expr(_)
-        | Stmt::Block(_)
-        | Stmt::TryCatch(_, _)
-        | Stmt::BreakLoop { .. }
-        | Stmt::Return { .. }
-        | Stmt::Import { .. }
-        | Stmt::Export { .. }
-        | Stmt::Share(_, _) => false,
+        _ => false,
     }
 }
 

@@ -56,19 +56,7 @@ pub fn test_target(
         Expr::And(_, pos) => Err(list_refusal(alloc, op, op_pos, *pos)),
         Expr::Or(_, pos) => Err(list_refusal(alloc, op, op_pos, *pos)),
         Expr::Coalesce(_, pos) => Err(list_refusal(alloc, op, op_pos, *pos)),
-        Expr::Unit(_)
-        | Expr::BoolConstant(_, _)
-        | Expr::IntegerConstant(_, _)
-        | Expr::CharConstant(_, _)
-        | Expr::StringConstant(_, _)
-        | Expr::InterpolatedString(_, _)
-        | Expr::Array(_, _)
-        | Expr::Map(_, _)
-        | Expr::FnPointer(_, _, _)
-        | Expr::Property(_, _)
-        | Expr::FnCall(_, _)
-        | Expr::MethodCall(_, _)
-        | Expr::Stmt(_) => Err(value_refusal(alloc, is_constant(target), target.position())),
+        _ => Err(value_refusal(alloc, is_constant(target), target.position())),
     }
 }
 
@@ -144,24 +132,7 @@ fn after_link(chain: &Expr) -> Option<(LinkKind, &Expr)>
             }
             Some((LinkKind::Index, &sides.rhs))
         }
-        Expr::Unit(_)
-        | Expr::BoolConstant(_, _)
-        | Expr::IntegerConstant(_, _)
-        | Expr::CharConstant(_, _)
-        | Expr::StringConstant(_, _)
-        | Expr::InterpolatedString(_, _)
-        | Expr::Array(_, _)
-        | Expr::Map(_, _)
-        | Expr::FnPointer(_, _, _)
-        | Expr::Variable(_, _)
-        | Expr::ThisPtr(_)
-        | Expr::Property(_, _)
-        | Expr::FnCall(_, _)
-        | Expr::MethodCall(_, _)
-        | Expr::And(_, _)
-        | Expr::Or(_, _)
-        | Expr::Coalesce(_, _)
-        | Expr::Stmt(_) => None,
+        _ => None,
     }
 }
 
@@ -172,24 +143,7 @@ fn root_of(tree: &Expr) -> &Expr
     match tree {
         Expr::Dot(sides, _, _) => &sides.lhs,
         Expr::Index(sides, _, _) => &sides.lhs,
-        Expr::Unit(_)
-        | Expr::BoolConstant(_, _)
-        | Expr::IntegerConstant(_, _)
-        | Expr::CharConstant(_, _)
-        | Expr::StringConstant(_, _)
-        | Expr::InterpolatedString(_, _)
-        | Expr::Array(_, _)
-        | Expr::Map(_, _)
-        | Expr::FnPointer(_, _, _)
-        | Expr::Variable(_, _)
-        | Expr::ThisPtr(_)
-        | Expr::Property(_, _)
-        | Expr::FnCall(_, _)
-        | Expr::MethodCall(_, _)
-        | Expr::And(_, _)
-        | Expr::Or(_, _)
-        | Expr::Coalesce(_, _)
-        | Expr::Stmt(_) => tree,
+        _ => tree,
     }
 }
 
@@ -215,24 +169,7 @@ fn test_root(alloc: Global, root: &Expr) -> ParseResult<()>
 {
     match root {
         Expr::Variable(_, _) | Expr::ThisPtr(_) => Ok(()),
-        Expr::Unit(_)
-        | Expr::BoolConstant(_, _)
-        | Expr::IntegerConstant(_, _)
-        | Expr::CharConstant(_, _)
-        | Expr::StringConstant(_, _)
-        | Expr::InterpolatedString(_, _)
-        | Expr::Array(_, _)
-        | Expr::Map(_, _)
-        | Expr::FnPointer(_, _, _)
-        | Expr::Property(_, _)
-        | Expr::FnCall(_, _)
-        | Expr::MethodCall(_, _)
-        | Expr::Dot(_, _, _)
-        | Expr::Index(_, _, _)
-        | Expr::And(_, _)
-        | Expr::Or(_, _)
-        | Expr::Coalesce(_, _)
-        | Expr::Stmt(_) => Err(invalid(alloc, root.position())),
+        _ => Err(invalid(alloc, root.position())),
     }
 }
 

@@ -9,7 +9,7 @@ ghost use Rattle.rhai_grammar.specs.Causes.{BadInput, MemoryIsNowhere, input_cau
 ghost use Rattle.rhai_grammar.specs.Causes.{refusal_of};
 ghost use Rattle.rhai_grammar.specs.Cursors.{asked, cursor_of, left, looking};
 ghost use Rattle.rhai_grammar.specs.Delivered.{is_end, is_memory};
-ghost use Rattle.rhai_grammar.specs.DueTokens.{is_due, text_of_due};
+ghost use Rattle.rhai_grammar.specs.DueTokens.{is_due, not_due, text_of_due};
 ghost use Rattle.rhai_grammar.specs.Verdicts.{bang_refusal};
 ghost use Rattle.rhai_base.specs.DueTokens.{Passes, Tries};
 
@@ -68,6 +68,27 @@ pub(crate) fn is_due(due: DueToken, token: &Token) -> bool
     }
 }
 
+// Refuses a token at `pos` that is not the one that is due.
+fn test_due(
+    alloc: Global,
+    due: DueToken,
+    note: &str,
+    token: &Token,
+    pos: Position,
+) -> ParseResult<()>
+    ensures due { OnOk result (is_due due (lexeme token.now) ≡ true) }
+    ensures more { OnOk result (is_end (lexeme token.now) ≡ false) }
+    ensures refused { IfErr result (λ e. is_for_memory e ≡ false
+        → (is_due due (lexeme token.now) ≡ false)
+        × (refusal_of e ≡ refusal (not_due due (lexeme token.now)) pos)) }
+    ensures nowhere { IfErr result MemoryIsNowhere }
+{
+    if is_due(due, token) {
+        return Ok(());
+    }
+    Err(missing(alloc, text_of_due(due), note, token, pos))
+}
+
 /// Takes the token that is due. `note` tells people what it is for.
 ///
 /// If another token is there, the error is `MissingToken` at that token, or the error of the tokenizer that it is; if
@@ -84,11 +105,9 @@ pub fn match_token(
     ensures shrinks { OnOk result (left (cursor_of input.new).tokens + 1 ≤ left (cursor_of input.old).tokens) }
 {
     let (token, pos) = peek(input)?;
-    if is_due(due, token) {
-        skip(input);
-        return Ok(());
-    }
-    Err(missing(alloc, text_of_due(due), note, token, *pos))
+    test_due(alloc, due, note, token, *pos)?;
+    skip(input);
+    Ok(())
 }
 
 /// Takes the next token if it is the one that `due` says; any other stays. Whether it was taken. The error comes where
@@ -108,6 +127,25 @@ pub fn pass_token(input: &mut TokenStream, due: DueToken) -> Result<bool, AllocE
     Ok(false)
 }
 
+// How a token at `pos` begins the arguments that are due; any other is refused.
+fn arguments_at(alloc: Global, token: &Token, pos: Position) -> ParseResult<Calling>
+    ensures listed { IfOk result (λ c. (c ≡ calling (lexeme token.now)) × (is_list c ≡ true)) }
+    ensures more { OnOk result (is_end (lexeme token.now) ≡ false) }
+    ensures refused { IfErr result (λ e. is_for_memory e ≡ false
+        → (is_list (calling (lexeme token.now)) ≡ false)
+        × (refusal_of e ≡ refusal (missing (codes "(") (lexeme token.now)) pos)) }
+    ensures nowhere { IfErr result MemoryIsNowhere }
+{
+    match what_calls(token) {
+        Calling::Pair => Ok(Calling::Pair),
+        Calling::List => Ok(Calling::List),
+        Calling::Bang | Calling::Nothing => {
+            let note = "to begin the arguments of a call";
+            Err(missing(alloc, "(", note, token, pos))
+        }
+    }
+}
+
 /// Looks at the arguments that are due after the `!` of a call; their token stays.
 pub fn arguments_due(alloc: Global, input: &mut TokenStream) -> ParseResult<Calling>
     ensures listed { IfOk result (λ c. (c ≡ calling (asked (cursor_of input.old)).lexeme) × (is_list c ≡ true)) }
@@ -122,13 +160,7 @@ pub fn arguments_due(alloc: Global, input: &mut TokenStream) -> ParseResult<Call
     ensures readable { OnOk result (is_memory (asked (cursor_of input.old)).lexeme ≡ false) }
 {
     let (token, pos) = peek(input)?;
-    match what_calls(token) {
-        Calling::Pair => Ok(Calling::Pair),
-        Calling::List => Ok(Calling::List),
-        Calling::Bang | Calling::Nothing => {
-            Err(missing(alloc, "(", "to begin the arguments of a call", token, *pos))
-        }
-    }
+    arguments_at(alloc, token, *pos)
 }
 
 // Why the `!` of a call is refused whose name has a path; the next token, which stays, is behind it.

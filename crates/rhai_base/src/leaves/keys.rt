@@ -1,12 +1,13 @@
 //! Keys of properties.
 
-ghost use Rattle.std.specs.Prelude.{◌≡◌, ◌≤◌, IfErr, IfOk, OnOk, false, option_map};
+ghost use Rattle.std.specs.Prelude.{◌≡◌, ◌≤◌, if◌then◌else◌, IfErr, IfOk, OnOk, codes, false, option_map};
 ghost use Rattle.rhai_lower.specs.Lexemes.{lexeme};
 ghost use Rattle.rhai_lower.specs.View.{property_views, written};
 ghost use Rattle.rhai_grammar.specs.Causes.{MemoryIsNowhere, cause_of, is_for_memory, refusal_of};
 ghost use Rattle.rhai_grammar.specs.Cursors.{asked, cursor_of, left, taking};
-ghost use Rattle.rhai_grammar.specs.Delivered.{is_memory};
-ghost use Rattle.rhai_grammar.specs.Literals.{NoKey, has_key, key_place, no_property};
+ghost use Rattle.rhai_grammar.specs.Beginnings.{missing};
+ghost use Rattle.rhai_grammar.specs.Delivered.{is_end, is_memory};
+ghost use Rattle.rhai_grammar.specs.Literals.{NoKey, has_key, key_place, no_key, no_property};
 ghost use Rattle.rhai_grammar.specs.Verdicts.{next_key};
 ghost use Rattle.rhai_base.specs.Settings.{settings_of};
 ghost use Rattle.rhai_base.specs.MapKeys.{KeyIs, KeyRefused, is_interpolated, is_reserved_word, key_found};
@@ -51,8 +52,19 @@ fn no_property(token: &Token) -> Result<ParseErrorType, AllocError>
     }
 }
 
-// Why a token is refused that is neither a name nor a string, and does not end the object map. In the place of the
-// first key, the end is due.
+// Why a token is refused that is neither a name nor a string, nor a word, and does not end the object map. In the
+// place of the first key, the end is due.
+fn no_literal(alloc: Global, first: bool, token: &Token) -> Result<ParseErrorType, AllocError>
+    ensures { IfOk result (λ e. cause_of e ≡ (if is_end (lexeme token.now)
+        then missing (codes "}") (lexeme token.now) else no_key first (lexeme token.now))) }
+{
+    if is_end(token) || first {
+        return missing_token(alloc, "}", "to end this object map literal", token);
+    }
+    no_property(token)
+}
+
+// Why a token is refused that is neither a name nor a string, and does not end the object map.
 #[tactic(auto, using(crate::proofs::LiteralLemmas::refused_by_tests))]
 fn no_key(alloc: Global, first: bool, token: &Token) -> Result<ParseErrorType, AllocError>
     ensures { IfOk result (λ e. cause_of e ≡ refused_key first (lexeme token.now)) }
@@ -63,14 +75,7 @@ fn no_key(alloc: Global, first: bool, token: &Token) -> Result<ParseErrorType, A
     if is_reserved_word(token) {
         return Ok(ParseErrorType::Reserved(token.text(alloc)?));
     }
-    let note = "to end this object map literal";
-    if is_end(token) {
-        return missing_token(alloc, "}", note, token);
-    }
-    if first {
-        return missing_token(alloc, "}", note, token);
-    }
-    no_property(token)
+    no_literal(alloc, first, token)
 }
 
 // The key that a token at `pos` is, or none where it ends the object map. With `quoted`, a name is no key.

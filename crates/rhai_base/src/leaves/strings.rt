@@ -1,8 +1,13 @@
 //! Interpolated strings: the end of a block, and the text after it.
 
-ghost use Rattle.std.specs.Prelude.{◌≡◌, ◌+◌, ◌≤◌, IfErr, IfOk, OnOk, false};
-ghost use Rattle.rhai_grammar.specs.Causes.{MemoryIsNowhere, is_for_memory, refusal_of};
+ghost use Rattle.std.specs.Prelude.{◌≡◌, ◌+◌, ◌≤◌, IfErr, IfOk, OnOk, false, true};
+ghost use Rattle.std.specs.Rc.{rc_str_bytes};
+ghost use Rattle.rhai_lower.specs.Lexemes.{lexeme, text_of};
+ghost use Rattle.rhai_grammar.specs.Beginnings.{unexpected};
+ghost use Rattle.rhai_grammar.specs.Causes.{MemoryIsNowhere, is_for_memory, refusal, refusal_of};
 ghost use Rattle.rhai_grammar.specs.Cursors.{cursor_of, left, taking};
+ghost use Rattle.rhai_grammar.specs.Delivered.{is_end};
+ghost use Rattle.rhai_grammar.specs.Interpolations.{is_last_text, is_text};
 ghost use Rattle.rhai_base.specs.Strings.{Interpolates, IsText, NoText};
 
 use crate::cursor::{peek, skip};
@@ -46,6 +51,23 @@ pub fn end_interpolation(alloc: Global, input: &mut TokenStream) -> ParseResult<
     take_text(alloc, input, end)
 }
 
+// The text that a token at `pos` is, and whether it ends the string. Any other token is refused as unexpected.
+fn text_in(alloc: Global, token: &Token, pos: Position) -> ParseResult<(RcStr, bool)>
+    ensures text { IfOk result (λ t. (is_text (lexeme token.now) ≡ true)
+        × (rc_str_bytes t.0 ≡ text_of (lexeme token.now)) × (t.1 ≡ is_last_text (lexeme token.now))) }
+    ensures more { OnOk result (is_end (lexeme token.now) ≡ false) }
+    ensures refused { IfErr result (λ e. is_for_memory e ≡ false
+        → (is_text (lexeme token.now) ≡ false)
+        × (refusal_of e ≡ refusal (unexpected (lexeme token.now)) pos)) }
+    ensures nowhere { IfErr result MemoryIsNowhere }
+{
+    match token {
+        Token::StringConstant(text) => Ok((text.clone()?, true)),
+        Token::InterpolatedString(text) => Ok((text.clone()?, false)),
+        _ => Err(unexpected(alloc, token, pos)),
+    }
+}
+
 // Takes the text that is due after a `}` at `end`. Any other token there is refused as unexpected.
 fn take_text(alloc: Global, input: &mut TokenStream, end: Position) -> ParseResult<TextPart>
     ensures taken { IfOk result (λ part. (part.end ≡ end) × IsText (cursor_of input.old) part
@@ -58,11 +80,7 @@ fn take_text(alloc: Global, input: &mut TokenStream, end: Position) -> ParseResu
 {
     let (token, pos) = peek(input)?;
     let pos = *pos;
-    let (text, last) = match token {
-        Token::StringConstant(text) => (text.clone()?, true),
-        Token::InterpolatedString(text) => (text.clone()?, false),
-        _ => return Err(unexpected(alloc, token, pos)),
-    };
+    let (text, last) = text_in(alloc, token, pos)?;
     skip(input);
     Ok(TextPart {
         end,
