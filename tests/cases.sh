@@ -26,7 +26,7 @@ take_built_program() {
     local changed
     program=$root/crates/rhai_parse/out/rhai_parse
     [ -x "$program" ] || stop "no program is built: run \`rt run\` in crates/rhai_parse, or name one"
-    changed=$(find "$root"/crates/*/src -name '*.rt' ! -path '*/rhai_tests/*' -newer "$program" -print -quit)
+    changed=$(find "$root"/crates/*/src -name '*.rt' ! -path '*/crates/*_tests/src/*' -newer "$program" -print -quit)
     [ -z "$changed" ] || stop "the program is older than $changed: run \`rt run\` in crates/rhai_parse, or name one"
 }
 
