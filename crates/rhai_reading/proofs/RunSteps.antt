@@ -16,22 +16,22 @@ use Rattle.rhai_reading.specs.Running.{exec, result_of, guarded}
 use Rattle.rhai_reading.proofs.Steps.{step_binary_op, guarded_is, and_then_done}
 use Rattle.rhai_reading.proofs.Outcomes.{binary_done, binary_refused}
 
--- From s an operator of strength n stands after the left operand, and its right side y ends at t.
-pub record TakesOne (c : Context) (w : Live) (parent n : ℕ) (right : Bool) (next : Option (ℕ × Bool)) (x y : Node) (s s1 s2 s3 t : Cursor) : Type 0 where
+-- From s an operator of strength n stands after the left operand; its right side gives o, and leaves t.
+pub record TakesOne (c : Context) (w : Live) (parent n : ℕ) (right : Bool) (next : Option (ℕ × Bool)) (x : Node) (o : R.Out Node) (s s1 s2 s3 t : Cursor) : Type 0 where
   pub operator : result_of (NextOperator c.filter) s ≡ R.Done (Some (n, right)) s1
   pub goes : continues parent n right ≡ true
   pub readable : is_memory (asked s1).lexeme ≡ false
   pub operand : result_of (RightOperand c w (place_after (asked s1).lexeme)) (taking s1) ≡ R.Done x s2
   pub known : result_of (NextOperator c.filter) s2 ≡ R.Done next s3
   pub room : has_room c ≡ true
-  pub side : result_of (BinaryOp (level_up c) w (position_of x) n x) s3 ≡ R.Done y t
+  pub side : result_of (BinaryOp (level_up c) w (position_of x) n x) s3 ≡ o
   pub after_operator : left (taking s1).tokens + 1 ≤ left s.tokens
   pub after_operand : left s2.tokens + 1 ≤ left s.tokens
   pub after_look : left s3.tokens + 1 ≤ left s.tokens
   pub after_side : left t.tokens + 1 ≤ left s.tokens
 
-one_operator : (c : Context) (w : Live) (at : Position) (parent : ℕ) (lhs : Node) (n : ℕ) (right : Bool) (next : Option (ℕ × Bool)) (x y : Node) (s s1 s2 s3 t : Cursor) → TakesOne c w parent n right next x y s s1 s2 s3 t → result_of (BinaryOp c w at parent lhs) s ≡ exec (guarded (BinaryOp c w at parent lhs) s) (binary_next (level_up c) w parent lhs (asked s1).lexeme (asked s1).at y) t
-one_operator c w at parent lhs n right next x y s s1 s2 s3 t h =
+one_operator : (c : Context) (w : Live) (at : Position) (parent : ℕ) (lhs : Node) (n : ℕ) (right : Bool) (next : Option (ℕ × Bool)) (x : Node) (o : R.Out Node) (s s1 s2 s3 t : Cursor) → TakesOne c w parent n right next x o s s1 s2 s3 t → result_of (BinaryOp c w at parent lhs) s ≡ R.and_then o (λ v u. exec (guarded (BinaryOp c w at parent lhs) s) (binary_next (level_up c) w parent lhs (asked s1).lexeme (asked s1).at v) u)
+one_operator c w at parent lhs n right next x o s s1 s2 s3 t h =
     let g = BinaryOp c w at parent lhs in
     let first = guarded_is g s (NextOperator c.filter) s (omega arith) ∙ h.operator in
     let second = guarded_is g s (RightOperand c w (place_after (asked s1).lexeme)) (taking s1) (omega (arith, h.after_operator)) ∙ h.operand in
@@ -47,23 +47,27 @@ one_operator c w at parent lhs n right next x y s s1 s2 s3 t h =
     ∙ ap (λ o. R.and_then o (λ v u. exec call (binary_right c w at parent lhs n op pos v) u)) second
     ∙ ap (λ o. R.and_then o (λ v u. exec call (raised c at (λ d. Call (BinaryOp d w (position_of x) n x) (binary_next d w parent lhs op pos))) u)) third
     ∙ ap (λ b. exec call (if b then Call (BinaryOp (level_up c) w (position_of x) n x) (binary_next (level_up c) w parent lhs op pos) else Fail (refusal ExprTooDeep at)) s3) h.room
-    ∙ ap (λ o. R.and_then o (λ v u. exec call (binary_next (level_up c) w parent lhs op pos v) u)) fourth
+    ∙ ap (λ p. R.and_then p (λ v u. exec call (binary_next (level_up c) w parent lhs op pos v) u)) fourth
 
-pub operator_taken : (c : Context) (w : Live) (at : Position) (parent : ℕ) (lhs : Node) (n : ℕ) (right : Bool) (next : Option (ℕ × Bool)) (x y z : Node) (s s1 s2 s3 t : Cursor) → TakesOne c w parent n right next x y s s1 s2 s3 t → operator_result (asked s1).lexeme (asked s1).at lhs y ≡ Ok z → result_of (BinaryOp c w at parent lhs) s ≡ result_of (BinaryOp (level_up c) w (asked s1).at parent z) t
+pub operator_taken : (c : Context) (w : Live) (at : Position) (parent : ℕ) (lhs : Node) (n : ℕ) (right : Bool) (next : Option (ℕ × Bool)) (x y z : Node) (s s1 s2 s3 t : Cursor) → TakesOne c w parent n right next x (R.Done y t) s s1 s2 s3 t → operator_result (asked s1).lexeme (asked s1).at lhs y ≡ Ok z → result_of (BinaryOp c w at parent lhs) s ≡ result_of (BinaryOp (level_up c) w (asked s1).at parent z) t
 operator_taken c w at parent lhs n right next x y z s s1 s2 s3 t h e =
     let g = BinaryOp c w at parent lhs in
-    one_operator c w at parent lhs n right next x y s s1 s2 s3 t h
+    one_operator c w at parent lhs n right next x (R.Done y t) s s1 s2 s3 t h
     ∙ binary_done (guarded g s) (level_up c) w parent lhs (asked s1).lexeme (asked s1).at y z t e
     ∙ and_then_done (guarded g s (BinaryOp (level_up c) w (asked s1).at parent z) t)
     ∙ guarded_is g s (BinaryOp (level_up c) w (asked s1).at parent z) t (omega (arith, h.after_side))
 
-pub operator_refused : (c : Context) (w : Live) (at : Position) (parent : ℕ) (lhs : Node) (n : ℕ) (right : Bool) (next : Option (ℕ × Bool)) (x y : Node) (r : Refusal) (s s1 s2 s3 t : Cursor) → TakesOne c w parent n right next x y s s1 s2 s3 t → operator_result (asked s1).lexeme (asked s1).at lhs y ≡ Err r → result_of (BinaryOp c w at parent lhs) s ≡ R.Refused r t
+pub operator_refused : (c : Context) (w : Live) (at : Position) (parent : ℕ) (lhs : Node) (n : ℕ) (right : Bool) (next : Option (ℕ × Bool)) (x y : Node) (r : Refusal) (s s1 s2 s3 t : Cursor) → TakesOne c w parent n right next x (R.Done y t) s s1 s2 s3 t → operator_result (asked s1).lexeme (asked s1).at lhs y ≡ Err r → result_of (BinaryOp c w at parent lhs) s ≡ R.Refused r t
 operator_refused c w at parent lhs n right next x y r s s1 s2 s3 t h e =
-    one_operator c w at parent lhs n right next x y s s1 s2 s3 t h
+    one_operator c w at parent lhs n right next x (R.Done y t) s s1 s2 s3 t h
     ∙ binary_refused (guarded (BinaryOp c w at parent lhs) s) (level_up c) w parent lhs (asked s1).lexeme (asked s1).at y r t e
 
+pub side_refused : (c : Context) (w : Live) (at : Position) (parent : ℕ) (lhs : Node) (n : ℕ) (right : Bool) (next : Option (ℕ × Bool)) (x : Node) (r : Refusal) (s s1 s2 s3 t : Cursor) → TakesOne c w parent n right next x (R.Refused r t) s s1 s2 s3 t → result_of (BinaryOp c w at parent lhs) s ≡ R.Refused r t
+side_refused c w at parent lhs n right next x r s s1 s2 s3 t h =
+    one_operator c w at parent lhs n right next x (R.Refused r t) s s1 s2 s3 t h
+
 -- An operator of a run with its right side, as the code takes it: each step leaves a cursor, and none leaves more tokens than were there.
-pub record Walked (c : Context) (w : Live) (parent n : ℕ) (right : Bool) (place : OperandPlace) (next : Option (ℕ × Bool)) (op : Lexeme) (pos : Position) (x y : Node) (d : Context) (s s1 s2 s3 s4 t : Cursor) : Type 0 where
+pub record Walked (c : Context) (w : Live) (parent n : ℕ) (right : Bool) (place : OperandPlace) (next : Option (ℕ × Bool)) (op : Lexeme) (pos : Position) (x : Node) (o : R.Out Node) (d : Context) (s s1 s2 s3 s4 t : Cursor) : Type 0 where
   pub operator : result_of (NextOperator c.filter) s ≡ R.Done (Some (n, right)) s1
   pub goes : continues parent n right ≡ true
   pub readable : is_memory (asked s).lexeme ≡ false
@@ -79,7 +83,7 @@ pub record Walked (c : Context) (w : Live) (parent n : ℕ) (right : Bool) (plac
   pub look_on : s4 ≡ looking s3
   pub room : has_room c ≡ true
   pub deeper : d ≡ level_up c
-  pub side : result_of (BinaryOp d w (position_of x) n x) s4 ≡ R.Done y t
+  pub side : result_of (BinaryOp d w (position_of x) n x) s4 ≡ o
   pub side_short : left t.tokens ≤ left s4.tokens
 
 -- what is left after each step
@@ -89,8 +93,8 @@ left_after s s1 s2 s3 s4 t look a b on e =
     let second : left s4.tokens ≡ left s3.tokens = ap (λ (u : Cursor). left u.tokens) on in
     (omega (arith, first, a), omega (arith, first, a, b), omega (arith, first, a, b, second), omega (arith, first, a, b, second, e))
 
-module _ {c : Context} {w : Live} {parent n : ℕ} {right : Bool} {place : OperandPlace} {next : Option (ℕ × Bool)} {op : Lexeme} {pos : Position} {x y : Node} {d : Context} {s s1 s2 s3 s4 t : Cursor} (h : Walked c w parent n right place next op pos x y d s s1 s2 s3 s4 t) where
-  walked_takes : TakesOne c w parent n right next x y s s1 s3 s4 t
+module _ {c : Context} {w : Live} {parent n : ℕ} {right : Bool} {place : OperandPlace} {next : Option (ℕ × Bool)} {op : Lexeme} {pos : Position} {x : Node} {o : R.Out Node} {d : Context} {s s1 s2 s3 s4 t : Cursor} (h : Walked c w parent n right place next op pos x o d s s1 s2 s3 s4 t) where
+  walked_takes : TakesOne c w parent n right next x o s s1 s3 s4 t
   walked_takes =
       let more : is_end (asked s1).lexeme ≡ false = ap (λ (u : Cursor). is_end (asked u).lexeme) h.look ∙ h.more in
       let behind = left_after s s1 s2 s3 s4 t h.look (h.shrinks more) h.operand_short h.look_on h.side_short in
@@ -109,15 +113,20 @@ module _ {c : Context} {w : Live} {parent n : ℕ} {right : Bool} {place : Opera
         after_side = behind.3;
       }
 
+  pub walked_short : left t.tokens + 1 ≤ left s.tokens
+  walked_short = walked_takes.after_side
+
+module _ {c : Context} {w : Live} {parent n : ℕ} {right : Bool} {place : OperandPlace} {next : Option (ℕ × Bool)} {op : Lexeme} {pos : Position} {x y : Node} {d : Context} {s s1 s2 s3 s4 t : Cursor} (h : Walked c w parent n right place next op pos x (R.Done y t) d s s1 s2 s3 s4 t) where
   pub walked_on : (at : Position) (lhs : Node) {p : Position} {z : Node} {e : Context} → operator_result op pos lhs y ≡ Ok z → e ≡ d → p ≡ pos → result_of (BinaryOp c w at parent lhs) s ≡ result_of (BinaryOp e w p parent z) t
   walked_on at lhs {p} {z} {e} joined same there =
-      operator_taken c w at parent lhs n right next x y z s s1 s3 s4 t walked_takes (ap (λ (i : Item). operator_result i.lexeme i.at lhs y) (sym h.token) ∙ joined)
+      operator_taken c w at parent lhs n right next x y z s s1 s3 s4 t (walked_takes h) (ap (λ (i : Item). operator_result i.lexeme i.at lhs y) (sym h.token) ∙ joined)
       ∙ ap (λ (v : Context). result_of (BinaryOp v w (asked s1).at parent z) t) (sym (same ∙ h.deeper))
       ∙ ap (λ q. result_of (BinaryOp e w q parent z) t) (ap (λ (i : Item). i.at) (sym h.token) ∙ sym there)
 
   pub walked_refused : (at : Position) (lhs : Node) {r : Refusal} → operator_result op pos lhs y ≡ Err r → result_of (BinaryOp c w at parent lhs) s ≡ R.Refused r t
   walked_refused at lhs {r} refused =
-      operator_refused c w at parent lhs n right next x y r s s1 s3 s4 t walked_takes (ap (λ (i : Item). operator_result i.lexeme i.at lhs y) (sym h.token) ∙ refused)
+      operator_refused c w at parent lhs n right next x y r s s1 s3 s4 t (walked_takes h) (ap (λ (i : Item). operator_result i.lexeme i.at lhs y) (sym h.token) ∙ refused)
 
-  pub walked_short : left t.tokens + 1 ≤ left s.tokens
-  walked_short = walked_takes.after_side
+module _ {c : Context} {w : Live} {parent n : ℕ} {right : Bool} {place : OperandPlace} {next : Option (ℕ × Bool)} {op : Lexeme} {pos : Position} {x : Node} {r : Refusal} {d : Context} {s s1 s2 s3 s4 t : Cursor} (h : Walked c w parent n right place next op pos x (R.Refused r t) d s s1 s2 s3 s4 t) where
+  pub walked_side_refused : (at : Position) (lhs : Node) → result_of (BinaryOp c w at parent lhs) s ≡ R.Refused r t
+  walked_side_refused at lhs = side_refused c w at parent lhs n right next x r s s1 s3 s4 t (walked_takes h)

@@ -6,11 +6,12 @@ use Rattle.rhai_lower.specs.Nodes.{variable}
 use Rattle.rhai_lower.specs.declared.ast.VariableExpr.{VariableExpr}
 use Rattle.rhai_lower.specs.View.{named, property_views, view}
 use Rattle.rhai_lower.proofs.Views.{property_views_push, view_variable}
+use Rattle.rhai_grammar.specs.Causes.{refusal_of}
 use Rattle.rhai_grammar.specs.Cursors.{cursor_of}
 use Rattle.rhai_grammar.specs.Spots.{LinkSpot}
 use Rattle.rhai_grammar.specs.Signs.{sign_result}
 use Rattle.rhai_grammar.specs.Modules.{is_qualified, module_fault}
-use Rattle.rhai_reading.specs.Running.{Done, guarded, result_of}
+use Rattle.rhai_reading.specs.Running.{Done, Refused, guarded, result_of}
 use Rattle.rhai_trees.specs.Chains.{indexed_by, link_views}
 use Rattle.rhai_language.specs.Frames.{context_of, live_of}
 use Rattle.rhai_expressions.specs.Asks.{operator_pair}
@@ -18,7 +19,7 @@ use Rattle.rhai_language.specs.Readers.{index, operand, state_of}
 use Rattle.rhai_reading.proofs.ChainSteps.{BracketTaken, DotTaken, bracket_goes_on, bracket_short, dot_goes_on, dot_short}
 use Rattle.rhai_reading.proofs.FieldSteps.{FieldTaken, field_goes_on, field_short}
 use Rattle.rhai_reading.proofs.Outcomes.{answer_given, outcome}
-use Rattle.rhai_reading.proofs.RunSteps.{Walked, walked_on, walked_refused, walked_short}
+use Rattle.rhai_reading.proofs.RunSteps.{Walked, walked_on, walked_refused, walked_short, walked_side_refused}
 use Rattle.rhai_reading.proofs.WordSteps.{Worded}
 use Rattle.rhai_reading.proofs.PathSteps.{call_given, call_refused, call_unknown, name_plain}
 use Rattle.rhai_trees.proofs.ChainLemmas.{indexed_after, links_push}
@@ -28,12 +29,10 @@ use Rattle.rhai_grammar.specs.declared.role.Beginning.TheVariants as begin
 use Rattle.rhai_expressions.proofs.reader.ExprReader.+parser.Goals as goal
 use Rattle.rhai_expressions.proofs.reader.ExprReader.+parser.Goals.{parse_binary_op-After-make_binary}
 use Rattle.rhai_language.proofs.Given.{gives_so}
-use Rattle.rhai_reading.proofs.Steps.{step_binary_op}
-use Rattle.rhai_language.proofs.Readers.{calls_of_readers}
 use Rattle.rhai_expressions.proofs.Readers as rule
 
 -- an operator of a run with its right side
-walked : (g : _) (t : _) (c : parse_binary_op-After-make_binary g t) → Walked (context_of c.args.self.now.language.now c.args.frame.now c.loop-lhs.settings) (live_of c.args.frame.now) c.args.parent c.in-Some.operator.strength c.in-Some.operator.right c.place_after-place.result (option_map operator_pair c.in_ok-next_operator.field-0) (lexeme c.take-op_token.result.0) c.take-op_token.result.1 (view c.in_ok-rhs.rhs) (view c.in_ok-rhs-2.rhs) (context_of c.args.self.now.language.now c.args.frame.now c.in_ok-deeper.deeper.side)
+walked : (g : _) (t : _) (c : parse_binary_op-After-make_binary g t) → Walked (context_of c.args.self.now.language.now c.args.frame.now c.loop-lhs.settings) (live_of c.args.frame.now) c.args.parent c.in-Some.operator.strength c.in-Some.operator.right c.place_after-place.result (option_map operator_pair c.in_ok-next_operator.field-0) (lexeme c.take-op_token.result.0) c.take-op_token.result.1 (view c.in_ok-rhs.rhs) (Done (view c.in_ok-rhs-2.rhs) (state_of c.parse_binary_op.new.shared)) (context_of c.args.self.now.language.now c.args.frame.now c.in_ok-deeper.deeper.side)
     (state_of c.loop-lhs.shared) (cursor_of c.next_operator.new.input) (cursor_of c.take-op_token.new.input) (state_of c.parse_right_operand.new.shared) (cursor_of c.next_operator-in-loop-lhs.new.input) (state_of c.parse_binary_op.new.shared)
 walked g t c = record {
   operator = search rules;
@@ -56,7 +55,33 @@ walked g t c = record {
 }
 
 pub parse_binary_op-returns-in_err-rhs-2-clause-reads : goal.parse_binary_op-returns-in_err-rhs-2-clause-reads
-parse_binary_op-returns-in_err-rhs-2-clause-reads g t c = let p = err_from_is_err_and c.from_residual-in_err-rhs-2.result c.from_residual-in_err-rhs-2.ensures.1 in rw (p.1, p.2) (grind (arith, calls_of_readers, step_binary_op))
+parse_binary_op-returns-in_err-rhs-2-clause-reads g t c =
+    let p = err_from_is_err_and c.from_residual-in_err-rhs-2.result c.from_residual-in_err-rhs-2.ensures.1 in
+    rw (p.1, p.2) (
+      λ told.
+          let h : Walked (context_of c.args.self.now.language.now c.args.frame.now c.loop-lhs.settings) (live_of c.args.frame.now) c.args.parent c.in-Some.operator.strength c.in-Some.operator.right c.place_after-place.result (option_map operator_pair c.in_ok-next_operator.field-0) (lexeme c.take-op_token.result.0) c.take-op_token.result.1 (view c.in_ok-rhs.rhs) (Refused (refusal_of c.in_err-rhs-2.error) (state_of c.parse_binary_op.new.shared)) (context_of c.args.self.now.language.now c.args.frame.now c.in_ok-deeper.deeper.side)
+          (state_of c.loop-lhs.shared) (cursor_of c.next_operator.new.input) (cursor_of c.take-op_token.new.input) (state_of c.parse_right_operand.new.shared) (cursor_of c.next_operator-in-loop-lhs.new.input) (state_of c.parse_binary_op.new.shared) = record {
+          operator = search rules;
+          goes = search rules;
+          readable = search rules;
+          more = search rules;
+          look = search rules;
+          token = search rules;
+          took = search rules;
+          shrinks = c.take-op_token.ensures.shrinks;
+          stands = search rules;
+          operand = search rules;
+          operand_short = search rules;
+          known = search rules;
+          look_on = search rules;
+          room = search rules;
+          deeper = search rules;
+          side = c.in_err-rhs-2.ensures.reads.0 told;
+          side_short = search rules;
+          } in
+          c.loop-lhs.invariant.same ∙ walked_side_refused h _ _,
+      c.in_err-rhs-2.ensures.reads.1,
+    )
 
 pub parse_binary_op-returns-in-Err-clause-reads : goal.parse_binary_op-returns-in-Err-clause-reads
 parse_binary_op-returns-in-Err-clause-reads g t c =
@@ -218,8 +243,8 @@ parse_links-loop-links-preserved g t c =
 pub parse_links-loop-links-preserved-in-Bracket : goal.parse_links-loop-links-preserved-in-Bracket
 parse_links-loop-links-preserved-in-Bracket g t c =
     let spot : LinkSpot = record { settings = context_of c.args.self.now.language.now c.args.frame.now c.loop-links.settings; brackets = context_of c.args.self.now.language.now c.args.frame.now c.loop-links.brackets; indexed = indexed_by (view c.args.lhs.now) (link_views c.loop-links.links.items); before = link_views c.loop-links.links.items } in
-    let next : LinkSpot = record { settings = context_of c.args.self.now.language.now c.args.frame.now c.loop-links.settings; brackets = context_of c.args.self.now.language.now c.args.frame.now c.in_ok-brackets.brackets; indexed = indexed_by (view c.args.lhs.now) (link_views c.push.new.self.items); before = link_views c.push.new.self.items } in
-    let taken : BracketTaken (context_of c.args.self.now.language.now c.args.frame.now c.in_ok-brackets.brackets) (context_of c.args.self.now.language.now c.args.frame.now c.in_ok-deeper.deeper) (live_of c.args.frame.now) spot next (lexeme c.in_ok-token.field-0.now.0) c.in_ok-token.field-0.now.1 (view c.in_ok-item.item)
+    let next : LinkSpot = record { settings = context_of c.args.self.now.language.now c.args.frame.now c.loop-links.settings; brackets = context_of c.args.self.now.language.now c.args.frame.now c.in_ok-brackets-in-Bracket.brackets; indexed = indexed_by (view c.args.lhs.now) (link_views c.push.new.self.items); before = link_views c.push.new.self.items } in
+    let taken : BracketTaken (context_of c.args.self.now.language.now c.args.frame.now c.in_ok-brackets-in-Bracket.brackets) (context_of c.args.self.now.language.now c.args.frame.now c.in_ok-deeper-in-Bracket.deeper) (live_of c.args.frame.now) spot next (lexeme c.in_ok-token.field-0.now.0) c.in_ok-token.field-0.now.1 (view c.in_ok-item-in-Bracket.item)
     (state_of c.loop-links.shared) (cursor_of c.peek.follows.lender-at-none) (cursor_of c.skip.new.input) (state_of c.parse_index.new.shared) = record {
       token = search rules;
       readable = search rules;
