@@ -59,25 +59,25 @@ parse_binary_op-returns-in_err-rhs-2-clause-reads g t c =
     let p = err_from_is_err_and c.from_residual-in_err-rhs-2.result c.from_residual-in_err-rhs-2.ensures.1 in
     rw (p.1, p.2) (
       λ told.
-          let h : Walked (context_of c.args.self.now.language.now c.args.frame.now c.loop-lhs.settings) (live_of c.args.frame.now) c.args.parent c.in-Some.operator.strength c.in-Some.operator.right c.place_after-place.result (option_map operator_pair c.in_ok-next_operator.field-0) (lexeme c.take-op_token.result.0) c.take-op_token.result.1 (view c.in_ok-rhs.rhs) (Refused (refusal_of c.in_err-rhs-2.error) (state_of c.parse_binary_op.new.shared)) (context_of c.args.self.now.language.now c.args.frame.now c.in_ok-deeper.deeper.side)
+          let h : Walked (context_of c.args.self.now.language.now c.args.frame.now c.loop-lhs.settings) (live_of c.args.frame.now) c.args.parent c.in-Some.operator.strength c.in-Some.operator.right c.place_after-place.result (option_map operator_pair c.in_ok-next_operator.field-0) (lexeme c.take-op_token.result.0) c.take-op_token.result.1 (view c.in_ok-rhs.rhs) (Refused _ (state_of c.parse_binary_op.new.shared)) (context_of c.args.self.now.language.now c.args.frame.now c.in_ok-deeper.deeper.side)
           (state_of c.loop-lhs.shared) (cursor_of c.next_operator.new.input) (cursor_of c.take-op_token.new.input) (state_of c.parse_right_operand.new.shared) (cursor_of c.next_operator-in-loop-lhs.new.input) (state_of c.parse_binary_op.new.shared) = record {
-          operator = search rules;
-          goes = search rules;
-          readable = search rules;
-          more = search rules;
-          look = search rules;
-          token = search rules;
-          took = search rules;
-          shrinks = c.take-op_token.ensures.shrinks;
-          stands = search rules;
-          operand = search rules;
-          operand_short = search rules;
-          known = search rules;
-          look_on = search rules;
-          room = search rules;
-          deeper = search rules;
-          side = c.in_err-rhs-2.ensures.reads.0 told;
-          side_short = search rules;
+            operator = search rules;
+            goes = search rules;
+            readable = search rules;
+            more = search rules;
+            look = search rules;
+            token = search rules;
+            took = search rules;
+            shrinks = c.take-op_token.ensures.shrinks;
+            stands = search rules;
+            operand = search rules;
+            operand_short = search rules;
+            known = search rules;
+            look_on = search rules;
+            room = search rules;
+            deeper = search rules;
+            side = c.in_err-rhs-2.ensures.reads.0 told;
+            side_short = search rules;
           } in
           c.loop-lhs.invariant.same ∙ walked_side_refused h _ _,
       c.in_err-rhs-2.ensures.reads.1,
