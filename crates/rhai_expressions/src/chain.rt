@@ -34,9 +34,11 @@ impl<S: ReadStatements> ExprReader<'_, S> {
         settings: ParseSettings,
         qualified: bool,
     ) -> ParseResult<Call>
-        requires lent { Covers (S.lent self.now.statements) (called self.now.language.now frame.now settings qualified) shared.old }
+        requires lent { Covers (S.lent self.now.statements) (called self.now.language.now frame.now settings
+            qualified) shared.old }
         ensures goes_on { GoesOn shared.old shared.new }
-        ensures reads { Reads (called self.now.language.now frame.now settings qualified) call_view shared.old result shared.new }
+        ensures reads { Reads (called self.now.language.now frame.now settings qualified) call_view shared.old result
+            shared.new }
     {
         let (token, pos) = peek(shared.input)?;
         let pos = *pos;
@@ -82,9 +84,11 @@ impl<S: ReadStatements> ExprReader<'_, S> {
         settings: ParseSettings,
         lhs: &Expr,
     ) -> ParseResult<Vec<Link>>
-        requires lent { Covers (S.lent self.now.statements) (links self.now.language.now frame.now settings (view lhs.now)) shared.old }
+        requires lent { Covers (S.lent self.now.statements) (links self.now.language.now frame.now settings
+            (view lhs.now)) shared.old }
         ensures goes_on { GoesOn shared.old shared.new }
-        ensures reads { Reads (links self.now.language.now frame.now settings (view lhs.now)) linked shared.old result shared.new }
+        ensures reads { Reads (links self.now.language.now frame.now settings (view lhs.now)) linked shared.old result
+            shared.new }
     {
         let mut settings = settings;
         let mut brackets = settings;
@@ -141,7 +145,8 @@ impl<S: ReadStatements> ExprReader<'_, S> {
         settings: ParseSettings,
         indexed: Option<&Expr>,
     ) -> ParseResult<Expr>
-        requires lent { Covers (S.lent self.now.statements) (index self.now.language.now frame.now settings (option_map (λ x. view x.now) indexed)) shared.old }
+        requires lent { Covers (S.lent self.now.statements) (index self.now.language.now frame.now settings
+            (option_map (λ x. view x.now) indexed)) shared.old }
         ensures goes_on { GoesOn shared.old shared.new }
         ensures reads { Reads (index self.now.language.now frame.now settings (option_map (λ x.
             view x.now) indexed.entry)) view shared.old result shared.new }
@@ -160,7 +165,8 @@ impl<S: ReadStatements> ExprReader<'_, S> {
         settings: ParseSettings,
     ) -> ParseResult<Expr>
         requires seen { is_end (asked (cursor_of shared.now.input.now)).lexeme ≡ false }
-        requires lent { Covers (S.lent self.now.statements) (member self.now.language.now frame.now settings) shared.old }
+        requires lent { Covers (S.lent self.now.statements) (member self.now.language.now frame.now settings)
+            shared.old }
         ensures goes_on { GoesOn shared.old shared.new }
         ensures reads { Reads (member self.now.language.now frame.now settings) view shared.old result shared.new }
     {

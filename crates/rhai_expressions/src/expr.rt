@@ -2,7 +2,8 @@
 
 ghost use Rattle.rhai_lower.specs.Nodes.{no_nodes, position_of};
 ghost use Rattle.rhai_lower.specs.View.{view};
-ghost use Rattle.rhai_language.specs.Readers.{Covers, GoesOn, Reads, arguments, binary_op, expression, items, operand, postfix};
+ghost use Rattle.rhai_language.specs.Readers.{Covers, GoesOn, Reads, arguments, binary_op, expression, items};
+ghost use Rattle.rhai_language.specs.Readers.{operand, postfix};
 ghost use Rattle.rhai_language.specs.Readers.{primary, right_operand, views_of};
 
 use crate::asks::next_operator;
@@ -35,7 +36,8 @@ impl<S: ReadStatements> ExprReader<'_, S> {
         frame: &Frame<'_>,
         settings: ParseSettings,
     ) -> ParseResult<Expr>
-        requires lent { Covers (S.lent self.now.statements) (primary self.now.language.now frame.now settings) shared.old }
+        requires lent { Covers (S.lent self.now.statements) (primary self.now.language.now frame.now settings)
+            shared.old }
         ensures goes_on { GoesOn shared.old shared.new }
         ensures reads { Reads (primary self.now.language.now frame.now settings) view shared.old result shared.new }
     {
@@ -122,9 +124,11 @@ impl<S: ReadStatements> ExprReader<'_, S> {
         settings: ParseSettings,
         operand: Expr,
     ) -> ParseResult<Expr>
-        requires lent { Covers (S.lent self.now.statements) (postfix self.now.language.now frame.now settings (view operand)) shared.old }
+        requires lent { Covers (S.lent self.now.statements) (postfix self.now.language.now frame.now settings
+            (view operand)) shared.old }
         ensures goes_on { GoesOn shared.old shared.new }
-        ensures reads { Reads (postfix self.now.language.now frame.now settings (view operand)) view shared.old result shared.new }
+        ensures reads { Reads (postfix self.now.language.now frame.now settings (view operand)) view shared.old result
+            shared.new }
     {
         let (name, pos) = match as_variable(operand) {
             Ok(variable) => variable,
@@ -153,9 +157,11 @@ impl<S: ReadStatements> ExprReader<'_, S> {
         frame: &Frame<'_>,
         settings: ParseSettings,
     ) -> ParseResult<Vec<Expr>>
-        requires lent { Covers (S.lent self.now.statements) (arguments self.now.language.now frame.now settings) shared.old }
+        requires lent { Covers (S.lent self.now.statements) (arguments self.now.language.now frame.now settings)
+            shared.old }
         ensures goes_on { GoesOn shared.old shared.new }
-        ensures reads { Reads (arguments self.now.language.now frame.now settings) views_of shared.old result shared.new }
+        ensures reads { Reads (arguments self.now.language.now frame.now settings) views_of shared.old result
+            shared.new }
     {
         let (token, pos) = peek(shared.input)?;
         if is_no_argument(token) {
@@ -179,9 +185,11 @@ impl<S: ReadStatements> ExprReader<'_, S> {
         frame: &Frame<'_>,
         settings: ParseSettings,
     ) -> ParseResult<Vec<Expr>>
-        requires lent { Covers (S.lent self.now.statements) (items self.now.language.now frame.now settings no_nodes) shared.old }
+        requires lent { Covers (S.lent self.now.statements) (items self.now.language.now frame.now settings no_nodes)
+            shared.old }
         ensures goes_on { GoesOn shared.old shared.new }
-        ensures reads { Reads (items self.now.language.now frame.now settings no_nodes) views_of shared.old result shared.new }
+        ensures reads { Reads (items self.now.language.now frame.now settings no_nodes) views_of shared.old result
+            shared.new }
     {
         let mut items = Vec::new(self.language.alloc());
         loop {
@@ -209,9 +217,11 @@ impl<S: ReadStatements> ExprReader<'_, S> {
         settings: ParseSettings,
         place: OperandPlace,
     ) -> ParseResult<Expr>
-        requires lent { Covers (S.lent self.now.statements) (right_operand self.now.language.now frame.now settings place) shared.old }
+        requires lent { Covers (S.lent self.now.statements) (right_operand self.now.language.now frame.now settings
+            place) shared.old }
         ensures goes_on { GoesOn shared.old shared.new }
-        ensures reads { Reads (right_operand self.now.language.now frame.now settings place) view shared.old result shared.new }
+        ensures reads { Reads (right_operand self.now.language.now frame.now settings place) view shared.old result
+            shared.new }
     {
         let (token, pos) = peek(shared.input)?;
         match what_operand(place, token) {
@@ -239,7 +249,8 @@ impl<S: ReadStatements> ExprReader<'_, S> {
         frame: &Frame<'_>,
         settings: ParseSettings,
     ) -> ParseResult<Expr>
-        requires lent { Covers (S.lent self.now.statements) (operand self.now.language.now frame.now settings) shared.old }
+        requires lent { Covers (S.lent self.now.statements) (operand self.now.language.now frame.now settings)
+            shared.old }
         ensures goes_on { GoesOn shared.old shared.new }
         ensures reads { Reads (operand self.now.language.now frame.now settings) view shared.old result shared.new }
     {
@@ -272,9 +283,11 @@ impl<S: ReadStatements> ExprReader<'_, S> {
         parent: u8,
         lhs: Expr,
     ) -> ParseResult<Expr>
-        requires lent { Covers (S.lent self.now.statements) (binary_op self.now.language.now frame.now settings (position_of (view lhs)) parent (view lhs)) shared.old }
+        requires lent { Covers (S.lent self.now.statements) (binary_op self.now.language.now frame.now settings
+            (position_of (view lhs)) parent (view lhs)) shared.old }
         ensures goes_on { GoesOn shared.old shared.new }
-        ensures reads { Reads (binary_op self.now.language.now frame.now settings (position_of (view lhs)) parent (view lhs)) view
+        ensures reads { Reads (binary_op self.now.language.now frame.now settings (position_of (view lhs)) parent
+            (view lhs)) view
             shared.old result shared.new }
     {
         let mut settings = settings.at(lhs.position());
@@ -311,7 +324,8 @@ impl<S: ReadStatements> ExprReader<'_, S> {
         frame: &Frame<'_>,
         settings: ParseSettings,
     ) -> ParseResult<Expr>
-        requires lent { Covers (S.lent self.now.statements) (expression self.now.language.now frame.now settings) shared.old }
+        requires lent { Covers (S.lent self.now.statements) (expression self.now.language.now frame.now settings)
+            shared.old }
         ensures goes_on { GoesOn shared.old shared.new }
         ensures reads { Reads (expression self.now.language.now frame.now settings) view shared.old result shared.new }
     {

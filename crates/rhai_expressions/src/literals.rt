@@ -1,7 +1,8 @@
 //! The readers of arrays, of object maps and of interpolated strings.
 
 ghost use Rattle.rhai_lower.specs.Nodes.{no_nodes, no_properties};
-ghost use Rattle.rhai_language.specs.Readers.{Covers, GoesOn, Reads, elements, fields, properties_of, segments, views_of};
+ghost use Rattle.rhai_language.specs.Readers.{Covers, GoesOn, Reads, elements, fields, properties_of, segments};
+ghost use Rattle.rhai_language.specs.Readers.{views_of};
 ghost use Rattle.rhai_grammar.specs.Interpolations.{added_text};
 ghost use Rattle.std.specs.Rc.{rc_str_bytes};
 
@@ -30,9 +31,11 @@ impl<S: ReadStatements> ExprReader<'_, S> {
         frame: &Frame<'_>,
         settings: ParseSettings,
     ) -> ParseResult<Vec<Expr>>
-        requires lent { Covers (S.lent self.now.statements) (elements self.now.language.now frame.now settings no_nodes) shared.old }
+        requires lent { Covers (S.lent self.now.statements) (elements self.now.language.now frame.now settings
+            no_nodes) shared.old }
         ensures goes_on { GoesOn shared.old shared.new }
-        ensures reads { Reads (elements self.now.language.now frame.now settings no_nodes) views_of shared.old result shared.new }
+        ensures reads { Reads (elements self.now.language.now frame.now settings no_nodes) views_of shared.old result
+            shared.new }
     {
         let limit = self.language.max_array_size();
         let mut items = Vec::new(self.language.alloc());
@@ -70,9 +73,11 @@ impl<S: ReadStatements> ExprReader<'_, S> {
         frame: &Frame<'_>,
         settings: ParseSettings,
     ) -> ParseResult<Vec<(Ident, Expr)>>
-        requires lent { Covers (S.lent self.now.statements) (fields self.now.language.now frame.now settings no_properties) shared.old }
+        requires lent { Covers (S.lent self.now.statements) (fields self.now.language.now frame.now settings
+            no_properties) shared.old }
         ensures goes_on { GoesOn shared.old shared.new }
-        ensures reads { Reads (fields self.now.language.now frame.now settings no_properties) properties_of shared.old result
+        ensures reads { Reads (fields self.now.language.now frame.now settings no_properties) properties_of shared.old
+            result
             shared.new }
     {
         let mut properties = Vec::new(self.language.alloc());
@@ -100,9 +105,11 @@ impl<S: ReadStatements> ExprReader<'_, S> {
         settings: ParseSettings,
         first: RcStr,
     ) -> ParseResult<Vec<Expr>>
-        requires lent { Covers (S.lent self.now.statements) (segments self.now.language.now frame.now settings (added_text no_nodes (rc_str_bytes first) settings.pos)) shared.old }
+        requires lent { Covers (S.lent self.now.statements) (segments self.now.language.now frame.now settings
+            (added_text no_nodes (rc_str_bytes first) settings.pos)) shared.old }
         ensures goes_on { GoesOn shared.old shared.new }
-        ensures reads { Reads (segments self.now.language.now frame.now settings (added_text no_nodes (rc_str_bytes first)
+        ensures reads { Reads (segments self.now.language.now frame.now settings
+            (added_text no_nodes (rc_str_bytes first)
             settings.pos)) views_of shared.old result shared.new }
     {
         let mut segments = Vec::new(self.language.alloc());

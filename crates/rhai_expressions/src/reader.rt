@@ -27,7 +27,8 @@ pub trait ReadStatements {
     ) -> ParseResult<Stmt>
         requires covered { lent self.now (need (construct language.now frame.now settings kind) (state_of shared.old)) }
         ensures goes_on { GoesOn shared.old shared.new }
-        ensures reads { Reads (construct language.now frame.now settings kind) statement_view shared.old result shared.new };
+        ensures reads { Reads (construct language.now frame.now settings kind) statement_view shared.old result
+            shared.new };
 
     /// Reads the statements of a block up to its `}`, which stays. Its definitions end with it.
     fn parse_block_inside(
@@ -51,7 +52,8 @@ pub trait ReadStatements {
     ) -> ParseResult<Stmt>
         requires covered { lent self.now (need (statement language.now frame.old settings) (state_of shared.old)) }
         ensures goes_on { GoesOn shared.old shared.new }
-        ensures reads { Reads (statement language.now frame.old settings) (with_live statement_view frame.new) shared.old result shared.new };
+        ensures reads { Reads (statement language.now frame.old settings) (with_live statement_view frame.new)
+            shared.old result shared.new };
 }
 
 /// The reader of expressions of one language.

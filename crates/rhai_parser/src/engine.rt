@@ -25,10 +25,10 @@ use bitflags::Flags;
 use rhai_base::known::is_among;
 use rhai_base::{Frame, Known, LangOptions, ParseSettingFlags, ParseSettings, ParseState};
 use rhai_grammar::ParseResult;
+use rhai_language::{Language, Shared};
 use rhai_lower::{
     AST, Expr, OptimizationLevel, Position, Scope, Stmt, TokenStream, optimize_into_ast,
 };
-use rhai_language::{Language, Shared};
 use std::alloc::{AllocError, Global};
 use std::marker::Model;
 use std::rc::RcStr;

@@ -32,24 +32,24 @@ where
 {
     ghost lent = { λ s n.
         ((language : _) (shared : _) (frame : _) (settings : _) (kind : _)
-            → need (construct language.now frame.now settings kind) (state_of shared.now) ≡ n
-            → C.pre s.construct language shared frame settings kind
-            × ((result : _) (after : _) → C.post s.construct language shared frame settings kind result after
-            → GoesOn shared.now after.now
-            × Reads (construct language.now frame.now settings kind) statement_view shared.now result after.now))
+        → need (construct language.now frame.now settings kind) (state_of shared.now) ≡ n
+        → C.pre s.construct language shared frame settings kind
+        × ((result : _) (after : _) → C.post s.construct language shared frame settings kind result after
+        → GoesOn shared.now after.now
+        × Reads (construct language.now frame.now settings kind) statement_view shared.now result after.now))
         × ((language : _) (shared : _) (frame : _) (settings : _)
-            → need (inside language.now frame.now settings) (state_of shared.now) ≡ n
-            → I.pre s.inside language shared frame settings
-            × ((result : _) (after : _) → I.post s.inside language shared frame settings result after
-            → GoesOn shared.now after.now
-            × Reads (inside language.now frame.now settings) statements_of shared.now result after.now))
+        → need (inside language.now frame.now settings) (state_of shared.now) ≡ n
+        → I.pre s.inside language shared frame settings
+        × ((result : _) (after : _) → I.post s.inside language shared frame settings result after
+        → GoesOn shared.now after.now
+        × Reads (inside language.now frame.now settings) statements_of shared.now result after.now))
         × ((language : _) (shared : _) (frame : _) (settings : _)
-            → need (statement language.now frame.now settings) (state_of shared.now) ≡ n
-            → S.pre s.stmt language shared frame settings
-            × ((result : _) (after : _) (left : _) → S.post s.stmt language shared frame settings result after left
-            → GoesOn shared.now after.now
-            × Reads (statement language.now frame.now settings) (with_live statement_view left.now) shared.now result after.now))
-    };
+        → need (statement language.now frame.now settings) (state_of shared.now) ≡ n
+        → S.pre s.stmt language shared frame settings
+        × ((result : _) (after : _) (left : _) → S.post s.stmt language shared frame settings result after left
+        → GoesOn shared.now after.now
+        × Reads (statement language.now frame.now settings) (with_live statement_view left.now) shared.now result
+        after.now)) };
 
     fn parse_construct(
         &self,
@@ -98,8 +98,7 @@ where
         → E.pre s.expr language shared frame settings
         × ((result : _) (after : _) → E.post s.expr language shared frame settings result after
         → GoesOn shared.now after.now
-        × Reads (expression language.now frame.now settings) view shared.now result after.now)
-    };
+        × Reads (expression language.now frame.now settings) view shared.now result after.now) };
 
     fn parse_expr(
         &self,

@@ -20,8 +20,8 @@ use crate::readers::parse_statements;
 use rhai_base::library::functions;
 use rhai_base::{FnLib, Frame, ParseSettingFlags, ParseSettings, ParseState};
 use rhai_grammar::{Closing, ParseResult};
-use rhai_lower::{Position, Scope, ScriptFuncDef, Stmt, StmtBlockContainer, TokenStream};
 use rhai_language::Shared;
+use rhai_lower::{Position, Scope, ScriptFuncDef, Stmt, StmtBlockContainer, TokenStream};
 use std::mem;
 use std::rc::{Rc, RcStr};
 

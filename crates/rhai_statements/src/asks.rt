@@ -33,7 +33,8 @@ pub(crate) fn next_var_name(
     frame: &Frame<'_>,
     settings: ParseSettings,
 ) -> ParseResult<(RcStr, Position)>
-    ensures gives { Gives name_view (result_of (var_name language.now frame.now settings) (cursor_of input.old)) result
+    ensures gives { Gives name_view (result_of (var_name language.now frame.now settings) (cursor_of input.old))
+        result
         (cursor_of input.new) }
     ensures shorter { left (cursor_of input.new).tokens ≤ left (cursor_of input.old).tokens }
 {

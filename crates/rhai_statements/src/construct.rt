@@ -2,7 +2,8 @@
 
 ghost use Rattle.rhai_lower.specs.View.{block_view, statement_view, view};
 ghost use Rattle.rhai_grammar.specs.declared.role.Construct.TheVariants.{Do, For, Loop, Try, While};
-ghost use Rattle.rhai_language.specs.Readers.{Covers, GoesOn, Reads, braced, branch, conditional, construct, guard, iterated};
+ghost use Rattle.rhai_language.specs.Readers.{Covers, GoesOn, Reads, braced, branch, conditional, construct, guard};
+ghost use Rattle.rhai_language.specs.Readers.{iterated};
 
 use crate::control::{
     catch_frame, end_guard, end_iterated, loop_frame, next_catch, next_do_end, next_loop_names,
@@ -31,9 +32,11 @@ impl<E: ReadExpressions> StmtReader<'_, E> {
         settings: ParseSettings,
         kind: Construct,
     ) -> ParseResult<Stmt>
-        requires lent { Covers (E.lent self.now.expressions) (construct self.now.language.now frame.now settings kind) shared.old }
+        requires lent { Covers (E.lent self.now.expressions) (construct self.now.language.now frame.now settings kind)
+            shared.old }
         ensures goes_on { GoesOn shared.old shared.new }
-        ensures reads { Reads (construct self.now.language.now frame.now settings kind) statement_view shared.old result
+        ensures reads { Reads (construct self.now.language.now frame.now settings kind) statement_view shared.old
+            result
             shared.new }
     {
         match kind {
@@ -60,9 +63,11 @@ impl<E: ReadExpressions> StmtReader<'_, E> {
         frame: &Frame<'_>,
         settings: ParseSettings,
     ) -> ParseResult<Stmt>
-        requires lent { Covers (E.lent self.now.expressions) (conditional self.now.language.now frame.now settings) shared.old }
+        requires lent { Covers (E.lent self.now.expressions) (conditional self.now.language.now frame.now settings)
+            shared.old }
         ensures goes_on { GoesOn shared.old shared.new }
-        ensures reads { Reads (conditional self.now.language.now frame.now settings) statement_view shared.old result shared.new }
+        ensures reads { Reads (conditional self.now.language.now frame.now settings) statement_view shared.old result
+            shared.new }
     {
         let guard = self.parse_guard(shared, frame, settings)?;
         let body = self.parse_braces(shared, frame, settings)?;
@@ -80,9 +85,11 @@ impl<E: ReadExpressions> StmtReader<'_, E> {
         frame: &Frame<'_>,
         settings: ParseSettings,
     ) -> ParseResult<StmtBlock>
-        requires lent { Covers (E.lent self.now.expressions) (branch self.now.language.now frame.now settings) shared.old }
+        requires lent { Covers (E.lent self.now.expressions) (branch self.now.language.now frame.now settings)
+            shared.old }
         ensures goes_on { GoesOn shared.old shared.new }
-        ensures reads { Reads (branch self.now.language.now frame.now settings) block_view shared.old result shared.new }
+        ensures reads { Reads (branch self.now.language.now frame.now settings) block_view shared.old result
+            shared.new }
     {
         if !pass_token(shared.input, DueToken::Else)? {
             return Ok(no_block(self.language.alloc()));
@@ -105,7 +112,8 @@ impl<E: ReadExpressions> StmtReader<'_, E> {
         frame: &Frame<'_>,
         settings: ParseSettings,
     ) -> ParseResult<Expr>
-        requires lent { Covers (E.lent self.now.expressions) (guard self.now.language.now frame.now settings) shared.old }
+        requires lent { Covers (E.lent self.now.expressions) (guard self.now.language.now frame.now settings)
+            shared.old }
         ensures goes_on { GoesOn shared.old shared.new }
         ensures reads { Reads (guard self.now.language.now frame.now settings) view shared.old result shared.new }
     {
@@ -124,7 +132,8 @@ impl<E: ReadExpressions> StmtReader<'_, E> {
         frame: &Frame<'_>,
         settings: ParseSettings,
     ) -> ParseResult<Expr>
-        requires lent { Covers (E.lent self.now.expressions) (iterated self.now.language.now frame.now settings) shared.old }
+        requires lent { Covers (E.lent self.now.expressions) (iterated self.now.language.now frame.now settings)
+            shared.old }
         ensures goes_on { GoesOn shared.old shared.new }
         ensures reads { Reads (iterated self.now.language.now frame.now settings) view shared.old result shared.new }
     {
@@ -145,9 +154,11 @@ impl<E: ReadExpressions> StmtReader<'_, E> {
         frame: &Frame<'_>,
         settings: ParseSettings,
     ) -> ParseResult<StmtBlock>
-        requires lent { Covers (E.lent self.now.expressions) (braced self.now.language.now frame.now settings) shared.old }
+        requires lent { Covers (E.lent self.now.expressions) (braced self.now.language.now frame.now settings)
+            shared.old }
         ensures goes_on { GoesOn shared.old shared.new }
-        ensures reads { Reads (braced self.now.language.now frame.now settings) block_view shared.old result shared.new }
+        ensures reads { Reads (braced self.now.language.now frame.now settings) block_view shared.old result
+            shared.new }
     {
         let opening = begin_block(self.language.alloc(), shared.input, "to begin this block")?;
         let deeper = settings.level_up_with_position(opening)?;
@@ -163,9 +174,11 @@ impl<E: ReadExpressions> StmtReader<'_, E> {
         frame: &Frame<'_>,
         settings: ParseSettings,
     ) -> ParseResult<Stmt>
-        requires lent { Covers (E.lent self.now.expressions) (construct self.now.language.now frame.now settings While) shared.old }
+        requires lent { Covers (E.lent self.now.expressions) (construct self.now.language.now frame.now settings
+            While) shared.old }
         ensures goes_on { GoesOn shared.old shared.new }
-        ensures reads { Reads (construct self.now.language.now frame.now settings While) statement_view shared.old result
+        ensures reads { Reads (construct self.now.language.now frame.now settings While) statement_view shared.old
+            result
             shared.new }
     {
         let guard = self.parse_guard(shared, frame, settings)?;
@@ -182,9 +195,11 @@ impl<E: ReadExpressions> StmtReader<'_, E> {
         frame: &Frame<'_>,
         settings: ParseSettings,
     ) -> ParseResult<Stmt>
-        requires lent { Covers (E.lent self.now.expressions) (construct self.now.language.now frame.now settings Loop) shared.old }
+        requires lent { Covers (E.lent self.now.expressions) (construct self.now.language.now frame.now settings Loop)
+            shared.old }
         ensures goes_on { GoesOn shared.old shared.new }
-        ensures reads { Reads (construct self.now.language.now frame.now settings Loop) statement_view shared.old result
+        ensures reads { Reads (construct self.now.language.now frame.now settings Loop) statement_view shared.old
+            result
             shared.new }
     {
         let body = self.parse_braces(shared, frame, settings.loop_body())?;
@@ -205,9 +220,11 @@ impl<E: ReadExpressions> StmtReader<'_, E> {
         frame: &Frame<'_>,
         settings: ParseSettings,
     ) -> ParseResult<Stmt>
-        requires lent { Covers (E.lent self.now.expressions) (construct self.now.language.now frame.now settings Do) shared.old }
+        requires lent { Covers (E.lent self.now.expressions) (construct self.now.language.now frame.now settings Do)
+            shared.old }
         ensures goes_on { GoesOn shared.old shared.new }
-        ensures reads { Reads (construct self.now.language.now frame.now settings Do) statement_view shared.old result shared.new }
+        ensures reads { Reads (construct self.now.language.now frame.now settings Do) statement_view shared.old result
+            shared.new }
     {
         let body = self.parse_braces(shared, frame, settings.loop_body())?;
         let negated = next_do_end(self.language.alloc(), shared.input)?;
@@ -224,9 +241,11 @@ impl<E: ReadExpressions> StmtReader<'_, E> {
         frame: &Frame<'_>,
         settings: ParseSettings,
     ) -> ParseResult<Stmt>
-        requires lent { Covers (E.lent self.now.expressions) (construct self.now.language.now frame.now settings For) shared.old }
+        requires lent { Covers (E.lent self.now.expressions) (construct self.now.language.now frame.now settings For)
+            shared.old }
         ensures goes_on { GoesOn shared.old shared.new }
-        ensures reads { Reads (construct self.now.language.now frame.now settings For) statement_view shared.old result
+        ensures reads { Reads (construct self.now.language.now frame.now settings For) statement_view shared.old
+            result
             shared.new }
     {
         let names = next_loop_names(self.language.alloc(), shared.input)?;
@@ -253,9 +272,11 @@ impl<E: ReadExpressions> StmtReader<'_, E> {
         frame: &Frame<'_>,
         settings: ParseSettings,
     ) -> ParseResult<Stmt>
-        requires lent { Covers (E.lent self.now.expressions) (construct self.now.language.now frame.now settings Try) shared.old }
+        requires lent { Covers (E.lent self.now.expressions) (construct self.now.language.now frame.now settings Try)
+            shared.old }
         ensures goes_on { GoesOn shared.old shared.new }
-        ensures reads { Reads (construct self.now.language.now frame.now settings Try) statement_view shared.old result
+        ensures reads { Reads (construct self.now.language.now frame.now settings Try) statement_view shared.old
+            result
             shared.new }
     {
         let body = self.parse_braces(shared, frame, settings)?;

@@ -3,7 +3,8 @@
 ghost use Rattle.std.specs.Prelude.{◌≡◌, ◌+◌, ◌≤◌, IfOk, false, true};
 ghost use Rattle.rhai_lower.specs.Nodes.{no_statements};
 ghost use Rattle.rhai_lower.specs.View.{block_view, statement_view, view};
-ghost use Rattle.rhai_language.specs.Readers.{Covers, GoesOn, Reads, block, definition, expr_statement, initializer, statement};
+ghost use Rattle.rhai_language.specs.Readers.{Covers, GoesOn, Reads, block, definition, expr_statement, initializer};
+ghost use Rattle.rhai_language.specs.Readers.{statement};
 ghost use Rattle.rhai_language.specs.Readers.{exported, imported};
 ghost use Rattle.rhai_grammar.specs.Cursors.{left};
 ghost use Rattle.rhai_grammar.specs.Statements.{ends_itself};
@@ -42,7 +43,8 @@ impl<E: ReadExpressions> StmtReader<'_, E> {
         settings: ParseSettings,
         closing: Closing,
     ) -> ParseResult<Vec<Stmt>>
-        requires lent { Covers (E.lent self.now.expressions) (statements self.now.language.now frame.old settings closing no_statements) shared.old }
+        requires lent { Covers (E.lent self.now.expressions) (statements self.now.language.now frame.old settings
+            closing no_statements) shared.old }
         ensures goes_on { GoesOn shared.old shared.new }
         ensures place { SamePlace frame.old frame.new }
         ensures reads { Reads (statements self.now.language.now frame.old settings closing no_statements)
@@ -75,10 +77,12 @@ impl<E: ReadExpressions> StmtReader<'_, E> {
         frame: &mut Frame<'_>,
         settings: ParseSettings,
     ) -> ParseResult<Stmt>
-        requires lent { Covers (E.lent self.now.expressions) (statement self.now.language.now frame.old settings) shared.old }
+        requires lent { Covers (E.lent self.now.expressions) (statement self.now.language.now frame.old settings)
+            shared.old }
         ensures goes_on { GoesOn shared.old shared.new }
         ensures place { SamePlace frame.old frame.new }
-        ensures reads { Reads (statement self.now.language.now frame.old settings) (with_live statement_view frame.new) shared.old
+        ensures reads { Reads (statement self.now.language.now frame.old settings)
+            (with_live statement_view frame.new) shared.old
             result shared.new }
         ensures takes { IfOk result (λ s. ends_itself (statement_view s) ≡ true
             → left (state_of shared.new).tokens + 1 ≤ left (state_of shared.old).tokens) }
@@ -147,10 +151,12 @@ impl<E: ReadExpressions> StmtReader<'_, E> {
         frame: &mut Frame<'_>,
         settings: ParseSettings,
     ) -> ParseResult<Stmt>
-        requires lent { Covers (E.lent self.now.expressions) (imported self.now.language.now frame.old settings) shared.old }
+        requires lent { Covers (E.lent self.now.expressions) (imported self.now.language.now frame.old settings)
+            shared.old }
         ensures goes_on { GoesOn shared.old shared.new }
         ensures place { SamePlace frame.old frame.new }
-        ensures reads { Reads (imported self.now.language.now frame.old settings) (with_live statement_view frame.new) shared.old
+        ensures reads { Reads (imported self.now.language.now frame.old settings) (with_live statement_view frame.new)
+            shared.old
             result shared.new }
     {
         let source = self
@@ -170,10 +176,12 @@ impl<E: ReadExpressions> StmtReader<'_, E> {
         frame: &mut Frame<'_>,
         settings: ParseSettings,
     ) -> ParseResult<Stmt>
-        requires lent { Covers (E.lent self.now.expressions) (exported self.now.language.now frame.old settings) shared.old }
+        requires lent { Covers (E.lent self.now.expressions) (exported self.now.language.now frame.old settings)
+            shared.old }
         ensures goes_on { GoesOn shared.old shared.new }
         ensures place { SamePlace frame.old frame.new }
-        ensures reads { Reads (exported self.now.language.now frame.old settings) (with_live statement_view frame.new) shared.old
+        ensures reads { Reads (exported self.now.language.now frame.old settings) (with_live statement_view frame.new)
+            shared.old
             result shared.new }
     {
         if let Some(constant) = what_is_exported(shared.input)? {
@@ -197,7 +205,8 @@ impl<E: ReadExpressions> StmtReader<'_, E> {
         constant: bool,
         exported: bool,
     ) -> ParseResult<Stmt>
-        requires lent { Covers (E.lent self.now.expressions) (definition self.now.language.now frame.old settings constant exported) shared.old }
+        requires lent { Covers (E.lent self.now.expressions) (definition self.now.language.now frame.old settings
+            constant exported) shared.old }
         ensures goes_on { GoesOn shared.old shared.new }
         ensures place { SamePlace frame.old frame.new }
         ensures reads { Reads (definition self.now.language.now frame.old settings constant exported)
@@ -227,7 +236,8 @@ impl<E: ReadExpressions> StmtReader<'_, E> {
         frame: &Frame<'_>,
         settings: ParseSettings,
     ) -> ParseResult<Expr>
-        requires lent { Covers (E.lent self.now.expressions) (initializer self.now.language.now frame.now settings) shared.old }
+        requires lent { Covers (E.lent self.now.expressions) (initializer self.now.language.now frame.now settings)
+            shared.old }
         ensures goes_on { GoesOn shared.old shared.new }
         ensures reads { Reads (initializer self.now.language.now frame.now settings) view shared.old result shared.new }
     {
@@ -247,9 +257,11 @@ impl<E: ReadExpressions> StmtReader<'_, E> {
         frame: &Frame<'_>,
         settings: ParseSettings,
     ) -> ParseResult<Stmt>
-        requires lent { Covers (E.lent self.now.expressions) (expr_statement self.now.language.now frame.now settings) shared.old }
+        requires lent { Covers (E.lent self.now.expressions) (expr_statement self.now.language.now frame.now settings)
+            shared.old }
         ensures goes_on { GoesOn shared.old shared.new }
-        ensures reads { Reads (expr_statement self.now.language.now frame.now settings) statement_view shared.old result shared.new }
+        ensures reads { Reads (expr_statement self.now.language.now frame.now settings) statement_view shared.old
+            result shared.new }
         ensures open { IfOk result (λ s. ends_itself (statement_view s) ≡ false) }
     {
         let target = self
@@ -274,7 +286,8 @@ impl<E: ReadExpressions> StmtReader<'_, E> {
         frame: &Frame<'_>,
         settings: ParseSettings,
     ) -> ParseResult<StmtBlock>
-        requires lent { Covers (E.lent self.now.expressions) (block self.now.language.now frame.now settings) shared.old }
+        requires lent { Covers (E.lent self.now.expressions) (block self.now.language.now frame.now settings)
+            shared.old }
         ensures goes_on { GoesOn shared.old shared.new }
         ensures reads { Reads (block self.now.language.now frame.now settings) block_view shared.old result shared.new }
     {
@@ -296,9 +309,11 @@ impl<E: ReadExpressions> StmtReader<'_, E> {
         frame: &Frame<'_>,
         settings: ParseSettings,
     ) -> ParseResult<Vec<Stmt>>
-        requires lent { Covers (E.lent self.now.expressions) (inside self.now.language.now frame.now settings) shared.old }
+        requires lent { Covers (E.lent self.now.expressions) (inside self.now.language.now frame.now settings)
+            shared.old }
         ensures goes_on { GoesOn shared.old shared.new }
-        ensures reads { Reads (inside self.now.language.now frame.now settings) statements_of shared.old result shared.new }
+        ensures reads { Reads (inside self.now.language.now frame.now settings) statements_of shared.old result
+            shared.new }
     {
         if settings.has_flag(ParseSettingFlags::DISALLOW_STATEMENTS_IN_BLOCKS) {
             let statement = self.parse_expr_stmt(shared, frame, settings)?;
@@ -318,9 +333,11 @@ impl<E: ReadExpressions> StmtReader<'_, E> {
         frame: &Frame<'_>,
         settings: ParseSettings,
     ) -> ParseResult<Option<Expr>>
-        requires lent { Covers (E.lent self.now.expressions) (jump self.now.language.now frame.now settings) shared.old }
+        requires lent { Covers (E.lent self.now.expressions) (jump self.now.language.now frame.now settings)
+            shared.old }
         ensures goes_on { GoesOn shared.old shared.new }
-        ensures reads { Reads (jump self.now.language.now frame.now settings) optional_view shared.old result shared.new }
+        ensures reads { Reads (jump self.now.language.now frame.now settings) optional_view shared.old result
+            shared.new }
     {
         let (token, _) = peek(shared.input)?;
         let valued = starts_expression(settings, self.language.allow_looping(), token);

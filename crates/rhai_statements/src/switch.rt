@@ -6,7 +6,8 @@ ghost use Rattle.rhai_lower.specs.View.{statement_view, view};
 ghost use Rattle.rhai_grammar.specs.Cursors.{left};
 ghost use Rattle.rhai_grammar.specs.Switches.{nothing_collected};
 ghost use Rattle.rhai_grammar.specs.declared.role.Construct.TheVariants.{Switch};
-ghost use Rattle.rhai_language.specs.Readers.{Covers, GoesOn, Reads, action, arm, arms, case, case_guard, cases, construct};
+ghost use Rattle.rhai_language.specs.Readers.{Covers, GoesOn, Reads, action, arm, arms, case, case_guard, cases};
+ghost use Rattle.rhai_language.specs.Readers.{construct};
 ghost use Rattle.rhai_language.specs.Readers.{default_arm, state_of, views_of};
 ghost use Rattle.rhai_statements.specs.Switches.{action_view, arm_view};
 ghost use Rattle.rhai_trees.specs.Switches.{collected_view};
@@ -32,9 +33,11 @@ impl<E: ReadExpressions> StmtReader<'_, E> {
         frame: &Frame<'_>,
         settings: ParseSettings,
     ) -> ParseResult<Stmt>
-        requires lent { Covers (E.lent self.now.expressions) (construct self.now.language.now frame.now settings Switch) shared.old }
+        requires lent { Covers (E.lent self.now.expressions) (construct self.now.language.now frame.now settings
+            Switch) shared.old }
         ensures goes_on { GoesOn shared.old shared.new }
-        ensures reads { Reads (construct self.now.language.now frame.now settings Switch) statement_view shared.old result
+        ensures reads { Reads (construct self.now.language.now frame.now settings Switch) statement_view shared.old
+            result
             shared.new }
     {
         let item = self
@@ -60,9 +63,11 @@ impl<E: ReadExpressions> StmtReader<'_, E> {
         frame: &Frame<'_>,
         settings: ParseSettings,
     ) -> ParseResult<SwitchCasesCollection>
-        requires lent { Covers (E.lent self.now.expressions) (arms self.now.language.now frame.now settings nothing_collected) shared.old }
+        requires lent { Covers (E.lent self.now.expressions) (arms self.now.language.now frame.now settings
+            nothing_collected) shared.old }
         ensures goes_on { GoesOn shared.old shared.new }
-        ensures reads { Reads (arms self.now.language.now frame.now settings nothing_collected) collected_view shared.old result
+        ensures reads { Reads (arms self.now.language.now frame.now settings nothing_collected) collected_view
+            shared.old result
             shared.new }
     {
         let mut arms = new_arms(self.language.alloc());
@@ -97,9 +102,11 @@ impl<E: ReadExpressions> StmtReader<'_, E> {
         settings: ParseSettings,
         before: &SwitchCasesCollection,
     ) -> ParseResult<Arm>
-        requires lent { Covers (E.lent self.now.expressions) (arm self.now.language.now frame.now settings (collected_view before.now)) shared.old }
+        requires lent { Covers (E.lent self.now.expressions) (arm self.now.language.now frame.now settings
+            (collected_view before.now)) shared.old }
         ensures goes_on { GoesOn shared.old shared.new }
-        ensures reads { Reads (arm self.now.language.now frame.now settings (collected_view before.now)) arm_view shared.old result
+        ensures reads { Reads (arm self.now.language.now frame.now settings (collected_view before.now)) arm_view
+            shared.old result
             shared.new }
         ensures shrinks { OnOk result
             (left (state_of shared.new).tokens + 1 ≤ left (state_of shared.old).tokens) }
@@ -133,9 +140,11 @@ impl<E: ReadExpressions> StmtReader<'_, E> {
         settings: ParseSettings,
         default: Position,
     ) -> ParseResult<Expr>
-        requires lent { Covers (E.lent self.now.expressions) (default_arm self.now.language.now frame.now settings default) shared.old }
+        requires lent { Covers (E.lent self.now.expressions) (default_arm self.now.language.now frame.now settings
+            default) shared.old }
         ensures goes_on { GoesOn shared.old shared.new }
-        ensures reads { Reads (default_arm self.now.language.now frame.now settings default) view shared.old result shared.new }
+        ensures reads { Reads (default_arm self.now.language.now frame.now settings default) view shared.old result
+            shared.new }
     {
         default_unguarded(shared.input)?;
         match_token(
@@ -156,9 +165,11 @@ impl<E: ReadExpressions> StmtReader<'_, E> {
         frame: &Frame<'_>,
         settings: ParseSettings,
     ) -> ParseResult<Vec<Expr>>
-        requires lent { Covers (E.lent self.now.expressions) (cases self.now.language.now frame.now settings no_nodes) shared.old }
+        requires lent { Covers (E.lent self.now.expressions) (cases self.now.language.now frame.now settings no_nodes)
+            shared.old }
         ensures goes_on { GoesOn shared.old shared.new }
-        ensures reads { Reads (cases self.now.language.now frame.now settings no_nodes) views_of shared.old result shared.new }
+        ensures reads { Reads (cases self.now.language.now frame.now settings no_nodes) views_of shared.old result
+            shared.new }
     {
         let mut cases = Vec::new(self.language.alloc());
         loop {
@@ -179,7 +190,8 @@ impl<E: ReadExpressions> StmtReader<'_, E> {
         frame: &Frame<'_>,
         settings: ParseSettings,
     ) -> ParseResult<Expr>
-        requires lent { Covers (E.lent self.now.expressions) (case self.now.language.now frame.now settings) shared.old }
+        requires lent { Covers (E.lent self.now.expressions) (case self.now.language.now frame.now settings)
+            shared.old }
         ensures goes_on { GoesOn shared.old shared.new }
         ensures reads { Reads (case self.now.language.now frame.now settings) view shared.old result shared.new }
     {
@@ -198,7 +210,8 @@ impl<E: ReadExpressions> StmtReader<'_, E> {
         frame: &Frame<'_>,
         settings: ParseSettings,
     ) -> ParseResult<Expr>
-        requires lent { Covers (E.lent self.now.expressions) (case_guard self.now.language.now frame.now settings) shared.old }
+        requires lent { Covers (E.lent self.now.expressions) (case_guard self.now.language.now frame.now settings)
+            shared.old }
         ensures goes_on { GoesOn shared.old shared.new }
         ensures reads { Reads (case_guard self.now.language.now frame.now settings) view shared.old result shared.new }
     {
@@ -218,9 +231,11 @@ impl<E: ReadExpressions> StmtReader<'_, E> {
         frame: &Frame<'_>,
         settings: ParseSettings,
     ) -> ParseResult<Action>
-        requires lent { Covers (E.lent self.now.expressions) (action self.now.language.now frame.now settings) shared.old }
+        requires lent { Covers (E.lent self.now.expressions) (action self.now.language.now frame.now settings)
+            shared.old }
         ensures goes_on { GoesOn shared.old shared.new }
-        ensures reads { Reads (action self.now.language.now frame.now settings) action_view shared.old result shared.new }
+        ensures reads { Reads (action self.now.language.now frame.now settings) action_view shared.old result
+            shared.new }
     {
         if settings.has_flag(ParseSettingFlags::DISALLOW_STATEMENTS_IN_BLOCKS) {
             let expr = self

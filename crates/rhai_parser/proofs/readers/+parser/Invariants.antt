@@ -1,4 +1,3 @@
-use Rattle.std.proofs.Common.{ℕ}
 use Rattle.rhai_reading.specs.Running.{need}
 use Rattle.rhai_language.specs.Readers.{construct, expression, inside, state_of, statement}
 use Rattle.rhai_parser.proofs.readers.+parser.Given as goal

@@ -1,4 +1,4 @@
-use Rattle.std.proofs.Common.{rules, arith, ◌≡◌, ◌∙◌, None, ap, option_map, refl, sym}
+use Rattle.std.proofs.Common.{rules, arith, ◌≡◌, ◌∙◌, ap, option_map, refl, sym}
 use Rattle.std.proofs.lemmas.Result.{err_from_is_err_and}
 use Rattle.std.specs.Rc.{rc_str_bytes}
 use Rattle.rhai_lower.specs.Lexemes.{lexeme}
@@ -6,7 +6,6 @@ use Rattle.rhai_lower.specs.Nodes.{variable}
 use Rattle.rhai_lower.specs.declared.ast.VariableExpr.{VariableExpr}
 use Rattle.rhai_lower.specs.View.{named, property_views, view}
 use Rattle.rhai_lower.proofs.Views.{property_views_push, view_variable}
-use Rattle.rhai_grammar.specs.Causes.{refusal_of}
 use Rattle.rhai_grammar.specs.Cursors.{cursor_of}
 use Rattle.rhai_grammar.specs.Spots.{LinkSpot}
 use Rattle.rhai_grammar.specs.Signs.{sign_result}
