@@ -19,7 +19,6 @@ use Rattle.rhai_grammar.specs.Modules.{is_qualified, may_enter, module_fault, ro
 use Rattle.rhai_grammar.specs.Slots.{number, IsLatest}
 use Rattle.rhai_grammar.specs.Trees.{node_count}
 use Rattle.rhai_base.proofs.FindLemmas.{latest-number, non-zero}
-use Rattle.rhai_lower.proofs.Views.{view_unit, view_boolean, view_integer, view_character, view_string}
 
 none_is : (o : Option ℕ) (name : Text) (slots : List SlotValue) → IsLatest name slots o → 0 ≡ unwrap_or o 0 → o ≡ None
 none_is None name slots h e = refl
@@ -96,8 +95,3 @@ not_entered context live v p i e h =
     ∙ ap (λ b. if b then None else Some (refusal (ModuleUndefined (rc_str_bytes i.name)) i.pos)) h
 
 pub ruleset faults = (no_path_fault, entered, not_entered)
-
--- ---- nodes
-
--- the nodes of values
-pub ruleset values = (view_unit, view_boolean, view_integer, view_character, view_string)

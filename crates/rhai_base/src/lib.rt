@@ -1,21 +1,21 @@
 //! What the parsing functions share: the settings, the state, what is live in a block, look-ups among the slots and
-//! imports, the library of functions, access to the next token, and what they ask of tokens without reading an
-//! expression (`leaves`).
+//! imports, the library of functions, and the nodes of names, which depend on what is live.
 #![tactic(auto)]
 
 pub mod closure_name;
 pub mod counts;
-pub mod cursor;
 pub mod flags;
 pub mod frame;
 pub mod known;
-pub mod leaves;
 pub mod library;
 pub mod lookup;
+pub mod modules;
 pub mod names;
+pub mod places;
 pub mod settings;
 mod slots;
 pub mod state;
+pub mod words;
 
 pub use closure_name::make_anonymous_fn;
 pub use counts::ParseCounts;

@@ -20,9 +20,9 @@ use Rattle.rhai_reading.specs.Reading.{Called, Ret, Fail, Primary, name_at, word
 use Rattle.rhai_reading.specs.Running as R
 use Rattle.rhai_reading.specs.Running.{Caller, Gives, exec, guarded, result_of}
 use Rattle.rhai_reading.proofs.Steps.{step_next_operator, step_next_key}
-use Rattle.rhai_base.specs.Operators.{operator_found}
+use Rattle.rhai_leaves.specs.Operators.{operator_found}
 use Rattle.rhai_expressions.specs.Asks.{operator_pair}
-use Rattle.rhai_base.specs.declared.leaves.operators.Operator.{Operator}
+use Rattle.rhai_leaves.specs.declared.operators.Operator.{Operator}
 use Rattle.rhai_base.specs.Frames.{FrameValue}
 use Rattle.rhai_base.specs.Words.{name_result, word_result}
 use Rattle.rhai_base.specs.Settings.{settings_of}
@@ -33,7 +33,7 @@ use Rattle.rhai_language.specs.Readers.{called}
 use Rattle.rhai_grammar.specs.declared.due.DueToken.TheVariants as due
 use Rattle.rhai_grammar.specs.Literals.{KeyPlace, FieldsEnd, AKey, NoKey, has_key}
 use Rattle.rhai_grammar.specs.Verdicts.{next_key}
-use Rattle.rhai_base.specs.MapKeys.{KeyRefused}
+use Rattle.rhai_leaves.specs.MapKeys.{KeyRefused}
 use Rattle.rhai_reading.proofs.Outcomes.{answered, exec_answered, outcome}
 use Rattle.rhai_reading.proofs.WordSteps.{Worded, worded}
 

@@ -6,8 +6,8 @@ use Rattle.rhai_grammar.specs.Interpolations.{is_last_text}
 use Rattle.rhai_grammar.specs.Causes.{MemoryIsNowhere, Refusal, refusal_of}
 use Rattle.rhai_grammar.specs.Cursors.{Cursor, asked, looking}
 use Rattle.rhai_grammar.specs.declared.error.ParseError.{ParseError}
-use Rattle.rhai_base.specs.Strings.{Closes, Interpolates, NoText, NotClosed, at_text}
-use Rattle.rhai_base.specs.declared.leaves.strings.TextPart.{TextPart}
+use Rattle.rhai_leaves.specs.Strings.{Closes, Interpolates, NoText, NotClosed, at_text}
+use Rattle.rhai_leaves.specs.declared.strings.TextPart.{TextPart}
 use Rattle.rhai_expressions.specs.Views.{text_view}
 use Rattle.rhai_reading.specs.Reading.{TextAfter}
 use Rattle.rhai_reading.specs.Running as R

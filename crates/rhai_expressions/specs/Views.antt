@@ -11,8 +11,8 @@ use Rattle.rhai_lower.specs.declared.position.Position.{Position}
 use Rattle.rhai_grammar.specs.Chains as chain
 use Rattle.rhai_trees.specs.Chains.{link_views}
 use Rattle.rhai_trees.specs.declared.chain.Link.{Link}
-use Rattle.rhai_base.specs.declared.leaves.names.Call.{Call}
-use Rattle.rhai_base.specs.declared.leaves.strings.TextPart.{TextPart}
+use Rattle.rhai_base.specs.declared.words.Call.{Call}
+use Rattle.rhai_leaves.specs.declared.strings.TextPart.{TextPart}
 use Rattle.rhai_language.specs.Readers.{views_of}
 
 abbrev pub linked : Vec Link Global → List chain.Link

@@ -15,14 +15,14 @@ ghost use Rattle.rhai_expressions.specs.Asks.{operator_pair};
 ghost use Rattle.rhai_language.specs.Frames.{context_of};
 ghost use Rattle.rhai_expressions.specs.Views.{text_view};
 
-use rhai_base::ParseSettings;
-use rhai_base::leaves::due::match_token;
-use rhai_base::leaves::items::room_for_value;
-use rhai_base::leaves::operators::Operator;
-use rhai_base::leaves::strings::{TextPart, end_interpolation};
-use rhai_base::leaves::{keys, operators};
+use rhai_base::{ParseSettingFlags, ParseSettings};
 use rhai_grammar::{DueToken, ExprFilter, ParseResult};
 use rhai_language::Language;
+use rhai_leaves::due::match_token;
+use rhai_leaves::items::room_for_value;
+use rhai_leaves::operators::Operator;
+use rhai_leaves::strings::{TextPart, end_interpolation};
+use rhai_leaves::{keys, operators};
 use rhai_lower::{Expr, Ident, TokenStream};
 use rhai_trees::test_index;
 use std::alloc::Global;
@@ -44,7 +44,7 @@ pub(crate) fn next_operator(
 
 /// The key of the property after these ones, with its `:`, and a look at the value that is due; none where the `}` is,
 /// which is taken. The language limits how many properties the literal has.
-#[tactic(auto, using(rhai_reading::proofs::Steps::step_next_key, rhai_base::proofs::LiteralLemmas::count_properties))]
+#[tactic(auto, using(rhai_reading::proofs::Steps::step_next_key, rhai_leaves::proofs::LiteralLemmas::count_properties))]
 pub(crate) fn next_key(
     language: &Language,
     input: &mut TokenStream,
@@ -57,7 +57,8 @@ pub(crate) fn next_key(
     ensures shorter { left (cursor_of input.new).tokens ≤ left (cursor_of input.old).tokens }
 {
     let alloc = language.alloc();
-    let next = match keys::next_key(alloc, input, settings, properties) {
+    let quoted = settings.has_flag(ParseSettingFlags::DISALLOW_UNQUOTED_MAP_PROPERTIES);
+    let next = match keys::next_key(alloc, input, quoted, properties) {
         Ok(next) => next,
         Err(error) => return Err(error),
     };

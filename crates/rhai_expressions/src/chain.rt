@@ -9,15 +9,15 @@ ghost use Rattle.rhai_expressions.specs.Views.{call_view, linked};
 
 use crate::asks::end_index;
 use crate::reader::{ExprReader, ReadStatements};
-use rhai_base::cursor::{peek, skip};
-use rhai_base::leaves::due::{arguments_due, no_bang};
-use rhai_base::leaves::links::{is_name, is_negated, member_due, unscoped, what_links};
-use rhai_base::leaves::names::{Call, make_method};
-use rhai_base::leaves::refusals::reserved;
-use rhai_base::leaves::tokens::{is_called, what_calls};
+use rhai_base::words::{Call, make_method};
 use rhai_base::{Frame, ParseSettings};
 use rhai_grammar::{Calling, Linking, ParseResult};
 use rhai_language::Shared;
+use rhai_leaves::cursor::{peek, skip};
+use rhai_leaves::due::{arguments_due, no_bang};
+use rhai_leaves::links::{is_name, is_negated, member_due, unscoped, what_links};
+use rhai_leaves::refusals::reserved;
+use rhai_leaves::tokens::{is_called, what_calls};
 use rhai_lower::Expr;
 use rhai_trees::{Link, LinkKind, indexed_operand, test_links};
 

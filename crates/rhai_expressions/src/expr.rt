@@ -9,22 +9,23 @@ ghost use Rattle.rhai_language.specs.Readers.{primary, right_operand, views_of};
 use crate::asks::next_operator;
 use crate::paths::{NamedOperand, named_operand};
 use crate::reader::{ExprReader, ReadStatements};
-use rhai_base::cursor::{peek, skip, take};
-use rhai_base::leaves::constructs::may_be_value;
-use rhai_base::leaves::due::match_token;
-use rhai_base::leaves::lists::{closes_list, list_continues};
-use rhai_base::leaves::modules::{test_module, test_path};
-use rhai_base::leaves::names::{as_variable, is_qualified_name, make_call, name_node, word_node};
-use rhai_base::leaves::refusals::{missing, no_operand};
-use rhai_base::leaves::tokens::{
-    excludes_use, is_called, is_no_argument, is_sign, place_after, value_of, what_begins,
-    what_operand,
-};
+use rhai_base::modules::{test_module, test_path};
+use rhai_base::places::may_be_value;
+use rhai_base::words::{as_variable, is_qualified_name, make_call, name_node, word_node};
 use rhai_base::{Frame, ParseSettings};
 use rhai_grammar::{Beginning, CommaList, DueToken, OperandPlace, OperandStart, ParseResult};
 use rhai_language::Shared;
+use rhai_leaves::cursor::{peek, skip, take};
+use rhai_leaves::due::match_token;
+use rhai_leaves::lists::{closes_list, list_continues};
+use rhai_leaves::refusals::{missing, no_operand};
+use rhai_leaves::tokens::{
+    excludes_use, is_called, is_no_argument, is_sign, place_after, value_of, what_begins,
+    what_operand,
+};
 use rhai_lower::Expr;
-use rhai_trees::{make_binary, make_chain, make_statement_value, make_unary};
+use rhai_statement_trees::make_statement_value;
+use rhai_trees::{make_binary, make_chain, make_unary};
 
 impl<S: ReadStatements> ExprReader<'_, S> {
     /// Reads an operand without its sign, and without what calls it.

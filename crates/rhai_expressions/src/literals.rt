@@ -8,16 +8,16 @@ ghost use Rattle.std.specs.Rc.{rc_str_bytes};
 
 use crate::asks::{next_key, next_text};
 use crate::reader::{ExprReader, ReadStatements};
-use rhai_base::cursor::{peek, skip};
-use rhai_base::leaves::items::item_place;
-use rhai_base::leaves::lists::list_continues;
-use rhai_base::leaves::refusals::no_item;
 use rhai_base::{Frame, ParseSettings};
 use rhai_grammar::{CommaList, ItemPlace, ParseResult};
 use rhai_language::Shared;
 use rhai_language::blocks::begin_block;
+use rhai_leaves::cursor::{peek, skip};
+use rhai_leaves::items::item_place;
+use rhai_leaves::lists::list_continues;
+use rhai_leaves::refusals::no_item;
 use rhai_lower::{Expr, Ident};
-use rhai_trees::{make_block, push_segment, push_text};
+use rhai_statement_trees::{make_block, push_segment, push_text};
 use std::rc::RcStr;
 
 impl<S: ReadStatements> ExprReader<'_, S> {

@@ -11,11 +11,11 @@ ghost use Rattle.rhai_reading.specs.Running.{Fails, Gives, exec, guarded, result
 ghost use Rattle.rhai_expressions.specs.Views.{variable_view};
 
 use rhai_base::Frame;
-use rhai_base::cursor::skip;
-use rhai_base::leaves::names::qualify;
-use rhai_base::leaves::statements::parse_var_name;
-use rhai_base::leaves::tokens::{is_called, is_qualified};
+use rhai_base::words::qualify;
 use rhai_grammar::ParseResult;
+use rhai_leaves::cursor::skip;
+use rhai_leaves::statements::parse_var_name;
+use rhai_leaves::tokens::{is_called, is_qualified};
 use rhai_lower::{Position, TokenStream, VariableExpr};
 use std::alloc::Global;
 

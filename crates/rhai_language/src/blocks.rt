@@ -5,9 +5,9 @@ ghost use Rattle.rhai_grammar.specs.Cursors.{cursor_of, left};
 ghost use Rattle.rhai_reading.specs.Reading.{BlockStart};
 ghost use Rattle.rhai_reading.specs.Running.{Gives, result_of};
 
-use rhai_base::cursor::peek;
-use rhai_base::leaves::due::match_token;
 use rhai_grammar::{DueToken, ParseResult};
+use rhai_leaves::cursor::peek;
+use rhai_leaves::due::match_token;
 use rhai_lower::{Position, TokenStream};
 use std::alloc::Global;
 

@@ -21,7 +21,7 @@ use Rattle.rhai_grammar.specs.Definitions.{after_statements}
 use Rattle.rhai_grammar.specs.Promises.{Accepts, IsScript, IsScriptOf, HasRead, ReadsExpression, ReadsScript, ReadsWhole}
 use Rattle.rhai_grammar.specs.Promises.{Returns, UnlessMemory}
 use Rattle.rhai_grammar.specs.declared.error.ParseError.{ParseError}
-use Rattle.rhai_base.proofs.ErrorLemmas.{memory_cause}
+use Rattle.rhai_leaves.proofs.ErrorLemmas.{memory_cause}
 use Rattle.rhai_reading.specs.Reading.{Goal, Script, Val, Whole}
 use Rattle.rhai_reading.specs.Running.{Done, Fails, result_of}
 use Rattle.rhai_reading.proofs.Main as M

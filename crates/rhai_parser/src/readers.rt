@@ -8,11 +8,11 @@ ghost use Rattle.rhai_reading.specs.Running.{need};
 ghost use Rattle.rhai_language.specs.Readers.{GoesOn, Reads, construct, expression, inside, state_of, statement};
 ghost use Rattle.rhai_language.specs.Readers.{statements, statements_of, whole, with_live};
 
-use rhai_base::leaves::due::end_due;
 use rhai_base::{Frame, ParseSettings};
 use rhai_expressions::{ExprReader, ReadStatements};
 use rhai_grammar::{Closing, Construct, ParseResult};
 use rhai_language::{Language, Shared};
+use rhai_leaves::due::end_due;
 use rhai_lower::{Expr, Stmt};
 use rhai_statements::{ReadExpressions, StmtReader};
 

@@ -15,7 +15,7 @@ use Rattle.rhai_reading.specs.Reading.{DefaultEnd, default_end_at}
 use Rattle.rhai_reading.specs.Running as R
 use Rattle.rhai_reading.specs.Running.{Caller, Fails, Gives, and_then, exec, guarded, recast, result_of}
 use Rattle.rhai_reading.proofs.Steps.{step_default_end}
-use Rattle.rhai_base.specs.Arms.{EndsDefault}
+use Rattle.rhai_leaves.specs.Arms.{EndsDefault}
 
 not_memory : (a b : Bool) → (a ≡ true → b ≡ true) → b ≡ false → a ≡ false
 not_memory false b h e = refl

@@ -11,13 +11,13 @@ ghost use Rattle.rhai_reading.specs.Reading.{ArmEnd, DefaultEnd, arm_on, default
 ghost use Rattle.rhai_reading.specs.Running.{Caller, Done, Gives, Out, and_then, exec, recast, result_of};
 ghost use Rattle.rhai_language.specs.Readers.{views_of};
 ghost use Rattle.rhai_statements.specs.Switches.{action_view, arm_view};
-ghost use Rattle.rhai_trees.specs.Switches.{collected_view};
+ghost use Rattle.rhai_statement_trees.specs.Switches.{collected_view};
 
-use rhai_base::leaves::arms::{arm_continues, as_literal, default_ends};
 use rhai_grammar::ParseResult;
+use rhai_leaves::arms::{arm_continues, as_literal, default_ends};
 use rhai_lower::ast::SwitchCasesCollection;
 use rhai_lower::{Expr, Position, Stmt, TokenStream};
-use rhai_trees::{ends_arm, make_statement_value, test_cases};
+use rhai_statement_trees::{ends_arm, make_statement_value, test_cases};
 use std::alloc::Global;
 
 /// What an arm of a `switch` does.

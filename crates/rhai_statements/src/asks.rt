@@ -1,27 +1,33 @@
-//! What the readers of statements ask for by leaves, as the reading program gives it: the name of a definition, and the
-//! ends of a block and of an assignment.
+//! What the readers of statements ask for by leaves: the name of a definition and the ends of a block and of an
+//! assignment, as the reading program gives them, and whether the value of a jump begins.
 
 ghost use Rattle.std.specs.Prelude.{◌≡◌, ◌≤◌, IfOk, false};
 ghost use Rattle.rhai_lower.specs.Lexemes.{lexeme};
 ghost use Rattle.rhai_lower.specs.Nodes.{assignment};
 ghost use Rattle.rhai_lower.specs.View.{block_view, statement_view, view};
+ghost use Rattle.rhai_grammar.specs.Contexts.{Context, allows_looping};
 ghost use Rattle.rhai_grammar.specs.Cursors.{Cursor, cursor_of, left};
+ghost use Rattle.rhai_grammar.specs.Starts.{starts};
 ghost use Rattle.rhai_grammar.specs.Statements.{ends_itself};
 ghost use Rattle.rhai_grammar.specs.Targets.{is_constant_use, target_fault, update_of};
+ghost use Rattle.rhai_base.specs.Settings.{settings_of};
 ghost use Rattle.rhai_reading.specs.Reading.{BlockEnd};
 ghost use Rattle.rhai_reading.specs.Reading.{assigned_on};
 ghost use Rattle.rhai_reading.specs.Running.{Caller, Gives, exec, result_of};
 ghost use Rattle.rhai_statements.specs.Loops.{name_view};
 ghost use Rattle.rhai_language.specs.Readers.{statements_of, var_name};
 
-use rhai_base::cursor::peek;
-use rhai_base::leaves::due::match_token;
-use rhai_base::leaves::statements::parse_var_name;
+use rhai_base::places::may_be_value;
 use rhai_base::{Frame, ParseSettings};
-use rhai_grammar::{DueToken, ParseResult};
+use rhai_grammar::{Beginning, DueToken, ParseResult};
 use rhai_language::Language;
+use rhai_leaves::cursor::peek;
+use rhai_leaves::due::match_token;
+use rhai_leaves::statements::parse_var_name;
+use rhai_leaves::tokens::what_begins;
 use rhai_lower::{Expr, Position, Stmt, StmtBlock, Token, TokenStream};
-use rhai_trees::{make_assignment, make_block, slot_of, test_target};
+use rhai_statement_trees::{make_assignment, make_block};
+use rhai_trees::{slot_of, test_target};
 use std::alloc::Global;
 use std::rc::RcStr;
 
@@ -78,4 +84,29 @@ pub(crate) fn end_assignment(
     let constant = frame.is_constant(slot_of(&target));
     test_target(alloc, constant, &op, pos, &target)?;
     Ok(make_assignment(alloc, op, pos, target, value)?)
+}
+
+/// Whether a token begins an expression under these settings, so that it is the value of the `return`, `throw` or
+/// `break` before it. `looping` is whether the engine lets scripts have loops. A construct begins an expression only
+/// where it may be an operand. An error of the tokenizer counts as a beginning.
+pub(crate) fn starts_expression(settings: ParseSettings, looping: bool, token: &Token) -> bool
+    ensures { (context : Context) → context.settings ≡ settings_of settings → looping ≡ allows_looping context
+        → result ≡ starts context (lexeme token.now) }
+{
+    if matches!(token, Token::LexError(_)) {
+        return true;
+    }
+    match what_begins(token) {
+        Beginning::Nothing => false,
+        Beginning::Construct(construct) => may_be_value(settings, looping, construct),
+        Beginning::Value
+        | Beginning::Name
+        | Beginning::Word
+        | Beginning::Group
+        | Beginning::Array
+        | Beginning::Map
+        | Beginning::Interpolated
+        | Beginning::Sign
+        | Beginning::Range => true,
+    }
 }

@@ -9,15 +9,15 @@ use crate::control::{
     catch_frame, end_guard, end_iterated, loop_frame, next_catch, next_do_end, next_loop_names,
 };
 use crate::reader::{ReadExpressions, StmtReader};
-use rhai_base::cursor::peek;
-use rhai_base::leaves::constructs::guard_begins;
-use rhai_base::leaves::due::pass_token;
 use rhai_base::{Frame, ParseSettings};
 use rhai_grammar::{Construct, DueToken, ParseResult};
 use rhai_language::Shared;
 use rhai_language::blocks::begin_block;
+use rhai_leaves::constructs::guard_begins;
+use rhai_leaves::cursor::peek;
+use rhai_leaves::due::pass_token;
 use rhai_lower::{Expr, Position, Stmt, StmtBlock};
-use rhai_trees::{
+use rhai_statement_trees::{
     make_block_statement, make_do, make_for, make_if, make_try, make_while, no_block,
 };
 

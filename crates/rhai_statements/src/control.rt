@@ -13,10 +13,10 @@ ghost use Rattle.rhai_reading.specs.Running.{Caller, Gives, exec, result_of};
 ghost use Rattle.rhai_statements.specs.Loops.{loop_names, loop_view, name_view};
 
 use rhai_base::Frame;
-use rhai_base::leaves::constructs::{end_do, guard_ends, test_counter};
-use rhai_base::leaves::due::{match_token, pass_token};
-use rhai_base::leaves::statements::parse_var_name;
 use rhai_grammar::{DueToken, ParseResult};
+use rhai_leaves::constructs::{end_do, guard_ends, test_counter};
+use rhai_leaves::due::{match_token, pass_token};
+use rhai_leaves::statements::parse_var_name;
 use rhai_lower::{Expr, Position, TokenStream};
 use rhai_trees::{test_guard, test_iterated};
 use std::alloc::{AllocError, Global};

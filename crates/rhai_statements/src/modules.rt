@@ -13,11 +13,11 @@ ghost use Rattle.rhai_reading.specs.Running.{Gives, result_of};
 ghost use Rattle.rhai_base.specs.Frames.{SamePlace};
 
 use rhai_base::Frame;
-use rhai_base::leaves::due::pass_token;
-use rhai_base::leaves::statements::parse_var_name;
 use rhai_grammar::{DueToken, ParseResult};
+use rhai_leaves::due::pass_token;
+use rhai_leaves::statements::parse_var_name;
 use rhai_lower::{Position, Stmt, TokenStream};
-use rhai_trees::make_export;
+use rhai_statement_trees::make_export;
 use std::alloc::{AllocError, Global};
 use std::num::NonZeroUsize;
 use std::rc::RcStr;

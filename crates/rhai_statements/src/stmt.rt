@@ -10,23 +10,22 @@ ghost use Rattle.rhai_grammar.specs.Cursors.{left};
 ghost use Rattle.rhai_grammar.specs.Statements.{ends_itself};
 ghost use Rattle.rhai_base.specs.Frames.{SamePlace};
 ghost use Rattle.rhai_language.specs.Readers.{inside, jump, state_of, statements, statements_of, with_live};
-ghost use Rattle.rhai_trees.specs.Statements.{optional_view};
+ghost use Rattle.rhai_statement_trees.specs.Statements.{optional_view};
 
-use crate::asks::{end_assignment, end_block, next_var_name};
+use crate::asks::{end_assignment, end_block, next_var_name, starts_expression};
 use crate::modules::{define_as, export_name, next_alias};
 use crate::reader::{ReadExpressions, StmtReader};
-use rhai_base::cursor::{peek, skip, take};
-use rhai_base::leaves::constructs::{test_global, test_loop};
-use rhai_base::leaves::statements::{
-    assigns, has_value, list_ends, parse_var_name, statement_continues, what_is_exported,
-    what_starts,
-};
-use rhai_base::leaves::tokens::starts_expression;
+use rhai_base::places::{test_global, test_loop};
 use rhai_base::{Frame, ParseSettingFlags, ParseSettings};
 use rhai_grammar::{Closing, ParseResult, StatementStart};
 use rhai_language::Shared;
+use rhai_leaves::cursor::{peek, skip, take};
+use rhai_leaves::statements::{
+    assigns, has_value, list_ends, parse_var_name, statement_continues, what_is_exported,
+    what_starts,
+};
 use rhai_lower::{Expr, Position, Stmt, StmtBlock};
-use rhai_trees::{
+use rhai_statement_trees::{
     ends_itself, make_break, make_continue, make_definition, make_expression, make_import,
     make_jump, push_statement,
 };

@@ -10,18 +10,18 @@ ghost use Rattle.rhai_language.specs.Readers.{Covers, GoesOn, Reads, action, arm
 ghost use Rattle.rhai_language.specs.Readers.{construct};
 ghost use Rattle.rhai_language.specs.Readers.{default_arm, state_of, views_of};
 ghost use Rattle.rhai_statements.specs.Switches.{action_view, arm_view};
-ghost use Rattle.rhai_trees.specs.Switches.{collected_view};
+ghost use Rattle.rhai_statement_trees.specs.Switches.{collected_view};
 
 use crate::arms::{Action, Arm, as_case, end_arm, end_default, end_statement_action};
 use crate::reader::{ReadExpressions, StmtReader};
-use rhai_base::leaves::arms::{NextArm, action_due, default_unguarded, next_arm};
-use rhai_base::leaves::due::{match_token, pass_token};
 use rhai_base::{Frame, ParseSettingFlags, ParseSettings};
 use rhai_grammar::{DueToken, ParseResult};
 use rhai_language::Shared;
+use rhai_leaves::arms::{NextArm, action_due, default_unguarded, next_arm};
+use rhai_leaves::due::{match_token, pass_token};
 use rhai_lower::ast::SwitchCasesCollection;
 use rhai_lower::{Expr, Position, Stmt};
-use rhai_trees::{make_switch, new_arms, no_guard, push_arm, push_default};
+use rhai_statement_trees::{make_switch, new_arms, no_guard, push_arm, push_default};
 
 impl<E: ReadExpressions> StmtReader<'_, E> {
     /// Reads a `switch` after its keyword, where the settings stand.

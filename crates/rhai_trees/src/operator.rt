@@ -12,7 +12,7 @@ ghost use Rattle.rhai_grammar.specs.declared.role.ListKind.TheVariants.{And, Coa
 ghost use Rattle.rhai_trees.specs.Views.{operand_fault, part_view};
 
 use crate::call::{contains_call, native_call};
-use crate::construct::test_guard;
+use crate::guard::test_guard;
 use rhai_grammar::{Joining, ListKind, ParseResult};
 use rhai_lower::{Expr, Position, Token};
 use std::alloc::{AllocError, Global};

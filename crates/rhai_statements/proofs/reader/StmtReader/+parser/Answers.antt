@@ -4,7 +4,7 @@ use Rattle.rhai_grammar.specs.Cursors.{cursor_of}
 use Rattle.rhai_reading.specs.Running.{guarded}
 use Rattle.rhai_language.specs.Readers.{arm, default_arm, state_of}
 use Rattle.rhai_statements.specs.Switches.{arm_view}
-use Rattle.rhai_trees.specs.Switches.{collected_view}
+use Rattle.rhai_statement_trees.specs.Switches.{collected_view}
 use Rattle.rhai_statements.proofs.reader.StmtReader.+parser.Goals as goal
 use Rattle.rhai_language.proofs.Given.{gives_so}
 use Rattle.rhai_statements.proofs.Readers as rule

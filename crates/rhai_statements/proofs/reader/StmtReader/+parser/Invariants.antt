@@ -3,7 +3,7 @@ use Rattle.rhai_lower.specs.Nodes.{no_statements}
 use Rattle.rhai_grammar.specs.Cursors.{left}
 use Rattle.rhai_grammar.specs.declared.role.Construct.TheVariants as kind
 use Rattle.rhai_grammar.specs.Switches.{nothing_collected}
-use Rattle.rhai_trees.specs.Switches.{collected_view}
+use Rattle.rhai_statement_trees.specs.Switches.{collected_view}
 use Rattle.rhai_reading.specs.Running.{need, result_of}
 use Rattle.rhai_base.specs.Frames.{SamePlace}
 use Rattle.rhai_language.specs.Readers.{GoesOn, action, arm, arms, default_arm, block, braced, branch, conditional, construct, inside, statement, statements, statements_of, state_of}

@@ -1,0 +1,53 @@
+//! Where settings let constructs, `break`, `continue` and `export` stand.
+
+ghost use Rattle.std.specs.Prelude.{◌≡◌, IfErr, OnOk, false, true};
+ghost use Rattle.rhai_grammar.specs.Constructs.{may_be_value};
+ghost use Rattle.rhai_grammar.specs.Contexts.{Context, allows_looping};
+ghost use Rattle.rhai_grammar.specs.Settings.{at_global_level, in_loop};
+ghost use Rattle.rhai_base.specs.Settings.{no_export, no_loop, settings_of};
+
+use crate::flags::{LangOptions, ParseSettingFlags};
+use crate::settings::ParseSettings;
+use rhai_grammar::{Construct, ParseError, ParseErrorType, ParseResult};
+use rhai_lower::Position;
+
+/// Whether a construct may be an operand under these settings: each kind has an option of its own, and `try` is none.
+/// `looping` is whether the engine lets scripts have loops; without, a loop is no operand either.
+pub fn may_be_value(settings: ParseSettings, looping: bool, construct: Construct) -> bool
+    ensures { (context : Context) → context.settings ≡ settings_of settings → looping ≡ allows_looping context
+        → result ≡ may_be_value context construct }
+{
+    match construct {
+        Construct::Block => settings.has_option(LangOptions::STMT_EXPR),
+        Construct::If => settings.has_option(LangOptions::IF_EXPR),
+        Construct::Switch => settings.has_option(LangOptions::SWITCH_EXPR),
+        Construct::While | Construct::Loop | Construct::Do | Construct::For => {
+            looping && settings.has_option(LangOptions::LOOP_EXPR)
+        }
+        Construct::Try => false,
+    }
+}
+
+/// Refuses a `break` or `continue` that is not in the body of a loop. The error is `LoopBreak` at `pos`. Does not
+/// allocate.
+pub fn test_loop(settings: ParseSettings, pos: Position) -> ParseResult<()>
+    ensures passes { OnOk result (in_loop (settings_of settings) ≡ true) }
+    ensures refused { IfErr result (λ e. (in_loop (settings_of settings) ≡ false) × (e ≡ no_loop pos)) }
+{
+    if settings.has_flag(ParseSettingFlags::BREAKABLE) {
+        return Ok(());
+    }
+    Err(ParseError(ParseErrorType::LoopBreak, pos))
+}
+
+/// Refuses an `export` that is not at the global level of a script. The error is `WrongExport` at `pos`. Does not
+/// allocate.
+pub fn test_global(settings: ParseSettings, pos: Position) -> ParseResult<()>
+    ensures passes { OnOk result (at_global_level (settings_of settings) ≡ true) }
+    ensures refused { IfErr result (λ e. (at_global_level (settings_of settings) ≡ false) × (e ≡ no_export pos)) }
+{
+    if settings.has_flag(ParseSettingFlags::GLOBAL_LEVEL) {
+        return Ok(());
+    }
+    Err(ParseError(ParseErrorType::WrongExport, pos))
+}

@@ -1,0 +1,4 @@
+pub mod ErrorLemmas
+pub mod LiteralLemmas
+pub mod OperatorLemmas
+pub mod TokenLemmas

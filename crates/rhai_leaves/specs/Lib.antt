@@ -1,0 +1,10 @@
+pub mod Arms
+pub mod CommaLists
+pub mod Constructs
+pub mod DueTokens
+pub mod MapKeys
+pub mod Members
+pub mod Operators
+pub mod Shown
+pub mod Statements
+pub mod Strings

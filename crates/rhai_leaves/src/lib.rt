@@ -1,0 +1,18 @@
+//! What the readers ask of tokens and make of them without reading an expression: tests, operators, keys, lists, texts
+//! of strings, due tokens, statements, constructs, arms of `switch` and refusals. None of it knows settings or what is
+//! live.
+#![tactic(auto)]
+
+pub mod arms;
+pub mod constructs;
+pub mod cursor;
+pub mod due;
+pub mod items;
+pub mod keys;
+pub mod links;
+pub mod lists;
+pub mod operators;
+pub mod refusals;
+pub mod statements;
+pub mod strings;
+pub mod tokens;

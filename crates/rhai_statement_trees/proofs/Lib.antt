@@ -1,0 +1,4 @@
+pub mod LiteralLemmas
+pub mod StatementLemmas
+pub mod StringLemmas
+pub mod SwitchLemmas
