@@ -8,11 +8,11 @@ ghost use Rattle.rhai_language.specs.Readers.{Covers, GoesOn, Reads, called, ind
 ghost use Rattle.rhai_expressions.specs.Views.{call_view, linked};
 
 use crate::asks::end_index;
-use crate::reader::{ExprReader, ReadStatements};
+use crate::reader::ExprReader;
 use rhai_base::words::{Call, make_method};
 use rhai_base::{Frame, ParseSettings};
 use rhai_grammar::{Calling, Linking, ParseResult};
-use rhai_language::Shared;
+use rhai_language::{LentReaders, Shared};
 use rhai_leaves::cursor::{peek, skip};
 use rhai_leaves::due::{arguments_due, no_bang};
 use rhai_leaves::links::{is_name, is_negated, member_due, unscoped, what_links};
@@ -21,7 +21,7 @@ use rhai_leaves::tokens::{is_called, what_calls};
 use rhai_lower::Expr;
 use rhai_trees::{Link, LinkKind, indexed_operand, test_links};
 
-impl<S: ReadStatements> ExprReader<'_, S> {
+impl<R: LentReaders> ExprReader<'_, R> {
     /// Reads what calls the name before it; without that, there is no `!` and no argument. A name with a path, which
     /// `qualified` says it is, may not be called with a `!`. A raise of the arguments' level is refused where the
     /// settings stand.
@@ -34,7 +34,7 @@ impl<S: ReadStatements> ExprReader<'_, S> {
         settings: ParseSettings,
         qualified: bool,
     ) -> ParseResult<Call>
-        requires lent { Covers (S.lent self.now.statements) (called self.now.language.now frame.now settings
+        requires lent { Covers (R.lent self.now.readers) (called self.now.language.now frame.now settings
             qualified) shared.old }
         ensures goes_on { GoesOn shared.old shared.new }
         ensures reads { Reads (called self.now.language.now frame.now settings qualified) call_view shared.old result
@@ -84,7 +84,7 @@ impl<S: ReadStatements> ExprReader<'_, S> {
         settings: ParseSettings,
         lhs: &Expr,
     ) -> ParseResult<Vec<Link>>
-        requires lent { Covers (S.lent self.now.statements) (links self.now.language.now frame.now settings
+        requires lent { Covers (R.lent self.now.readers) (links self.now.language.now frame.now settings
             (view lhs.now)) shared.old }
         ensures goes_on { GoesOn shared.old shared.new }
         ensures reads { Reads (links self.now.language.now frame.now settings (view lhs.now)) linked shared.old result
@@ -145,7 +145,7 @@ impl<S: ReadStatements> ExprReader<'_, S> {
         settings: ParseSettings,
         indexed: Option<&Expr>,
     ) -> ParseResult<Expr>
-        requires lent { Covers (S.lent self.now.statements) (index self.now.language.now frame.now settings
+        requires lent { Covers (R.lent self.now.readers) (index self.now.language.now frame.now settings
             (option_map (λ x. view x.now) indexed)) shared.old }
         ensures goes_on { GoesOn shared.old shared.new }
         ensures reads { Reads (index self.now.language.now frame.now settings (option_map (λ x.
@@ -165,7 +165,7 @@ impl<S: ReadStatements> ExprReader<'_, S> {
         settings: ParseSettings,
     ) -> ParseResult<Expr>
         requires seen { is_end (asked (cursor_of shared.now.input.now)).lexeme ≡ false }
-        requires lent { Covers (S.lent self.now.statements) (member self.now.language.now frame.now settings)
+        requires lent { Covers (R.lent self.now.readers) (member self.now.language.now frame.now settings)
             shared.old }
         ensures goes_on { GoesOn shared.old shared.new }
         ensures reads { Reads (member self.now.language.now frame.now settings) view shared.old result shared.new }

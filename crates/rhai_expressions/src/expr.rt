@@ -8,13 +8,13 @@ ghost use Rattle.rhai_language.specs.Readers.{primary, right_operand, views_of};
 
 use crate::asks::next_operator;
 use crate::paths::{NamedOperand, named_operand};
-use crate::reader::{ExprReader, ReadStatements};
+use crate::reader::ExprReader;
 use rhai_base::modules::{test_module, test_path};
 use rhai_base::places::may_be_value;
 use rhai_base::words::{as_variable, is_qualified_name, make_call, name_node, word_node};
 use rhai_base::{Frame, ParseSettings};
 use rhai_grammar::{Beginning, CommaList, DueToken, OperandPlace, OperandStart, ParseResult};
-use rhai_language::Shared;
+use rhai_language::{LentReaders, Shared};
 use rhai_leaves::cursor::{peek, skip, take};
 use rhai_leaves::due::match_token;
 use rhai_leaves::lists::{closes_list, list_continues};
@@ -27,7 +27,7 @@ use rhai_lower::Expr;
 use rhai_statement_trees::make_statement_value;
 use rhai_trees::{make_binary, make_chain, make_unary};
 
-impl<S: ReadStatements> ExprReader<'_, S> {
+impl<R: LentReaders> ExprReader<'_, R> {
     /// Reads an operand without its sign, and without what calls it.
     #[tactic(auto, using(crate::proofs::Readers::parse_primary))]
     #[cycle(parser)]
@@ -37,7 +37,7 @@ impl<S: ReadStatements> ExprReader<'_, S> {
         frame: &Frame<'_>,
         settings: ParseSettings,
     ) -> ParseResult<Expr>
-        requires lent { Covers (S.lent self.now.statements) (primary self.now.language.now frame.now settings)
+        requires lent { Covers (R.lent self.now.readers) (primary self.now.language.now frame.now settings)
             shared.old }
         ensures goes_on { GoesOn shared.old shared.new }
         ensures reads { Reads (primary self.now.language.now frame.now settings) view shared.old result shared.new }
@@ -101,7 +101,7 @@ impl<S: ReadStatements> ExprReader<'_, S> {
                 skip(shared.input);
                 let deeper = settings.at(pos).level_up()?.level_up()?;
                 let statement = self
-                    .statements
+                    .readers
                     .parse_construct(self.language, shared, frame, deeper, kind)?;
                 Ok(make_statement_value(self.language.alloc(), statement)?)
             }
@@ -125,7 +125,7 @@ impl<S: ReadStatements> ExprReader<'_, S> {
         settings: ParseSettings,
         operand: Expr,
     ) -> ParseResult<Expr>
-        requires lent { Covers (S.lent self.now.statements) (postfix self.now.language.now frame.now settings
+        requires lent { Covers (R.lent self.now.readers) (postfix self.now.language.now frame.now settings
             (view operand)) shared.old }
         ensures goes_on { GoesOn shared.old shared.new }
         ensures reads { Reads (postfix self.now.language.now frame.now settings (view operand)) view shared.old result
@@ -158,7 +158,7 @@ impl<S: ReadStatements> ExprReader<'_, S> {
         frame: &Frame<'_>,
         settings: ParseSettings,
     ) -> ParseResult<Vec<Expr>>
-        requires lent { Covers (S.lent self.now.statements) (arguments self.now.language.now frame.now settings)
+        requires lent { Covers (R.lent self.now.readers) (arguments self.now.language.now frame.now settings)
             shared.old }
         ensures goes_on { GoesOn shared.old shared.new }
         ensures reads { Reads (arguments self.now.language.now frame.now settings) views_of shared.old result
@@ -186,7 +186,7 @@ impl<S: ReadStatements> ExprReader<'_, S> {
         frame: &Frame<'_>,
         settings: ParseSettings,
     ) -> ParseResult<Vec<Expr>>
-        requires lent { Covers (S.lent self.now.statements) (items self.now.language.now frame.now settings no_nodes)
+        requires lent { Covers (R.lent self.now.readers) (items self.now.language.now frame.now settings no_nodes)
             shared.old }
         ensures goes_on { GoesOn shared.old shared.new }
         ensures reads { Reads (items self.now.language.now frame.now settings no_nodes) views_of shared.old result
@@ -218,7 +218,7 @@ impl<S: ReadStatements> ExprReader<'_, S> {
         settings: ParseSettings,
         place: OperandPlace,
     ) -> ParseResult<Expr>
-        requires lent { Covers (S.lent self.now.statements) (right_operand self.now.language.now frame.now settings
+        requires lent { Covers (R.lent self.now.readers) (right_operand self.now.language.now frame.now settings
             place) shared.old }
         ensures goes_on { GoesOn shared.old shared.new }
         ensures reads { Reads (right_operand self.now.language.now frame.now settings place) view shared.old result
@@ -229,7 +229,7 @@ impl<S: ReadStatements> ExprReader<'_, S> {
             OperandStart::Omitted => Ok(Expr::Unit(*pos)),
             OperandStart::Jump => {
                 let mut inner = frame.inner(self.language.alloc());
-                let jump = self.statements.parse_stmt(
+                let jump = self.readers.parse_stmt(
                     self.language,
                     shared,
                     &mut inner,
@@ -250,7 +250,7 @@ impl<S: ReadStatements> ExprReader<'_, S> {
         frame: &Frame<'_>,
         settings: ParseSettings,
     ) -> ParseResult<Expr>
-        requires lent { Covers (S.lent self.now.statements) (operand self.now.language.now frame.now settings)
+        requires lent { Covers (R.lent self.now.readers) (operand self.now.language.now frame.now settings)
             shared.old }
         ensures goes_on { GoesOn shared.old shared.new }
         ensures reads { Reads (operand self.now.language.now frame.now settings) view shared.old result shared.new }
@@ -284,7 +284,7 @@ impl<S: ReadStatements> ExprReader<'_, S> {
         parent: u8,
         lhs: Expr,
     ) -> ParseResult<Expr>
-        requires lent { Covers (S.lent self.now.statements) (binary_op self.now.language.now frame.now settings
+        requires lent { Covers (R.lent self.now.readers) (binary_op self.now.language.now frame.now settings
             (position_of (view lhs)) parent (view lhs)) shared.old }
         ensures goes_on { GoesOn shared.old shared.new }
         ensures reads { Reads (binary_op self.now.language.now frame.now settings (position_of (view lhs)) parent
@@ -325,7 +325,7 @@ impl<S: ReadStatements> ExprReader<'_, S> {
         frame: &Frame<'_>,
         settings: ParseSettings,
     ) -> ParseResult<Expr>
-        requires lent { Covers (S.lent self.now.statements) (expression self.now.language.now frame.now settings)
+        requires lent { Covers (R.lent self.now.readers) (expression self.now.language.now frame.now settings)
             shared.old }
         ensures goes_on { GoesOn shared.old shared.new }
         ensures reads { Reads (expression self.now.language.now frame.now settings) view shared.old result shared.new }

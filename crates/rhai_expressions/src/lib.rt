@@ -8,4 +8,4 @@ mod literals;
 mod paths;
 pub mod reader;
 
-pub use reader::{ExprReader, ReadStatements};
+pub use reader::ExprReader;

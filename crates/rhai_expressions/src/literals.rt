@@ -7,11 +7,11 @@ ghost use Rattle.rhai_grammar.specs.Interpolations.{added_text};
 ghost use Rattle.std.specs.Rc.{rc_str_bytes};
 
 use crate::asks::{next_key, next_text};
-use crate::reader::{ExprReader, ReadStatements};
+use crate::reader::ExprReader;
 use rhai_base::{Frame, ParseSettings};
 use rhai_grammar::{CommaList, ItemPlace, ParseResult};
-use rhai_language::Shared;
 use rhai_language::blocks::begin_block;
+use rhai_language::{LentReaders, Shared};
 use rhai_leaves::cursor::{peek, skip};
 use rhai_leaves::items::item_place;
 use rhai_leaves::lists::list_continues;
@@ -20,7 +20,7 @@ use rhai_lower::{Expr, Ident};
 use rhai_statement_trees::{make_block, push_segment, push_text};
 use std::rc::RcStr;
 
-impl<S: ReadStatements> ExprReader<'_, S> {
+impl<R: LentReaders> ExprReader<'_, R> {
     /// Reads the items of an array after its `[`, where the settings stand, up to the `]`. The level is raised for each
     /// item anew, and a raise is refused at the `[`.
     #[tactic(auto, using(crate::proofs::Readers::parse_array_literal))]
@@ -31,7 +31,7 @@ impl<S: ReadStatements> ExprReader<'_, S> {
         frame: &Frame<'_>,
         settings: ParseSettings,
     ) -> ParseResult<Vec<Expr>>
-        requires lent { Covers (S.lent self.now.statements) (elements self.now.language.now frame.now settings
+        requires lent { Covers (R.lent self.now.readers) (elements self.now.language.now frame.now settings
             no_nodes) shared.old }
         ensures goes_on { GoesOn shared.old shared.new }
         ensures reads { Reads (elements self.now.language.now frame.now settings no_nodes) views_of shared.old result
@@ -73,7 +73,7 @@ impl<S: ReadStatements> ExprReader<'_, S> {
         frame: &Frame<'_>,
         settings: ParseSettings,
     ) -> ParseResult<Vec<(Ident, Expr)>>
-        requires lent { Covers (S.lent self.now.statements) (fields self.now.language.now frame.now settings
+        requires lent { Covers (R.lent self.now.readers) (fields self.now.language.now frame.now settings
             no_properties) shared.old }
         ensures goes_on { GoesOn shared.old shared.new }
         ensures reads { Reads (fields self.now.language.now frame.now settings no_properties) properties_of shared.old
@@ -105,7 +105,7 @@ impl<S: ReadStatements> ExprReader<'_, S> {
         settings: ParseSettings,
         first: RcStr,
     ) -> ParseResult<Vec<Expr>>
-        requires lent { Covers (S.lent self.now.statements) (segments self.now.language.now frame.now settings
+        requires lent { Covers (R.lent self.now.readers) (segments self.now.language.now frame.now settings
             (added_text no_nodes (rc_str_bytes first) settings.pos)) shared.old }
         ensures goes_on { GoesOn shared.old shared.new }
         ensures reads { Reads (segments self.now.language.now frame.now settings
@@ -119,7 +119,7 @@ impl<S: ReadStatements> ExprReader<'_, S> {
             let start = begin_block(self.language.alloc(), shared.input, note)?;
             let deeper = settings.level_up()?;
             let statements = self
-                .statements
+                .readers
                 .parse_block_inside(self.language, shared, frame, deeper)?;
             let part = next_text(self.language.alloc(), shared.input)?;
             let block = make_block(statements, start, part.end);

@@ -1,6 +1,9 @@
 -- How the contracts of the readers speak of what they read and what they leave.
 use Rattle.std.specs.Prelude.{◌≡◌, ◌≤◌, ℕ, Bool, Option, Result, Vec}
 use Rattle.std.specs.declared.alloc.Global.{Global}
+use Rattle.std.specs.declared.rc.RcStr.{RcStr}
+use Rattle.std.specs.Rc.{rc_str_bytes}
+use Rattle.rhai_lower.specs.Texts.{Text}
 use Rattle.rhai_lower.specs.Nodes.{Node, Nodes, Properties, Statements}
 use Rattle.rhai_lower.specs.View.{property_views, statement_views, views}
 use Rattle.rhai_lower.specs.declared.ast.Expr.{Expr}
@@ -211,6 +214,10 @@ properties_of ps = property_views ps.items
 
 abbrev pub statements_of : Vec Stmt Global → Statements
 statements_of ss = statement_views ss.items
+
+-- a name and its position
+abbrev pub name_view : RcStr Global × Position → Text × Position
+name_view n = (rc_str_bytes n.0, n.1)
 
 -- what a reader returned, and what is live after it
 abbrev pub with_live : {X A : Type 0} → (X → A) → FrameValue → X → A × Live

@@ -1,9 +1,12 @@
-//! What all readers share: what scripts are read under, what they read from, and how their contracts speak.
+//! What all readers share: what scripts are read under, what they read from, how one reads for another, and how their
+//! contracts speak.
 #![tactic(auto)]
 
 pub mod blocks;
 pub mod language;
+pub mod lent;
 pub mod shared;
 
 pub use language::Language;
+pub use lent::LentReaders;
 pub use shared::Shared;

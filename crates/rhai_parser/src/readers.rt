@@ -1,4 +1,4 @@
-//! The readers of expressions and of statements, each lent to the other.
+//! The readers of expressions, of constructs and of statements, each lent to the others.
 
 ghost use Rattle.std.specs.Prelude.{◌≡◌};
 ghost use Rattle.rhai_lower.specs.Nodes.{no_statements};
@@ -9,29 +9,38 @@ ghost use Rattle.rhai_language.specs.Readers.{GoesOn, Reads, construct, expressi
 ghost use Rattle.rhai_language.specs.Readers.{statements, statements_of, whole, with_live};
 
 use rhai_base::{Frame, ParseSettings};
-use rhai_expressions::{ExprReader, ReadStatements};
+use rhai_constructs::ConstructReader;
+use rhai_expressions::ExprReader;
 use rhai_grammar::{Closing, Construct, ParseResult};
-use rhai_language::{Language, Shared};
+use rhai_language::{Language, LentReaders, Shared};
 use rhai_leaves::due::end_due;
 use rhai_lower::{Expr, Stmt};
-use rhai_statements::{ReadExpressions, StmtReader};
+use rhai_statements::StmtReader;
 
-// Statements as these functions read them.
+// Readers, each a function that is lent.
 #[derive(Drop)]
-struct Statements<C, I, S> {
+struct Lent<E, C, I, S> {
+    expr: E,
     construct: C,
     inside: I,
     stmt: S,
 }
 
-impl<C, I, S> ReadStatements for Statements<C, I, S>
+impl<E, C, I, S> LentReaders for Lent<E, C, I, S>
 where
+    E: Fn(&Language, &mut Shared<'_>, &Frame<'_>, ParseSettings) -> ParseResult<Expr>,
     C: Fn(&Language, &mut Shared<'_>, &Frame<'_>, ParseSettings, Construct) -> ParseResult<Stmt>,
     I: Fn(&Language, &mut Shared<'_>, &Frame<'_>, ParseSettings) -> ParseResult<Vec<Stmt>>,
     S: Fn(&Language, &mut Shared<'_>, &mut Frame<'_>, ParseSettings) -> ParseResult<Stmt>,
 {
     ghost lent = { λ s n.
-        ((language : _) (shared : _) (frame : _) (settings : _) (kind : _)
+        ((language : _) (shared : _) (frame : _) (settings : _)
+        → need (expression language.now frame.now settings) (state_of shared.now) ≡ n
+        → E.pre s.expr language shared frame settings
+        × ((result : _) (after : _) → E.post s.expr language shared frame settings result after
+        → GoesOn shared.now after.now
+        × Reads (expression language.now frame.now settings) view shared.now result after.now))
+        × ((language : _) (shared : _) (frame : _) (settings : _) (kind : _)
         → need (construct language.now frame.now settings kind) (state_of shared.now) ≡ n
         → C.pre s.construct language shared frame settings kind
         × ((result : _) (after : _) → C.post s.construct language shared frame settings kind result after
@@ -50,6 +59,16 @@ where
         → GoesOn shared.now after.now
         × Reads (statement language.now frame.now settings) (with_live statement_view left.now) shared.now result
         after.now)) };
+
+    fn parse_expr(
+        &self,
+        language: &Language,
+        shared: &mut Shared<'_>,
+        frame: &Frame<'_>,
+        settings: ParseSettings,
+    ) -> ParseResult<Expr> {
+        (self.expr)(language, shared, frame, settings)
+    }
 
     fn parse_construct(
         &self,
@@ -83,34 +102,6 @@ where
     }
 }
 
-// Expressions as this function reads them.
-#[derive(Drop)]
-struct Expressions<E> {
-    expr: E,
-}
-
-impl<E> ReadExpressions for Expressions<E>
-where
-    E: Fn(&Language, &mut Shared<'_>, &Frame<'_>, ParseSettings) -> ParseResult<Expr>,
-{
-    ghost lent = { λ s n. (language : _) (shared : _) (frame : _) (settings : _)
-        → need (expression language.now frame.now settings) (state_of shared.now) ≡ n
-        → E.pre s.expr language shared frame settings
-        × ((result : _) (after : _) → E.post s.expr language shared frame settings result after
-        → GoesOn shared.now after.now
-        × Reads (expression language.now frame.now settings) view shared.now result after.now) };
-
-    fn parse_expr(
-        &self,
-        language: &Language,
-        shared: &mut Shared<'_>,
-        frame: &Frame<'_>,
-        settings: ParseSettings,
-    ) -> ParseResult<Expr> {
-        (self.expr)(language, shared, frame, settings)
-    }
-}
-
 /// Reads an expression. The level is raised at its first token.
 #[cycle(parser)]
 pub(crate) fn parse_expr(
@@ -122,15 +113,13 @@ pub(crate) fn parse_expr(
     ensures goes_on { GoesOn shared.old shared.new }
     ensures reads { Reads (expression language.now frame.now settings) view shared.old result shared.new }
 {
-    let statements = Statements {
+    let readers = Lent {
+        expr: parse_expr,
         construct: parse_construct,
         inside: parse_block_inside,
         stmt: parse_stmt,
     };
-    let reader = ExprReader {
-        language,
-        statements,
-    };
+    let reader = ExprReader { language, readers };
     reader.parse_expr(shared, frame, settings)
 }
 
@@ -146,11 +135,13 @@ fn parse_construct(
     ensures goes_on { GoesOn shared.old shared.new }
     ensures reads { Reads (construct language.now frame.now settings kind) statement_view shared.old result shared.new }
 {
-    let expressions = Expressions { expr: parse_expr };
-    let reader = StmtReader {
-        language,
-        expressions,
+    let readers = Lent {
+        expr: parse_expr,
+        construct: parse_construct,
+        inside: parse_block_inside,
+        stmt: parse_stmt,
     };
+    let reader = ConstructReader { language, readers };
     reader.parse_construct(shared, frame, settings, kind)
 }
 
@@ -165,11 +156,13 @@ fn parse_block_inside(
     ensures goes_on { GoesOn shared.old shared.new }
     ensures reads { Reads (inside language.now frame.now settings) statements_of shared.old result shared.new }
 {
-    let expressions = Expressions { expr: parse_expr };
-    let reader = StmtReader {
-        language,
-        expressions,
+    let readers = Lent {
+        expr: parse_expr,
+        construct: parse_construct,
+        inside: parse_block_inside,
+        stmt: parse_stmt,
     };
+    let reader = StmtReader { language, readers };
     reader.parse_block_inside(shared, frame, settings)
 }
 
@@ -185,11 +178,13 @@ fn parse_stmt(
     ensures reads { Reads (statement language.now frame.old settings) (with_live statement_view frame.new) shared.old
         result shared.new }
 {
-    let expressions = Expressions { expr: parse_expr };
-    let reader = StmtReader {
-        language,
-        expressions,
+    let readers = Lent {
+        expr: parse_expr,
+        construct: parse_construct,
+        inside: parse_block_inside,
+        stmt: parse_stmt,
     };
+    let reader = StmtReader { language, readers };
     reader.parse_stmt(shared, frame, settings)
 }
 
@@ -223,10 +218,12 @@ pub(crate) fn parse_statements(
     ensures reads { Reads (statements language.now frame.old settings closing no_statements)
         (with_live statements_of frame.new) shared.old result shared.new }
 {
-    let expressions = Expressions { expr: parse_expr };
-    let reader = StmtReader {
-        language,
-        expressions,
+    let readers = Lent {
+        expr: parse_expr,
+        construct: parse_construct,
+        inside: parse_block_inside,
+        stmt: parse_stmt,
     };
+    let reader = StmtReader { language, readers };
     reader.parse_statements(shared, frame, settings, closing)
 }

@@ -1,32 +1,28 @@
-//! What the readers of statements ask for by leaves: the name of a definition and the ends of a block and of an
-//! assignment, as the reading program gives them, and whether the value of a jump begins.
+//! What the readers of statements ask for by leaves: the name of a definition and the end of an assignment, as the
+//! reading program gives them, and whether the value of a jump begins.
 
 ghost use Rattle.std.specs.Prelude.{◌≡◌, ◌≤◌, IfOk, false};
 ghost use Rattle.rhai_lower.specs.Lexemes.{lexeme};
 ghost use Rattle.rhai_lower.specs.Nodes.{assignment};
-ghost use Rattle.rhai_lower.specs.View.{block_view, statement_view, view};
+ghost use Rattle.rhai_lower.specs.View.{statement_view, view};
 ghost use Rattle.rhai_grammar.specs.Contexts.{Context, allows_looping};
 ghost use Rattle.rhai_grammar.specs.Cursors.{Cursor, cursor_of, left};
 ghost use Rattle.rhai_grammar.specs.Starts.{starts};
 ghost use Rattle.rhai_grammar.specs.Statements.{ends_itself};
 ghost use Rattle.rhai_grammar.specs.Targets.{is_constant_use, target_fault, update_of};
 ghost use Rattle.rhai_base.specs.Settings.{settings_of};
-ghost use Rattle.rhai_reading.specs.Reading.{BlockEnd};
 ghost use Rattle.rhai_reading.specs.Reading.{assigned_on};
 ghost use Rattle.rhai_reading.specs.Running.{Caller, Gives, exec, result_of};
-ghost use Rattle.rhai_statements.specs.Loops.{name_view};
-ghost use Rattle.rhai_language.specs.Readers.{statements_of, var_name};
+ghost use Rattle.rhai_language.specs.Readers.{name_view, var_name};
 
 use rhai_base::places::may_be_value;
 use rhai_base::{Frame, ParseSettings};
-use rhai_grammar::{Beginning, DueToken, ParseResult};
+use rhai_grammar::{Beginning, ParseResult};
 use rhai_language::Language;
-use rhai_leaves::cursor::peek;
-use rhai_leaves::due::match_token;
 use rhai_leaves::statements::parse_var_name;
 use rhai_leaves::tokens::what_begins;
-use rhai_lower::{Expr, Position, Stmt, StmtBlock, Token, TokenStream};
-use rhai_statement_trees::{make_assignment, make_block};
+use rhai_lower::{Expr, Position, Stmt, Token, TokenStream};
+use rhai_statement_trees::make_assignment;
 use rhai_trees::{slot_of, test_target};
 use std::alloc::Global;
 use std::rc::RcStr;
@@ -47,24 +43,6 @@ pub(crate) fn next_var_name(
     let (name, pos) = parse_var_name(input)?;
     frame.test_name(language.allow_shadowing(), &name, pos)?;
     Ok((name, pos))
-}
-
-/// A block of these statements, from its `{` at `start` to its `}`, which is taken.
-#[tactic(auto, using(rhai_reading::proofs::Steps::step_block_end))]
-pub(crate) fn end_block(
-    alloc: Global,
-    input: &mut TokenStream,
-    statements: Vec<Stmt>,
-    start: Position,
-) -> ParseResult<StmtBlock>
-    ensures gives { Gives block_view (result_of (BlockEnd start (statements_of statements)) (cursor_of input.old))
-        result (cursor_of input.new) }
-    ensures shorter { left (cursor_of input.new).tokens ≤ left (cursor_of input.old).tokens }
-{
-    let (_, end) = peek(input)?;
-    let end = *end;
-    match_token(alloc, input, DueToken::RightBrace, "to end this block")?;
-    Ok(make_block(statements, start, end))
 }
 
 /// An assignment whose token `op` was at `pos`. What is assigned to is tested.

@@ -1,9 +1,9 @@
-//! Statements: their lists, definitions and blocks.
+//! Statements: their lists, definitions, and what is inside blocks.
 
 ghost use Rattle.std.specs.Prelude.{◌≡◌, ◌+◌, ◌≤◌, IfOk, false, true};
 ghost use Rattle.rhai_lower.specs.Nodes.{no_statements};
-ghost use Rattle.rhai_lower.specs.View.{block_view, statement_view, view};
-ghost use Rattle.rhai_language.specs.Readers.{Covers, GoesOn, Reads, block, definition, expr_statement, initializer};
+ghost use Rattle.rhai_lower.specs.View.{statement_view, view};
+ghost use Rattle.rhai_language.specs.Readers.{Covers, GoesOn, Reads, definition, expr_statement, initializer};
 ghost use Rattle.rhai_language.specs.Readers.{statement};
 ghost use Rattle.rhai_language.specs.Readers.{exported, imported};
 ghost use Rattle.rhai_grammar.specs.Cursors.{left};
@@ -12,29 +12,28 @@ ghost use Rattle.rhai_base.specs.Frames.{SamePlace};
 ghost use Rattle.rhai_language.specs.Readers.{inside, jump, state_of, statements, statements_of, with_live};
 ghost use Rattle.rhai_statement_trees.specs.Statements.{optional_view};
 
-use crate::asks::{end_assignment, end_block, next_var_name, starts_expression};
+use crate::asks::{end_assignment, next_var_name, starts_expression};
 use crate::modules::{define_as, export_name, next_alias};
-use crate::reader::{ReadExpressions, StmtReader};
+use crate::reader::StmtReader;
 use rhai_base::places::{test_global, test_loop};
 use rhai_base::{Frame, ParseSettingFlags, ParseSettings};
 use rhai_grammar::{Closing, ParseResult, StatementStart};
-use rhai_language::Shared;
+use rhai_language::{LentReaders, Shared};
 use rhai_leaves::cursor::{peek, skip, take};
 use rhai_leaves::statements::{
     assigns, has_value, list_ends, parse_var_name, statement_continues, what_is_exported,
     what_starts,
 };
-use rhai_lower::{Expr, Position, Stmt, StmtBlock};
+use rhai_lower::{Expr, Position, Stmt};
 use rhai_statement_trees::{
     ends_itself, make_break, make_continue, make_definition, make_expression, make_import,
     make_jump, push_statement,
 };
 
-impl<E: ReadExpressions> StmtReader<'_, E> {
+impl<R: LentReaders> StmtReader<'_, R> {
     /// Reads the statements of a list, up to the token that closes it, which stays. The definitions among them are
     /// made in the frame.
     #[tactic(auto, using(crate::proofs::Readers::parse_statements))]
-    #[cycle(parser)]
     pub fn parse_statements(
         &self,
         shared: &mut Shared<'_>,
@@ -42,7 +41,7 @@ impl<E: ReadExpressions> StmtReader<'_, E> {
         settings: ParseSettings,
         closing: Closing,
     ) -> ParseResult<Vec<Stmt>>
-        requires lent { Covers (E.lent self.now.expressions) (statements self.now.language.now frame.old settings
+        requires lent { Covers (R.lent self.now.readers) (statements self.now.language.now frame.old settings
             closing no_statements) shared.old }
         ensures goes_on { GoesOn shared.old shared.new }
         ensures place { SamePlace frame.old frame.new }
@@ -69,14 +68,13 @@ impl<E: ReadExpressions> StmtReader<'_, E> {
 
     /// Reads a statement. The level is raised at its first token.
     #[tactic(auto, using(crate::proofs::Readers::parse_stmt))]
-    #[cycle(parser)]
     pub fn parse_stmt(
         &self,
         shared: &mut Shared<'_>,
         frame: &mut Frame<'_>,
         settings: ParseSettings,
     ) -> ParseResult<Stmt>
-        requires lent { Covers (E.lent self.now.expressions) (statement self.now.language.now frame.old settings)
+        requires lent { Covers (R.lent self.now.readers) (statement self.now.language.now frame.old settings)
             shared.old }
         ensures goes_on { GoesOn shared.old shared.new }
         ensures place { SamePlace frame.old frame.new }
@@ -96,7 +94,8 @@ impl<E: ReadExpressions> StmtReader<'_, E> {
             StatementStart::Construct(kind) => {
                 skip(shared.input);
                 let deeper = settings.level_up()?.level_up()?;
-                self.parse_construct(shared, frame, deeper, kind)
+                self.readers
+                    .parse_construct(self.language, shared, frame, deeper, kind)
             }
             StatementStart::Let => {
                 skip(shared.input);
@@ -150,7 +149,7 @@ impl<E: ReadExpressions> StmtReader<'_, E> {
         frame: &mut Frame<'_>,
         settings: ParseSettings,
     ) -> ParseResult<Stmt>
-        requires lent { Covers (E.lent self.now.expressions) (imported self.now.language.now frame.old settings)
+        requires lent { Covers (R.lent self.now.readers) (imported self.now.language.now frame.old settings)
             shared.old }
         ensures goes_on { GoesOn shared.old shared.new }
         ensures place { SamePlace frame.old frame.new }
@@ -159,7 +158,7 @@ impl<E: ReadExpressions> StmtReader<'_, E> {
             result shared.new }
     {
         let source = self
-            .expressions
+            .readers
             .parse_expr(self.language, shared, frame, settings)?;
         let name = next_alias(shared.input)?;
         frame.import(self.language.alloc(), &name)?;
@@ -175,7 +174,7 @@ impl<E: ReadExpressions> StmtReader<'_, E> {
         frame: &mut Frame<'_>,
         settings: ParseSettings,
     ) -> ParseResult<Stmt>
-        requires lent { Covers (E.lent self.now.expressions) (exported self.now.language.now frame.old settings)
+        requires lent { Covers (R.lent self.now.readers) (exported self.now.language.now frame.old settings)
             shared.old }
         ensures goes_on { GoesOn shared.old shared.new }
         ensures place { SamePlace frame.old frame.new }
@@ -204,7 +203,7 @@ impl<E: ReadExpressions> StmtReader<'_, E> {
         constant: bool,
         exported: bool,
     ) -> ParseResult<Stmt>
-        requires lent { Covers (E.lent self.now.expressions) (definition self.now.language.now frame.old settings
+        requires lent { Covers (R.lent self.now.readers) (definition self.now.language.now frame.old settings
             constant exported) shared.old }
         ensures goes_on { GoesOn shared.old shared.new }
         ensures place { SamePlace frame.old frame.new }
@@ -235,7 +234,7 @@ impl<E: ReadExpressions> StmtReader<'_, E> {
         frame: &Frame<'_>,
         settings: ParseSettings,
     ) -> ParseResult<Expr>
-        requires lent { Covers (E.lent self.now.expressions) (initializer self.now.language.now frame.now settings)
+        requires lent { Covers (R.lent self.now.readers) (initializer self.now.language.now frame.now settings)
             shared.old }
         ensures goes_on { GoesOn shared.old shared.new }
         ensures reads { Reads (initializer self.now.language.now frame.now settings) view shared.old result shared.new }
@@ -244,7 +243,7 @@ impl<E: ReadExpressions> StmtReader<'_, E> {
             return Ok(Expr::Unit(Position::NONE));
         }
         skip(shared.input);
-        self.expressions
+        self.readers
             .parse_expr(self.language, shared, frame, settings.level_up()?)
     }
 
@@ -256,7 +255,7 @@ impl<E: ReadExpressions> StmtReader<'_, E> {
         frame: &Frame<'_>,
         settings: ParseSettings,
     ) -> ParseResult<Stmt>
-        requires lent { Covers (E.lent self.now.expressions) (expr_statement self.now.language.now frame.now settings)
+        requires lent { Covers (R.lent self.now.readers) (expr_statement self.now.language.now frame.now settings)
             shared.old }
         ensures goes_on { GoesOn shared.old shared.new }
         ensures reads { Reads (expr_statement self.now.language.now frame.now settings) statement_view shared.old
@@ -264,51 +263,27 @@ impl<E: ReadExpressions> StmtReader<'_, E> {
         ensures open { IfOk result (λ s. ends_itself (statement_view s) ≡ false) }
     {
         let target = self
-            .expressions
+            .readers
             .parse_expr(self.language, shared, frame, settings)?;
         if !assigns(shared.input)? {
             return Ok(make_expression(self.language.alloc(), target)?);
         }
         let (op, pos) = take(shared.input);
         let value = self
-            .expressions
+            .readers
             .parse_expr(self.language, shared, frame, settings)?;
         end_assignment(self.language.alloc(), frame, op, pos, target, value)
     }
 
-    /// Reads a block after its `{`, where the settings stand, up to its `}`. Its definitions end with it.
-    #[tactic(auto, using(crate::proofs::Readers::parse_block))]
-    #[cycle(parser)]
-    pub(crate) fn parse_block(
-        &self,
-        shared: &mut Shared<'_>,
-        frame: &Frame<'_>,
-        settings: ParseSettings,
-    ) -> ParseResult<StmtBlock>
-        requires lent { Covers (E.lent self.now.expressions) (block self.now.language.now frame.now settings)
-            shared.old }
-        ensures goes_on { GoesOn shared.old shared.new }
-        ensures reads { Reads (block self.now.language.now frame.now settings) block_view shared.old result shared.new }
-    {
-        let statements = self.parse_block_inside(shared, frame, settings)?;
-        end_block(
-            self.language.alloc(),
-            shared.input,
-            statements,
-            settings.pos,
-        )
-    }
-
     /// Reads the statements of a block up to its `}`, which stays. Its definitions end with it.
     #[tactic(auto, using(crate::proofs::Readers::parse_block_inside))]
-    #[cycle(parser)]
     pub fn parse_block_inside(
         &self,
         shared: &mut Shared<'_>,
         frame: &Frame<'_>,
         settings: ParseSettings,
     ) -> ParseResult<Vec<Stmt>>
-        requires lent { Covers (E.lent self.now.expressions) (inside self.now.language.now frame.now settings)
+        requires lent { Covers (R.lent self.now.readers) (inside self.now.language.now frame.now settings)
             shared.old }
         ensures goes_on { GoesOn shared.old shared.new }
         ensures reads { Reads (inside self.now.language.now frame.now settings) statements_of shared.old result
@@ -332,7 +307,7 @@ impl<E: ReadExpressions> StmtReader<'_, E> {
         frame: &Frame<'_>,
         settings: ParseSettings,
     ) -> ParseResult<Option<Expr>>
-        requires lent { Covers (E.lent self.now.expressions) (jump self.now.language.now frame.now settings)
+        requires lent { Covers (R.lent self.now.readers) (jump self.now.language.now frame.now settings)
             shared.old }
         ensures goes_on { GoesOn shared.old shared.new }
         ensures reads { Reads (jump self.now.language.now frame.now settings) optional_view shared.old result
@@ -345,7 +320,7 @@ impl<E: ReadExpressions> StmtReader<'_, E> {
             return Ok(None);
         }
         let value = self
-            .expressions
+            .readers
             .parse_expr(self.language, shared, frame, deeper)?;
         Ok(Some(value))
     }

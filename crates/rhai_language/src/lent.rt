@@ -1,0 +1,70 @@
+//! What the readers of a script read for each other.
+
+ghost use Rattle.std.specs.Prelude.{ℕ};
+ghost use Rattle.rhai_lower.specs.View.{statement_view, view};
+ghost use Rattle.rhai_language.specs.Readers.{GoesOn, Reads, construct, expression, inside, state_of, statement};
+ghost use Rattle.rhai_language.specs.Readers.{statements_of, with_live};
+ghost use Rattle.rhai_reading.specs.Running.{need};
+
+use crate::language::Language;
+use crate::shared::Shared;
+use rhai_base::{Frame, ParseSettings};
+use rhai_grammar::{Construct, ParseResult};
+use rhai_lower::{Expr, Stmt};
+
+/// Readers that are lent to a reader, for the parts of a script that it does not read itself.
+pub trait LentReaders {
+    /// Whether calls may be made where this much is left to do.
+    ghost lent: { Self → ℕ → Type 0 };
+
+    /// Reads an expression. The level is raised at its first token.
+    fn parse_expr(
+        &self,
+        language: &Language,
+        shared: &mut Shared<'_>,
+        frame: &Frame<'_>,
+        settings: ParseSettings,
+    ) -> ParseResult<Expr>
+        requires covered { lent self.now (need (expression language.now frame.now settings) (state_of shared.old)) }
+        ensures goes_on { GoesOn shared.old shared.new }
+        ensures reads { Reads (expression language.now frame.now settings) view shared.old result shared.new };
+
+    /// Reads a construct of this kind after its first token, where the settings stand.
+    fn parse_construct(
+        &self,
+        language: &Language,
+        shared: &mut Shared<'_>,
+        frame: &Frame<'_>,
+        settings: ParseSettings,
+        kind: Construct,
+    ) -> ParseResult<Stmt>
+        requires covered { lent self.now (need (construct language.now frame.now settings kind) (state_of shared.old)) }
+        ensures goes_on { GoesOn shared.old shared.new }
+        ensures reads { Reads (construct language.now frame.now settings kind) statement_view shared.old result
+            shared.new };
+
+    /// Reads the statements of a block up to its `}`, which stays. Its definitions end with it.
+    fn parse_block_inside(
+        &self,
+        language: &Language,
+        shared: &mut Shared<'_>,
+        frame: &Frame<'_>,
+        settings: ParseSettings,
+    ) -> ParseResult<Vec<Stmt>>
+        requires covered { lent self.now (need (inside language.now frame.now settings) (state_of shared.old)) }
+        ensures goes_on { GoesOn shared.old shared.new }
+        ensures reads { Reads (inside language.now frame.now settings) statements_of shared.old result shared.new };
+
+    /// Reads a statement. The level is raised at its first token.
+    fn parse_stmt(
+        &self,
+        language: &Language,
+        shared: &mut Shared<'_>,
+        frame: &mut Frame<'_>,
+        settings: ParseSettings,
+    ) -> ParseResult<Stmt>
+        requires covered { lent self.now (need (statement language.now frame.old settings) (state_of shared.old)) }
+        ensures goes_on { GoesOn shared.old shared.new }
+        ensures reads { Reads (statement language.now frame.old settings) (with_live statement_view frame.new)
+            shared.old result shared.new };
+}
