@@ -26,7 +26,6 @@ impl<R: LentReaders> ExprReader<'_, R> {
     /// `qualified` says it is, may not be called with a `!`. A raise of the arguments' level is refused where the
     /// settings stand.
     #[tactic(auto, using(crate::proofs::Readers::parse_call))]
-    #[cycle(parser)]
     pub(crate) fn parse_call(
         &self,
         shared: &mut Shared<'_>,
@@ -76,7 +75,6 @@ impl<R: LentReaders> ExprReader<'_, R> {
     /// Reads the brackets and dots after the operand `lhs`, up to what is none. A bracket raises the level, and its
     /// index once more; a dot raises that of all to its right.
     #[tactic(auto, using(crate::proofs::Readers::parse_links))]
-    #[cycle(parser)]
     pub(crate) fn parse_links(
         &self,
         shared: &mut Shared<'_>,
@@ -137,7 +135,6 @@ impl<R: LentReaders> ExprReader<'_, R> {
     /// Reads the index in a bracket, up to the `]`. It is tested for the operand that the bracket stands after, if
     /// there is one.
     #[tactic(auto, using(crate::proofs::Readers::parse_index))]
-    #[cycle(parser)]
     fn parse_index(
         &self,
         shared: &mut Shared<'_>,
@@ -151,13 +148,14 @@ impl<R: LentReaders> ExprReader<'_, R> {
         ensures reads { Reads (index self.now.language.now frame.now settings (option_map (λ x.
             view x.now) indexed.entry)) view shared.old result shared.new }
     {
-        let index = self.parse_expr(shared, frame, settings)?;
+        let index = self
+            .readers
+            .parse_expr(self.language, shared, frame, settings)?;
         end_index(self.language.alloc(), shared.input, indexed, index)
     }
 
     /// Reads the member after a dot: a property, or a call of a method. The caller has looked at it.
     #[tactic(auto, using(crate::proofs::Readers::parse_member))]
-    #[cycle(parser)]
     fn parse_member(
         &self,
         shared: &mut Shared<'_>,

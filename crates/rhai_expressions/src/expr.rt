@@ -30,7 +30,6 @@ use rhai_trees::{make_binary, make_chain, make_unary};
 impl<R: LentReaders> ExprReader<'_, R> {
     /// Reads an operand without its sign, and without what calls it.
     #[tactic(auto, using(crate::proofs::Readers::parse_primary))]
-    #[cycle(parser)]
     fn parse_primary(
         &self,
         shared: &mut Shared<'_>,
@@ -65,7 +64,9 @@ impl<R: LentReaders> ExprReader<'_, R> {
             Beginning::Group => {
                 skip(shared.input);
                 let deeper = settings.at(pos).level_up()?;
-                let inside = self.parse_expr(shared, frame, deeper)?;
+                let inside = self
+                    .readers
+                    .parse_expr(self.language, shared, frame, deeper)?;
                 let note = "to close the parentheses";
                 match_token(
                     self.language.alloc(),
@@ -117,7 +118,6 @@ impl<R: LentReaders> ExprReader<'_, R> {
     /// Reads the path and what calls an operand, if it is a name. The module that the path begins at is tested after
     /// the arguments.
     #[tactic(auto, using(crate::proofs::Readers::parse_postfix))]
-    #[cycle(parser)]
     fn parse_postfix(
         &self,
         shared: &mut Shared<'_>,
@@ -151,7 +151,6 @@ impl<R: LentReaders> ExprReader<'_, R> {
 
     /// Reads the arguments after the `(` of a call. A raise of their level is refused where the settings stand.
     #[tactic(auto, using(crate::proofs::Readers::parse_fn_call_args))]
-    #[cycle(parser)]
     pub(crate) fn parse_fn_call_args(
         &self,
         shared: &mut Shared<'_>,
@@ -179,7 +178,6 @@ impl<R: LentReaders> ExprReader<'_, R> {
 
     /// Reads an argument, and those that follow, up to the `)`.
     #[tactic(auto, using(crate::proofs::Readers::parse_items))]
-    #[cycle(parser)]
     fn parse_items(
         &self,
         shared: &mut Shared<'_>,
@@ -194,7 +192,9 @@ impl<R: LentReaders> ExprReader<'_, R> {
     {
         let mut items = Vec::new(self.language.alloc());
         loop {
-            let item = self.parse_expr(shared, frame, settings)?;
+            let item = self
+                .readers
+                .parse_expr(self.language, shared, frame, settings)?;
             items.push(item)?;
             if !list_continues(self.language.alloc(), shared.input, CommaList::Arguments)? {
                 return Ok(items);
@@ -210,7 +210,6 @@ impl<R: LentReaders> ExprReader<'_, R> {
     /// Reads an operand after an operator. What it may be depends on its place: after a range operator it may be
     /// missing, and after `??` a jump may stand.
     #[tactic(auto, using(crate::proofs::Readers::parse_right_operand))]
-    #[cycle(parser)]
     fn parse_right_operand(
         &self,
         shared: &mut Shared<'_>,
@@ -243,7 +242,6 @@ impl<R: LentReaders> ExprReader<'_, R> {
 
     /// Reads a written operand with its signs and its call.
     #[tactic(auto, using(crate::proofs::Readers::parse_unary))]
-    #[cycle(parser)]
     fn parse_unary(
         &self,
         shared: &mut Shared<'_>,
@@ -275,7 +273,6 @@ impl<R: LentReaders> ExprReader<'_, R> {
     /// Reads the operators and operands after `lhs` that go on with a run on the right of an operator of strength
     /// `parent`. A raise of the level is refused at `lhs`, and from the first operator on at the one before.
     #[tactic(auto, using(crate::proofs::Readers::parse_binary_op))]
-    #[cycle(parser)]
     fn parse_binary_op(
         &self,
         shared: &mut Shared<'_>,
@@ -318,7 +315,6 @@ impl<R: LentReaders> ExprReader<'_, R> {
 
     /// Reads an expression. The level is raised at its first token.
     #[tactic(auto, using(crate::proofs::Readers::parse_expr))]
-    #[cycle(parser)]
     pub fn parse_expr(
         &self,
         shared: &mut Shared<'_>,

@@ -24,7 +24,6 @@ impl<R: LentReaders> ExprReader<'_, R> {
     /// Reads the items of an array after its `[`, where the settings stand, up to the `]`. The level is raised for each
     /// item anew, and a raise is refused at the `[`.
     #[tactic(auto, using(crate::proofs::Readers::parse_array_literal))]
-    #[cycle(parser)]
     pub(crate) fn parse_array_literal(
         &self,
         shared: &mut Shared<'_>,
@@ -55,7 +54,9 @@ impl<R: LentReaders> ExprReader<'_, R> {
                 )),
             }
             let deeper = settings.level_up()?;
-            let item = self.parse_expr(shared, frame, deeper)?;
+            let item = self
+                .readers
+                .parse_expr(self.language, shared, frame, deeper)?;
             items.push(item)?;
             if !list_continues(self.language.alloc(), shared.input, CommaList::Array)? {
                 return Ok(items);
@@ -66,7 +67,6 @@ impl<R: LentReaders> ExprReader<'_, R> {
     /// Reads the properties of an object map after its `#{`, where the settings stand, up to the `}`. The level is
     /// raised for each value anew, and a raise is refused at the `#{`.
     #[tactic(auto, using(crate::proofs::Readers::parse_map_literal))]
-    #[cycle(parser)]
     pub(crate) fn parse_map_literal(
         &self,
         shared: &mut Shared<'_>,
@@ -87,7 +87,9 @@ impl<R: LentReaders> ExprReader<'_, R> {
                 return Ok(properties);
             };
             let deeper = settings.level_up()?;
-            let value = self.parse_expr(shared, frame, deeper)?;
+            let value = self
+                .readers
+                .parse_expr(self.language, shared, frame, deeper)?;
             properties.push((key, value))?;
             if !list_continues(self.language.alloc(), shared.input, CommaList::Map)? {
                 return Ok(properties);

@@ -1,0 +1,83 @@
+use Rattle.std.proofs.Common.{rules, arith, ◌≡◌, ◌∙◌, ap, option_map, refl, sym}
+use Rattle.std.proofs.lemmas.Result.{err_from_is_err_and}
+use Rattle.std.specs.Rc.{rc_str_bytes}
+use Rattle.rhai_lower.specs.Lexemes.{lexeme}
+use Rattle.rhai_lower.specs.Nodes.{variable}
+use Rattle.rhai_lower.specs.declared.ast.VariableExpr.{VariableExpr}
+use Rattle.rhai_lower.specs.View.{named, property_views, view}
+use Rattle.rhai_lower.proofs.Views.{property_views_push, view_variable}
+use Rattle.rhai_grammar.specs.Cursors.{cursor_of}
+use Rattle.rhai_grammar.specs.Spots.{LinkSpot}
+use Rattle.rhai_grammar.specs.Signs.{sign_result}
+use Rattle.rhai_grammar.specs.Modules.{is_qualified, module_fault}
+use Rattle.rhai_reading.specs.Running.{Done, Refused, guarded, result_of}
+use Rattle.rhai_trees.specs.Chains.{indexed_by, link_views}
+use Rattle.rhai_language.specs.Frames.{context_of, live_of}
+use Rattle.rhai_expressions.specs.Asks.{operator_pair}
+use Rattle.rhai_language.specs.Readers.{index, operand, state_of}
+use Rattle.rhai_reading.proofs.ChainSteps.{BracketTaken, DotTaken, bracket_goes_on, bracket_short, dot_goes_on, dot_short}
+use Rattle.rhai_reading.proofs.FieldSteps.{FieldTaken, field_goes_on, field_short}
+use Rattle.rhai_reading.proofs.Outcomes.{answer_given, outcome}
+use Rattle.rhai_reading.proofs.RunSteps.{Walked, walked_on, walked_refused, walked_short, walked_side_refused}
+use Rattle.rhai_reading.proofs.WordSteps.{Worded}
+use Rattle.rhai_reading.proofs.PathSteps.{call_given, call_refused, call_unknown, name_plain}
+use Rattle.rhai_trees.proofs.ChainLemmas.{indexed_after, links_push}
+use Rattle.rhai_expressions.proofs.AnswerLemmas.{named_outcome, same_called, same_context, worded_outcome}
+use Rattle.rhai_grammar.specs.Beginnings.{calls, excludes_use}
+use Rattle.rhai_grammar.specs.declared.role.Beginning.TheVariants as begin
+use Rattle.rhai_language.proofs.Given.{gives_so}
+use Rattle.rhai_expressions.proofs.Readers as rule
+use Rattle.rhai_expressions.proofs.reader.ExprReader.parse_links.Goals as goal
+
+pub loop-links-preserved : goal.loop-links-preserved
+loop-links-preserved g c =
+    let spot : LinkSpot = record { settings = context_of c.args.self.now.language.now c.args.frame.now c.loop-links.settings; brackets = context_of c.args.self.now.language.now c.args.frame.now c.loop-links.brackets; indexed = indexed_by (view c.args.lhs.now) (link_views c.loop-links.links.items); before = link_views c.loop-links.links.items } in
+    let next : LinkSpot = record { settings = context_of c.args.self.now.language.now c.args.frame.now c.in_ok-settings-in-Dot.settings; brackets = context_of c.args.self.now.language.now c.args.frame.now c.in_ok-settings-in-Dot.settings; indexed = indexed_by (view c.args.lhs.now) (link_views c.push-in-Dot.new.self.items); before = link_views c.push-in-Dot.new.self.items } in
+    let taken : DotTaken (context_of c.args.self.now.language.now c.args.frame.now c.in_ok-settings-in-Dot.settings) (live_of c.args.frame.now) spot next (lexeme c.in_ok-token.field-0.now.0) c.in_ok-token.field-0.now.1 (view c.in_ok-item-in-Dot.item)
+    (state_of c.loop-links.shared) (cursor_of c.peek.follows.lender-at-none) (cursor_of c.skip-in-Dot.new.input) (cursor_of c.member_due.new.input) (state_of c.parse_member.new.shared) = record {
+      token = search rules;
+      readable = search rules;
+      dot = search rules;
+      more = search rules;
+      look = search rules;
+      took = search rules;
+      shrinks = c.skip-in-Dot.ensures.shrinks;
+      readable_on = search rules;
+      due = search rules;
+      look_on = search rules;
+      room = search rules;
+      deeper = search rules;
+      member = search rules;
+      member_short = search rules;
+      joined = search (rules, links_push, indexed_after);
+    } in
+    record {
+      same = c.loop-links.invariant.same ∙ dot_goes_on taken;
+      goes_on = record { same = search rules; shorter = let less = (dot_short taken).1 in omega (arith, less, c.loop-links.invariant.goes_on.shorter) };
+    }
+
+pub loop-links-preserved-in-Bracket : goal.loop-links-preserved-in-Bracket
+loop-links-preserved-in-Bracket g c =
+    let spot : LinkSpot = record { settings = context_of c.args.self.now.language.now c.args.frame.now c.loop-links.settings; brackets = context_of c.args.self.now.language.now c.args.frame.now c.loop-links.brackets; indexed = indexed_by (view c.args.lhs.now) (link_views c.loop-links.links.items); before = link_views c.loop-links.links.items } in
+    let next : LinkSpot = record { settings = context_of c.args.self.now.language.now c.args.frame.now c.loop-links.settings; brackets = context_of c.args.self.now.language.now c.args.frame.now c.in_ok-brackets-in-Bracket.brackets; indexed = indexed_by (view c.args.lhs.now) (link_views c.push.new.self.items); before = link_views c.push.new.self.items } in
+    let taken : BracketTaken (context_of c.args.self.now.language.now c.args.frame.now c.in_ok-brackets-in-Bracket.brackets) (context_of c.args.self.now.language.now c.args.frame.now c.in_ok-deeper-in-Bracket.deeper) (live_of c.args.frame.now) spot next (lexeme c.in_ok-token.field-0.now.0) c.in_ok-token.field-0.now.1 (view c.in_ok-item-in-Bracket.item)
+    (state_of c.loop-links.shared) (cursor_of c.peek.follows.lender-at-none) (cursor_of c.skip.new.input) (state_of c.parse_index.new.shared) = record {
+      token = search rules;
+      readable = search rules;
+      bracket = search rules;
+      more = search rules;
+      look = search rules;
+      took = search rules;
+      shrinks = c.skip.ensures.shrinks;
+      room = search rules;
+      deeper = search rules;
+      room_on = search rules;
+      inside = search rules;
+      index = search rules;
+      index_short = search rules;
+      joined = search (rules, links_push, indexed_after);
+    } in
+    record {
+      same = c.loop-links.invariant.same ∙ bracket_goes_on taken;
+      goes_on = record { same = search rules; shorter = let less = (bracket_short taken).1 in omega (arith, less, c.loop-links.invariant.goes_on.shorter) };
+    }

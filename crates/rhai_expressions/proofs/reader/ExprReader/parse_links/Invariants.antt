@@ -1,0 +1,20 @@
+use Rattle.std.proofs.Common.{◌≡◌, option_map}
+use Rattle.rhai_lower.specs.Nodes.{no_nodes, no_properties, position_of}
+use Rattle.rhai_lower.specs.View.{view}
+use Rattle.rhai_grammar.specs.Cursors.{left}
+use Rattle.rhai_reading.specs.Reading.{Links}
+use Rattle.rhai_reading.specs.Running.{need, result_of}
+use Rattle.rhai_trees.specs.Chains.{indexed_by}
+use Rattle.rhai_language.specs.Frames.{context_of, live_of}
+use Rattle.rhai_language.specs.Readers.{GoesOn, arguments, binary_op, right_operand, called, elements, expression, fields, index, items, links, member, operand, postfix, primary, properties_of, state_of, views_of}
+use Rattle.rhai_expressions.specs.Views.{linked}
+use Rattle.rhai_expressions.proofs.reader.ExprReader.parse_links.Given as goal
+
+abbrev pub invariant-loop-links : goal.invariant-loop-links
+invariant-loop-links g l = record {
+  same : result_of (links l.fn.self.language.now l.fn.frame l.fn.settings (view l.fn.lhs)) (state_of l.fn.shared) ≡ result_of (Links (live_of l.frame) (record { settings = context_of l.self.language.now l.frame l.settings; brackets = context_of l.self.language.now l.frame l.brackets; indexed = indexed_by (view l.fn.lhs) (linked l.links); before = linked l.links })) (state_of l.shared);
+  goes_on : GoesOn l.fn.shared l.shared;
+}
+
+abbrev pub decreases-loop-links : goal.decreases-loop-links
+decreases-loop-links g l = left (state_of l.shared).tokens

@@ -1,0 +1,86 @@
+use Rattle.std.proofs.Common.{rules, arith, ◌≡◌, ◌∙◌, ap, option_map, refl, sym}
+use Rattle.std.proofs.lemmas.Result.{err_from_is_err_and}
+use Rattle.std.specs.Rc.{rc_str_bytes}
+use Rattle.rhai_lower.specs.Lexemes.{lexeme}
+use Rattle.rhai_lower.specs.Nodes.{variable}
+use Rattle.rhai_lower.specs.declared.ast.VariableExpr.{VariableExpr}
+use Rattle.rhai_lower.specs.View.{named, property_views, view}
+use Rattle.rhai_lower.proofs.Views.{property_views_push, view_variable}
+use Rattle.rhai_grammar.specs.Cursors.{cursor_of}
+use Rattle.rhai_grammar.specs.Spots.{LinkSpot}
+use Rattle.rhai_grammar.specs.Signs.{sign_result}
+use Rattle.rhai_grammar.specs.Modules.{is_qualified, module_fault}
+use Rattle.rhai_reading.specs.Running.{Done, Refused, guarded, result_of}
+use Rattle.rhai_trees.specs.Chains.{indexed_by, link_views}
+use Rattle.rhai_language.specs.Frames.{context_of, live_of}
+use Rattle.rhai_expressions.specs.Asks.{operator_pair}
+use Rattle.rhai_language.specs.Readers.{index, operand, state_of}
+use Rattle.rhai_reading.proofs.ChainSteps.{BracketTaken, DotTaken, bracket_goes_on, bracket_short, dot_goes_on, dot_short}
+use Rattle.rhai_reading.proofs.FieldSteps.{FieldTaken, field_goes_on, field_short}
+use Rattle.rhai_reading.proofs.Outcomes.{answer_given, outcome}
+use Rattle.rhai_reading.proofs.RunSteps.{Walked, walked_on, walked_refused, walked_short, walked_side_refused}
+use Rattle.rhai_reading.proofs.WordSteps.{Worded}
+use Rattle.rhai_reading.proofs.PathSteps.{call_given, call_refused, call_unknown, name_plain}
+use Rattle.rhai_trees.proofs.ChainLemmas.{indexed_after, links_push}
+use Rattle.rhai_expressions.proofs.AnswerLemmas.{named_outcome, same_called, same_context, worded_outcome}
+use Rattle.rhai_grammar.specs.Beginnings.{calls, excludes_use}
+use Rattle.rhai_grammar.specs.declared.role.Beginning.TheVariants as begin
+use Rattle.rhai_language.proofs.Given.{gives_so}
+use Rattle.rhai_expressions.proofs.Readers as rule
+use Rattle.rhai_expressions.proofs.reader.ExprReader.parse_postfix.Goals as goal
+
+pub returns-in_err-named-clause-reads : goal.returns-in_err-named-clause-reads
+returns-in_err-named-clause-reads g c =
+    let p = err_from_is_err_and c.from_residual-in_err-named.result c.from_residual-in_err-named.ensures.1 in
+    let context = context_of c.args.self.now.language.now c.args.frame.now c.args.settings in
+    rw (p.1, p.2) (rw (c.in-Ok.ensures.variable) (c.in_err-named.ensures.refused context))
+
+pub returns-then-not-called-clause-reads : goal.returns-then-not-called-clause-reads
+returns-then-not-called-clause-reads g c =
+    let context = context_of c.args.self.now.language.now c.args.frame.now c.args.settings in
+    let live = live_of c.args.frame.now in
+    let x = variable (named c.in-Ok.variable.0.value) c.in-Ok.variable.1 in
+    let y = variable (named c.in_ok-named.named.name.value) c.in_ok-named.named.pos in
+    rw (c.in-Ok.ensures.variable) (name_plain context live x y c.in_ok-named.named.called (state_of c.args.shared.now) (cursor_of c.named_operand.new.input) (search rules)
+    (c.in_ok-named.ensures.found context) ∙ ap (λ n. Done n (cursor_of c.named_operand.new.input)) (sym (view_variable c.in_ok-named.named.name c.in_ok-named.named.pos)))
+
+pub returns-in_err-call-clause-reads : goal.returns-in_err-call-clause-reads
+returns-in_err-call-clause-reads g c =
+    let p = err_from_is_err_and c.from_residual-in_err-call.result c.from_residual-in_err-call.ensures.1 in
+    let context = context_of c.args.self.now.language.now c.args.frame.now c.args.settings in
+    let live = live_of c.args.frame.now in
+    let x = variable (named c.in-Ok.variable.0.value) c.in-Ok.variable.1 in
+    let y = variable (named c.in_ok-named.named.name.value) c.in_ok-named.named.pos in
+    let there = same_called c.args.self.now.language.now c.args.frame.now c.at.result c.args.settings c.in_ok-named.named.pos c.is_qualified_name-qualified.result (is_qualified y) (cursor_of c.named_operand.new.input) c.at.ensures.settings c.at.ensures.position (c.is_qualified_name-qualified.ensures c.in_ok-named.named.pos ∙ ap (λ (v : VariableExpr). is_qualified (variable (named v) c.in_ok-named.named.pos)) c.deref.ensures) in
+    rw (p.1, p.2) (
+      λ told. rw (c.in-Ok.ensures.variable)
+          (call_refused context live x y c.in_ok-named.named.called (state_of c.args.shared.now) (cursor_of c.named_operand.new.input) (state_of c.parse_call.new.shared) (search rules) (c.in_ok-named.ensures.found context) c.in_ok-named.ensures.shorter _
+          (sym there ∙ c.in_err-call.ensures.reads.0 told)),
+      c.in_err-call.ensures.reads.1,
+    )
+
+pub returns-in_err-test_path-clause-reads : goal.returns-in_err-test_path-clause-reads
+returns-in_err-test_path-clause-reads g c =
+    let p = err_from_is_err_and c.from_residual-in_err-test_path.result c.from_residual-in_err-test_path.ensures.1 in
+    let context = context_of c.args.self.now.language.now c.args.frame.now c.args.settings in
+    let live = live_of c.args.frame.now in
+    let x = variable (named c.in-Ok.variable.0.value) c.in-Ok.variable.1 in
+    let y = variable (named c.in_ok-named.named.name.value) c.in_ok-named.named.pos in
+    let there = same_called c.args.self.now.language.now c.args.frame.now c.at.result c.args.settings c.in_ok-named.named.pos c.is_qualified_name-qualified.result (is_qualified y) (cursor_of c.named_operand.new.input) c.at.ensures.settings c.at.ensures.position (c.is_qualified_name-qualified.ensures c.in_ok-named.named.pos ∙ ap (λ (v : VariableExpr). is_qualified (variable (named v) c.in_ok-named.named.pos)) c.deref.ensures) in
+    rw (p.1, p.2) (
+      λ told. rw (c.in-Ok.ensures.variable)
+          (call_unknown context live x y c.in_ok-named.named.called (state_of c.args.shared.now) (cursor_of c.named_operand.new.input) (state_of c.parse_call.new.shared) (search rules) (c.in_ok-named.ensures.found context) c.in_ok-named.ensures.shorter _
+          (sym there ∙ c.in_ok-call.ensures.reads) _ (sym (ap (λ (v : VariableExpr). module_fault context live (variable (named v) c.in_ok-named.named.pos)) c.deref-2.ensures) ∙ c.in_err-test_path.ensures.refused context refl refl told)),
+      c.in_err-test_path.ensures.nowhere,
+    )
+
+pub returns-clause-reads : goal.returns-clause-reads
+returns-clause-reads g c =
+    let context = context_of c.args.self.now.language.now c.args.frame.now c.args.settings in
+    let live = live_of c.args.frame.now in
+    let x = variable (named c.in-Ok.variable.0.value) c.in-Ok.variable.1 in
+    let y = variable (named c.in_ok-named.named.name.value) c.in_ok-named.named.pos in
+    let there = same_called c.args.self.now.language.now c.args.frame.now c.at.result c.args.settings c.in_ok-named.named.pos c.is_qualified_name-qualified.result (is_qualified y) (cursor_of c.named_operand.new.input) c.at.ensures.settings c.at.ensures.position (c.is_qualified_name-qualified.ensures c.in_ok-named.named.pos ∙ ap (λ (v : VariableExpr). is_qualified (variable (named v) c.in_ok-named.named.pos)) c.deref.ensures) in
+    rw (c.in-Ok.ensures.variable)
+    (call_given context live x y c.in_ok-named.named.called (state_of c.args.shared.now) (cursor_of c.named_operand.new.input) (state_of c.parse_call.new.shared) (search rules) (c.in_ok-named.ensures.found context) c.in_ok-named.ensures.shorter _
+    (sym there ∙ c.in_ok-call.ensures.reads) (sym (ap (λ (v : VariableExpr). module_fault context live (variable (named v) c.in_ok-named.named.pos)) c.deref-2.ensures) ∙ c.in_ok-test_path.ensures.passes context refl refl) ∙ ap (λ n. Done n (state_of c.parse_call.new.shared)) (sym c.in_ok-make_call.ensures))
