@@ -64,24 +64,34 @@ fn set_limits(engine: &mut Engine, limits: &Limits) {
     }
 }
 
+// The tree of a stream that is one expression.
+fn parse_expr(alloc: Global, engine: &Engine, mut input: TokenStream) -> ParseResult<AST> {
+    let mut lib = FnLib::new(alloc);
+    let state = ParseState::new(alloc, None, &mut input, TokenizerControl, &mut lib);
+    engine.parse_global_expr(state, |_settings| {}, OptimizationLevel::None)
+}
+
+// The tree of a stream that is a script.
+fn parse_script(alloc: Global, engine: &Engine, mut input: TokenStream) -> ParseResult<AST> {
+    let mut lib = FnLib::new(alloc);
+    let mut state = ParseState::new(alloc, None, &mut input, TokenizerControl, &mut lib);
+    let (statements, functions) = engine.parse_global_level(&mut state, |_settings| {})?;
+    Ok(AST {
+        statements,
+        functions,
+    })
+}
+
 // The tree of a list of tokens, parsed by this entry.
 fn parse(alloc: Global, entry: Entry, limits: &Limits, list: TokenList) -> ParseResult<AST>
     requires { All (λ e. IsTrue (may_be_delivered e)) list.entries.items }
 {
     let mut engine = Engine::new(alloc);
     set_limits(&mut engine, limits);
-    let mut input = TokenStream::new(list.entries, list.end);
-    let mut lib = FnLib::new(alloc);
-    let mut state = ParseState::new(alloc, None, &mut input, TokenizerControl, &mut lib);
+    let input = TokenStream::new(list.entries, list.end);
     match entry {
-        Entry::Expr => engine.parse_global_expr(state, |_settings| {}, OptimizationLevel::None),
-        Entry::Script => {
-            let (statements, functions) = engine.parse_global_level(&mut state, |_settings| {})?;
-            Ok(AST {
-                statements,
-                functions,
-            })
-        }
+        Entry::Expr => parse_expr(alloc, &engine, input),
+        Entry::Script => parse_script(alloc, &engine, input),
     }
 }
 
