@@ -1,7 +1,7 @@
 #!/usr/bin/env bash
 # Tries the wrong bodies of tests/edits, or those of the crates named: the prover has to refuse each. The gate leaves them
-# out, since the first of a crate costs as much as that crate's proof. They are tried in a copy of this checkout, which
-# keeps what was proved of the libraries.
+# out, since the first of a crate costs as much as that crate's proof. They are tried in a copy of this checkout. Run
+# `rt all check` before: the copy then has what it proved of the libraries, which are otherwise proved first.
 #
 # usage: tests/edits.sh [CRATE ..]
 set -eu

@@ -6,9 +6,10 @@
 ghost use Rattle.rhai_base.specs.Keys.{keys_of};
 ghost use Rattle.rhai_base.specs.Index.{Agrees};
 
+use rhai_ast::{Expr, ScriptFuncDef, Stmt, StmtBlock};
 use rhai_base::{FnLib, FnNames, add_function, functions, has_function, make_anonymous_fn};
 use rhai_grammar::{FnKey, InputError, ParseError, ParseErrorType};
-use rhai_lower::{Expr, LexError, Position, Scope, ScriptFuncDef, Stmt, StmtBlock, Token};
+use rhai_lower::{LexError, Position, Scope, Token};
 use std::alloc::{AllocError, Global};
 use std::process::Abort;
 use std::rc::{Rc, RcStr};

@@ -1,7 +1,7 @@
 -- How the contracts of the readers speak of the arms of `switch`.
 use Rattle.std.specs.Prelude.{Bool}
 use Rattle.rhai_lower.specs.Nodes.{Node, Nodes}
-use Rattle.rhai_lower.specs.View.{view, views}
+use Rattle.rhai_ast.specs.View.{view, views}
 use Rattle.rhai_constructs.specs.declared.arms.Action.{Action}
 use Rattle.rhai_constructs.specs.declared.arms.Arm.{Arm}
 

@@ -3,7 +3,7 @@
 
 ghost use Rattle.std.specs.Prelude.{◌≡◌, ◌≤◌, IfErr, IfOk, true};
 ghost use Rattle.rhai_lower.specs.Nodes.{Node, block_value, made_block};
-ghost use Rattle.rhai_lower.specs.View.{statement_view, view};
+ghost use Rattle.rhai_ast.specs.View.{statement_view, view};
 ghost use Rattle.rhai_grammar.specs.Causes.{MemoryIsNowhere, is_for_memory};
 ghost use Rattle.rhai_grammar.specs.Cursors.{Cursor, cursor_of, left};
 ghost use Rattle.rhai_grammar.specs.Switches.{arm_fault, ends_arm};
@@ -13,10 +13,11 @@ ghost use Rattle.rhai_language.specs.Readers.{views_of};
 ghost use Rattle.rhai_constructs.specs.Switches.{action_view, arm_view};
 ghost use Rattle.rhai_statement_trees.specs.Switches.{collected_view};
 
+use rhai_ast::ast::SwitchCasesCollection;
+use rhai_ast::{Expr, Stmt};
 use rhai_grammar::ParseResult;
 use rhai_leaves::arms::{arm_continues, as_literal, default_ends};
-use rhai_lower::ast::SwitchCasesCollection;
-use rhai_lower::{Expr, Position, Stmt, TokenStream};
+use rhai_lower::{Position, TokenStream};
 use rhai_statement_trees::{ends_arm, make_statement_value, test_cases};
 use std::alloc::Global;
 

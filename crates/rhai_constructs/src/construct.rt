@@ -1,6 +1,6 @@
 //! Constructs: conditions, loops, and `try`.
 
-ghost use Rattle.rhai_lower.specs.View.{block_view, statement_view, view};
+ghost use Rattle.rhai_ast.specs.View.{block_view, statement_view, view};
 ghost use Rattle.rhai_grammar.specs.declared.role.Construct.TheVariants.{Do, For, Loop, Try, While};
 ghost use Rattle.rhai_language.specs.Readers.{Covers, GoesOn, Reads, block, braced, branch, conditional, construct, guard};
 ghost use Rattle.rhai_language.specs.Readers.{iterated};
@@ -10,6 +10,7 @@ use crate::control::{
     next_loop_names,
 };
 use crate::reader::ConstructReader;
+use rhai_ast::{Expr, Stmt, StmtBlock};
 use rhai_base::{Frame, ParseSettings};
 use rhai_grammar::{Construct, DueToken, ParseResult};
 use rhai_language::blocks::begin_block;
@@ -17,7 +18,7 @@ use rhai_language::{LentReaders, Shared};
 use rhai_leaves::constructs::guard_begins;
 use rhai_leaves::cursor::peek;
 use rhai_leaves::due::pass_token;
-use rhai_lower::{Expr, Position, Stmt, StmtBlock};
+use rhai_lower::Position;
 use rhai_statement_trees::{
     make_block_statement, make_do, make_for, make_if, make_try, make_while, no_block,
 };

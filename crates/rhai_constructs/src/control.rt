@@ -4,7 +4,7 @@
 
 ghost use Rattle.std.specs.Prelude.{◌≡◌, ◌+◌, ◌≤◌, IfOk, OnOk, option_map};
 ghost use Rattle.std.specs.Rc.{rc_str_bytes};
-ghost use Rattle.rhai_lower.specs.View.{block_view, view};
+ghost use Rattle.rhai_ast.specs.View.{block_view, view};
 ghost use Rattle.rhai_grammar.specs.Constructs.{guard_fault, iterated_fault};
 ghost use Rattle.rhai_grammar.specs.Cursors.{Cursor, cursor_of, left};
 ghost use Rattle.rhai_grammar.specs.Definitions.{catch_live, loop_live};
@@ -14,13 +14,14 @@ ghost use Rattle.rhai_reading.specs.Running.{Caller, Gives, exec, result_of};
 ghost use Rattle.rhai_constructs.specs.Loops.{loop_names, loop_view};
 ghost use Rattle.rhai_language.specs.Readers.{name_view, statements_of};
 
+use rhai_ast::{Expr, Stmt, StmtBlock};
 use rhai_base::Frame;
 use rhai_grammar::{DueToken, ParseResult};
 use rhai_leaves::constructs::{end_do, guard_ends, test_counter};
 use rhai_leaves::cursor::peek;
 use rhai_leaves::due::{match_token, pass_token};
 use rhai_leaves::statements::parse_var_name;
-use rhai_lower::{Expr, Position, Stmt, StmtBlock, TokenStream};
+use rhai_lower::{Position, TokenStream};
 use rhai_statement_trees::make_block;
 use rhai_trees::{test_guard, test_iterated};
 use std::alloc::{AllocError, Global};

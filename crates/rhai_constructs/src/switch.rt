@@ -2,7 +2,7 @@
 
 ghost use Rattle.std.specs.Prelude.{◌+◌, ◌≤◌, OnOk};
 ghost use Rattle.rhai_lower.specs.Nodes.{no_nodes};
-ghost use Rattle.rhai_lower.specs.View.{statement_view, view};
+ghost use Rattle.rhai_ast.specs.View.{statement_view, view};
 ghost use Rattle.rhai_grammar.specs.Cursors.{left};
 ghost use Rattle.rhai_grammar.specs.Switches.{nothing_collected};
 ghost use Rattle.rhai_grammar.specs.declared.role.Construct.TheVariants.{Switch};
@@ -14,13 +14,14 @@ ghost use Rattle.rhai_statement_trees.specs.Switches.{collected_view};
 
 use crate::arms::{Action, Arm, as_case, end_arm, end_default, end_statement_action};
 use crate::reader::ConstructReader;
+use rhai_ast::ast::SwitchCasesCollection;
+use rhai_ast::{Expr, Stmt};
 use rhai_base::{Frame, ParseSettingFlags, ParseSettings};
 use rhai_grammar::{DueToken, ParseResult};
 use rhai_language::{LentReaders, Shared};
 use rhai_leaves::arms::{NextArm, action_due, default_unguarded, next_arm};
 use rhai_leaves::due::{match_token, pass_token};
-use rhai_lower::ast::SwitchCasesCollection;
-use rhai_lower::{Expr, Position, Stmt};
+use rhai_lower::Position;
 use rhai_statement_trees::{make_switch, new_arms, no_guard, push_arm, push_default};
 
 impl<R: LentReaders> ConstructReader<'_, R> {

@@ -1,9 +1,7 @@
 -- What the proofs of the readers rest on: for each reader its equation, and what it makes of what it read.
-use Rattle.rhai_base.proofs.NameLemmas.{count_views}
-use Rattle.rhai_lower.proofs.Views.{property_views_push, view_array, view_integer, view_interpolated, view_map, view_property, view_unit, view_variable, views_push}
-use Rattle.rhai_reading.proofs.FieldSteps.{step_fields_key}
+use Rattle.rhai_ast.proofs.Views.{view_property, view_unit, view_variable, views_push}
 use Rattle.rhai_reading.proofs.Outcomes.{bang_refused, operand_other, operand_sign, sign_outcome}
-use Rattle.rhai_reading.proofs.Steps.{step_arguments, step_binary_op, step_called, step_elements, step_expression, step_index, step_items, step_links, step_member, step_operand, step_path, step_postfix, step_primary, step_right_operand, step_segments}
+use Rattle.rhai_reading.proofs.Steps.{step_arguments, step_binary_op, step_called, step_expression, step_index, step_items, step_links, step_member, step_operand, step_path, step_postfix, step_right_operand}
 use Rattle.rhai_trees.proofs.ChainLemmas.{indexed_after, links_push}
 use Rattle.rhai_language.proofs.Readers.{calls_of_readers, readers}
 
@@ -12,8 +10,6 @@ pub ruleset paths = (calls_of_readers, step_path)
 pub ruleset parse_expr = (readers, step_expression)
 
 pub ruleset parse_unary = (readers, step_operand, operand_sign, operand_other, sign_outcome)
-
-pub ruleset parse_primary = (readers, step_primary, view_integer, view_array, view_map, view_interpolated)
 
 pub ruleset parse_postfix = (readers, step_postfix, view_variable)
 
@@ -32,9 +28,3 @@ pub ruleset parse_links = (readers, step_links, links_push, indexed_after)
 pub ruleset parse_index = (readers, step_index)
 
 pub ruleset parse_member = (readers, step_member, view_property)
-
-pub ruleset parse_array_literal = (readers, step_elements, views_push, count_views)
-
-pub ruleset parse_map_literal = (readers, step_fields_key, property_views_push)
-
-pub ruleset parse_interpolated_string = (readers, step_segments)

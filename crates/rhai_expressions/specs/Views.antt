@@ -4,23 +4,18 @@ use Rattle.std.specs.declared.alloc.Global.{Global}
 use Rattle.std.specs.Rc.{rc_str_bytes}
 use Rattle.rhai_lower.specs.Texts.{Text}
 use Rattle.rhai_lower.specs.Nodes.{Node, Nodes, variable}
-use Rattle.rhai_lower.specs.View.{named}
-use Rattle.rhai_lower.specs.declared.ast.VariableExpr.{VariableExpr}
+use Rattle.rhai_ast.specs.View.{named}
+use Rattle.rhai_ast.specs.declared.ast.VariableExpr.{VariableExpr}
 use Rattle.std.specs.declared.boxed.Box.{Box}
 use Rattle.rhai_lower.specs.declared.position.Position.{Position}
 use Rattle.rhai_grammar.specs.Chains as chain
 use Rattle.rhai_trees.specs.Chains.{link_views}
 use Rattle.rhai_trees.specs.declared.chain.Link.{Link}
 use Rattle.rhai_base.specs.declared.words.Call.{Call}
-use Rattle.rhai_leaves.specs.declared.strings.TextPart.{TextPart}
 use Rattle.rhai_language.specs.Readers.{views_of}
 
 abbrev pub linked : Vec Link Global → List chain.Link
 linked ls = link_views ls.items
-
--- the `}` of a block in an interpolated string, and the text after it
-abbrev pub text_view : TextPart → Position × Text × Bool × Position
-text_view part = (part.end, rc_str_bytes part.text, part.last, part.pos)
 
 -- what calls a name: whether it has a `!`, and the arguments
 abbrev pub call_view : Call → Bool × Nodes

@@ -1,7 +1,7 @@
 //! Chains: the brackets and dots after an operand, and calls.
 
 ghost use Rattle.std.specs.Prelude.{◌≡◌, false, option_map};
-ghost use Rattle.rhai_lower.specs.View.{view};
+ghost use Rattle.rhai_ast.specs.View.{view};
 ghost use Rattle.rhai_grammar.specs.Cursors.{asked, cursor_of};
 ghost use Rattle.rhai_grammar.specs.Delivered.{is_end};
 ghost use Rattle.rhai_language.specs.Readers.{Covers, GoesOn, Reads, called, index, links, member};
@@ -9,6 +9,7 @@ ghost use Rattle.rhai_expressions.specs.Views.{call_view, linked};
 
 use crate::asks::end_index;
 use crate::reader::ExprReader;
+use rhai_ast::Expr;
 use rhai_base::words::{Call, make_method};
 use rhai_base::{Frame, ParseSettings};
 use rhai_grammar::{Calling, Linking, ParseResult};
@@ -18,7 +19,6 @@ use rhai_leaves::due::{arguments_due, no_bang};
 use rhai_leaves::links::{is_name, is_negated, member_due, unscoped, what_links};
 use rhai_leaves::refusals::reserved;
 use rhai_leaves::tokens::{is_called, what_calls};
-use rhai_lower::Expr;
 use rhai_trees::{Link, LinkKind, indexed_operand, test_links};
 
 impl<R: LentReaders> ExprReader<'_, R> {

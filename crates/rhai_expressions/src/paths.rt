@@ -2,7 +2,7 @@
 
 ghost use Rattle.std.specs.Prelude.{◌≡◌, ◌≤◌, IfErr, IfOk, true};
 ghost use Rattle.rhai_lower.specs.Nodes.{variable};
-ghost use Rattle.rhai_lower.specs.View.{named};
+ghost use Rattle.rhai_ast.specs.View.{named};
 ghost use Rattle.rhai_grammar.specs.Beginnings.{qualifies};
 ghost use Rattle.rhai_grammar.specs.Cursors.{asked, cursor_of, left};
 ghost use Rattle.rhai_grammar.specs.Contexts.{Context};
@@ -10,13 +10,14 @@ ghost use Rattle.rhai_reading.specs.Reading.{Path, Postfix, call_on};
 ghost use Rattle.rhai_reading.specs.Running.{Fails, Gives, exec, guarded, result_of};
 ghost use Rattle.rhai_expressions.specs.Views.{variable_view};
 
+use rhai_ast::VariableExpr;
 use rhai_base::Frame;
 use rhai_base::words::qualify;
 use rhai_grammar::ParseResult;
 use rhai_leaves::cursor::skip;
 use rhai_leaves::statements::parse_var_name;
 use rhai_leaves::tokens::{is_called, is_qualified};
-use rhai_lower::{Position, TokenStream, VariableExpr};
+use rhai_lower::{Position, TokenStream};
 use std::alloc::Global;
 
 /// The names of the path that `name`, at `pos`, begins or goes on with: each with the `::` before it, which the caller

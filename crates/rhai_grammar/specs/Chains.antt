@@ -6,7 +6,7 @@ use Rattle.std.specs.Option.{option_or}
 use Rattle.rhai_lower.specs.Texts.{Text, same_text}
 use Rattle.rhai_lower.specs.Positions.{place}
 use Rattle.rhai_lower.specs.Nodes.{Called, Node, Nodes, dot, index, method_call, no_nodes, property, start_of}
-use Rattle.rhai_lower.specs.declared.ast.LinkFlags.{LinkFlags}
+use Rattle.rhai_lower.specs.declared.node.LinkFlags.{LinkFlags}
 use Rattle.rhai_lower.specs.declared.position.Position.{Position}
 use Rattle.rhai_grammar.specs.Causes as cause
 use Rattle.rhai_grammar.specs.Kinds.{index_fault}

@@ -1,23 +1,12 @@
 -- What the parser promises about a stream that it parses, in terms of written forms only.
-use Rattle.std.specs.Prelude.{◌≡◌, ◌⊎◌, Bool, true, false, List, [], Result, Ok, Err, IfOk, IfErr, Vec}
-use Rattle.std.specs.declared.alloc.Global.{Global}
-use Rattle.std.specs.declared.rc.Rc.{Rc}
-use Rattle.rhai_lower.specs.Texts.{Text}
-use Rattle.rhai_lower.specs.Slots.{SlotValue}
-use Rattle.rhai_lower.specs.Nodes.{Node, expression, no_statements, one_statement}
-use Rattle.rhai_lower.specs.View.{statement_views}
-use Rattle.rhai_lower.specs.declared.ast.AST.{AST}
-use Rattle.rhai_lower.specs.declared.ast.ScriptFuncDef.{ScriptFuncDef}
-use Rattle.rhai_lower.specs.declared.ast.Stmt.{Stmt}
+use Rattle.std.specs.Prelude.{◌≡◌, ◌⊎◌, Bool, true, false, List, [], Result, Ok, Err, IfOk, IfErr}
 use Rattle.rhai_grammar.specs.Causes.{Refusal, refusal_of, is_for_memory}
 use Rattle.rhai_grammar.specs.Delivered.{Mode, text, Taken, Point, is_memory}
 use Rattle.rhai_grammar.specs.Cursors.{Cursor, asked}
 use Rattle.rhai_grammar.specs.Seen.{Gives, leads, TakenIn, mode_after, latest_first, BeginsWith}
 use Rattle.rhai_grammar.specs.Seen.{Readable, StandsAtLast}
 use Rattle.rhai_grammar.specs.Contexts.{Context, Live}
-use Rattle.rhai_grammar.specs.Definitions.{after_statements}
 use Rattle.rhai_grammar.specs.Forms.{Run, Statements}
-use Rattle.rhai_grammar.specs.Trees.{statement_trees, tree}
 use Rattle.rhai_grammar.specs.Demands.{Demands, Met, Missed}
 use Rattle.rhai_grammar.specs.Written.{whole_expression, whole_script}
 use Rattle.rhai_grammar.specs.declared.error.ParseError.{ParseError}
@@ -39,29 +28,10 @@ scripts context live fs = whole_script fs context live
 
 -- ---- the answer
 
--- a script of one expression, without functions
-pub record IsScriptOf (x : Node) (script : AST) : Type 0 where
-  pub statements : statement_views script.statements.items ≡ one_statement (expression x) no_statements
-  pub functions : script.functions.items ≡ []
-
--- the statements and functions of a script, and the slots and imports that are left after it
-pub record IsScript (fs : Statements) (live : Live)
-    (script : Vec Stmt Global × Vec (Rc ScriptFuncDef Global) Global) (left : List SlotValue) (modules : List Text) :
-    Type 0
-  where
-    pub statements : statement_views script.0.items ≡ statement_trees fs live
-    pub functions : script.1.items ≡ []
-    pub slots : left ≡ (after_statements fs live).slots
-    pub imports : modules ≡ (after_statements fs live).imports
-
 -- the result is such a one, unless memory ran out
 abbrev pub Returns : {X : Type 0} → (X → Type 0) → Result X ParseError → Type 0
 Returns Is (Ok x) = Is x
 Returns Is (Err e) = is_for_memory e ≡ true
-
--- the script of this tree, unless memory ran out
-abbrev pub Accepts : Node → Result AST ParseError → Type 0
-Accepts x result = Returns (IsScriptOf x) result
 
 -- ---- what was seen
 
@@ -138,16 +108,3 @@ pub record ReadsWhole {L F X : Type 0} (library : List L) (whole : F → Demands
   pub only : library ≡ [] → (f : F) → IsWritten whole f start → Returns (Is f) result
   pub refused : IfErr result (λ e. is_for_memory e ≡ false
       → (taken : List Taken) × IsRefused whole taken start left (refusal_of e))
-
--- A stream that is one expression is the script of its tree.
-abbrev pub ReadsExpression : {L : Type 0} → (library : List L) → Context → Live → (start left : Cursor)
-    → Result AST ParseError → Type 0
-ReadsExpression library context live start left result =
-    ReadsWhole library (expressions context live) (λ f script. IsScriptOf (tree f live) script) start left result
-
--- A stream that is a script gives its statements, no function, and the slots and imports that its statements leave.
-abbrev pub ReadsScript : {L : Type 0} → (library : List L) → Context → Live → (start left : Cursor)
-    → Result (Vec Stmt Global × Vec (Rc ScriptFuncDef Global) Global) ParseError → (slots : List SlotValue)
-    → (imports : List Text) → Type 0
-ReadsScript library context live start left result slots imports =
-    ReadsWhole library (scripts context live) (λ fs script. IsScript fs live script slots imports) start left result

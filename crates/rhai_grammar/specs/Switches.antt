@@ -8,7 +8,7 @@ use Rattle.rhai_lower.specs.Lexemes.{Lexeme, Sign}
 use Rattle.rhai_lower.specs.Nodes as node
 use Rattle.rhai_lower.specs.Nodes.{Arms, Cases, Node, Nodes, boolean, integer, no_nodes, one_node, start_of, string}
 use Rattle.rhai_lower.specs.Nodes.{switch_statement, with_arm}
-use Rattle.rhai_lower.specs.declared.ast.RangeCase.{RangeCase}
+use Rattle.rhai_lower.specs.declared.node.RangeCase.{RangeCase}
 use Rattle.rhai_lower.specs.declared.position.Position.{Position}
 use Rattle.rhai_lower.specs.declared.token.Token.{Token}
 use Rattle.rhai_lower.specs.declared.token.Token.TheVariants as token

@@ -5,10 +5,10 @@ use Rattle.std.specs.declared.rc.RcStr.{RcStr}
 use Rattle.std.specs.Rc.{rc_str_bytes}
 use Rattle.rhai_lower.specs.Texts.{Text}
 use Rattle.rhai_lower.specs.Nodes.{Node, Nodes, Properties, Statements}
-use Rattle.rhai_lower.specs.View.{property_views, statement_views, views}
-use Rattle.rhai_lower.specs.declared.ast.Expr.{Expr}
-use Rattle.rhai_lower.specs.declared.ast.Ident.{Ident}
-use Rattle.rhai_lower.specs.declared.ast.Stmt.{Stmt}
+use Rattle.rhai_ast.specs.View.{property_views, statement_views, views}
+use Rattle.rhai_ast.specs.declared.ast.Expr.{Expr}
+use Rattle.rhai_ast.specs.declared.ast.Ident.{Ident}
+use Rattle.rhai_ast.specs.declared.ast.Stmt.{Stmt}
 use Rattle.rhai_lower.specs.declared.position.Position.{Position}
 use Rattle.rhai_grammar.specs.Contexts.{Live}
 use Rattle.rhai_grammar.specs.declared.role.Closing.{Closing}

@@ -1,16 +1,16 @@
 //! What the readers of a script read for each other.
 
 ghost use Rattle.std.specs.Prelude.{ℕ};
-ghost use Rattle.rhai_lower.specs.View.{statement_view, view};
-ghost use Rattle.rhai_language.specs.Readers.{GoesOn, Reads, construct, expression, inside, state_of, statement};
-ghost use Rattle.rhai_language.specs.Readers.{statements_of, with_live};
+ghost use Rattle.rhai_ast.specs.View.{statement_view, view};
+ghost use Rattle.rhai_language.specs.Readers.{GoesOn, Reads, construct, expression, inside, primary, state_of};
+ghost use Rattle.rhai_language.specs.Readers.{statement, statements_of, with_live};
 ghost use Rattle.rhai_reading.specs.Running.{need};
 
 use crate::language::Language;
 use crate::shared::Shared;
+use rhai_ast::{Expr, Stmt};
 use rhai_base::{Frame, ParseSettings};
 use rhai_grammar::{Construct, ParseResult};
-use rhai_lower::{Expr, Stmt};
 
 /// Readers that are lent to a reader, for the parts of a script that it does not read itself.
 pub trait LentReaders {
@@ -28,6 +28,18 @@ pub trait LentReaders {
         requires covered { lent self.now (need (expression language.now frame.now settings) (state_of shared.old)) }
         ensures goes_on { GoesOn shared.old shared.new }
         ensures reads { Reads (expression language.now frame.now settings) view shared.old result shared.new };
+
+    /// Reads what an operand begins with, without its sign, what calls it and its links.
+    fn parse_primary(
+        &self,
+        language: &Language,
+        shared: &mut Shared<'_>,
+        frame: &Frame<'_>,
+        settings: ParseSettings,
+    ) -> ParseResult<Expr>
+        requires covered { lent self.now (need (primary language.now frame.now settings) (state_of shared.old)) }
+        ensures goes_on { GoesOn shared.old shared.new }
+        ensures reads { Reads (primary language.now frame.now settings) view shared.old result shared.new };
 
     /// Reads a construct of this kind after its first token, where the settings stand.
     fn parse_construct(

@@ -2,9 +2,9 @@
 use Rattle.std.proofs.Common.{◌≡◌, ◌==◌, codes, Bool, List, [], ◌∷◌, length, refl, sym, ap, ◌∙◌, subst, arith, if◌then◌else◌}
 use Rattle.rhai_lower.specs.Lexemes as lexeme
 use Rattle.rhai_lower.specs.Lexemes.{Lexeme, text_of}
-use Rattle.rhai_lower.specs.View.{property_views}
-use Rattle.rhai_lower.specs.declared.ast.Expr.{Expr}
-use Rattle.rhai_lower.specs.declared.ast.Ident.{Ident}
+use Rattle.rhai_ast.specs.View.{property_views}
+use Rattle.rhai_ast.specs.declared.ast.Expr.{Expr}
+use Rattle.rhai_ast.specs.declared.ast.Ident.{Ident}
 use Rattle.rhai_lower.specs.declared.position.Position.{Position}
 use Rattle.rhai_grammar.specs.Beginnings.{missing}
 use Rattle.rhai_grammar.specs.Causes.{Cause, Refusal, PropertyExpected, Reserved, refusal}

@@ -4,7 +4,7 @@ use Rattle.std.specs.Rc.{rc_str_bytes}
 use Rattle.std.specs.declared.alloc.Global.{Global}
 use Rattle.std.specs.declared.rc.RcStr.{RcStr}
 use Rattle.rhai_lower.specs.Nodes.{Properties}
-use Rattle.rhai_lower.specs.declared.ast.Ident.{Ident}
+use Rattle.rhai_ast.specs.declared.ast.Ident.{Ident}
 use Rattle.rhai_lower.specs.declared.position.Position.{Position}
 use Rattle.rhai_lower.specs.Names.{is_identifier}
 use Rattle.rhai_lower.specs.Lexemes.{Lexeme, Interpolated, Reserved}

@@ -2,7 +2,7 @@
 
 ghost use Rattle.std.specs.Prelude.{◌≡◌, ◌≤◌, if◌then◌else◌, IfErr, IfOk, OnOk, codes, false, option_map};
 ghost use Rattle.rhai_lower.specs.Lexemes.{lexeme};
-ghost use Rattle.rhai_lower.specs.View.{property_views, written};
+ghost use Rattle.rhai_ast.specs.View.{property_views, written};
 ghost use Rattle.rhai_grammar.specs.Causes.{MemoryIsNowhere, cause_of, is_for_memory, refusal_of};
 ghost use Rattle.rhai_grammar.specs.Cursors.{asked, cursor_of, left, taking};
 ghost use Rattle.rhai_grammar.specs.Beginnings.{missing};
@@ -16,8 +16,9 @@ ghost use Rattle.rhai_leaves.specs.MapKeys.{refused_key};
 use crate::cursor::{peek, skip};
 use crate::refusals::missing_token;
 use crate::tokens::is_end;
+use rhai_ast::{Expr, Ident};
 use rhai_grammar::{InputError, ParseError, ParseErrorType, ParseResult};
-use rhai_lower::{Expr, Ident, Position, Token, TokenStream, is_valid_identifier};
+use rhai_lower::{Position, Token, TokenStream, is_valid_identifier};
 use std::alloc::{AllocError, Global};
 use std::rc::RcStr;
 

@@ -2,7 +2,7 @@
 
 ghost use Rattle.std.specs.Prelude.{◌≡◌, IfOk, IsTrue, OnOk, false, true};
 ghost use Rattle.rhai_lower.specs.Lexemes.{lexeme};
-ghost use Rattle.rhai_lower.specs.View.{view};
+ghost use Rattle.rhai_ast.specs.View.{view};
 ghost use Rattle.rhai_grammar.specs.Delivered.{is_end, is_memory};
 ghost use Rattle.rhai_grammar.specs.Cursors.{asked, cursor_of, looking};
 ghost use Rattle.rhai_grammar.specs.Beginnings.{beginning, calling, calls, excludes_use, is_begun, is_call};
@@ -12,9 +12,10 @@ ghost use Rattle.rhai_grammar.specs.Starts.{jumps, operand_start, place_after};
 ghost use Rattle.rhai_grammar.specs.declared.role.OperandStart.TheVariants.{Jump};
 
 use crate::cursor::peek;
+use rhai_ast::Expr;
 use rhai_grammar::role::{OperandPlace, OperandStart};
 use rhai_grammar::{Beginning, Calling, Construct};
-use rhai_lower::{Expr, Position, Token, TokenStream};
+use rhai_lower::{Position, Token, TokenStream};
 use std::alloc::AllocError;
 
 /// What a token begins where an operand is due.

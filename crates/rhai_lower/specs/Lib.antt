@@ -8,5 +8,3 @@ pub mod Names
 pub mod Streams
 pub mod Entries
 pub mod Nodes
-pub mod View
-pub mod Scripts

@@ -3,8 +3,8 @@ use Rattle.std.specs.Prelude.{◌≡◌, ℕ, ℤ, pos, Bool, true, false, Optio
 use Rattle.rhai_lower.specs.Texts.{Text}
 use Rattle.rhai_lower.specs.Lexemes.{Lexeme}
 use Rattle.rhai_lower.specs.Positions.{place, nowhere}
-use Rattle.rhai_lower.specs.declared.ast.LinkFlags.{LinkFlags}
-use Rattle.rhai_lower.specs.declared.ast.RangeCase.{RangeCase}
+use Rattle.rhai_lower.specs.declared.node.LinkFlags.{LinkFlags}
+use Rattle.rhai_lower.specs.declared.node.RangeCase.{RangeCase}
 use Rattle.rhai_lower.specs.declared.position.Position.{Position}
 
 -- What a call names: the function or operator, the path before it with the offset of its import (counted from 1 at the

@@ -6,10 +6,10 @@ use Rattle.std.specs.declared.rc.Rc.{Rc}
 use Rattle.rhai_lower.specs.Nodes.{Node, Statements}
 use Rattle.rhai_lower.specs.Slots.{SlotValue}
 use Rattle.rhai_lower.specs.Texts.{Text}
-use Rattle.rhai_lower.specs.View.{statement_views}
-use Rattle.rhai_lower.specs.declared.ast.AST.{AST}
-use Rattle.rhai_lower.specs.declared.ast.ScriptFuncDef.{ScriptFuncDef}
-use Rattle.rhai_lower.specs.declared.ast.Stmt.{Stmt}
+use Rattle.rhai_ast.specs.View.{statement_views}
+use Rattle.rhai_ast.specs.declared.ast.AST.{AST}
+use Rattle.rhai_ast.specs.declared.ast.ScriptFuncDef.{ScriptFuncDef}
+use Rattle.rhai_ast.specs.declared.ast.Stmt.{Stmt}
 use Rattle.rhai_grammar.specs.Causes.{refusal_of, is_for_memory}
 use Rattle.rhai_grammar.specs.Cursors.{Cursor}
 use Rattle.rhai_grammar.specs.Delivered.{code}
@@ -18,8 +18,8 @@ use Rattle.rhai_grammar.specs.Demands.{Demands}
 use Rattle.rhai_grammar.specs.Forms as form
 use Rattle.rhai_grammar.specs.Trees.{statement_trees, tree}
 use Rattle.rhai_grammar.specs.Definitions.{after_statements}
-use Rattle.rhai_grammar.specs.Promises.{Accepts, IsScript, IsScriptOf, HasRead, ReadsExpression, ReadsScript, ReadsWhole}
-use Rattle.rhai_grammar.specs.Promises.{Returns, UnlessMemory}
+use Rattle.rhai_grammar.specs.Promises.{HasRead, ReadsWhole, Returns, UnlessMemory}
+use Rattle.rhai_parser.specs.Scripts.{Accepts, IsScript, IsScriptOf, ReadsExpression, ReadsScript}
 use Rattle.rhai_grammar.specs.declared.error.ParseError.{ParseError}
 use Rattle.rhai_leaves.proofs.ErrorLemmas.{memory_cause}
 use Rattle.rhai_reading.specs.Reading.{Goal, Script, Val, Whole}

@@ -5,13 +5,14 @@ ghost use Rattle.std.specs.Int.RustNames.{bit_and};
 ghost use Rattle.std.specs.Fn.{FnOnceReturnsAtMut, FnOnceTakesAtMut};
 ghost use Rattle.std.specs.declared.alloc.Global.{Global};
 ghost use Rattle.std.specs.declared.rc.Rc.{Rc};
-ghost use Rattle.rhai_lower.specs.View.{view};
-ghost use Rattle.rhai_lower.specs.declared.ast.ScriptFuncDef.{ScriptFuncDef};
+ghost use Rattle.rhai_ast.specs.View.{view};
+ghost use Rattle.rhai_ast.specs.declared.ast.ScriptFuncDef.{ScriptFuncDef};
 ghost use Rattle.rhai_grammar.specs.Causes.{MemoryIsNowhere};
 ghost use Rattle.rhai_grammar.specs.Cursors.{cursor_of};
 ghost use Rattle.rhai_grammar.specs.Delivered.{code};
 ghost use Rattle.rhai_grammar.specs.declared.key.FnKey.{FnKey};
-ghost use Rattle.rhai_grammar.specs.Promises.{Accepts, HasRead, ReadsExpression, UnlessMemory};
+ghost use Rattle.rhai_grammar.specs.Promises.{HasRead, UnlessMemory};
+ghost use Rattle.rhai_parser.specs.Scripts.{Accepts, ReadsExpression};
 ghost use Rattle.rhai_base.specs.States.{IsFresh};
 ghost use Rattle.rhai_language.specs.Frames.{context_of, live_of};
 ghost use Rattle.rhai_parser.specs.Starts.{live_in, starts_in};
@@ -22,13 +23,12 @@ ghost use Rattle.rhai_parser.specs.Engines.{fresh_engine, with_bits, expr_settin
 
 use crate::readers::parse_whole_expr;
 use bitflags::Flags;
+use rhai_ast::{AST, Expr, OptimizationLevel, Stmt, optimize_into_ast};
 use rhai_base::known::is_among;
 use rhai_base::{Frame, Known, LangOptions, ParseSettingFlags, ParseSettings, ParseState};
 use rhai_grammar::ParseResult;
 use rhai_language::{Language, Shared};
-use rhai_lower::{
-    AST, Expr, OptimizationLevel, Position, Scope, Stmt, TokenStream, optimize_into_ast,
-};
+use rhai_lower::{Position, Scope, TokenStream};
 use std::alloc::{AllocError, Global};
 use std::marker::Model;
 use std::rc::RcStr;
@@ -251,7 +251,7 @@ impl Engine {
     }
 
     // The script of one expression, as the optimizer makes it.
-    #[tactic(auto, using(rhai_lower::proofs::Views::view_expression))]
+    #[tactic(auto, using(rhai_ast::proofs::Views::view_expression))]
     fn make_script(
         &self,
         expr: Expr,

@@ -1,34 +1,37 @@
-//! The readers of expressions, of constructs and of statements, each lent to the others.
+//! The readers of expressions, of primaries, of constructs and of statements, each lent to the others.
 
 ghost use Rattle.std.specs.Prelude.{◌≡◌};
 ghost use Rattle.rhai_lower.specs.Nodes.{no_statements};
-ghost use Rattle.rhai_lower.specs.View.{statement_view, view};
+ghost use Rattle.rhai_ast.specs.View.{statement_view, view};
 ghost use Rattle.rhai_base.specs.Frames.{SamePlace};
 ghost use Rattle.rhai_reading.specs.Running.{need};
-ghost use Rattle.rhai_language.specs.Readers.{GoesOn, Reads, construct, expression, inside, state_of, statement};
-ghost use Rattle.rhai_language.specs.Readers.{statements, statements_of, whole, with_live};
+ghost use Rattle.rhai_language.specs.Readers.{GoesOn, Reads, construct, expression, inside, primary, state_of};
+ghost use Rattle.rhai_language.specs.Readers.{statement, statements, statements_of, whole, with_live};
 
+use rhai_ast::{Expr, Stmt};
 use rhai_base::{Frame, ParseSettings};
 use rhai_constructs::ConstructReader;
 use rhai_expressions::ExprReader;
 use rhai_grammar::{Closing, Construct, ParseResult};
 use rhai_language::{Language, LentReaders, Shared};
 use rhai_leaves::due::end_due;
-use rhai_lower::{Expr, Stmt};
+use rhai_primaries::PrimaryReader;
 use rhai_statements::StmtReader;
 
 // Readers, each a function that is lent.
 #[derive(Drop)]
-struct Lent<E, C, I, S> {
+struct Lent<E, P, C, I, S> {
     expr: E,
+    primary: P,
     construct: C,
     inside: I,
     stmt: S,
 }
 
-impl<E, C, I, S> LentReaders for Lent<E, C, I, S>
+impl<E, P, C, I, S> LentReaders for Lent<E, P, C, I, S>
 where
     E: Fn(&Language, &mut Shared<'_>, &Frame<'_>, ParseSettings) -> ParseResult<Expr>,
+    P: Fn(&Language, &mut Shared<'_>, &Frame<'_>, ParseSettings) -> ParseResult<Expr>,
     C: Fn(&Language, &mut Shared<'_>, &Frame<'_>, ParseSettings, Construct) -> ParseResult<Stmt>,
     I: Fn(&Language, &mut Shared<'_>, &Frame<'_>, ParseSettings) -> ParseResult<Vec<Stmt>>,
     S: Fn(&Language, &mut Shared<'_>, &mut Frame<'_>, ParseSettings) -> ParseResult<Stmt>,
@@ -40,6 +43,12 @@ where
         × ((result : _) (after : _) → E.post s.expr language shared frame settings result after
         → GoesOn shared.now after.now
         × Reads (expression language.now frame.now settings) view shared.now result after.now))
+        × ((language : _) (shared : _) (frame : _) (settings : _)
+        → need (primary language.now frame.now settings) (state_of shared.now) ≡ n
+        → P.pre s.primary language shared frame settings
+        × ((result : _) (after : _) → P.post s.primary language shared frame settings result after
+        → GoesOn shared.now after.now
+        × Reads (primary language.now frame.now settings) view shared.now result after.now))
         × ((language : _) (shared : _) (frame : _) (settings : _) (kind : _)
         → need (construct language.now frame.now settings kind) (state_of shared.now) ≡ n
         → C.pre s.construct language shared frame settings kind
@@ -68,6 +77,16 @@ where
         settings: ParseSettings,
     ) -> ParseResult<Expr> {
         (self.expr)(language, shared, frame, settings)
+    }
+
+    fn parse_primary(
+        &self,
+        language: &Language,
+        shared: &mut Shared<'_>,
+        frame: &Frame<'_>,
+        settings: ParseSettings,
+    ) -> ParseResult<Expr> {
+        (self.primary)(language, shared, frame, settings)
     }
 
     fn parse_construct(
@@ -115,12 +134,35 @@ pub(crate) fn parse_expr(
 {
     let readers = Lent {
         expr: parse_expr,
+        primary: parse_primary,
         construct: parse_construct,
         inside: parse_block_inside,
         stmt: parse_stmt,
     };
     let reader = ExprReader { language, readers };
     reader.parse_expr(shared, frame, settings)
+}
+
+/// Reads what an operand begins with, without its sign, what calls it and its links.
+#[cycle(parser)]
+fn parse_primary(
+    language: &Language,
+    shared: &mut Shared<'_>,
+    frame: &Frame<'_>,
+    settings: ParseSettings,
+) -> ParseResult<Expr>
+    ensures goes_on { GoesOn shared.old shared.new }
+    ensures reads { Reads (primary language.now frame.now settings) view shared.old result shared.new }
+{
+    let readers = Lent {
+        expr: parse_expr,
+        primary: parse_primary,
+        construct: parse_construct,
+        inside: parse_block_inside,
+        stmt: parse_stmt,
+    };
+    let reader = PrimaryReader { language, readers };
+    reader.parse_primary(shared, frame, settings)
 }
 
 /// Reads a construct of this kind after its first token, where the settings stand.
@@ -137,6 +179,7 @@ fn parse_construct(
 {
     let readers = Lent {
         expr: parse_expr,
+        primary: parse_primary,
         construct: parse_construct,
         inside: parse_block_inside,
         stmt: parse_stmt,
@@ -158,6 +201,7 @@ fn parse_block_inside(
 {
     let readers = Lent {
         expr: parse_expr,
+        primary: parse_primary,
         construct: parse_construct,
         inside: parse_block_inside,
         stmt: parse_stmt,
@@ -180,6 +224,7 @@ fn parse_stmt(
 {
     let readers = Lent {
         expr: parse_expr,
+        primary: parse_primary,
         construct: parse_construct,
         inside: parse_block_inside,
         stmt: parse_stmt,
@@ -220,6 +265,7 @@ pub(crate) fn parse_statements(
 {
     let readers = Lent {
         expr: parse_expr,
+        primary: parse_primary,
         construct: parse_construct,
         inside: parse_block_inside,
         stmt: parse_stmt,

@@ -3,11 +3,12 @@
 ghost use Rattle.std.specs.Prelude.{◌≡◌, IfErr, IfOk, map, true};
 ghost use Rattle.std.specs.Rc.{rc_str_bytes};
 ghost use Rattle.std.specs.Fn.{FnOnceReturnsAtMut, FnOnceTakesAtMut};
-ghost use Rattle.rhai_lower.specs.View.{statement_views};
+ghost use Rattle.rhai_ast.specs.View.{statement_views};
 ghost use Rattle.rhai_grammar.specs.Causes.{MemoryIsNowhere, is_for_memory};
 ghost use Rattle.rhai_grammar.specs.Contexts.{Live};
 ghost use Rattle.rhai_grammar.specs.Cursors.{cursor_of};
-ghost use Rattle.rhai_grammar.specs.Promises.{HasRead, ReadsScript, UnlessMemory};
+ghost use Rattle.rhai_grammar.specs.Promises.{HasRead, UnlessMemory};
+ghost use Rattle.rhai_parser.specs.Scripts.{ReadsScript};
 ghost use Rattle.rhai_reading.specs.Reading.{Script};
 ghost use Rattle.rhai_reading.specs.Running.{Gives, result_of};
 ghost use Rattle.rhai_base.specs.States.{IsFresh};
@@ -17,11 +18,12 @@ ghost use Rattle.rhai_parser.specs.Starts.{live_in, starts_in};
 
 use crate::engine::Engine;
 use crate::readers::parse_statements;
+use rhai_ast::{ScriptFuncDef, Stmt, StmtBlockContainer};
 use rhai_base::library::functions;
 use rhai_base::{FnLib, Frame, ParseSettingFlags, ParseSettings, ParseState};
 use rhai_grammar::{Closing, ParseResult};
 use rhai_language::Shared;
-use rhai_lower::{Position, Scope, ScriptFuncDef, Stmt, StmtBlockContainer, TokenStream};
+use rhai_lower::{Position, Scope, TokenStream};
 use std::mem;
 use std::rc::{Rc, RcStr};
 

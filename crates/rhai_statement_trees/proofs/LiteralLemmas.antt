@@ -1,7 +1,7 @@
 -- Lists of operands, as the code tests them.
 use Rattle.std.proofs.Common.{◌≡◌, ◌<◌, ◌≤◌, false, List, [], ◌∷◌, length, refl, arith}
-use Rattle.rhai_lower.specs.View.{views}
-use Rattle.rhai_lower.specs.declared.ast.Expr.{Expr}
+use Rattle.rhai_ast.specs.View.{views}
+use Rattle.rhai_ast.specs.declared.ast.Expr.{Expr}
 use Rattle.rhai_grammar.specs.Kinds.{are_bounds}
 
 -- a range has two ends

@@ -3,11 +3,11 @@ use Rattle.std.proofs.Common.{◌≡◌, Bool, true, false, Option, Some, None, 
 use Rattle.std.specs.Prelude.{Box}
 use Rattle.std.specs.declared.alloc.Global.{Global}
 use Rattle.rhai_lower.specs.Nodes.{Statement, Statements, break_loop, noop, return_statement, with_statement}
-use Rattle.rhai_lower.specs.View.{statement_view}
-use Rattle.rhai_lower.specs.declared.ast.Expr.{Expr}
-use Rattle.rhai_lower.specs.declared.ast.Stmt.TheVariants as stmt
+use Rattle.rhai_ast.specs.View.{statement_view}
+use Rattle.rhai_ast.specs.declared.ast.Expr.{Expr}
+use Rattle.rhai_ast.specs.declared.ast.Stmt.TheVariants as stmt
 use Rattle.rhai_lower.specs.declared.position.Position.{Position}
-use Rattle.rhai_lower.proofs.Views.{statement_views_push, view_break, view_break_alone, view_return, view_return_alone, view_unit, view_variable}
+use Rattle.rhai_ast.proofs.Views.{statement_views_push, view_break, view_break_alone, view_return, view_return_alone, view_unit, view_variable}
 use Rattle.rhai_grammar.specs.Trees.{with_kept}
 use Rattle.rhai_statement_trees.specs.Statements.{boxed_view, is_empty}
 

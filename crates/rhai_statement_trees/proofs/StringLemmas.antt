@@ -4,7 +4,7 @@ use Rattle.std.proofs.Math.Dec.{eqb-suc-zero}
 use Rattle.rhai_lower.specs.Nodes.{Nodes, string, with_node}
 use Rattle.rhai_lower.specs.Texts.{Text}
 use Rattle.rhai_lower.specs.declared.position.Position.{Position}
-use Rattle.rhai_lower.proofs.Views.{view_string, views_push}
+use Rattle.rhai_ast.proofs.Views.{view_string, views_push}
 use Rattle.rhai_grammar.specs.Interpolations.{added_text}
 
 pub added_none : (ns : Nodes) (t : Text) (p : Position) → (length t == 0) ≡ true → added_text ns t p ≡ ns

@@ -3,8 +3,8 @@ use Rattle.std.specs.Prelude.{◌≡◌, Bool, true, false, Box, Option, Some, N
 use Rattle.std.specs.declared.alloc.Global.{Global}
 use Rattle.rhai_lower.specs.Positions.{place}
 use Rattle.rhai_lower.specs.Nodes.{Optional, Statement, absent, noop, present}
-use Rattle.rhai_lower.specs.View.{view}
-use Rattle.rhai_lower.specs.declared.ast.Expr.{Expr}
+use Rattle.rhai_ast.specs.View.{view}
+use Rattle.rhai_ast.specs.declared.ast.Expr.{Expr}
 
 -- an empty statement
 abbrev pub is_empty : Statement → Bool

@@ -5,13 +5,14 @@ ghost use Rattle.std.specs.Rc.{rc_str_bytes};
 ghost use Rattle.rhai_lower.specs.Lexemes.{lexeme};
 ghost use Rattle.rhai_lower.specs.Nodes.{boolean, character, integer, pointer, string, unit};
 ghost use Rattle.rhai_lower.specs.Positions.{nowhere};
-ghost use Rattle.rhai_lower.specs.View.{property_views, view, views};
+ghost use Rattle.rhai_ast.specs.View.{property_views, view, views};
 ghost use Rattle.rhai_grammar.specs.CaseValues.{inclusion, is_empty_range, range_end, range_of, range_over};
 ghost use Rattle.rhai_grammar.specs.CaseValues.{range_start};
 ghost use Rattle.rhai_grammar.specs.CaseValues.{same_properties, same_range, same_value, same_values};
 ghost use Rattle.rhai_statement_trees.specs.Switches.{found_property, items_in, properties_in, range_view};
 
-use rhai_lower::{Expr, Ident, Token};
+use rhai_ast::{Expr, Ident};
+use rhai_lower::Token;
 use std::rc::RcStr;
 
 /// A range of integers.
@@ -175,7 +176,7 @@ fn is_pointer(expr: &Expr, name: &RcStr, count: usize) -> bool
 }
 
 // The items of an array.
-#[tactic(auto, using(rhai_lower::proofs::Views::view_array))]
+#[tactic(auto, using(rhai_ast::proofs::Views::view_array))]
 fn items_in(expr: &Expr) -> Option<&[Expr]>
     ensures { option_map (λ items. views items.now) result ≡ items_in (view expr.now) }
 {
@@ -186,7 +187,7 @@ fn items_in(expr: &Expr) -> Option<&[Expr]>
 }
 
 // The properties of an object map.
-#[tactic(auto, using(rhai_lower::proofs::Views::view_map))]
+#[tactic(auto, using(rhai_ast::proofs::Views::view_map))]
 fn properties_in(expr: &Expr) -> Option<&[(Ident, Expr)]>
     ensures { option_map (λ properties. property_views properties.now) result ≡ properties_in (view expr.now) }
 {
@@ -212,7 +213,7 @@ fn found_property<'a>(name: &RcStr, properties: &'a [(Ident, Expr)]) -> Option<&
 /// Whether two literal values are equal, whatever their positions; object maps are so whatever the order of their
 /// properties. Does not allocate.
 #[cycle(values)]
-#[tactic(auto, using(rhai_lower::proofs::Views::view_map, crate::proofs::SwitchLemmas::values))]
+#[tactic(auto, using(rhai_ast::proofs::Views::view_map, crate::proofs::SwitchLemmas::values))]
 pub fn same_value(left: &Expr, right: &Expr) -> bool
     ensures { result ≡ same_value (view left.now) (view right.now) }
 {

@@ -4,21 +4,20 @@ ghost use Rattle.std.specs.Prelude.{◌≡◌, IfErr, IfOk, None, OnOk, Some, fa
 ghost use Rattle.std.specs.Rc.{rc_str_bytes};
 ghost use Rattle.rhai_lower.specs.Nodes.{do_statement, for_statement, if_statement, start_of, try_catch};
 ghost use Rattle.rhai_lower.specs.Nodes.{while_statement};
-ghost use Rattle.rhai_lower.specs.View.{block_view, statement_view, view};
+ghost use Rattle.rhai_ast.specs.View.{block_view, statement_view, view};
 ghost use Rattle.rhai_grammar.specs.Causes.{MemoryIsNowhere, MismatchedType, Says, cause_of, is_for_memory, refusal};
 ghost use Rattle.rhai_grammar.specs.Causes.{refusal_of};
 ghost use Rattle.rhai_grammar.specs.Constructs.{guard_fault, iterated_fault};
 ghost use Rattle.rhai_grammar.specs.Trees.{catch_node};
 
-use rhai_lower::{
-    Expr, FlowControl, ForLoop, LoopControl, Namespace, Position, Stmt, StmtBlock, VariableExpr,
-};
+use rhai_ast::{Expr, FlowControl, ForLoop, LoopControl, Namespace, Stmt, StmtBlock, VariableExpr};
+use rhai_lower::Position;
 use std::alloc::{AllocError, Global};
 use std::rc::RcStr;
 
 /// An `if` at `pos`. `branch` is the block of its `else`: that of an absent `else` is `no_block`, and that of an `else`
 /// before another `if` is a block of that statement. Returns `AllocError` if memory runs out.
-#[tactic(auto, using(rhai_lower::proofs::Views::view_if))]
+#[tactic(auto, using(rhai_ast::proofs::Views::view_if))]
 pub fn make_if(
     alloc: Global,
     guard: Expr,
@@ -38,7 +37,7 @@ pub fn make_if(
 }
 
 /// A `while` at `pos`, or a `loop`, whose guard is unit without position. Returns `AllocError` if memory runs out.
-#[tactic(auto, using(rhai_lower::proofs::Views::view_while))]
+#[tactic(auto, using(rhai_ast::proofs::Views::view_while))]
 pub fn make_while(
     alloc: Global,
     guard: Expr,
@@ -52,7 +51,7 @@ pub fn make_while(
 }
 
 /// A `do` at `pos`; `negated` is whether it ends with `until`. Returns `AllocError` if memory runs out.
-#[tactic(auto, using(rhai_lower::proofs::Views::view_do))]
+#[tactic(auto, using(rhai_ast::proofs::Views::view_do))]
 pub fn make_do(
     alloc: Global,
     guard: Expr,
@@ -72,7 +71,7 @@ pub fn make_do(
 
 /// A `for` at `pos`, with its variable, the variable that counts the rounds, if there is one, and what it goes over.
 /// Returns `AllocError` if memory runs out.
-#[tactic(auto, using(rhai_lower::proofs::Views::view_for))]
+#[tactic(auto, using(rhai_ast::proofs::Views::view_for))]
 pub fn make_for(
     alloc: Global,
     name: RcStr,
@@ -114,7 +113,7 @@ fn catch_node(alloc: Global, name: Option<(RcStr, Position)>) -> Result<Expr, Al
 
 /// A `try` at `pos`. `name` is the variable of its `catch` with its position, if there is one, and `handler` the block
 /// of the `catch`. Returns `AllocError` if memory runs out.
-#[tactic(auto, using(rhai_lower::proofs::Views::view_try))]
+#[tactic(auto, using(rhai_ast::proofs::Views::view_try))]
 pub fn make_try(
     alloc: Global,
     body: StmtBlock,

@@ -2,16 +2,17 @@
 
 ghost use Rattle.std.specs.Prelude.{◌≡◌, option_map};
 ghost use Rattle.rhai_lower.specs.Lexemes.{lexeme};
-ghost use Rattle.rhai_lower.specs.View.{property_views, view, views};
+ghost use Rattle.rhai_ast.specs.View.{property_views, view, views};
 ghost use Rattle.rhai_grammar.specs.Kinds.{are_bounds, are_literal_values, have_literal_values, is_literal_value};
 ghost use Rattle.rhai_grammar.specs.Kinds.{is_range_end, is_range_start, makes_range};
 
-use rhai_lower::{Expr, Ident, Token};
+use rhai_ast::{Expr, Ident};
+use rhai_lower::Token;
 
 /// Whether an expression is a value that a `switch` case may have: a constant, or a range of integers. Does not
 /// allocate.
 #[cycle(literals)]
-#[tactic(auto, using(rhai_lower::proofs::Views::view_map))]
+#[tactic(auto, using(rhai_ast::proofs::Views::view_map))]
 pub fn is_literal_value(expr: &Expr) -> bool
     ensures { result ≡ is_literal_value (view expr.now) }
 {

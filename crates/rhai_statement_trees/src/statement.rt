@@ -7,14 +7,15 @@ ghost use Rattle.std.specs.Rc.{rc_str_bytes};
 ghost use Rattle.rhai_lower.specs.Lexemes.{lexeme};
 ghost use Rattle.rhai_lower.specs.Nodes.{absent, assignment, block_statement, block_value, braces, break_loop};
 ghost use Rattle.rhai_lower.specs.Nodes.{expression, made_block, return_statement, var_statement};
-ghost use Rattle.rhai_lower.specs.View.{block_view, statement_view, statement_views, view};
+ghost use Rattle.rhai_ast.specs.View.{block_view, statement_view, statement_views, view};
 ghost use Rattle.rhai_grammar.specs.Statements.{ends_itself};
 ghost use Rattle.rhai_grammar.specs.Targets.{update_of};
 ghost use Rattle.rhai_grammar.specs.Trees.{export_tree, import_tree, with_kept};
 ghost use Rattle.rhai_grammar.specs.Trees as tree;
 ghost use Rattle.rhai_statement_trees.specs.Statements.{boxed_view, is_empty, optional_view};
 
-use rhai_lower::{BinaryExpr, Expr, Position, Stmt, StmtBlock, Token};
+use rhai_ast::{BinaryExpr, Expr, Stmt, StmtBlock};
+use rhai_lower::{Position, Token};
 use std::alloc::{AllocError, Global};
 use std::num::NonZeroUsize;
 use std::rc::RcStr;
@@ -184,7 +185,7 @@ pub fn make_block_statement(alloc: Global, block: StmtBlock) -> Result<Stmt, All
 }
 
 /// A block as an operand. Returns `AllocError` if memory runs out.
-#[tactic(auto, using(rhai_lower::proofs::Views::view_block_value))]
+#[tactic(auto, using(rhai_ast::proofs::Views::view_block_value))]
 pub fn make_block_value(alloc: Global, block: StmtBlock) -> Result<Expr, AllocError>
     ensures { IfOk result (λ e. view e ≡ block_value (block_view block)) }
 {
@@ -236,7 +237,7 @@ pub fn make_break(alloc: Global, value: Option<Expr>, pos: Position) -> Result<S
 }
 
 /// A `continue` at `pos`. Does not allocate.
-#[tactic(auto, using(rhai_lower::proofs::Views::view_break_alone))]
+#[tactic(auto, using(rhai_ast::proofs::Views::view_break_alone))]
 pub fn make_continue(pos: Position) -> Stmt
     ensures { statement_view result ≡ break_loop absent false pos }
 {

@@ -3,11 +3,12 @@
 ghost use Rattle.std.specs.Prelude.{◌≡◌, OnOk};
 ghost use Rattle.std.specs.Rc.{rc_str_bytes};
 ghost use Rattle.rhai_lower.specs.Nodes.{block_value, with_node};
-ghost use Rattle.rhai_lower.specs.View.{block_view, views};
+ghost use Rattle.rhai_ast.specs.View.{block_view, views};
 ghost use Rattle.rhai_grammar.specs.Interpolations.{added_text};
 
 use crate::statement::make_block_value;
-use rhai_lower::{Expr, Position, StmtBlock};
+use rhai_ast::{Expr, StmtBlock};
+use rhai_lower::Position;
 use std::alloc::{AllocError, Global};
 use std::rc::RcStr;
 
@@ -26,7 +27,7 @@ pub fn push_text(segments: &mut Vec<Expr>, text: RcStr, pos: Position) -> Result
 }
 
 // Adds a block to the segments of an interpolated string.
-#[tactic(auto, using(rhai_lower::proofs::Views::views_push))]
+#[tactic(auto, using(rhai_ast::proofs::Views::views_push))]
 fn push_block(alloc: Global, segments: &mut Vec<Expr>, block: StmtBlock) -> Result<(), AllocError>
     ensures { OnOk result (views segments.new.items
         ≡ with_node (views segments.old.items) (block_value (block_view block))) }

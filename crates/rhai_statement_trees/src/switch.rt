@@ -1,7 +1,7 @@
 //! The arms of a `switch`, as they are read: the tests of cases, one more arm, and the node of a `switch`.
 
 ghost use Rattle.std.specs.Prelude.{◌≡◌, ◌++◌, ◌<◌, IfErr, IfOk, IfSome, None, OnOk, Some, false, length};
-ghost use Rattle.rhai_lower.specs.View.{case_views, statement_view, view, views};
+ghost use Rattle.rhai_ast.specs.View.{case_views, statement_view, view, views};
 ghost use Rattle.rhai_grammar.specs.CaseValues.{range_of};
 ghost use Rattle.rhai_grammar.specs.Causes.{MemoryIsNowhere, is_for_memory, refusal_of};
 ghost use Rattle.rhai_grammar.specs.Switches.{arm_count, arm_fault, ends_arm, has_ranges, is_integer};
@@ -14,8 +14,9 @@ ghost use Rattle.rhai_statement_trees.specs.Switches.{with_action};
 use crate::case_value::{range_of, same_value};
 use crate::literal::is_literal_value;
 use crate::statement::{ends_itself, is_empty};
+use rhai_ast::{BinaryExpr, Expr, Stmt, SwitchCase, SwitchCasesCollection};
 use rhai_grammar::{ParseError, ParseErrorType, ParseResult};
-use rhai_lower::{BinaryExpr, Expr, Position, RangeCase, Stmt, SwitchCase, SwitchCasesCollection};
+use rhai_lower::{Position, RangeCase};
 use std::alloc::{AllocError, Global};
 use std::rc::RcStr;
 
@@ -32,7 +33,7 @@ pub fn new_arms(alloc: Global) -> SwitchCasesCollection
 }
 
 /// An absent guard. Does not allocate.
-#[tactic(auto, using(rhai_lower::proofs::Views::view_boolean))]
+#[tactic(auto, using(rhai_ast::proofs::Views::view_boolean))]
 pub fn no_guard() -> Expr
     ensures { view result ≡ no_guard }
 {
@@ -256,7 +257,7 @@ pub fn push_default(arms: &mut SwitchCasesCollection, action: Expr) -> Result<()
 }
 
 /// A `switch` at `pos` over `item`, with these arms. Returns `AllocError` if memory runs out.
-#[tactic(auto, using(rhai_lower::proofs::Views::view_switch))]
+#[tactic(auto, using(rhai_ast::proofs::Views::view_switch))]
 pub fn make_switch(
     alloc: Global,
     item: Expr,

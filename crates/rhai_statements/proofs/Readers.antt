@@ -1,5 +1,5 @@
 -- What the proofs of the readers rest on: for each reader its equation, and what it makes of what it read.
-use Rattle.rhai_lower.proofs.Views.{view_noop, view_unit}
+use Rattle.rhai_ast.proofs.Views.{view_noop, view_unit}
 use Rattle.rhai_reading.proofs.Steps.{step_definition, step_export, step_expr_statement, step_import, step_initializer, step_inside, step_jump, step_statement, step_statements}
 use Rattle.rhai_language.proofs.Readers.{readers}
 

@@ -4,7 +4,7 @@
 ghost use Rattle.std.specs.Prelude.{◌≡◌, ◌≤◌, IfOk, false};
 ghost use Rattle.rhai_lower.specs.Lexemes.{lexeme};
 ghost use Rattle.rhai_lower.specs.Nodes.{assignment};
-ghost use Rattle.rhai_lower.specs.View.{statement_view, view};
+ghost use Rattle.rhai_ast.specs.View.{statement_view, view};
 ghost use Rattle.rhai_grammar.specs.Contexts.{Context, allows_looping};
 ghost use Rattle.rhai_grammar.specs.Cursors.{Cursor, cursor_of, left};
 ghost use Rattle.rhai_grammar.specs.Starts.{starts};
@@ -15,13 +15,14 @@ ghost use Rattle.rhai_reading.specs.Reading.{assigned_on};
 ghost use Rattle.rhai_reading.specs.Running.{Caller, Gives, exec, result_of};
 ghost use Rattle.rhai_language.specs.Readers.{name_view, var_name};
 
+use rhai_ast::{Expr, Stmt};
 use rhai_base::places::may_be_value;
 use rhai_base::{Frame, ParseSettings};
 use rhai_grammar::{Beginning, ParseResult};
 use rhai_language::Language;
 use rhai_leaves::statements::parse_var_name;
 use rhai_leaves::tokens::what_begins;
-use rhai_lower::{Expr, Position, Stmt, Token, TokenStream};
+use rhai_lower::{Position, Token, TokenStream};
 use rhai_statement_trees::make_assignment;
 use rhai_trees::{slot_of, test_target};
 use std::alloc::Global;

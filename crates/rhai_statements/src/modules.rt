@@ -4,7 +4,7 @@ ghost use Rattle.std.specs.Prelude.{◌≡◌, ◌≤◌, IfOk, OnOk, option_map
 ghost use Rattle.std.specs.Int.NonZero.{non_zero_usize_get};
 ghost use Rattle.std.specs.Rc.{rc_str_bytes};
 ghost use Rattle.rhai_lower.specs.Nodes.{variable};
-ghost use Rattle.rhai_lower.specs.View.{statement_view};
+ghost use Rattle.rhai_ast.specs.View.{statement_view};
 ghost use Rattle.rhai_grammar.specs.Cursors.{cursor_of, left};
 ghost use Rattle.rhai_grammar.specs.Definitions.{defined_as, exported, reused};
 ghost use Rattle.rhai_grammar.specs.Trees.{export_tree};
@@ -12,11 +12,12 @@ ghost use Rattle.rhai_reading.specs.Reading.{Alias};
 ghost use Rattle.rhai_reading.specs.Running.{Gives, result_of};
 ghost use Rattle.rhai_base.specs.Frames.{SamePlace};
 
+use rhai_ast::Stmt;
 use rhai_base::Frame;
 use rhai_grammar::{DueToken, ParseResult};
 use rhai_leaves::due::pass_token;
 use rhai_leaves::statements::parse_var_name;
-use rhai_lower::{Position, Stmt, TokenStream};
+use rhai_lower::{Position, TokenStream};
 use rhai_statement_trees::make_export;
 use std::alloc::{AllocError, Global};
 use std::num::NonZeroUsize;

@@ -2,7 +2,7 @@
 
 ghost use Rattle.std.specs.Prelude.{◌≡◌, ◌+◌, ◌≤◌, IfOk, false, true};
 ghost use Rattle.rhai_lower.specs.Nodes.{no_statements};
-ghost use Rattle.rhai_lower.specs.View.{statement_view, view};
+ghost use Rattle.rhai_ast.specs.View.{statement_view, view};
 ghost use Rattle.rhai_language.specs.Readers.{Covers, GoesOn, Reads, definition, expr_statement, initializer};
 ghost use Rattle.rhai_language.specs.Readers.{statement};
 ghost use Rattle.rhai_language.specs.Readers.{exported, imported};
@@ -15,6 +15,7 @@ ghost use Rattle.rhai_statement_trees.specs.Statements.{optional_view};
 use crate::asks::{end_assignment, next_var_name, starts_expression};
 use crate::modules::{define_as, export_name, next_alias};
 use crate::reader::StmtReader;
+use rhai_ast::{Expr, Stmt};
 use rhai_base::places::{test_global, test_loop};
 use rhai_base::{Frame, ParseSettingFlags, ParseSettings};
 use rhai_grammar::{Closing, ParseResult, StatementStart};
@@ -24,7 +25,7 @@ use rhai_leaves::statements::{
     assigns, has_value, list_ends, parse_var_name, statement_continues, what_is_exported,
     what_starts,
 };
-use rhai_lower::{Expr, Position, Stmt};
+use rhai_lower::Position;
 use rhai_statement_trees::{
     ends_itself, make_break, make_continue, make_definition, make_expression, make_import,
     make_jump, push_statement,

@@ -9,7 +9,7 @@ mod tree;
 use crate::escape::Escaped;
 use crate::print::fields::Optional;
 use crate::print::tree::{print_block, print_statements};
-use rhai_lower::{AST, ScriptFuncDef};
+use rhai_ast::{AST, ScriptFuncDef};
 use std::alloc::{AllocError, Global};
 use std::rc::Rc;
 

@@ -2,8 +2,8 @@
 use Rattle.std.proofs.Common.{◌≡◌, ◌<◌, Bool, true, false, List, [], ◌∷◌, ◌++◌, Option, Some, None, length, append_assoc, refl, ap, ◌∙◌, sym, arith}
 use Rattle.std.specs.Option.{option_or}
 use Rattle.rhai_lower.specs.Nodes.{Node}
-use Rattle.rhai_lower.specs.View.{views}
-use Rattle.rhai_lower.specs.declared.ast.Expr.{Expr}
+use Rattle.rhai_ast.specs.View.{views}
+use Rattle.rhai_ast.specs.declared.ast.Expr.{Expr}
 use Rattle.rhai_grammar.specs.Causes.{Refusal}
 use Rattle.rhai_grammar.specs.Chains as chain
 use Rattle.rhai_grammar.specs.Chains.{chain_of, chained, last_fault, link_fault, link_node, nest}

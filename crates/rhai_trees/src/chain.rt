@@ -1,16 +1,17 @@
 //! Chains: an operand followed by brackets and dots.
 
 ghost use Rattle.std.specs.Prelude.{◌≡◌, ◌∷◌, None, Some, false, IfErr, IfOk, IsOk, OnOk, option_map};
-ghost use Rattle.rhai_lower.specs.View.{called, view, views};
-ghost use Rattle.rhai_lower.specs.declared.ast.FnCallExpr.{out-FnCallExpr};
+ghost use Rattle.rhai_ast.specs.View.{called, view, views};
+ghost use Rattle.rhai_ast.specs.declared.ast.FnCallExpr.{out-FnCallExpr};
 ghost use Rattle.rhai_grammar.specs.Causes.{MemoryIsNowhere, is_for_memory, refusal_of};
 ghost use Rattle.rhai_grammar.specs.Chains.{chain_of, chained, index_refusal, last_fault, link_fault, link_node, nest};
 ghost use Rattle.rhai_trees.specs.Chains.{indexed_by, is_no_method, link_view, link_views, links_left, method_fault};
 ghost use Rattle.rhai_trees.specs.Chains.{open_links, with_next};
 
 use crate::kind::index_fault;
+use rhai_ast::{BinaryExpr, Expr, FnCallExpr};
 use rhai_grammar::{InputError, ParseError, ParseErrorType, ParseResult};
-use rhai_lower::{BinaryExpr, Expr, FnCallExpr, LinkFlags, Position};
+use rhai_lower::{LinkFlags, Position};
 use std::alloc::{AllocError, Global};
 use std::rc::RcStr;
 
@@ -78,7 +79,7 @@ fn take_apart(alloc: Global, tree: Expr) -> Result<(Expr, Vec<Link>), AllocError
 }
 
 // What is before the first link of a tree, and that link, if there is one.
-#[tactic(auto, using(rhai_lower::proofs::Views::view_dot, rhai_lower::proofs::Views::view_index))]
+#[tactic(auto, using(rhai_ast::proofs::Views::view_dot, rhai_ast::proofs::Views::view_index))]
 fn split(tree: Expr) -> (Expr, Option<OpenLink>)
     ensures root { view result.0 ≡ (chain_of (view tree)).root }
     ensures links { links_left result.1 ≡ (chain_of (view tree)).links }
@@ -152,7 +153,7 @@ fn with_next(alloc: Global, link: Link, next: Link, last: bool) -> Result<Link, 
 }
 
 // The node of a link, with what is before it on its left and its item on its right.
-#[tactic(auto, using(rhai_lower::proofs::Views::view_dot, rhai_lower::proofs::Views::view_index))]
+#[tactic(auto, using(rhai_ast::proofs::Views::view_dot, rhai_ast::proofs::Views::view_index))]
 fn link_node(alloc: Global, link: Link, last: bool, before: Expr) -> Result<Expr, AllocError>
     ensures { IfOk result (λ e. view e ≡ link_node (link_view link) last (view before) (view link.item)) }
 {
@@ -231,7 +232,7 @@ pub fn test_links(alloc: Global, links: &[Link]) -> ParseResult<()>
 }
 
 // Refuses a link whose member is not allowed as a method.
-#[tactic(auto, using(rhai_lower::proofs::Views::view_method_call))]
+#[tactic(auto, using(rhai_ast::proofs::Views::view_method_call))]
 fn test_link(alloc: Global, link: &Link) -> ParseResult<()>
     ensures passes { IsOk result → link_fault (link_view link.now) ≡ None }
     ensures refuses { IfErr result (λ e. is_for_memory e ≡ false → link_fault (link_view link.now)

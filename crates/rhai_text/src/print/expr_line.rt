@@ -2,7 +2,8 @@
 
 use crate::escape::Escaped;
 use crate::print::fields::{Optional, mark, offset, print_ident};
-use rhai_lower::{Expr, FnCallExpr, Ident, LinkFlags, Position, VariableExpr};
+use rhai_ast::{Expr, FnCallExpr, Ident, VariableExpr};
+use rhai_lower::{LinkFlags, Position};
 use std::alloc::AllocError;
 use std::fmt;
 

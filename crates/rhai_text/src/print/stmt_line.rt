@@ -3,7 +3,8 @@
 use crate::escape::Escaped;
 use crate::literal::print_literal;
 use crate::print::fields::{Optional, indent, mark, offset, print_ident};
-use rhai_lower::{ForLoop, Ident, Position, RangeCase, Stmt, SwitchCase, Token};
+use rhai_ast::{ForLoop, Ident, Stmt, SwitchCase};
+use rhai_lower::{Position, RangeCase, Token};
 use std::alloc::AllocError;
 use std::num::NonZeroUsize;
 

@@ -3,7 +3,7 @@
 use crate::print::expr_line::print_expr_line;
 use crate::print::fields::indent;
 use crate::print::stmt_line::{print_cases, print_ranges, print_statement_line};
-use rhai_lower::{
+use rhai_ast::{
     BinaryExpr, Expr, FlowControl, Ident, LoopControl, Stmt, StmtBlock, SwitchCasesCollection,
 };
 use std::alloc::AllocError;

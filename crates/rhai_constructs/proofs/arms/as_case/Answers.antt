@@ -1,5 +1,5 @@
 use Rattle.std.proofs.Common.{rules, ◌≡◌, Err, subst}
-use Rattle.rhai_lower.specs.View.{view}
+use Rattle.rhai_ast.specs.View.{view}
 use Rattle.rhai_reading.specs.Running.{Gives}
 use Rattle.rhai_constructs.proofs.SwitchLemmas.{recast_given}
 use Rattle.rhai_constructs.proofs.arms.as_case.Goals as goal

@@ -1,6 +1,6 @@
 use Rattle.std.proofs.Common.{◌≡◌, ◌≤◌, true}
 use Rattle.rhai_lower.specs.Nodes.{variable}
-use Rattle.rhai_lower.specs.View.{named}
+use Rattle.rhai_ast.specs.View.{named}
 use Rattle.rhai_grammar.specs.Beginnings.{qualifies}
 use Rattle.rhai_grammar.specs.Cursors.{asked, cursor_of, left}
 use Rattle.rhai_reading.specs.Reading.{Path}

@@ -1,6 +1,6 @@
 -- The properties from the index on decide.
 use Rattle.std.proofs.Common.{◌≡◌, drop}
-use Rattle.rhai_lower.specs.View.{property_views}
+use Rattle.rhai_ast.specs.View.{property_views}
 use Rattle.rhai_grammar.specs.Literals.{has_key}
 use Rattle.rhai_leaves.proofs.keys.has_key.Given as goal
 

@@ -1,6 +1,6 @@
 use Rattle.std.proofs.Common.{◌∙◌, false, sym, true}
 use Rattle.std.specs.Rc.{rc_str_bytes}
-use Rattle.rhai_lower.specs.View.{property_views, view}
+use Rattle.rhai_ast.specs.View.{property_views, view}
 use Rattle.rhai_statement_trees.proofs.SwitchLemmas.{absent_value, present_value, properties_by, values_done}
 use Rattle.rhai_statement_trees.proofs.case_value.+values.Goals as goal
 

@@ -1,6 +1,6 @@
 -- The result depends on the items from the index on.
 use Rattle.std.proofs.Common.{◌≡◌, drop}
-use Rattle.rhai_lower.specs.View.{property_views, views}
+use Rattle.rhai_ast.specs.View.{property_views, views}
 use Rattle.rhai_grammar.specs.CaseValues.{same_properties, same_values}
 use Rattle.rhai_statement_trees.proofs.case_value.+values.Given as goal
 

@@ -1,7 +1,7 @@
 -- The properties from the index on decide.
 use Rattle.std.proofs.Common.{◌≡◌, drop}
 use Rattle.std.specs.Rc.{rc_str_bytes}
-use Rattle.rhai_lower.specs.View.{property_views}
+use Rattle.rhai_ast.specs.View.{property_views}
 use Rattle.rhai_statement_trees.specs.Switches.{found_property}
 use Rattle.rhai_statement_trees.proofs.case_value.found_property.Given as goal
 

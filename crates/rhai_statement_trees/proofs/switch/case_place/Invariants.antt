@@ -1,7 +1,7 @@
 -- The place among the cases from the index on, counted from the first of all.
 use Rattle.std.proofs.Common.{◌≡◌, ◌+◌, drop}
 use Rattle.std.specs.Prelude.{option_map}
-use Rattle.rhai_lower.specs.View.{case_views, view}
+use Rattle.rhai_ast.specs.View.{case_views, view}
 use Rattle.rhai_statement_trees.specs.Switches.{case_place}
 use Rattle.rhai_statement_trees.proofs.switch.case_place.Given as goal
 

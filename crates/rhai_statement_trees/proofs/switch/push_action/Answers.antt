@@ -1,6 +1,6 @@
 use Rattle.std.proofs.Common.{rules}
-use Rattle.rhai_lower.specs.declared.ast.Expr.{the_lemmas}
-use Rattle.rhai_lower.proofs.Views.{arm_views_push}
+use Rattle.rhai_ast.specs.declared.ast.Expr.{the_lemmas}
+use Rattle.rhai_ast.proofs.Views.{arm_views_push}
 use Rattle.rhai_statement_trees.specs.Switches.{collected_view}
 use Rattle.rhai_statement_trees.proofs.SwitchLemmas.{collected_by}
 use Rattle.rhai_statement_trees.proofs.switch.push_action.Goals as goal

@@ -1,7 +1,7 @@
 -- With the cases that are left, the arms are what all cases give.
 use Rattle.std.proofs.Common.{◌≡◌, length}
 use Rattle.std.specs.Vec.Iter.{into_iter_items, into_iter_len}
-use Rattle.rhai_lower.specs.View.{views}
+use Rattle.rhai_ast.specs.View.{views}
 use Rattle.rhai_grammar.specs.Switches.{with_cases}
 use Rattle.rhai_statement_trees.specs.Switches.{collected_view}
 use Rattle.rhai_statement_trees.proofs.switch.push_cases.Given as goal

@@ -1,6 +1,6 @@
 use Rattle.std.proofs.Common.{◌∙◌, ap, rules}
-use Rattle.rhai_lower.specs.View.{case_views, view}
-use Rattle.rhai_lower.specs.declared.ast.Expr.{the_lemmas}
+use Rattle.rhai_ast.specs.View.{case_views, view}
+use Rattle.rhai_ast.specs.declared.ast.Expr.{the_lemmas}
 use Rattle.rhai_statement_trees.specs.Switches.{case_place}
 use Rattle.rhai_statement_trees.proofs.SwitchLemmas.{set_value}
 use Rattle.rhai_statement_trees.proofs.switch.push_value.Goals as goal

@@ -1,4 +1,4 @@
-use Rattle.rhai_lower.specs.View.{views}
+use Rattle.rhai_ast.specs.View.{views}
 use Rattle.rhai_statement_trees.specs.Switches.{collected_view}
 use Rattle.rhai_statement_trees.proofs.SwitchLemmas.{arm_faults}
 use Rattle.rhai_statement_trees.proofs.switch.test_cases.Goals as goal

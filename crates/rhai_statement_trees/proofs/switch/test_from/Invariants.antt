@@ -1,6 +1,6 @@
 -- The error of the cases from the index on is that of all.
 use Rattle.std.proofs.Common.{◌≡◌, drop}
-use Rattle.rhai_lower.specs.View.{views}
+use Rattle.rhai_ast.specs.View.{views}
 use Rattle.rhai_statement_trees.specs.Switches.{first_fault}
 use Rattle.rhai_statement_trees.proofs.switch.test_from.Given as goal
 

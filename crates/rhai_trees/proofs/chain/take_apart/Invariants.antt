@@ -1,6 +1,6 @@
 -- The root stays the same, and the links taken so far and those that are left are the links of the tree.
 use Rattle.std.proofs.Common.{◌≡◌, ◌++◌, length}
-use Rattle.rhai_lower.specs.View.{view}
+use Rattle.rhai_ast.specs.View.{view}
 use Rattle.rhai_grammar.specs.Chains.{chain_of}
 use Rattle.rhai_trees.specs.Chains.{link_views, links_left}
 use Rattle.rhai_trees.proofs.chain.take_apart.Given as goal

@@ -1,5 +1,5 @@
 use Rattle.std.proofs.Common.{arith}
-use Rattle.rhai_lower.specs.View.{view}
+use Rattle.rhai_ast.specs.View.{view}
 use Rattle.rhai_grammar.specs.Cursors.{cursor_of}
 use Rattle.rhai_reading.specs.Running.{guarded}
 use Rattle.rhai_language.specs.Readers.{default_arm, state_of}

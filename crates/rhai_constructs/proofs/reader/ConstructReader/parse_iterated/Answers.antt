@@ -1,5 +1,5 @@
 use Rattle.std.proofs.Common.{arith}
-use Rattle.rhai_lower.specs.View.{view}
+use Rattle.rhai_ast.specs.View.{view}
 use Rattle.rhai_reading.specs.Running.{guarded}
 use Rattle.rhai_language.specs.Readers.{iterated, state_of}
 use Rattle.rhai_constructs.proofs.reader.ConstructReader.parse_iterated.Goals as goal

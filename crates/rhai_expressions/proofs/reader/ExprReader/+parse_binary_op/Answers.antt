@@ -1,7 +1,7 @@
 use Rattle.std.proofs.Common.{rules, arith, ◌∙◌, option_map}
 use Rattle.std.proofs.lemmas.Result.{err_from_is_err_and}
 use Rattle.rhai_lower.specs.Lexemes.{lexeme}
-use Rattle.rhai_lower.specs.View.{view}
+use Rattle.rhai_ast.specs.View.{view}
 use Rattle.rhai_grammar.specs.Cursors.{cursor_of}
 use Rattle.rhai_reading.specs.Running.{Done, Refused}
 use Rattle.rhai_language.specs.Frames.{context_of, live_of}

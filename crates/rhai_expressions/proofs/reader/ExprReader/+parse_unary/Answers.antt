@@ -1,6 +1,6 @@
 use Rattle.std.proofs.Common.{arith, ◌≡◌}
 use Rattle.rhai_lower.specs.Lexemes.{lexeme}
-use Rattle.rhai_lower.specs.View.{view}
+use Rattle.rhai_ast.specs.View.{view}
 use Rattle.rhai_grammar.specs.Signs.{sign_result}
 use Rattle.rhai_reading.specs.Running.{result_of}
 use Rattle.rhai_language.specs.Readers.{operand, state_of}

@@ -1,6 +1,6 @@
 use Rattle.std.proofs.Common.{rules, arith, ◌∙◌}
 use Rattle.rhai_lower.specs.Lexemes.{lexeme}
-use Rattle.rhai_lower.specs.View.{view}
+use Rattle.rhai_ast.specs.View.{view}
 use Rattle.rhai_grammar.specs.Cursors.{cursor_of}
 use Rattle.rhai_grammar.specs.Spots.{LinkSpot}
 use Rattle.rhai_trees.specs.Chains.{indexed_by, link_views}

@@ -1,9 +1,9 @@
 use Rattle.std.proofs.Common.{rules, ◌∙◌, ap, refl, sym}
 use Rattle.std.proofs.lemmas.Result.{err_from_is_err_and}
 use Rattle.rhai_lower.specs.Nodes.{variable}
-use Rattle.rhai_lower.specs.declared.ast.VariableExpr.{VariableExpr}
-use Rattle.rhai_lower.specs.View.{named}
-use Rattle.rhai_lower.proofs.Views.{view_variable}
+use Rattle.rhai_ast.specs.declared.ast.VariableExpr.{VariableExpr}
+use Rattle.rhai_ast.specs.View.{named}
+use Rattle.rhai_ast.proofs.Views.{view_variable}
 use Rattle.rhai_grammar.specs.Cursors.{cursor_of}
 use Rattle.rhai_grammar.specs.Modules.{is_qualified, module_fault}
 use Rattle.rhai_reading.specs.Running.{Done}

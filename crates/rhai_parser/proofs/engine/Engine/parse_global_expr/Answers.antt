@@ -1,7 +1,7 @@
 use Rattle.std.proofs.Common.{ap, refl, rules, subst}
 use Rattle.rhai_base.specs.Frames.{FrameValue}
 use Rattle.rhai_grammar.specs.Cursors.{cursor_of, mode_by}
-use Rattle.rhai_grammar.specs.Promises.{ReadsExpression}
+use Rattle.rhai_parser.specs.Scripts.{ReadsExpression}
 use Rattle.rhai_language.specs.Frames.{context_of, live_of}
 use Rattle.rhai_parser.proofs.FrameLemmas.{frame_is}
 use Rattle.rhai_parser.proofs.engine.Engine.parse_global_expr.Goals as goal

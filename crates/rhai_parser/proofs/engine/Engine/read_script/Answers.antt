@@ -1,5 +1,5 @@
 use Rattle.std.proofs.Common.{rules}
-use Rattle.rhai_lower.specs.View.{view}
+use Rattle.rhai_ast.specs.View.{view}
 use Rattle.rhai_language.specs.Frames.{context_of, live_of}
 use Rattle.rhai_parser.proofs.PromiseLemmas.{expression_done, expression_fails, has_read_done, has_read_fails}
 use Rattle.rhai_reading.proofs.Main.{expression_entry}

@@ -1,5 +1,5 @@
 use Rattle.std.proofs.Common.{arith}
-use Rattle.rhai_lower.specs.View.{statement_view}
+use Rattle.rhai_ast.specs.View.{statement_view}
 use Rattle.rhai_reading.specs.Running.{guarded}
 use Rattle.rhai_language.specs.Readers.{expr_statement, state_of}
 use Rattle.rhai_statements.proofs.reader.StmtReader.parse_expr_stmt.Goals as goal

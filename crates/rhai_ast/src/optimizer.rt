@@ -1,0 +1,37 @@
+//! A stand-in for the optimizer: it leaves every script as it is.
+
+ghost use Rattle.std.specs.Prelude.{◌≡◌, Ok};
+ghost use Rattle.rhai_ast.specs.Scripts.{script_of};
+
+use crate::ast::{AST, ScriptFuncDef, StmtBlockContainer};
+use rhai_lower::Scope;
+use std::alloc::{AllocError, Global};
+use std::rc::Rc;
+
+/// How much of a script may be evaluated before it runs.
+#[derive(Clone, Copy, PartialEq, Eq, Hash, Debug)]
+pub enum OptimizationLevel {
+    /// Nothing.
+    None,
+    /// Only what does not change the script's effects.
+    Simple,
+    /// Everything that can be known.
+    Full,
+}
+
+/// The script of these statements and functions, unchanged, whatever the constants and the level are. Does not allocate
+/// and never fails.
+pub fn optimize_into_ast(
+    _alloc: Global,
+    _constants: Option<&Scope>,
+    statements: StmtBlockContainer,
+    functions: Vec<Rc<ScriptFuncDef>>,
+    _level: OptimizationLevel,
+) -> Result<AST, AllocError>
+    ensures { result ≡ Ok (script_of statements functions) }
+{
+    Ok(AST {
+        statements,
+        functions,
+    })
+}

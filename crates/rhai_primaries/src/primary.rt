@@ -1,0 +1,106 @@
+//! What an operand begins with: a value, a name, a group, an array, an object map, a string, or a construct.
+
+ghost use Rattle.rhai_ast.specs.View.{view};
+ghost use Rattle.rhai_language.specs.Readers.{Covers, GoesOn, Reads, primary};
+
+use crate::reader::PrimaryReader;
+use rhai_ast::Expr;
+use rhai_base::places::may_be_value;
+use rhai_base::words::{name_node, word_node};
+use rhai_base::{Frame, ParseSettings};
+use rhai_grammar::{Beginning, DueToken, ParseResult};
+use rhai_language::{LentReaders, Shared};
+use rhai_leaves::cursor::{peek, skip};
+use rhai_leaves::due::match_token;
+use rhai_leaves::refusals::no_operand;
+use rhai_leaves::tokens::{excludes_use, is_called, value_of, what_begins};
+use rhai_statement_trees::make_statement_value;
+
+impl<R: LentReaders> PrimaryReader<'_, R> {
+    /// Reads an operand without its sign, and without what calls it.
+    #[tactic(auto, using(crate::proofs::Readers::parse_primary))]
+    pub fn parse_primary(
+        &self,
+        shared: &mut Shared<'_>,
+        frame: &Frame<'_>,
+        settings: ParseSettings,
+    ) -> ParseResult<Expr>
+        requires lent { Covers (R.lent self.now.readers) (primary self.now.language.now frame.now settings)
+            shared.old }
+        ensures goes_on { GoesOn shared.old shared.new }
+        ensures reads { Reads (primary self.now.language.now frame.now settings) view shared.old result shared.new }
+    {
+        let (token, pos) = peek(shared.input)?;
+        let pos = *pos;
+        match what_begins(token) {
+            Beginning::Value => {
+                let value = value_of(token, pos)?;
+                skip(shared.input);
+                Ok(value)
+            }
+            Beginning::Name => {
+                let name = token.text(self.language.alloc())?;
+                skip(shared.input);
+                let excluded = excludes_use(shared.input)?;
+                name_node(self.language.alloc(), frame, settings, name, excluded, pos)
+            }
+            Beginning::Word => {
+                let word = token.text(self.language.alloc())?;
+                skip(shared.input);
+                let called = is_called(shared.input)?;
+                word_node(self.language.alloc(), settings, word, called, pos)
+            }
+            Beginning::Group => {
+                skip(shared.input);
+                let deeper = settings.at(pos).level_up()?;
+                let inside = self
+                    .readers
+                    .parse_expr(self.language, shared, frame, deeper)?;
+                let note = "to close the parentheses";
+                match_token(
+                    self.language.alloc(),
+                    shared.input,
+                    DueToken::RightParen,
+                    note,
+                )?;
+                Ok(inside)
+            }
+            Beginning::Array => {
+                skip(shared.input);
+                let deeper = settings.at(pos).level_up()?;
+                let items = self.parse_array_literal(shared, frame, deeper)?;
+                Ok(Expr::Array(items, pos))
+            }
+            Beginning::Map => {
+                skip(shared.input);
+                let deeper = settings.at(pos).level_up()?;
+                let properties = self.parse_map_literal(shared, frame, deeper)?;
+                Ok(Expr::Map(properties, pos))
+            }
+            Beginning::Interpolated => {
+                let first = token.text(self.language.alloc())?;
+                skip(shared.input);
+                let deeper = settings.at(pos).level_up()?;
+                let segments = self.parse_interpolated_string(shared, frame, deeper, first)?;
+                Ok(Expr::InterpolatedString(segments, pos))
+            }
+            Beginning::Construct(kind) => {
+                if !may_be_value(settings, self.language.allow_looping(), kind) {
+                    return Err(no_operand(self.language.alloc(), token, pos));
+                }
+                skip(shared.input);
+                let deeper = settings.at(pos).level_up()?.level_up()?;
+                let statement = self
+                    .readers
+                    .parse_construct(self.language, shared, frame, deeper, kind)?;
+                Ok(make_statement_value(self.language.alloc(), statement)?)
+            }
+            Beginning::Range => Ok(Expr::IntegerConstant(0, pos)),
+            Beginning::Sign | Beginning::Nothing => Err(no_operand(
+                self.language.alloc(),
+                token,
+                pos,
+            )),
+        }
+    }
+}
