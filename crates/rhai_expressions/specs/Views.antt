@@ -1,8 +1,6 @@
 -- How the contracts of the readers of expressions see what is read.
 use Rattle.std.specs.Prelude.{Bool, List, Vec}
 use Rattle.std.specs.declared.alloc.Global.{Global}
-use Rattle.std.specs.Rc.{rc_str_bytes}
-use Rattle.rhai_lower.specs.Texts.{Text}
 use Rattle.rhai_lower.specs.Nodes.{Node, Nodes, variable}
 use Rattle.rhai_ast.specs.View.{named}
 use Rattle.rhai_ast.specs.declared.ast.VariableExpr.{VariableExpr}

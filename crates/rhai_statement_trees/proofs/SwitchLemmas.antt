@@ -3,7 +3,7 @@ use Rattle.std.proofs.Common.{◌≡◌, ◌∙◌, ◌<◌, ◌≤◌, ℕ, ℤ
 use Rattle.std.proofs.Math.Dec.{eqb-suc-zero}
 use Rattle.std.proofs.Math.Seq.{drop-cons}
 use Rattle.std.proofs.lemmas.List.{drop_all}
-use Rattle.std.specs.Option.{is_some, option_or}
+use Rattle.std.specs.Option.{option_or}
 use Rattle.std.specs.Prelude.{option_map}
 use Rattle.std.specs.Rc.{rc_str_bytes}
 use Rattle.std.proofs.lemmas.Cmp.{nat_list_eq_equiv}
@@ -18,12 +18,12 @@ use Rattle.rhai_lower.specs.declared.node.RangeCase.{RangeCase}
 use Rattle.rhai_ast.specs.declared.ast.SwitchCase.{SwitchCase, out-SwitchCase}
 use Rattle.rhai_ast.specs.declared.ast.SwitchCasesCollection.{SwitchCasesCollection, out-SwitchCasesCollection}
 use Rattle.rhai_grammar.specs.Statements.{ends_itself}
-use Rattle.rhai_grammar.specs.Switches.{Collected, arm_count, arm_fault, ends_arm, fault_from, has_ranges, is_integer, listed_range, range_case, with_case, with_value}
+use Rattle.rhai_grammar.specs.Switches.{Collected, arm_count, arm_fault, ends_arm, fault_from, has_ranges, listed_range, range_case, with_case, with_value}
 use Rattle.rhai_statement_trees.specs.Statements.{is_empty}
 use Rattle.rhai_ast.specs.declared.ast.Expr.{Expr}
 use Rattle.rhai_ast.specs.declared.ast.Ident.{Ident}
 use Rattle.rhai_lower.specs.declared.position.Position.{Position}
-use Rattle.rhai_grammar.specs.CaseValues.{IntegerRange, inclusion, is_empty_range, property_value, range_of, range_over, range_start, same_properties, same_range, same_value, same_values}
+use Rattle.rhai_grammar.specs.CaseValues.{IntegerRange, inclusion, is_empty_range, property_value, range_of, range_over, same_properties, same_range, same_value, same_values}
 use Rattle.rhai_grammar.specs.Literals.{has_key, property_count}
 use Rattle.rhai_statement_trees.specs.Switches.{case_place, collected_view, first_fault, found_property, is_full_range, items_in, properties_in, value_fault}
 
