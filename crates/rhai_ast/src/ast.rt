@@ -114,7 +114,7 @@ pub enum Expr {
 
 /// Statements in braces, with the positions of the braces, which are none if they were not written.
 #[cycle(ast)]
-#[derive(PartialEq, Debug, Drop)]
+#[derive(PartialEq, Debug)]
 pub struct StmtBlock {
     pub statements: Vec<Stmt>,
     pub start: Position,
@@ -330,6 +330,18 @@ impl Drop for BinaryExpr {
                 _ => return,
             }
         }
+    }
+}
+
+impl Drop for StmtBlock {
+    // As derived; but a derived drop is proved anew in each crate that drops a block, with those of all statements.
+    #[cycle(drop)]
+    fn drop(self) {
+        let StmtBlock {
+            statements: _,
+            start: _,
+            end: _,
+        } = self;
     }
 }
 

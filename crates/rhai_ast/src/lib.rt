@@ -1,8 +1,7 @@
-//! The tree that the parser makes, where its nodes stand, and a stand-in for the optimizer.
+//! The tree that the parser makes, and where its nodes stand.
 #![tactic(auto)]
 
 pub mod ast;
-pub mod optimizer;
 mod places;
 
 pub use ast::{
@@ -10,4 +9,3 @@ pub use ast::{
     ScriptFuncDef, Stmt, StmtBlock, StmtBlockContainer, SwitchCase, SwitchCasesCollection,
     VariableExpr,
 };
-pub use optimizer::{OptimizationLevel, optimize_into_ast};

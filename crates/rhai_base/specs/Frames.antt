@@ -5,7 +5,7 @@ use Rattle.std.specs.Borrow.{Bor}
 use Rattle.std.specs.Rc.{rc_str_bytes}
 use Rattle.std.specs.declared.alloc.Global.{Global}
 use Rattle.std.specs.declared.rc.RcStr.{RcStr}
-use Rattle.rhai_lower.specs.Slots.{SlotValue}
+use Rattle.rhai_input.specs.Slots.{SlotValue}
 use Rattle.rhai_lower.specs.Texts.{Text}
 use Rattle.rhai_grammar.specs.Contexts as context
 use Rattle.rhai_grammar.specs.Contexts.{Live}

@@ -11,7 +11,7 @@ ghost use Rattle.rhai_grammar.specs.Imports.{is_among, module_number};
 ghost use Rattle.rhai_grammar.specs.Slots.{number};
 ghost use Rattle.rhai_grammar.specs.Targets.{is_constant_at};
 ghost use Rattle.rhai_grammar.specs.declared.filter.ExprFilter.TheVariants.{AllButPipe};
-ghost use Rattle.rhai_lower.specs.Slots.{is_declared};
+ghost use Rattle.rhai_input.specs.Slots.{is_declared};
 ghost use Rattle.rhai_lower.specs.Texts.{same_text};
 ghost use Rattle.rhai_base.specs.Frames.{SamePlace, known_of};
 
@@ -19,7 +19,8 @@ use crate::known::Known;
 use crate::lookup::{find_import, place_of};
 use crate::slots::{define, export};
 use rhai_grammar::{ExprFilter, ParseError, ParseErrorType, ParseResult};
-use rhai_lower::{Position, Scope};
+use rhai_input::Scope;
+use rhai_lower::Position;
 use std::alloc::{AllocError, Global};
 use std::marker::Model;
 use std::num::NonZeroUsize;

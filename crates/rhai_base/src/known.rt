@@ -2,11 +2,11 @@
 
 ghost use Rattle.std.specs.Prelude.{◌≡◌, map};
 ghost use Rattle.std.specs.Rc.{rc_str_bytes};
-ghost use Rattle.rhai_lower.specs.Slots.{is_declared};
+ghost use Rattle.rhai_input.specs.Slots.{is_declared};
 ghost use Rattle.rhai_grammar.specs.Imports.{is_among};
 ghost use Rattle.rhai_base.specs.Frames.{known_of};
 
-use rhai_lower::Scope;
+use rhai_input::Scope;
 use std::rc::RcStr;
 
 /// What is known before a script defines or imports anything.

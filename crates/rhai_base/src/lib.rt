@@ -1,5 +1,5 @@
 //! What the parsing functions share: the settings, the state, what is live in a block, look-ups among the slots and
-//! imports, the library of functions, and the nodes of names, which depend on what is live.
+//! imports, the library of functions, the nodes of values and names.
 #![tactic(auto)]
 
 pub mod closure_name;
@@ -8,6 +8,7 @@ pub mod flags;
 pub mod frame;
 pub mod known;
 pub mod library;
+pub mod literals;
 pub mod lookup;
 pub mod modules;
 pub mod names;

@@ -2,7 +2,8 @@
 
 ghost use Rattle.std.specs.Prelude.{◌≡◌, false};
 
-use rhai_lower::{Entry, LexError, Position, Token, TokenStream};
+use rhai_input::{Entry, TokenStream};
+use rhai_lower::{LexError, Position, Token};
 use std::process::Abort;
 use std::rc::RcStr;
 use std::test::Fail;

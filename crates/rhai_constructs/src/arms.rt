@@ -16,8 +16,9 @@ ghost use Rattle.rhai_statement_trees.specs.Switches.{collected_view};
 use rhai_ast::ast::SwitchCasesCollection;
 use rhai_ast::{Expr, Stmt};
 use rhai_grammar::ParseResult;
+use rhai_input::TokenStream;
 use rhai_leaves::arms::{arm_continues, as_literal, default_ends};
-use rhai_lower::{Position, TokenStream};
+use rhai_lower::Position;
 use rhai_statement_trees::{ends_arm, make_statement_value, test_cases};
 use std::alloc::Global;
 

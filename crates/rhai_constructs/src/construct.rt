@@ -2,8 +2,8 @@
 
 ghost use Rattle.rhai_ast.specs.View.{block_view, statement_view, view};
 ghost use Rattle.rhai_grammar.specs.declared.role.Construct.TheVariants.{Do, For, Loop, Try, While};
-ghost use Rattle.rhai_language.specs.Readers.{Covers, GoesOn, Reads, block, braced, branch, conditional, construct, guard};
-ghost use Rattle.rhai_language.specs.Readers.{iterated};
+ghost use Rattle.rhai_language.specs.Readers.{Covers, GoesOn, Reads, block, braced, branch, conditional, construct};
+ghost use Rattle.rhai_language.specs.Readers.{guard, iterated};
 
 use crate::control::{
     catch_frame, end_block, end_guard, end_iterated, loop_frame, next_catch, next_do_end,

@@ -1,6 +1,6 @@
 //! What the readers of constructs ask for by leaves, as the reading program gives it: the names of `for` and of
-//! `catch`, the end of `do`, and the frames that hold such names; and the ends of guards, of what `for` goes over, and of
-//! blocks.
+//! `catch`, the end of `do`, and the frames that hold such names; and the ends of guards, of what `for` goes over, and
+//! of blocks.
 
 ghost use Rattle.std.specs.Prelude.{◌≡◌, ◌+◌, ◌≤◌, IfOk, OnOk, option_map};
 ghost use Rattle.std.specs.Rc.{rc_str_bytes};
@@ -17,11 +17,12 @@ ghost use Rattle.rhai_language.specs.Readers.{name_view, statements_of};
 use rhai_ast::{Expr, Stmt, StmtBlock};
 use rhai_base::Frame;
 use rhai_grammar::{DueToken, ParseResult};
+use rhai_input::TokenStream;
 use rhai_leaves::constructs::{end_do, guard_ends, test_counter};
 use rhai_leaves::cursor::peek;
 use rhai_leaves::due::{match_token, pass_token};
 use rhai_leaves::statements::parse_var_name;
-use rhai_lower::{Position, TokenStream};
+use rhai_lower::Position;
 use rhai_statement_trees::make_block;
 use rhai_trees::{test_guard, test_iterated};
 use std::alloc::{AllocError, Global};

@@ -1,5 +1,5 @@
-//! The readers of constructs: blocks, conditions, loops, `try` and `switch`. What reads the expressions and the statements
-//! in them is lent to them.
+//! The readers of constructs: blocks, conditions, loops, `try` and `switch`. What reads the expressions and the
+//! statements in them is lent to them.
 #![tactic(auto)]
 
 pub mod arms;

@@ -1,5 +1,5 @@
-//! What the readers of expressions ask for by leaves, as the reading program gives it: the next operator, and the end of
-//! an index.
+//! What the readers of expressions ask for by leaves, as the reading program gives it: the next operator, and the end
+//! of an index.
 
 ghost use Rattle.std.specs.Prelude.{◌≡◌, ◌≤◌, IfOk, IsSome, OnOk, false, option_map};
 ghost use Rattle.rhai_lower.specs.Lexemes.{lexeme};
@@ -14,10 +14,10 @@ ghost use Rattle.rhai_expressions.specs.Asks.{operator_pair};
 
 use rhai_ast::Expr;
 use rhai_grammar::{DueToken, ExprFilter, ParseResult};
+use rhai_input::TokenStream;
 use rhai_leaves::due::match_token;
 use rhai_leaves::operators;
 use rhai_leaves::operators::Operator;
-use rhai_lower::TokenStream;
 use rhai_trees::test_index;
 use std::alloc::Global;
 

@@ -14,10 +14,11 @@ use rhai_ast::VariableExpr;
 use rhai_base::Frame;
 use rhai_base::words::qualify;
 use rhai_grammar::ParseResult;
+use rhai_input::TokenStream;
 use rhai_leaves::cursor::skip;
 use rhai_leaves::statements::parse_var_name;
 use rhai_leaves::tokens::{is_called, is_qualified};
-use rhai_lower::{Position, TokenStream};
+use rhai_lower::Position;
 use std::alloc::Global;
 
 /// The names of the path that `name`, at `pos`, begins or goes on with: each with the `::` before it, which the caller

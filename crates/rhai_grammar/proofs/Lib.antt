@@ -13,4 +13,5 @@ pub mod SlotLemmas
 pub mod ChainLemmas
 pub mod FairLemmas
 pub mod SwitchLemmas
+pub mod ShapeSteps
 pub mod ShapeLemmas

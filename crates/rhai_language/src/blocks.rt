@@ -6,9 +6,10 @@ ghost use Rattle.rhai_reading.specs.Reading.{BlockStart};
 ghost use Rattle.rhai_reading.specs.Running.{Gives, result_of};
 
 use rhai_grammar::{DueToken, ParseResult};
+use rhai_input::TokenStream;
 use rhai_leaves::cursor::peek;
 use rhai_leaves::due::match_token;
-use rhai_lower::{Position, TokenStream};
+use rhai_lower::Position;
 use std::alloc::Global;
 
 /// The position of the `{` that begins a block, which is taken. `note` tells people what it is for.

@@ -1,6 +1,6 @@
 //! What the readers of a script lend on to each other.
 
-use rhai_lower::TokenStream;
+use rhai_input::TokenStream;
 
 /// What all readers of one script work on, whichever function of it they read.
 #[derive(Drop)]

@@ -1,4 +1,3 @@
 pub mod ErrorLemmas
 pub mod LiteralLemmas
 pub mod OperatorLemmas
-pub mod TokenLemmas

@@ -1,38 +1,15 @@
--- Numbers of properties, and why a token is no key.
-use Rattle.std.proofs.Common.{◌≡◌, ◌==◌, codes, Bool, List, [], ◌∷◌, length, refl, sym, ap, ◌∙◌, subst, arith, if◌then◌else◌}
+-- Why a token is no key.
+use Rattle.std.proofs.Common.{◌≡◌, codes, Bool, refl, if◌then◌else◌}
 use Rattle.rhai_lower.specs.Lexemes as lexeme
 use Rattle.rhai_lower.specs.Lexemes.{Lexeme, text_of}
-use Rattle.rhai_ast.specs.View.{property_views}
-use Rattle.rhai_ast.specs.declared.ast.Expr.{Expr}
-use Rattle.rhai_ast.specs.declared.ast.Ident.{Ident}
-use Rattle.rhai_lower.specs.declared.position.Position.{Position}
 use Rattle.rhai_grammar.specs.Beginnings.{missing}
-use Rattle.rhai_grammar.specs.Causes.{Cause, Refusal, PropertyExpected, Reserved, refusal}
-use Rattle.rhai_grammar.specs.Cursors.{Cursor, asked, looking}
-use Rattle.rhai_grammar.specs.Delivered.{Item, item, is_end}
-use Rattle.rhai_grammar.specs.Literals.{NoKey, key_place, no_key, property_count}
-use Rattle.rhai_grammar.specs.Settings.{Settings, quoted_keys}
-use Rattle.rhai_grammar.specs.Verdicts.{next_key}
-use Rattle.rhai_leaves.specs.MapKeys.{KeyRefused, is_interpolated, is_reserved_word, refused_key}
-
-pub count_properties : (ps : List (Ident × Expr)) → property_count (property_views ps) ≡ length ps
-count_properties [] = refl
-count_properties (p ∷ ps) = omega (arith, count_properties ps)
+use Rattle.rhai_grammar.specs.Causes.{PropertyExpected, Reserved}
+use Rattle.rhai_grammar.specs.Delivered.{is_end}
+use Rattle.rhai_grammar.specs.Literals.{no_key}
+use Rattle.rhai_leaves.specs.MapKeys.{is_interpolated, is_reserved_word, refused_key}
 
 -- why a token is refused that is no key, by the code's tests
 pub refused_by_tests : (first : Bool) (l : Lexeme) → refused_key first l ≡ (if is_interpolated l then PropertyExpected else if is_reserved_word l then Reserved (text_of l) else if is_end l then missing (codes "}") l else no_key first l)
 refused_by_tests first (lexeme.Interpolated t) = refl
 refused_by_tests first (lexeme.Reserved t) = refl
 refused_by_tests first _ = refl
-
--- A token that the code's test takes for no key is none, and is refused so.
-pub no_key_refused : (c : Settings) (ps : List (Ident × Expr)) (quoted first : Bool) (l : Lexeme) (at : Position) (why : Cause) (e : Refusal) (s t : Cursor) → item l at ≡ asked s → quoted ≡ quoted_keys c → first ≡ (length ps == 0) → key_place quoted first l ≡ NoKey why → e ≡ refusal why at → t ≡ looking s → KeyRefused (property_views ps) s (next_key c (property_views ps) (asked s).lexeme) e t
-no_key_refused c ps quoted first l at why e s t next q f k same look =
-    let before = property_views ps in
-    let none : (property_count before == 0) ≡ first = ap (λ n. n == 0) (count_properties ps) ∙ sym f in
-    let place : next_key c before (asked s).lexeme ≡ NoKey why =
-    ap (λ (i : Item). next_key c before i.lexeme) (sym next)
-    ∙ ap (λ b. key_place (quoted_keys c) b l) none
-    ∙ ap (λ b. key_place b first l) (sym q)
-    ∙ k in
-    subst (λ w. KeyRefused before s w e t) (sym place) (same ∙ ap (λ (i : Item). refusal why i.at) next, look)

@@ -21,7 +21,8 @@ use crate::tokens::is_end;
 use rhai_grammar::{
     AfterPart, ArmPlace, CommaList, DueToken, ParseError, ParseErrorType, ParseResult,
 };
-use rhai_lower::{Position, Token, TokenStream};
+use rhai_input::TokenStream;
+use rhai_lower::{Position, Token};
 use std::alloc::Global;
 use std::rc::RcStr;
 

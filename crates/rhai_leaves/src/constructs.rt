@@ -17,7 +17,8 @@ use crate::cursor::{peek, skip};
 use crate::due::is_due;
 use crate::refusals::missing;
 use rhai_grammar::{Construct, DueToken, InputError, ParseError, ParseErrorType, ParseResult};
-use rhai_lower::{Position, Token, TokenStream};
+use rhai_input::TokenStream;
+use rhai_lower::{Position, Token};
 use std::alloc::{AllocError, Global};
 use std::rc::RcStr;
 

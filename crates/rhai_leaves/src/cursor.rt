@@ -3,13 +3,14 @@
 ghost use Rattle.std.specs.Prelude.{◌≡◌, ◌+◌, ◌≤◌, false};
 ghost use Rattle.std.specs.Borrow.{sem};
 ghost use Rattle.std.specs.Io.BufRead.{Rests};
-ghost use Rattle.rhai_lower.specs.contracts.stream.TokenStream.{the_row};
+ghost use Rattle.rhai_input.specs.contracts.stream.TokenStream.{the_row};
 ghost use Rattle.rhai_lower.specs.Lexemes.{lexeme};
 ghost use Rattle.rhai_grammar.specs.Delivered.{is_end, is_memory};
 ghost use Rattle.rhai_grammar.specs.Cursors.{asked, cursor_of, item_of, left, looking, taking};
 ghost use Rattle.rhai_leaves.specs.Shown.{Shows};
 
-use rhai_lower::{LexError, Position, Token, TokenStream};
+use rhai_input::TokenStream;
+use rhai_lower::{LexError, Position, Token};
 use std::alloc::AllocError;
 
 /// Whether a token says that the tokenizer ran out of memory.

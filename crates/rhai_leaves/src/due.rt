@@ -17,7 +17,8 @@ use crate::cursor::{peek, skip};
 use crate::refusals::{missing, unexpected};
 use crate::tokens::{is_end, what_calls};
 use rhai_grammar::{Calling, DueToken, InputError, ParseError, ParseErrorType, ParseResult};
-use rhai_lower::{Position, Token, TokenStream};
+use rhai_input::TokenStream;
+use rhai_lower::{Position, Token};
 use std::alloc::{AllocError, Global};
 use std::rc::RcStr;
 

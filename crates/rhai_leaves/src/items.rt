@@ -11,7 +11,8 @@ ghost use Rattle.rhai_grammar.specs.Literals.{item_place, too_many_fields};
 use crate::cursor::peek;
 use crate::refusals::too_large;
 use rhai_grammar::{ItemPlace, ParseResult};
-use rhai_lower::{Token, TokenStream};
+use rhai_input::TokenStream;
+use rhai_lower::Token;
 use std::alloc::Global;
 
 // Whether a literal has as many parts as the limit allows; a limit of 0 is none.

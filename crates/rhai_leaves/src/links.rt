@@ -14,7 +14,8 @@ use crate::cursor::peek;
 use crate::refusals::no_member;
 use crate::tokens::qualifies;
 use rhai_grammar::{InputError, Linking, ParseError, ParseErrorType, ParseResult};
-use rhai_lower::{Token, TokenStream, is_reserved_keyword_or_symbol};
+use rhai_input::TokenStream;
+use rhai_lower::{Token, is_reserved_keyword_or_symbol};
 use std::alloc::Global;
 use std::rc::RcStr;
 

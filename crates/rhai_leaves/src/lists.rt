@@ -13,7 +13,8 @@ use crate::cursor::{peek, skip};
 use crate::refusals::missing;
 use crate::tokens::is_end;
 use rhai_grammar::{AfterPart, CommaList, ParseError, ParseResult};
-use rhai_lower::{Position, Token, TokenStream};
+use rhai_input::TokenStream;
+use rhai_lower::{Position, Token};
 use std::alloc::Global;
 
 /// What a token is after a part of a list.

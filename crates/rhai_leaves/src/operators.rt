@@ -11,7 +11,8 @@ ghost use Rattle.rhai_leaves.specs.Operators.{continues, is_reserved_symbol, ope
 
 use crate::cursor::peek;
 use rhai_grammar::{ExprFilter, ParseError, ParseErrorType, ParseResult};
-use rhai_lower::{Token, TokenStream, is_valid_identifier};
+use rhai_input::TokenStream;
+use rhai_lower::{Token, is_valid_identifier};
 use std::alloc::Global;
 
 /// A binary operator, as far as the grouping of a run asks for it.

@@ -22,7 +22,8 @@ use rhai_grammar::{
     AfterStatement, Closing, Construct, InputError, ParseError, ParseErrorType, ParseResult,
     StatementPlace, StatementStart,
 };
-use rhai_lower::{Position, Token, TokenStream, is_valid_identifier};
+use rhai_input::TokenStream;
+use rhai_lower::{Position, Token, is_valid_identifier};
 use std::alloc::{AllocError, Global};
 use std::rc::RcStr;
 

@@ -14,7 +14,8 @@ use crate::cursor::{peek, skip};
 use crate::due::match_token;
 use crate::refusals::unexpected;
 use rhai_grammar::{DueToken, ParseResult};
-use rhai_lower::{Position, Token, TokenStream};
+use rhai_input::TokenStream;
+use rhai_lower::{Position, Token};
 use std::alloc::Global;
 use std::rc::RcStr;
 

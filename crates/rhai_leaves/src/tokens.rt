@@ -2,20 +2,19 @@
 
 ghost use Rattle.std.specs.Prelude.{◌≡◌, IfOk, IsTrue, OnOk, false, true};
 ghost use Rattle.rhai_lower.specs.Lexemes.{lexeme};
-ghost use Rattle.rhai_ast.specs.View.{view};
 ghost use Rattle.rhai_grammar.specs.Delivered.{is_end, is_memory};
 ghost use Rattle.rhai_grammar.specs.Cursors.{asked, cursor_of, looking};
 ghost use Rattle.rhai_grammar.specs.Beginnings.{beginning, calling, calls, excludes_use, is_begun, is_call};
-ghost use Rattle.rhai_grammar.specs.Beginnings.{is_sign, omits_operand, qualifies, value_of};
+ghost use Rattle.rhai_grammar.specs.Beginnings.{is_sign, omits_operand, qualifies};
 ghost use Rattle.rhai_grammar.specs.CommaLists.{no_argument};
 ghost use Rattle.rhai_grammar.specs.Starts.{jumps, operand_start, place_after};
 ghost use Rattle.rhai_grammar.specs.declared.role.OperandStart.TheVariants.{Jump};
 
 use crate::cursor::peek;
-use rhai_ast::Expr;
 use rhai_grammar::role::{OperandPlace, OperandStart};
 use rhai_grammar::{Beginning, Calling, Construct};
-use rhai_lower::{Position, Token, TokenStream};
+use rhai_input::TokenStream;
+use rhai_lower::{Position, Token};
 use std::alloc::AllocError;
 
 /// What a token begins where an operand is due.
@@ -48,21 +47,6 @@ pub fn what_begins(token: &Token) -> Beginning
         }
         Token::ExclusiveRange | Token::InclusiveRange => Beginning::Range,
         _ => Beginning::Nothing,
-    }
-}
-
-/// The node of a token at `pos` that is a value. The error is that there is no memory for it.
-#[tactic(auto, using(crate::proofs::TokenLemmas::values))]
-pub fn value_of(token: &Token, pos: Position) -> Result<Expr, AllocError>
-    ensures { IfOk result (λ x. view x ≡ value_of (lexeme token.now) pos) }
-{
-    match token {
-        Token::IntegerConstant(n) => Ok(Expr::IntegerConstant(*n, pos)),
-        Token::CharConstant(c) => Ok(Expr::CharConstant(*c, pos)),
-        Token::StringConstant(t) => Ok(Expr::StringConstant(t.clone()?, pos)),
-        Token::True => Ok(Expr::BoolConstant(true, pos)),
-        Token::False => Ok(Expr::BoolConstant(false, pos)),
-        _ => Ok(Expr::Unit(pos)),
     }
 }
 

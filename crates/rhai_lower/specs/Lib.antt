@@ -1,10 +1,6 @@
 pub mod Texts
 pub mod Positions
-pub mod Slots
-pub mod SlotView
 pub mod Tokens
 pub mod Lexemes
 pub mod Names
-pub mod Streams
-pub mod Entries
 pub mod Nodes

@@ -1,7 +1,7 @@
 //! The program, over any reader and writer.
 
 ghost use Rattle.std.specs.Prelude.{All, IsTrue};
-ghost use Rattle.rhai_lower.specs.Entries.{may_be_delivered};
+ghost use Rattle.rhai_input.specs.Entries.{may_be_delivered};
 
 use crate::words::{Entry, Limits, read_words};
 use bitflags::Flags;

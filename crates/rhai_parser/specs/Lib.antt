@@ -1,3 +1,4 @@
 pub mod Engines
 pub mod Starts
 pub mod Scripts
+pub mod Optimizer

@@ -3,7 +3,7 @@ use Rattle.std.specs.Prelude.{◌≡◌, List, [], Result, Vec}
 use Rattle.std.specs.declared.alloc.Global.{Global}
 use Rattle.std.specs.declared.rc.Rc.{Rc}
 use Rattle.rhai_lower.specs.Texts.{Text}
-use Rattle.rhai_lower.specs.Slots.{SlotValue}
+use Rattle.rhai_input.specs.Slots.{SlotValue}
 use Rattle.rhai_lower.specs.Nodes.{Node, expression, no_statements, one_statement}
 use Rattle.rhai_ast.specs.View.{statement_views}
 use Rattle.rhai_ast.specs.declared.ast.AST.{AST}

@@ -21,14 +21,16 @@ ghost use Rattle.std.specs.Rc.{rc_str_bytes};
 ghost use Rattle.rhai_grammar.specs.Imports.{is_among};
 ghost use Rattle.rhai_parser.specs.Engines.{fresh_engine, with_bits, expr_settings};
 
+use crate::optimizer::{OptimizationLevel, optimize_into_ast};
 use crate::readers::parse_whole_expr;
 use bitflags::Flags;
-use rhai_ast::{AST, Expr, OptimizationLevel, Stmt, optimize_into_ast};
+use rhai_ast::{AST, Expr, Stmt};
 use rhai_base::known::is_among;
 use rhai_base::{Frame, Known, LangOptions, ParseSettingFlags, ParseSettings, ParseState};
 use rhai_grammar::ParseResult;
+use rhai_input::{Scope, TokenStream};
 use rhai_language::{Language, Shared};
-use rhai_lower::{Position, Scope, TokenStream};
+use rhai_lower::Position;
 use std::alloc::{AllocError, Global};
 use std::marker::Model;
 use std::rc::RcStr;

@@ -22,8 +22,9 @@ use rhai_ast::{ScriptFuncDef, Stmt, StmtBlockContainer};
 use rhai_base::library::functions;
 use rhai_base::{FnLib, Frame, ParseSettingFlags, ParseSettings, ParseState};
 use rhai_grammar::{Closing, ParseResult};
+use rhai_input::{Scope, TokenStream};
 use rhai_language::Shared;
-use rhai_lower::{Position, Scope, TokenStream};
+use rhai_lower::Position;
 use std::mem;
 use std::rc::{Rc, RcStr};
 

@@ -21,7 +21,7 @@ use Rattle.rhai_base.specs.Words.{name_result, word_result}
 use Rattle.rhai_grammar.specs.declared.due.DueToken.TheVariants as due
 use Rattle.rhai_grammar.specs.Literals.{KeyPlace, FieldsEnd, AKey, NoKey, has_key}
 use Rattle.rhai_grammar.specs.Verdicts.{next_key}
-use Rattle.rhai_leaves.specs.MapKeys.{KeyRefused}
+use Rattle.rhai_primaries.specs.MapKeys.{KeyRefused}
 use Rattle.rhai_reading.proofs.Outcomes.{answered, exec_answered, outcome}
 use Rattle.rhai_reading.proofs.WordSteps.{Worded, worded}
 

@@ -1,3 +1,4 @@
 pub mod AnswerLemmas
+pub mod KeyLemmas
 pub mod Readers
 pub mod TextLemmas

@@ -8,7 +8,7 @@ ghost use Rattle.rhai_grammar.specs.Causes.{MemoryIsNowhere, is_for_memory, refu
 ghost use Rattle.rhai_grammar.specs.Cursors.{asked, cursor_of, left, taking};
 ghost use Rattle.rhai_grammar.specs.Delivered.{is_memory};
 ghost use Rattle.rhai_grammar.specs.Verdicts.{next_key};
-ghost use Rattle.rhai_leaves.specs.MapKeys.{KeyIs, KeyRefused};
+ghost use Rattle.rhai_primaries.specs.MapKeys.{KeyIs, KeyRefused};
 ghost use Rattle.rhai_base.specs.Frames.{FrameValue};
 ghost use Rattle.rhai_base.specs.Settings.{settings_of};
 ghost use Rattle.rhai_reading.specs.Reading.{NextKey, TextAfter};
@@ -16,15 +16,15 @@ ghost use Rattle.rhai_reading.specs.Running.{Gives, result_of};
 ghost use Rattle.rhai_language.specs.Frames.{context_of};
 ghost use Rattle.rhai_primaries.specs.Views.{text_view};
 
+use crate::keys;
 use rhai_ast::{Expr, Ident};
 use rhai_base::{ParseSettingFlags, ParseSettings};
 use rhai_grammar::{DueToken, ParseResult};
+use rhai_input::TokenStream;
 use rhai_language::Language;
 use rhai_leaves::due::match_token;
 use rhai_leaves::items::room_for_value;
-use rhai_leaves::keys;
 use rhai_leaves::strings::{TextPart, end_interpolation};
-use rhai_lower::TokenStream;
 use std::alloc::Global;
 
 // The key of the property after these ones, which is taken; none where the `}` is, which is taken too. The settings say
@@ -53,7 +53,7 @@ fn key_under(
 
 /// The key of the property after these ones, with its `:`, and a look at the value that is due; none where the `}` is,
 /// which is taken. The language limits how many properties the literal has.
-#[tactic(auto, using(rhai_reading::proofs::Steps::step_next_key, rhai_leaves::proofs::LiteralLemmas::count_properties))]
+#[tactic(auto, using(rhai_reading::proofs::Steps::step_next_key, crate::proofs::KeyLemmas::count_properties))]
 pub(crate) fn next_key(
     language: &Language,
     input: &mut TokenStream,

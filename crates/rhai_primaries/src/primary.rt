@@ -5,6 +5,7 @@ ghost use Rattle.rhai_language.specs.Readers.{Covers, GoesOn, Reads, primary};
 
 use crate::reader::PrimaryReader;
 use rhai_ast::Expr;
+use rhai_base::literals::value_of;
 use rhai_base::places::may_be_value;
 use rhai_base::words::{name_node, word_node};
 use rhai_base::{Frame, ParseSettings};
@@ -13,7 +14,7 @@ use rhai_language::{LentReaders, Shared};
 use rhai_leaves::cursor::{peek, skip};
 use rhai_leaves::due::match_token;
 use rhai_leaves::refusals::no_operand;
-use rhai_leaves::tokens::{excludes_use, is_called, value_of, what_begins};
+use rhai_leaves::tokens::{excludes_use, is_called, what_begins};
 use rhai_statement_trees::make_statement_value;
 
 impl<R: LentReaders> PrimaryReader<'_, R> {

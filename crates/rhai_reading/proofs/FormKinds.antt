@@ -1,5 +1,5 @@
 -- The forms that each reader reads, with their trees and demands.
-use Rattle.std.proofs.Common.{◌≡◌, Bool, true, false, List, ◌++◌, subst, sym}
+use Rattle.std.proofs.Common.{◌≡◌, Bool, true, false, List, ◌++◌}
 use Rattle.std.specs.Prelude.{Option, Some, None, not}
 use Rattle.std.specs.Option.{is_some}
 use Rattle.rhai_lower.specs.Texts.{Text}
@@ -9,7 +9,7 @@ use Rattle.rhai_lower.specs.declared.position.Position.{Position}
 use Rattle.rhai_lower.specs.declared.token.Token.TheVariants as token
 use Rattle.rhai_grammar.specs.declared.due.DueToken.TheVariants as due
 use Rattle.rhai_grammar.specs.Causes as cause
-use Rattle.rhai_grammar.specs.Causes.{Refusal, refusal}
+use Rattle.rhai_grammar.specs.Causes.{refusal}
 use Rattle.rhai_grammar.specs.Delivered.{code, text, item, Point}
 use Rattle.rhai_grammar.specs.Contexts.{Context, Live, below_global, has_single_blocks, in_block, level_up}
 use Rattle.rhai_grammar.specs.Beginnings.{excludes_use, member_place, is_member}
@@ -22,20 +22,17 @@ use Rattle.rhai_grammar.specs.Trees.{element_trees, field_trees, tree, node_coun
 use Rattle.rhai_grammar.specs.Demands.{Demands, ◌▸◌, Tok, Next, Test, Shape}
 use Rattle.rhai_grammar.specs.Verdicts as V
 use Rattle.rhai_grammar.specs.Written as W
-use Rattle.rhai_grammar.specs.Verdicts.{operator_known}
 use Rattle.rhai_grammar.specs.Spots.{LinkSpot, Spot}
 use Rattle.rhai_lower.specs.Nodes as node
 use Rattle.rhai_grammar.specs.Forms as form
-use Rattle.rhai_grammar.specs.Forms.{Body, Branch, CatchName, Conditional, Construct, ExprStatement, Initializer}
-use Rattle.rhai_grammar.specs.Forms.{Alias, JumpValue, LoopNames, Path, Segments, Statement, Statements}
-use Rattle.rhai_grammar.specs.Constructs.{do_end_due, do_token, kind_of}
-use Rattle.rhai_grammar.specs.declared.role.Construct.{Construct as ConstructKind}
+use Rattle.rhai_grammar.specs.Forms.{Body, ExprStatement, Initializer}
+use Rattle.rhai_grammar.specs.Forms.{Alias, JumpValue, Path, Segments, Statement, Statements}
 use Rattle.rhai_grammar.specs.Definitions.{after_statement, after_statements, alias_of, defined_as, imported}
 use Rattle.rhai_grammar.specs.Modules.{path_tree}
 use Rattle.rhai_grammar.specs.Statements.{exported_due, exports_definition, keyword_of}
 use Rattle.rhai_grammar.specs.Trees.{definition_tree, import_tree}
-use Rattle.rhai_grammar.specs.Trees.{block_tree, branch_tree, caught, conditional_tree, construct_tree, counter_of, jump_result}
-use Rattle.rhai_grammar.specs.Trees.{loop_name, segment_trees, statement_of, statement_tree, statement_trees, value_tree}
+use Rattle.rhai_grammar.specs.Trees.{block_tree, jump_result}
+use Rattle.rhai_grammar.specs.Trees.{segment_trees, statement_of, statement_tree, statement_trees, value_tree}
 use Rattle.rhai_grammar.specs.declared.role.Closing.{Closing}
 use Rattle.rhai_grammar.specs.declared.role.Closing.TheVariants.{Brace}
 use Rattle.rhai_grammar.specs.Interpolations.{text_due}
@@ -348,76 +345,3 @@ statement_lists closing c w before = record {
 
 abbrev pub blocks : Context → Live → (opening : Position) → Kind Body node.Block
 blocks c w opening = record { tree = λ t f. block_tree opening f w; demands = λ f k. W.block f c w k }
-
--- ---- constructs
-
-abbrev pub guards : Context → Live → Kind Run Node
-guards c w = record { tree = λ t f. tree f w; demands = λ f k. W.as_guard (W.run f) (tree f w) c w k }
-
-abbrev pub iterated_values : Context → Live → Kind Run Node
-iterated_values c w = record { tree = λ t f. tree f w; demands = λ f k. W.as_iterated (W.run f) (tree f w) c w k }
-
--- a block from its `{`
-pub record BracedForm : Type 0 where
-  pub opening : Position
-  pub body : Body
-
-abbrev pub braced : Context → Live → (at : Position) → Kind BracedForm node.Block
-braced c w at = record {
-  tree = λ t f. block_tree f.opening f.body w;
-  demands = λ f k. W.in_braces f.opening (W.block f.body) c w at k;
-}
-
-abbrev pub conditionals : Context → Live → (at : Position) → Kind Conditional node.Statement
-conditionals c w at = record { tree = λ t x. conditional_tree x w at; demands = λ x k. W.conditional x c w at k }
-
-abbrev pub branches : Context → Live → (at : Position) → Kind Branch node.Block
-branches c w at = record { tree = λ t x. branch_tree x w; demands = λ x k. W.branch x c w at k }
-
--- the variables of `for`, and its `in`
-pub record LoopForm : Type 0 where
-  pub names : LoopNames
-  pub in_at : Position
-
-abbrev pub loops : Kind LoopForm (Text × Option Text)
-loops = record {
-  tree = λ t f. (loop_name f.names, counter_of f.names);
-  demands = λ f k. W.loop_names f.names (W.due_token due.In f.in_at k);
-}
-
--- `catch`, and its variable
-pub record CatchForm : Type 0 where
-  pub at : Position
-  pub name : CatchName
-
-abbrev pub catches : Kind CatchForm (Option (Text × Position))
-catches = record {
-  tree = λ t f. caught f.name;
-  demands = λ f k. W.due_token due.Catch f.at (W.catch_name f.name k);
-}
-
--- the `while` or `until` of `do`
-pub record DoForm : Type 0 where
-  pub negated : Bool
-  pub at : Position
-
-abbrev pub do_ends : Kind DoForm Bool
-do_ends = record {
-  tree = λ t f. f.negated;
-  demands = λ f k. Tok code (item (Sign (do_token f.negated)) f.at) do_end_due ▸ k;
-}
-
--- a construct of a kind
-pub record OfKind (kind : ConstructKind) : Type 0 where
-  pub construct : Construct
-  pub is : kind_of construct ≡ kind
-
--- what holds of the kind holds of the construct's
-pub of_kind : {kind : ConstructKind} (P : ConstructKind → Type 0) (f : OfKind kind) → P kind → P (kind_of f.construct)
-of_kind P f h = subst P (sym f.is) h
-
-abbrev pub constructs : Context → Live → (at : Position) → (kind : ConstructKind) → Kind (OfKind kind) node.Statement
-constructs c w at kind = record {
-  tree = λ t f. construct_tree f.construct w at;
-  demands = λ f k. W.construct f.construct c w at k;
-}

@@ -10,6 +10,7 @@ pub mod Recasts
 pub mod Paths
 pub mod Shows
 pub mod FormKinds
+pub mod ConstructKinds
 pub mod SwitchKinds
 pub mod Reaches
 pub mod Complete

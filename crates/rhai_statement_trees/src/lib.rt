@@ -1,5 +1,5 @@
-//! Operations on trees that hold statements, which do not use the stream: statements and their blocks, constructs, arms of
-//! `switch` with their cases, and segments of interpolated strings.
+//! Operations on trees that hold statements, which do not use the stream: statements and their blocks, constructs, arms
+//! of `switch` with their cases, and segments of interpolated strings.
 #![tactic(auto)]
 
 pub mod case_value;

@@ -8,8 +8,8 @@ ghost use Rattle.rhai_grammar.specs.Switches.{arm_count, arm_fault, ends_arm, ha
 ghost use Rattle.rhai_grammar.specs.Switches.{listed_range, no_guard};
 ghost use Rattle.rhai_grammar.specs.Switches.{nothing_collected, switch_tree, with_arm_collected, with_case};
 ghost use Rattle.rhai_grammar.specs.Switches.{with_cases, with_default_collected, with_value};
-ghost use Rattle.rhai_statement_trees.specs.Switches.{case_place, collected_view, first_fault, is_full_range, value_fault};
-ghost use Rattle.rhai_statement_trees.specs.Switches.{with_action};
+ghost use Rattle.rhai_statement_trees.specs.Switches.{case_place, collected_view, first_fault, is_full_range};
+ghost use Rattle.rhai_statement_trees.specs.Switches.{value_fault, with_action};
 
 use crate::case_value::{range_of, same_value};
 use crate::literal::is_literal_value;

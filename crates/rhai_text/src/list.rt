@@ -1,12 +1,13 @@
 //! Lists of tokens, one token per line.
 
 ghost use Rattle.std.specs.Prelude.{All, IfOk, IsTrue};
-ghost use Rattle.rhai_lower.specs.Entries.{may_be_delivered};
+ghost use Rattle.rhai_input.specs.Entries.{may_be_delivered};
 
 use crate::escape::unescape;
 use crate::number::{decimal, integer};
 use crate::symbol::symbol;
-use rhai_lower::{Entry, LexError, Position, Token};
+use rhai_input::Entry;
+use rhai_lower::{LexError, Position, Token};
 use std::alloc::{AllocError, AllocFailed, Global};
 use std::rc::RcStr;
 use std::str;

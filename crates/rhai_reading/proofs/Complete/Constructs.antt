@@ -21,8 +21,8 @@ use Rattle.rhai_reading.specs.Reading.{body}
 use Rattle.rhai_reading.proofs.Beginnings.{ends_do}
 use Rattle.rhai_reading.proofs.Complete.Law.{BodyRead, BranchRead, ConditionalRead, ConstructRead, ExpressionRead, IsRead}
 use Rattle.rhai_reading.proofs.Complete.Statements.{block_start}
-use Rattle.rhai_reading.proofs.FormKinds.{BracedForm, CatchForm, DoForm, LoopForm, braced, catches, do_ends, guards}
-use Rattle.rhai_reading.proofs.FormKinds.{iterated_values, loops}
+use Rattle.rhai_reading.proofs.ConstructKinds.{BracedForm, CatchForm, DoForm, LoopForm, braced, catches, do_ends, guards}
+use Rattle.rhai_reading.proofs.ConstructKinds.{iterated_values, loops}
 use Rattle.rhai_reading.proofs.Looks.{no_other, no_wrong, op_at}
 use Rattle.rhai_reading.proofs.Reaches.{Reaches, due as due_now, if_false, if_true, next, part, peek, ret, seen, take}
 use Rattle.rhai_reading.proofs.Strengths.{not_true}

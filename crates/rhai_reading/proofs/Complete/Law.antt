@@ -33,7 +33,7 @@ use Rattle.rhai_grammar.specs.Forms.{Action, Arms, CaseGuard, Cases}
 use Rattle.rhai_grammar.specs.Switches.{Collected}
 use Rattle.rhai_reading.proofs.SwitchKinds.{actions, arm_lists, case_guards, cases}
 use Rattle.rhai_grammar.specs.Constructs.{kind_of}
-use Rattle.rhai_reading.proofs.FormKinds.{branches, conditionals, constructs}
+use Rattle.rhai_reading.proofs.ConstructKinds.{branches, conditionals, constructs}
 use Rattle.rhai_grammar.specs.declared.role.OperandPlace.{OperandPlace}
 use Rattle.rhai_reading.proofs.FormKinds.{InsideForm, ManyInside, SingleInside, insides, jump_values, segments}
 use Rattle.rhai_grammar.specs.declared.role.Closing.{Closing}

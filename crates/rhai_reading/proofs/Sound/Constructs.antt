@@ -25,8 +25,9 @@ use Rattle.rhai_reading.specs.Reading as R
 use Rattle.rhai_reading.specs.Reading.{body}
 use Rattle.rhai_reading.proofs.Beginnings.{do_is, name_is, no_name}
 use Rattle.rhai_reading.proofs.Dues.{expect, expect_name, stands}
-use Rattle.rhai_reading.proofs.FormKinds.{braced, branches, catches, conditionals, constructs, do_ends, expressions, guards}
-use Rattle.rhai_reading.proofs.FormKinds.{BracedForm, CatchForm, DoForm, LoopForm, iterated_values, loops}
+use Rattle.rhai_reading.proofs.FormKinds.{expressions}
+use Rattle.rhai_reading.proofs.ConstructKinds.{braced, branches, catches, conditionals, constructs, do_ends, guards}
+use Rattle.rhai_reading.proofs.ConstructKinds.{BracedForm, CatchForm, DoForm, LoopForm, iterated_values, loops}
 use Rattle.rhai_reading.proofs.Looks.{op_at, pos_at}
 use Rattle.rhai_reading.proofs.Paths.{Fits, ◌▹◌}
 use Rattle.rhai_reading.proofs.Shows.{Histories, Goes, Passed, done, either, ends, fails, fine, first, halt, ill, look, part}

@@ -14,7 +14,7 @@ use Rattle.rhai_grammar.specs.declared.role.OperandStart.TheVariants as first
 use Rattle.rhai_grammar.specs.declared.filter.ExprFilter.{ExprFilter}
 use Rattle.rhai_grammar.specs.Strengths.{Follower, follower_of, strength}
 use Rattle.rhai_grammar.specs.Forms as form
-use Rattle.rhai_grammar.specs.Forms.{Primary, Base, Links, Operand, Arguments, Items, Elements, Fields, Run, Just}
+use Rattle.rhai_grammar.specs.Forms.{Primary, Links, Operand, Arguments, Items, Elements, Fields, Run, Just}
 use Rattle.rhai_grammar.specs.Forms.{Binary, Body, Conditional, Segments}
 use Rattle.rhai_grammar.specs.declared.role.Construct.{Construct as Kind}
 use Rattle.rhai_grammar.specs.declared.role.Construct.TheVariants as kind
@@ -33,8 +33,8 @@ use Rattle.rhai_reading.proofs.FormKinds.{runs, operands, primaries, tree_before
 use Rattle.rhai_reading.proofs.FormKinds.{callings, elements, fields, next_keys, links, indices, members}
 use Rattle.rhai_reading.proofs.FormKinds.{expr_statements, var_names, initializers, statements, statement_lists, blocks}
 use Rattle.rhai_reading.proofs.FormKinds.{block_ends, block_starts, definitions, insides, jump_values, segments, text_afters}
-use Rattle.rhai_reading.proofs.FormKinds.{BracedForm, CatchForm, DoForm, LoopForm, OfKind, braced, branches, catches}
-use Rattle.rhai_reading.proofs.FormKinds.{conditionals, constructs, do_ends, guards, iterated_values, loops}
+use Rattle.rhai_reading.proofs.ConstructKinds.{BracedForm, CatchForm, DoForm, LoopForm, OfKind, braced, branches, catches}
+use Rattle.rhai_reading.proofs.ConstructKinds.{conditionals, constructs, do_ends, guards, iterated_values, loops}
 use Rattle.rhai_reading.proofs.FormKinds.{DefinitionForm, aliases, exports, imports, paths}
 use Rattle.rhai_reading.proofs.SwitchKinds.{actions, arm_ends, arm_lists, case_guards, cases, default_ends}
 use Rattle.rhai_reading.proofs.SwitchKinds.{DefaultForm, arms_with_cases, default_arms, one_cases}

@@ -33,11 +33,11 @@ use Rattle.rhai_grammar.specs.declared.role.OperandStart.TheVariants as first
 use Rattle.rhai_lower.specs.Nodes.{block_value, interpolated, made_block}
 use Rattle.rhai_lower.specs.Lexemes.{Sign}
 use Rattle.rhai_grammar.specs.Delivered.{item, next_at}
-use Rattle.rhai_reading.proofs.FormKinds.{OfKind, of_kind}
+use Rattle.rhai_reading.proofs.ConstructKinds.{OfKind, of_kind}
 use Rattle.rhai_reading.proofs.Lists.{first_text}
 use Rattle.rhai_reading.proofs.Sound.Law.{any_segments}
 use Rattle.rhai_reading.specs.Reading as R
-use Rattle.rhai_reading.specs.Reading.{Prog, body}
+use Rattle.rhai_reading.specs.Reading.{body}
 use Rattle.rhai_reading.proofs.Beginnings.{begun}
 use Rattle.rhai_reading.proofs.Dues.{expect}
 use Rattle.rhai_reading.proofs.Tokens.{called_no_this}

@@ -54,7 +54,7 @@ use Rattle.rhai_reading.proofs.Shows.{halt, test, raise, part, first, ends, Pass
 use Rattle.rhai_reading.proofs.Sound.Chains.{Early, early, early_if, early_or, faulted, unfaulted}
 use Rattle.rhai_reading.proofs.Sound.Law.{AllSound, any_construct, any_run}
 use Rattle.rhai_grammar.specs.Constructs.{construct_token, kind_of, may_stand}
-use Rattle.rhai_reading.proofs.FormKinds.{OfKind, of_kind}
+use Rattle.rhai_reading.proofs.ConstructKinds.{OfKind, of_kind}
 
 -- ---- targets
 

@@ -1,6 +1,6 @@
 -- The invariant of the loop over the lines: the iterator can go on, and all entries so far may be delivered.
 use Rattle.std.proofs.Common.{All, IsTrue}
-use Rattle.rhai_lower.specs.Entries.{may_be_delivered}
+use Rattle.rhai_input.specs.Entries.{may_be_delivered}
 use Rattle.rhai_text.proofs.list.read_list.Given as goal
 
 abbrev pub invariant-loop-line : goal.invariant-loop-line

@@ -2,7 +2,7 @@
 
 ghost use Rattle.std.specs.Prelude.{◌≡◌, ◌<◌, ◌≤◌, ◌↔◌, [], IsTrue, OnErr, OnOk, length, map, take};
 ghost use Rattle.std.specs.Rc.{rc_str_bytes};
-ghost use Rattle.rhai_lower.specs.Slots.{slot_at, with_slot, with_constant, with_alias, is_declared};
+ghost use Rattle.rhai_input.specs.Slots.{slot_at, with_slot, with_constant, with_alias, is_declared};
 
 use std::alloc::{AllocError, Global};
 use std::marker::Model;
@@ -26,8 +26,8 @@ pub struct Scope {
 
 impl Model for Scope {
     ghost use Rattle.std.specs.Prelude.{List, map};
-    ghost use Rattle.rhai_lower.specs.Slots.{SlotValue};
-    ghost use Rattle.rhai_lower.specs.SlotView.{slot_of};
+    ghost use Rattle.rhai_input.specs.Slots.{SlotValue};
+    ghost use Rattle.rhai_input.specs.SlotView.{slot_of};
 
     ghost Value = { List SlotValue };
 

@@ -2,10 +2,10 @@
 use Rattle.std.specs.Prelude.{◌≡◌, Bool, true, false, List, [], ◌∷◌, if◌then◌else◌}
 use Rattle.std.specs.Rc.{rc_str_bytes}
 use Rattle.rhai_lower.specs.Names.{is_identifier}
-use Rattle.rhai_lower.specs.Streams.{Ask}
-use Rattle.rhai_lower.specs.declared.stream.Entry.{Entry}
-use Rattle.rhai_lower.specs.declared.stream.Head.{Head}
-use Rattle.rhai_lower.specs.declared.stream.Head.TheVariants as head
+use Rattle.rhai_input.specs.Streams.{Ask}
+use Rattle.rhai_input.specs.declared.stream.Entry.{Entry}
+use Rattle.rhai_input.specs.declared.stream.Head.{Head}
+use Rattle.rhai_input.specs.declared.stream.Head.TheVariants as head
 use Rattle.rhai_lower.specs.declared.position.Position.{Position}
 use Rattle.rhai_lower.specs.declared.token.Token.{Token}
 use Rattle.rhai_lower.specs.declared.token.Token.TheVariants as token

@@ -1,10 +1,10 @@
 //! A stand-in for the optimizer: it leaves every script as it is.
 
 ghost use Rattle.std.specs.Prelude.{◌≡◌, Ok};
-ghost use Rattle.rhai_ast.specs.Scripts.{script_of};
+ghost use Rattle.rhai_parser.specs.Optimizer.{script_of};
 
-use crate::ast::{AST, ScriptFuncDef, StmtBlockContainer};
-use rhai_lower::Scope;
+use rhai_ast::{AST, ScriptFuncDef, StmtBlockContainer};
+use rhai_input::Scope;
 use std::alloc::{AllocError, Global};
 use std::rc::Rc;
 

@@ -1,9 +1,9 @@
 -- Lists of slots of the code, and what they represent.
 use Rattle.std.proofs.Common.{◌≡◌, ◌∙◌, ℕ, zero, suc, ◌<◌, List, [], ◌∷◌, map, length, get_or, set, take, ap, sym, refl, arith}
 use Rattle.std.proofs.lemmas.List.{map-set}
-use Rattle.rhai_lower.specs.SlotView.{slot_of}
-use Rattle.rhai_lower.specs.Slots.{SlotValue, slot_at}
-use Rattle.rhai_lower.specs.declared.scope.Slot.{Slot}
+use Rattle.rhai_input.specs.SlotView.{slot_of}
+use Rattle.rhai_input.specs.Slots.{SlotValue, slot_at}
+use Rattle.rhai_input.specs.declared.scope.Slot.{Slot}
 
 -- the slot at an index
 pub slot_at-map : (slots : List Slot) (i : ℕ) (slot : Slot) → i < length slots → slot ≡ get_or slots i slot → slot_at (map slot_of slots) i ≡ slot_of slot

@@ -2,8 +2,8 @@ use Rattle.std.proofs.Common.{ap, rules}
 use Rattle.rhai_lower.specs.Lexemes.{lexeme}
 use Rattle.rhai_grammar.specs.Causes.{cause_of, refusal, refusal_of}
 use Rattle.rhai_grammar.specs.Cursors.{cursor_of}
-use Rattle.rhai_leaves.proofs.LiteralLemmas.{no_key_refused}
-use Rattle.rhai_leaves.proofs.keys.next_key.Goals as goal
+use Rattle.rhai_primaries.proofs.KeyLemmas.{no_key_refused}
+use Rattle.rhai_primaries.proofs.keys.next_key.Goals as goal
 
 pub returns-in-Err-clause-refused : goal.returns-in-Err-clause-refused
 returns-in-Err-clause-refused c = λ settings quoted told. (

@@ -2,11 +2,11 @@ use Rattle.std.proofs.Common.{◌∙◌, ◌∷◌, ◌++◌, ◌<◌, [], List,
 use Rattle.std.proofs.lemmas.List.{length-map, map-append, set-get_or}
 use Rattle.std.proofs.lemmas.Result.{err_from_is_err_and}
 use Rattle.std.specs.Rc.{rc_str_bytes}
-use Rattle.rhai_lower.specs.SlotView.{slot_of}
-use Rattle.rhai_lower.specs.Slots.{SlotValue, with_alias}
+use Rattle.rhai_input.specs.SlotView.{slot_of}
+use Rattle.rhai_input.specs.Slots.{SlotValue, with_alias}
 use Rattle.rhai_lower.specs.Texts.{Text}
-use Rattle.rhai_lower.proofs.SlotLemmas.{slots-set}
-use Rattle.rhai_lower.proofs.scope.Scope.add_alias_by_index.Goals as goal
+use Rattle.rhai_input.proofs.SlotLemmas.{slots-set}
+use Rattle.rhai_input.proofs.scope.Scope.add_alias_by_index.Goals as goal
 
 pub returns-in_err-push-clause-err : goal.returns-in_err-push-clause-err
 returns-in_err-push-clause-err c =

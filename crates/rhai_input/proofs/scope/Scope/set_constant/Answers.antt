@@ -1,9 +1,9 @@
 use Rattle.std.proofs.Common.{◌∙◌, ◌<◌, ap, refl, length, arith}
 use Rattle.std.proofs.lemmas.List.{length-map}
-use Rattle.rhai_lower.specs.SlotView.{slot_of}
-use Rattle.rhai_lower.specs.Slots.{with_constant}
-use Rattle.rhai_lower.proofs.SlotLemmas.{slots-set}
-use Rattle.rhai_lower.proofs.scope.Scope.set_constant.Goals as goal
+use Rattle.rhai_input.specs.SlotView.{slot_of}
+use Rattle.rhai_input.specs.Slots.{with_constant}
+use Rattle.rhai_input.proofs.SlotLemmas.{slots-set}
+use Rattle.rhai_input.proofs.scope.Scope.set_constant.Goals as goal
 
 pub returns : goal.returns
 returns c =

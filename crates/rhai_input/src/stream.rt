@@ -5,12 +5,10 @@ ghost use Rattle.std.specs.Prelude.{length};
 ghost use Rattle.std.specs.Prelude.{All, IsTrue};
 ghost use Rattle.std.specs.Borrow.{sem, follows_so};
 ghost use mathlib.Core.Option.{none};
-ghost use Rattle.rhai_lower.specs.Streams.{Stream, asked, later, peeking, stream_of, in_text_next};
-ghost use Rattle.rhai_lower.specs.Entries.{ask_of, head_asks, head_text, head_peeked, may_be_delivered};
+ghost use Rattle.rhai_input.specs.Streams.{Stream, asked, later, peeking, stream_of, in_text_next};
+ghost use Rattle.rhai_input.specs.Entries.{ask_of, head_asks, head_text, head_peeked, may_be_delivered};
 
-use crate::names::is_valid_identifier;
-use crate::position::Position;
-use crate::token::{LexError, Token};
+use rhai_lower::{LexError, Position, Token, is_valid_identifier};
 use std::marker::Model;
 use std::mem;
 
@@ -79,8 +77,8 @@ pub struct TokenStream {
 
 impl Model for TokenStream {
     ghost use Rattle.std.specs.Prelude.{◌≡◌, ◌++◌, map, reverse};
-    ghost use Rattle.rhai_lower.specs.Streams.{Stream};
-    ghost use Rattle.rhai_lower.specs.Entries.{ask_of, head_asks, head_text, head_peeked, EndsWith};
+    ghost use Rattle.rhai_input.specs.Streams.{Stream};
+    ghost use Rattle.rhai_input.specs.Entries.{ask_of, head_asks, head_text, head_peeked, EndsWith};
     ghost use Rattle.rhai_lower.specs.declared.token.Token.TheVariants.{EOF};
 
     ghost Value = { Stream };
@@ -145,7 +143,7 @@ fn ask_entry(entry: Entry, text: bool) -> Head
 }
 
 impl TokenStream {
-    ghost use Rattle.rhai_lower.specs.contracts.stream.TokenStream.{the_row};
+    ghost use Rattle.rhai_input.specs.contracts.stream.TokenStream.{the_row};
 
     /// A stream that delivers these entries in order, and then the end mark at `end`. The caller has to prove that all
     /// entries are deliverable ([`Entry::is_deliverable`]). Does not allocate.

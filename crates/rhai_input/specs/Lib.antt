@@ -1,0 +1,4 @@
+pub mod Slots
+pub mod SlotView
+pub mod Streams
+pub mod Entries

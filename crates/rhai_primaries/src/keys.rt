@@ -1,0 +1,57 @@
+//! The key of the next property of an object map.
+
+ghost use Rattle.std.specs.Prelude.{◌≡◌, ◌≤◌, IfErr, IfOk, OnOk, false};
+ghost use Rattle.rhai_ast.specs.View.{property_views};
+ghost use Rattle.rhai_grammar.specs.Causes.{MemoryIsNowhere, is_for_memory, refusal_of};
+ghost use Rattle.rhai_grammar.specs.Cursors.{asked, cursor_of, left, taking};
+ghost use Rattle.rhai_grammar.specs.Delivered.{is_memory};
+ghost use Rattle.rhai_grammar.specs.Settings.{Settings, quoted_keys};
+ghost use Rattle.rhai_grammar.specs.Verdicts.{next_key};
+ghost use Rattle.rhai_primaries.specs.MapKeys.{KeyIs, KeyRefused};
+
+use rhai_ast::{Expr, Ident};
+use rhai_base::literals::has_key;
+use rhai_grammar::{ParseError, ParseErrorType, ParseResult};
+use rhai_input::TokenStream;
+use rhai_leaves::cursor::{peek, skip};
+use rhai_leaves::keys::key_at;
+use std::alloc::Global;
+
+/// The key of the property after these ones, which is taken; none where the `}` is, which is taken too. With `quoted`,
+/// a name is no key. A key that one of these has is `DuplicatedProperty`.
+#[tactic(auto, using(crate::proofs::KeyLemmas::count_properties))]
+pub(crate) fn next_key(
+    alloc: Global,
+    input: &mut TokenStream,
+    quoted: bool,
+    properties: &[(Ident, Expr)],
+) -> ParseResult<Option<Ident>>
+    ensures key { (settings : Settings) → quoted ≡ quoted_keys settings
+        → IfOk result (KeyIs (property_views properties.now) (asked (cursor_of input.old)).at
+        (next_key settings (property_views properties.now) (asked (cursor_of input.old)).lexeme)) }
+    ensures passed { OnOk result ((is_memory (asked (cursor_of input.old)).lexeme ≡ false)
+        × (cursor_of input.new ≡ taking (cursor_of input.old))) }
+    ensures refused { (settings : Settings) → quoted ≡ quoted_keys settings
+        → IfErr result (λ e. is_for_memory e ≡ false
+        → (is_memory (asked (cursor_of input.old)).lexeme ≡ false)
+        × KeyRefused (property_views properties.now) (cursor_of input.old)
+        (next_key settings (property_views properties.now) (asked (cursor_of input.old)).lexeme)
+        (refusal_of e) (cursor_of input.new)) }
+    ensures nowhere { IfErr result MemoryIsNowhere }
+    ensures shorter { left (cursor_of input.new).tokens ≤ left (cursor_of input.old).tokens }
+{
+    let (token, pos) = peek(input)?;
+    let pos = *pos;
+    let key = match key_at(alloc, token, pos, quoted, properties.is_empty()) {
+        Ok(key) => key,
+        Err(error) => return Err(error),
+    };
+    skip(input);
+    let Some(name) = key else {
+        return Ok(None);
+    };
+    if has_key(&name, properties) {
+        return Err(ParseError(ParseErrorType::DuplicatedProperty(name), pos));
+    }
+    Ok(Some(Ident { name, pos }))
+}
