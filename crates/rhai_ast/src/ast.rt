@@ -258,7 +258,7 @@ pub enum Stmt {
 pub type StmtBlockContainer = Vec<Stmt>;
 
 /// A function or closure of a script.
-#[derive(PartialEq, Debug, Drop)]
+#[derive(PartialEq, Debug)]
 pub struct ScriptFuncDef {
     /// The type of the object that it is a method of, if there is one.
     pub this_type: Option<RcStr>,
@@ -330,6 +330,19 @@ impl Drop for BinaryExpr {
                 _ => return,
             }
         }
+    }
+}
+
+impl Drop for ScriptFuncDef {
+    // As derived, but proved once (`StmtBlock`).
+    fn drop(self) {
+        let ScriptFuncDef {
+            this_type: _,
+            name: _,
+            private: _,
+            params: _,
+            body: _,
+        } = self;
     }
 }
 

@@ -8,7 +8,7 @@ use Rattle.rhai_lower.specs.Texts.{Text}
 use Rattle.rhai_input.specs.Slots.{SlotValue, with_alias, with_constant, with_slot}
 use Rattle.rhai_grammar.specs.Definitions.{define, define_at, export_at, is_exported, is_in_block, is_reusable, reused, reused_at}
 use Rattle.rhai_grammar.specs.Slots.{IsLatest, number}
-use Rattle.rhai_base.proofs.FindLemmas.{latest-number}
+use Rattle.rhai_grammar.proofs.SlotLemmas.{latest_number}
 
 -- a slot without aliases
 pub exported : (slot : SlotValue) (names : List (RcStr Global)) → map rc_str_bytes names ≡ slot.aliases → not (is_exported slot) ≡ (length names == 0)
@@ -21,7 +21,7 @@ inside None name slots n h e = absurd cc
 inside (Some m) name slots n h e = let same : n ≡ m = cc in omega (arith, h.1, same)
 
 pub number_inside : (name : Text) (slots : List SlotValue) (n : ℕ) → Some n ≡ number name slots → n ≤ length slots
-number_inside name slots n e = inside (number name slots) name slots n (latest-number name slots) e
+number_inside name slots n e = inside (number name slots) name slots n (latest_number name slots) e
 
 -- what is used again, by the number of the name
 pub reused_none : (block : ℕ) (name : Text) (slots : List SlotValue) → None ≡ number name slots → None ≡ reused block name slots
@@ -47,7 +47,7 @@ reused_from (Some m) block name slots n h e = at_reused name slots m n (is_reusa
 
 -- the slot that is used again is there
 pub reused_inside : (block : ℕ) (name : Text) (slots : List SlotValue) (n : ℕ) → Some n ≡ reused block name slots → n ≤ length slots
-reused_inside block name slots n e = reused_from (number name slots) block name slots n (latest-number name slots) e
+reused_inside block name slots n e = reused_from (number name slots) block name slots n (latest_number name slots) e
 
 pub defined_again : (block : ℕ) (name : Text) (constant : Bool) (slots : List SlotValue) (n : ℕ) → Some n ≡ reused block name slots → with_constant slots (length slots - n) constant ≡ define block name constant slots
 defined_again block name constant slots n e = ap (λ o. define_at o name constant slots) e

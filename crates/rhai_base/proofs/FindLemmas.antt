@@ -1,5 +1,5 @@
 -- What a search from the latest slot or import has found so far.
-use Rattle.std.proofs.Common.{◌≡◌, ℕ, suc, zero, ◌+◌, ◌-◌, ◌<◌, ◌≤◌, ◌∙◌, Bool, true, false, not, ◌&&◌, ◌||◌, ◌⊎◌, inl, inr, cond, List, [], ◌∷◌, Option, None, Some, unwrap_or, length, map, get_or, drop, ap, sym, refl, arith}
+use Rattle.std.proofs.Common.{◌≡◌, ℕ, suc, zero, ◌+◌, ◌-◌, ◌<◌, ◌∙◌, Bool, true, false, not, ◌&&◌, ◌||◌, cond, List, [], ◌∷◌, Option, None, Some, unwrap_or, length, map, get_or, drop, ap, sym, refl, arith}
 use Rattle.std.proofs.Math.Seq.{drop-cons}
 use Rattle.std.proofs.Common.{MatchOption, option_map}
 use Rattle.std.specs.Rc.{rc_str_bytes}
@@ -10,7 +10,7 @@ use Rattle.std.specs.List.{list_any}
 use Rattle.std.specs.Option.{option_or}
 use Rattle.rhai_lower.specs.Texts.{Text, same_text}
 use Rattle.rhai_input.specs.Slots.{SlotValue, slot_at, fresh_slot}
-use Rattle.rhai_grammar.specs.Slots.{number, is_named, is_barrier, later_than, barrier_before, slot_from_latest, IsLatest}
+use Rattle.rhai_grammar.specs.Slots.{number, is_named, is_barrier, later_than, barrier_before}
 use Rattle.rhai_grammar.specs.Imports.{module_number}
 
 -- the slots from an index on: the one there, and those after it
@@ -74,43 +74,6 @@ named-here name s h k = ap (λ b. b && not (is_barrier s)) h ∙ ap not k
 pub number-empty : (name : Text) → number name [] ≡ None
 unfolding number
 number-empty name = refl
-
--- The number of a name refers to its latest slot.
-lower-place : (s : SlotValue) (later : List SlotValue) (place : ℕ) → place ≤ length later → slot_from_latest (s ∷ later) place ≡ slot_from_latest later place
-lower-place s later place l =
-    let e : suc (length later) - place ≡ suc (length later - place) = omega arith in
-    ap (slot_at (s ∷ later)) e
-
-top-place : (s : SlotValue) (later : List SlotValue) (place : ℕ) → place ≡ length later + 1 → slot_from_latest (s ∷ later) place ≡ s
-top-place s later place p =
-    let e : suc (length later) - place ≡ 0 = omega arith in
-    ap (slot_at (s ∷ later)) e
-
-place-split : (place len : ℕ) → place ≤ suc len → (place ≤ len) ⊎ (place ≡ len + 1)
-place-split zero len l = inl (omega arith)
-place-split (suc p) zero l = inr (omega arith)
-place-split (suc p) (suc len) l = elim (place-split p len (omega arith)) [ inl h ↦ inl (omega arith) | inr h ↦ inr (omega arith) ]
-
-latest-step : (name : Text) (s : SlotValue) (later : List SlotValue) (o : Option ℕ) (b : Bool) → is_named name s ≡ b → IsLatest name later o → IsLatest name (s ∷ later) (option_or o (cond b (Some (length later + 1)) None))
-latest-step name s later (Some n) b e h = (
-  h.0,
-  omega (arith, h.1),
-  ap (is_named name) (lower-place s later n h.1) ∙ h.2,
-  λ nearer p q. let l : nearer ≤ length later = omega (arith, h.1) in ap (is_named name) (lower-place s later nearer l) ∙ h.3 nearer p q,
-)
-latest-step name s later None true e h = (
-  omega arith,
-  omega arith,
-  ap (is_named name) (top-place s later (length later + 1) refl) ∙ e,
-  λ nearer p q. let l : nearer ≤ length later = omega arith in ap (is_named name) (lower-place s later nearer l) ∙ h nearer p l,
-)
-latest-step name s later None false e h =
-    λ place p q. elim (place-split place (length later) q) [ inl l ↦ ap (is_named name) (lower-place s later place l) ∙ h place p l | inr t ↦ ap (is_named name) (top-place s later place t) ∙ e ]
-
-pub latest-number : (name : Text) (slots : List SlotValue) → IsLatest name slots (number name slots)
-unfolding number
-latest-number name [] = λ place p q. absurd (omega arith)
-latest-number name (s ∷ later) = latest-step name s later (number name later) (is_named name s) refl (latest-number name later)
 
 -- the imports
 pub module-empty : (name : Text) → module_number name [] ≡ None

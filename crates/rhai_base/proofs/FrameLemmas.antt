@@ -10,7 +10,8 @@ use Rattle.rhai_grammar.specs.Contexts.{Live}
 use Rattle.rhai_grammar.specs.Definitions.{define, define_at, defined, export_at, exported, is_exported, is_in_block, is_reusable, reused, reused_at}
 use Rattle.rhai_grammar.specs.Slots.{IsLatest, is_named, number, slot_from_latest}
 use Rattle.rhai_base.proofs.DefinitionLemmas.{reused_inside}
-use Rattle.rhai_base.proofs.FindLemmas.{latest-number, non-zero}
+use Rattle.rhai_grammar.proofs.SlotLemmas.{latest_number}
+use Rattle.rhai_base.proofs.FindLemmas.{non-zero}
 
 -- ---- numbers
 
@@ -79,7 +80,7 @@ reused_case outer own block name None (Some m) h k =
 reused_over : (outer own : List SlotValue) (block : ℕ) (name : Text) → reused (length outer + block) name (outer ++ own) ≡ reused block name own
 reused_over outer own block name =
     ap (reused_at (length outer + block) (outer ++ own)) (number_over name outer own)
-    ∙ reused_case outer own block name (number name own) (number name outer) (latest-number name own) (latest-number name outer)
+    ∙ reused_case outer own block name (number name own) (number name outer) (latest_number name own) (latest_number name outer)
 
 define_case : (outer own : List SlotValue) (name : Text) (constant : Bool) (o : Option ℕ) → ((n : ℕ) → Some n ≡ o → n ≤ length own) → outer ++ define_at o name constant own ≡ define_at o name constant (outer ++ own)
 define_case outer own name constant None h = sym (append_assoc outer own (fresh_slot name constant ∷ []))
@@ -142,7 +143,7 @@ export_case outer own block alias name None (Some m) h k =
 -- An export in a frame keeps the outer slots, and does to its own what it does to all.
 export_over : (outer own : List SlotValue) (block : ℕ) (alias name : Text) → outer ++ export_at block alias own (number name own) ≡ export_at (length outer + block) alias (outer ++ own) (number name (outer ++ own))
 export_over outer own block alias name =
-    export_case outer own block alias name (number name own) (number name outer) (latest-number name own) (latest-number name outer)
+    export_case outer own block alias name (number name own) (number name outer) (latest_number name own) (latest_number name outer)
     ∙ ap (export_at (length outer + block) alias (outer ++ own)) (sym (number_over name outer own))
 
 pub exported_live : {A E : Type 0} (r : Result A E) (outer : List SlotValue) (block : ℕ) (imports : List Text) (name alias : Text) (own new : List SlotValue) → OnOk r (new ≡ export_at block alias own (number name own)) → OnOk r (◌≡◌ {A = Live} record { slots = outer ++ new; block = length outer + block; imports = imports } (exported name alias (record { slots = outer ++ own; block = length outer + block; imports = imports })))

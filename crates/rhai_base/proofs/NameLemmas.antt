@@ -18,7 +18,8 @@ use Rattle.rhai_grammar.specs.Contexts.{Context, Live}
 use Rattle.rhai_grammar.specs.Modules.{is_qualified, may_enter, module_fault, root_of}
 use Rattle.rhai_grammar.specs.Slots.{number, IsLatest}
 use Rattle.rhai_grammar.specs.Trees.{node_count}
-use Rattle.rhai_base.proofs.FindLemmas.{latest-number, non-zero}
+use Rattle.rhai_grammar.proofs.SlotLemmas.{latest_number}
+use Rattle.rhai_base.proofs.FindLemmas.{non-zero}
 
 none_is : (o : Option ℕ) (name : Text) (slots : List SlotValue) → IsLatest name slots o → 0 ≡ unwrap_or o 0 → o ≡ None
 none_is None name slots h e = refl
@@ -26,7 +27,7 @@ none_is (Some n) name slots h e = absurd (omega (arith, h.0, e))
 
 -- no place is 0
 pub no_place : (n : ℕ) (name : Text) (slots : List SlotValue) → n ≡ unwrap_or (number name slots) 0 → n ≡ 0 → number name slots ≡ None
-no_place n name slots e z = none_is (number name slots) name slots (latest-number name slots) (sym z ∙ e)
+no_place n name slots e z = none_is (number name slots) name slots (latest_number name slots) (sym z ∙ e)
 
 some_is : (o : Option ℕ) (r : Option NonZeroUsize) (n : ℕ) → MatchOption r (n ≡ 0) (λ x. x.value ≡ n) → n ≡ unwrap_or o 0 → 0 < n → option_map (λ x. x.value) r ≡ o
 some_is None r n m e l = absurd (omega (arith, e))

@@ -5,13 +5,9 @@ use Rattle.rhai_lower.specs.Nodes.{Properties, no_properties, position_of, prope
 use Rattle.rhai_lower.specs.Lexemes.{Lexeme, Interpolated, Name, Reserved, Sign, text_of}
 use Rattle.rhai_lower.specs.declared.position.Position.{Position}
 use Rattle.rhai_lower.specs.declared.token.Token.TheVariants as token
-use Rattle.rhai_grammar.specs.declared.role.Beginning.{Beginning}
-use Rattle.rhai_grammar.specs.declared.role.Beginning.TheVariants as begin
-use Rattle.rhai_grammar.specs.Beginnings.{beginning, no_operand, is_range, is_sign, is_value}
-use Rattle.rhai_grammar.specs.Constructs.{construct_token, do_end_due, do_token, guard_fault, iterated_fault, kind_of, may_be_value}
+use Rattle.rhai_grammar.specs.Beginnings.{beginning, no_operand}
+use Rattle.rhai_grammar.specs.Constructs.{construct_token, do_end_due, do_token, guard_fault, iterated_fault, kind_of}
 use Rattle.rhai_grammar.specs.Starts.{begins, is_omitted, jump_token, operand_start}
-use Rattle.rhai_grammar.specs.declared.role.Construct.{Construct as Kind}
-use Rattle.rhai_grammar.specs.declared.role.Construct.TheVariants as kind
 use Rattle.rhai_grammar.specs.declared.role.OperandPlace.{OperandPlace}
 use Rattle.rhai_grammar.specs.declared.role.OperandPlace.TheVariants as place
 use Rattle.rhai_grammar.specs.declared.role.OperandStart.{OperandStart}
@@ -47,6 +43,7 @@ use Rattle.rhai_grammar.specs.Written as W
 use Rattle.rhai_grammar.specs.Written.{operands_fit}
 use Rattle.rhai_grammar.specs.Spots.{LinkSpot, Outermost, RightOf, Side, Spot, spot_after_bracket, spot_after_dot}
 use Rattle.rhai_grammar.specs.Spots.{filter_of, spot_after_operand, height_after, outermost, place_of, right_side}
+use Rattle.rhai_grammar.proofs.BeginningLemmas.{value_begins, sign_begins, construct_begins, range_begins}
 
 -- ---- one token
 
@@ -65,28 +62,6 @@ operand_due c p l e = unless (is_memory l) (V.operand_due c p l) (by (operand_st
     by start.Written = ap (λ b. is_refused (if b then Otherwise else Wrong (no_operand l))) e
     by start.Omitted = refl
     by start.Jump = refl
-
-value_begins : (c : Context) (b : Beginning) → is_value b ≡ true → begins c b ≡ true
-value_begins c begin.Value e = refl
-value_begins c _ e = absurd cc
-
-sign_begins : (c : Context) (b : Beginning) → is_sign b ≡ true → begins c b ≡ true
-sign_begins c begin.Sign e = refl
-sign_begins c _ e = absurd cc
-
-range_begins : (c : Context) (b : Beginning) → is_range b ≡ true → begins c b ≡ true
-range_begins c begin.Range e = refl
-range_begins c _ e = absurd cc
-
-construct_begins : (c : Context) (k : Kind) → may_be_value c k ≡ true → begins c (beginning (Sign (construct_token k))) ≡ true
-construct_begins c kind.Try e = absurd cc
-construct_begins c kind.Block e = e
-construct_begins c kind.If e = e
-construct_begins c kind.Switch e = e
-construct_begins c kind.While e = e
-construct_begins c kind.Loop e = e
-construct_begins c kind.Do e = e
-construct_begins c kind.For e = e
 
 -- where none is written
 omitted_due : (c : Context) (l : Lexeme) (v : OperandStart) → is_omitted v ≡ true → is_refused (V.beginning_due c l v) ≡ false

@@ -6,13 +6,9 @@ use Rattle.rhai_lower.specs.Lexemes.{Lexeme, Character, Comment, Faulty, Integer
 use Rattle.rhai_lower.specs.declared.position.Position.{Position}
 use Rattle.rhai_lower.specs.declared.token.Token.{Token}
 use Rattle.rhai_lower.specs.declared.token.Token.TheVariants as token
-use Rattle.rhai_grammar.specs.declared.role.Beginning.{Beginning}
-use Rattle.rhai_grammar.specs.declared.role.Beginning.TheVariants as begin
-use Rattle.rhai_grammar.specs.declared.role.Construct.{Construct as Kind}
-use Rattle.rhai_grammar.specs.declared.role.Construct.TheVariants as construct
 use Rattle.rhai_grammar.specs.declared.role.OperandPlace.TheVariants.{Elsewhere}
-use Rattle.rhai_grammar.specs.Beginnings.{beginning, is_range, is_sign, is_value}
-use Rattle.rhai_grammar.specs.Constructs.{construct_token, kind_of, may_be_value}
+use Rattle.rhai_grammar.specs.Beginnings.{beginning}
+use Rattle.rhai_grammar.specs.Constructs.{construct_token, kind_of}
 use Rattle.rhai_grammar.specs.Contexts.{Context, Live, has_block_values, has_if_values, has_loop_values, has_single_blocks, has_switch_values, level_up, loop_body}
 use Rattle.rhai_grammar.specs.Delivered.{code, text, is_memory, item, next_at, past, Ends, Point, Then, Tokens}
 use Rattle.rhai_grammar.specs.Demands.{Demands, Fine, Met, Nothing, Otherwise}
@@ -22,34 +18,13 @@ use Rattle.rhai_grammar.specs.Spots.{outermost}
 use Rattle.rhai_grammar.specs.StartLaws.{IsBegun, StartsOfExpressions, is_added}
 use Rattle.rhai_grammar.specs.Starts.{begins, starts}
 use Rattle.rhai_grammar.specs.Written as W
+use Rattle.rhai_grammar.proofs.BeginningLemmas.{value_begins, sign_begins, construct_begins, range_begins}
 
 -- ---- an expression that fits begins with a token that begins one
 
 started : (c : Context) (l : Lexeme) → begins c (beginning l) ≡ true → starts c l ≡ true
 started c (Faulty f) e = refl
 started c _ e = e
-
-value_begins : (c : Context) (b : Beginning) → is_value b ≡ true → begins c b ≡ true
-value_begins c begin.Value e = refl
-value_begins c _ e = absurd cc
-
-sign_begins : (c : Context) (b : Beginning) → is_sign b ≡ true → begins c b ≡ true
-sign_begins c begin.Sign e = refl
-sign_begins c _ e = absurd cc
-
-construct_begins : (c : Context) (k : Kind) → may_be_value c k ≡ true → begins c (beginning (Sign (construct_token k))) ≡ true
-construct_begins c construct.Try e = absurd cc
-construct_begins c construct.Block e = e
-construct_begins c construct.If e = e
-construct_begins c construct.Switch e = e
-construct_begins c construct.While e = e
-construct_begins c construct.Loop e = e
-construct_begins c construct.Do e = e
-construct_begins c construct.For e = e
-
-range_begins : (c : Context) (b : Beginning) → is_range b ≡ true → begins c b ≡ true
-range_begins c begin.Range e = refl
-range_begins c _ e = absurd cc
 
 -- where this token comes next
 next_is : (c : Context) (s : Point) (l : Lexeme) (at : Position) → next_at code s ≡ item l at → begins c (beginning l) ≡ true → starts c (next_at code s).lexeme ≡ true

@@ -3,7 +3,7 @@
 use rhai_parser::{
     AST, Expr, ParseError, ParseErrorType as Kind, Position, ScriptFuncDef, Stmt, StmtBlock,
 };
-use rhai_text::{Refused, accepted};
+use rhai_print::{Refused, accepted};
 use std::alloc::{AllocError, Global};
 use std::process::Abort;
 use std::rc::{Rc, RcStr};

@@ -1,6 +1,6 @@
 //! The program, over any reader and writer.
 
-ghost use Rattle.std.specs.Prelude.{All, IsTrue};
+ghost use Rattle.std.specs.Prelude.{All, IfOk, IsTrue};
 ghost use Rattle.rhai_input.specs.Entries.{may_be_delivered};
 
 use crate::words::{Entry, Limits, read_words};
@@ -9,7 +9,8 @@ use rhai_parser::{
     AST, Engine, FnLib, LangOptions, OptimizationLevel, ParseError, ParseResult, ParseState,
     TokenStream, TokenizerControl,
 };
-use rhai_text::{ListError, Refused, TokenList, accepted, read_lines, read_list};
+use rhai_print::{Refused, accepted};
+use rhai_text::{ListError, TokenList, read_lines, read_list};
 use std::alloc::{AllocError, Global};
 use std::io::{self, ErrorKind, Read, Write};
 
@@ -95,12 +96,24 @@ fn parse(alloc: Global, entry: Entry, limits: &Limits, list: TokenList) -> Parse
     }
 }
 
+// The list of tokens that the input is.
+fn read_input<R: Read>(alloc: Global, input: &mut R) -> Result<TokenList, Failure>
+    ensures { IfOk result (λ list. All (λ e. IsTrue (may_be_delivered e)) list.entries.items) }
+{
+    let lines = read_lines(alloc, input)?;
+    Ok(read_list(alloc, &lines)?)
+}
+
+// What is printed of what the parser returned, if it is a tree.
+fn tree_text(alloc: Global, script: ParseResult<AST>) -> Result<String, Failure> {
+    let script = script?;
+    Ok(accepted(alloc, &script)?)
+}
+
 fn answer<R: Read>(alloc: Global, words: &[String], input: &mut R) -> Result<String, Failure> {
     let (entry, limits) = read_words(words).ok_or(Failure::Unreadable(0))?;
-    let lines = read_lines(alloc, input)?;
-    let list = read_list(alloc, &lines)?;
-    let script = parse(alloc, entry, &limits, list)?;
-    Ok(accepted(alloc, &script)?)
+    let list = read_input(alloc, input)?;
+    tree_text(alloc, parse(alloc, entry, &limits, list))
 }
 
 // Prints why there is no tree, and returns the exit status.

@@ -1,5 +1,5 @@
-use Rattle.rhai_base.proofs.FindLemmas.{latest-number}
+use Rattle.rhai_grammar.proofs.SlotLemmas.{latest_number}
 use Rattle.rhai_base.proofs.lookup.ParseState.find_var.Goals as goal
 
 pub returns-clause-latest : goal.returns-clause-latest
-returns-clause-latest c = latest-number c.args.name.now c.args.self.now.stack
+returns-clause-latest c = latest_number c.args.name.now c.args.self.now.stack

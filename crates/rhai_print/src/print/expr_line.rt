@@ -1,9 +1,9 @@
 //! The line of an expression.
 
-use crate::escape::Escaped;
 use crate::print::fields::{Optional, mark, offset, print_ident};
 use rhai_ast::{Expr, FnCallExpr, Ident, VariableExpr};
 use rhai_lower::{LinkFlags, Position};
+use rhai_text::Escaped;
 use std::alloc::AllocError;
 use std::fmt;
 

@@ -6,10 +6,10 @@ mod fields;
 mod stmt_line;
 mod tree;
 
-use crate::escape::Escaped;
 use crate::print::fields::Optional;
 use crate::print::tree::{print_block, print_statements};
 use rhai_ast::{AST, ScriptFuncDef};
+use rhai_text::Escaped;
 use std::alloc::{AllocError, Global};
 use std::rc::Rc;
 

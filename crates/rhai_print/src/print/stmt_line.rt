@@ -1,10 +1,10 @@
 //! The line of a statement, and those of the values that lead to the arms of a `switch`.
 
-use crate::escape::Escaped;
 use crate::literal::print_literal;
 use crate::print::fields::{Optional, indent, mark, offset, print_ident};
 use rhai_ast::{ForLoop, Ident, Stmt, SwitchCase};
 use rhai_lower::{Position, RangeCase, Token};
+use rhai_text::Escaped;
 use std::alloc::AllocError;
 use std::num::NonZeroUsize;
 

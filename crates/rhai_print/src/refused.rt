@@ -1,9 +1,9 @@
 //! How a refusal is printed: the number of its kind, its position, the name of its kind, and its payload. Notes on what
 //! to write instead are left out. docs/FORMAT.md has the list.
 
-use crate::escape::Escaped;
 use rhai_grammar::{InputError, ParseError, ParseErrorType};
 use rhai_lower::LexError;
+use rhai_text::Escaped;
 use std::fmt;
 
 // The payload of a kind.

@@ -1,7 +1,7 @@
 //! The fields that several lines have.
 
-use crate::escape::Escaped;
 use rhai_ast::Ident;
+use rhai_text::Escaped;
 use std::alloc::AllocError;
 use std::fmt;
 use std::num::NonZeroUsize;

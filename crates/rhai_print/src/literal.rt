@@ -1,7 +1,7 @@
 //! How the literal value of a `switch` case is printed: on one line, without positions.
 
-use crate::escape::Escaped;
 use rhai_ast::{Expr, FnCallExpr, Ident};
+use rhai_text::Escaped;
 use std::alloc::AllocError;
 
 // An end of a range; for an open range the greatest integer.
