@@ -1,16 +1,10 @@
 //! What the readers of literals ask for by leaves, as the reading program gives it: the next key, and the text after a
 //! block.
 
-ghost use Rattle.std.specs.Prelude.{◌≡◌, ◌+◌, ◌≤◌, IfErr, IfOk, OnOk, false, option_map};
-ghost use Rattle.rhai_lower.specs.Lexemes.{lexeme};
+ghost use Rattle.std.specs.Prelude.{◌+◌, ◌≤◌, OnOk, option_map};
 ghost use Rattle.rhai_ast.specs.View.{property_views, written};
-ghost use Rattle.rhai_grammar.specs.Causes.{MemoryIsNowhere, is_for_memory, refusal_of};
-ghost use Rattle.rhai_grammar.specs.Cursors.{asked, cursor_of, left, taking};
-ghost use Rattle.rhai_grammar.specs.Delivered.{is_memory};
-ghost use Rattle.rhai_grammar.specs.Verdicts.{next_key};
-ghost use Rattle.rhai_primaries.specs.MapKeys.{KeyIs, KeyRefused};
+ghost use Rattle.rhai_grammar.specs.Cursors.{cursor_of, left};
 ghost use Rattle.rhai_base.specs.Frames.{FrameValue};
-ghost use Rattle.rhai_base.specs.Settings.{settings_of};
 ghost use Rattle.rhai_reading.specs.Reading.{NextKey, TextAfter};
 ghost use Rattle.rhai_reading.specs.Running.{Gives, result_of};
 ghost use Rattle.rhai_language.specs.Frames.{context_of};
@@ -18,7 +12,7 @@ ghost use Rattle.rhai_primaries.specs.Views.{text_view};
 
 use crate::keys;
 use rhai_ast::{Expr, Ident};
-use rhai_base::{ParseSettingFlags, ParseSettings};
+use rhai_base::ParseSettings;
 use rhai_grammar::{DueToken, ParseResult};
 use rhai_input::TokenStream;
 use rhai_language::Language;
@@ -26,30 +20,6 @@ use rhai_leaves::due::match_token;
 use rhai_leaves::items::room_for_value;
 use rhai_leaves::strings::{TextPart, end_interpolation};
 use std::alloc::Global;
-
-// The key of the property after these ones, which is taken; none where the `}` is, which is taken too. The settings say
-// whether a name may be a key.
-fn key_under(
-    alloc: Global,
-    input: &mut TokenStream,
-    settings: ParseSettings,
-    properties: &[(Ident, Expr)],
-) -> ParseResult<Option<Ident>>
-    ensures key { IfOk result (KeyIs (property_views properties.now) (asked (cursor_of input.old)).at
-        (next_key (settings_of settings) (property_views properties.now) (asked (cursor_of input.old)).lexeme)) }
-    ensures passed { OnOk result ((is_memory (asked (cursor_of input.old)).lexeme ≡ false)
-        × (cursor_of input.new ≡ taking (cursor_of input.old))) }
-    ensures refused { IfErr result (λ e. is_for_memory e ≡ false
-        → (is_memory (asked (cursor_of input.old)).lexeme ≡ false)
-        × KeyRefused (property_views properties.now) (cursor_of input.old)
-        (next_key (settings_of settings) (property_views properties.now) (asked (cursor_of input.old)).lexeme)
-        (refusal_of e) (cursor_of input.new)) }
-    ensures nowhere { IfErr result MemoryIsNowhere }
-    ensures shorter { left (cursor_of input.new).tokens ≤ left (cursor_of input.old).tokens }
-{
-    let quoted = settings.has_flag(ParseSettingFlags::DISALLOW_UNQUOTED_MAP_PROPERTIES);
-    keys::next_key(alloc, input, quoted, properties)
-}
 
 /// The key of the property after these ones, with its `:`, and a look at the value that is due; none where the `}` is,
 /// which is taken. The language limits how many properties the literal has.
@@ -66,7 +36,7 @@ pub(crate) fn next_key(
     ensures shorter { left (cursor_of input.new).tokens ≤ left (cursor_of input.old).tokens }
 {
     let alloc = language.alloc();
-    let next = match key_under(alloc, input, settings, properties) {
+    let next = match keys::next_key(alloc, input, settings, properties) {
         Ok(next) => next,
         Err(error) => return Err(error),
     };
