@@ -9,7 +9,8 @@ ghost use Rattle.rhai_grammar.specs.Constructs.{guard_fault, iterated_fault};
 ghost use Rattle.rhai_grammar.specs.Cursors.{Cursor, cursor_of, left};
 ghost use Rattle.rhai_grammar.specs.Definitions.{catch_live, loop_live};
 ghost use Rattle.rhai_grammar.specs.Trees.{caught_name};
-ghost use Rattle.rhai_reading.specs.Reading.{BlockEnd, Catch, DoEnd, guard_on, iterated_on};
+ghost use Rattle.rhai_reading.specs.Reading.{BlockEnd, Catch, DoEnd, counted_on, first_of_two, guard_on};
+ghost use Rattle.rhai_reading.specs.Reading.{match_name, tested};
 ghost use Rattle.rhai_reading.specs.Running.{Caller, Gives, exec, result_of};
 ghost use Rattle.rhai_constructs.specs.Loops.{loop_names, loop_view};
 ghost use Rattle.rhai_language.specs.Readers.{name_view, statements_of};
@@ -37,49 +38,57 @@ pub struct LoopNames {
     pub counter: Option<RcStr>,
 }
 
+// The end of the variables of a `for` loop that has two: the counter, which is at `pos`, is tested, and what follows it
+// up to the `in` is taken.
+fn end_counter(
+    alloc: Global,
+    input: &mut TokenStream,
+    name: RcStr,
+    counter: RcStr,
+    pos: Position,
+) -> ParseResult<LoopNames>
+    ensures gives { (call : Caller) → Gives loop_view (exec call (counted_on (rc_str_bytes name)
+        (rc_str_bytes counter) pos) (cursor_of input.old)) result (cursor_of input.new) }
+    ensures shorter { left (cursor_of input.new).tokens ≤ left (cursor_of input.old).tokens }
+{
+    test_counter(&name, &counter, pos)?;
+    let note = "after the variables of this loop";
+    match_token(alloc, input, DueToken::RightParen, note)?;
+    match_token(alloc, input, DueToken::In, note)?;
+    Ok(LoopNames {
+        name,
+        counter: Some(counter),
+    })
+}
+
+// The variables of a `for` loop after their `(`.
+fn two_names(alloc: Global, input: &mut TokenStream) -> ParseResult<LoopNames>
+    ensures gives { (call : Caller) → Gives loop_view (exec call (match_name first_of_two) (cursor_of input.old))
+        result (cursor_of input.new) }
+    ensures shorter { left (cursor_of input.new).tokens ≤ left (cursor_of input.old).tokens }
+{
+    let (name, _) = parse_var_name(input)?;
+    let note = "after the variable of this loop";
+    match_token(alloc, input, DueToken::Comma, note)?;
+    let (counter, pos) = parse_var_name(input)?;
+    end_counter(alloc, input, name, counter, pos)
+}
+
 /// The variables of a `for` loop, and the `in` after them; all are taken.
 #[tactic(auto, using(rhai_reading::proofs::Steps::step_loop_names))]
 pub(crate) fn next_loop_names(alloc: Global, input: &mut TokenStream) -> ParseResult<LoopNames>
     ensures gives { Gives loop_view (result_of loop_names (cursor_of input.old)) result (cursor_of input.new) }
     ensures shorter { left (cursor_of input.new).tokens ≤ left (cursor_of input.old).tokens }
 {
-    if !pass_token(input, DueToken::LeftParen)? {
-        let (name, _) = parse_var_name(input)?;
-        match_token(
-            alloc,
-            input,
-            DueToken::In,
-            "after the variable of this loop",
-        )?;
-        return Ok(LoopNames {
-            name,
-            counter: None,
-        });
+    if pass_token(input, DueToken::LeftParen)? {
+        return two_names(alloc, input);
     }
     let (name, _) = parse_var_name(input)?;
-    match_token(
-        alloc,
-        input,
-        DueToken::Comma,
-        "after the variable of this loop",
-    )?;
-    let (counter, pos) = parse_var_name(input)?;
-    test_counter(&name, &counter, pos)?;
-    match_token(
-        alloc,
-        input,
-        DueToken::RightParen,
-        "after the variables of this loop",
-    )?;
-    match_token(
-        alloc,
-        input,
-        DueToken::In,
-        "after the variables of this loop",
-    )?;
+    let note = "after the variable of this loop";
+    match_token(alloc, input, DueToken::In, note)?;
     Ok(LoopNames {
         name,
-        counter: Some(counter),
+        counter: None,
     })
 }
 
@@ -171,7 +180,7 @@ pub(crate) fn end_guard(alloc: Global, input: &mut TokenStream, guard: Expr) -> 
 
 /// What a `for` goes over, which is tested.
 pub(crate) fn end_iterated(alloc: Global, over: Expr) -> ParseResult<Expr>
-    ensures gives { (call : Caller) (t : Cursor) → Gives view (exec call (iterated_on (view over)
+    ensures gives { (call : Caller) (t : Cursor) → Gives view (exec call (tested (view over)
         (iterated_fault (view over))) t) result t }
 {
     test_iterated(alloc, &over)?;

@@ -9,7 +9,9 @@ pub ruleset paths = (calls_of_readers, step_path)
 
 pub ruleset parse_expr = (readers, step_expression)
 
-pub ruleset parse_unary = (readers, step_operand, operand_sign, operand_other, sign_outcome)
+pub ruleset parse_unary = (readers, step_operand, operand_sign, sign_outcome)
+
+pub ruleset parse_unsigned = (readers, step_operand, operand_other)
 
 pub ruleset parse_postfix = (readers, step_postfix, view_variable)
 

@@ -1,16 +1,19 @@
 //! Expressions: operands with their signs and calls, joined by binary operators.
 
+ghost use Rattle.std.specs.Prelude.{◌≡◌, false};
 ghost use Rattle.rhai_lower.specs.Nodes.{no_nodes, position_of};
 ghost use Rattle.rhai_ast.specs.View.{view};
+ghost use Rattle.rhai_grammar.specs.Beginnings.{beginning, is_sign};
+ghost use Rattle.rhai_grammar.specs.Cursors.{asked};
 ghost use Rattle.rhai_language.specs.Readers.{Covers, GoesOn, Reads, arguments, binary_op, expression, items};
 ghost use Rattle.rhai_language.specs.Readers.{operand, postfix};
-ghost use Rattle.rhai_language.specs.Readers.{right_operand, views_of};
+ghost use Rattle.rhai_language.specs.Readers.{right_operand, state_of, views_of};
 
-use crate::asks::next_operator;
+use crate::asks::{end_operand, next_operator};
 use crate::paths::{NamedOperand, named_operand};
 use crate::reader::ExprReader;
 use rhai_ast::Expr;
-use rhai_base::modules::{test_module, test_path};
+use rhai_base::modules::test_path;
 use rhai_base::words::{as_variable, is_qualified_name, make_call};
 use rhai_base::{Frame, ParseSettings};
 use rhai_grammar::{CommaList, DueToken, OperandPlace, OperandStart, ParseResult};
@@ -20,7 +23,7 @@ use rhai_leaves::lists::{closes_list, list_continues};
 use rhai_leaves::refusals::missing;
 use rhai_leaves::tokens::{is_no_argument, is_sign, place_after, what_operand};
 use rhai_statement_trees::make_statement_value;
-use rhai_trees::{make_binary, make_chain, make_unary};
+use rhai_trees::{make_binary, make_unary};
 
 impl<R: LentReaders> ExprReader<'_, R> {
     /// Reads the path and what calls an operand, if it is a name. The module that the path begins at is tested after
@@ -162,22 +165,39 @@ impl<R: LentReaders> ExprReader<'_, R> {
         ensures reads { Reads (operand self.now.language.now frame.now settings) view shared.old result shared.new }
     {
         let (token, _) = peek(shared.input)?;
-        if is_sign(token) {
-            let (sign, pos) = take(shared.input);
-            let settings = settings.at(pos).level_up()?;
-            let operand = self.parse_unary(shared, frame, settings)?;
-            return make_unary(self.language.alloc(), sign, pos, operand);
+        if !is_sign(token) {
+            return self.parse_unsigned(shared, frame, settings);
         }
+        let (sign, pos) = take(shared.input);
+        let settings = settings.at(pos).level_up()?;
+        let operand = self.parse_unary(shared, frame, settings)?;
+        make_unary(self.language.alloc(), sign, pos, operand)
+    }
+
+    /// Reads a written operand without a sign, with its call and its links. The caller has seen that no sign comes
+    /// next.
+    #[tactic(auto, using(crate::proofs::Readers::parse_unsigned))]
+    fn parse_unsigned(
+        &self,
+        shared: &mut Shared<'_>,
+        frame: &Frame<'_>,
+        settings: ParseSettings,
+    ) -> ParseResult<Expr>
+        requires unsigned { is_sign (beginning (asked (state_of shared.old)).lexeme) ≡ false }
+        requires lent { Covers (R.lent self.now.readers) (operand self.now.language.now frame.now settings)
+            shared.old }
+        ensures goes_on { GoesOn shared.old shared.new }
+        ensures reads { Reads (operand self.now.language.now frame.now settings) view shared.old result shared.new }
+    {
+        peek(shared.input)?;
         let primary = self
             .readers
             .parse_primary(self.language, shared, frame, settings)?;
         let operand = self.parse_postfix(shared, frame, settings, primary)?;
-        let links = match self.parse_links(shared, frame, settings, &operand) {
-            Ok(links) => links,
-            Err(error) => return Err(error),
-        };
-        test_module(frame, settings, &operand)?;
-        Ok(make_chain(self.language.alloc(), operand, links)?)
+        match self.parse_links(shared, frame, settings, &operand) {
+            Ok(links) => end_operand(self.language.alloc(), frame, settings, operand, links),
+            Err(error) => Err(error),
+        }
     }
 
     /// Reads the operators and operands after `lhs` that go on with a run on the right of an operator of strength

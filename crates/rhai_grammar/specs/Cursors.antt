@@ -48,6 +48,10 @@ looking s = record s { peeked = true }
 abbrev pub taking : Cursor → Cursor
 taking s = record { tokens = later s.mode s.tokens; mode = code; peeked = false }
 
+-- the cursor after the `}` of a block in an interpolated string was taken: the next request is one in text mode
+abbrev pub after_brace : Cursor → Cursor
+after_brace s = record (taking s) { mode = text }
+
 -- the greatest number of tokens that may be left
 unfoldable pub left : Tokens → ℕ
 left (Ends p) = 0

@@ -4,17 +4,13 @@ use Rattle.std.specs.Rc.{rc_str_bytes}
 use Rattle.rhai_lower.specs.Lexemes.{text_of}
 use Rattle.rhai_grammar.specs.Beginnings.{unexpected}
 use Rattle.rhai_grammar.specs.Causes.{Refusal, is_for_memory, refusal, refusal_of}
-use Rattle.rhai_grammar.specs.Cursors.{Cursor, asked, looking, taking}
-use Rattle.rhai_grammar.specs.Delivered.{is_memory, text}
+use Rattle.rhai_grammar.specs.Cursors.{Cursor, after_brace, asked, looking, taking}
+use Rattle.rhai_grammar.specs.Delivered.{is_memory}
 use Rattle.rhai_grammar.specs.DueTokens.{is_due, not_due}
 use Rattle.rhai_grammar.specs.Interpolations.{is_last_text, is_text}
 use Rattle.rhai_grammar.specs.declared.due.DueToken.TheVariants.{RightBrace}
 use Rattle.rhai_grammar.specs.declared.error.ParseError.{ParseError}
 use Rattle.rhai_leaves.specs.declared.strings.TextPart.{TextPart}
-
--- the cursor after the next token was taken, where a text is due, which is requested in text mode
-abbrev pub at_text : Cursor → Cursor
-at_text s = record (taking s) { mode = text }
 
 -- the next token is `}`
 abbrev pub Closes : Cursor → Type 0
@@ -43,6 +39,6 @@ NoText s e t =
 -- stays, unless memory ran out.
 abbrev pub Interpolates : Cursor → Result TextPart ParseError → Cursor → Type 0
 Interpolates s (Ok part) t =
-    Closes s × (part.end ≡ (asked s).at) × IsText (at_text s) part × (t ≡ taking (at_text s))
+    Closes s × (part.end ≡ (asked s).at) × IsText (after_brace s) part × (t ≡ taking (after_brace s))
 Interpolates s (Err e) t =
-    is_for_memory e ≡ false → NotClosed s (refusal_of e) t ⊎ (Closes s × NoText (at_text s) (refusal_of e) t)
+    is_for_memory e ≡ false → NotClosed s (refusal_of e) t ⊎ (Closes s × NoText (after_brace s) (refusal_of e) t)

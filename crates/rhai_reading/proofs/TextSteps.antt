@@ -3,14 +3,14 @@ use Rattle.std.proofs.Common.{◌≡◌, Bool, true, false, refl, ◌∙◌, if�
 use Rattle.rhai_lower.specs.Lexemes.{text_of}
 use Rattle.rhai_grammar.specs.Beginnings.{unexpected}
 use Rattle.rhai_grammar.specs.Causes.{refusal}
-use Rattle.rhai_grammar.specs.Cursors.{Cursor, asked, looking, taking}
+use Rattle.rhai_grammar.specs.Cursors.{Cursor, after_brace, asked, looking, taking}
 use Rattle.rhai_grammar.specs.Delivered.{is_memory}
 use Rattle.rhai_grammar.specs.DueTokens.{is_due, not_due}
 use Rattle.rhai_grammar.specs.Interpolations.{is_last_text, is_text}
 use Rattle.rhai_grammar.specs.declared.due.DueToken.TheVariants.{RightBrace}
 use Rattle.rhai_reading.specs.Reading.{TextAfter}
 use Rattle.rhai_reading.specs.Running as R
-use Rattle.rhai_reading.specs.Running.{after_brace, exec, guarded, result_of, text_from}
+use Rattle.rhai_reading.specs.Running.{exec, guarded, result_of, text_from}
 use Rattle.rhai_reading.proofs.Steps.{step_text_after}
 
 -- the two choices

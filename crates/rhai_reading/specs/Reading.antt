@@ -62,10 +62,10 @@ pub use Rattle.rhai_reading.specs.Goals.{Action, Arm, ArmEnd, Arms, Case, CaseGu
 pub use Rattle.rhai_reading.specs.Goals.{DefaultEnd}
 pub use Rattle.rhai_reading.specs.Goals.{Ret, Fail, Peek, Take, TakeText, Call, CallLiteral, Script, Val, Prog}
 pub use Rattle.rhai_reading.specs.Goals.{after_a_part, construct_on, match_name, match_token, part_next, raised, tested}
-pub use Rattle.rhai_reading.specs.ReadingStatements.{assigned_on, evaluated_at, var_name_at, value_at, definition_on}
+pub use Rattle.rhai_reading.specs.ReadingStatements.{evaluated_at, var_name_at, value_at, definition_on}
 pub use Rattle.rhai_reading.specs.ReadingStatements.{jump_on, loop_at, statement_at, separated_at, statements_on}
 pub use Rattle.rhai_reading.specs.ReadingStatements.{statements_at, inside_on, inside_construct, guard_on}
-pub use Rattle.rhai_reading.specs.ReadingStatements.{iterated_on, no_brace, else_at, branch_at, counted_on}
+pub use Rattle.rhai_reading.specs.ReadingStatements.{no_brace, else_at, branch_at, counted_on}
 pub use Rattle.rhai_reading.specs.ReadingStatements.{first_of_two, loop_names_at, catch_at, do_end_at}
 pub use Rattle.rhai_reading.specs.ReadingStatements.{alias_at, export_at, export_on, global_at, import_on}
 pub use Rattle.rhai_reading.specs.ReadingSwitches.{cases_at, case_guard_at, action_at, action_on, arm_end_at}
@@ -270,11 +270,6 @@ dot_at live spot dot at pos AMember =
     Call (Links live (spot_after_dot spot (member_link dot at x))) Ret))
 dot_at live spot dot at pos (NoMember why) = Fail (refusal why pos)
 
--- after the last link
-abbrev pub links_end : List Link → Option Refusal → Prog (List Link)
-links_end ls None = Ret ls
-links_end ls (Some why) = Fail why
-
 abbrev pub links_at : Live → LinkSpot → Lexeme → Position → Linking → Prog (List Link)
 links_at live spot lexeme at link.Bracket =
     Take (raised spot.brackets at (λ deeper. raised deeper at (λ inside.
@@ -282,7 +277,7 @@ links_at live spot lexeme at link.Bracket =
     Call (Links live (spot_after_bracket spot (bracket_link lexeme at x))) Ret))))
 links_at live spot lexeme at link.Dot =
     Take (Peek (λ member pos. dot_at live spot lexeme at pos (member_place member)))
-links_at live spot lexeme at link.Nothing = links_end spot.before (last_fault spot.before)
+links_at live spot lexeme at link.Nothing = tested spot.before (last_fault spot.before)
 
 -- ---- operators
 
@@ -368,7 +363,7 @@ body (Construct context live at kind) = inside_construct context live at kind
 body (Braced context live at) =
     Call BlockStart (λ opening. raised context at (λ deeper. Call (Block deeper live opening) Ret))
 body (Guard context live) = no_brace (Call (Expression context live) (λ x. guard_on x (guard_fault x)))
-body (Iterated context live) = no_brace (Call (Expression context live) (λ x. iterated_on x (iterated_fault x)))
+body (Iterated context live) = no_brace (Call (Expression context live) (λ x. tested x (iterated_fault x)))
 body (Conditional context live at) =
     Call (Guard context live) (λ guard. Call (Braced context live at) (λ block.
     Call (Branch context live at) (λ branch. Ret (if_statement guard block branch at))))

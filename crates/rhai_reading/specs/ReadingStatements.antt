@@ -42,18 +42,13 @@ use Rattle.rhai_reading.specs.Goals.{Definition, Statement, Statements, Block}
 use Rattle.rhai_reading.specs.Goals.{Arms, Braced, Catch, Conditional, DoEnd, Guard, Iterated}
 use Rattle.rhai_reading.specs.Goals.{Alias, Export, Import, LoopNames}
 use Rattle.rhai_reading.specs.Goals.{Ret, Fail, Peek, Take, Call, Prog}
-use Rattle.rhai_reading.specs.Goals.{match_name, match_token, raised}
-
--- after the value of an assignment, whose target may be refused
-abbrev pub assigned_on : node.Statement → Option Refusal → Prog node.Statement
-assigned_on f None = Ret f
-assigned_on f (Some why) = Fail why
+use Rattle.rhai_reading.specs.Goals.{match_name, match_token, raised, tested}
 
 -- after an expression
 abbrev pub evaluated_at : Context → Live → Node → Lexeme → Position → Prog node.Statement
 evaluated_at context live x lexeme at =
     if is_assignment lexeme then Take (Call (Expression context live) (λ y.
-    assigned_on (assignment (update_of lexeme) x y at) (target_fault (is_constant_use live.slots x) lexeme at x)))
+    tested (assignment (update_of lexeme) x y at) (target_fault (is_constant_use live.slots x) lexeme at x)))
     else Ret (expression x)
 
 -- where the name of a definition is due
@@ -179,11 +174,6 @@ inside_construct context live at kind.Try =
 abbrev pub guard_on : Node → Option Refusal → Prog Node
 guard_on x None = Peek (λ lexeme at. if is_due due.Equals lexeme then Fail (refusal no_assignment at) else Ret x)
 guard_on x (Some why) = Fail why
-
--- after what `for` goes over, which may be refused
-abbrev pub iterated_on : Node → Option Refusal → Prog Node
-iterated_on x None = Ret x
-iterated_on x (Some why) = Fail why
 
 -- where no `{` may stand
 abbrev pub no_brace : {A : Type 0} → Prog A → Prog A

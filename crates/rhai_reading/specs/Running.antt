@@ -5,11 +5,11 @@ use Rattle.rhai_lower.specs.declared.position.Position.{Position}
 use Rattle.rhai_grammar.specs.Beginnings.{unexpected}
 use Rattle.rhai_grammar.specs.Causes.{Refusal, refusal, refusal_of, is_for_memory, MemoryIsNowhere, out_of_memory}
 use Rattle.rhai_grammar.specs.Causes.{as_literal}
-use Rattle.rhai_grammar.specs.Delivered.{text, is_memory}
+use Rattle.rhai_grammar.specs.Delivered.{is_memory}
 use Rattle.rhai_grammar.specs.DueTokens.{is_due, not_due}
 use Rattle.rhai_grammar.specs.Interpolations.{is_text}
 use Rattle.rhai_grammar.specs.declared.due.DueToken.TheVariants.{RightBrace}
-use Rattle.rhai_grammar.specs.Cursors.{Cursor, asked, looking, taking, left}
+use Rattle.rhai_grammar.specs.Cursors.{Cursor, after_brace, asked, looking, taking, left}
 use Rattle.rhai_grammar.specs.declared.error.ParseError.{ParseError}
 use Rattle.rhai_reading.specs.Reading.{Goal, Whole, Expression, Operand, Primary, Postfix, Arguments, Items, Elements}
 use Rattle.rhai_reading.specs.Reading.{Fields, NextKey, Called, Links, Index, Member, NextOperator, BinaryOp, Val}
@@ -37,10 +37,6 @@ abbrev pub recast : {A : Type 0} → Out A → Out A
 recast (Done x s) = Done x s
 recast (Refused e s) = Refused (as_literal e) s
 recast Unfinished = Unfinished
-
--- the next request is one in text mode, directly after a `}` was taken
-abbrev pub after_brace : Cursor → Cursor
-after_brace s = record (taking s) { mode = text }
 
 -- what a text that is taken goes on with, where the next request is in text mode
 abbrev pub text_from : {A : Type 0} → (Lexeme → Position → Cursor → Out A) → Cursor → Out A

@@ -11,7 +11,7 @@ ghost use Rattle.rhai_grammar.specs.Starts.{starts};
 ghost use Rattle.rhai_grammar.specs.Statements.{ends_itself};
 ghost use Rattle.rhai_grammar.specs.Targets.{is_constant_use, target_fault, update_of};
 ghost use Rattle.rhai_base.specs.Settings.{settings_of};
-ghost use Rattle.rhai_reading.specs.Reading.{assigned_on};
+ghost use Rattle.rhai_reading.specs.Reading.{tested};
 ghost use Rattle.rhai_reading.specs.Running.{Caller, Gives, exec, result_of};
 ghost use Rattle.rhai_language.specs.Readers.{name_view, var_name};
 
@@ -56,7 +56,7 @@ pub(crate) fn end_assignment(
     target: Expr,
     value: Expr,
 ) -> ParseResult<Stmt>
-    ensures gives { (call : Caller) (t : Cursor) → Gives statement_view (exec call (assigned_on
+    ensures gives { (call : Caller) (t : Cursor) → Gives statement_view (exec call (tested
         (assignment (update_of (lexeme op)) (view target) (view value) pos)
         (target_fault (is_constant_use frame.now.live.slots (view target)) (lexeme op) pos (view target))) t) result t }
     ensures open { IfOk result (λ s. ends_itself (statement_view s) ≡ false) }

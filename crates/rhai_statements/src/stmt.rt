@@ -244,8 +244,9 @@ impl<R: LentReaders> StmtReader<'_, R> {
             return Ok(Expr::Unit(Position::NONE));
         }
         skip(shared.input);
+        let deeper = settings.level_up()?;
         self.readers
-            .parse_expr(self.language, shared, frame, settings.level_up()?)
+            .parse_expr(self.language, shared, frame, deeper)
     }
 
     /// Reads an expression or an assignment. What is assigned to is tested after the value is read.

@@ -36,7 +36,7 @@ no_link q w k s t b m =
     next V.unlinked m.0 (λ e. seen (no_link_is (linking (op_at s)) (no_other (is_link (linking (op_at s))) e).0)
     (R.links_at w q (op_at s) (pos_at s)) (fits (last_fault q.before) m.1))
   where
-    fits : (v : Option Refusal) → Met (unfaulted v k) s t → Reaches (R.links_end q.before v) s true (q.before ++ []) k t
+    fits : (v : Option Refusal) → Met (unfaulted v k) s t → Reaches (R.tested q.before v) s true (q.before ++ []) k t
     fits None n = gives (sym (append-nil q.before)) n
     fits (Some e) n = let h = n.0 in absurd cc
 

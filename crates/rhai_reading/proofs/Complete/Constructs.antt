@@ -19,6 +19,7 @@ use Rattle.rhai_grammar.specs.declared.due.DueToken.TheVariants as due
 use Rattle.rhai_reading.specs.Reading as R
 use Rattle.rhai_reading.specs.Reading.{body}
 use Rattle.rhai_reading.proofs.Beginnings.{ends_do}
+use Rattle.rhai_reading.proofs.Complete.Calls.{tested_fine}
 use Rattle.rhai_reading.proofs.Complete.Law.{BodyRead, BranchRead, ConditionalRead, ConstructRead, ExpressionRead, IsRead}
 use Rattle.rhai_reading.proofs.Complete.Statements.{block_start}
 use Rattle.rhai_reading.proofs.ConstructKinds.{BracedForm, CatchForm, DoForm, LoopForm, braced, catches, do_ends, guards}
@@ -43,12 +44,7 @@ guard f reads c w k s t b m =
 pub iterated : (f : Run) → ExpressionRead f → (c : Context) (w : Live) → IsRead (R.Iterated c w) (iterated_values c w) f
 iterated f reads c w k s t b m =
     next guard_begins m.0 (λ e. if_false _ (no_wrong (is_due due.LeftBrace (op_at s)) no_block e).0
-    (part (reads c w _ s t true m.1) (λ u l n. ends (iterated_fault (tree f w)) u l n)))
-  where
-    ends : (v : Option Refusal) (u : Point) (l : Bool) → Met (unfaulted v k) u t
-        → Reaches (R.iterated_on (tree f w) v) u l (tree f w) k t
-    ends None u l n = ret n
-    ends (Some e) u l n = let h = n.0 in absurd cc
+    (part (reads c w _ s t true m.1) (λ u l n. tested_fine (iterated_fault (tree f w)) n)))
 
 -- ---- blocks of constructs
 

@@ -28,7 +28,6 @@ use Rattle.rhai_grammar.specs.Targets.{is_assignment, is_constant_use, is_equals
 use Rattle.rhai_grammar.specs.Trees.{block_tree, segment_trees, statement_tree, statement_trees, tree, with_kept}
 use Rattle.rhai_grammar.specs.Verdicts.{room_due}
 use Rattle.rhai_grammar.specs.Written as W
-use Rattle.rhai_grammar.specs.Written.{unfaulted}
 use Rattle.rhai_grammar.specs.declared.role.AfterStatement.{AfterStatement}
 use Rattle.rhai_grammar.specs.declared.role.AfterStatement.TheVariants as after
 use Rattle.rhai_grammar.specs.declared.role.Closing.{Closing}
@@ -39,6 +38,7 @@ use Rattle.rhai_grammar.specs.declared.role.StatementStart.{StatementStart}
 use Rattle.rhai_grammar.specs.declared.role.StatementStart.TheVariants as start
 use Rattle.rhai_reading.specs.Reading as R
 use Rattle.rhai_reading.specs.Reading.{body}
+use Rattle.rhai_reading.proofs.Complete.Calls.{tested_fine}
 use Rattle.rhai_reading.proofs.Complete.Law.{ExpressionRead, ExprStatementRead, InitializerRead, StatementRead}
 use Rattle.rhai_reading.proofs.Complete.Law.{ConstructRead, StatementsRead, BodyRead, IsRead, PrimaryRead}
 use Rattle.rhai_reading.proofs.Complete.Law.{InsideRead, JumpRead, SegmentsRead, closing_at, inside_part}
@@ -84,13 +84,7 @@ assign f op at value target assigned c w k s t b m =
     part (target c w _ s t b m) (λ u l n.
     let can = readable is_assignment (λ f. refl) op n.0 in
     peek n.1.0 can (if_true _ n.0 (take n.1.0 can (part (assigned c w _ (past code u) t false n.1.1)
-    (λ v a i. fits (target_fault (is_constant_use w.slots (tree f w)) op at (tree f w)) v a i)))))
-  where
-    fits : (v : Option Refusal) (u : Point) (l : Bool) → Met (unfaulted v k) u t
-        → Reaches (R.assigned_on (node.assignment (update_of op) (tree f w) (tree value w) at) v) u l
-        (node.assignment (update_of op) (tree f w) (tree value w) at) k t
-    fits None u l n = ret n
-    fits (Some e) u l n = let h = n.0 in absurd cc
+    (λ v a i. tested_fine (target_fault (is_constant_use w.slots (tree f w)) op at (tree f w)) i)))))
 
 -- ---- definitions
 

@@ -158,12 +158,6 @@ member_links w dot pos before (AMethod name is name_at (By bang args)) rest =
     sym (spot_after_one_more before _ (link_list rest w))
 
 module _ {call : Histories} (ih : AllSound call) (w : Live) (q : LinkSpot) (s : Point) where
-  -- after the last link
-  links_end : Fits V.unlinked s → (v : Option Refusal) → last_fault q.before ≡ v
-      → Goes call (links w q) s (R.links_end q.before v) s true
-  links_end free None e = gives form.NoLink (append-nil q.before) (λ k o r. free ▹ unfaulted e r)
-  links_end free (Some d) e = halt form.NoLink (early _ d (last_early q.before) e) (λ k. free ▹ faulted k e)
-
   dot_way : is_dot (linking (op_at s)) ≡ true → Fits V.member_due (past code s) → has_room q.settings ≡ true
       → (f : MemberForm) (rest : Links) (k : Demands) (o : Aim)
       → Way (member_of (level_up q.settings) w f (W.links rest
@@ -202,7 +196,9 @@ module _ {call : Histories} (ih : AllSound call) (w : Live) (q : LinkSpot) (s : 
       ends (ih.of (R.Links w (spot_after_bracket q (bracket_link (op_at s) (pos_at s) (tree f.index w)))) u a)
       (λ rest. rest) (λ v rest. sym (spot_after_one_more q.before _ (link_list rest w))) (λ rest k o r. r)))))
   links_by link.Dot e m = take (look (λ n. dot_by (ap is_dot e) (member_place (op_at (past code s))) refl n))
-  links_by link.Nothing e m = links_end (fine m (rw e)) (last_fault q.before) refl
+  links_by link.Nothing e m =
+      let free : Fits V.unlinked s = fine m (rw e) in
+      tested (links w q) s form.NoLink (last_fault q.before) (last_early q.before) (append-nil q.before) (λ k o r. free ▹ r)
 
   pub link_chain : (b : Bool) → Goes call (links w q) s (body (R.Links w q)) s b
   link_chain b = look (λ m. links_by (linking (op_at s)) refl m)

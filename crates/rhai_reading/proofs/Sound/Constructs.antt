@@ -32,7 +32,7 @@ use Rattle.rhai_reading.proofs.Looks.{op_at, pos_at}
 use Rattle.rhai_reading.proofs.Paths.{Fits, ◌▹◌}
 use Rattle.rhai_reading.proofs.Shows.{Histories, Goes, Passed, done, either, ends, fails, fine, first, halt, ill, look, part}
 use Rattle.rhai_reading.proofs.Shows.{raise, refuse, take, wrong}
-use Rattle.rhai_reading.proofs.Sound.Chains.{Early, early, faulted, unfaulted}
+use Rattle.rhai_reading.proofs.Sound.Chains.{Early, early, faulted, tested, unfaulted}
 use Rattle.rhai_reading.proofs.Sound.Law.{AllSound, any_arms, any_body, any_braced, any_catch, any_conditional, any_do_end, any_loop}
 use Rattle.rhai_reading.proofs.Sound.Law.{any_run}
 
@@ -66,19 +66,13 @@ module _ {call : Histories} (ih : AllSound call) (c : Context) (w : Live) (s : P
       part (ih.of (R.Expression c w) s true) (λ f. f) (λ f k o r. begins ▹ r _)
       (λ f t a G. guard_by f t a begins G (guard_fault (tree f w)) refl)))
 
-  iterated_by : (f : Run) (t : Point) (b : Bool) → Fits guard_begins s → Passed (expressions c w) f s t
-      → (v : Option Refusal) → iterated_fault (tree f w) ≡ v
-      → Goes call (iterated_values c w) s (R.iterated_on (tree f w) v) t b
-  iterated_by f t b begins G None e = done f (λ k o r. begins ▹ G.on (unfaulted e r))
-  iterated_by f t b begins G (Some d) e =
-      halt f (early _ d (iterated_early (tree f w)) e) (λ k. begins ▹ G.on (faulted _ e))
-
   pub iterated : (b : Bool) → Goes call (iterated_values c w) s (body (R.Iterated c w)) s b
   iterated b =
       look (λ m. either (is_due due.LeftBrace (op_at s)) (λ brace. refuse any_run (λ k. ill m (rw brace))) (λ none.
       let begins : Fits guard_begins s = fine m (rw none) in
       part (ih.of (R.Expression c w) s true) (λ f. f) (λ f k o r. begins ▹ r _)
-      (λ f t a G. iterated_by f t a begins G (iterated_fault (tree f w)) refl)))
+      (λ f t a G. tested (iterated_values c w) s f (iterated_fault (tree f w)) (iterated_early (tree f w)) refl
+      (λ k o r. begins ▹ G.on r))))
 
   -- ---- blocks of constructs
 

@@ -51,7 +51,7 @@ use Rattle.rhai_reading.proofs.Looks.{op_at, pos_at}
 use Rattle.rhai_reading.proofs.Paths.{Aim, Fits, Way, ◌▹◌}
 use Rattle.rhai_reading.proofs.Shows.{Histories, Goes, ill, wrong, fine, fails, take, look, either, gives, done, refuse}
 use Rattle.rhai_reading.proofs.Shows.{halt, test, raise, part, first, ends, Passed}
-use Rattle.rhai_reading.proofs.Sound.Chains.{Early, early, early_if, early_or, faulted, unfaulted}
+use Rattle.rhai_reading.proofs.Sound.Chains.{Early, early_if, early_or, tested}
 use Rattle.rhai_reading.proofs.Sound.Law.{AllSound, any_construct, any_run}
 use Rattle.rhai_grammar.specs.Constructs.{construct_token, kind_of, may_stand}
 use Rattle.rhai_reading.proofs.ConstructKinds.{OfKind, of_kind}
@@ -92,25 +92,16 @@ target_early constant op at x = value_early (is_constant x) (position_of x)
 -- ---- expressions and assignments
 
 module _ {call : Histories} (ih : AllSound call) (c : Context) (w : Live) (s : Point) where
-  -- after the value of an assignment
-  assigned_by : (f x : Run) (t u : Point) (b : Bool) → Passed (expressions c w) f s t
-      → is_assignment (op_at t) ≡ true → Passed (expressions c w) x (past code t) u
-      → (v : Option Refusal) → target_fault (is_constant_use w.slots (tree f w)) (op_at t) (pos_at t) (tree f w) ≡ v
-      → Goes call (expr_statements c w) s
-      (R.assigned_on (node.assignment (update_of (op_at t)) (tree f w) (tree x w) (pos_at t)) v) u b
-  assigned_by f x t u b G is H None e =
-      done (form.Assign f (op_at t) (pos_at t) x) (λ k o r. G.on (is ▹ refl ▹ H.on (unfaulted e r)))
-  assigned_by f x t u b G is H (Some d) e =
-      halt (form.Assign f (op_at t) (pos_at t) x) (early _ d (target_early (is_constant_use w.slots (tree f w)) (op_at t) (pos_at t) (tree f w)) e)
-      (λ k. G.on (is ▹ refl ▹ H.on (faulted k e)))
-
   pub evaluated : (b : Bool) → Goes call (expr_statements c w) s (body (R.ExprStatement c w)) s b
   evaluated b =
       part (ih.of (R.Expression c w) s b) form.Evaluate (λ f k o r. r _) (λ f t a G.
+      let constant = is_constant_use w.slots (tree f w) in
       look (λ m. either (is_assignment (op_at t))
       (λ is. take (part (ih.of (R.Expression c w) (past code t) false) (form.Assign f (op_at t) (pos_at t))
       (λ x k o r. G.on (is ▹ refl ▹ r _))
-      (λ x u d H. assigned_by f x t u d G is H (target_fault (is_constant_use w.slots (tree f w)) (op_at t) (pos_at t) (tree f w)) refl)))
+      (λ x u d H. tested (expr_statements c w) s (form.Assign f (op_at t) (pos_at t) x)
+      (target_fault constant (op_at t) (pos_at t) (tree f w)) (target_early constant (op_at t) (pos_at t) (tree f w)) refl
+      (λ k o r. G.on (is ▹ refl ▹ H.on r)))))
       (λ none. done (form.Evaluate f) (λ k o r. G.on (fine m (rw none) ▹ r)))))
 
   -- ---- definitions
