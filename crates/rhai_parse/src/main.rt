@@ -2,8 +2,6 @@
 //! describes the command line and both formats.
 #![tactic(auto)]
 
-#[cfg(test)]
-mod later_forms;
 mod run;
 mod words;
 

@@ -45,21 +45,13 @@ impl From<ListError> for Failure {
 
 // Sets the limits and options that the command line names.
 fn set_limits(engine: &mut Engine, limits: &Limits) {
-    if let Some(limit) = limits.expr_depth {
-        engine.set_max_expr_depth(limit);
-    }
-    if let Some(limit) = limits.fn_depth {
-        engine.set_max_function_expr_depth(limit);
-    }
-    if let Some(limit) = limits.functions {
-        engine.set_max_functions(limit);
-    }
-    if let Some(limit) = limits.array {
-        engine.set_max_array_size(limit);
-    }
-    if let Some(limit) = limits.map {
-        engine.set_max_map_size(limit);
-    }
+    let expr_depth = limits.expr_depth.unwrap_or(engine.max_expr_depth());
+    engine.set_max_expr_depth(expr_depth);
+    let fn_depth = limits.fn_depth.unwrap_or(engine.max_function_expr_depth());
+    engine.set_max_function_expr_depth(fn_depth);
+    engine.set_max_functions(limits.functions.unwrap_or(engine.max_functions()));
+    engine.set_max_array_size(limits.array.unwrap_or(engine.max_array_size()));
+    engine.set_max_map_size(limits.map.unwrap_or(engine.max_map_size()));
     if let Some(bits) = limits.options {
         engine.set_options(LangOptions::from_bits_retain(bits));
     }

@@ -1,8 +1,8 @@
 //! Tests of what is printed of forms that no list makes yet, and of refusals that none has.
 
-use rhai_parser::{
-    AST, Expr, ParseError, ParseErrorType as Kind, Position, ScriptFuncDef, Stmt, StmtBlock,
-};
+use rhai_ast::{AST, Expr, ScriptFuncDef, Stmt, StmtBlock};
+use rhai_grammar::{ParseError, ParseErrorType as Kind};
+use rhai_lower::Position;
 use rhai_print::{Refused, accepted};
 use std::alloc::{AllocError, Global};
 use std::process::Abort;
