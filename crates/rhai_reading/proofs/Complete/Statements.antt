@@ -1,5 +1,5 @@
 -- Statements, their lists, and blocks: the steps to what is written.
-use Rattle.std.proofs.Common.{◌≡◌, Bool, true, false, Option, Some, None, refl, sym, ap, ◌∙◌, if◌then◌else◌}
+use Rattle.std.proofs.Common.{◌≡◌, Bool, true, false, refl, sym, ap, ◌∙◌, if◌then◌else◌}
 use Rattle.rhai_lower.specs.Texts.{Text}
 use Rattle.rhai_lower.specs.Lexemes.{Lexeme, Sign}
 use Rattle.rhai_lower.specs.Nodes as node
@@ -10,7 +10,6 @@ use Rattle.rhai_grammar.specs.Starts.{jump_token, no_value_follows, starts, valu
 use Rattle.rhai_grammar.specs.declared.due.DueToken.TheVariants as due
 use Rattle.rhai_lower.specs.declared.position.Position.{Position}
 use Rattle.rhai_lower.specs.declared.token.Token.TheVariants as token
-use Rattle.rhai_grammar.specs.Causes.{Refusal}
 use Rattle.rhai_grammar.specs.Delivered.{code, item, text, Point, past}
 use Rattle.rhai_grammar.specs.Contexts.{Context, Live, below_global, allows_looping, has_room, in_block, level_up}
 use Rattle.rhai_grammar.specs.Definitions as walk
@@ -24,7 +23,7 @@ use Rattle.rhai_reading.proofs.Beginnings.{keyword_defines}
 use Rattle.rhai_grammar.specs.Constructs.{construct_token, kind_of}
 use Rattle.rhai_reading.proofs.Beginnings.{construct_readable, starts_construct, starts_value}
 use Rattle.rhai_grammar.specs.Statements as V
-use Rattle.rhai_grammar.specs.Targets.{is_assignment, is_constant_use, is_equals, target_fault, update_of}
+use Rattle.rhai_grammar.specs.Targets.{is_assignment, is_constant_use, is_equals, target_fault}
 use Rattle.rhai_grammar.specs.Trees.{block_tree, segment_trees, statement_tree, statement_trees, tree, with_kept}
 use Rattle.rhai_grammar.specs.Verdicts.{room_due}
 use Rattle.rhai_grammar.specs.Written as W

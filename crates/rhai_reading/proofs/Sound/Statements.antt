@@ -6,18 +6,18 @@ use Rattle.rhai_lower.specs.Nodes.{Node, position_of}
 use Rattle.rhai_lower.specs.Positions.{nowhere}
 use Rattle.rhai_lower.specs.Nodes as node
 use Rattle.rhai_lower.specs.declared.position.Position.{Position}
-use Rattle.rhai_grammar.specs.Causes.{AssignmentToConstant, Refusal, refusal}
+use Rattle.rhai_grammar.specs.Causes.{AssignmentToConstant, refusal}
 use Rattle.rhai_grammar.specs.Delivered.{code, item, Point, next_at, past, is_memory}
 use Rattle.rhai_grammar.specs.Contexts.{Context, Live, below_global, has_room, has_single_blocks, in_block, is_global, is_in_loop, level_up}
 use Rattle.rhai_grammar.specs.Beginnings.{is_name}
 use Rattle.rhai_grammar.specs.Definitions as walk
 use Rattle.rhai_grammar.specs.Forms as form
-use Rattle.rhai_grammar.specs.Forms.{Run, Statement}
+use Rattle.rhai_grammar.specs.Forms.{Statement}
 use Rattle.rhai_grammar.specs.Statements as V
 use Rattle.rhai_grammar.specs.Chains.{Bracket, Chain, Dotted, Link, LinkKind, chain_of}
 use Rattle.rhai_grammar.specs.Kinds.{is_constant}
 use Rattle.rhai_grammar.specs.Targets.{chain_fault, invalid, is_assignment, is_constant_use, is_equals, item_fault, links_fault, root_fault}
-use Rattle.rhai_grammar.specs.Targets.{target_fault, update_of, value_fault}
+use Rattle.rhai_grammar.specs.Targets.{target_fault, value_fault}
 use Rattle.rhai_grammar.specs.Trees.{definition_tree, statement_tree, statement_trees, tree, with_kept}
 use Rattle.rhai_grammar.specs.declared.due.DueToken.TheVariants as due
 use Rattle.rhai_grammar.specs.declared.role.AfterStatement.{AfterStatement}
@@ -50,7 +50,7 @@ use Rattle.rhai_reading.proofs.Lists.{kept_statement, last_kept, no_statement}
 use Rattle.rhai_reading.proofs.Looks.{op_at, pos_at}
 use Rattle.rhai_reading.proofs.Paths.{Aim, Fits, Way, ◌▹◌}
 use Rattle.rhai_reading.proofs.Shows.{Histories, Goes, ill, wrong, fine, fails, take, look, either, gives, done, refuse}
-use Rattle.rhai_reading.proofs.Shows.{halt, test, raise, part, first, ends, Passed}
+use Rattle.rhai_reading.proofs.Shows.{test, raise, part, first, ends, Passed}
 use Rattle.rhai_reading.proofs.Sound.Chains.{Early, early_if, early_or, tested}
 use Rattle.rhai_reading.proofs.Sound.Law.{AllSound, any_construct, any_run}
 use Rattle.rhai_grammar.specs.Constructs.{construct_token, kind_of, may_stand}
