@@ -12,7 +12,7 @@ use Rattle.indexmap.specs.IndexSet.{insert_key}
 use Rattle.rhai_lower.specs.Texts.{Text, same_text}
 use Rattle.rhai_grammar.specs.declared.key.FnKey.{FnKey}
 use Rattle.rhai_base.specs.Index.{listed}
-use Rattle.rhai_base.specs.Keys.{Key, key_of, keys_of, has_name, closures, is_closure}
+use Rattle.rhai_grammar.specs.Keys.{Key, key_of, keys_of, has_name, closures, is_closure}
 
 abbrev pub same_name : RcStr Global → RcStr Global → Bool
 same_name a b = same_text (rc_str_bytes a) (rc_str_bytes b)

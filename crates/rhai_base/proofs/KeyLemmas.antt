@@ -6,7 +6,7 @@ use Rattle.std.specs.declared.rc.RcStr.{RcStr}
 use Rattle.std.specs.declared.alloc.Global.{Global}
 use Rattle.rhai_lower.specs.Texts.{same_text}
 use Rattle.rhai_grammar.specs.declared.key.FnKey.{FnKey}
-use Rattle.rhai_base.specs.Keys.{key_of, keys_of, same_type, same_key, has_key}
+use Rattle.rhai_grammar.specs.Keys.{key_of, keys_of, same_type, same_key, has_key}
 
 -- the derived equality of keys
 abbrev pub equal_types : Option (RcStr Global) → Option (RcStr Global) → Bool

@@ -5,7 +5,7 @@ use Rattle.std.specs.Rc.{rc_str_bytes}
 use Rattle.std.specs.declared.rc.RcStr.{RcStr}
 use Rattle.std.specs.declared.alloc.Global.{Global}
 use Rattle.rhai_lower.specs.Texts.{Text, same_text}
-use Rattle.rhai_base.specs.Keys.{Key, has_name, closures}
+use Rattle.rhai_grammar.specs.Keys.{Key, has_name, closures}
 use Rattle.rhai_base.specs.declared.names.FnNames.{FnNames}
 
 -- whether a list of names has this one

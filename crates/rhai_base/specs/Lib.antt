@@ -3,7 +3,6 @@ pub mod Counts
 pub mod FlagNames
 pub mod Frames
 pub mod Index
-pub mod Keys
 pub mod Settings
 pub mod States
 pub mod Words

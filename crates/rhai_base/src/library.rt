@@ -2,7 +2,7 @@
 
 ghost use Rattle.std.specs.Prelude.{◌≡◌, ◌↔◌, ◌++◌, ◌∷◌, [], true, false, IsTrue, OnOk, OnErr, IfOk, fold, map};
 ghost use Rattle.indexmap.specs.IndexMap.{values};
-ghost use Rattle.rhai_base.specs.Keys.{key_of, keys_of, same_key, fed_key, has_key, has_name, closures, is_closure};
+ghost use Rattle.rhai_grammar.specs.Keys.{key_of, keys_of, same_key, fed_key, has_key, has_name, closures, is_closure};
 
 use indexmap::IndexMap;
 use rhai_ast::ScriptFuncDef;

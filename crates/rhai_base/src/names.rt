@@ -2,7 +2,7 @@
 
 ghost use Rattle.std.specs.Prelude.{◌≡◌, ◌+◌, ◌||◌, ◌++◌, ◌∷◌, [], false, if◌then◌else◌, OnOk, OnErr, IfOk};
 ghost use Rattle.rhai_lower.specs.Texts.{Text, same_text};
-ghost use Rattle.rhai_base.specs.Keys.{key_of, keys_of, has_key};
+ghost use Rattle.rhai_grammar.specs.Keys.{key_of, keys_of, has_key};
 ghost use Rattle.rhai_base.specs.Index.{listed, is_listed, counted, Agrees};
 
 use crate::library::{FnLib, is_closure_key};

@@ -3,7 +3,7 @@
 //! other, `.._refused`, lets it end early, and holds however memory is refused (tests/fail_alloc_tests.sh): what was
 //! asserted on the way has to hold all the same.
 
-ghost use Rattle.rhai_base.specs.Keys.{keys_of};
+ghost use Rattle.rhai_grammar.specs.Keys.{keys_of};
 ghost use Rattle.rhai_base.specs.Index.{Agrees};
 
 use rhai_ast::{Expr, ScriptFuncDef, Stmt, StmtBlock};

@@ -16,8 +16,8 @@ use Rattle.rhai_grammar.specs.Causes.{Refusal}
 use Rattle.rhai_grammar.specs.Chains.{index_refusal, last_fault}
 use Rattle.rhai_grammar.specs.Contexts.{Context, Live, in_block, level_up, loop_body}
 use Rattle.rhai_grammar.specs.Delivered as M
-use Rattle.rhai_grammar.specs.Delivered.{Item, Mode, Point, is_memory, next_at, past}
-use Rattle.rhai_grammar.specs.Demands.{◌▸◌, Ahead, Blames, Demands, Fine, Literally, Met, Missed, Next, Nothing, Otherwise, Refused, Refuses, Shape, Test, Tok, Verdict, Wrong, verdict}
+use Rattle.rhai_grammar.specs.Delivered.{Item, Mode, Point, adding, is_memory, next_at, past}
+use Rattle.rhai_grammar.specs.Demands.{◌▸◌, Ahead, Blames, Adds, Demands, NextIn, TestIn, Fine, Literally, Met, Missed, Next, Nothing, Otherwise, Refused, Refuses, Shape, Test, Tok, Verdict, Wrong, verdict}
 use Rattle.rhai_grammar.specs.Forms as form
 use Rattle.rhai_grammar.specs.Forms.{Arguments, Base, Body, Branch, CatchName, Conditional, Construct, Elements, ExprStatement, Fields, Initializer, Items, JumpValue, Links, LoopNames, Operand, Primary, Run, Segments, Statement, Statements}
 use Rattle.rhai_grammar.specs.Definitions.{after_statement, catch_live, loop_live}
@@ -331,7 +331,10 @@ one_end Nothing s t u m n = sym m ∙ n
 one_end (Tok mode i others ▸ ds) s t u m n = one_end ds (past mode s) t u m.1 n.1
 one_end (Ahead i others ▸ ds) s t u m n = one_end ds s t u m.1 n.1
 one_end (Next v ▸ ds) s t u m n = one_end ds s t u m.1 n.1
+one_end (NextIn v ▸ ds) s t u m n = one_end ds s t u m.1 n.1
 one_end (Test holds d ▸ ds) s t u m n = one_end ds s t u m.1 n.1
+one_end (TestIn holds d ▸ ds) s t u m n = one_end ds s t u m.1 n.1
+one_end (Adds x ▸ ds) s t u m n = one_end ds (adding x s) t u m.1 n.1
 one_end (Shape holds ▸ ds) s t u m n = one_end ds s t u m.1 n.1
 one_end (Literally ds ▸ more) s t u m n =
     let same = one_end ds s n.0 m.0 n.1 m.1 in
@@ -347,6 +350,13 @@ met_or_missed (Next v ▸ ds) s t u e o h m (inl r) =
     let i = next_at M.code s in
     unrefused (verdict v i.lexeme) i.at e (ap is_refused m.0) r.0
 met_or_missed (Next v ▸ ds) s t u e o h m (inr n) = met_or_missed ds s t u e o h m.1 n.1
+met_or_missed (NextIn v ▸ ds) s t u e o h m (inl r) =
+    let i = next_at M.code s in
+    unrefused (verdict (v s.library) i.lexeme) i.at e (ap is_refused m.0) r.0
+met_or_missed (NextIn v ▸ ds) s t u e o h m (inr n) = met_or_missed ds s t u e o h m.1 n.1
+met_or_missed (TestIn holds d ▸ ds) s t u e o h m (inl r) = let a = m.0 in let b = r.0 in absurd cc
+met_or_missed (TestIn holds d ▸ ds) s t u e o h m (inr n) = met_or_missed ds s t u e o h m.1 n.1
+met_or_missed (Adds x ▸ ds) s t u e o h m n = met_or_missed ds (adding x s) t u e o h m.1 n.1
 met_or_missed (Test holds d ▸ ds) s t u e o h m (inl r) = let a = m.0 in let b = r.0 in absurd cc
 met_or_missed (Test holds d ▸ ds) s t u e o h m (inr n) = met_or_missed ds s t u e o h m.1 n.1
 met_or_missed (Shape holds ▸ ds) s t u e o h m n = met_or_missed ds s t u e o (h m.0) m.1 n.1

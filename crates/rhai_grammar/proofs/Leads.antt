@@ -15,7 +15,8 @@ use Rattle.rhai_grammar.specs.Constructs.{guard_fault, iterated_fault}
 use Rattle.rhai_grammar.specs.Contexts.{Context, Live, in_block, level_up, loop_body}
 use Rattle.rhai_grammar.specs.Definitions.{after_statement, catch_live, loop_live}
 use Rattle.rhai_grammar.specs.Delivered.{Mode, code, Item, Taken, is_end}
-use Rattle.rhai_grammar.specs.Demands.{◌▸◌, Ahead, Demands, Literally, Next, Nothing, Shape, Test, Tok, Verdict}
+use Rattle.rhai_grammar.specs.Demands.{◌▸◌, Adds, Ahead, Demands, Literally, Next, NextIn, Nothing, Shape, Test, TestIn, Tok, Verdict}
+use Rattle.rhai_grammar.specs.Libraries.{Ended, Library}
 use Rattle.rhai_grammar.specs.Forms as form
 use Rattle.rhai_grammar.specs.Forms.{Arguments, Base, Body, Elements, ExprStatement, Fields, Initializer, Items, Links}
 use Rattle.rhai_grammar.specs.Forms.{Branch, CatchName, Conditional, Construct, JumpValue, LoopNames, Operand, Primary}
@@ -57,6 +58,12 @@ pub data Leads : Mode → Mode → List Taken → Demands → Demands → Type 0
       → Leads code n ts ds k → Leads code n ts (Ahead i v ▸ ds) k
   next : {n : Mode} {ts : List Taken} {v : Lexeme → Verdict} {ds k : Demands} → Leads code n ts ds k
       → Leads code n ts (Next v ▸ ds) k
+  next_in : {n : Mode} {ts : List Taken} {v : Library → Lexeme → Verdict} {ds k : Demands} → Leads code n ts ds k
+      → Leads code n ts (NextIn v ▸ ds) k
+  test_in : {m n : Mode} {ts : List Taken} {b : Library → Bool} {e : Refusal} {ds k : Demands} → Leads m n ts ds k
+      → Leads m n ts (TestIn b e ▸ ds) k
+  adds : {m n : Mode} {ts : List Taken} {x : Ended} {ds k : Demands} → Leads m n ts ds k
+      → Leads m n ts (Adds x ▸ ds) k
   test : {m n : Mode} {ts : List Taken} {b : Bool} {e : Refusal} {ds k : Demands} → Leads m n ts ds k
       → Leads m n ts (Test b e ▸ ds) k
   shape : {m n : Mode} {ts : List Taken} {b : Bool} {ds k : Demands} → (b ≡ true → Leads m n ts ds k)
@@ -73,6 +80,9 @@ on (tok r) h = tok (on r h)
 on (ahead e r) h = ahead e (on r h)
 on (next r) h = next (on r h)
 on (test r) h = test (on r h)
+on (next_in r) h = next_in (on r h)
+on (test_in r) h = test_in (on r h)
+on (adds r) h = adds (on r h)
 on (shape f) h = shape (λ e. on (f e) h)
 on {m = m} {o = o} {b = b} {j = j} (literally {a = x} {b = y} {ds = ds} {more = more} p r) h =
     subst (λ ts. Leads m o ts (Literally ds ▸ more) j) (sym (append_assoc x y b)) (literally p (on r h))
@@ -151,7 +161,7 @@ mutual
   pub primary : (x : Primary) (c : Context) (w : Live) (p : OperandPlace) (k : Demands)
       → Leads code code (primary_spelling x) (W.primary x c w p k) k
   primary (form.Value token at) c w p k = shape (λ e. tok here)
-  primary (form.Named name at) c w p k = tok (next here)
+  primary (form.Named name at) c w p k = tok (next_in here)
   primary (form.Word word at) c w p k = tok (next here)
   primary (form.Group opening inside closing) c w p k = tok (test (on (expressed inside (level_up c) w (run inside _ _)) (tok here)))
   primary (form.Array opening list) c w p k = tok (test (elements list 0 (level_up c) w opening k))

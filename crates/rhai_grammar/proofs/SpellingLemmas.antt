@@ -12,7 +12,7 @@ use Rattle.rhai_lower.specs.declared.token.Token.TheVariants as token
 use Rattle.rhai_grammar.specs.Causes.{Cause}
 use Rattle.rhai_grammar.specs.Beginnings.{unexpected}
 use Rattle.rhai_grammar.specs.Delivered as M
-use Rattle.rhai_grammar.specs.Delivered.{Mode, Point, Tokens, Ends, Then, Taken, ask, later, past, next_at, is_end, is_memory}
+use Rattle.rhai_grammar.specs.Delivered.{Mode, Point, Tokens, Ends, Then, Taken, adding, ask, later, past, next_at, is_end, is_memory}
 use Rattle.rhai_grammar.specs.Seen.{Gives, leads}
 use Rattle.rhai_grammar.specs.Contexts.{Context, Live, level_up}
 use Rattle.rhai_grammar.specs.Forms as form
@@ -32,7 +32,7 @@ use Rattle.rhai_grammar.specs.Statements as S
 use Rattle.rhai_grammar.specs.declared.role.Closing.TheVariants.{EndMark}
 use Rattle.rhai_grammar.proofs.Leads as L
 use Rattle.rhai_grammar.proofs.SeenLemmas.{both, leads_on}
-use Rattle.rhai_grammar.proofs.Leads.{Leads, ahead, all_of, expressed, here, literally, next, on, shape, test, tok}
+use Rattle.rhai_grammar.proofs.Leads.{Leads, adds, ahead, all_of, expressed, here, literally, next, next_in, on, shape, test, test_in, tok}
 
 -- the tokens taken from one point of a stream to another
 abbrev Way : List Taken → Tokens → Tokens → Type 0
@@ -60,6 +60,11 @@ spelled (tok {m = mode} h) s t m =
 spelled (ahead e h) s t m = spelled h s t m.1
 spelled (next h) s t m = spelled h s t m.1
 spelled (test h) s t m = spelled h s t m.1
+spelled (next_in h) s t m = spelled h s t m.1
+spelled (test_in h) s t m = spelled h s t m.1
+spelled (adds {x = x} h) s t m =
+    let r = spelled h (adding x s) t m.1 in
+    record { end = r.end; met = r.met; way = r.way }
 spelled (shape f) s t m = spelled (f m.0) s t m.1
 spelled (literally {a = a} {b = b} {more = more} p r) s t m =
     let first = spelled p s m.0 m.1 in

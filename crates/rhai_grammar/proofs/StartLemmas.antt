@@ -71,7 +71,7 @@ stream [] = Ends here
 stream (l ∷ ls) = let rest = stream ls in Then (item l here) (item l here) rest rest
 
 abbrev unread : List Lexeme → Point
-unread ls = record { tokens = stream ls; taken = [] }
+unread ls = record { tokens = stream ls; taken = []; library = [] }
 
 -- the point after as many tokens in code mode
 abbrev after : List Lexeme → Point → Point

@@ -1,5 +1,6 @@
 -- The delivered stream, and what was taken of it.
 use Rattle.std.specs.Prelude.{◌≡◌, Bool, true, false, List, ◌∷◌, refl}
+use Rattle.rhai_grammar.specs.Libraries.{Ended, Library, with_ended}
 use Rattle.rhai_lower.specs.Positions.{place}
 use Rattle.rhai_lower.specs.Lexemes.{Lexeme, Faulty, Sign, NoMemory}
 use Rattle.rhai_lower.specs.declared.position.Position.{Position}
@@ -54,10 +55,11 @@ pub record Taken : Type 0 where
   pub mode : Mode
   pub item : Item
 
--- what is left of a stream, and what was taken of it, the latest token first
+-- what is left of a stream, what was taken of it, the latest token first, and the functions that have ended
 pub record Point : Type 0 where
   pub tokens : Tokens
   pub taken : List Taken
+  pub library : Library
 
 -- the next token at a point, requested in a mode
 abbrev pub next_at : Mode → Point → Item
@@ -65,7 +67,14 @@ next_at m s = ask m s.tokens
 
 -- the point after one more token
 abbrev pub past : Mode → Point → Point
-past m s = record { tokens = later m s.tokens; taken = record { mode = m; item = ask m s.tokens } ∷ s.taken }
+past m s = record s {
+  tokens = later m s.tokens;
+  taken = record { mode = m; item = ask m s.tokens } ∷ s.taken;
+}
+
+-- the point after one more function has ended
+abbrev pub adding : Ended → Point → Point
+adding ended s = record s { library = with_ended s.library ended }
 
 abbrev example_tokens : Tokens
 example_tokens =

@@ -4,7 +4,8 @@ use mathlib.Core.Logic.{inl}
 use Rattle.rhai_lower.specs.Lexemes.{Lexeme}
 use Rattle.rhai_lower.specs.declared.position.Position.{Position}
 use Rattle.rhai_grammar.specs.Causes.{Cause, ExprTooDeep, Refusal, as_literal, no_literal, refusal}
-use Rattle.rhai_grammar.specs.Delivered.{Mode, code, Item, Point, next_at, past, is_memory}
+use Rattle.rhai_grammar.specs.Delivered.{Mode, code, Item, Point, adding, next_at, past, is_memory}
+use Rattle.rhai_grammar.specs.Libraries.{Ended, Library}
 
 -- what follows from a token in place of a required one
 pub data Verdict : Type 0 where
@@ -27,8 +28,14 @@ mutual
     Ahead : Item → (others : Lexeme → Verdict) → Demand
     -- a test of the next token, which is not taken
     Next : (Lexeme → Verdict) → Demand
+    -- such a test, which knows the functions that have ended
+    NextIn : (Library → Lexeme → Verdict) → Demand
     -- a test of what was parsed, and the error if it fails
     Test : Bool → Refusal → Demand
+    -- a test of the functions that have ended, and the error if it fails
+    TestIn : (Library → Bool) → Refusal → Demand
+    -- one more function ends here
+    Adds : Ended → Demand
     -- a condition on the form; no error belongs to it
     Shape : Bool → Demand
     -- These demands are met, one after the other. Where one of them is missed, the error is that a literal is expected,
@@ -51,7 +58,11 @@ Met Nothing start end = start ≡ end
 Met (Tok mode token others ▸ rest) start end = (next_at mode start ≡ token) × Met rest (past mode start) end
 Met (Ahead token others ▸ rest) start end = (next_at code start ≡ token) × Met rest start end
 Met (Next test ▸ rest) start end = (verdict test (next_at code start).lexeme ≡ Fine) × Met rest start end
+Met (NextIn test ▸ rest) start end =
+    (verdict (test start.library) (next_at code start).lexeme ≡ Fine) × Met rest start end
 Met (Test holds why ▸ rest) start end = (holds ≡ true) × Met rest start end
+Met (TestIn holds why ▸ rest) start end = (holds start.library ≡ true) × Met rest start end
+Met (Adds ended ▸ rest) start end = Unit {0} × Met rest (adding ended start) end
 Met (Shape holds ▸ rest) start end = (holds ≡ true) × Met rest start end
 Met (Literally inner ▸ rest) start end = (between : Point) × Met inner start between × Met rest between end
 
@@ -79,9 +90,16 @@ Missed (Ahead token others ▸ rest) start error mode end =
 Missed (Next test ▸ rest) start error mode end =
     (Refused test (next_at code start) error × (mode ≡ code) × (end ≡ start))
     ⊎ ((verdict test (next_at code start).lexeme ≡ Fine) × Missed rest start error mode end)
+Missed (NextIn test ▸ rest) start error mode end =
+    (Refused (test start.library) (next_at code start) error × (mode ≡ code) × (end ≡ start))
+    ⊎ ((verdict (test start.library) (next_at code start).lexeme ≡ Fine) × Missed rest start error mode end)
 Missed (Test holds why ▸ rest) start error mode end =
     ((holds ≡ false) × (error ≡ why) × (mode ≡ code) × (end ≡ start))
     ⊎ ((holds ≡ true) × Missed rest start error mode end)
+Missed (TestIn holds why ▸ rest) start error mode end =
+    ((holds start.library ≡ false) × (error ≡ why) × (mode ≡ code) × (end ≡ start))
+    ⊎ ((holds start.library ≡ true) × Missed rest start error mode end)
+Missed (Adds ended ▸ rest) start error mode end = Unit {0} × Missed rest (adding ended start) error mode end
 Missed (Shape holds ▸ rest) start error mode end = (holds ≡ true) × Missed rest start error mode end
 Missed (Literally inner ▸ rest) start error mode end =
     ((why : Refusal) × Missed inner start why mode end × (error ≡ as_literal why))

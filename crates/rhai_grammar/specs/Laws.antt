@@ -15,9 +15,10 @@ use Rattle.rhai_grammar.specs.Definitions.{after_statements}
 use Rattle.rhai_grammar.specs.Shapes.{run_shape, node_shape, script_shape, statements_shape}
 use Rattle.rhai_grammar.specs.Spelling.{script_spelling, spelling, IsDelivered}
 use Rattle.rhai_grammar.specs.Demands.{Verdict, Wrong, Blames, Demands, Nothing, Tok, Ahead, Next, Test, Shape}
-use Rattle.rhai_grammar.specs.Demands.{◌▸◌, Literally}
+use Rattle.rhai_grammar.specs.Demands.{◌▸◌, Adds, Literally, NextIn, TestIn}
 use Rattle.rhai_grammar.specs.Demands.{verdict, Met, Missed}
-use Rattle.rhai_grammar.specs.Promises.{IsWritten, expressions, scripts}
+use Rattle.rhai_grammar.specs.Promises.{IsWritten, IsWrittenTo, expressions, scripts}
+use Rattle.rhai_grammar.specs.Libraries.{Library}
 
 -- A form whose demands are met is spelled by the tokens that were taken.
 abbrev AreSpelled : {F : Type 0} → (whole : F → Demands) → (spelled : F → List Taken) → Type 0
@@ -29,12 +30,12 @@ pub record FormsAreSpelled : Type 0 where
   pub expression : (context : Context) (live : Live) → AreSpelled (expressions context live) spelling
   pub script : (context : Context) (live : Live) → AreSpelled (scripts context live) script_spelling
 
--- A form that fits on one stream fits on every stream that begins with its spelling and goes on with the
--- end mark. What else these streams would deliver, as in text mode, and the position of the end mark make no
--- difference.
+-- A form that fits on one stream fits, after the same functions, on every stream that begins with its spelling and goes
+-- on with the end mark. What else these streams would deliver, as in text mode, and the position of the end mark make
+-- no difference.
 abbrev FitWhereverSpelled : {F : Type 0} → (whole : F → Demands) → (spelled : F → List Taken) → Type 0
 FitWhereverSpelled {F} whole spelled =
-    (f : F) (s t other : Point) → Met (whole f) s t
+    (f : F) (s t other : Point) → Met (whole f) s t → other.library ≡ s.library
     → Gives (spelled f) other.tokens → is_end (ask code (leads (spelled f) other.tokens)).lexeme ≡ true
     → (end : Point) × Met (whole f) other end
 
@@ -60,17 +61,19 @@ EntriesAreDelivered =
 -- Two forms that fit and spell the same stream have the same tree.
 abbrev pub FormsHaveOneTree : Type 0
 FormsHaveOneTree =
-    (context : Context) (live : Live) (s : Cursor) (f g : Run) → IsWritten (expressions context live) f s
-    → IsWritten (expressions context live) g s
+    (context : Context) (live : Live) (library : Library) (s : Cursor) (f g : Run)
+    → IsWritten (expressions context live) f library s → IsWritten (expressions context live) g library s
     → tree f live ≡ tree g live
 
--- Two scripts that fit and spell the same stream have the same statements, and leave the same slots and imports.
+-- Two scripts that fit after the same functions and spell the same stream have the same statements and functions, and
+-- leave the same slots and imports.
 abbrev pub ScriptsHaveOneTree : Type 0
 ScriptsHaveOneTree =
-    (context : Context) (live : Live) (s : Cursor) (fs gs : Statements) → IsWritten (scripts context live) fs s
-    → IsWritten (scripts context live) gs s
+    (context : Context) (live : Live) (before : Library) (s : Cursor) (fs gs : Statements) (after then : Library)
+    → IsWrittenTo (scripts context live) fs before after s → IsWrittenTo (scripts context live) gs before then s
     → (statement_trees fs live ≡ statement_trees gs live)
     × (after_statements fs live ≡ after_statements gs live)
+    × (after ≡ then)
 
 -- a verdict that is an error
 abbrev pub is_refused : Verdict → Bool
@@ -84,7 +87,10 @@ IsFair Nothing = Unit {0}
 IsFair (Tok m i others ▸ ds) = (is_refused (verdict others i.lexeme) ≡ false) × IsFair ds
 IsFair (Ahead i others ▸ ds) = (is_refused (verdict others i.lexeme) ≡ false) × IsFair ds
 IsFair (Next v ▸ ds) = IsFair ds
+IsFair (NextIn v ▸ ds) = IsFair ds
 IsFair (Test holds e ▸ ds) = IsFair ds
+IsFair (TestIn holds e ▸ ds) = IsFair ds
+IsFair (Adds ended ▸ ds) = IsFair ds
 IsFair (Shape holds ▸ ds) = holds ≡ true → IsFair ds
 IsFair (Literally ds ▸ more) = IsFair ds × IsFair more
 

@@ -12,6 +12,7 @@ use Rattle.rhai_grammar.specs.Causes.{Refusal, refusal}
 use Rattle.rhai_grammar.specs.Contexts.{Context, Live, is_strict}
 use Rattle.rhai_grammar.specs.Forms.{NoPath, Path, Scoped}
 use Rattle.rhai_grammar.specs.Imports.{is_among, module_number}
+use Rattle.rhai_grammar.specs.Libraries.{Library, is_function}
 use Rattle.rhai_grammar.specs.Slots.{number}
 
 -- ---- names with a path
@@ -54,10 +55,11 @@ is_qualified _ = false
 
 -- ---- what has to be known
 
--- Under strict variables a name that is used has a slot, or the caller gives it.
-abbrev pub may_use : Context → Live → Text → Bool
-may_use context live name =
-    not (is_strict context) || (is_some (number name live.slots) || is_declared name context.known.variables)
+-- Under strict variables a name that is used has a slot, is that of a function that has ended, or the caller gives it.
+abbrev pub may_use : Context → Live → Library → Text → Bool
+may_use context live library name =
+    not (is_strict context) || (is_some (number name live.slots)
+    || (is_function library name || is_declared name context.known.variables))
 
 -- Under strict variables the first name of a path is that of an import, here or around the script, `global`, or a
 -- module of the engine.

@@ -8,16 +8,22 @@ use Rattle.rhai_grammar.specs.Seen.{Readable, StandsAtLast}
 use Rattle.rhai_grammar.specs.Contexts.{Context, Live}
 use Rattle.rhai_grammar.specs.Forms.{Run, Statements}
 use Rattle.rhai_grammar.specs.Demands.{Demands, Met, Missed}
+use Rattle.rhai_grammar.specs.Libraries.{Library}
 use Rattle.rhai_grammar.specs.Written.{whole_expression, whole_script}
 use Rattle.rhai_grammar.specs.declared.error.ParseError.{ParseError}
 
--- the point at which parsing starts
-abbrev pub start_of : Cursor → Point
-start_of s = record { tokens = s.tokens; taken = [] }
+-- the point at which parsing starts, with these functions
+abbrev pub start_of : Library → Cursor → Point
+start_of library s = record { tokens = s.tokens; taken = []; library = library }
 
--- A form fits and spells a whole stream, up to its end mark; `whole` is what each form demands of it.
-abbrev pub IsWritten : {F : Type 0} → (whole : F → Demands) → F → Cursor → Type 0
-IsWritten whole f s = (t : Point) × Met (whole f) (start_of s) t
+-- A form fits after some functions and spells a whole stream, up to its end mark; `whole` is what each form demands of
+-- it.
+abbrev pub IsWritten : {F : Type 0} → (whole : F → Demands) → F → (before : Library) → Cursor → Type 0
+IsWritten whole f before s = (t : Point) × Met (whole f) (start_of before s) t
+
+-- the same, and these are the functions after it
+abbrev pub IsWrittenTo : {F : Type 0} → (whole : F → Demands) → F → (before after : Library) → Cursor → Type 0
+IsWrittenTo whole f before after s = (t : Point) × Met (whole f) (start_of before s) t × (t.library ≡ after)
 
 -- the forms of a stream that is one expression, and of a stream that is a script
 abbrev pub expressions : Context → Live → Run → Demands
@@ -68,43 +74,47 @@ UnlessMemory P (Err e) = is_for_memory e ≡ false → P true
 
 -- ---- refusals
 
--- A form misses its next demand at the place where the stream is now, with this error. The next request is in the mode
--- of that demand: in text mode where a text is missed, otherwise in code mode.
-pub record IsNamed {F : Type 0} (whole : F → Demands) (taken : List Taken) (start left : Cursor) (e : Refusal) :
-    Type 0
+-- A form misses its next demand at the place where the stream is now, with this error, and its functions that have
+-- ended are after those before. The next request is in the mode of that demand: in text mode where a text is missed,
+-- otherwise in code mode.
+pub record IsNamed {F : Type 0} (whole : F → Demands) (before after : Library) (taken : List Taken)
+    (start left : Cursor) (e : Refusal) : Type 0
   where
     pub form : F
-    pub missed : Missed (whole form) (start_of start) e left.mode (record {
+    pub missed : Missed (whole form) (start_of before start) e left.mode (record {
       tokens = left.tokens;
       taken = latest_first taken [];
+      library = after;
     })
     pub last : StandsAtLast e left
 
--- No form that fits begins with the tokens seen.
-abbrev pub NoneBegins : {F : Type 0} → (whole : F → Demands) → List Taken → Cursor → Type 0
-NoneBegins {F} whole taken left =
-    (f : F) (s : Cursor) → IsWritten whole f s → BeginsWith taken left s.tokens → ⊥
+-- No form that fits after these functions begins with the tokens seen.
+abbrev pub NoneBegins : {F : Type 0} → (whole : F → Demands) → (before : Library) → List Taken → Cursor → Type 0
+NoneBegins {F} whole before taken left =
+    (f : F) (s : Cursor) → IsWritten whole f before s → BeginsWith taken left s.tokens → ⊥
 
 -- a refusal after the tokens seen
-pub record IsRefused {F : Type 0} (whole : F → Demands) (taken : List Taken) (start left : Cursor) (e : Refusal) :
-    Type 0
+pub record IsRefused {F : Type 0} (whole : F → Demands) (before after : Library) (taken : List Taken)
+    (start left : Cursor) (e : Refusal) : Type 0
   where
     pub saw : Saw taken start left
-    pub named : IsNamed whole taken start left e
-    pub early : NoneBegins whole taken left
+    pub named : IsNamed whole before after taken start left e
+    pub early : NoneBegins whole before taken left
     pub memory : IsReadable taken left
 
 -- ---- the promise
 
--- What is promised of the result on a stream, where `left` is what is left of it, and `library` the functions at the
--- start. `whole` is what each form demands of the stream, and `Is` says that a result is the one of a form.
--- - `accepted`: with an empty library, a result is that of some form that fits and spells the whole stream;
--- - `only`: with an empty library, it is the result of each such form, unless memory ran out;
--- - `refused`: an error other than out of memory is one that a form gives after the tokens seen, and no form that fits
---   begins with these tokens.
-pub record ReadsWhole {L F X : Type 0} (library : List L) (whole : F → Demands) (Is : F → X → Type 0)
+-- What is promised of the result on a stream, where `left` is what is left of it, `before` the functions at the start,
+-- and `after` those that there are then. `whole` is what each form demands of the stream, and `Is` says that a result
+-- is the one of a form.
+-- - `accepted`: a result is that of some form that fits and spells the whole stream, and so are the functions;
+-- - `only`: it is the result of each such form, and so are the functions, unless memory ran out;
+-- - `refused`: an error other than out of memory is one that a form gives after the tokens seen, with the functions
+--   that had ended there, and no form that fits begins with these tokens.
+pub record ReadsWhole {F X : Type 0} (whole : F → Demands) (Is : F → X → Type 0) (before after : Library)
     (start left : Cursor) (result : Result X ParseError) : Type 0 where
-  pub accepted : library ≡ [] → IfOk result (λ x. (f : F) × IsWritten whole f start × Is f x)
-  pub only : library ≡ [] → (f : F) → IsWritten whole f start → Returns (Is f) result
+  pub accepted : IfOk result (λ x. (f : F) × IsWrittenTo whole f before after start × Is f x)
+  pub only : (f : F) (then : Library) → IsWrittenTo whole f before then start
+      → Returns (λ x. Is f x × (after ≡ then)) result
   pub refused : IfErr result (λ e. is_for_memory e ≡ false
-      → (taken : List Taken) × IsRefused whole taken start left (refusal_of e))
+      → (taken : List Taken) × IsRefused whole before after taken start left (refusal_of e))

@@ -10,6 +10,7 @@ use Rattle.rhai_grammar.specs.Causes.{Cause, Refusal, refusal}
 use Rattle.rhai_grammar.specs.Delivered.{is_end}
 use Rattle.rhai_grammar.specs.Settings.{Settings, in_function, quoted_keys}
 use Rattle.rhai_grammar.specs.DueTokens.{is_due, not_due}
+use Rattle.rhai_grammar.specs.Libraries.{Library}
 use Rattle.rhai_grammar.specs.declared.due.DueToken.{DueToken}
 use Rattle.rhai_grammar.specs.Contexts.{Context, Live, full, has_room}
 use Rattle.rhai_grammar.specs.Beginnings.{beginning, no_operand, unexpected, missing}
@@ -55,9 +56,9 @@ abbrev pub anything : Lexeme → Verdict
 anything token = Otherwise
 
 -- After a name: what makes it no use of a variable. A variable that is used may have to be known.
-abbrev pub after_name : Context → Live → Text → Position → Lexeme → Verdict
-after_name context live name at token =
-    if excludes_use token || may_use context live name then Fine else
+abbrev pub after_name : Context → Live → Text → Position → Library → Lexeme → Verdict
+after_name context live name at library token =
+    if excludes_use token || may_use context live library name then Fine else
     Blames (refusal (cause.VariableUndefined name) at)
 
 -- After a reserved word: what calls it, if it may be called. In a function `this` may be followed by anything.

@@ -32,7 +32,7 @@ use Rattle.rhai_grammar.specs.Trees.{is_variable, bracket_link, member_link, met
 use Rattle.rhai_grammar.specs.Trees.{argument_trees, named_tree, operand_tree, statement_tree, tree}
 use Rattle.rhai_grammar.specs.Modules.{is_qualified, is_scoped, module_fault}
 use Rattle.rhai_grammar.specs.Chains.{index_refusal, last_fault}
-use Rattle.rhai_grammar.specs.Demands.{Verdict, Demands, Nothing, Tok, Ahead, Next}
+use Rattle.rhai_grammar.specs.Demands.{Verdict, Demands, Nothing, Tok, Ahead, Next, NextIn}
 use Rattle.rhai_grammar.specs.Demands.{Test, Shape, ◌▸◌}
 use Rattle.rhai_grammar.specs.Verdicts.{operand_due, anything, after_name, after_word, uncalled, unlinked, member_due}
 use Rattle.rhai_grammar.specs.Verdicts.{uncalled_member, list_due, close_or_argument, argument_due}
@@ -63,7 +63,8 @@ abbrev mutual
   primary (form.Value token at) context live place more =
       Shape (is_value (beginning token)) ▸ Tok code (item token at) (operand_due context place) ▸ more
   primary (form.Named name at) context live place more =
-      Tok code (item (Name name) at) (operand_due context place) ▸ Next (after_name context live name at) ▸ more
+      Tok code (item (Name name) at) (operand_due context place) ▸
+      NextIn (after_name context live name at) ▸ more
   primary (form.Word word at) context live place more =
       Tok code (item (Reserved word) at) (operand_due context place) ▸ Next (after_word context word at) ▸ more
   primary (form.Group opening inside closing) context live place more =

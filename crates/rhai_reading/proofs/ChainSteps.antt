@@ -7,7 +7,8 @@ use Rattle.rhai_grammar.specs.declared.role.Linking.TheVariants as link
 use Rattle.rhai_grammar.specs.Beginnings.{AMember, linking, member_place}
 use Rattle.rhai_grammar.specs.Causes.{refusal, ExprTooDeep, out_of_memory}
 use Rattle.rhai_grammar.specs.Contexts.{Context, Live, has_room, level_up}
-use Rattle.rhai_grammar.specs.Cursors.{Cursor, asked, looking, taking, left}
+use Rattle.rhai_grammar.specs.Cursors.{left}
+use Rattle.rhai_reading.specs.Running.{Progress, asked, looking, taking}
 use Rattle.rhai_grammar.specs.Delivered.{Item, item, is_end, is_memory}
 use Rattle.rhai_grammar.specs.Trees.{bracket_link, member_link}
 use Rattle.rhai_grammar.specs.Spots.{LinkSpot, spot_after_bracket, spot_after_dot}
@@ -17,17 +18,17 @@ use Rattle.rhai_reading.specs.Running.{exec, result_of, guarded}
 use Rattle.rhai_reading.proofs.Steps.{step_links, guarded_is, and_then_done}
 
 -- From s a dot stands, whose member x ends at t.
-pub record TakesDot (w : Live) (q : LinkSpot) (x : Node) (s t : Cursor) : Type 0 where
+pub record TakesDot (w : Live) (q : LinkSpot) (x : Node) (s t : Progress) : Type 0 where
   pub readable : is_memory (asked s).lexeme ≡ false
   pub dot : linking (asked s).lexeme ≡ link.Dot
   pub readable_on : is_memory (asked (taking s)).lexeme ≡ false
   pub due : member_place (asked (taking s)).lexeme ≡ AMember
   pub room : has_room q.settings ≡ true
   pub member : result_of (Member (level_up q.settings) w) (looking (taking s)) ≡ R.Done x t
-  pub after_dot : left (taking s).tokens + 1 ≤ left s.tokens
-  pub after_member : left t.tokens + 1 ≤ left s.tokens
+  pub after_dot : left (taking s).tokens + 1 ≤ left s.cursor.tokens
+  pub after_member : left t.cursor.tokens + 1 ≤ left s.cursor.tokens
 
-pub dot_taken : (w : Live) (q : LinkSpot) (x : Node) (s t : Cursor) → TakesDot w q x s t → result_of (Links w q) s ≡ result_of (Links w (spot_after_dot q (member_link (asked s).lexeme (asked s).at x))) t
+pub dot_taken : (w : Live) (q : LinkSpot) (x : Node) (s t : Progress) → TakesDot w q x s t → result_of (Links w q) s ≡ result_of (Links w (spot_after_dot q (member_link (asked s).lexeme (asked s).at x))) t
 dot_taken w q x s t h =
     let g = Links w q in
     let call = guarded g s in
@@ -48,32 +49,32 @@ dot_taken w q x s t h =
     ∙ guarded_is g s on t (omega (arith, h.after_member))
 
 -- A dot with its member, as the code takes it: each step leaves a cursor, and none leaves more tokens than there were.
-pub record DotTaken (d : Context) (w : Live) (q next : LinkSpot) (l : Lexeme) (at : Position) (x : Node) (s s1 s2 s3 t : Cursor) : Type 0 where
+pub record DotTaken (d : Context) (w : Live) (q next : LinkSpot) (l : Lexeme) (at : Position) (x : Node) (s s1 s2 s3 t : Progress) : Type 0 where
   pub token : item l at ≡ asked s
   pub readable : is_memory (asked s).lexeme ≡ false
   pub dot : linking l ≡ link.Dot
   pub more : is_end l ≡ false
   pub look : s1 ≡ looking s
   pub took : s2 ≡ taking s1
-  pub shrinks : is_end (asked s1).lexeme ≡ false → left s2.tokens + 1 ≤ left s1.tokens
+  pub shrinks : is_end (asked s1).lexeme ≡ false → left s2.cursor.tokens + 1 ≤ left s1.cursor.tokens
   pub readable_on : is_memory (asked s2).lexeme ≡ false
   pub due : member_place (asked s2).lexeme ≡ AMember
   pub look_on : s3 ≡ looking s2
   pub room : has_room q.settings ≡ true
   pub deeper : d ≡ level_up q.settings
   pub member : result_of (Member d w) s3 ≡ R.Done x t
-  pub member_short : left t.tokens ≤ left s3.tokens
+  pub member_short : left t.cursor.tokens ≤ left s3.cursor.tokens
   pub joined : next ≡ record { settings = d; brackets = d; indexed = None; before = q.before ++ (member_link l at x ∷ []) }
 
-pub dot_short : {d : Context} {w : Live} {q next : LinkSpot} {l : Lexeme} {at : Position} {x : Node} {s s1 s2 s3 t : Cursor} → DotTaken d w q next l at x s s1 s2 s3 t → (left s2.tokens + 1 ≤ left s.tokens) × (left t.tokens + 1 ≤ left s.tokens)
+pub dot_short : {d : Context} {w : Live} {q next : LinkSpot} {l : Lexeme} {at : Position} {x : Node} {s s1 s2 s3 t : Progress} → DotTaken d w q next l at x s s1 s2 s3 t → (left s2.cursor.tokens + 1 ≤ left s.cursor.tokens) × (left t.cursor.tokens + 1 ≤ left s.cursor.tokens)
 dot_short {d} {w} {q} {next} {l} {at} {x} {s} {s1} {s2} {s3} {t} h =
-    let more : is_end (asked s1).lexeme ≡ false = ap (λ (u : Cursor). is_end (asked u).lexeme) h.look ∙ ap (λ (i : Item). is_end i.lexeme) (sym h.token) ∙ h.more in
-    let same : left s1.tokens ≡ left s.tokens = ap (λ (u : Cursor). left u.tokens) h.look in
-    let same_on : left s3.tokens ≡ left s2.tokens = ap (λ (u : Cursor). left u.tokens) h.look_on in
+    let more : is_end (asked s1).lexeme ≡ false = ap (λ (u : Progress). is_end (asked u).lexeme) h.look ∙ ap (λ (i : Item). is_end i.lexeme) (sym h.token) ∙ h.more in
+    let same : left s1.cursor.tokens ≡ left s.cursor.tokens = ap (λ (u : Progress). left u.cursor.tokens) h.look in
+    let same_on : left s3.cursor.tokens ≡ left s2.cursor.tokens = ap (λ (u : Progress). left u.cursor.tokens) h.look_on in
     let less = h.shrinks more in
     (omega (arith, same, less), omega (arith, same, less, same_on, h.member_short))
 
-pub dot_goes_on : {d : Context} {w : Live} {q next : LinkSpot} {l : Lexeme} {at : Position} {x : Node} {s s1 s2 s3 t : Cursor} → DotTaken d w q next l at x s s1 s2 s3 t → result_of (Links w q) s ≡ result_of (Links w next) t
+pub dot_goes_on : {d : Context} {w : Live} {q next : LinkSpot} {l : Lexeme} {at : Position} {x : Node} {s s1 s2 s3 t : Progress} → DotTaken d w q next l at x s s1 s2 s3 t → result_of (Links w q) s ≡ result_of (Links w next) t
 dot_goes_on {d} {w} {q} {next} {l} {at} {x} {s} {s1} {s2} {s3} {t} h =
     let there : s2 ≡ taking s = h.took ∙ ap taking h.look in
     let looked : s3 ≡ looking (taking s) = h.look_on ∙ ap looking there in
@@ -81,11 +82,11 @@ dot_goes_on {d} {w} {q} {next} {l} {at} {x} {s} {s1} {s2} {s3} {t} h =
     let taken : TakesDot w q x s t = record {
       readable = h.readable;
       dot = ap (λ (i : Item). linking i.lexeme) (sym h.token) ∙ h.dot;
-      readable_on = ap (λ (u : Cursor). is_memory (asked u).lexeme) (sym there) ∙ h.readable_on;
-      due = ap (λ (u : Cursor). member_place (asked u).lexeme) (sym there) ∙ h.due;
+      readable_on = ap (λ (u : Progress). is_memory (asked u).lexeme) (sym there) ∙ h.readable_on;
+      due = ap (λ (u : Progress). member_place (asked u).lexeme) (sym there) ∙ h.due;
       room = h.room;
       member = ap (λ (f : Context). result_of (Member f w) (looking (taking s))) (sym h.deeper) ∙ ap (result_of (Member d w)) (sym looked) ∙ h.member;
-      after_dot = subst (λ (u : Cursor). left u.tokens + 1 ≤ left s.tokens) there short.0;
+      after_dot = subst (λ (u : Progress). left u.cursor.tokens + 1 ≤ left s.cursor.tokens) there short.0;
       after_member = short.1;
     } in
     dot_taken w q x s t taken
@@ -96,16 +97,16 @@ dot_goes_on {d} {w} {q} {next} {l} {at} {x} {s} {s1} {s2} {s3} {t} h =
 -- ---- brackets
 
 -- From s a bracket stands, whose index x ends at t.
-record TakesBracket (w : Live) (q : LinkSpot) (x : Node) (s t : Cursor) : Type 0 where
+record TakesBracket (w : Live) (q : LinkSpot) (x : Node) (s t : Progress) : Type 0 where
   readable : is_memory (asked s).lexeme ≡ false
   bracket : linking (asked s).lexeme ≡ link.Bracket
   room : has_room q.brackets ≡ true
   room_on : has_room (level_up q.brackets) ≡ true
   index : result_of (Index (level_up (level_up q.brackets)) w q.indexed) (taking s) ≡ R.Done x t
-  after_bracket : left (taking s).tokens + 1 ≤ left s.tokens
-  after_index : left t.tokens + 1 ≤ left s.tokens
+  after_bracket : left (taking s).tokens + 1 ≤ left s.cursor.tokens
+  after_index : left t.cursor.tokens + 1 ≤ left s.cursor.tokens
 
-bracket_taken : (w : Live) (q : LinkSpot) (x : Node) (s t : Cursor) → TakesBracket w q x s t → result_of (Links w q) s ≡ result_of (Links w (spot_after_bracket q (bracket_link (asked s).lexeme (asked s).at x))) t
+bracket_taken : (w : Live) (q : LinkSpot) (x : Node) (s t : Progress) → TakesBracket w q x s t → result_of (Links w q) s ≡ result_of (Links w (spot_after_bracket q (bracket_link (asked s).lexeme (asked s).at x))) t
 bracket_taken w q x s t h =
     let g = Links w q in
     let call = guarded g s in
@@ -126,30 +127,30 @@ bracket_taken w q x s t h =
     ∙ guarded_is g s on t (omega (arith, h.after_index))
 
 -- A bracket with its index, as the code takes it: each step leaves a cursor, and none leaves more tokens than there were.
-pub record BracketTaken (d e : Context) (w : Live) (q next : LinkSpot) (l : Lexeme) (at : Position) (x : Node) (s s1 s2 t : Cursor) : Type 0 where
+pub record BracketTaken (d e : Context) (w : Live) (q next : LinkSpot) (l : Lexeme) (at : Position) (x : Node) (s s1 s2 t : Progress) : Type 0 where
   pub token : item l at ≡ asked s
   pub readable : is_memory (asked s).lexeme ≡ false
   pub bracket : linking l ≡ link.Bracket
   pub more : is_end l ≡ false
   pub look : s1 ≡ looking s
   pub took : s2 ≡ taking s1
-  pub shrinks : is_end (asked s1).lexeme ≡ false → left s2.tokens + 1 ≤ left s1.tokens
+  pub shrinks : is_end (asked s1).lexeme ≡ false → left s2.cursor.tokens + 1 ≤ left s1.cursor.tokens
   pub room : has_room q.brackets ≡ true
   pub deeper : d ≡ level_up q.brackets
   pub room_on : has_room d ≡ true
   pub inside : e ≡ level_up d
   pub index : result_of (Index e w q.indexed) s2 ≡ R.Done x t
-  pub index_short : left t.tokens ≤ left s2.tokens
+  pub index_short : left t.cursor.tokens ≤ left s2.cursor.tokens
   pub joined : next ≡ record { settings = q.settings; brackets = d; indexed = None; before = q.before ++ (bracket_link l at x ∷ []) }
 
-pub bracket_short : {d e : Context} {w : Live} {q next : LinkSpot} {l : Lexeme} {at : Position} {x : Node} {s s1 s2 t : Cursor} → BracketTaken d e w q next l at x s s1 s2 t → (left s2.tokens + 1 ≤ left s.tokens) × (left t.tokens + 1 ≤ left s.tokens)
+pub bracket_short : {d e : Context} {w : Live} {q next : LinkSpot} {l : Lexeme} {at : Position} {x : Node} {s s1 s2 t : Progress} → BracketTaken d e w q next l at x s s1 s2 t → (left s2.cursor.tokens + 1 ≤ left s.cursor.tokens) × (left t.cursor.tokens + 1 ≤ left s.cursor.tokens)
 bracket_short {d} {e} {w} {q} {next} {l} {at} {x} {s} {s1} {s2} {t} h =
-    let more : is_end (asked s1).lexeme ≡ false = ap (λ (u : Cursor). is_end (asked u).lexeme) h.look ∙ ap (λ (i : Item). is_end i.lexeme) (sym h.token) ∙ h.more in
-    let same : left s1.tokens ≡ left s.tokens = ap (λ (u : Cursor). left u.tokens) h.look in
+    let more : is_end (asked s1).lexeme ≡ false = ap (λ (u : Progress). is_end (asked u).lexeme) h.look ∙ ap (λ (i : Item). is_end i.lexeme) (sym h.token) ∙ h.more in
+    let same : left s1.cursor.tokens ≡ left s.cursor.tokens = ap (λ (u : Progress). left u.cursor.tokens) h.look in
     let less = h.shrinks more in
     (omega (arith, same, less), omega (arith, same, less, h.index_short))
 
-pub bracket_goes_on : {d e : Context} {w : Live} {q next : LinkSpot} {l : Lexeme} {at : Position} {x : Node} {s s1 s2 t : Cursor} → BracketTaken d e w q next l at x s s1 s2 t → result_of (Links w q) s ≡ result_of (Links w next) t
+pub bracket_goes_on : {d e : Context} {w : Live} {q next : LinkSpot} {l : Lexeme} {at : Position} {x : Node} {s s1 s2 t : Progress} → BracketTaken d e w q next l at x s s1 s2 t → result_of (Links w q) s ≡ result_of (Links w next) t
 bracket_goes_on {d} {e} {w} {q} {next} {l} {at} {x} {s} {s1} {s2} {t} h =
     let there : s2 ≡ taking s = h.took ∙ ap taking h.look in
     let short = bracket_short h in
@@ -160,7 +161,7 @@ bracket_goes_on {d} {e} {w} {q} {next} {l} {at} {x} {s} {s1} {s2} {t} h =
       room = h.room;
       room_on = ap has_room (sym h.deeper) ∙ h.room_on;
       index = ap (λ (f : Context). result_of (Index f w q.indexed) (taking s)) (sym twice) ∙ ap (result_of (Index e w q.indexed)) (sym there) ∙ h.index;
-      after_bracket = subst (λ (u : Cursor). left u.tokens + 1 ≤ left s.tokens) there short.0;
+      after_bracket = subst (λ (u : Progress). left u.cursor.tokens + 1 ≤ left s.cursor.tokens) there short.0;
       after_index = short.1;
     } in
     bracket_taken w q x s t taken

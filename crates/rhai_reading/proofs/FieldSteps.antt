@@ -8,7 +8,8 @@ use Rattle.rhai_grammar.specs.declared.list.AfterPart.TheVariants.{Comma}
 use Rattle.rhai_grammar.specs.declared.list.CommaList.TheVariants as lists
 use Rattle.rhai_grammar.specs.Causes.{ExprTooDeep, refusal, out_of_memory}
 use Rattle.rhai_grammar.specs.Contexts.{Context, Live, has_room, level_up}
-use Rattle.rhai_grammar.specs.Cursors.{Cursor, asked, looking, taking, left}
+use Rattle.rhai_grammar.specs.Cursors.{left}
+use Rattle.rhai_reading.specs.Running.{Progress, asked, looking, taking}
 use Rattle.rhai_grammar.specs.Delivered.{is_memory}
 use Rattle.rhai_reading.specs.Reading.{Ret, Fail, Call, Expression, Fields, NextKey, part_next, field_next, field_on}
 use Rattle.rhai_reading.specs.Running as R
@@ -16,7 +17,7 @@ use Rattle.rhai_reading.specs.Running.{exec, result_of, guarded}
 use Rattle.rhai_reading.proofs.Steps.{step_fields, guarded_is, and_then_done}
 
 -- the equation of the properties of an object map, with the key as the code asks for it
-pub step_fields_key : (c : Context) (w : Live) (at : Position) (before : Properties) (s : Cursor)
+pub step_fields_key : (c : Context) (w : Live) (at : Position) (before : Properties) (s : Progress)
     → result_of (Fields c w at before) s ≡ R.and_then (result_of (NextKey c before) s) (λ v t. exec (guarded (Fields c w at before) s) (field_on c w at before v) t)
 step_fields_key c w at before s =
     let g = Fields c w at before in
@@ -24,16 +25,16 @@ step_fields_key c w at before s =
     ∙ ap (λ o. R.and_then o (λ v t. exec (guarded g s) (field_on c w at before v) t)) (guarded_is g s (NextKey c before) s (omega arith))
 
 -- From s a property with this key and the value x stands, and a comma after it, after which the code is at t.
-pub record TakesField (c : Context) (w : Live) (before : Properties) (key : Text × Position) (x : Node) (s s1 s2 : Cursor) : Type 0 where
+pub record TakesField (c : Context) (w : Live) (before : Properties) (key : Text × Position) (x : Node) (s s1 s2 : Progress) : Type 0 where
   pub key_read : result_of (NextKey c before) s ≡ R.Done (Some key) s1
   pub room : has_room c ≡ true
   pub value : result_of (Expression (level_up c) w) s1 ≡ R.Done x s2
   pub readable : is_memory (asked s2).lexeme ≡ false
   pub comma : after_part lists.Map (asked s2).lexeme ≡ Comma
-  pub after_key : left s1.tokens ≤ left s.tokens
-  pub after_comma : left (taking s2).tokens + 1 ≤ left s.tokens
+  pub after_key : left s1.cursor.tokens ≤ left s.cursor.tokens
+  pub after_comma : left (taking s2).tokens + 1 ≤ left s.cursor.tokens
 
-pub field_taken : (c : Context) (w : Live) (opening : Position) (before : Properties) (key : Text × Position) (x : Node) (s s1 s2 : Cursor) → TakesField c w before key x s s1 s2 → result_of (Fields c w opening before) s ≡ result_of (Fields c w opening (with_property before key.0 key.1 x)) (taking s2)
+pub field_taken : (c : Context) (w : Live) (opening : Position) (before : Properties) (key : Text × Position) (x : Node) (s s1 s2 : Progress) → TakesField c w before key x s s1 s2 → result_of (Fields c w opening before) s ≡ result_of (Fields c w opening (with_property before key.0 key.1 x)) (taking s2)
 field_taken c w opening before key x s s1 s2 h =
     let g = Fields c w opening before in
     let call = guarded g s in
@@ -51,23 +52,23 @@ field_taken c w opening before key x s s1 s2 h =
     ∙ guarded_is g s on (taking s2) (omega (arith, h.after_comma))
 
 -- The same as the code takes it: each step leaves a cursor, and none leaves more tokens than there were.
-pub record FieldTaken (c d : Context) (w : Live) (before after : Properties) (key : Text × Position) (x : Node) (s s1 s2 t : Cursor) : Type 0 where
+pub record FieldTaken (c d : Context) (w : Live) (before after : Properties) (key : Text × Position) (x : Node) (s s1 s2 t : Progress) : Type 0 where
   pub key_read : result_of (NextKey c before) s ≡ R.Done (Some key) s1
-  pub key_short : left s1.tokens ≤ left s.tokens
+  pub key_short : left s1.cursor.tokens ≤ left s.cursor.tokens
   pub room : has_room c ≡ true
   pub deeper : d ≡ level_up c
   pub value : result_of (Expression d w) s1 ≡ R.Done x s2
-  pub value_short : left s2.tokens ≤ left s1.tokens
+  pub value_short : left s2.cursor.tokens ≤ left s1.cursor.tokens
   pub readable : is_memory (asked s2).lexeme ≡ false
   pub comma : after_part lists.Map (asked s2).lexeme ≡ Comma
   pub took : t ≡ taking s2
-  pub shrinks : left t.tokens + 1 ≤ left s2.tokens
+  pub shrinks : left t.cursor.tokens + 1 ≤ left s2.cursor.tokens
   pub joined : after ≡ with_property before key.0 key.1 x
 
-pub field_short : {c d : Context} {w : Live} {before after : Properties} {key : Text × Position} {x : Node} {s s1 s2 t : Cursor} → FieldTaken c d w before after key x s s1 s2 t → left t.tokens + 1 ≤ left s.tokens
+pub field_short : {c d : Context} {w : Live} {before after : Properties} {key : Text × Position} {x : Node} {s s1 s2 t : Progress} → FieldTaken c d w before after key x s s1 s2 t → left t.cursor.tokens + 1 ≤ left s.cursor.tokens
 field_short h = omega (arith, h.key_short, h.value_short, h.shrinks)
 
-pub field_goes_on : {c d : Context} {w : Live} (opening : Position) {before after : Properties} {key : Text × Position} {x : Node} {s s1 s2 t : Cursor} → FieldTaken c d w before after key x s s1 s2 t → result_of (Fields c w opening before) s ≡ result_of (Fields c w opening after) t
+pub field_goes_on : {c d : Context} {w : Live} (opening : Position) {before after : Properties} {key : Text × Position} {x : Node} {s s1 s2 t : Progress} → FieldTaken c d w before after key x s s1 s2 t → result_of (Fields c w opening before) s ≡ result_of (Fields c w opening after) t
 field_goes_on {c} {d} {w} opening {before} {after} {key} {x} {s} {s1} {s2} {t} h =
     let taken : TakesField c w before key x s s1 s2 = record {
       key_read = h.key_read;
@@ -76,7 +77,7 @@ field_goes_on {c} {d} {w} opening {before} {after} {key} {x} {s} {s1} {s2} {t} h
       readable = h.readable;
       comma = h.comma;
       after_key = h.key_short;
-      after_comma = subst (λ (u : Cursor). left u.tokens + 1 ≤ left s.tokens) h.took (field_short h);
+      after_comma = subst (λ (u : Progress). left u.cursor.tokens + 1 ≤ left s.cursor.tokens) h.took (field_short h);
     } in
     field_taken c w opening before key x s s1 s2 taken
     ∙ ap (λ ps. result_of (Fields c w opening ps) (taking s2)) (sym h.joined)

@@ -6,7 +6,7 @@ use Rattle.rhai_lower.specs.declared.position.Position.{Position}
 use Rattle.rhai_grammar.specs.Answers.{Answers}
 use Rattle.rhai_grammar.specs.Causes.{MemoryIsNowhere, Refusal, refusal}
 use Rattle.rhai_grammar.specs.declared.error.ParseError.{ParseError}
-use Rattle.rhai_grammar.specs.Cursors.{Cursor}
+use Rattle.rhai_reading.specs.Running.{Progress}
 use Rattle.rhai_grammar.specs.Contexts.{Context, Live}
 use Rattle.rhai_grammar.specs.declared.role.Beginning.{Beginning}
 use Rattle.rhai_grammar.specs.declared.role.Beginning.TheVariants as begin
@@ -25,12 +25,12 @@ use Rattle.rhai_reading.specs.Running.{Caller, Gives, exec}
 -- ---- an operation's answer
 
 -- what it comes to for a reader, with the cursor that is left
-abbrev pub outcome : Result Node Refusal → Cursor → R.Out Node
+abbrev pub outcome : Result Node Refusal → Progress → R.Out Node
 outcome (Ok x) t = R.Done x t
 outcome (Err e) t = R.Refused e t
 
 -- A reader that comes to what is due gives what was answered.
-pub answer_given : {X : Type 0} (view : X → Node) {o : R.Out Node} (due : Result Node Refusal) (t : Cursor) (r : Result X ParseError) → o ≡ outcome due t → Answers view due r → IfErr r MemoryIsNowhere → Gives view o r t
+pub answer_given : {X : Type 0} (view : X → Node) {o : R.Out Node} (due : Result Node Refusal) (t : Progress) (r : Result X ParseError) → o ≡ outcome due t → Answers view due r → IfErr r MemoryIsNowhere → Gives view o r t
 answer_given view due t (Ok x) same is known = same ∙ ap (λ d. outcome d t) is
 answer_given view due t (Err e) same is known = (λ told. same ∙ ap (λ d. outcome d t) (is told), known)
 
@@ -39,7 +39,7 @@ abbrev pub answered : Result Node Refusal → Prog Node
 answered (Ok x) = Ret x
 answered (Err e) = Fail e
 
-pub exec_answered : (call : Caller) (r : Result Node Refusal) (t : Cursor) → exec call (answered r) t ≡ outcome r t
+pub exec_answered : (call : Caller) (r : Result Node Refusal) (t : Progress) → exec call (answered r) t ≡ outcome r t
 exec_answered call (Ok x) t = refl
 exec_answered call (Err e) t = refl
 
@@ -57,7 +57,7 @@ sign_chosen : (b : Bool) (x : Node) (e : Refusal) → (if b then Ret x else Fail
 sign_chosen true x e = refl
 sign_chosen false x e = refl
 
-pub sign_outcome : (call : Caller) (l : Lexeme) (at : Position) (n : Node) (t : Cursor) → exec call (sign_on l at n) t ≡ outcome (sign_result l at n) t
+pub sign_outcome : (call : Caller) (l : Lexeme) (at : Position) (n : Node) (t : Progress) → exec call (sign_on l at n) t ≡ outcome (sign_result l at n) t
 sign_outcome call l at n t = ap (λ q. exec call q t) (sign_chosen (sign_holds l n) (signed l at n) (malformed at n)) ∙ exec_answered call (sign_result l at n) t
 
 -- ---- calls
@@ -78,12 +78,12 @@ binary_chosen k true true x e f = refl
 binary_chosen k true false x e f = refl
 binary_chosen k false c x e f = refl
 
-pub binary_done : (call : Caller) (d : Context) (w : Live) (parent : ℕ) (lhs : Node) (op : Lexeme) (at : Position) (rhs x : Node) (t : Cursor) → operator_result op at lhs rhs ≡ Ok x → exec call (binary_next d w parent lhs op at rhs) t ≡ exec call (Call (BinaryOp d w at parent x) (λ y. Ret y)) t
+pub binary_done : (call : Caller) (d : Context) (w : Live) (parent : ℕ) (lhs : Node) (op : Lexeme) (at : Position) (rhs x : Node) (t : Progress) → operator_result op at lhs rhs ≡ Ok x → exec call (binary_next d w parent lhs op at rhs) t ≡ exec call (Call (BinaryOp d w at parent x) (λ y. Ret y)) t
 binary_done call d w parent lhs op at rhs x t e =
     let k : Node → Prog Node = λ y. Call (BinaryOp d w at parent y) (λ z. Ret z) in
     ap (λ q. exec call q t) (binary_chosen k (boolean_holds op lhs) (boolean_holds op rhs) (operator_tree op at lhs rhs) (mismatched rhs) (mismatched lhs) ∙ ap (goes_with k) e)
 
-pub binary_refused : (call : Caller) (d : Context) (w : Live) (parent : ℕ) (lhs : Node) (op : Lexeme) (at : Position) (rhs : Node) (x : Refusal) (t : Cursor) → operator_result op at lhs rhs ≡ Err x → exec call (binary_next d w parent lhs op at rhs) t ≡ R.Refused x t
+pub binary_refused : (call : Caller) (d : Context) (w : Live) (parent : ℕ) (lhs : Node) (op : Lexeme) (at : Position) (rhs : Node) (x : Refusal) (t : Progress) → operator_result op at lhs rhs ≡ Err x → exec call (binary_next d w parent lhs op at rhs) t ≡ R.Refused x t
 binary_refused call d w parent lhs op at rhs x t e =
     let k : Node → Prog Node = λ y. Call (BinaryOp d w at parent y) (λ z. Ret z) in
     ap (λ q. exec call q t) (binary_chosen k (boolean_holds op lhs) (boolean_holds op rhs) (operator_tree op at lhs rhs) (mismatched rhs) (mismatched lhs) ∙ ap (goes_with k) e)

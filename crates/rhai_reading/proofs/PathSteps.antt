@@ -8,7 +8,8 @@ use Rattle.rhai_lower.specs.declared.position.Position.{Position}
 use Rattle.rhai_grammar.specs.Beginnings.{calls, is_name, qualifies}
 use Rattle.rhai_grammar.specs.Causes.{Refusal, out_of_memory, refusal}
 use Rattle.rhai_grammar.specs.Contexts.{Context, Live}
-use Rattle.rhai_grammar.specs.Cursors.{Cursor, asked, left, looking, taking}
+use Rattle.rhai_grammar.specs.Cursors.{left}
+use Rattle.rhai_reading.specs.Running.{Progress, asked, looking, taking}
 use Rattle.rhai_grammar.specs.Delivered.{is_memory}
 use Rattle.rhai_grammar.specs.Modules.{is_qualified, module_fault, qualified}
 use Rattle.rhai_grammar.specs.Trees.{call_tree, is_variable}
@@ -24,7 +25,7 @@ colons_readable : (l : Lexeme) → qualifies l ≡ true → is_memory l ≡ fals
 colons_readable l e = readable qualifies (λ f. refl) l e
 
 -- after the `::`, where a name is due
-path_at : (w : Live) (x : Node) (s : Cursor) → qualifies (asked s).lexeme ≡ true
+path_at : (w : Live) (x : Node) (s : Progress) → qualifies (asked s).lexeme ≡ true
     → is_memory (asked (taking s)).lexeme ≡ false
     → let u = taking s in
     let l = (asked u).lexeme in
@@ -43,7 +44,7 @@ path_at w x s colons named =
     ∙ ap (λ m. if m then R.Refused out_of_memory (looking u) else exec call (if is_name l then Take (k (text_of l) (asked u).at) else Fail (refusal (no_variable l) (asked u).at)) (looking u)) named
 
 -- One more name of a path was taken, with a look after it.
-pub record Named (name : Text) (at : Position) (s s1 s2 t : Cursor) : Type 0 where
+pub record Named (name : Text) (at : Position) (s s1 s2 t : Progress) : Type 0 where
   pub colons : qualifies (asked s).lexeme ≡ true
   pub took : s1 ≡ taking s
   pub named : (asked s1).lexeme ≡ Name name
@@ -54,7 +55,7 @@ pub record Named (name : Text) (at : Position) (s s1 s2 t : Cursor) : Type 0 whe
   pub look_on : t ≡ looking s2
 
 -- what the reading program does then
-path_named : (w : Live) (x : Node) {name : Text} {at : Position} {s s1 s2 t : Cursor} → Named name at s s1 s2 t
+path_named : (w : Live) (x : Node) {name : Text} {at : Position} {s s1 s2 t : Progress} → Named name at s s1 s2 t
     → let y = qualified w.imports x name at in
     result_of (Path w x) s
     ≡ exec (guarded (Path w x) s) (if qualifies (asked s2).lexeme then Call (Path w y) (λ z. Ret z) else Ret y) t
@@ -63,22 +64,22 @@ path_named w x {name} {at} {s} {s1} {s2} {t} h =
     let u = taking s in
     let v = taking u in
     let y = qualified w.imports x name at in
-    let token : (asked u).lexeme ≡ Name name = subst (λ (c : Cursor). (asked c).lexeme ≡ Name name) h.took h.named in
-    let there : at ≡ (asked u).at = subst (λ (c : Cursor). at ≡ (asked c).at) h.took h.stands in
-    let can : is_memory (asked u).lexeme ≡ false = subst (λ (c : Cursor). is_memory (asked c).lexeme ≡ false) h.took h.readable in
+    let token : (asked u).lexeme ≡ Name name = subst (λ (c : Progress). (asked c).lexeme ≡ Name name) h.took h.named in
+    let there : at ≡ (asked u).at = subst (λ (c : Progress). at ≡ (asked c).at) h.took h.stands in
+    let can : is_memory (asked u).lexeme ≡ false = subst (λ (c : Progress). is_memory (asked c).lexeme ≡ false) h.took h.readable in
     let on : s2 ≡ v = h.took_on ∙ ap taking h.took in
-    let can_on : is_memory (asked v).lexeme ≡ false = subst (λ (c : Cursor). is_memory (asked c).lexeme ≡ false) on h.readable_on in
+    let can_on : is_memory (asked v).lexeme ≡ false = subst (λ (c : Progress). is_memory (asked c).lexeme ≡ false) on h.readable_on in
     path_at w x s h.colons can
     ∙ ap (λ l. exec call (if is_name l then Take (path_on w (qualified w.imports x (text_of l) (asked u).at)) else Fail (refusal (no_variable l) (asked u).at)) (looking u)) token
     ∙ ap (λ m. if m then R.Refused out_of_memory (looking (looking u)) else exec call (path_on w (qualified w.imports x name (asked u).at)) v) can
     ∙ ap (λ p. exec call (path_on w (qualified w.imports x name p)) v) (sym there)
     ∙ ap (λ m. if m then R.Refused out_of_memory (looking v) else exec call (if qualifies (asked v).lexeme then Call (Path w y) (λ z. Ret z) else Ret y) (looking v)) can_on
-    ∙ ap (λ (c : Cursor). exec call (if qualifies (asked c).lexeme then Call (Path w y) (λ z. Ret z) else Ret y) (looking c)) (sym on)
+    ∙ ap (λ (c : Progress). exec call (if qualifies (asked c).lexeme then Call (Path w y) (λ z. Ret z) else Ret y) (looking c)) (sym on)
     ∙ ap (exec call (if qualifies (asked s2).lexeme then Call (Path w y) (λ z. Ret z) else Ret y)) (sym h.look_on)
 
 -- the path goes on, or ends
-pub path_goes_on : (w : Live) (x y : Node) {name : Text} {at : Position} {s s1 s2 t : Cursor} → Named name at s s1 s2 t
-    → y ≡ qualified w.imports x name at → qualifies (asked s2).lexeme ≡ true → left t.tokens + 1 ≤ left s.tokens
+pub path_goes_on : (w : Live) (x y : Node) {name : Text} {at : Position} {s s1 s2 t : Progress} → Named name at s s1 s2 t
+    → y ≡ qualified w.imports x name at → qualifies (asked s2).lexeme ≡ true → left t.cursor.tokens + 1 ≤ left s.cursor.tokens
     → result_of (Path w x) s ≡ result_of (Path w y) t
 path_goes_on w x y {name} {at} {s} {s1} {s2} {t} h is more less =
     let call = guarded (Path w x) s in
@@ -89,7 +90,7 @@ path_goes_on w x y {name} {at} {s} {s1} {s2} {t} h is more less =
     ∙ guarded_is (Path w x) s (Path w z) t (omega (arith, less))
     ∙ ap (λ n. result_of (Path w n) t) (sym is)
 
-pub path_ends : (w : Live) (x y : Node) {name : Text} {at : Position} {s s1 s2 t : Cursor} → Named name at s s1 s2 t
+pub path_ends : (w : Live) (x y : Node) {name : Text} {at : Position} {s s1 s2 t : Progress} → Named name at s s1 s2 t
     → y ≡ qualified w.imports x name at → qualifies (asked s2).lexeme ≡ false → result_of (Path w x) s ≡ R.Done y t
 path_ends w x y {name} {at} {s} {s1} {s2} {t} h is none =
     let call = guarded (Path w x) s in
@@ -99,7 +100,7 @@ path_ends w x y {name} {at} {s} {s1} {s2} {t} h is none =
     ∙ ap (λ n. R.Done n t) (sym is)
 
 -- another token is refused where a name is due
-pub path_refused : (w : Live) (x : Node) (e : Refusal) (s s1 t : Cursor) → qualifies (asked s).lexeme ≡ true → s1 ≡ taking s
+pub path_refused : (w : Live) (x : Node) (e : Refusal) (s s1 t : Progress) → qualifies (asked s).lexeme ≡ true → s1 ≡ taking s
     → is_name (asked s1).lexeme ≡ false → is_memory (asked s1).lexeme ≡ false
     → e ≡ refusal (no_variable (asked s1).lexeme) (asked s1).at → t ≡ looking s1
     → result_of (Path w x) s ≡ R.Refused e t
@@ -107,18 +108,18 @@ path_refused w x e s s1 t colons took other can is look =
     let call = guarded (Path w x) s in
     let u = taking s in
     let l = (asked u).lexeme in
-    let can_on : is_memory l ≡ false = subst (λ (c : Cursor). is_memory (asked c).lexeme ≡ false) took can in
-    let none : is_name l ≡ false = subst (λ (c : Cursor). is_name (asked c).lexeme ≡ false) took other in
+    let can_on : is_memory l ≡ false = subst (λ (c : Progress). is_memory (asked c).lexeme ≡ false) took can in
+    let none : is_name l ≡ false = subst (λ (c : Progress). is_name (asked c).lexeme ≡ false) took other in
     path_at w x s colons can_on
     ∙ ap (λ b. exec call (if b then Take (path_on w (qualified w.imports x (text_of l) (asked u).at)) else Fail (refusal (no_variable l) (asked u).at)) (looking u)) none
-    ∙ ap (λ (c : Cursor). R.Refused (refusal (no_variable (asked c).lexeme) (asked c).at) (looking c)) (sym took)
+    ∙ ap (λ (c : Progress). R.Refused (refusal (no_variable (asked c).lexeme) (asked c).at) (looking c)) (sym took)
     ∙ ap (λ d. R.Refused d (looking s1)) (sym is)
     ∙ ap (R.Refused e) (sym look)
 
 -- ---- a name with its path, and what calls it
 
 -- without a path
-pub name_alone : (c : Context) (w : Live) (x : Node) (called : Bool) (s t : Cursor) → is_variable x ≡ true
+pub name_alone : (c : Context) (w : Live) (x : Node) (called : Bool) (s t : Progress) → is_variable x ≡ true
     → is_memory (asked s).lexeme ≡ false → qualifies (asked s).lexeme ≡ false → called ≡ calls (asked s).lexeme
     → t ≡ looking s → result_of (Postfix c w x) s ≡ exec (guarded (Postfix c w x) s) (call_on c w x called) t
 name_alone c w x called s t named can none is look =
@@ -132,7 +133,7 @@ name_alone c w x called s t named can none is look =
     ∙ ap (exec call (call_on c w x called)) (sym look)
 
 -- where a path begins
-scoped_at : (c : Context) (w : Live) (x : Node) (s : Cursor) → is_variable x ≡ true → qualifies (asked s).lexeme ≡ true
+scoped_at : (c : Context) (w : Live) (x : Node) (s : Progress) → is_variable x ≡ true → qualifies (asked s).lexeme ≡ true
     → result_of (Postfix c w x) s ≡ R.and_then (result_of (Path w x) (looking s)) (λ y t.
     exec (guarded (Postfix c w x) s) (Peek (λ m pos. call_at c w y m)) t)
 scoped_at c w x s named colons =
@@ -146,7 +147,7 @@ scoped_at c w x s named colons =
     ∙ ap (on true) colons
     ∙ ap (λ o. R.and_then o (λ y t. exec call (Peek (λ m pos. call_at c w y m)) t)) (guarded_is (Postfix c w x) s (Path w x) (looking s) (omega arith))
 
-pub name_scoped : (c : Context) (w : Live) (x y : Node) (called : Bool) (s s1 t u : Cursor) → is_variable x ≡ true
+pub name_scoped : (c : Context) (w : Live) (x y : Node) (called : Bool) (s s1 t u : Progress) → is_variable x ≡ true
     → is_variable y ≡ true → qualifies (asked s).lexeme ≡ true → s1 ≡ looking s → result_of (Path w x) s1 ≡ R.Done y t
     → is_memory (asked t).lexeme ≡ false → called ≡ calls (asked t).lexeme → u ≡ looking t
     → result_of (Postfix c w x) s ≡ exec (guarded (Postfix c w x) s) (call_on c w y called) u
@@ -154,26 +155,26 @@ name_scoped c w x y called s s1 t u named again colons look path can is look_on 
     let call = guarded (Postfix c w x) s in
     let l = (asked t).lexeme in
     scoped_at c w x s named colons
-    ∙ ap (λ (v : Cursor). R.and_then (result_of (Path w x) v) (λ z t. exec call (Peek (λ m pos. call_at c w z m)) t)) (sym look)
+    ∙ ap (λ (v : Progress). R.and_then (result_of (Path w x) v) (λ z t. exec call (Peek (λ m pos. call_at c w z m)) t)) (sym look)
     ∙ ap (λ o. R.and_then o (λ z t. exec call (Peek (λ m pos. call_at c w z m)) t)) path
     ∙ ap (λ m. if m then R.Refused out_of_memory (looking t) else exec call (call_at c w y l) (looking t)) can
     ∙ ap (λ v. exec call (call_on c w y (v && calls l)) (looking t)) again
     ∙ ap (λ b. exec call (call_on c w y b) (looking t)) (sym is)
     ∙ ap (exec call (call_on c w y called)) (sym look_on)
 
-pub scoped_refused : (c : Context) (w : Live) (x : Node) (e : Refusal) (s s1 t : Cursor) → is_variable x ≡ true
+pub scoped_refused : (c : Context) (w : Live) (x : Node) (e : Refusal) (s s1 t : Progress) → is_variable x ≡ true
     → qualifies (asked s).lexeme ≡ true → s1 ≡ looking s → result_of (Path w x) s1 ≡ R.Refused e t
     → result_of (Postfix c w x) s ≡ R.Refused e t
 scoped_refused c w x e s s1 t named colons look path =
     let call = guarded (Postfix c w x) s in
     scoped_at c w x s named colons
-    ∙ ap (λ (v : Cursor). R.and_then (result_of (Path w x) v) (λ z t. exec call (Peek (λ m pos. call_at c w z m)) t)) (sym look)
+    ∙ ap (λ (v : Progress). R.and_then (result_of (Path w x) v) (λ z t. exec call (Peek (λ m pos. call_at c w z m)) t)) (sym look)
     ∙ ap (λ o. R.and_then o (λ z t. exec call (Peek (λ m pos. call_at c w z m)) t)) path
 
 -- what calls a name, where the reading program comes to it
-pub name_called : (c : Context) (w : Live) (x y : Node) (called : Bool) (s t : Cursor) → called ≡ true
+pub name_called : (c : Context) (w : Live) (x y : Node) (called : Bool) (s t : Progress) → called ≡ true
     → result_of (Postfix c w x) s ≡ exec (guarded (Postfix c w x) s) (call_on c w y called) t
-    → left t.tokens ≤ left s.tokens
+    → left t.cursor.tokens ≤ left s.cursor.tokens
     → result_of (Postfix c w x) s ≡ R.and_then (result_of (Called c w (position_of y) (is_qualified y)) t) (λ a u.
     exec (guarded (Postfix c w x) s) (tested (call_tree y a.0 a.1) (module_fault c w y)) u)
 name_called c w x y called s t is found short =
@@ -184,15 +185,15 @@ name_called c w x y called s t is found short =
     ∙ ap (λ o. R.and_then o (λ a u. exec call (tested (call_tree y a.0 a.1) (module_fault c w y)) u)) (guarded_is (Postfix c w x) s g t (omega (arith, short)))
 
 -- where nothing calls it
-pub name_plain : (c : Context) (w : Live) (x y : Node) (called : Bool) (s t : Cursor) → called ≡ false
+pub name_plain : (c : Context) (w : Live) (x y : Node) (called : Bool) (s t : Progress) → called ≡ false
     → result_of (Postfix c w x) s ≡ exec (guarded (Postfix c w x) s) (call_on c w y called) t
     → result_of (Postfix c w x) s ≡ R.Done y t
 name_plain c w x y called s t is found = found ∙ ap (λ b. exec (guarded (Postfix c w x) s) (call_on c w y b) t) is
 
-module _ (c : Context) (w : Live) (x y : Node) (called : Bool) (s t u : Cursor) (is : called ≡ true)
+module _ (c : Context) (w : Live) (x y : Node) (called : Bool) (s t u : Progress) (is : called ≡ true)
     (found : result_of (Postfix c w x) s ≡ exec (guarded (Postfix c w x) s) (call_on c w y called) t)
-    (short : left t.tokens ≤ left s.tokens) where
-  abbrev rest : Bool × Nodes → Cursor → R.Out Node
+    (short : left t.cursor.tokens ≤ left s.cursor.tokens) where
+  abbrev rest : Bool × Nodes → Progress → R.Out Node
   rest a v = exec (guarded (Postfix c w x) s) (tested (call_tree y a.0 a.1) (module_fault c w y)) v
 
   -- what calls it is refused

@@ -6,7 +6,8 @@ use Rattle.rhai_lower.specs.declared.position.Position.{Position}
 use Rattle.rhai_grammar.specs.Starts.{place_after}
 use Rattle.rhai_grammar.specs.declared.role.OperandPlace.{OperandPlace}
 use Rattle.rhai_grammar.specs.Causes.{Refusal, refusal, ExprTooDeep, out_of_memory}
-use Rattle.rhai_grammar.specs.Cursors.{Cursor, asked, looking, taking, left}
+use Rattle.rhai_grammar.specs.Cursors.{left}
+use Rattle.rhai_reading.specs.Running.{Progress, asked, looking, taking}
 use Rattle.rhai_grammar.specs.Delivered.{Item, item, is_end, is_memory}
 use Rattle.rhai_grammar.specs.Operators.{operator_result}
 use Rattle.rhai_grammar.specs.Contexts.{Context, Live, has_room, level_up}
@@ -17,7 +18,7 @@ use Rattle.rhai_reading.proofs.Steps.{step_binary_op, guarded_is, and_then_done}
 use Rattle.rhai_reading.proofs.Outcomes.{binary_done, binary_refused}
 
 -- From s an operator of strength n stands after the left operand; its right side gives o, and leaves t.
-pub record TakesOne (c : Context) (w : Live) (parent n : ℕ) (right : Bool) (next : Option (ℕ × Bool)) (x : Node) (o : R.Out Node) (s s1 s2 s3 t : Cursor) : Type 0 where
+pub record TakesOne (c : Context) (w : Live) (parent n : ℕ) (right : Bool) (next : Option (ℕ × Bool)) (x : Node) (o : R.Out Node) (s s1 s2 s3 t : Progress) : Type 0 where
   pub operator : result_of (NextOperator c.filter) s ≡ R.Done (Some (n, right)) s1
   pub goes : continues parent n right ≡ true
   pub readable : is_memory (asked s1).lexeme ≡ false
@@ -25,12 +26,12 @@ pub record TakesOne (c : Context) (w : Live) (parent n : ℕ) (right : Bool) (ne
   pub known : result_of (NextOperator c.filter) s2 ≡ R.Done next s3
   pub room : has_room c ≡ true
   pub side : result_of (BinaryOp (level_up c) w (position_of x) n x) s3 ≡ o
-  pub after_operator : left (taking s1).tokens + 1 ≤ left s.tokens
-  pub after_operand : left s2.tokens + 1 ≤ left s.tokens
-  pub after_look : left s3.tokens + 1 ≤ left s.tokens
-  pub after_side : left t.tokens + 1 ≤ left s.tokens
+  pub after_operator : left (taking s1).tokens + 1 ≤ left s.cursor.tokens
+  pub after_operand : left s2.cursor.tokens + 1 ≤ left s.cursor.tokens
+  pub after_look : left s3.cursor.tokens + 1 ≤ left s.cursor.tokens
+  pub after_side : left t.cursor.tokens + 1 ≤ left s.cursor.tokens
 
-one_operator : (c : Context) (w : Live) (at : Position) (parent : ℕ) (lhs : Node) (n : ℕ) (right : Bool) (next : Option (ℕ × Bool)) (x : Node) (o : R.Out Node) (s s1 s2 s3 t : Cursor) → TakesOne c w parent n right next x o s s1 s2 s3 t → result_of (BinaryOp c w at parent lhs) s ≡ R.and_then o (λ v u. exec (guarded (BinaryOp c w at parent lhs) s) (binary_next (level_up c) w parent lhs (asked s1).lexeme (asked s1).at v) u)
+one_operator : (c : Context) (w : Live) (at : Position) (parent : ℕ) (lhs : Node) (n : ℕ) (right : Bool) (next : Option (ℕ × Bool)) (x : Node) (o : R.Out Node) (s s1 s2 s3 t : Progress) → TakesOne c w parent n right next x o s s1 s2 s3 t → result_of (BinaryOp c w at parent lhs) s ≡ R.and_then o (λ v u. exec (guarded (BinaryOp c w at parent lhs) s) (binary_next (level_up c) w parent lhs (asked s1).lexeme (asked s1).at v) u)
 one_operator c w at parent lhs n right next x o s s1 s2 s3 t h =
     let g = BinaryOp c w at parent lhs in
     let first = guarded_is g s (NextOperator c.filter) s (omega arith) ∙ h.operator in
@@ -49,7 +50,7 @@ one_operator c w at parent lhs n right next x o s s1 s2 s3 t h =
     ∙ ap (λ b. exec call (if b then Call (BinaryOp (level_up c) w (position_of x) n x) (binary_next (level_up c) w parent lhs op pos) else Fail (refusal ExprTooDeep at)) s3) h.room
     ∙ ap (λ p. R.and_then p (λ v u. exec call (binary_next (level_up c) w parent lhs op pos v) u)) fourth
 
-pub operator_taken : (c : Context) (w : Live) (at : Position) (parent : ℕ) (lhs : Node) (n : ℕ) (right : Bool) (next : Option (ℕ × Bool)) (x y z : Node) (s s1 s2 s3 t : Cursor) → TakesOne c w parent n right next x (R.Done y t) s s1 s2 s3 t → operator_result (asked s1).lexeme (asked s1).at lhs y ≡ Ok z → result_of (BinaryOp c w at parent lhs) s ≡ result_of (BinaryOp (level_up c) w (asked s1).at parent z) t
+pub operator_taken : (c : Context) (w : Live) (at : Position) (parent : ℕ) (lhs : Node) (n : ℕ) (right : Bool) (next : Option (ℕ × Bool)) (x y z : Node) (s s1 s2 s3 t : Progress) → TakesOne c w parent n right next x (R.Done y t) s s1 s2 s3 t → operator_result (asked s1).lexeme (asked s1).at lhs y ≡ Ok z → result_of (BinaryOp c w at parent lhs) s ≡ result_of (BinaryOp (level_up c) w (asked s1).at parent z) t
 operator_taken c w at parent lhs n right next x y z s s1 s2 s3 t h e =
     let g = BinaryOp c w at parent lhs in
     one_operator c w at parent lhs n right next x (R.Done y t) s s1 s2 s3 t h
@@ -57,17 +58,17 @@ operator_taken c w at parent lhs n right next x y z s s1 s2 s3 t h e =
     ∙ and_then_done (guarded g s (BinaryOp (level_up c) w (asked s1).at parent z) t)
     ∙ guarded_is g s (BinaryOp (level_up c) w (asked s1).at parent z) t (omega (arith, h.after_side))
 
-pub operator_refused : (c : Context) (w : Live) (at : Position) (parent : ℕ) (lhs : Node) (n : ℕ) (right : Bool) (next : Option (ℕ × Bool)) (x y : Node) (r : Refusal) (s s1 s2 s3 t : Cursor) → TakesOne c w parent n right next x (R.Done y t) s s1 s2 s3 t → operator_result (asked s1).lexeme (asked s1).at lhs y ≡ Err r → result_of (BinaryOp c w at parent lhs) s ≡ R.Refused r t
+pub operator_refused : (c : Context) (w : Live) (at : Position) (parent : ℕ) (lhs : Node) (n : ℕ) (right : Bool) (next : Option (ℕ × Bool)) (x y : Node) (r : Refusal) (s s1 s2 s3 t : Progress) → TakesOne c w parent n right next x (R.Done y t) s s1 s2 s3 t → operator_result (asked s1).lexeme (asked s1).at lhs y ≡ Err r → result_of (BinaryOp c w at parent lhs) s ≡ R.Refused r t
 operator_refused c w at parent lhs n right next x y r s s1 s2 s3 t h e =
     one_operator c w at parent lhs n right next x (R.Done y t) s s1 s2 s3 t h
     ∙ binary_refused (guarded (BinaryOp c w at parent lhs) s) (level_up c) w parent lhs (asked s1).lexeme (asked s1).at y r t e
 
-pub side_refused : (c : Context) (w : Live) (at : Position) (parent : ℕ) (lhs : Node) (n : ℕ) (right : Bool) (next : Option (ℕ × Bool)) (x : Node) (r : Refusal) (s s1 s2 s3 t : Cursor) → TakesOne c w parent n right next x (R.Refused r t) s s1 s2 s3 t → result_of (BinaryOp c w at parent lhs) s ≡ R.Refused r t
+pub side_refused : (c : Context) (w : Live) (at : Position) (parent : ℕ) (lhs : Node) (n : ℕ) (right : Bool) (next : Option (ℕ × Bool)) (x : Node) (r : Refusal) (s s1 s2 s3 t : Progress) → TakesOne c w parent n right next x (R.Refused r t) s s1 s2 s3 t → result_of (BinaryOp c w at parent lhs) s ≡ R.Refused r t
 side_refused c w at parent lhs n right next x r s s1 s2 s3 t h =
     one_operator c w at parent lhs n right next x (R.Refused r t) s s1 s2 s3 t h
 
 -- An operator of a run with its right side, as the code takes it: each step leaves a cursor, and none leaves more tokens than were there.
-pub record Walked (c : Context) (w : Live) (parent n : ℕ) (right : Bool) (place : OperandPlace) (next : Option (ℕ × Bool)) (op : Lexeme) (pos : Position) (x : Node) (o : R.Out Node) (d : Context) (s s1 s2 s3 s4 t : Cursor) : Type 0 where
+pub record Walked (c : Context) (w : Live) (parent n : ℕ) (right : Bool) (place : OperandPlace) (next : Option (ℕ × Bool)) (op : Lexeme) (pos : Position) (x : Node) (o : R.Out Node) (d : Context) (s s1 s2 s3 s4 t : Progress) : Type 0 where
   pub operator : result_of (NextOperator c.filter) s ≡ R.Done (Some (n, right)) s1
   pub goes : continues parent n right ≡ true
   pub readable : is_memory (asked s).lexeme ≡ false
@@ -75,48 +76,48 @@ pub record Walked (c : Context) (w : Live) (parent n : ℕ) (right : Bool) (plac
   pub look : s1 ≡ looking s
   pub token : item op pos ≡ asked s1
   pub took : s2 ≡ taking s1
-  pub shrinks : is_end (asked s1).lexeme ≡ false → left s2.tokens + 1 ≤ left s1.tokens
+  pub shrinks : is_end (asked s1).lexeme ≡ false → left s2.cursor.tokens + 1 ≤ left s1.cursor.tokens
   pub stands : place ≡ place_after op
   pub operand : result_of (RightOperand c w place) s2 ≡ R.Done x s3
-  pub operand_short : left s3.tokens ≤ left s2.tokens
+  pub operand_short : left s3.cursor.tokens ≤ left s2.cursor.tokens
   pub known : result_of (NextOperator c.filter) s3 ≡ R.Done next s4
   pub look_on : s4 ≡ looking s3
   pub room : has_room c ≡ true
   pub deeper : d ≡ level_up c
   pub side : result_of (BinaryOp d w (position_of x) n x) s4 ≡ o
-  pub side_short : left t.tokens ≤ left s4.tokens
+  pub side_short : left t.cursor.tokens ≤ left s4.cursor.tokens
 
 -- what is left after each step
-left_after : (s s1 s2 s3 s4 t : Cursor) → s1 ≡ looking s → left s2.tokens + 1 ≤ left s1.tokens → left s3.tokens ≤ left s2.tokens → s4 ≡ looking s3 → left t.tokens ≤ left s4.tokens → (left s2.tokens + 1 ≤ left s.tokens) × (left s3.tokens + 1 ≤ left s.tokens) × (left s4.tokens + 1 ≤ left s.tokens) × (left t.tokens + 1 ≤ left s.tokens)
+left_after : (s s1 s2 s3 s4 t : Progress) → s1 ≡ looking s → left s2.cursor.tokens + 1 ≤ left s1.cursor.tokens → left s3.cursor.tokens ≤ left s2.cursor.tokens → s4 ≡ looking s3 → left t.cursor.tokens ≤ left s4.cursor.tokens → (left s2.cursor.tokens + 1 ≤ left s.cursor.tokens) × (left s3.cursor.tokens + 1 ≤ left s.cursor.tokens) × (left s4.cursor.tokens + 1 ≤ left s.cursor.tokens) × (left t.cursor.tokens + 1 ≤ left s.cursor.tokens)
 left_after s s1 s2 s3 s4 t look a b on e =
-    let first : left s1.tokens ≡ left s.tokens = ap (λ (u : Cursor). left u.tokens) look in
-    let second : left s4.tokens ≡ left s3.tokens = ap (λ (u : Cursor). left u.tokens) on in
+    let first : left s1.cursor.tokens ≡ left s.cursor.tokens = ap (λ (u : Progress). left u.cursor.tokens) look in
+    let second : left s4.cursor.tokens ≡ left s3.cursor.tokens = ap (λ (u : Progress). left u.cursor.tokens) on in
     (omega (arith, first, a), omega (arith, first, a, b), omega (arith, first, a, b, second), omega (arith, first, a, b, second, e))
 
-module _ {c : Context} {w : Live} {parent n : ℕ} {right : Bool} {place : OperandPlace} {next : Option (ℕ × Bool)} {op : Lexeme} {pos : Position} {x : Node} {o : R.Out Node} {d : Context} {s s1 s2 s3 s4 t : Cursor} (h : Walked c w parent n right place next op pos x o d s s1 s2 s3 s4 t) where
+module _ {c : Context} {w : Live} {parent n : ℕ} {right : Bool} {place : OperandPlace} {next : Option (ℕ × Bool)} {op : Lexeme} {pos : Position} {x : Node} {o : R.Out Node} {d : Context} {s s1 s2 s3 s4 t : Progress} (h : Walked c w parent n right place next op pos x o d s s1 s2 s3 s4 t) where
   walked_takes : TakesOne c w parent n right next x o s s1 s3 s4 t
   walked_takes =
-      let more : is_end (asked s1).lexeme ≡ false = ap (λ (u : Cursor). is_end (asked u).lexeme) h.look ∙ h.more in
+      let more : is_end (asked s1).lexeme ≡ false = ap (λ (u : Progress). is_end (asked u).lexeme) h.look ∙ h.more in
       let behind = left_after s s1 s2 s3 s4 t h.look (h.shrinks more) h.operand_short h.look_on h.side_short in
       let place_is : place_after (asked s1).lexeme ≡ place = ap (λ (i : Item). place_after i.lexeme) (sym h.token) ∙ sym h.stands in
       record {
         operator = h.operator;
         goes = h.goes;
-        readable = ap (λ (u : Cursor). is_memory (asked u).lexeme) h.look ∙ h.readable;
+        readable = ap (λ (u : Progress). is_memory (asked u).lexeme) h.look ∙ h.readable;
         operand = ap (λ b. result_of (RightOperand c w b) (taking s1)) place_is ∙ ap (result_of (RightOperand c w place)) (sym h.took) ∙ h.operand;
         known = h.known;
         room = h.room;
         side = ap (λ e. result_of (BinaryOp e w (position_of x) n x) s4) (sym h.deeper) ∙ h.side;
-        after_operator = subst (λ (u : Cursor). left u.tokens + 1 ≤ left s.tokens) h.took behind.0;
+        after_operator = subst (λ (u : Progress). left u.cursor.tokens + 1 ≤ left s.cursor.tokens) h.took behind.0;
         after_operand = behind.1;
         after_look = behind.2;
         after_side = behind.3;
       }
 
-  pub walked_short : left t.tokens + 1 ≤ left s.tokens
+  pub walked_short : left t.cursor.tokens + 1 ≤ left s.cursor.tokens
   walked_short = walked_takes.after_side
 
-module _ {c : Context} {w : Live} {parent n : ℕ} {right : Bool} {place : OperandPlace} {next : Option (ℕ × Bool)} {op : Lexeme} {pos : Position} {x y : Node} {d : Context} {s s1 s2 s3 s4 t : Cursor} (h : Walked c w parent n right place next op pos x (R.Done y t) d s s1 s2 s3 s4 t) where
+module _ {c : Context} {w : Live} {parent n : ℕ} {right : Bool} {place : OperandPlace} {next : Option (ℕ × Bool)} {op : Lexeme} {pos : Position} {x y : Node} {d : Context} {s s1 s2 s3 s4 t : Progress} (h : Walked c w parent n right place next op pos x (R.Done y t) d s s1 s2 s3 s4 t) where
   pub walked_on : (at : Position) (lhs : Node) {p : Position} {z : Node} {e : Context} → operator_result op pos lhs y ≡ Ok z → e ≡ d → p ≡ pos → result_of (BinaryOp c w at parent lhs) s ≡ result_of (BinaryOp e w p parent z) t
   walked_on at lhs {p} {z} {e} joined same there =
       operator_taken c w at parent lhs n right next x y z s s1 s3 s4 t (walked_takes h) (ap (λ (i : Item). operator_result i.lexeme i.at lhs y) (sym h.token) ∙ joined)
@@ -127,6 +128,6 @@ module _ {c : Context} {w : Live} {parent n : ℕ} {right : Bool} {place : Opera
   walked_refused at lhs {r} refused =
       operator_refused c w at parent lhs n right next x y r s s1 s3 s4 t (walked_takes h) (ap (λ (i : Item). operator_result i.lexeme i.at lhs y) (sym h.token) ∙ refused)
 
-module _ {c : Context} {w : Live} {parent n : ℕ} {right : Bool} {place : OperandPlace} {next : Option (ℕ × Bool)} {op : Lexeme} {pos : Position} {x : Node} {r : Refusal} {d : Context} {s s1 s2 s3 s4 t : Cursor} (h : Walked c w parent n right place next op pos x (R.Refused r t) d s s1 s2 s3 s4 t) where
+module _ {c : Context} {w : Live} {parent n : ℕ} {right : Bool} {place : OperandPlace} {next : Option (ℕ × Bool)} {op : Lexeme} {pos : Position} {x : Node} {r : Refusal} {d : Context} {s s1 s2 s3 s4 t : Progress} (h : Walked c w parent n right place next op pos x (R.Refused r t) d s s1 s2 s3 s4 t) where
   pub walked_side_refused : (at : Position) (lhs : Node) → result_of (BinaryOp c w at parent lhs) s ≡ R.Refused r t
   walked_side_refused at lhs = side_refused c w at parent lhs n right next x r s s1 s3 s4 t (walked_takes h)

@@ -3,7 +3,7 @@ use Rattle.std.proofs.Common.{◌≡◌, Bool, true, false, refl, ◌∙◌, if�
 use Rattle.rhai_lower.specs.Lexemes.{text_of}
 use Rattle.rhai_grammar.specs.Beginnings.{unexpected}
 use Rattle.rhai_grammar.specs.Causes.{refusal}
-use Rattle.rhai_grammar.specs.Cursors.{Cursor, after_brace, asked, looking, taking}
+use Rattle.rhai_reading.specs.Running.{Progress, after_brace, asked, looking, taking}
 use Rattle.rhai_grammar.specs.Delivered.{is_memory}
 use Rattle.rhai_grammar.specs.DueTokens.{is_due, not_due}
 use Rattle.rhai_grammar.specs.Interpolations.{is_last_text, is_text}
@@ -25,7 +25,7 @@ refused true c x z e f = absurd cc
 refused false true x z e f = absurd cc
 refused false false x z e f = refl
 
-pub text_read : (s : Cursor) → is_memory (asked s).lexeme ≡ false → is_due RightBrace (asked s).lexeme ≡ true
+pub text_read : (s : Progress) → is_memory (asked s).lexeme ≡ false → is_due RightBrace (asked s).lexeme ≡ true
     → is_memory (asked (after_brace s)).lexeme ≡ false → is_text (asked (after_brace s)).lexeme ≡ true
     → result_of TextAfter s ≡ R.Done (
       (asked s).at,
@@ -39,7 +39,7 @@ text_read s m brace n is =
     ∙ chosen (is_memory (asked s).lexeme) (is_due RightBrace (asked s).lexeme) _ _ m brace
     (chosen (is_memory (asked t).lexeme) (is_text (asked t).lexeme) _ _ n is refl)
 
-pub text_missing : (s : Cursor) → is_memory (asked s).lexeme ≡ false → is_due RightBrace (asked s).lexeme ≡ true
+pub text_missing : (s : Progress) → is_memory (asked s).lexeme ≡ false → is_due RightBrace (asked s).lexeme ≡ true
     → is_memory (asked (after_brace s)).lexeme ≡ false → is_text (asked (after_brace s)).lexeme ≡ false
     → result_of TextAfter s ≡ R.Refused (refusal (unexpected (asked (after_brace s)).lexeme)
     (asked (after_brace s)).at) (looking (after_brace s))
@@ -49,7 +49,7 @@ text_missing s m brace n none =
     ∙ chosen (is_memory (asked s).lexeme) (is_due RightBrace (asked s).lexeme) _ _ m brace
     (refused (is_memory (asked t).lexeme) (is_text (asked t).lexeme) _ _ n none)
 
-pub brace_missing : (s : Cursor) → is_memory (asked s).lexeme ≡ false → is_due RightBrace (asked s).lexeme ≡ false
+pub brace_missing : (s : Progress) → is_memory (asked s).lexeme ≡ false → is_due RightBrace (asked s).lexeme ≡ false
     → result_of TextAfter s ≡ R.Refused (refusal (not_due RightBrace (asked s).lexeme) (asked s).at) (looking s)
 brace_missing s m none =
     step_text_after s ∙ refused (is_memory (asked s).lexeme) (is_due RightBrace (asked s).lexeme) _ _ m none

@@ -7,7 +7,7 @@ use Rattle.rhai_lower.specs.declared.position.Position.{Position}
 use Rattle.rhai_grammar.specs.declared.role.Beginning.{Beginning}
 use Rattle.rhai_grammar.specs.Beginnings.{beginning}
 use Rattle.rhai_grammar.specs.Causes.{out_of_memory}
-use Rattle.rhai_grammar.specs.Cursors.{Cursor, asked, looking, taking}
+use Rattle.rhai_reading.specs.Running.{Progress, asked, looking, taking}
 use Rattle.rhai_grammar.specs.Delivered.{is_memory}
 use Rattle.rhai_grammar.specs.Contexts.{Context, Live}
 use Rattle.rhai_reading.specs.Reading.{Peek, Primary, Prog, Take, primary_at}
@@ -16,7 +16,7 @@ use Rattle.rhai_reading.specs.Running.{exec, result_of, guarded}
 use Rattle.rhai_reading.proofs.Steps.{step_primary}
 
 -- A name or a reserved word that was taken, with a look after it: `holds` says whether the next token passes a test.
-pub record Worded (kind : Beginning) (test : Lexeme → Bool) (word : Text) (at : Position) (holds : Bool) (s s1 s2 t : Cursor) : Type 0 where
+pub record Worded (kind : Beginning) (test : Lexeme → Bool) (word : Text) (at : Position) (holds : Bool) (s s1 s2 t : Progress) : Type 0 where
   pub begins : beginning (asked s).lexeme ≡ kind
   pub text : word ≡ text_of (asked s).lexeme
   pub readable : is_memory (asked s).lexeme ≡ false
@@ -33,13 +33,13 @@ Rest = Text → Position → Lexeme → Position → Prog Node
 
 pub worded : (c : Context) (w : Live) {kind : Beginning} {test : Lexeme → Bool} (k : Rest)
     → ((l : Lexeme) (p : Position) → primary_at c w l p kind ≡ Take (Peek (k (text_of l) p)))
-    → {word : Text} {at : Position} {holds : Bool} {s s1 s2 t : Cursor} → Worded kind test word at holds s s1 s2 t
+    → {word : Text} {at : Position} {holds : Bool} {s s1 s2 t : Progress} → Worded kind test word at holds s s1 s2 t
     → result_of (Primary c w) s ≡ exec (guarded (Primary c w) s) (k word at (asked s2).lexeme (asked s2).at) t
 worded c w k rule {word} {at} {holds} {s} {s1} {s2} {t} h =
     let call = guarded (Primary c w) s in
     let u = taking s in
     let here : s2 ≡ u = h.took ∙ ap taking h.look in
-    let readable : is_memory (asked u).lexeme ≡ false = ap (λ (v : Cursor). is_memory (asked v).lexeme) (sym here) ∙ h.readable_on in
+    let readable : is_memory (asked u).lexeme ≡ false = ap (λ (v : Progress). is_memory (asked v).lexeme) (sym here) ∙ h.readable_on in
     step_primary c w s
     ∙ ap (λ m. if m then R.Refused out_of_memory (looking s) else exec call (primary_at c w (asked s).lexeme (asked s).at (beginning (asked s).lexeme)) (looking s)) h.readable
     ∙ ap (λ b. exec call (primary_at c w (asked s).lexeme (asked s).at b) (looking s)) h.begins
@@ -48,5 +48,5 @@ worded c w k rule {word} {at} {holds} {s} {s1} {s2} {t} h =
     ∙ ap (λ m. if m then R.Refused out_of_memory (looking u) else exec call (k (text_of (asked s).lexeme) (asked s).at (asked u).lexeme (asked u).at) (looking u)) readable
     ∙ ap (λ x. exec call (k x (asked s).at (asked u).lexeme (asked u).at) (looking u)) (sym h.text)
     ∙ ap (λ p. exec call (k word p (asked u).lexeme (asked u).at) (looking u)) (sym h.stands)
-    ∙ ap (λ (v : Cursor). exec call (k word at (asked v).lexeme (asked v).at) (looking v)) (sym here)
+    ∙ ap (λ (v : Progress). exec call (k word at (asked v).lexeme (asked v).at) (looking v)) (sym here)
     ∙ ap (exec call (k word at (asked s2).lexeme (asked s2).at)) (sym h.look_on)

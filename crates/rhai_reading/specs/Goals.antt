@@ -1,6 +1,7 @@
 -- What a reader is called for, what it gives, and the terms that readers are made of.
 use Rattle.std.specs.Prelude.{if◌then◌else◌}
 use Rattle.rhai_lower.specs.Lexemes.{Lexeme}
+use Rattle.rhai_grammar.specs.Libraries.{Ended, Library}
 use Rattle.rhai_grammar.specs.Causes as cause
 use Rattle.rhai_grammar.specs.Causes.{Refusal, refusal}
 use Rattle.rhai_grammar.specs.DueTokens.{is_due, not_due}
@@ -204,6 +205,10 @@ pub data Prog (A : Type 0) : Type 0 where
   Take : Prog A → Prog A
   -- Takes the `}` that is due and then, in text mode, the text that is due after it; another token there is refused.
   TakeText : (Position → Lexeme → Position → Prog A) → Prog A
+  -- knows the functions that have ended
+  Know : (Library → Prog A) → Prog A
+  -- one more function ends
+  Add : Ended → Prog A → Prog A
   Call : (goal : Goal) → (Val goal → Prog A) → Prog A
   -- calls a reader, and reports what it refuses as a missing literal
   CallLiteral : (goal : Goal) → (Val goal → Prog A) → Prog A

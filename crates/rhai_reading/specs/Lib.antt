@@ -2,5 +2,6 @@ pub mod Goals
 pub mod ReadingStatements
 pub mod ReadingSwitches
 pub mod Reading
+pub mod Moves
 pub mod Running
 pub mod Histories

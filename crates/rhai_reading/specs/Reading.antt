@@ -43,6 +43,7 @@ use Rattle.rhai_grammar.specs.Beginnings.{beginning, value_of, no_operand, unexp
 use Rattle.rhai_grammar.specs.Beginnings.{may_be_called, is_this, linking, is_name, MemberPlace, AMember, NoMember}
 use Rattle.rhai_grammar.specs.Beginnings.{excludes_use, member_place, qualifies}
 use Rattle.rhai_grammar.specs.Interpolations.{added_text, is_last_text}
+use Rattle.rhai_grammar.specs.Libraries.{Library}
 use Rattle.rhai_grammar.specs.Starts.{operand_start, place_after, starts}
 use Rattle.rhai_grammar.specs.declared.role.OperandStart.{OperandStart}
 use Rattle.rhai_grammar.specs.declared.role.OperandStart.TheVariants as first
@@ -60,7 +61,7 @@ pub use Rattle.rhai_reading.specs.Goals.{Branch, Braced, Catch, Conditional, Con
 pub use Rattle.rhai_reading.specs.Goals.{Alias, Export, Import, LoopNames, Path, RightOperand}
 pub use Rattle.rhai_reading.specs.Goals.{Action, Arm, ArmEnd, Arms, Case, CaseGuard, Cases, DefaultArm}
 pub use Rattle.rhai_reading.specs.Goals.{DefaultEnd}
-pub use Rattle.rhai_reading.specs.Goals.{Ret, Fail, Peek, Take, TakeText, Call, CallLiteral, Script, Val, Prog}
+pub use Rattle.rhai_reading.specs.Goals.{Ret, Fail, Peek, Take, TakeText, Know, Add, Call, CallLiteral, Script, Val, Prog}
 pub use Rattle.rhai_reading.specs.Goals.{after_a_part, construct_on, match_name, match_token, part_next, raised, tested}
 pub use Rattle.rhai_reading.specs.ReadingStatements.{evaluated_at, var_name_at, value_at, definition_on}
 pub use Rattle.rhai_reading.specs.ReadingStatements.{jump_on, loop_at, statement_at, separated_at, statements_on}
@@ -79,9 +80,9 @@ whole_at expr lexeme at = if is_end lexeme then Ret expr else Fail (refusal (une
 -- ---- operands
 
 -- after a name, which is no variable's where something calls it or makes it part of a path
-abbrev pub name_at : Context → Live → Text → Position → Lexeme → Position → Prog Node
-name_at context live name at lexeme pos =
-    if excludes_use lexeme || may_use context live name then Ret (name_tree live.slots (excludes_use lexeme) name at)
+abbrev pub name_at : Context → Live → Text → Position → Lexeme → Library → Prog Node
+name_at context live name at lexeme library =
+    if excludes_use lexeme || may_use context live library name then Ret (name_tree live.slots (excludes_use lexeme) name at)
     else Fail (refusal (cause.VariableUndefined name) at)
 
 -- after a reserved word
@@ -94,7 +95,8 @@ word_at context word at lexeme pos =
 
 abbrev pub primary_at : Context → Live → Lexeme → Position → Beginning → Prog Node
 primary_at context live lexeme at begin.Value = Take (Ret (value_of lexeme at))
-primary_at context live lexeme at begin.Name = Take (Peek (name_at context live (text_of lexeme) at))
+primary_at context live lexeme at begin.Name =
+    Take (Peek (λ following pos. Know (name_at context live (text_of lexeme) at following)))
 primary_at context live lexeme at begin.Word = Take (Peek (word_at context (text_of lexeme) at))
 primary_at context live lexeme at begin.Group =
     Take (raised context at (λ deeper. Call (Expression deeper live) (λ x. match_token due.RightParen (Ret x))))

@@ -2,15 +2,15 @@
 use Rattle.std.specs.Prelude.{◌≡◌, ℕ, zero, suc, ◌+◌, ◌*◌, false, Result, Ok, Err, nat_lt, if◌then◌else◌}
 use Rattle.rhai_lower.specs.Lexemes.{Lexeme}
 use Rattle.rhai_lower.specs.declared.position.Position.{Position}
-use Rattle.rhai_grammar.specs.Beginnings.{unexpected}
-use Rattle.rhai_grammar.specs.Causes.{Refusal, refusal, refusal_of, is_for_memory, MemoryIsNowhere, out_of_memory}
-use Rattle.rhai_grammar.specs.Causes.{as_literal}
-use Rattle.rhai_grammar.specs.Delivered.{is_memory}
-use Rattle.rhai_grammar.specs.DueTokens.{is_due, not_due}
-use Rattle.rhai_grammar.specs.Interpolations.{is_text}
-use Rattle.rhai_grammar.specs.declared.due.DueToken.TheVariants.{RightBrace}
-use Rattle.rhai_grammar.specs.Cursors.{Cursor, after_brace, asked, looking, taking, left}
+use Rattle.rhai_grammar.specs.Causes.{refusal_of, is_for_memory, MemoryIsNowhere}
+use Rattle.rhai_grammar.specs.Cursors as cursors
+use Rattle.rhai_grammar.specs.Cursors.{Cursor, left}
+use Rattle.rhai_grammar.specs.Delivered.{Item}
+use Rattle.rhai_grammar.specs.Libraries.{Ended, Library, with_ended}
 use Rattle.rhai_grammar.specs.declared.error.ParseError.{ParseError}
+use Rattle.rhai_reading.specs.Moves as moves
+use Rattle.rhai_reading.specs.Moves.{Moves, Outcome}
+pub use Rattle.rhai_reading.specs.Moves.{Done, Refused, Unfinished, and_then, recast}
 use Rattle.rhai_reading.specs.Reading.{Goal, Whole, Expression, Operand, Primary, Postfix, Arguments, Items, Elements}
 use Rattle.rhai_reading.specs.Reading.{Fields, NextKey, Called, Links, Index, Member, NextOperator, BinaryOp, Val}
 use Rattle.rhai_reading.specs.Reading.{ExprStatement, VarName, Initializer, Definition, Statement, Statements, Block}
@@ -19,48 +19,51 @@ use Rattle.rhai_reading.specs.Reading.{Alias, Export, Import, Path}
 use Rattle.rhai_reading.specs.Reading.{Branch, Braced, Catch, Conditional, Construct, DoEnd, Guard, Iterated, LoopNames}
 use Rattle.rhai_reading.specs.Reading.{Action, Arm, ArmEnd, Arms, Case, CaseGuard, Cases, DefaultArm, DefaultEnd}
 use Rattle.rhai_reading.specs.Reading.{RightOperand}
-use Rattle.rhai_reading.specs.Reading.{Ret, Fail, Peek, Take, TakeText, Call, CallLiteral, body}
+use Rattle.rhai_reading.specs.Reading.{Prog, body}
 
--- what came of a reader, with the cursor that it left
-pub data Out (A : Type 0) : Type 0 where
-  Done : A → Cursor → Out A
-  Refused : Refusal → Cursor → Out A
-  Unfinished : Out A
+-- what is left of a stream, and the functions that have ended
+pub record Progress : Type 0 where
+  pub cursor : Cursor
+  pub library : Library
 
-abbrev pub and_then : {A B : Type 0} → Out A → (A → Cursor → Out B) → Out B
-and_then (Done x s) f = f x s
-and_then (Refused e s) f = Refused e s
-and_then Unfinished f = Unfinished
+abbrev pub asked : Progress → Item
+asked s = cursors.asked s.cursor
 
--- what is refused is reported as a missing literal
-abbrev pub recast : {A : Type 0} → Out A → Out A
-recast (Done x s) = Done x s
-recast (Refused e s) = Refused (as_literal e) s
-recast Unfinished = Unfinished
+abbrev pub looking : Progress → Progress
+looking s = record s { cursor = cursors.looking s.cursor }
 
--- what a text that is taken goes on with, where the next request is in text mode
-abbrev pub text_from : {A : Type 0} → (Lexeme → Position → Cursor → Out A) → Cursor → Out A
-text_from go s = if is_memory (asked s).lexeme then Refused out_of_memory (looking s)
-    else if is_text (asked s).lexeme then go (asked s).lexeme (asked s).at (taking s)
-    else Refused (refusal (unexpected (asked s).lexeme) (asked s).at) (looking s)
+abbrev pub taking : Progress → Progress
+taking s = record s { cursor = cursors.taking s.cursor }
+
+abbrev pub after_brace : Progress → Progress
+after_brace s = record s { cursor = cursors.after_brace s.cursor }
+
+abbrev pub adding : Ended → Progress → Progress
+adding ended s = record s { library = with_ended s.library ended }
+
+abbrev pub steps : Moves Progress
+steps = record {
+  asked = asked;
+  looking = looking;
+  taking = taking;
+  after_brace = after_brace;
+  library = λ s. s.library;
+  adding = adding;
+}
+
+abbrev pub Out : Type 0 → Type 0
+Out A = Outcome Progress A
 
 abbrev pub Caller : Type 0
-Caller = (g : Goal) → Cursor → Out (Val g)
+Caller = (g : Goal) → Progress → Out (Val g)
 
--- What a reader does, where call says what each call does. Where the tokenizer found no memory for a token, it is
--- refused so when it is looked at or taken.
-abbrev pub exec : {A : Type 0} → Caller → Prog A → Cursor → Out A
-exec call (Ret x) s = Done x s
-exec call (Fail e) s = Refused e s
-exec call (Peek k) s = if is_memory (asked s).lexeme then Refused out_of_memory (looking s)
-    else exec call (k (asked s).lexeme (asked s).at) (looking s)
-exec call (Take p) s = if is_memory (asked s).lexeme then Refused out_of_memory (looking s) else exec call p (taking s)
-exec call (TakeText k) s = if is_memory (asked s).lexeme then Refused out_of_memory (looking s)
-    else if is_due RightBrace (asked s).lexeme
-    then text_from (λ lexeme at t. exec call (k (asked s).at lexeme at) t) (after_brace s)
-    else Refused (refusal (not_due RightBrace (asked s).lexeme) (asked s).at) (looking s)
-exec call (Call g k) s = and_then (call g s) (λ v t. exec call (k v) t)
-exec call (CallLiteral g k) s = and_then (recast (call g s)) (λ v t. exec call (k v) t)
+-- what a text that is taken goes on with
+abbrev pub text_from : {A : Type 0} → (Lexeme → Position → Progress → Out A) → Progress → Out A
+text_from = moves.text_from steps
+
+-- what a reader does, where call says what each call does
+abbrev pub exec : {A : Type 0} → Caller → Prog A → Progress → Out A
+exec = moves.exec steps
 
 -- A call at the same token is one to a goal of lower rank.
 abbrev pub rank : Goal → ℕ
@@ -121,11 +124,11 @@ rank (DefaultEnd default) = 0
 abbrev pub work : ℕ → ℕ → ℕ
 work tokens rank = 64 * tokens + rank
 
-abbrev pub need : Goal → Cursor → ℕ
-need g s = work (left s.tokens) (rank g)
+abbrev pub need : Goal → Progress → ℕ
+need g s = work (left s.cursor.tokens) (rank g)
 
 -- a call is made only where less is left to do
-unfoldable pub only_less : Caller → Goal → Cursor → Caller
+unfoldable pub only_less : Caller → Goal → Progress → Caller
 only_less P g s h t = if nat_lt (need h t) (need g s) then P h t else Unfinished
 
 unfoldable pub level : ℕ → Caller
@@ -135,16 +138,16 @@ level (suc n) g s = exec (only_less (level n) g s) (body g) s
 unfoldable pub result_of : Caller
 result_of g s = level (suc (need g s)) g s
 
-unfoldable pub guarded : Goal → Cursor → Caller
+unfoldable pub guarded : Goal → Progress → Caller
 guarded = only_less result_of
 
 -- ---- what the code's readers promise
 
 -- The error is the refusal of a reader, unless memory ran out, which stands nowhere.
-abbrev pub Fails : {A : Type 0} → Out A → ParseError → Cursor → Type 0
+abbrev pub Fails : {A : Type 0} → Out A → ParseError → Progress → Type 0
 Fails o e t = (is_for_memory e ≡ false → o ≡ Refused (refusal_of e) t) × MemoryIsNowhere e
 
 -- What a function returned, seen by view, is what a reader gives, and so is what it left; unless memory ran out.
-abbrev pub Gives : {X A : Type 0} → (X → A) → Out A → Result X ParseError → Cursor → Type 0
+abbrev pub Gives : {X A : Type 0} → (X → A) → Out A → Result X ParseError → Progress → Type 0
 Gives view o (Ok x) t = o ≡ Done (view x) t
 Gives view o (Err e) t = Fails o e t

@@ -1,5 +1,5 @@
 use Rattle.std.proofs.Common.{◌∙◌, ap, sym, map}
-use Rattle.rhai_base.specs.Keys.{has_name, key_of}
+use Rattle.rhai_grammar.specs.Keys.{has_name, key_of}
 use Rattle.rhai_base.proofs.KeyLemmas.{keys-shown}
 use Rattle.rhai_base.proofs.library.is_function_name.Goals as goal
 

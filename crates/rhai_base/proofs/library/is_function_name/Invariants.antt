@@ -1,5 +1,5 @@
 use Rattle.std.proofs.Common.{◌≡◌, map}
-use Rattle.rhai_base.specs.Keys.{key_of, keys_of, has_name}
+use Rattle.rhai_grammar.specs.Keys.{key_of, keys_of, has_name}
 use Rattle.rhai_base.proofs.library.is_function_name.Given as goal
 
 abbrev pub invariant-loop-key : goal.invariant-loop-key

@@ -2,7 +2,7 @@ use Rattle.std.proofs.Common.{◌∙◌, ap, sym}
 use Rattle.indexmap.proofs.CallerLemmas.{insert_entry-new}
 use Rattle.indexmap.specs.IndexSet.{insert_key}
 use Rattle.rhai_lower.specs.Texts.{Text}
-use Rattle.rhai_base.specs.Keys.{key_of, keys_of, has_name, closures}
+use Rattle.rhai_grammar.specs.Keys.{key_of, keys_of, has_name, closures}
 use Rattle.rhai_base.proofs.IndexLemmas.{same_name, names-more, count-more, keys-more}
 use Rattle.rhai_base.proofs.KeyLemmas.{equal_keys, found-key, absent}
 use Rattle.rhai_base.proofs.names.FnNames.add_function.Goals as goal

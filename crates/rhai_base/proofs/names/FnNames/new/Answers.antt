@@ -1,7 +1,7 @@
 use Rattle.std.proofs.Common.{◌||◌, ◌∙◌, ap, map, sym, zero-add}
 use Rattle.rhai_lower.specs.Texts.{Text}
 use Rattle.rhai_base.specs.Index.{listed}
-use Rattle.rhai_base.specs.Keys.{key_of, has_name, closures}
+use Rattle.rhai_grammar.specs.Keys.{key_of, has_name, closures}
 use Rattle.rhai_base.proofs.KeyLemmas.{keys-shown}
 use Rattle.rhai_base.proofs.names.FnNames.new.Goals as goal
 

@@ -1,0 +1,65 @@
+-- What a reader does, one request after the other, whatever it moves along.
+use Rattle.std.specs.Prelude.{Bool, if◌then◌else◌}
+use Rattle.rhai_lower.specs.Lexemes.{Lexeme}
+use Rattle.rhai_lower.specs.declared.position.Position.{Position}
+use Rattle.rhai_grammar.specs.Beginnings.{unexpected}
+use Rattle.rhai_grammar.specs.Causes.{Refusal, as_literal, refusal, out_of_memory}
+use Rattle.rhai_grammar.specs.Delivered.{Item, is_memory}
+use Rattle.rhai_grammar.specs.DueTokens.{is_due, not_due}
+use Rattle.rhai_grammar.specs.Interpolations.{is_text}
+use Rattle.rhai_grammar.specs.Libraries.{Ended, Library}
+use Rattle.rhai_grammar.specs.declared.due.DueToken.TheVariants.{RightBrace}
+use Rattle.rhai_reading.specs.Goals.{Goal, Val, Prog, Ret, Fail, Peek, Take, TakeText, Know, Add, Call, CallLiteral}
+
+-- How the states move along which a reader reads: the token that the next request gives; the state after it was peeked,
+-- and after it was taken; after a `}` was taken, where the next request is one in text mode; the functions that have
+-- ended; and the state after one more has.
+pub record Moves (S : Type 0) : Type 0 where
+  pub asked : S → Item
+  pub looking : S → S
+  pub taking : S → S
+  pub after_brace : S → S
+  pub library : S → Library
+  pub adding : Ended → S → S
+
+-- what came of a reader, with the state that it left
+pub data Outcome (S A : Type 0) : Type 0 where
+  Done : A → S → Outcome S A
+  Refused : Refusal → S → Outcome S A
+  Unfinished : Outcome S A
+
+abbrev pub and_then : {S A B : Type 0} → Outcome S A → (A → S → Outcome S B) → Outcome S B
+and_then (Done x s) f = f x s
+and_then (Refused e s) f = Refused e s
+and_then Unfinished f = Unfinished
+
+-- what is refused is reported as a missing literal
+abbrev pub recast : {S A : Type 0} → Outcome S A → Outcome S A
+recast (Done x s) = Done x s
+recast (Refused e s) = Refused (as_literal e) s
+recast Unfinished = Unfinished
+
+-- what a text that is taken goes on with, where the next request is in text mode
+abbrev pub text_from : {S A : Type 0} → Moves S → (Lexeme → Position → S → Outcome S A) → S → Outcome S A
+text_from moves go s = if is_memory (moves.asked s).lexeme then Refused out_of_memory (moves.looking s)
+    else if is_text (moves.asked s).lexeme
+    then go (moves.asked s).lexeme (moves.asked s).at (moves.taking s)
+    else Refused (refusal (unexpected (moves.asked s).lexeme) (moves.asked s).at) (moves.looking s)
+
+-- What a reader does, where call says what each call does. Where the tokenizer found no memory for a token, it is
+-- refused so when it is looked at or taken.
+abbrev pub exec : {S A : Type 0} → Moves S → ((g : Goal) → S → Outcome S (Val g)) → Prog A → S → Outcome S A
+exec moves call (Ret x) s = Done x s
+exec moves call (Fail e) s = Refused e s
+exec moves call (Peek k) s = if is_memory (moves.asked s).lexeme then Refused out_of_memory (moves.looking s)
+    else exec moves call (k (moves.asked s).lexeme (moves.asked s).at) (moves.looking s)
+exec moves call (Take p) s = if is_memory (moves.asked s).lexeme then Refused out_of_memory (moves.looking s)
+    else exec moves call p (moves.taking s)
+exec moves call (TakeText k) s = if is_memory (moves.asked s).lexeme then Refused out_of_memory (moves.looking s)
+    else if is_due RightBrace (moves.asked s).lexeme
+    then text_from moves (λ lexeme at t. exec moves call (k (moves.asked s).at lexeme at) t) (moves.after_brace s)
+    else Refused (refusal (not_due RightBrace (moves.asked s).lexeme) (moves.asked s).at) (moves.looking s)
+exec moves call (Know k) s = exec moves call (k (moves.library s)) s
+exec moves call (Add ended p) s = exec moves call p (moves.adding ended s)
+exec moves call (Call g k) s = and_then (call g s) (λ v t. exec moves call (k v) t)
+exec moves call (CallLiteral g k) s = and_then (recast (call g s)) (λ v t. exec moves call (k v) t)
