@@ -69,11 +69,11 @@ FormsHaveOneTree =
 -- leave the same slots and imports.
 abbrev pub ScriptsHaveOneTree : Type 0
 ScriptsHaveOneTree =
-    (context : Context) (live : Live) (before : Library) (s : Cursor) (fs gs : Statements) (after then : Library)
-    → IsWrittenTo (scripts context live) fs before after s → IsWrittenTo (scripts context live) gs before then s
+    (context : Context) (live : Live) (before : Library) (s : Cursor) (fs gs : Statements) (after other : Library)
+    → IsWrittenTo (scripts context live) fs before after s → IsWrittenTo (scripts context live) gs before other s
     → (statement_trees fs live ≡ statement_trees gs live)
     × (after_statements fs live ≡ after_statements gs live)
-    × (after ≡ then)
+    × (after ≡ other)
 
 -- a verdict that is an error
 abbrev pub is_refused : Verdict → Bool

@@ -114,7 +114,7 @@ pub record IsRefused {F : Type 0} (whole : F → Demands) (before after : Librar
 pub record ReadsWhole {F X : Type 0} (whole : F → Demands) (Is : F → X → Type 0) (before after : Library)
     (start left : Cursor) (result : Result X ParseError) : Type 0 where
   pub accepted : IfOk result (λ x. (f : F) × IsWrittenTo whole f before after start × Is f x)
-  pub only : (f : F) (then : Library) → IsWrittenTo whole f before then start
-      → Returns (λ x. Is f x × (after ≡ then)) result
+  pub only : (f : F) (other : Library) → IsWrittenTo whole f before other start
+      → Returns (λ x. Is f x × (after ≡ other)) result
   pub refused : IfErr result (λ e. is_for_memory e ≡ false
       → (taken : List Taken) × IsRefused whole before after taken start left (refusal_of e))

@@ -25,7 +25,7 @@ pub record TakesDot (w : Live) (q : LinkSpot) (x : Node) (s t : Progress) : Type
   pub due : member_place (asked (taking s)).lexeme ≡ AMember
   pub room : has_room q.settings ≡ true
   pub member : result_of (Member (level_up q.settings) w) (looking (taking s)) ≡ R.Done x t
-  pub after_dot : left (taking s).tokens + 1 ≤ left s.cursor.tokens
+  pub after_dot : left (taking s).cursor.tokens + 1 ≤ left s.cursor.tokens
   pub after_member : left t.cursor.tokens + 1 ≤ left s.cursor.tokens
 
 pub dot_taken : (w : Live) (q : LinkSpot) (x : Node) (s t : Progress) → TakesDot w q x s t → result_of (Links w q) s ≡ result_of (Links w (spot_after_dot q (member_link (asked s).lexeme (asked s).at x))) t
@@ -103,7 +103,7 @@ record TakesBracket (w : Live) (q : LinkSpot) (x : Node) (s t : Progress) : Type
   room : has_room q.brackets ≡ true
   room_on : has_room (level_up q.brackets) ≡ true
   index : result_of (Index (level_up (level_up q.brackets)) w q.indexed) (taking s) ≡ R.Done x t
-  after_bracket : left (taking s).tokens + 1 ≤ left s.cursor.tokens
+  after_bracket : left (taking s).cursor.tokens + 1 ≤ left s.cursor.tokens
   after_index : left t.cursor.tokens + 1 ≤ left s.cursor.tokens
 
 bracket_taken : (w : Live) (q : LinkSpot) (x : Node) (s t : Progress) → TakesBracket w q x s t → result_of (Links w q) s ≡ result_of (Links w (spot_after_bracket q (bracket_link (asked s).lexeme (asked s).at x))) t

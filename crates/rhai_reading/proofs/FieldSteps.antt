@@ -32,7 +32,7 @@ pub record TakesField (c : Context) (w : Live) (before : Properties) (key : Text
   pub readable : is_memory (asked s2).lexeme ≡ false
   pub comma : after_part lists.Map (asked s2).lexeme ≡ Comma
   pub after_key : left s1.cursor.tokens ≤ left s.cursor.tokens
-  pub after_comma : left (taking s2).tokens + 1 ≤ left s.cursor.tokens
+  pub after_comma : left (taking s2).cursor.tokens + 1 ≤ left s.cursor.tokens
 
 pub field_taken : (c : Context) (w : Live) (opening : Position) (before : Properties) (key : Text × Position) (x : Node) (s s1 s2 : Progress) → TakesField c w before key x s s1 s2 → result_of (Fields c w opening before) s ≡ result_of (Fields c w opening (with_property before key.0 key.1 x)) (taking s2)
 field_taken c w opening before key x s s1 s2 h =

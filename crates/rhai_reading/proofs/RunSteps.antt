@@ -26,7 +26,7 @@ pub record TakesOne (c : Context) (w : Live) (parent n : ℕ) (right : Bool) (ne
   pub known : result_of (NextOperator c.filter) s2 ≡ R.Done next s3
   pub room : has_room c ≡ true
   pub side : result_of (BinaryOp (level_up c) w (position_of x) n x) s3 ≡ o
-  pub after_operator : left (taking s1).tokens + 1 ≤ left s.cursor.tokens
+  pub after_operator : left (taking s1).cursor.tokens + 1 ≤ left s.cursor.tokens
   pub after_operand : left s2.cursor.tokens + 1 ≤ left s.cursor.tokens
   pub after_look : left s3.cursor.tokens + 1 ≤ left s.cursor.tokens
   pub after_side : left t.cursor.tokens + 1 ≤ left s.cursor.tokens

@@ -13,6 +13,10 @@ use Rattle.rhai_grammar.specs.Seen.{StandsAtLast, is_at_last}
 use Rattle.rhai_grammar.specs.Contexts.{Context, has_room}
 use Rattle.rhai_grammar.specs.Demands as D
 use Rattle.rhai_grammar.specs.Demands.{Verdict, Fine, Wrong, Blames, Otherwise, Demands, Nothing, ◌▸◌, Tok, Next, Test, Literally, verdict}
+use Rattle.rhai_grammar.specs.Libraries.{Ended, Library}
+use Rattle.rhai_grammar.specs.Delivered.{adding}
+use Rattle.rhai_reading.specs.Reading.{Know, Add}
+use Rattle.rhai_grammar.specs.Demands.{NextIn}
 use Rattle.rhai_reading.specs.Reading.{Goal, Val, Prog, Ret, Fail, Peek, Take, TakeText, Call, CallLiteral}
 use Rattle.rhai_reading.specs.Histories.{State, Outcome, Done, Refused, Unfinished, after_brace, and_then, exec, looking, recast}
 use Rattle.rhai_reading.proofs.Joins.{cursor}
@@ -98,6 +102,11 @@ pub ill : {v : Lexeme → Verdict} {ds : Demands} {s : Point} {c : Cause} → is
     → v (op_at s) ≡ Wrong c → Way (Next v ▸ ds) s (Lost (refusal c (pos_at s)) s)
 ill {v = v} {s = s} m e = lost (lost_at v s _ _ m e refl)
 
+-- so it is where the functions that have ended are known
+pub blamed_in : {v : Library → Lexeme → Verdict} {ds : Demands} {s : Point} {e : Refusal}
+    → is_memory (op_at s) ≡ false → v s.library (op_at s) ≡ Blames e → Way (NextIn v ▸ ds) s (Lost e s)
+blamed_in {v = v} {s = s} m e = lost (lost_at (v s.library) s _ _ m e refl)
+
 pub blamed : {v : Lexeme → Verdict} {ds : Demands} {s : Point} {e : Refusal} → is_memory (op_at s) ≡ false
     → v (op_at s) ≡ Blames e → Way (Next v ▸ ds) s (Lost e s)
 blamed {v = v} {s = s} m e = lost (lost_at v s _ _ m e refl)
@@ -139,6 +148,14 @@ module _ {A : Type 0} {call : Histories} {Q : A → Point → Type 0} {N : Refus
   pub look : {k : Lexeme → Position → Prog A} {s : Point} {b : Bool}
       → (is_memory (op_at s) ≡ false → Shows call Q N (k (op_at s) (pos_at s)) s true) → Shows call Q N (Peek k) s b
   look h = record { shown = readable Q N _ _ _ (λ m. (h m).shown) }
+
+  pub know : {k : Library → Prog A} {s : Point} {b : Bool} → Shows call Q N (k s.library) s b
+      → Shows call Q N (Know k) s b
+  know h = record { shown = h.shown }
+
+  pub add : {ended : Ended} {p : Prog A} {s : Point} {b : Bool} → Shows call Q N p (adding ended s) b
+      → Shows call Q N (Add ended p) s b
+  add h = record { shown = h.shown }
 
   pub either : (t : Bool) {p q : Prog A} {s : Point} {b : Bool} → (t ≡ true → Shows call Q N p s b)
       → (t ≡ false → Shows call Q N q s b) → Shows call Q N (if t then p else q) s b

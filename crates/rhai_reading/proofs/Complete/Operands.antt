@@ -27,7 +27,7 @@ use Rattle.rhai_grammar.specs.Spots.{spot_after_operand}
 use Rattle.rhai_grammar.specs.declared.role.OperandPlace.{OperandPlace}
 use Rattle.rhai_reading.specs.Reading as R
 use Rattle.rhai_reading.specs.Reading.{Prog, Ret, Fail, Call, operand_by, body}
-use Rattle.rhai_reading.proofs.Reaches.{Reaches, seen, next, ret, gives, look, peek, take, due, if_true, part}
+use Rattle.rhai_reading.proofs.Reaches.{Reaches, seen, next, next_in, ret, gives, look, peek, take, due, if_true, part}
 use Rattle.rhai_reading.proofs.Looks.{op_at, pos_at}
 use Rattle.rhai_reading.proofs.Tokens.{is_primary, value_is, range_is, sign_is, value_primary, range_primary}
 use Rattle.rhai_reading.proofs.Tokens.{primary_begun, sign_begun, begun_readable, written, unwritten_readable, jump_start_is, omitted_is}
@@ -112,8 +112,8 @@ may_so false e h = absurd cc
 pub named : (name : Text) (pos : Position) → PrimaryRead (form.Named name pos)
 named name pos c w place called k s t b m behind =
     let u = behind (past code s) m.1.1 in
-    due m.0 refl refl (next (V.after_name c w name pos) m.1.0 (λ e.
-    if_true _ (may_so (excludes_use (op_at (past code s)) || may_use c w name) _ e)
+    due m.0 refl refl (next_in (V.after_name c w name pos) m.1.0 (λ e.
+    if_true _ (may_so (excludes_use (op_at (past code s)) || may_use c w s.library name) _ e)
     (gives (ap (λ v. name_tree w.slots v name pos) (u.1 refl)) m.1.1)))
 
 pub word : (text : Text) (pos : Position) → PrimaryRead (form.Word text pos)

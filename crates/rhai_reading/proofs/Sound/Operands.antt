@@ -43,7 +43,7 @@ use Rattle.rhai_reading.proofs.Dues.{expect}
 use Rattle.rhai_reading.proofs.Tokens.{called_no_this}
 use Rattle.rhai_reading.proofs.Looks.{op_at, pos_at}
 use Rattle.rhai_reading.proofs.Paths.{◌▹◌}
-use Rattle.rhai_reading.proofs.Shows.{Histories, Goes, Kind, wrong, blamed, fine, fails, take, look, either, gives, done}
+use Rattle.rhai_reading.proofs.Shows.{Histories, Goes, Kind, wrong, blamed, blamed_in, know, fine, fails, take, look, either, gives, done}
 use Rattle.rhai_reading.proofs.Shows.{refuse, halt, test, raise, part, first, ends}
 use Rattle.rhai_reading.proofs.FormKinds.{tree_before, operands, primaries}
 use Rattle.rhai_reading.proofs.Sound.Law.{AllSound, any_construct, any_primary, any_operand, any_run}
@@ -58,9 +58,9 @@ module _ {call : Histories} (ih : AllSound call) (c : Context) (w : Live) (place
       let name = text_of (op_at s) in
       let x = form.Named name (pos_at s) in
       let next = op_at (past code s) in
-      take (look (λ n. either (excludes_use next || may_use c w name)
+      take (look (λ n. know (either (excludes_use next || may_use c w s.library name)
       (λ may. done x (λ k o r. begun s e ▹ fine n (rw may) ▹ r))
-      (λ none. halt x refl (λ k. begun s e ▹ blamed n (rw none)))))
+      (λ none. halt x refl (λ k. begun s e ▹ blamed_in n (rw none))))))
   primary_by begin.Word e written sign m =
       let word = text_of (op_at s) in
       let x = form.Word word (pos_at s) in
