@@ -2,9 +2,13 @@
 use Rattle.std.proofs.Common.{◌≡◌, ℕ, ◌+◌, Bool, true, false, refl, sym, ◌∙◌, ap, subst, inl, inr, if◌then◌else◌}
 use Rattle.std.specs.Prelude.{Option, Some, None}
 use Rattle.rhai_lower.specs.Nodes.{Properties, no_properties, position_of, property, with_property}
-use Rattle.rhai_lower.specs.Lexemes.{Lexeme, Interpolated, Name, Reserved, Sign, text_of}
+use Rattle.rhai_lower.specs.Lexemes.{Lexeme, Interpolated, Name, Reserved, Sign, text_of, String}
 use Rattle.rhai_lower.specs.declared.position.Position.{Position}
 use Rattle.rhai_lower.specs.declared.token.Token.TheVariants as token
+use Rattle.rhai_lower.specs.Texts.{Text}
+use Rattle.std.proofs.Common.{[], ◌∷◌, ◌++◌}
+use Rattle.rhai_grammar.specs.Forms.{Owner, ParameterList, Parameters}
+use Rattle.rhai_grammar.specs.Functions.{after_type, in_function, is_type, no_function_name, parameter_names, parameters_live, type_or_name_due}
 use Rattle.rhai_grammar.specs.Beginnings.{beginning, no_operand}
 use Rattle.rhai_grammar.specs.Constructs.{construct_token, do_end_due, do_token, guard_fault, iterated_fault, kind_of}
 use Rattle.rhai_grammar.specs.Starts.{begins, is_omitted, jump_token, operand_start}
@@ -116,6 +120,37 @@ named (form.Counted opening name at comma counter counter_at closing) k h = (ref
 caught_by : (x : CatchName) (k : Demands) → IsFair k → IsFair (W.catch_name x k)
 caught_by form.NoName k h = h
 caught_by (form.Caught opening name at closing) k h = (refl, (refl, (refl, h)))
+
+function_at : (is_private : Option Position) (at : Position) (k : Demands) → IsFair k
+    → IsFair (W.function_at is_private at k)
+function_at None at k h = (refl, h)
+function_at (Some first) at k h = (refl, (refl, h))
+
+-- a type
+type_due : (l : Lexeme) → is_type l ≡ true → is_refused (verdict type_or_name_due l) ≡ false
+type_due l e = unless (is_memory l) (type_or_name_due l)
+    (ap (λ b. is_refused (if b then Otherwise else Wrong (no_function_name l))) e)
+
+dot_due : (type : Lexeme) → is_refused (verdict (after_type type) (Sign token.Period)) ≡ false
+dot_due (String t) = refl
+dot_due _ = refl
+
+function_name : (x : Owner) (name : Text) (at : Position) (k : Demands) → IsFair k
+    → IsFair (W.function_name x name at k)
+function_name form.NoOwner name at k h = (refl, h)
+function_name (form.Of type type_at dot) name at k h = λ e. (type_due type e, (dot_due type, (refl, h)))
+
+parameters : (x : Parameters) (function : Text) (before : List Text) (k : Demands) → IsFair k
+    → IsFair (W.parameters x function before k)
+parameters (form.NoParameter closing) function before k h = (refl, h)
+parameters (form.LastParameter name at closing) function before k h = (refl, (refl, h))
+parameters (form.Parameter name at comma rest) function before k h =
+    (refl, (refl, parameters rest function (before ++ name ∷ []) k h))
+
+parameter_list : (x : ParameterList) (function : Text) (k : Demands) → IsFair k
+    → IsFair (W.parameter_list x function k)
+parameter_list (form.EmptyParameters at) function k h = (refl, h)
+parameter_list (form.ListedParameters opening list) function k h = (refl, parameters list function [] k h)
 
 separated : (comma : Option Position) (itself : Bool) (k : Demands) → IsFair k → IsFair (W.separated comma itself k)
 separated None itself k h = h
@@ -242,6 +277,10 @@ mutual
   statement (form.Export at name name_at other) c w k h = (refl, (refl, other_name other k h))
   statement (form.ExportDefined at constant keyword name name_at x) c w k h =
       (refl, (anything (Sign (S.keyword_of constant)), (refl, initializer x (level_up (level_up c)) w keyword k h)))
+  statement (form.Function is_private at owner name name_at list opening body) c w k h =
+      let inner = level_up (level_up (in_function c w)) in
+      function_at is_private at _ (function_name owner name name_at _ (parameter_list list name _
+      (refl, block body inner (parameters_live (parameter_names list)) _ h)))
   statement (form.Compound at x) c w k h = λ e.
       (anything (Sign (construct_token (kind_of x))), construct x (level_up (level_up c)) w at k h)
   statement (form.Return throws at x) c w k h = (anything (Sign (jump_token throws)), jump_value x c w at k h)

@@ -1,10 +1,15 @@
 -- What each form demands leads, over the tokens of its spelling, to what comes after it.
 use Rattle.std.proofs.Common.{◌≡◌, ℕ, ◌+◌, Bool, true, false, List, [], ◌∷◌, ◌++◌, append-nil, append_assoc, refl, sym, subst}
 use Rattle.std.specs.Prelude.{Option, Some, None}
-use Rattle.rhai_lower.specs.Lexemes.{Lexeme, Sign, text_of}
+use Rattle.rhai_lower.specs.Lexemes.{Lexeme, Sign, text_of, Name}
 use Rattle.rhai_lower.specs.Nodes.{Properties, no_properties, position_of, property, with_property}
 use Rattle.rhai_lower.specs.declared.position.Position.{Position}
 use Rattle.rhai_lower.specs.declared.token.Token.TheVariants.{EOF}
+use Rattle.rhai_lower.specs.Texts.{Text}
+use Rattle.rhai_lower.specs.declared.token.Token.TheVariants as token
+use Rattle.rhai_grammar.specs.Forms.{Owner, ParameterList, Parameters}
+use Rattle.rhai_grammar.specs.Functions.{in_function, parameter_names, parameters_live}
+use Rattle.rhai_grammar.specs.Spelling.{in_code, owner_spelling, parameter_list_spelling, parameter_spelling, private_spelling}
 use Rattle.rhai_grammar.specs.Beginnings.{beginning, is_range}
 use Rattle.rhai_grammar.specs.Starts.{is_omitted, operand_start}
 use Rattle.rhai_grammar.specs.declared.role.OperandPlace.{OperandPlace}
@@ -152,6 +157,29 @@ caught_by : (x : CatchName) (k : Demands) → Leads code code (catch_spelling x)
 caught_by form.NoName k = next here
 caught_by (form.Caught opening name at closing) k = tok (tok (tok here))
 
+function_at : (is_private : Option Position) (at : Position) {ts : List Taken} {more k : Demands}
+    → Leads code code ts more k
+    → Leads code code (private_spelling is_private ++ (in_code (Sign token.Fn) at ∷ ts)) (W.function_at is_private at more) k
+function_at None at h = tok h
+function_at (Some first) at h = tok (tok h)
+
+function_name : (x : Owner) (name : Text) (at : Position) {ts : List Taken} {more k : Demands} → Leads code code ts more k
+    → Leads code code (owner_spelling x ++ (in_code (Name name) at ∷ ts)) (W.function_name x name at more) k
+function_name form.NoOwner name at h = tok (next h)
+function_name (form.Of type type_at dot) name at h = shape (λ e. tok (tok (tok (test h))))
+
+parameters : (x : Parameters) (function : Text) (before : List Text) (k : Demands)
+    → Leads code code (parameter_spelling x) (W.parameters x function before k) k
+parameters (form.NoParameter closing) function before k = tok here
+parameters (form.LastParameter name at closing) function before k = tok (test (tok here))
+parameters (form.Parameter name at comma rest) function before k =
+    tok (test (tok (parameters rest function (before ++ name ∷ []) k)))
+
+parameter_list : (x : ParameterList) (function : Text) (k : Demands)
+    → Leads code code (parameter_list_spelling x) (W.parameter_list x function k) k
+parameter_list (form.EmptyParameters at) function k = tok here
+parameter_list (form.ListedParameters opening list) function k = tok (parameters list function [] k)
+
 separated : (comma : Option Position) (itself : Bool) (k : Demands)
     → Leads code code (comma_spelling comma) (W.separated comma itself k) k
 separated None itself k = next here
@@ -286,6 +314,11 @@ mutual
   statement (form.Export at name name_at other) c w k = tok (test (test (tok (other_name other k))))
   statement (form.ExportDefined at constant keyword name name_at value) c w k =
       tok (test (test (next (test (tok (tok (test (initializer value (level_up (level_up c)) w keyword k))))))))
+  statement (form.Function is_private at owner name name_at list opening body) c w k =
+      let inner = level_up (level_up (in_function c w)) in
+      function_at is_private at (test (test_in (test (function_name owner name name_at (
+      on (parameter_list list name _) (tok (test (
+      all_of (on (block body inner (parameters_live (parameter_names list)) _) (test_in (adds here)))))))))))
 
   pub construct : (x : Construct) (c : Context) (w : Live) (at : Position) (k : Demands)
       → Leads code code (construct_spelling x) (W.construct x c w at k) k

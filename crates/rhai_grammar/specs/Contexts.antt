@@ -8,10 +8,14 @@ use Rattle.rhai_grammar.specs.declared.filter.ExprFilter.{ExprFilter}
 use Rattle.rhai_grammar.specs.declared.filter.ExprFilter.TheVariants.{AllButPipe}
 use Rattle.rhai_grammar.specs.Settings.{Settings}
 
--- the greatest number of items in an array literal, and of properties in an object map literal; 0 means no limit
+-- The engine's limits other than the depth of a script: the greatest number of items in an array literal, and of
+-- properties in an object map literal; the greatest depth of a function, where, as for these, 0 means no limit; and the
+-- greatest number of functions.
 pub record Sizes : Type 0 where
   pub array : ℕ
   pub map : ℕ
+  pub function_depth : ℕ
+  pub functions : ℕ
 
 -- What is known before a script defines or imports anything: the variables that its caller gives it, the modules that
 -- were imported around it, and those that the engine has.

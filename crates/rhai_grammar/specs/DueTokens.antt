@@ -10,7 +10,7 @@ use Rattle.rhai_grammar.specs.Causes.{Cause}
 use Rattle.rhai_grammar.specs.declared.due.DueToken.{DueToken}
 use Rattle.rhai_grammar.specs.declared.due.DueToken.TheVariants.{LeftParen, RightParen, RightBracket, Colon, LeftBrace}
 use Rattle.rhai_grammar.specs.declared.due.DueToken.TheVariants.{RightBrace, Comma, Equals, Pipe, DoubleArrow, In}
-use Rattle.rhai_grammar.specs.declared.due.DueToken.TheVariants.{As, If, Else, Catch}
+use Rattle.rhai_grammar.specs.declared.due.DueToken.TheVariants.{As, Catch, Else, Fn, If, Period}
 
 abbrev pub token_of : DueToken → Token
 token_of LeftParen = token.LeftParen
@@ -28,6 +28,8 @@ token_of If = token.If
 token_of Else = token.Else
 token_of Catch = token.Catch
 token_of As = token.As
+token_of Fn = token.Fn
+token_of Period = token.Period
 
 -- how it is written
 abbrev pub text_of_due : DueToken → Text
@@ -46,6 +48,8 @@ text_of_due If = codes "if"
 text_of_due Else = codes "else"
 text_of_due Catch = codes "catch"
 text_of_due As = codes "as"
+text_of_due Fn = codes "fn"
+text_of_due Period = codes "."
 
 abbrev is_due_sign : DueToken → Token → Bool
 is_due_sign LeftParen token.LeftParen = true
@@ -63,6 +67,8 @@ is_due_sign If token.If = true
 is_due_sign Else token.Else = true
 is_due_sign Catch token.Catch = true
 is_due_sign As token.As = true
+is_due_sign Fn token.Fn = true
+is_due_sign Period token.Period = true
 is_due_sign _ _ = false
 
 -- a token is the required one

@@ -26,6 +26,23 @@ pub data CatchName : Type 0 where
   NoName : CatchName
   Caught : (opening : Position) (name : Text) (at closing : Position) → CatchName
 
+-- the type of the objects that a function is a method of, with its dot: a name or a string
+pub data Owner : Type 0 where
+  NoOwner : Owner
+  Of : (type : Lexeme) (at dot : Position) → Owner
+
+-- the parameters of a function up to the `)`
+pub data Parameters : Type 0 where
+  -- no further parameter, after the `(` or a comma
+  NoParameter : (closing : Position) → Parameters
+  LastParameter : (name : Text) (at closing : Position) → Parameters
+  Parameter : (name : Text) (at comma : Position) → Parameters → Parameters
+
+pub data ParameterList : Type 0 where
+  -- `()` as one token
+  EmptyParameters : (at : Position) → ParameterList
+  ListedParameters : (opening : Position) → Parameters → ParameterList
+
 mutual
   -- an operand without signs, call and links
   pub data Primary : Type 0 where
@@ -147,6 +164,9 @@ mutual
     -- `export` of a definition, whose `let` or `const` is at `keyword`
     ExportDefined : (at : Position) (constant : Bool) (keyword : Position) (name : Text) (name_at : Position)
         → Initializer → Statement
+    -- a function, with its `private`, if it has one, and its `fn` at a position
+    Function : (is_private : Option Position) (at : Position) → Owner → (name : Text) (name_at : Position)
+        → ParameterList → (opening : Position) → Body → Statement
 
   -- a construct after its first token
   pub data Construct : Type 0 where

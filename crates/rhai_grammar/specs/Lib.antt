@@ -27,6 +27,7 @@ pub mod Trees
 pub mod Demands
 pub mod Constructs
 pub mod Statements
+pub mod Functions
 pub mod Switches
 pub mod Starts
 pub mod Verdicts

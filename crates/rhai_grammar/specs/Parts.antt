@@ -7,6 +7,15 @@ use Rattle.rhai_lower.specs.declared.position.Position.{Position}
 use Rattle.rhai_lower.specs.declared.token.Token.TheVariants.{LeftParen}
 use Rattle.rhai_lower.specs.declared.token.Token.TheVariants.{Comma, DoubleColon}
 use Rattle.rhai_lower.specs.declared.token.Token.TheVariants as token
+use Rattle.rhai_grammar.specs.Functions.{after_type, duplicate_of, function_name_due, in_function, is_new, is_type}
+use Rattle.rhai_grammar.specs.Functions.{may_begin, parameter_due, parameters_due, type_or_name_due, untyped}
+use Rattle.rhai_grammar.specs.Forms.{Owner, ParameterList, Parameters}
+use Rattle.rhai_grammar.specs.Imports.{is_among}
+use Rattle.rhai_grammar.specs.Libraries.{Ended}
+use Rattle.rhai_grammar.specs.declared.list.CommaList.TheVariants as lists
+use Rattle.rhai_grammar.specs.Demands.{Adds, TestIn}
+use Rattle.rhai_lower.specs.Names.{is_function_name}
+use Rattle.std.specs.Prelude.{◌++◌, [], ◌∷◌, unwrap_or}
 use Rattle.rhai_grammar.specs.Causes as cause
 use Rattle.rhai_grammar.specs.Causes.{Refusal, refusal}
 use Rattle.rhai_grammar.specs.Delivered.{code, item}
@@ -178,6 +187,56 @@ abbrev pub other_name : Alias → Demands → Demands
 other_name form.NoAlias more = Next (absent due.As) ▸ more
 other_name (form.As as_at name at) more =
     Tok code (item (Sign token.As) as_at) anything ▸ Tok code (item (Name name) at) name_due ▸ more
+
+-- ---- functions
+
+-- `fn`, with or without `private` before it
+abbrev pub function_at : (is_private : Option Position) → (at : Position) → Demands → Demands
+function_at None at more = Tok code (item (Sign token.Fn) at) anything ▸ more
+function_at (Some first) at more = Tok code (item (Sign token.Private) first) anything ▸ due_token due.Fn at more
+
+-- A function stands at the global level, and one more is within the limit. Its level is raised at its `fn`.
+abbrev pub function_begins : (is_private : Option Position) → (at : Position) → Context → Live → Demands → Demands
+function_begins is_private at context live more =
+    function_at is_private at (
+    Test (is_global context) (refusal cause.WrongFnDefinition (unwrap_or is_private at)) ▸
+    TestIn (may_begin context) (refusal cause.TooManyFunctions at) ▸ raise_at (in_function context live) at more)
+
+-- the name of a function, with the type of its objects, if it has one
+abbrev pub function_name : Owner → (name : Text) → (at : Position) → Demands → Demands
+function_name form.NoOwner name at more =
+    Tok code (item (Name name) at) type_or_name_due ▸ Next (untyped name at) ▸ more
+function_name (form.Of type type_at dot) name at more =
+    Shape (is_type type) ▸ Tok code (item type type_at) type_or_name_due ▸
+    Tok code (item (Sign token.Period) dot) (after_type type) ▸ Tok code (item (Name name) at) function_name_due ▸
+    Test (is_function_name name) (refusal cause.FnMissingName at) ▸ more
+
+-- no two parameters of a function have one name
+abbrev pub parameter : (name : Text) → (at : Position) → (function : Text) → (before : List Text) → Demands → Demands
+parameter name at function before more =
+    Tok code (item (Name name) at) parameter_due ▸
+    Test (not (is_among name before)) (refusal (cause.FnDuplicatedParam function name) at) ▸ more
+
+abbrev pub parameters : Parameters → (function : Text) → (before : List Text) → Demands → Demands
+parameters (form.NoParameter closing) function before more =
+    Tok code (item (Sign token.RightParen) closing) parameter_due ▸ more
+parameters (form.LastParameter name at closing) function before more =
+    parameter name at function before (closed_at lists.Parameters closing more)
+parameters (form.Parameter name at comma rest) function before more =
+    parameter name at function before (
+    comma_at lists.Parameters comma (parameters rest function (before ++ name ∷ []) more))
+
+abbrev pub parameter_list : ParameterList → (function : Text) → Demands → Demands
+parameter_list (form.EmptyParameters at) function more =
+    Tok code (item (Sign token.Unit) at) (parameters_due function) ▸ more
+parameter_list (form.ListedParameters opening list) function more =
+    Tok code (item (Sign LeftParen) opening) (parameters_due function) ▸ parameters list function [] more
+
+-- A function ends where no other has its key.
+abbrev pub function_ends : Ended → (at : Position) → Demands → Demands
+function_ends ended at more = TestIn (is_new ended.key) (duplicate_of ended.key at) ▸ Adds ended ▸ more
+
+-- ---- places
 
 -- `export` stands at the global level
 abbrev pub global_at : Context → Position → Demands → Demands

@@ -39,7 +39,7 @@ abbrev pub depth : ℕ → Context
 depth limit = record {
   settings = record { flags = 0; options = 0; level = 0; limit = limit };
   options = 191;
-  sizes = record { array = 0; map = 0 };
+  sizes = record { array = 0; map = 0; function_depth = 32; functions = 100 };
   filter = All;
   known = nothing_known;
 }
@@ -229,7 +229,7 @@ sized_form =
 
 -- the default depth limit, and at most two items in an array
 abbrev pub two_items : Context
-two_items = record (depth 64) { sizes = record { array = 2; map = 0 } }
+two_items = record (depth 64) { sizes = record { array = 2; map = 0; function_depth = 32; functions = 100 } }
 
 abbrev pub sized_tokens : List (Lexeme × ℕ)
 sized_tokens = sized_begun ++ sized_rest

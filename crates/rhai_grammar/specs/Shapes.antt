@@ -6,6 +6,7 @@ use Rattle.rhai_lower.specs.Nodes as node
 use Rattle.rhai_lower.specs.Nodes.{Arms, Block, Called, Cases, Named, Node, Nodes, Optional, Properties, Statement}
 use Rattle.rhai_lower.specs.Nodes.{Statements}
 use Rattle.rhai_lower.specs.declared.position.Position.{Position}
+use Rattle.rhai_grammar.specs.Forms.{Owner, ParameterList, Parameters}
 use Rattle.rhai_grammar.specs.Contexts.{nothing_live}
 use Rattle.rhai_grammar.specs.Slots.{number}
 use Rattle.rhai_grammar.specs.Trees.{tree}
@@ -101,7 +102,7 @@ abbrev mutual
 
 -- ---- forms
 
--- a token that may be absent, as the `!` of a call
+-- a token that may be absent, as the `!` of a call and the `private` of a function
 abbrev pub bang_shape : Option Position → Option Position
 bang_shape bang = option_map (λ at. nowhere) bang
 
@@ -121,6 +122,19 @@ names_shape (form.Counted opening name at comma counter counter_at closing) =
 abbrev pub catch_shape : CatchName → CatchName
 catch_shape form.NoName = form.NoName
 catch_shape (form.Caught opening name at closing) = form.Caught nowhere name nowhere nowhere
+
+abbrev pub owner_shape : Owner → Owner
+owner_shape form.NoOwner = form.NoOwner
+owner_shape (form.Of type at dot) = form.Of type nowhere nowhere
+
+abbrev pub parameters_shape : Parameters → Parameters
+parameters_shape (form.NoParameter closing) = form.NoParameter nowhere
+parameters_shape (form.LastParameter name at closing) = form.LastParameter name nowhere nowhere
+parameters_shape (form.Parameter name at comma rest) = form.Parameter name nowhere nowhere (parameters_shape rest)
+
+abbrev pub parameter_list_shape : ParameterList → ParameterList
+parameter_list_shape (form.EmptyParameters at) = form.EmptyParameters nowhere
+parameter_list_shape (form.ListedParameters opening list) = form.ListedParameters nowhere (parameters_shape list)
 
 abbrev mutual
   pub primary_shape : Primary → Primary
@@ -208,6 +222,9 @@ abbrev mutual
   written_shape (form.Export at name name_at other) = form.Export nowhere name nowhere (alias_shape other)
   written_shape (form.ExportDefined at constant keyword name name_at value) =
       form.ExportDefined nowhere constant nowhere name nowhere (initializer_shape value)
+  written_shape (form.Function is_private at owner name name_at list opening body) =
+      form.Function (bang_shape is_private) nowhere (owner_shape owner) name nowhere (parameter_list_shape list) nowhere
+      (body_shape body)
 
   pub construct_shape : Construct → Construct
   construct_shape (form.Block body) = form.Block (body_shape body)

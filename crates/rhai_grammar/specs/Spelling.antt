@@ -12,7 +12,8 @@ use Rattle.rhai_grammar.specs.Delivered.{code, text, item, Tokens, Ends, Then, T
 use Rattle.rhai_grammar.specs.Forms as form
 use Rattle.rhai_grammar.specs.Forms.{Primary, Base, Links, Operand, Arguments, Items, Elements, Fields, Run}
 use Rattle.rhai_grammar.specs.Forms.{Body, Branch, CatchName, Conditional, Construct, ExprStatement, Initializer}
-use Rattle.rhai_grammar.specs.Forms.{Alias, JumpValue, LoopNames, Path, Segments, Statement, Statements}
+use Rattle.rhai_grammar.specs.Forms.{Alias, JumpValue, LoopNames, Owner, ParameterList, Parameters, Path, Segments}
+use Rattle.rhai_grammar.specs.Forms.{Statement, Statements}
 use Rattle.rhai_grammar.specs.Forms.{Action, Arms, CaseGuard, Cases}
 use Rattle.rhai_grammar.specs.Constructs.{construct_token, do_token, kind_of}
 use Rattle.rhai_grammar.specs.Starts.{jump_token}
@@ -46,6 +47,28 @@ path_spelling (form.Scoped colons name at rest) =
 abbrev pub alias_spelling : Alias → List Taken
 alias_spelling form.NoAlias = []
 alias_spelling (form.As as_at name at) = in_code (Sign token.As) as_at ∷ in_code (Name name) at ∷ []
+
+-- the `private` of a function, if it has one
+abbrev pub private_spelling : Option Position → List Taken
+private_spelling None = []
+private_spelling (Some at) = in_code (Sign token.Private) at ∷ []
+
+-- the type before a function's name, with its dot
+abbrev pub owner_spelling : Owner → List Taken
+owner_spelling form.NoOwner = []
+owner_spelling (form.Of type at dot) = in_code type at ∷ in_code (Sign token.Period) dot ∷ []
+
+abbrev pub parameter_spelling : Parameters → List Taken
+parameter_spelling (form.NoParameter closing) = in_code (Sign RightParen) closing ∷ []
+parameter_spelling (form.LastParameter name at closing) =
+    in_code (Name name) at ∷ in_code (Sign RightParen) closing ∷ []
+parameter_spelling (form.Parameter name at comma rest) =
+    in_code (Name name) at ∷ in_code (Sign Comma) comma ∷ parameter_spelling rest
+
+abbrev pub parameter_list_spelling : ParameterList → List Taken
+parameter_list_spelling (form.EmptyParameters at) = in_code (Sign token.Unit) at ∷ []
+parameter_list_spelling (form.ListedParameters opening list) =
+    in_code (Sign LeftParen) opening ∷ parameter_spelling list
 
 abbrev pub names_spelling : LoopNames → List Taken
 names_spelling (form.Variable name at) = in_code (Name name) at ∷ []
@@ -155,6 +178,11 @@ abbrev mutual
   statement_spelling (form.ExportDefined at constant keyword name name_at value) =
       in_code (Sign token.Export) at ∷ in_code (Sign (keyword_of constant)) keyword ∷ in_code (Name name) name_at
       ∷ initializer_spelling value
+
+  statement_spelling (form.Function is_private at owner name name_at list opening body) =
+      private_spelling is_private ++ (in_code (Sign token.Fn) at ∷ (owner_spelling owner
+      ++ (in_code (Name name) name_at ∷ (parameter_list_spelling list
+      ++ (in_code (Sign LeftBrace) opening ∷ body_spelling body)))))
 
   pub construct_spelling : Construct → List Taken
   construct_spelling (form.Block body) = body_spelling body

@@ -44,6 +44,8 @@ sign_start token.Break = start.Break
 sign_start token.Continue = start.Continue
 sign_start token.Import = start.Import
 sign_start token.Export = start.Export
+sign_start token.Fn = start.Function
+sign_start token.Private = start.Private
 sign_start _ = start.Expression
 
 -- what a token begins where a statement is expected, if the engine lets scripts have loops

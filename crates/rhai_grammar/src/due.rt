@@ -33,4 +33,8 @@ pub enum DueToken {
     Catch,
     /// `as`, before another name, after `import` and `export`.
     As,
+    /// `fn`, directly after `private`.
+    Fn,
+    /// `.`, after a string that is the type of a function's objects.
+    Period,
 }

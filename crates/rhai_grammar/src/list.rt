@@ -11,6 +11,8 @@ pub enum CommaList {
     Map,
     /// The arms of a `switch`, up to `}`.
     Arms,
+    /// The parameters of a function, up to `)`.
+    Parameters,
 }
 
 /// What a token is after a part of such a list.

@@ -95,12 +95,12 @@ pub enum Linking {
     Nothing,
 }
 
-/// What a token is where an item of an array may begin.
+/// What a token is where an item of an array, or a parameter of a function, may begin.
 #[derive(Clone, Copy, PartialEq, Eq, Debug)]
 pub enum ItemPlace {
-    /// `]`, which ends the array.
+    /// `]` or `)`, which ends the list.
     End,
-    /// The beginning of an item.
+    /// The beginning of an item, or a parameter.
     Item,
     /// It may not stand there.
     Nothing,
@@ -164,6 +164,10 @@ pub enum StatementStart {
     Import,
     /// `export`.
     Export,
+    /// `fn`.
+    Function,
+    /// `private`, which is followed by `fn`.
+    Private,
     /// An expression, or nothing that may stand there.
     Expression,
 }

@@ -1,0 +1,215 @@
+-- Functions of a script: where they may stand, what their parts are, and what they give.
+use Rattle.std.specs.Prelude.{◌≡◌, ℕ, Bool, true, false, ◌++◌, not, None, Option, Some, List, [], ◌∷◌, codes, length}
+use Rattle.std.specs.Prelude.{if◌then◌else◌, map, nat_lt, refl, unwrap_or}
+use Rattle.std.specs.Int.RustNames.{bit_and, bit_or}
+use Rattle.rhai_lower.specs.Texts.{Text, same_text}
+use Rattle.rhai_lower.specs.Names.{is_function_name}
+use Rattle.rhai_lower.specs.Lexemes.{Faulty, Lexeme, Name, Reserved, Sign, String, text_of}
+use Rattle.rhai_lower.specs.Nodes.{Block}
+use Rattle.rhai_lower.specs.declared.position.Position.{Position}
+use Rattle.rhai_lower.specs.declared.token.Token.{Token}
+use Rattle.rhai_lower.specs.declared.token.Token.TheVariants as token
+use Rattle.rhai_input.specs.Slots.{fresh_slot}
+use Rattle.rhai_grammar.specs.Causes as cause
+use Rattle.rhai_grammar.specs.Causes.{Cause, Refusal, refusal}
+use Rattle.rhai_grammar.specs.Beginnings.{calling, missing}
+use Rattle.rhai_grammar.specs.declared.role.Calling.{Calling}
+use Rattle.rhai_grammar.specs.declared.role.Calling.TheVariants as calls_by
+use Rattle.rhai_grammar.specs.Contexts.{Context, Live}
+use Rattle.rhai_grammar.specs.Demands.{Verdict, Fine, Wrong, Blames, Otherwise}
+use Rattle.rhai_grammar.specs.DueTokens.{is_due, not_due}
+use Rattle.rhai_grammar.specs.declared.due.DueToken.TheVariants as due
+use Rattle.rhai_grammar.specs.declared.filter.ExprFilter.TheVariants.{All}
+use Rattle.rhai_grammar.specs.declared.role.ItemPlace.{ItemPlace}
+use Rattle.rhai_grammar.specs.declared.role.ItemPlace.TheVariants as place
+use Rattle.rhai_grammar.specs.Forms as form
+use Rattle.rhai_grammar.specs.Forms.{Owner, ParameterList, Parameters}
+use Rattle.rhai_grammar.specs.Keys.{Key, has_key}
+use Rattle.rhai_grammar.specs.Libraries.{Ended, Library, keys_in}
+use Rattle.rhai_grammar.specs.Settings.{Settings}
+
+-- ---- what a function is read under
+
+-- The settings in a function: level 0 under the depth for functions, with the flag that a function's body is parsed and
+-- the one that requires strings as keys, if it is set; and the engine's options, with strict variables where they are.
+abbrev pub function_settings : Context → Settings
+function_settings context = record {
+  flags = bit_or 2 (bit_and context.settings.flags 32);
+  options = bit_or context.options (bit_and context.settings.options 64);
+  level = 0;
+  limit = context.sizes.function_depth;
+}
+
+-- A function's body may have `|` as an operator, and knows the live imports around it, but not their numbers.
+abbrev pub in_function : Context → Live → Context
+in_function context live = record context {
+  settings = function_settings context;
+  filter = All;
+  known = record context.known { imports = context.known.imports ++ live.imports };
+}
+
+-- what is live where the body begins: the parameters
+abbrev pub parameters_live : List Text → Live
+parameters_live names = record { slots = map (λ name. fresh_slot name false) names; block = 0; imports = [] }
+
+-- One more function is within the limit.
+abbrev pub may_begin : Context → Library → Bool
+may_begin context library = nat_lt (length library) context.sizes.functions
+
+-- ---- its name
+
+-- a name or a string, which may be the type of the objects that a function is a method of
+abbrev pub is_type : Lexeme → Bool
+is_type (Name t) = true
+is_type (String t) = true
+is_type _ = false
+
+-- the name of that type: `int` stands for `i64`
+abbrev pub type_name : Lexeme → Text
+type_name l = if same_text (text_of l) (codes "int") then codes "i64" else text_of l
+
+-- the error for a token that is no function's name
+abbrev pub no_function_name : Lexeme → Cause
+no_function_name (Faulty f) = cause.BadInput (cause.Lexer f)
+no_function_name (Reserved t) = cause.Reserved t
+no_function_name l = cause.FnMissingName
+
+-- after `fn`: a type or a name
+abbrev pub type_or_name_due : Lexeme → Verdict
+type_or_name_due l = if is_type l then Otherwise else Wrong (no_function_name l)
+
+-- After a name without a type: no dot, which would make it a type. A name that the language reserves is none.
+abbrev pub untyped : (name : Text) → Position → Lexeme → Verdict
+untyped name at l = if is_due due.Period l then Otherwise else
+    if is_function_name name then Fine else Blames (refusal cause.FnMissingName at)
+
+-- after a type: a dot, where the type is a string
+abbrev pub after_type : (type : Lexeme) → Lexeme → Verdict
+after_type (String t) l = if is_due due.Period l then Otherwise else Wrong (not_due due.Period l)
+after_type type l = Otherwise
+
+-- after the dot: a name
+abbrev pub function_name_due : Lexeme → Verdict
+function_name_due (Name t) = Otherwise
+function_name_due l = Wrong (no_function_name l)
+
+abbrev pub owner_of : Owner → Option Text
+owner_of form.NoOwner = None
+owner_of (form.Of type at dot) = Some (type_name type)
+
+-- ---- its parameters
+
+-- the error for a token that begins no list of parameters
+abbrev pub no_parameters : (function : Text) → Lexeme → Cause
+no_parameters function (Faulty f) = cause.BadInput (cause.Lexer f)
+no_parameters function l = cause.FnMissingParams function
+
+abbrev pub parameters_by : (function : Text) → Lexeme → Calling → Verdict
+parameters_by function l calls_by.Pair = Otherwise
+parameters_by function l calls_by.List = Otherwise
+parameters_by function l _ = Wrong (no_parameters function l)
+
+-- after the name: `()` or `(`
+abbrev pub parameters_due : (function : Text) → Lexeme → Verdict
+parameters_due function l = parameters_by function l (calling l)
+
+-- a keyword of the language
+abbrev pub is_keyword : Token → Bool
+is_keyword token.True = true
+is_keyword token.False = true
+is_keyword token.Let = true
+is_keyword token.Const = true
+is_keyword token.If = true
+is_keyword token.Else = true
+is_keyword token.Switch = true
+is_keyword token.While = true
+is_keyword token.Loop = true
+is_keyword token.Do = true
+is_keyword token.Until = true
+is_keyword token.For = true
+is_keyword token.In = true
+is_keyword token.NotIn = true
+is_keyword token.Break = true
+is_keyword token.Continue = true
+is_keyword token.Return = true
+is_keyword token.Throw = true
+is_keyword token.Try = true
+is_keyword token.Catch = true
+is_keyword token.Import = true
+is_keyword token.Export = true
+is_keyword token.As = true
+is_keyword token.Fn = true
+is_keyword token.Private = true
+is_keyword _ = false
+
+-- what a token is where a parameter may be
+abbrev pub parameter_place : Lexeme → ItemPlace
+parameter_place (Sign token.RightParen) = place.End
+parameter_place (Name t) = place.Item
+parameter_place _ = place.Nothing
+
+-- the error for a token that may not stand there
+abbrev pub no_parameter : Lexeme → Cause
+no_parameter (Reserved t) = cause.Reserved t
+no_parameter (Sign t) = if is_keyword t then cause.VariableExpected else missing (codes ")") (Sign t)
+no_parameter l = missing (codes ")") l
+
+abbrev pub parameter_by : Lexeme → ItemPlace → Verdict
+parameter_by l place.Nothing = Wrong (no_parameter l)
+parameter_by l _ = Otherwise
+
+-- where a parameter may be: a name, or `)`
+abbrev pub parameter_due : Lexeme → Verdict
+parameter_due l = parameter_by l (parameter_place l)
+
+-- the names of parameters, after those before
+abbrev pub names_after : Parameters → (before : List Text) → List Text
+names_after (form.NoParameter closing) before = before
+names_after (form.LastParameter name at closing) before = before ++ name ∷ []
+names_after (form.Parameter name at comma rest) before = names_after rest (before ++ name ∷ [])
+
+abbrev pub parameter_names : ParameterList → List Text
+parameter_names (form.EmptyParameters at) = []
+parameter_names (form.ListedParameters opening list) = names_after list []
+
+-- ---- its body, and what it gives
+
+-- the error for a token that begins no body
+abbrev pub no_body : (function : Text) → Lexeme → Cause
+no_body function (Faulty f) = cause.BadInput (cause.Lexer f)
+no_body function l = cause.FnMissingBody function
+
+-- after the parameters: `{`
+abbrev pub body_due : (function : Text) → Lexeme → Verdict
+body_due function l = if is_due due.LeftBrace l then Otherwise else Wrong (no_body function l)
+
+-- a function with its key: the type, the name and the number of parameters
+abbrev pub ended_function : (is_private : Bool) → (owner : Option Text) → (name : Text) → (parameters : List Text)
+    → (body : Block) → Ended
+ended_function is_private owner name parameters body = record {
+  key = record { this_type = owner; name = name; params = length parameters };
+  function = record {
+    this_type = owner;
+    name = name;
+    is_private = is_private;
+    parameters = parameters;
+    body = body;
+  };
+}
+
+-- No function that has ended has this key.
+abbrev pub is_new : Key → Library → Bool
+is_new key library = not (has_key key (keys_in library))
+
+-- the error for a function whose key another one has; `at` is its `fn`
+abbrev pub duplicate_of : Key → (at : Position) → Refusal
+duplicate_of key at = refusal (cause.FnDuplicatedDefinition key.name key.params) at
+
+-- `(a, b,)`: a trailing comma adds nothing. `this` is refused as a parameter, and so is `if`.
+example : (places : Position)
+    → (names_after (form.Parameter (codes "a") places places (form.Parameter (codes "b") places places
+    (form.NoParameter places))) [] ≡ codes "a" ∷ codes "b" ∷ [])
+    × (parameter_due (Reserved (codes "this")) ≡ Wrong (cause.Reserved (codes "this")))
+    × (parameter_due (Sign token.If) ≡ Wrong cause.VariableExpected)
+    × (type_name (Name (codes "int")) ≡ codes "i64")
+example places = (refl, refl, refl, refl)
