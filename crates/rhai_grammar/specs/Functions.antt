@@ -68,6 +68,10 @@ is_type _ = false
 abbrev pub type_name : Lexeme → Text
 type_name l = if same_text (text_of l) (codes "int") then codes "i64" else text_of l
 
+-- a name that a function may have: one that is not reserved
+unfoldable pub names_function : Text → Bool
+names_function name = is_function_name name
+
 -- the error for a token that is no function's name
 abbrev pub no_function_name : Lexeme → Cause
 no_function_name (Faulty f) = cause.BadInput (cause.Lexer f)
@@ -81,7 +85,7 @@ type_or_name_due l = if is_type l then Otherwise else Wrong (no_function_name l)
 -- After a name without a type: no dot, which would make it a type. A name that the language reserves is none.
 abbrev pub untyped : (name : Text) → Position → Lexeme → Verdict
 untyped name at l = if is_due due.Period l then Otherwise else
-    if is_function_name name then Fine else Blames (refusal cause.FnMissingName at)
+    if names_function name then Fine else Blames (refusal cause.FnMissingName at)
 
 -- after a type: a dot, where the type is a string
 abbrev pub after_type : (type : Lexeme) → Lexeme → Verdict

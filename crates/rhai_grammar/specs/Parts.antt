@@ -8,13 +8,12 @@ use Rattle.rhai_lower.specs.declared.token.Token.TheVariants.{LeftParen}
 use Rattle.rhai_lower.specs.declared.token.Token.TheVariants.{Comma, DoubleColon}
 use Rattle.rhai_lower.specs.declared.token.Token.TheVariants as token
 use Rattle.rhai_grammar.specs.Functions.{after_type, duplicate_of, function_name_due, in_function, is_new, is_type}
-use Rattle.rhai_grammar.specs.Functions.{may_begin, parameter_due, parameters_due, type_or_name_due, untyped}
+use Rattle.rhai_grammar.specs.Functions.{may_begin, names_function, parameter_due, parameters_due, type_or_name_due, untyped}
 use Rattle.rhai_grammar.specs.Forms.{Owner, ParameterList, Parameters}
 use Rattle.rhai_grammar.specs.Imports.{is_among}
 use Rattle.rhai_grammar.specs.Libraries.{Ended}
 use Rattle.rhai_grammar.specs.declared.list.CommaList.TheVariants as lists
 use Rattle.rhai_grammar.specs.Demands.{Adds, TestIn}
-use Rattle.rhai_lower.specs.Names.{is_function_name}
 use Rattle.std.specs.Prelude.{◌++◌, [], ◌∷◌, unwrap_or}
 use Rattle.rhai_grammar.specs.Causes as cause
 use Rattle.rhai_grammar.specs.Causes.{Refusal, refusal}
@@ -209,7 +208,7 @@ function_name form.NoOwner name at more =
 function_name (form.Of type type_at dot) name at more =
     Shape (is_type type) ▸ Tok code (item type type_at) type_or_name_due ▸
     Tok code (item (Sign token.Period) dot) (after_type type) ▸ Tok code (item (Name name) at) function_name_due ▸
-    Test (is_function_name name) (refusal cause.FnMissingName at) ▸ more
+    Test (names_function name) (refusal cause.FnMissingName at) ▸ more
 
 -- no two parameters of a function have one name
 abbrev pub parameter : (name : Text) → (at : Position) → (function : Text) → (before : List Text) → Demands → Demands

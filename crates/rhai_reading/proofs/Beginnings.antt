@@ -1,4 +1,5 @@
 -- Which token it is that a view of one found.
+use Rattle.rhai_grammar.specs.Functions.{parameter_place}
 use Rattle.std.proofs.Common.{◌≡◌, ℕ, Bool, true, false, refl, ap, ◌∙◌, subst, if◌then◌else◌}
 use Rattle.rhai_lower.specs.Lexemes.{Lexeme, Interpolated, Name, Reserved, Sign, String, text_of}
 use Rattle.rhai_grammar.specs.Interpolations.{is_last_text, is_text}
@@ -108,6 +109,21 @@ pub placed : {v : ItemPlace} (limit count : ℕ) (s : Point) → item_place limi
     → Places v (next_at code s)
 placed limit count s e = subst (λ v. Places v (next_at code s)) e (places limit count (op_at s) (pos_at s))
 
+-- ---- where a parameter may be
+
+abbrev pub ParameterIs : ItemPlace → Item → Type 0
+ParameterIs place.End i = i ≡ item (Sign token.RightParen) i.at
+ParameterIs place.Item i = i ≡ item (Name (text_of i.lexeme)) i.at
+ParameterIs _ i = Unit {0}
+
+parameter_at : (l : Lexeme) (p : Position) → ParameterIs (parameter_place l) (item l p)
+parameter_at (Sign token.RightParen) p = refl
+parameter_at (Name t) p = refl
+parameter_at _ p = tt
+
+pub parameter_is : {v : ItemPlace} (s : Point) → parameter_place (op_at s) ≡ v → ParameterIs v (next_at code s)
+parameter_is s e = subst (λ v. ParameterIs v (next_at code s)) e (parameter_at (op_at s) (pos_at s))
+
 -- ---- where a key may stand: it is named by the text of its token
 
 abbrev pub Keys : KeyPlace → Item → Type 0
@@ -139,6 +155,8 @@ Starts start.Break i = i ≡ item (Sign token.Break) i.at
 Starts start.Continue i = i ≡ item (Sign token.Continue) i.at
 Starts start.Import i = i ≡ item (Sign token.Import) i.at
 Starts start.Export i = i ≡ item (Sign token.Export) i.at
+Starts start.Function i = i ≡ item (Sign token.Fn) i.at
+Starts start.Private i = i ≡ item (Sign token.Private) i.at
 Starts start.Expression i = Unit {0}
 
 starts : (l : Lexeme) (p : Position) → Starts (any_start l) (item l p)
@@ -159,6 +177,8 @@ starts (Sign token.Break) p = refl
 starts (Sign token.Continue) p = refl
 starts (Sign token.Import) p = refl
 starts (Sign token.Export) p = refl
+starts (Sign token.Fn) p = refl
+starts (Sign token.Private) p = refl
 starts _ p = tt
 
 -- and the engine allows it
@@ -188,6 +208,8 @@ allowed c start.Return i h = (tt, h)
 allowed c start.Throw i h = (tt, h)
 allowed c start.Import i h = (tt, h)
 allowed c start.Export i h = (tt, h)
+allowed c start.Function i h = (tt, h)
+allowed c start.Private i h = (tt, h)
 allowed c start.Expression i h = (tt, h)
 
 pub started : {v : StatementStart} (c : Context) (s : Point) → statement_start c (op_at s) ≡ v

@@ -8,7 +8,9 @@ pub mod Runs
 pub mod Statements
 pub mod Constructs
 pub mod Switches
+pub mod Functions
 pub mod Whole
+use Rattle.rhai_reading.proofs.Complete.Functions as Y
 use Rattle.std.proofs.Common.{Bool, true}
 use Rattle.rhai_grammar.specs.Delivered.{Point}
 use Rattle.rhai_grammar.specs.Contexts.{Context, Live}
@@ -130,6 +132,13 @@ mutual
   statement (form.Export pos name name_at other) = T.export pos name name_at other
   statement (form.ExportDefined pos constant keyword name name_at value) =
       T.export_defined pos constant keyword name name_at value (initializer value)
+  statement (form.Function is_private pos owner name name_at list opening f) =
+      Y.statement is_private pos (record {
+        head = record { owner = owner; name = name; at = name_at };
+        list = list;
+        opening = opening;
+        body = f;
+      }) (block f)
 
   construct : (x : Construct) → ConstructRead x
   construct (form.Block f) = B.block f (block f)

@@ -41,6 +41,8 @@ stands due.If (Sign token.If) p e = refl
 stands due.Else (Sign token.Else) p e = refl
 stands due.Catch (Sign token.Catch) p e = refl
 stands due.As (Sign token.As) p e = refl
+stands due.Fn (Sign token.Fn) p e = refl
+stands due.Period (Sign token.Period) p e = refl
 stands _ _ p e = absurd cc
 
 -- the token that is due is missed at a point
@@ -95,6 +97,9 @@ follows lists.Map _ p = tt
 follows lists.Arms (Sign token.Comma) p = refl
 follows lists.Arms (Sign token.RightBrace) p = refl
 follows lists.Arms _ p = tt
+follows lists.Parameters (Sign token.Comma) p = refl
+follows lists.Parameters (Sign token.RightParen) p = refl
+follows lists.Parameters _ p = tt
 
 pub followed : {v : AfterPart} (parts : CommaList) (s : Point) → after_part parts (op_at s) ≡ v
     → Follows parts v (next_at code s)

@@ -11,6 +11,7 @@ pub mod Paths
 pub mod Shows
 pub mod FormKinds
 pub mod ConstructKinds
+pub mod FunctionKinds
 pub mod SwitchKinds
 pub mod Reaches
 pub mod Complete

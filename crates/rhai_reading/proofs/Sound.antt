@@ -8,7 +8,9 @@ pub mod Runs
 pub mod Statements
 pub mod Switches
 pub mod Constructs
+pub mod Functions
 pub mod Whole
+use Rattle.rhai_reading.proofs.Sound.Functions as Y
 use Rattle.std.proofs.Common.{◌≡◌, ℕ, zero, suc, Bool}
 use Rattle.rhai_grammar.specs.Contexts.{Context, Live}
 use Rattle.rhai_grammar.specs.Definitions.{after_statements}
@@ -86,6 +88,11 @@ step ih (R.DefaultArm c w default) s b = tells (X.default_arm ih c w default s b
 step ih (R.Action c w) s b = tells (X.action ih c w s b)
 step {call = call} ih (R.ArmEnd itself) s b = tells (X.arm_end call itself s b)
 step {call = call} ih (R.DefaultEnd default) s b = tells (X.default_end call default s b)
+step ih (R.FunctionStatement c w from at is_private) s b = tells (Y.function_statement ih c w from at is_private s b)
+step ih (R.Function c at is_private) s b = tells (Y.function ih c at is_private s b)
+step {call = call} ih R.FunctionHead s b = tells (Y.head call s b)
+step ih (R.ParameterList function) s b = tells (Y.parameter_list ih function s b)
+step ih (R.Parameters function before) s b = tells (Y.parameters_of ih function before s b)
 step {call = call} ih R.BlockStart s b = tells (L.block_start call s b)
 step ih (R.Inside c w) s b = tells (T.inside ih c w s b)
 step ih (R.Block c w opening) s b = tells (T.block ih c w opening s b)

@@ -135,6 +135,16 @@ pub data Goal : Type 0 where
   ArmEnd : (itself : Bool) → Goal
   -- the `}` after the default arm, whose `_` is at a position
   DefaultEnd : (default : Position) → Goal
+  -- a function after its `fn`, which is at a position, as a statement whose first token is at another
+  FunctionStatement : Context → Live → (first at : Position) (is_private : Bool) → Goal
+  -- a function, under its own settings, up to the end of its body
+  Function : Context → (at : Position) (is_private : Bool) → Goal
+  -- its name, with the type of its objects, if it has one
+  FunctionHead : Goal
+  -- its parameters, after its name
+  ParameterList : (function : Text) → Goal
+  -- its parameters up to the `)`, after these
+  Parameters : (function : Text) (before : List Text) → Goal
 
 -- a script, up to the end mark
 abbrev pub Script : Context → Live → Goal
@@ -194,6 +204,11 @@ Val (CaseGuard context live) = Node
 Val (Action context live) = Node × Bool
 Val (ArmEnd itself) = Unit {0}
 Val (DefaultEnd default) = Unit {0}
+Val (FunctionStatement context live first at is_private) = node.Statement × Live
+Val (Function context at is_private) = Ended
+Val FunctionHead = Option Text × Text
+Val (ParameterList function) = List Text
+Val (Parameters function before) = List Text
 
 -- a reader that gives an A
 pub data Prog (A : Type 0) : Type 0 where

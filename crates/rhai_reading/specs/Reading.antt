@@ -47,6 +47,7 @@ use Rattle.rhai_grammar.specs.Libraries.{Library}
 use Rattle.rhai_grammar.specs.Starts.{operand_start, place_after, starts}
 use Rattle.rhai_grammar.specs.declared.role.OperandStart.{OperandStart}
 use Rattle.rhai_grammar.specs.declared.role.OperandStart.TheVariants as first
+use Rattle.rhai_grammar.specs.Functions.{parameter_place}
 use Rattle.rhai_grammar.specs.Switches.{arm_fault, arm_place}
 use Rattle.rhai_grammar.specs.Signs.{signed, sign_holds, malformed}
 use Rattle.rhai_grammar.specs.Operators.{operator_tree, boolean_holds, mismatched}
@@ -60,7 +61,7 @@ pub use Rattle.rhai_reading.specs.Goals.{Definition, Statement, Statements, Bloc
 pub use Rattle.rhai_reading.specs.Goals.{Branch, Braced, Catch, Conditional, Construct, DoEnd, Guard, Iterated}
 pub use Rattle.rhai_reading.specs.Goals.{Alias, Export, Import, LoopNames, Path, RightOperand}
 pub use Rattle.rhai_reading.specs.Goals.{Action, Arm, ArmEnd, Arms, Case, CaseGuard, Cases, DefaultArm}
-pub use Rattle.rhai_reading.specs.Goals.{DefaultEnd}
+pub use Rattle.rhai_reading.specs.Goals.{DefaultEnd, Function, FunctionHead, FunctionStatement, ParameterList, Parameters}
 pub use Rattle.rhai_reading.specs.Goals.{Ret, Fail, Peek, Take, TakeText, Know, Add, Call, CallLiteral, Script, Val, Prog}
 pub use Rattle.rhai_reading.specs.Goals.{after_a_part, construct_on, match_name, match_token, part_next, raised, tested}
 pub use Rattle.rhai_reading.specs.ReadingStatements.{evaluated_at, var_name_at, value_at, definition_on}
@@ -69,6 +70,8 @@ pub use Rattle.rhai_reading.specs.ReadingStatements.{statements_at, inside_on, i
 pub use Rattle.rhai_reading.specs.ReadingStatements.{no_brace, else_at, branch_at, counted_on}
 pub use Rattle.rhai_reading.specs.ReadingStatements.{first_of_two, loop_names_at, catch_at, do_end_at}
 pub use Rattle.rhai_reading.specs.ReadingStatements.{alias_at, export_at, export_on, global_at, import_on}
+pub use Rattle.rhai_reading.specs.ReadingFunctions.{function_at, function_body_at, function_end, function_on, head_at}
+pub use Rattle.rhai_reading.specs.ReadingFunctions.{named_at, owner_at, parameter_at, parameters_at}
 pub use Rattle.rhai_reading.specs.ReadingSwitches.{cases_at, case_guard_at, action_at, action_on, arm_end_at}
 pub use Rattle.rhai_reading.specs.ReadingSwitches.{default_end_at, arm_on, default_at, default_on, arms_at}
 
@@ -385,3 +388,11 @@ body (CaseGuard context live) = Peek (λ lexeme at. case_guard_at context live l
 body (Action context live) = action_on context live (has_single_blocks context)
 body (ArmEnd itself) = Peek (λ lexeme at. arm_end_at itself lexeme at (after_part lists.Arms lexeme))
 body (DefaultEnd default) = Peek (λ lexeme at. default_end_at default lexeme at (arm_place lexeme))
+body (FunctionStatement context live first at is_private) = function_at context live first at is_private
+body (Function context at is_private) =
+    Call FunctionHead (λ head. Call (ParameterList head.1) (λ names.
+    Peek (function_body_at context at is_private head names)))
+body FunctionHead = Peek head_at
+body (ParameterList function) = Peek (λ lexeme at. parameters_at function lexeme at (calling lexeme))
+body (Parameters function before) =
+    Peek (λ lexeme at. parameter_at function before lexeme at (parameter_place lexeme))

@@ -40,7 +40,7 @@ use Rattle.rhai_reading.specs.Goals.{Jump}
 use Rattle.rhai_reading.specs.Goals.{ExprStatement}
 use Rattle.rhai_reading.specs.Goals.{Definition, Statement, Statements, Block}
 use Rattle.rhai_reading.specs.Goals.{Arms, Braced, Catch, Conditional, DoEnd, Guard, Iterated}
-use Rattle.rhai_reading.specs.Goals.{Alias, Export, Import, LoopNames}
+use Rattle.rhai_reading.specs.Goals.{Alias, Export, FunctionStatement, Import, LoopNames}
 use Rattle.rhai_reading.specs.Goals.{Ret, Fail, Peek, Take, Call, Prog}
 use Rattle.rhai_reading.specs.Goals.{match_name, match_token, raised, tested}
 
@@ -115,6 +115,9 @@ statement_at context live at start.Import =
     Take (raised context at (λ deeper. raised deeper at (λ inside. Call (Import inside live at) Ret)))
 statement_at context live at start.Export =
     Take (global_at context at (raised context at (λ deeper. Call (Export deeper live at) Ret)))
+statement_at context live at start.Function = Take (Call (FunctionStatement context live at at false) Ret)
+statement_at context live at start.Private =
+    Take (Peek (λ lexeme pos. match_token due.Fn (Call (FunctionStatement context live at pos true) Ret)))
 statement_at context live at start.Expression =
     raised context at (λ deeper. Call (ExprStatement deeper live) (λ f. Ret (f, live)))
 

@@ -19,6 +19,7 @@ use Rattle.rhai_reading.specs.Reading.{Alias, Export, Import, Path}
 use Rattle.rhai_reading.specs.Reading.{Branch, Braced, Catch, Conditional, Construct, DoEnd, Guard, Iterated, LoopNames}
 use Rattle.rhai_reading.specs.Reading.{Action, Arm, ArmEnd, Arms, Case, CaseGuard, Cases, DefaultArm, DefaultEnd}
 use Rattle.rhai_reading.specs.Reading.{RightOperand}
+use Rattle.rhai_reading.specs.Reading.{Function, FunctionHead, FunctionStatement, ParameterList, Parameters}
 use Rattle.rhai_reading.specs.Reading.{Prog, body}
 
 -- what is left of a stream, and the functions that have ended
@@ -119,6 +120,11 @@ rank (CaseGuard context live) = 0
 rank (Action context live) = 6
 rank (ArmEnd itself) = 0
 rank (DefaultEnd default) = 0
+rank (FunctionStatement context live first at is_private) = 2
+rank (Function context at is_private) = 1
+rank FunctionHead = 0
+rank (ParameterList function) = 0
+rank (Parameters function before) = 0
 
 -- the work that is left, above every rank for each token
 abbrev pub work : ℕ → ℕ → ℕ

@@ -1,4 +1,5 @@
 -- What each reader shows.
+use Rattle.rhai_reading.proofs.FunctionKinds.{function_statements, functions, heads, parameter_lists, parameters}
 use Rattle.std.proofs.Common.{◌≡◌, ℕ, Bool, true, false, None, [], refl}
 use Rattle.rhai_lower.specs.Lexemes.{Lexeme, Integer}
 use Rattle.rhai_lower.specs.Positions.{nowhere}
@@ -141,6 +142,11 @@ Sound (R.CaseGuard c w) s o = Answers (case_guards c w) s o
 Sound (R.Action c w) s o = Answers (actions c w) s o
 Sound (R.ArmEnd itself) s o = Answers (arm_ends itself) s o
 Sound (R.DefaultEnd default) s o = Answers (default_ends default) s o
+Sound (R.FunctionStatement c w from at is_private) s o = Answers (function_statements c w from at is_private) s o
+Sound (R.Function c at is_private) s o = Answers (functions c at is_private) s o
+Sound R.FunctionHead s o = Answers heads s o
+Sound (R.ParameterList function) s o = Answers (parameter_lists function) s o
+Sound (R.Parameters function before) s o = Answers (parameters function before) s o
 
 pub record AllSound (call : Histories) : Type 0 where
   pub of : (g : Goal) (s : Point) (b : Bool) → Sound g s (call g (at s b))

@@ -1,4 +1,5 @@
 -- Statements, their lists, and blocks.
+use Rattle.rhai_reading.proofs.FunctionKinds.{any_function, function_form}
 use Rattle.std.proofs.Common.{◌≡◌, Bool, true, false, Option, Some, None, List, [], ◌∷◌, refl, sym, ap}
 use Rattle.std.specs.Prelude.{not}
 use Rattle.rhai_lower.specs.Lexemes.{Lexeme, Sign, text_of}
@@ -237,6 +238,17 @@ module _ {call : Histories} (ih : AllSound call) (c : Context) (w : Live) (s : P
       raise c any (λ high k. here ▹ global ▹ fails high) (λ below.
       ends (ih.of (R.Export (level_up c) w (pos_at s)) (past code s) false) (export_form (pos_at s)) (λ v f. refl)
       (export_way here global below))))
+  statement_by start.Function e m =
+      let here = (started c s e).1 in
+      take (ends (ih.of (R.FunctionStatement c w (pos_at s) (pos_at s) false) (past code s) false)
+      (function_form None (pos_at s)) (λ v f. refl) (λ f k o r. here ▹ r))
+  statement_by start.Private e m =
+      let here = (started c s e).1 in
+      let t = past code s in
+      take (look (λ n. expect due.Fn (function_form (Some (pos_at s)) nowhere any_function)
+      (λ missing k. here ▹ missing.way) (λ is.
+      ends (ih.of (R.FunctionStatement c w (pos_at s) (pos_at t) true) (past code t) false)
+      (function_form (Some (pos_at s)) (pos_at t)) (λ v f. refl) (λ f k o r. here ▹ is ▹ r))))
   statement_by start.Expression e m =
       let begins : Fits (V.expression_begins c) s = fine m (rw e) in
       raise c (form.Expression (form.Evaluate any_run)) (λ high k. begins ▹ ill m (rw high)) (λ below.
