@@ -3,6 +3,7 @@ pub mod Counts
 pub mod FlagNames
 pub mod Frames
 pub mod Index
+pub mod Libraries
 pub mod Settings
 pub mod States
 pub mod Words

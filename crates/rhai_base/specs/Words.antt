@@ -12,6 +12,7 @@ use Rattle.rhai_grammar.specs.Causes as cause
 use Rattle.rhai_grammar.specs.Causes.{Refusal, refusal}
 use Rattle.rhai_grammar.specs.Contexts.{Known}
 use Rattle.rhai_grammar.specs.Settings.{Settings, in_function}
+use Rattle.rhai_grammar.specs.Libraries.{Library, is_function}
 use Rattle.rhai_grammar.specs.Slots.{number}
 use Rattle.rhai_grammar.specs.Trees.{name_tree, variable_of}
 
@@ -27,10 +28,11 @@ word_result c word called at =
 
 -- A name: under strict variables it has to be known, if it is used as a variable. `excluded` says that it is no use of
 -- one.
-abbrev pub name_result : Known → List SlotValue → (strict excluded : Bool) → Text → Position
+abbrev pub name_result : Known → List SlotValue → Library → (strict excluded : Bool) → Text → Position
     → Result Node Refusal
-name_result known slots strict excluded name at =
-    if excluded || (not strict || (is_some (number name slots) || is_declared name known.variables))
+name_result known slots library strict excluded name at =
+    if excluded || (not strict || (is_some (number name slots)
+    || (is_function library name || is_declared name known.variables)))
     then Ok (name_tree slots excluded name at)
     else Err (refusal (cause.VariableUndefined name) at)
 
@@ -43,7 +45,7 @@ example_known = record { variables = fresh_slot (codes "y") false ∷ []; import
 
 abbrev example_name : (strict excluded : Bool) → Text → Result Node Refusal
 example_name strict excluded name =
-    name_result example_known (fresh_slot (codes "x") false ∷ []) strict excluded name (place 1 1)
+    name_result example_known (fresh_slot (codes "x") false ∷ []) [] strict excluded name (place 1 1)
 
 -- At global level `print` may be called and nothing else; `this` has no place there. After `let x`, strict variables
 -- leave `x` and `y`, and refuse `z`, unless it is called.

@@ -8,13 +8,16 @@ ghost use Rattle.rhai_grammar.specs.Causes.{MemoryIsNowhere, VariableExists, is_
 ghost use Rattle.rhai_grammar.specs.Contexts.{in_block};
 ghost use Rattle.rhai_grammar.specs.Definitions.{declared, defined, exported, imported, is_none, reused};
 ghost use Rattle.rhai_grammar.specs.Imports.{is_among, module_number};
+ghost use Rattle.rhai_grammar.specs.Libraries.{is_function};
 ghost use Rattle.rhai_grammar.specs.Slots.{number};
 ghost use Rattle.rhai_grammar.specs.Targets.{is_constant_at};
 ghost use Rattle.rhai_grammar.specs.declared.filter.ExprFilter.TheVariants.{AllButPipe};
 ghost use Rattle.rhai_input.specs.Slots.{is_declared};
 ghost use Rattle.rhai_lower.specs.Texts.{same_text};
 ghost use Rattle.rhai_base.specs.Frames.{SamePlace, known_of};
+ghost use Rattle.rhai_base.specs.Libraries.{library_of};
 
+use crate::ended::Library;
 use crate::known::Known;
 use crate::lookup::{find_import, place_of};
 use crate::slots::{define, export};
@@ -285,12 +288,16 @@ impl<'p> Frame<'p> {
     }
 
     /// Whether the variable `name` may be used: under strict variables, which `strict` says, there is a slot of the
-    /// name, or the caller gives the script a variable of that name. Does not allocate.
-    pub fn may_use(&self, strict: bool, name: &str) -> bool
+    /// name, a function of the library has it, or the caller gives the script a variable of that name. Does not
+    /// allocate.
+    pub fn may_use(&self, strict: bool, library: &Library, name: &str) -> bool
         ensures { result ≡ (not strict || (is_some (number name.now self.now.live.slots)
-            || is_declared name.now self.now.known.variables)) }
+            || (is_function (library_of library.now) name.now || is_declared name.now self.now.known.variables))) }
     {
-        !strict || self.place_of(name).is_some() || self.known.declares(name)
+        !strict
+            || self.place_of(name).is_some()
+            || library.is_function(name)
+            || self.known.declares(name)
     }
 
     /// Whether a path may begin with `name`: under strict variables, which `strict` says, it is the name of an import,

@@ -4,6 +4,7 @@
 
 pub mod closure_name;
 pub mod counts;
+pub mod ended;
 pub mod flags;
 pub mod frame;
 pub mod known;
@@ -20,6 +21,7 @@ pub mod words;
 
 pub use closure_name::make_anonymous_fn;
 pub use counts::ParseCounts;
+pub use ended::Library;
 pub use flags::{LangOptions, ParseSettingFlags};
 pub use frame::Frame;
 pub use known::Known;

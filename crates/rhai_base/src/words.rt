@@ -12,9 +12,11 @@ ghost use Rattle.rhai_grammar.specs.Causes.{MemoryIsNowhere};
 ghost use Rattle.rhai_grammar.specs.Modules.{is_qualified, qualified, root_of};
 ghost use Rattle.rhai_grammar.specs.Settings.{strict_names};
 ghost use Rattle.rhai_grammar.specs.Trees.{call_tree, is_variable, method_tree, node_count, variable_of};
+ghost use Rattle.rhai_base.specs.Libraries.{library_of};
 ghost use Rattle.rhai_base.specs.Settings.{settings_of};
 ghost use Rattle.rhai_base.specs.Words.{name_result, word_result};
 
+use crate::ended::Library;
 use crate::flags::{LangOptions, ParseSettingFlags};
 use crate::frame::Frame;
 use crate::settings::ParseSettings;
@@ -63,19 +65,20 @@ fn variable(
 pub fn name_node(
     alloc: Global,
     frame: &Frame<'_>,
+    library: &Library,
     settings: ParseSettings,
     name: RcStr,
     excluded: bool,
     pos: Position,
 ) -> ParseResult<Expr>
-    ensures answers { Answers view (name_result frame.now.known frame.now.live.slots
+    ensures answers { Answers view (name_result frame.now.known frame.now.live.slots (library_of library.now)
         (strict_names (settings_of settings)) excluded (rc_str_bytes name) pos) result }
     ensures nowhere { IfErr result MemoryIsNowhere }
 {
     if excluded {
         return Ok(variable(alloc, None, name, pos)?);
     }
-    if !frame.may_use(settings.has_option(LangOptions::STRICT_VAR), &name) {
+    if !frame.may_use(settings.has_option(LangOptions::STRICT_VAR), library, &name) {
         return Err(ParseError(ParseErrorType::VariableUndefined(name), pos));
     }
     let index = frame.place_of(&name);

@@ -14,14 +14,15 @@ use Rattle.rhai_grammar.specs.Contexts.{Live}
 use Rattle.rhai_grammar.specs.declared.role.Closing.{Closing}
 use Rattle.rhai_grammar.specs.declared.role.Construct.{Construct}
 use Rattle.rhai_grammar.specs.declared.role.OperandPlace.{OperandPlace}
-use Rattle.rhai_grammar.specs.Cursors.{Cursor, cursor_of, left}
+use Rattle.rhai_grammar.specs.Cursors.{cursor_of, left}
 use Rattle.rhai_grammar.specs.Spots.{spot_after_operand}
 use Rattle.rhai_grammar.specs.Switches.{Collected}
 use Rattle.rhai_grammar.specs.declared.error.ParseError.{ParseError}
 use Rattle.rhai_reading.specs.Reading as reading
 use Rattle.rhai_reading.specs.Reading.{Goal, Val}
-use Rattle.rhai_reading.specs.Running.{Gives, need, result_of}
+use Rattle.rhai_reading.specs.Running.{Gives, Progress, need, result_of}
 use Rattle.rhai_base.specs.Frames.{FrameValue}
+use Rattle.rhai_base.specs.Libraries.{library_of}
 use Rattle.rhai_base.specs.declared.settings.ParseSettings.{ParseSettings}
 use Rattle.rhai_language.specs.Bounds.{UpTo}
 use Rattle.rhai_language.specs.Languages.{LanguageValue}
@@ -223,18 +224,19 @@ name_view n = (rc_str_bytes n.0, n.1)
 abbrev pub with_live : {X A : Type 0} → (X → A) → FrameValue → X → A × Live
 with_live view frame x = (view x, live_of frame)
 
--- what is left to read
-abbrev pub state_of : Shared → Cursor
-state_of s = cursor_of s.input.now
+-- what is left to read, and the functions that have ended
+abbrev pub state_of : Shared → Progress
+state_of s = record { cursor = cursor_of s.input.now; library = library_of s.library.now }
 
 -- Each reference is still the one that was lent.
 pub record SameLoans (old new : Shared) : Type 0 where
   pub input : new.input.ghost_name ≡ old.input.ghost_name
+  pub library : new.library.ghost_name ≡ old.library.ghost_name
 
 -- Each reference is still the one that was lent, and no more is left to read.
 pub record GoesOn (old new : Shared) : Type 0 where
   pub same : SameLoans old new
-  pub shorter : left (state_of new).tokens ≤ left (state_of old).tokens
+  pub shorter : left (state_of new).cursor.tokens ≤ left (state_of old).cursor.tokens
 
 -- What a reader returned, seen by view, is what the goal gives, and so is what it left; unless memory ran out.
 abbrev pub Reads : {X : Type 0} (g : Goal) → (X → Val g) → Shared → Result X ParseError → Shared → Type 0

@@ -1,0 +1,17 @@
+-- The functions of the code as plain data.
+use Rattle.std.specs.Prelude.{List, map}
+use Rattle.std.specs.declared.alloc.Global.{Global}
+use Rattle.std.specs.declared.rc.Rc.{Rc}
+use Rattle.rhai_ast.specs.View.{function_view}
+use Rattle.rhai_ast.specs.declared.ast.ScriptFuncDef.{ScriptFuncDef}
+use Rattle.rhai_grammar.specs.Keys.{key_of}
+use Rattle.rhai_grammar.specs.Libraries.{Ended, Library}
+use Rattle.rhai_grammar.specs.declared.key.FnKey.{FnKey}
+
+-- a function of the code that has ended
+abbrev pub ended : FnKey → Rc ScriptFuncDef Global → Ended
+ended key function = record { key = key_of key; function = function_view function.value }
+
+-- the functions of the code by their keys, in the order in which they ended
+abbrev pub library_of : List (FnKey × Rc ScriptFuncDef Global) → Library
+library_of entries = map (λ e. ended e.0 e.1) entries
