@@ -65,8 +65,11 @@ is_type (String t) = true
 is_type _ = false
 
 -- the name of that type: `int` stands for `i64`
+abbrev pub type_named : Text → Text
+type_named text = if same_text text (codes "int") then codes "i64" else text
+
 abbrev pub type_name : Lexeme → Text
-type_name l = if same_text (text_of l) (codes "int") then codes "i64" else text_of l
+type_name l = type_named (text_of l)
 
 -- a name that a function may have: one that is not reserved
 unfoldable pub names_function : Text → Bool
@@ -118,32 +121,36 @@ abbrev pub parameters_due : (function : Text) → Lexeme → Verdict
 parameters_due function l = parameters_by function l (calling l)
 
 -- a keyword of the language
-abbrev pub is_keyword : Token → Bool
-is_keyword token.True = true
-is_keyword token.False = true
-is_keyword token.Let = true
-is_keyword token.Const = true
-is_keyword token.If = true
-is_keyword token.Else = true
-is_keyword token.Switch = true
-is_keyword token.While = true
-is_keyword token.Loop = true
-is_keyword token.Do = true
-is_keyword token.Until = true
-is_keyword token.For = true
-is_keyword token.In = true
-is_keyword token.NotIn = true
-is_keyword token.Break = true
-is_keyword token.Continue = true
-is_keyword token.Return = true
-is_keyword token.Throw = true
-is_keyword token.Try = true
-is_keyword token.Catch = true
-is_keyword token.Import = true
-is_keyword token.Export = true
-is_keyword token.As = true
-is_keyword token.Fn = true
-is_keyword token.Private = true
+abbrev is_keyword_sign : Token → Bool
+is_keyword_sign token.True = true
+is_keyword_sign token.False = true
+is_keyword_sign token.Let = true
+is_keyword_sign token.Const = true
+is_keyword_sign token.If = true
+is_keyword_sign token.Else = true
+is_keyword_sign token.Switch = true
+is_keyword_sign token.While = true
+is_keyword_sign token.Loop = true
+is_keyword_sign token.Do = true
+is_keyword_sign token.Until = true
+is_keyword_sign token.For = true
+is_keyword_sign token.In = true
+is_keyword_sign token.NotIn = true
+is_keyword_sign token.Break = true
+is_keyword_sign token.Continue = true
+is_keyword_sign token.Return = true
+is_keyword_sign token.Throw = true
+is_keyword_sign token.Try = true
+is_keyword_sign token.Catch = true
+is_keyword_sign token.Import = true
+is_keyword_sign token.Export = true
+is_keyword_sign token.As = true
+is_keyword_sign token.Fn = true
+is_keyword_sign token.Private = true
+is_keyword_sign _ = false
+
+abbrev pub is_keyword : Lexeme → Bool
+is_keyword (Sign t) = is_keyword_sign t
 is_keyword _ = false
 
 -- what a token is where a parameter may be
@@ -152,11 +159,14 @@ parameter_place (Sign token.RightParen) = place.End
 parameter_place (Name t) = place.Item
 parameter_place _ = place.Nothing
 
+abbrev pub is_reserved_token : Lexeme → Bool
+is_reserved_token (Reserved t) = true
+is_reserved_token _ = false
+
 -- the error for a token that may not stand there
 abbrev pub no_parameter : Lexeme → Cause
-no_parameter (Reserved t) = cause.Reserved t
-no_parameter (Sign t) = if is_keyword t then cause.VariableExpected else missing (codes ")") (Sign t)
-no_parameter l = missing (codes ")") l
+no_parameter l = if is_reserved_token l then cause.Reserved (text_of l) else
+    if is_keyword l then cause.VariableExpected else missing (codes ")") l
 
 abbrev pub parameter_by : Lexeme → ItemPlace → Verdict
 parameter_by l place.Nothing = Wrong (no_parameter l)

@@ -8,3 +8,4 @@ pub mod Operators
 pub mod Shown
 pub mod Statements
 pub mod Strings
+pub mod Functions

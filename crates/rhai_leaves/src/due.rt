@@ -42,6 +42,8 @@ fn text_of_due(due: DueToken) -> &'static str
         DueToken::Else => "else",
         DueToken::Catch => "catch",
         DueToken::As => "as",
+        DueToken::Fn => "fn",
+        DueToken::Period => ".",
     }
 }
 
@@ -66,6 +68,8 @@ pub(crate) fn is_due(due: DueToken, token: &Token) -> bool
         DueToken::Else => matches!(token, Token::Else),
         DueToken::Catch => matches!(token, Token::Catch),
         DueToken::As => matches!(token, Token::As),
+        DueToken::Fn => matches!(token, Token::Fn),
+        DueToken::Period => matches!(token, Token::Period),
     }
 }
 

@@ -1,12 +1,13 @@
 //! What the readers ask of tokens and make of them without reading an expression: tests, operators, keys, lists, texts
-//! of strings, due tokens, statements, constructs, arms of `switch` and refusals. None of it knows settings or what is
-//! live.
+//! of strings, due tokens, statements, functions, constructs, arms of `switch` and refusals. None of it knows settings
+//! or what is live.
 #![tactic(auto)]
 
 pub mod arms;
 pub mod constructs;
 pub mod cursor;
 pub mod due;
+pub mod functions;
 pub mod items;
 pub mod keys;
 pub mod links;

@@ -23,7 +23,7 @@ pub(crate) fn after_part(list: CommaList, token: &Token) -> AfterPart
     ensures more { result ≡ Comma → is_end (lexeme token.now) ≡ false }
 {
     match list {
-        CommaList::Arguments => match token {
+        CommaList::Arguments | CommaList::Parameters => match token {
             Token::Comma => AfterPart::Comma,
             Token::RightParen => AfterPart::Close,
             _ => AfterPart::Nothing,
@@ -46,7 +46,7 @@ pub fn closes_list(list: CommaList, token: &Token) -> bool
     ensures { result ≡ is_close (after_part list (lexeme token.now)) }
 {
     match list {
-        CommaList::Arguments => matches!(token, Token::RightParen),
+        CommaList::Arguments | CommaList::Parameters => matches!(token, Token::RightParen),
         CommaList::Array => matches!(token, Token::RightBracket),
         CommaList::Map | CommaList::Arms => matches!(token, Token::RightBrace),
     }
@@ -61,6 +61,7 @@ fn closing_text(list: CommaList) -> (&'static str, &'static str)
         CommaList::Array => ("]", "to end this array literal"),
         CommaList::Map => ("}", "to end this object map literal"),
         CommaList::Arms => ("}", "to end this `switch`"),
+        CommaList::Parameters => (")", "to close the parameters of a function"),
     }
 }
 
@@ -71,6 +72,7 @@ fn comma_note(list: CommaList) -> &'static str {
         CommaList::Array => "to separate the items of this array literal",
         CommaList::Map => "to separate the properties of this object map literal",
         CommaList::Arms => "to separate the arms of this `switch`",
+        CommaList::Parameters => "to separate the parameters of a function",
     }
 }
 
@@ -81,6 +83,7 @@ fn wants_comma(list: CommaList, token: &Token) -> bool
     match list {
         CommaList::Arguments | CommaList::Array | CommaList::Arms => !is_end(token),
         CommaList::Map => matches!(token, Token::Identifier(_)),
+        CommaList::Parameters => true,
     }
 }
 

@@ -50,6 +50,8 @@ fn any_start(token: &Token) -> StatementStart
         Token::Continue => StatementStart::Continue,
         Token::Import => StatementStart::Import,
         Token::Export => StatementStart::Export,
+        Token::Fn => StatementStart::Function,
+        Token::Private => StatementStart::Private,
         _ => StatementStart::Expression,
     }
 }
