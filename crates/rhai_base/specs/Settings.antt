@@ -24,6 +24,14 @@ no_loop at = record { 0 = error.LoopBreak; 1 = at }
 abbrev pub no_export : Position → ParseError
 no_export at = record { 0 = error.WrongExport; 1 = at }
 
+-- the error of a function below the global level
+abbrev pub no_function : Position → ParseError
+no_function at = record { 0 = error.WrongFnDefinition; 1 = at }
+
+-- the error of a function that is one too many
+abbrev pub too_many_functions : Position → ParseError
+too_many_functions at = record { 0 = error.TooManyFunctions; 1 = at }
+
 -- A raise is possible and gives the settings one level deeper, at this position; or it is not possible and is refused
 -- at the old position.
 abbrev pub Raises : ParseSettings → Position → Result ParseSettings ParseError → Type 0

@@ -1,15 +1,17 @@
 //! The functions of a script with an index of their names.
 
-ghost use Rattle.std.specs.Prelude.{◌≡◌, OnErr, OnOk, false, length};
+ghost use Rattle.std.specs.Prelude.{◌≡◌, IfErr, OnErr, OnOk, false, length, nat_lt, true};
 ghost use Rattle.rhai_grammar.specs.Keys.{has_key, key_of, keys_of};
 ghost use Rattle.rhai_grammar.specs.Libraries.{is_function, keys_in, with_ended};
 ghost use Rattle.rhai_base.specs.Index.{Agrees};
 ghost use Rattle.rhai_base.specs.Libraries.{ended, library_of};
+ghost use Rattle.rhai_base.specs.Settings.{too_many_functions};
 
 use crate::library::{FnLib, has_function};
 use crate::names::FnNames;
 use rhai_ast::ScriptFuncDef;
-use rhai_grammar::FnKey;
+use rhai_grammar::{FnKey, ParseError, ParseErrorType, ParseResult};
+use rhai_lower::Position;
 use std::alloc::AllocError;
 use std::marker::Model;
 use std::rc::Rc;
@@ -82,6 +84,19 @@ impl Library {
         ensures { result ≡ length (library_of self.now) }
     {
         self.functions.len()
+    }
+
+    /// Refuses one more function where there are `limit` already. The error is `TooManyFunctions` at `pos`. Does not
+    /// allocate, and takes constant time.
+    pub fn test_room(&self, limit: usize, pos: Position) -> ParseResult<()>
+        ensures passes { OnOk result (nat_lt (length (library_of self.now)) limit ≡ true) }
+        ensures refused { IfErr result (λ e. (nat_lt (length (library_of self.now)) limit ≡ false)
+            × (e ≡ too_many_functions pos)) }
+    {
+        if self.len() < limit {
+            return Ok(());
+        }
+        Err(ParseError(ParseErrorType::TooManyFunctions, pos))
     }
 
     /// Appends a function. The caller has to prove that no function has its key yet. Returns `AllocError` if memory

@@ -1,17 +1,17 @@
 //! What is live in a block, and which tokens its expressions may contain.
 
-ghost use Rattle.std.specs.Prelude.{◌≡◌, ◌||◌, IfErr, IfOk, OnOk, codes, false, length, map, not, option_map, true};
+ghost use Rattle.std.specs.Prelude.{◌≡◌, ◌||◌, ◌++◌, IfErr, IfOk, OnOk, codes, false, length, map, not, option_map, true};
 ghost use Rattle.std.specs.Option.{is_some};
 ghost use Rattle.std.specs.Int.NonZero.{non_zero_usize_get};
 ghost use Rattle.std.specs.Rc.{rc_str_bytes};
 ghost use Rattle.rhai_grammar.specs.Causes.{MemoryIsNowhere, VariableExists, is_for_memory, refusal, refusal_of};
-ghost use Rattle.rhai_grammar.specs.Contexts.{in_block};
+ghost use Rattle.rhai_grammar.specs.Contexts.{in_block, nothing_live};
 ghost use Rattle.rhai_grammar.specs.Definitions.{declared, defined, exported, imported, is_none, reused};
 ghost use Rattle.rhai_grammar.specs.Imports.{is_among, module_number};
 ghost use Rattle.rhai_grammar.specs.Libraries.{is_function};
 ghost use Rattle.rhai_grammar.specs.Slots.{number};
 ghost use Rattle.rhai_grammar.specs.Targets.{is_constant_at};
-ghost use Rattle.rhai_grammar.specs.declared.filter.ExprFilter.TheVariants.{AllButPipe};
+ghost use Rattle.rhai_grammar.specs.declared.filter.ExprFilter.TheVariants.{All, AllButPipe};
 ghost use Rattle.rhai_input.specs.Slots.{is_declared};
 ghost use Rattle.rhai_lower.specs.Texts.{same_text};
 ghost use Rattle.rhai_base.specs.Frames.{SamePlace, known_of};
@@ -148,6 +148,49 @@ impl<'p> Frame<'p> {
             filter,
             known: self.known,
         }
+    }
+
+    /// The frame of a function that stands in this one, in which nothing is live: it knows the same as this one, and of
+    /// modules the `imports`, which the caller takes from `all_imports`. Its expressions may contain every token. Does
+    /// not allocate.
+    pub fn in_function<'f>(&'f self, alloc: Global, imports: &'f [RcStr]) -> Frame<'f>
+        ensures { result ≡ record {
+          live = nothing_live;
+          depth = 0;
+          filter = All;
+          known = record self.now.known { imports = map rc_str_bytes imports.now };
+        } }
+    {
+        let known = Known {
+            variables: self.known.variables,
+            imports,
+            modules: self.known.modules,
+        };
+        let filter = ExprFilter::All;
+        Frame::new(Scope::new(alloc), 0, Vec::new(alloc), filter, known)
+    }
+
+    /// The names of the modules that were imported around the script, and then of those that are live here. The error is
+    /// that there is no memory for them.
+    pub fn all_imports(&self, alloc: Global) -> Result<Vec<RcStr>, AllocError>
+        ensures { IfOk result (λ all. map rc_str_bytes all.items
+            ≡ self.now.known.imports ++ self.now.live.imports) }
+    {
+        let mut all = Vec::new(alloc);
+        push_names(&mut all, self.known.imports)?;
+        self.push_imports(&mut all)?;
+        Ok(all)
+    }
+
+    // Adds the names of the live imports. The error is that there is no memory for them.
+    fn push_imports(&self, all: &mut Vec<RcStr>) -> Result<(), AllocError>
+        ensures { OnOk result (map rc_str_bytes all.new.items
+            ≡ map rc_str_bytes all.old.items ++ self.now.live.imports) }
+    {
+        if let Some(outer) = self.outer {
+            outer.push_imports(all)?;
+        }
+        push_names(all, &self.imports)
     }
 
     /// Which tokens the expressions in this block may contain. Does not allocate.
@@ -347,4 +390,15 @@ impl<'p> Frame<'p> {
     {
         self.above + self.imports.len()
     }
+}
+
+// Adds names to others. The error is that there is no memory for them.
+fn push_names(all: &mut Vec<RcStr>, names: &[RcStr]) -> Result<(), AllocError>
+    ensures { OnOk result (map rc_str_bytes all.new.items
+        ≡ map rc_str_bytes all.old.items ++ map rc_str_bytes names.now) }
+{
+    for name in names {
+        all.push(name.clone()?)?;
+    }
+    Ok(())
 }

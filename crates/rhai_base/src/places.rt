@@ -1,10 +1,10 @@
-//! Where settings let constructs, `break`, `continue` and `export` stand.
+//! Where settings let constructs, `break`, `continue`, `export` and functions stand.
 
 ghost use Rattle.std.specs.Prelude.{◌≡◌, IfErr, OnOk, false, true};
 ghost use Rattle.rhai_grammar.specs.Constructs.{may_be_value};
 ghost use Rattle.rhai_grammar.specs.Contexts.{Context, allows_looping};
 ghost use Rattle.rhai_grammar.specs.Settings.{at_global_level, in_loop};
-ghost use Rattle.rhai_base.specs.Settings.{no_export, no_loop, settings_of};
+ghost use Rattle.rhai_base.specs.Settings.{no_export, no_function, no_loop, settings_of};
 
 use crate::flags::{LangOptions, ParseSettingFlags};
 use crate::settings::ParseSettings;
@@ -50,4 +50,16 @@ pub fn test_global(settings: ParseSettings, pos: Position) -> ParseResult<()>
         return Ok(());
     }
     Err(ParseError(ParseErrorType::WrongExport, pos))
+}
+
+/// Refuses a function that is not at the global level of a script. The error is `WrongFnDefinition` at `pos`. Does not
+/// allocate.
+pub fn test_function(settings: ParseSettings, pos: Position) -> ParseResult<()>
+    ensures passes { OnOk result (at_global_level (settings_of settings) ≡ true) }
+    ensures refused { IfErr result (λ e. (at_global_level (settings_of settings) ≡ false) × (e ≡ no_function pos)) }
+{
+    if settings.has_flag(ParseSettingFlags::GLOBAL_LEVEL) {
+        return Ok(());
+    }
+    Err(ParseError(ParseErrorType::WrongFnDefinition, pos))
 }

@@ -2,7 +2,7 @@
 
 ghost use Rattle.std.specs.Prelude.{◌≡◌, ◌==◌};
 ghost use Rattle.std.specs.Int.RustNames.{bit_and};
-ghost use Rattle.rhai_grammar.specs.Settings.{below_global_level, loop_body};
+ghost use Rattle.rhai_grammar.specs.Settings.{below_global_level, function_settings, loop_body};
 ghost use Rattle.rhai_base.specs.Settings.{settings_of, Raises, RaisesInRun};
 
 use crate::flags::{LangOptions, ParseSettingFlags};
@@ -104,6 +104,23 @@ impl ParseSettings {
         ParseSettings {
             flags: self.flags - ParseSettingFlags::GLOBAL_LEVEL,
             ..*self
+        }
+    }
+
+    /// The settings in a function, at the old position: level 0, and at most `max_depth` levels, where 0 means no limit.
+    /// The parts of the language are those of `options`, with strict variables where these settings have them. Of the
+    /// flags stays that keys of object maps have to be strings. Does not allocate.
+    pub fn in_function(&self, options: LangOptions, max_depth: usize) -> Self
+        ensures settings { settings_of result ≡ function_settings (settings_of self.now) options.0 max_depth }
+        ensures position { result.pos ≡ self.now.pos }
+    {
+        ParseSettings {
+            flags: ParseSettingFlags::FN_SCOPE
+                | (self.flags & ParseSettingFlags::DISALLOW_UNQUOTED_MAP_PROPERTIES),
+            options: options | (self.options & LangOptions::STRICT_VAR),
+            level: 0,
+            pos: self.pos,
+            max_expr_depth: max_depth,
         }
     }
 

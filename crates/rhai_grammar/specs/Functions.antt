@@ -1,7 +1,6 @@
 -- Functions of a script: where they may stand, what their parts are, and what they give.
 use Rattle.std.specs.Prelude.{◌≡◌, ℕ, Bool, true, false, ◌++◌, not, None, Option, Some, List, [], ◌∷◌, codes, length}
 use Rattle.std.specs.Prelude.{if◌then◌else◌, map, nat_lt, refl, unwrap_or}
-use Rattle.std.specs.Int.RustNames.{bit_and, bit_or}
 use Rattle.rhai_lower.specs.Texts.{Text, same_text}
 use Rattle.rhai_lower.specs.Names.{is_function_name}
 use Rattle.rhai_lower.specs.Lexemes.{Faulty, Lexeme, Name, Reserved, Sign, String, text_of}
@@ -26,24 +25,14 @@ use Rattle.rhai_grammar.specs.Forms as form
 use Rattle.rhai_grammar.specs.Forms.{Owner, ParameterList, Parameters}
 use Rattle.rhai_grammar.specs.Keys.{Key, has_key}
 use Rattle.rhai_grammar.specs.Libraries.{Ended, Library, keys_in}
-use Rattle.rhai_grammar.specs.Settings.{Settings}
+use Rattle.rhai_grammar.specs.Settings.{function_settings}
 
 -- ---- what a function is read under
 
--- The settings in a function: level 0 under the depth for functions, with the flag that a function's body is parsed and
--- the one that requires strings as keys, if it is set; and the engine's options, with strict variables where they are.
-abbrev pub function_settings : Context → Settings
-function_settings context = record {
-  flags = bit_or 2 (bit_and context.settings.flags 32);
-  options = bit_or context.options (bit_and context.settings.options 64);
-  level = 0;
-  limit = context.sizes.function_depth;
-}
-
--- A function's body may have `|` as an operator, and knows the live imports around it, but not their numbers.
+-- A function begins at level 0, under settings of its own. Its body may have `|` as an operator, and knows the live imports around it, but not their numbers.
 abbrev pub in_function : Context → Live → Context
 in_function context live = record context {
-  settings = function_settings context;
+  settings = function_settings context.settings context.options context.sizes.function_depth;
   filter = All;
   known = record context.known { imports = context.known.imports ++ live.imports };
 }

@@ -69,6 +69,17 @@ one_more n = min (n + 1) (2 ^ 64 - 1)
 abbrev pub level_up : Settings → Settings
 level_up settings = record settings { level = one_more settings.level }
 
+-- The settings in a function: level 0 under the depth for functions, with the flag that says that a function's body is
+-- parsed and the one that requires strings as keys, if it is set; and the engine's options, with strict variables where
+-- they are.
+abbrev pub function_settings : Settings → (options limit : ℕ) → Settings
+function_settings settings options limit = record {
+  flags = bit_or 2 (bit_and settings.flags 32);
+  options = bit_or options (bit_and settings.options 64);
+  level = 0;
+  limit = limit;
+}
+
 abbrev at_level : ℕ → ℕ → Settings
 at_level limit level = record { flags = 0; options = 0; level = level; limit = limit }
 

@@ -13,6 +13,11 @@ pub record LanguageValue : Type 0 where
   pub max_map_size : ℕ
   pub sub_modules : List Text
 
--- how large the literals of arrays and of object maps may be
+-- how large the literals of arrays and of object maps may be, how deep a function, and how many functions there may be
 abbrev pub sizes_of : LanguageValue → Sizes
-sizes_of l = record { array = l.max_array_size; map = l.max_map_size }
+sizes_of l = record {
+  array = l.max_array_size;
+  map = l.max_map_size;
+  function_depth = l.max_function_expr_depth;
+  functions = l.max_functions;
+}

@@ -200,6 +200,17 @@ case language frame settings = reading.Case (context_of language frame settings)
 abbrev pub case_guard : LanguageValue → FrameValue → ParseSettings → Goal
 case_guard language frame settings = reading.CaseGuard (context_of language frame settings) (live_of frame)
 
+-- a function as a statement after its `fn`, where the settings stand; its first token is at a position
+abbrev pub function_statement : LanguageValue → FrameValue → ParseSettings → (first : Position) (is_private : Bool)
+    → Goal
+function_statement language frame settings first is_private =
+    reading.FunctionStatement (context_of language frame settings) (live_of frame) first settings.pos is_private
+
+-- a function, in a frame of its own
+abbrev pub function : LanguageValue → FrameValue → ParseSettings → (is_private : Bool) → Goal
+function language frame settings is_private =
+    reading.Function (context_of language frame settings) settings.pos is_private
+
 -- what an arm does
 abbrev pub action : LanguageValue → FrameValue → ParseSettings → Goal
 action language frame settings = reading.Action (context_of language frame settings) (live_of frame)
