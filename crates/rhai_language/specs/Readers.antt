@@ -14,7 +14,7 @@ use Rattle.rhai_grammar.specs.Contexts.{Live}
 use Rattle.rhai_grammar.specs.declared.role.Closing.{Closing}
 use Rattle.rhai_grammar.specs.declared.role.Construct.{Construct}
 use Rattle.rhai_grammar.specs.declared.role.OperandPlace.{OperandPlace}
-use Rattle.rhai_grammar.specs.Cursors.{cursor_of, left}
+use Rattle.rhai_grammar.specs.Cursors.{Cursor, cursor_of, left}
 use Rattle.rhai_grammar.specs.Spots.{spot_after_operand}
 use Rattle.rhai_grammar.specs.Switches.{Collected}
 use Rattle.rhai_grammar.specs.declared.error.ParseError.{ParseError}
@@ -238,6 +238,10 @@ with_live view frame x = (view x, live_of frame)
 -- what is left to read, and the functions that have ended
 abbrev pub state_of : Shared → Progress
 state_of s = record { cursor = cursor_of s.input.now; library = library_of s.library.now }
+
+-- what is left to read from this cursor, with the functions that had ended
+abbrev pub state_at : Shared → Cursor → Progress
+state_at s cursor = record (state_of s) { cursor = cursor }
 
 -- Each reference is still the one that was lent.
 pub record SameLoans (old new : Shared) : Type 0 where

@@ -14,11 +14,7 @@ use std::alloc::Global;
 
 /// The position of the `{` that begins a block, which is taken. `note` tells people what it is for.
 #[tactic(auto, using(rhai_reading::proofs::Steps::step_block_start))]
-pub fn begin_block(
-    alloc: Global,
-    shared: &mut Shared<'_>,
-    note: &str,
-) -> ParseResult<Position>
+pub fn begin_block(alloc: Global, shared: &mut Shared<'_>, note: &str) -> ParseResult<Position>
     ensures goes_on { GoesOn shared.old shared.new }
     ensures reads { Reads BlockStart (λ p. p) shared.old result shared.new }
     ensures shrinks { OnOk result (left (state_of shared.new).cursor.tokens + 1

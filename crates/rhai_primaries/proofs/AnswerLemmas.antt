@@ -5,7 +5,7 @@ use Rattle.rhai_lower.specs.Lexemes.{Lexeme}
 use Rattle.rhai_lower.specs.Nodes.{Node, Properties}
 use Rattle.rhai_lower.specs.declared.position.Position.{Position}
 use Rattle.rhai_grammar.specs.Causes.{Refusal, VariableUndefined, out_of_memory, refusal, DuplicatedProperty}
-use Rattle.rhai_grammar.specs.Cursors.{Cursor, asked, looking, taking}
+use Rattle.rhai_grammar.specs.Cursors.{Cursor}
 use Rattle.rhai_grammar.specs.Delivered.{is_memory}
 use Rattle.rhai_grammar.specs.Contexts.{Context, Live}
 use Rattle.rhai_grammar.specs.Beginnings.{calls, excludes_use, is_this, may_be_called}
@@ -13,9 +13,9 @@ use Rattle.rhai_grammar.specs.Modules.{may_use}
 use Rattle.rhai_grammar.specs.Settings.{in_function, strict_names}
 use Rattle.rhai_grammar.specs.Trees.{name_tree}
 use Rattle.rhai_grammar.specs.declared.role.Beginning.TheVariants as begin
-use Rattle.rhai_reading.specs.Reading.{Ret, Fail, Primary, name_at, word_at, Peek, NextKey, match_token, key_on, room_at}
+use Rattle.rhai_reading.specs.Reading.{Ret, Fail, Know, Primary, name_at, word_at, Peek, NextKey, match_token, key_on, room_at}
 use Rattle.rhai_reading.specs.Running as R
-use Rattle.rhai_reading.specs.Running.{Caller, exec, guarded, result_of}
+use Rattle.rhai_reading.specs.Running.{Caller, Progress, asked, exec, guarded, looking, result_of, taking}
 use Rattle.rhai_reading.proofs.Steps.{step_next_key}
 use Rattle.rhai_base.specs.Words.{name_result, word_result}
 use Rattle.rhai_grammar.specs.declared.due.DueToken.TheVariants as due
@@ -37,10 +37,10 @@ word_chosen false false d x y e f = refl
 word_answers : (c : Context) (word : Text) (at : Position) (l : Lexeme) (p : Position) → word_at c word at l p ≡ answered (word_result c.settings word (calls l) at)
 word_answers c word at l p = word_chosen (may_be_called word && calls l) (is_this word) (in_function c.settings) _ _ _ _
 
-pub word_outcome : (call : Caller) (c : Context) (word : Text) (at : Position) (l : Lexeme) (p : Position) (t : Cursor) → exec call (word_at c word at l p) t ≡ outcome (word_result c.settings word (calls l) at) t
+pub word_outcome : (call : Caller) (c : Context) (word : Text) (at : Position) (l : Lexeme) (p : Position) (t : Progress) → exec call (word_at c word at l p) t ≡ outcome (word_result c.settings word (calls l) at) t
 word_outcome call c word at l p t = ap (λ q. exec call q t) (word_answers c word at l p) ∙ exec_answered call (word_result c.settings word (calls l) at) t
 
-pub worded_outcome : (c : Context) (w : Live) {word : Text} {at : Position} {called : Bool} {s s1 s2 t : Cursor}
+pub worded_outcome : (c : Context) (w : Live) {word : Text} {at : Position} {called : Bool} {s s1 s2 t : Progress}
     → Worded begin.Word calls word at called s s1 s2 t
     → result_of (Primary c w) s ≡ outcome (word_result c.settings word called at) t
 worded_outcome c w {word} {at} {called} {s} {s1} {s2} {t} h =
@@ -54,33 +54,37 @@ name_chosen : (b : Bool) (x : Node) (e : Refusal) → (if b then Ret x else Fail
 name_chosen true x e = refl
 name_chosen false x e = refl
 
-pub named_outcome : (c : Context) (w : Live) {name : Text} {at : Position} {excluded : Bool} {s s1 s2 t : Cursor}
+pub named_outcome : (c : Context) (w : Live) {name : Text} {at : Position} {excluded : Bool} {s s1 s2 t : Progress}
     → Worded begin.Name excludes_use name at excluded s s1 s2 t
-    → result_of (Primary c w) s ≡ outcome (name_result c.known w.slots (strict_names c.settings) excluded name at) t
+    → result_of (Primary c w) s ≡ outcome (name_result c.known w.slots t.library (strict_names c.settings) excluded name at) t
 named_outcome c w {name} {at} {excluded} {s} {s1} {s2} {t} h =
     let call = guarded (Primary c w) s in
     let l = (asked s2).lexeme in
-    worded c w (name_at c w) (λ l p. refl) h
-    ∙ ap (λ q. exec call q t) (name_chosen (excludes_use l || may_use c w name) (name_tree w.slots (excludes_use l) name at)
+    worded c w (λ x p l q. Know (name_at c w x p l)) (λ l p. refl) h
+    ∙ ap (λ q. exec call q t) (name_chosen (excludes_use l || may_use c w t.library name) (name_tree w.slots (excludes_use l) name at)
     (refusal (VariableUndefined name) at))
-    ∙ exec_answered call (name_result c.known w.slots (strict_names c.settings) (excludes_use l) name at) t
-    ∙ ap (λ b. outcome (name_result c.known w.slots (strict_names c.settings) b name at) t) (sym h.is_so)
+    ∙ exec_answered call (name_result c.known w.slots t.library (strict_names c.settings) (excludes_use l) name at) t
+    ∙ ap (λ b. outcome (name_result c.known w.slots t.library (strict_names c.settings) b name at) t) (sym h.is_so)
 
 -- ---- keys
 
-refused_at : (call : Caller) (c : Context) (before : Properties) (s : Cursor) (place : KeyPlace) (e : Refusal) (t : Cursor) → is_memory (asked s).lexeme ≡ false → KeyRefused before s place e t → exec call (key_on c before (asked s).at place) (looking s) ≡ R.Refused e t
+-- the state with this cursor
+abbrev at : Progress → Cursor → Progress
+at s t = record s { cursor = t }
+
+refused_at : (call : Caller) (c : Context) (before : Properties) (s : Progress) (place : KeyPlace) (e : Refusal) (t : Cursor) → is_memory (asked s).lexeme ≡ false → KeyRefused before s.cursor place e t → exec call (key_on c before (asked s).at place) (looking s) ≡ R.Refused e (at s t)
 refused_at call c before s FieldsEnd e t readable h = absurd h
-refused_at call c before s (NoKey why) e t readable h = ap (λ d. R.Refused d (looking s)) (sym h.0) ∙ ap (R.Refused e) (sym h.1)
+refused_at call c before s (NoKey why) e t readable h = ap (λ d. R.Refused d (looking s)) (sym h.0) ∙ ap (λ u. R.Refused e (at s u)) (sym h.1)
 refused_at call c before s (AKey key) e t readable h =
     let p = (asked s).at in
     let duplicated = refusal (DuplicatedProperty key) p in
     ap (λ m. if m then R.Refused out_of_memory (looking (looking s)) else exec call (if has_key key before then Fail duplicated else match_token due.Colon (Peek (room_at c before key p))) (taking s)) readable
     ∙ ap (λ b. exec call (if b then Fail duplicated else match_token due.Colon (Peek (room_at c before key p))) (taking s)) h.0
     ∙ ap (λ d. R.Refused d (taking s)) (sym h.1)
-    ∙ ap (R.Refused e) (sym h.2)
+    ∙ ap (λ u. R.Refused e (at s u)) (sym h.2)
 
 -- a key that is refused
-pub key_refused : (c : Context) (before : Properties) (s t : Cursor) (e : Refusal) → is_memory (asked s).lexeme ≡ false → KeyRefused before s (next_key c.settings before (asked s).lexeme) e t → result_of (NextKey c before) s ≡ R.Refused e t
+pub key_refused : (c : Context) (before : Properties) (s : Progress) (t : Cursor) (e : Refusal) → is_memory (asked s).lexeme ≡ false → KeyRefused before s.cursor (next_key c.settings before (asked s).lexeme) e t → result_of (NextKey c before) s ≡ R.Refused e (at s t)
 key_refused c before s t e readable h =
     let k = NextKey c before in
     step_next_key c before s

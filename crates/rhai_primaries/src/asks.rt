@@ -3,19 +3,18 @@
 
 ghost use Rattle.std.specs.Prelude.{◌+◌, ◌≤◌, OnOk, option_map};
 ghost use Rattle.rhai_ast.specs.View.{property_views, written};
-ghost use Rattle.rhai_grammar.specs.Cursors.{cursor_of, left};
+ghost use Rattle.rhai_grammar.specs.Cursors.{left};
 ghost use Rattle.rhai_base.specs.Frames.{FrameValue};
 ghost use Rattle.rhai_reading.specs.Reading.{NextKey, TextAfter};
-ghost use Rattle.rhai_reading.specs.Running.{Gives, result_of};
 ghost use Rattle.rhai_language.specs.Frames.{context_of};
+ghost use Rattle.rhai_language.specs.Readers.{GoesOn, Reads, state_of};
 ghost use Rattle.rhai_primaries.specs.Views.{text_view};
 
 use crate::keys;
 use rhai_ast::{Expr, Ident};
 use rhai_base::ParseSettings;
 use rhai_grammar::{DueToken, ParseResult};
-use rhai_input::TokenStream;
-use rhai_language::Language;
+use rhai_language::{Language, Shared};
 use rhai_leaves::due::match_token;
 use rhai_leaves::items::room_for_value;
 use rhai_leaves::strings::{TextPart, end_interpolation};
@@ -26,17 +25,16 @@ use std::alloc::Global;
 #[tactic(auto, using(rhai_reading::proofs::Steps::step_next_key, crate::proofs::KeyLemmas::count_properties))]
 pub(crate) fn next_key(
     language: &Language,
-    input: &mut TokenStream,
+    shared: &mut Shared<'_>,
     settings: ParseSettings,
     properties: &[(Ident, Expr)],
 ) -> ParseResult<Option<Ident>>
-    ensures gives { (frame : FrameValue) → Gives (option_map written)
-        (result_of (NextKey (context_of language.now frame settings) (property_views properties.now))
-        (cursor_of input.old)) result (cursor_of input.new) }
-    ensures shorter { left (cursor_of input.new).tokens ≤ left (cursor_of input.old).tokens }
+    ensures goes_on { GoesOn shared.old shared.new }
+    ensures reads { (frame : FrameValue) → Reads (NextKey (context_of language.now frame settings)
+        (property_views properties.now)) (option_map written) shared.old result shared.new }
 {
     let alloc = language.alloc();
-    let next = match keys::next_key(alloc, input, settings, properties) {
+    let next = match keys::next_key(alloc, shared.input, settings, properties) {
         Ok(next) => next,
         Err(error) => return Err(error),
     };
@@ -44,20 +42,26 @@ pub(crate) fn next_key(
         return Ok(None);
     };
     let note = "to follow the key of a property in this object map literal";
-    if let Err(error) = match_token(alloc, input, DueToken::Colon, note) {
+    if let Err(error) = match_token(alloc, shared.input, DueToken::Colon, note) {
         return Err(error);
     }
-    match room_for_value(alloc, input, language.max_map_size(), properties.len()) {
+    match room_for_value(
+        alloc,
+        shared.input,
+        language.max_map_size(),
+        properties.len(),
+    ) {
         Ok(()) => Ok(Some(key)),
         Err(error) => Err(error),
     }
 }
 
 /// The `}` of a block in an interpolated string, and the text after it; both are taken.
-pub(crate) fn next_text(alloc: Global, input: &mut TokenStream) -> ParseResult<TextPart>
-    ensures gives { Gives text_view (result_of TextAfter (cursor_of input.old)) result (cursor_of input.new) }
-    ensures shorter { left (cursor_of input.new).tokens ≤ left (cursor_of input.old).tokens }
-    ensures shrinks { OnOk result (left (cursor_of input.new).tokens + 1 ≤ left (cursor_of input.old).tokens) }
+pub(crate) fn next_text(alloc: Global, shared: &mut Shared<'_>) -> ParseResult<TextPart>
+    ensures goes_on { GoesOn shared.old shared.new }
+    ensures reads { Reads TextAfter text_view shared.old result shared.new }
+    ensures shrinks { OnOk result (left (state_of shared.new).cursor.tokens + 1
+        ≤ left (state_of shared.old).cursor.tokens) }
 {
-    end_interpolation(alloc, input)
+    end_interpolation(alloc, shared.input)
 }

@@ -82,7 +82,7 @@ impl<R: LentReaders> PrimaryReader<'_, R> {
     {
         let mut properties = Vec::new(self.language.alloc());
         loop {
-            let next = next_key(self.language, shared.input, settings, &properties)?;
+            let next = next_key(self.language, shared, settings, &properties)?;
             let Some(key) = next else {
                 return Ok(properties);
             };
@@ -118,12 +118,12 @@ impl<R: LentReaders> PrimaryReader<'_, R> {
         push_text(&mut segments, first, settings.pos)?;
         loop {
             let note = "to begin a block in this string";
-            let start = begin_block(self.language.alloc(), shared.input, note)?;
+            let start = begin_block(self.language.alloc(), shared, note)?;
             let deeper = settings.level_up()?;
             let statements = self
                 .readers
                 .parse_block_inside(self.language, shared, frame, deeper)?;
-            let part = next_text(self.language.alloc(), shared.input)?;
+            let part = next_text(self.language.alloc(), shared)?;
             let block = make_block(statements, start, part.end);
             push_segment(
                 self.language.alloc(),

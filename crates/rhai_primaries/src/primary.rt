@@ -43,7 +43,15 @@ impl<R: LentReaders> PrimaryReader<'_, R> {
                 let name = token.text(self.language.alloc())?;
                 skip(shared.input);
                 let excluded = excludes_use(shared.input)?;
-                name_node(self.language.alloc(), frame, settings, name, excluded, pos)
+                name_node(
+                    self.language.alloc(),
+                    frame,
+                    shared.library,
+                    settings,
+                    name,
+                    excluded,
+                    pos,
+                )
             }
             Beginning::Word => {
                 let word = token.text(self.language.alloc())?;

@@ -14,4 +14,4 @@ invariant-loop-segments g l = record {
 }
 
 abbrev pub decreases-loop-segments : goal.decreases-loop-segments
-decreases-loop-segments g l = left (state_of l.shared).tokens
+decreases-loop-segments g l = left (state_of l.shared).cursor.tokens

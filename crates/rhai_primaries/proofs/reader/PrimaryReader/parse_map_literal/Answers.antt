@@ -4,14 +4,14 @@ use Rattle.rhai_ast.specs.View.{property_views, view}
 use Rattle.rhai_ast.proofs.Views.{property_views_push}
 use Rattle.rhai_grammar.specs.Cursors.{cursor_of}
 use Rattle.rhai_language.specs.Frames.{context_of, live_of}
-use Rattle.rhai_language.specs.Readers.{state_of}
+use Rattle.rhai_language.specs.Readers.{state_at, state_of}
 use Rattle.rhai_reading.proofs.FieldSteps.{FieldTaken, field_goes_on, field_short}
 use Rattle.rhai_primaries.proofs.reader.PrimaryReader.parse_map_literal.Goals as goal
 
 pub loop-properties-preserved : goal.loop-properties-preserved
 loop-properties-preserved g c =
     let taken : FieldTaken (context_of c.args.self.now.language.now c.args.frame.now c.args.settings) (context_of c.args.self.now.language.now c.args.frame.now c.in_ok-deeper.deeper) (live_of c.args.frame.now) (property_views c.loop-properties.properties.items) (property_views c.push.new.self.items) (rc_str_bytes c.in-Some.key.name, c.in-Some.key.pos) (view c.in_ok-value.value)
-    (state_of c.loop-properties.shared) (cursor_of c.next_key.new.input) (state_of c.parse_expr.new.shared) (cursor_of c.list_continues.new.input) = record {
+    (state_of c.loop-properties.shared) (state_of c.next_key.new.shared) (state_of c.parse_expr.new.shared) (state_at c.parse_expr.new.shared (cursor_of c.list_continues.new.input)) = record {
       key_read = search rules;
       key_short = search rules;
       room = search rules;

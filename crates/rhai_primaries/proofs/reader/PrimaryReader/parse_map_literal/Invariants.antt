@@ -12,4 +12,4 @@ invariant-loop-properties g l = record {
 }
 
 abbrev pub decreases-loop-properties : goal.decreases-loop-properties
-decreases-loop-properties g l = left (state_of l.shared).tokens
+decreases-loop-properties g l = left (state_of l.shared).cursor.tokens

@@ -1,8 +1,8 @@
-use Rattle.std.proofs.Common.{rules}
+use Rattle.std.proofs.Common.{ap, rules}
 use Rattle.std.specs.Rc.{rc_str_bytes}
 use Rattle.rhai_ast.specs.View.{view}
 use Rattle.rhai_grammar.specs.Cursors.{cursor_of}
-use Rattle.rhai_language.specs.Readers.{state_of}
+use Rattle.rhai_language.specs.Readers.{state_at, state_of}
 use Rattle.rhai_reading.proofs.Outcomes.{answer_given}
 use Rattle.rhai_reading.proofs.WordSteps.{Worded}
 use Rattle.rhai_primaries.proofs.AnswerLemmas.{named_outcome, worded_outcome}
@@ -12,13 +12,13 @@ use Rattle.rhai_primaries.proofs.reader.PrimaryReader.parse_primary.Goals as goa
 
 pub returns-in_ok-excluded-in-Name-clause-reads : goal.returns-in_ok-excluded-in-Name-clause-reads
 returns-in_ok-excluded-in-Name-clause-reads g c =
-    let h : Worded begin.Name excludes_use (rc_str_bytes c.in_ok-name-in-Name.name) c.in_ok-token.field-0.now.1 c.in_ok-excluded-in-Name.excluded (state_of c.args.shared.now) (cursor_of c.peek.follows.lender-at-none) (cursor_of c.skip-in-Name.new.input) (cursor_of c.excludes_use.new.input) = record {
+    let h : Worded begin.Name excludes_use (rc_str_bytes c.in_ok-name-in-Name.name) c.in_ok-token.field-0.now.1 c.in_ok-excluded-in-Name.excluded (state_of c.args.shared.now) (state_at c.args.shared.now (cursor_of c.peek.follows.lender-at-none)) (state_at c.args.shared.now (cursor_of c.skip-in-Name.new.input)) (state_at c.args.shared.now (cursor_of c.excludes_use.new.input)) = record {
       begins = search rules;
       text = search rules;
       readable = search rules;
       stands = search rules;
-      look = c.peek.follows.holds-at-none;
-      took = c.skip-in-Name.ensures.after;
+      look = ap (state_at c.args.shared.now) c.peek.follows.holds-at-none;
+      took = ap (state_at c.args.shared.now) c.skip-in-Name.ensures.after;
       is_so = search rules;
       readable_on = search rules;
       look_on = search rules;
@@ -27,13 +27,13 @@ returns-in_ok-excluded-in-Name-clause-reads g c =
 
 pub returns-in_ok-called-in-Word-clause-reads : goal.returns-in_ok-called-in-Word-clause-reads
 returns-in_ok-called-in-Word-clause-reads g c =
-    let h : Worded begin.Word calls (rc_str_bytes c.in_ok-word-in-Word.word) c.in_ok-token.field-0.now.1 c.in_ok-called-in-Word.called (state_of c.args.shared.now) (cursor_of c.peek.follows.lender-at-none) (cursor_of c.skip-in-Word.new.input) (cursor_of c.is_called.new.input) = record {
+    let h : Worded begin.Word calls (rc_str_bytes c.in_ok-word-in-Word.word) c.in_ok-token.field-0.now.1 c.in_ok-called-in-Word.called (state_of c.args.shared.now) (state_at c.args.shared.now (cursor_of c.peek.follows.lender-at-none)) (state_at c.args.shared.now (cursor_of c.skip-in-Word.new.input)) (state_at c.args.shared.now (cursor_of c.is_called.new.input)) = record {
       begins = search rules;
       text = search rules;
       readable = search rules;
       stands = search rules;
-      look = c.peek.follows.holds-at-none;
-      took = c.skip-in-Word.ensures.after;
+      look = ap (state_at c.args.shared.now) c.peek.follows.holds-at-none;
+      took = ap (state_at c.args.shared.now) c.skip-in-Word.ensures.after;
       is_so = search rules;
       readable_on = search rules;
       look_on = search rules;
