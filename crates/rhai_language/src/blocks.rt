@@ -1,15 +1,19 @@
-//! The `{` that begins a block.
+//! The `{` that begins a block, and the `}` that ends it.
 
 ghost use Rattle.std.specs.Prelude.{◌+◌, ◌≤◌, OnOk};
 ghost use Rattle.rhai_grammar.specs.Cursors.{left};
 ghost use Rattle.rhai_language.specs.Readers.{GoesOn, Reads, state_of};
-ghost use Rattle.rhai_reading.specs.Reading.{BlockStart};
+ghost use Rattle.rhai_ast.specs.View.{block_view};
+ghost use Rattle.rhai_language.specs.Readers.{statements_of};
+ghost use Rattle.rhai_reading.specs.Reading.{BlockEnd, BlockStart};
 
 use crate::shared::Shared;
+use rhai_ast::{Stmt, StmtBlock};
 use rhai_grammar::{DueToken, ParseResult};
 use rhai_leaves::cursor::peek;
 use rhai_leaves::due::match_token;
 use rhai_lower::Position;
+use rhai_statement_trees::make_block;
 use std::alloc::Global;
 
 /// The position of the `{` that begins a block, which is taken. `note` tells people what it is for.
@@ -24,4 +28,21 @@ pub fn begin_block(alloc: Global, shared: &mut Shared<'_>, note: &str) -> ParseR
     let start = *start;
     match_token(alloc, shared.input, DueToken::LeftBrace, note)?;
     Ok(start)
+}
+
+/// A block of these statements, from its `{` at `start` to its `}`, which is taken.
+#[tactic(auto, using(rhai_reading::proofs::Steps::step_block_end))]
+pub fn end_block(
+    alloc: Global,
+    shared: &mut Shared<'_>,
+    statements: Vec<Stmt>,
+    start: Position,
+) -> ParseResult<StmtBlock>
+    ensures goes_on { GoesOn shared.old shared.new }
+    ensures reads { Reads (BlockEnd start (statements_of statements)) block_view shared.old result shared.new }
+{
+    let (_, end) = peek(shared.input)?;
+    let end = *end;
+    match_token(alloc, shared.input, DueToken::RightBrace, "to end this block")?;
+    Ok(make_block(statements, start, end))
 }
