@@ -1,9 +1,7 @@
 -- What the proofs of the readers rest on: for each reader its equation, and what it makes of what it read.
 use Rattle.rhai_ast.proofs.Views.{view_unit, views_push}
-use Rattle.rhai_reading.proofs.Steps.{step_action, step_arm, step_arms, step_block, step_braced, step_branch, step_case, step_case_guard, step_cases, step_conditional, step_construct, step_default_arm, step_guard, step_iterated}
+use Rattle.rhai_reading.proofs.Steps.{step_action, step_arm, step_arms, step_braced, step_branch, step_case, step_case_guard, step_cases, step_conditional, step_construct, step_default_arm, step_guard, step_iterated}
 use Rattle.rhai_language.proofs.Readers.{readers}
-
-pub ruleset parse_block = (readers, step_block)
 
 pub ruleset parse_construct = (readers, step_construct)
 

@@ -2,18 +2,17 @@
 
 ghost use Rattle.rhai_ast.specs.View.{block_view, statement_view, view};
 ghost use Rattle.rhai_grammar.specs.declared.role.Construct.TheVariants.{Do, For, Loop, Try, While};
-ghost use Rattle.rhai_language.specs.Readers.{Covers, GoesOn, Reads, block, braced, branch, conditional, construct};
+ghost use Rattle.rhai_language.specs.Readers.{Covers, GoesOn, Reads, braced, branch, conditional, construct};
 ghost use Rattle.rhai_language.specs.Readers.{guard, iterated};
 
 use crate::control::{
-    catch_frame, end_block, end_guard, end_iterated, loop_frame, next_catch, next_do_end,
-    next_loop_names,
+    catch_frame, end_guard, end_iterated, loop_frame, next_catch, next_do_end, next_loop_names,
 };
 use crate::reader::ConstructReader;
 use rhai_ast::{Expr, Stmt, StmtBlock};
 use rhai_base::{Frame, ParseSettings};
 use rhai_grammar::{Construct, DueToken, ParseResult};
-use rhai_language::blocks::begin_block;
+use rhai_language::blocks::{begin_block, parse_block};
 use rhai_language::{LentReaders, Shared};
 use rhai_leaves::constructs::guard_begins;
 use rhai_leaves::cursor::peek;
@@ -42,7 +41,7 @@ impl<R: LentReaders> ConstructReader<'_, R> {
     {
         match kind {
             Construct::Block => {
-                let block = self.parse_block(shared, frame, settings)?;
+                let block = parse_block(self.language, &self.readers, shared, frame, settings)?;
                 Ok(make_block_statement(self.language.alloc(), block)?)
             }
             Construct::If => self.parse_if(shared, frame, settings),
@@ -122,7 +121,7 @@ impl<R: LentReaders> ConstructReader<'_, R> {
         let guard = self
             .readers
             .parse_expr(self.language, shared, frame, settings)?;
-        end_guard(self.language.alloc(), shared.input, guard)
+        end_guard(self.language.alloc(), shared, guard)
     }
 
     /// Reads what a `for` goes over.
@@ -160,33 +159,9 @@ impl<R: LentReaders> ConstructReader<'_, R> {
         ensures reads { Reads (braced self.now.language.now frame.now settings) block_view shared.old result
             shared.new }
     {
-        let opening = begin_block(self.language.alloc(), shared.input, "to begin this block")?;
+        let opening = begin_block(self.language.alloc(), shared, "to begin this block")?;
         let deeper = settings.level_up_with_position(opening)?;
-        self.parse_block(shared, frame, deeper)
-    }
-
-    /// Reads a block after its `{`, where the settings stand, up to its `}`. Its definitions end with it.
-    #[tactic(auto, using(crate::proofs::Readers::parse_block))]
-    fn parse_block(
-        &self,
-        shared: &mut Shared<'_>,
-        frame: &Frame<'_>,
-        settings: ParseSettings,
-    ) -> ParseResult<StmtBlock>
-        requires lent { Covers (R.lent self.now.readers) (block self.now.language.now frame.now settings)
-            shared.old }
-        ensures goes_on { GoesOn shared.old shared.new }
-        ensures reads { Reads (block self.now.language.now frame.now settings) block_view shared.old result shared.new }
-    {
-        let statements = self
-            .readers
-            .parse_block_inside(self.language, shared, frame, settings)?;
-        end_block(
-            self.language.alloc(),
-            shared.input,
-            statements,
-            settings.pos,
-        )
+        parse_block(self.language, &self.readers, shared, frame, deeper)
     }
 
     /// Reads a `while` after its keyword, where the settings stand.
@@ -248,7 +223,7 @@ impl<R: LentReaders> ConstructReader<'_, R> {
             shared.new }
     {
         let body = self.parse_braces(shared, frame, settings.loop_body())?;
-        let negated = next_do_end(self.language.alloc(), shared.input)?;
+        let negated = next_do_end(self.language.alloc(), shared)?;
         let guard = self.parse_guard(shared, frame, settings)?;
         Ok(make_do(self.language.alloc(), guard, body, negated, settings.pos)?)
     }
@@ -268,7 +243,7 @@ impl<R: LentReaders> ConstructReader<'_, R> {
             result
             shared.new }
     {
-        let names = next_loop_names(self.language.alloc(), shared.input)?;
+        let names = next_loop_names(self.language.alloc(), shared)?;
         let over = self.parse_iterated(shared, frame, settings)?;
         let inner = loop_frame(self.language.alloc(), frame, &names)?;
         let body = self.parse_braces(shared, &inner, settings.loop_body())?;
@@ -299,7 +274,7 @@ impl<R: LentReaders> ConstructReader<'_, R> {
             shared.new }
     {
         let body = self.parse_braces(shared, frame, settings)?;
-        let name = next_catch(self.language.alloc(), shared.input)?;
+        let name = next_catch(self.language.alloc(), shared)?;
         let inner = catch_frame(self.language.alloc(), frame, &name)?;
         let handler = self.parse_braces(shared, &inner, settings)?;
         Ok(make_try(self.language.alloc(), body, name, handler, settings.pos)?)

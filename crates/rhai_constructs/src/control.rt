@@ -1,30 +1,26 @@
 //! What the readers of constructs ask for by leaves, as the reading program gives it: the names of `for` and of
-//! `catch`, the end of `do`, and the frames that hold such names; and the ends of guards, of what `for` goes over, and
-//! of blocks.
+//! `catch`, the end of `do`, and the frames that hold such names; and the ends of guards and of what `for` goes over.
 
 ghost use Rattle.std.specs.Prelude.{◌≡◌, ◌+◌, ◌≤◌, IfOk, OnOk, option_map};
 ghost use Rattle.std.specs.Rc.{rc_str_bytes};
-ghost use Rattle.rhai_ast.specs.View.{block_view, view};
+ghost use Rattle.rhai_ast.specs.View.{view};
 ghost use Rattle.rhai_grammar.specs.Constructs.{guard_fault, iterated_fault};
-ghost use Rattle.rhai_grammar.specs.Cursors.{Cursor, cursor_of, left};
+ghost use Rattle.rhai_grammar.specs.Cursors.{left};
 ghost use Rattle.rhai_grammar.specs.Definitions.{catch_live, loop_live};
 ghost use Rattle.rhai_grammar.specs.Trees.{caught_name};
-ghost use Rattle.rhai_reading.specs.Reading.{BlockEnd, Catch, DoEnd, counted_on, first_of_two, guard_on};
-ghost use Rattle.rhai_reading.specs.Reading.{match_name, tested};
-ghost use Rattle.rhai_reading.specs.Running.{Caller, Gives, exec, result_of};
+ghost use Rattle.rhai_reading.specs.Reading.{Catch, DoEnd, counted_on, first_of_two, guard_on, match_name, tested};
+ghost use Rattle.rhai_reading.specs.Running.{Caller, Gives, Progress, exec};
 ghost use Rattle.rhai_constructs.specs.Loops.{loop_names, loop_view};
-ghost use Rattle.rhai_language.specs.Readers.{name_view, statements_of};
+ghost use Rattle.rhai_language.specs.Readers.{GoesOn, Reads, name_view, state_of};
 
-use rhai_ast::{Expr, Stmt, StmtBlock};
+use rhai_ast::Expr;
 use rhai_base::Frame;
 use rhai_grammar::{DueToken, ParseResult};
-use rhai_input::TokenStream;
+use rhai_language::Shared;
 use rhai_leaves::constructs::{end_do, guard_ends, test_counter};
-use rhai_leaves::cursor::peek;
 use rhai_leaves::due::{match_token, pass_token};
 use rhai_leaves::statements::parse_var_name;
 use rhai_lower::Position;
-use rhai_statement_trees::make_block;
 use rhai_trees::{test_guard, test_iterated};
 use std::alloc::{AllocError, Global};
 use std::rc::RcStr;
@@ -42,19 +38,19 @@ pub struct LoopNames {
 // up to the `in` is taken.
 fn end_counter(
     alloc: Global,
-    input: &mut TokenStream,
+    shared: &mut Shared<'_>,
     name: RcStr,
     counter: RcStr,
     pos: Position,
 ) -> ParseResult<LoopNames>
+    ensures goes_on { GoesOn shared.old shared.new }
     ensures gives { (call : Caller) → Gives loop_view (exec call (counted_on (rc_str_bytes name)
-        (rc_str_bytes counter) pos) (cursor_of input.old)) result (cursor_of input.new) }
-    ensures shorter { left (cursor_of input.new).tokens ≤ left (cursor_of input.old).tokens }
+        (rc_str_bytes counter) pos) (state_of shared.old)) result (state_of shared.new) }
 {
     test_counter(&name, &counter, pos)?;
     let note = "after the variables of this loop";
-    match_token(alloc, input, DueToken::RightParen, note)?;
-    match_token(alloc, input, DueToken::In, note)?;
+    match_token(alloc, shared.input, DueToken::RightParen, note)?;
+    match_token(alloc, shared.input, DueToken::In, note)?;
     Ok(LoopNames {
         name,
         counter: Some(counter),
@@ -62,30 +58,30 @@ fn end_counter(
 }
 
 // The variables of a `for` loop after their `(`.
-fn two_names(alloc: Global, input: &mut TokenStream) -> ParseResult<LoopNames>
-    ensures gives { (call : Caller) → Gives loop_view (exec call (match_name first_of_two) (cursor_of input.old))
-        result (cursor_of input.new) }
-    ensures shorter { left (cursor_of input.new).tokens ≤ left (cursor_of input.old).tokens }
+fn two_names(alloc: Global, shared: &mut Shared<'_>) -> ParseResult<LoopNames>
+    ensures goes_on { GoesOn shared.old shared.new }
+    ensures gives { (call : Caller) → Gives loop_view (exec call (match_name first_of_two) (state_of shared.old))
+        result (state_of shared.new) }
 {
-    let (name, _) = parse_var_name(input)?;
+    let (name, _) = parse_var_name(shared.input)?;
     let note = "after the variable of this loop";
-    match_token(alloc, input, DueToken::Comma, note)?;
-    let (counter, pos) = parse_var_name(input)?;
-    end_counter(alloc, input, name, counter, pos)
+    match_token(alloc, shared.input, DueToken::Comma, note)?;
+    let (counter, pos) = parse_var_name(shared.input)?;
+    end_counter(alloc, shared, name, counter, pos)
 }
 
 /// The variables of a `for` loop, and the `in` after them; all are taken.
 #[tactic(auto, using(rhai_reading::proofs::Steps::step_loop_names))]
-pub(crate) fn next_loop_names(alloc: Global, input: &mut TokenStream) -> ParseResult<LoopNames>
-    ensures gives { Gives loop_view (result_of loop_names (cursor_of input.old)) result (cursor_of input.new) }
-    ensures shorter { left (cursor_of input.new).tokens ≤ left (cursor_of input.old).tokens }
+pub(crate) fn next_loop_names(alloc: Global, shared: &mut Shared<'_>) -> ParseResult<LoopNames>
+    ensures goes_on { GoesOn shared.old shared.new }
+    ensures reads { Reads loop_names loop_view shared.old result shared.new }
 {
-    if pass_token(input, DueToken::LeftParen)? {
-        return two_names(alloc, input);
+    if pass_token(shared.input, DueToken::LeftParen)? {
+        return two_names(alloc, shared);
     }
-    let (name, _) = parse_var_name(input)?;
+    let (name, _) = parse_var_name(shared.input)?;
     let note = "after the variable of this loop";
-    match_token(alloc, input, DueToken::In, note)?;
+    match_token(alloc, shared.input, DueToken::In, note)?;
     Ok(LoopNames {
         name,
         counter: None,
@@ -94,36 +90,37 @@ pub(crate) fn next_loop_names(alloc: Global, input: &mut TokenStream) -> ParseRe
 
 /// The end of a `do`: whether it is `until`, which negates the guard.
 #[tactic(auto, using(rhai_reading::proofs::Steps::step_do_end))]
-pub(crate) fn next_do_end(alloc: Global, input: &mut TokenStream) -> ParseResult<bool>
-    ensures gives { Gives (λ negated. negated) (result_of DoEnd (cursor_of input.old)) result (cursor_of input.new) }
-    ensures shorter { left (cursor_of input.new).tokens ≤ left (cursor_of input.old).tokens }
-    ensures shrinks { OnOk result (left (cursor_of input.new).tokens + 1 ≤ left (cursor_of input.old).tokens) }
+pub(crate) fn next_do_end(alloc: Global, shared: &mut Shared<'_>) -> ParseResult<bool>
+    ensures goes_on { GoesOn shared.old shared.new }
+    ensures reads { Reads DoEnd (λ negated. negated) shared.old result shared.new }
+    ensures shrinks { OnOk result (left (state_of shared.new).cursor.tokens + 1
+        ≤ left (state_of shared.old).cursor.tokens) }
 {
-    end_do(alloc, input)
+    end_do(alloc, shared.input)
 }
 
 /// The `catch` of a `try`, with its variable, if it has one; all are taken.
 #[tactic(auto, using(rhai_reading::proofs::Steps::step_catch))]
 pub(crate) fn next_catch(
     alloc: Global,
-    input: &mut TokenStream,
+    shared: &mut Shared<'_>,
 ) -> ParseResult<Option<(RcStr, Position)>>
-    ensures gives { Gives (option_map name_view) (result_of Catch (cursor_of input.old)) result (cursor_of input.new) }
-    ensures shorter { left (cursor_of input.new).tokens ≤ left (cursor_of input.old).tokens }
+    ensures goes_on { GoesOn shared.old shared.new }
+    ensures reads { Reads Catch (option_map name_view) shared.old result shared.new }
 {
     match_token(
         alloc,
-        input,
+        shared.input,
         DueToken::Catch,
         "after the block of this `try`",
     )?;
-    if !pass_token(input, DueToken::LeftParen)? {
+    if !pass_token(shared.input, DueToken::LeftParen)? {
         return Ok(None);
     }
-    let name = parse_var_name(input)?;
+    let name = parse_var_name(shared.input)?;
     match_token(
         alloc,
-        input,
+        shared.input,
         DueToken::RightParen,
         "after the variable of this `catch`",
     )?;
@@ -168,39 +165,21 @@ pub(crate) fn catch_frame<'f>(
 }
 
 /// A guard, which is tested, with a look at what follows it: no `=`.
-pub(crate) fn end_guard(alloc: Global, input: &mut TokenStream, guard: Expr) -> ParseResult<Expr>
+pub(crate) fn end_guard(alloc: Global, shared: &mut Shared<'_>, guard: Expr) -> ParseResult<Expr>
+    ensures goes_on { GoesOn shared.old shared.new }
     ensures gives { (call : Caller) → Gives view (exec call (guard_on (view guard) (guard_fault (view guard)))
-        (cursor_of input.old)) result (cursor_of input.new) }
-    ensures shorter { left (cursor_of input.new).tokens ≤ left (cursor_of input.old).tokens }
+        (state_of shared.old)) result (state_of shared.new) }
 {
     test_guard(alloc, &guard)?;
-    guard_ends(alloc, input)?;
+    guard_ends(alloc, shared.input)?;
     Ok(guard)
 }
 
 /// What a `for` goes over, which is tested.
 pub(crate) fn end_iterated(alloc: Global, over: Expr) -> ParseResult<Expr>
-    ensures gives { (call : Caller) (t : Cursor) → Gives view (exec call (tested (view over)
+    ensures gives { (call : Caller) (t : Progress) → Gives view (exec call (tested (view over)
         (iterated_fault (view over))) t) result t }
 {
     test_iterated(alloc, &over)?;
     Ok(over)
-}
-
-/// A block of these statements, from its `{` at `start` to its `}`, which is taken.
-#[tactic(auto, using(rhai_reading::proofs::Steps::step_block_end))]
-pub(crate) fn end_block(
-    alloc: Global,
-    input: &mut TokenStream,
-    statements: Vec<Stmt>,
-    start: Position,
-) -> ParseResult<StmtBlock>
-    ensures gives { Gives block_view (result_of (BlockEnd start (statements_of statements)) (cursor_of input.old))
-        result (cursor_of input.new) }
-    ensures shorter { left (cursor_of input.new).tokens ≤ left (cursor_of input.old).tokens }
-{
-    let (_, end) = peek(input)?;
-    let end = *end;
-    match_token(alloc, input, DueToken::RightBrace, "to end this block")?;
-    Ok(make_block(statements, start, end))
 }

@@ -107,7 +107,7 @@ impl<R: LentReaders> ConstructReader<'_, R> {
             shared.old result
             shared.new }
         ensures shrinks { OnOk result
-            (left (state_of shared.new).tokens + 1 ≤ left (state_of shared.old).tokens) }
+            (left (state_of shared.new).cursor.tokens + 1 ≤ left (state_of shared.old).cursor.tokens) }
     {
         let cases = self.parse_cases(shared, frame, settings)?;
         let guard = self.parse_case_guard(shared, frame, settings)?;
@@ -120,7 +120,7 @@ impl<R: LentReaders> ConstructReader<'_, R> {
         let does = self.parse_action(shared, frame, settings)?;
         end_arm(
             self.language.alloc(),
-            shared.input,
+            shared,
             before,
             cases,
             guard,
@@ -151,7 +151,7 @@ impl<R: LentReaders> ConstructReader<'_, R> {
             "after the `_` of this arm",
         )?;
         let does = self.parse_action(shared, frame, settings)?;
-        end_default(self.language.alloc(), shared.input, does, default)
+        end_default(self.language.alloc(), shared, does, default)
     }
 
     /// Reads the cases of an arm.

@@ -4,7 +4,6 @@ use Rattle.rhai_lower.specs.Lexemes.{text_of}
 use Rattle.rhai_lower.specs.declared.position.Position.{Position}
 use Rattle.rhai_grammar.specs.Causes.{MemoryIsNowhere, UnknownOperator, is_for_memory, out_of_memory, refusal, refusal_of}
 use Rattle.rhai_grammar.specs.declared.error.ParseError.{ParseError}
-use Rattle.rhai_grammar.specs.Cursors.{Cursor, asked, looking}
 use Rattle.rhai_grammar.specs.Delivered.{is_memory}
 use Rattle.rhai_grammar.specs.Strengths.{Unknown, follower_of}
 use Rattle.rhai_grammar.specs.Contexts.{Context}
@@ -12,7 +11,7 @@ use Rattle.rhai_grammar.specs.declared.filter.ExprFilter.{ExprFilter}
 use Rattle.rhai_grammar.specs.Settings.{Settings}
 use Rattle.rhai_reading.specs.Reading.{Called, Ret, next_operator_at, NextOperator}
 use Rattle.rhai_reading.specs.Running as R
-use Rattle.rhai_reading.specs.Running.{Gives, exec, guarded, result_of}
+use Rattle.rhai_reading.specs.Running.{Gives, Progress, asked, exec, guarded, looking, result_of}
 use Rattle.rhai_reading.proofs.Steps.{step_next_operator}
 use Rattle.rhai_leaves.specs.Operators.{operator_found}
 use Rattle.rhai_expressions.specs.Asks.{operator_pair}
@@ -31,7 +30,7 @@ found_given at None = refl
 found_given at (Some o) = refl
 
 -- the operator that the code finds
-next_done : (f : ExprFilter) (s t : Cursor) (o : Option Operator) → is_memory (asked s).lexeme ≡ false → follower_of f (asked s).lexeme ≡ operator_found o → t ≡ looking s → result_of (NextOperator f) s ≡ R.Done (option_map operator_pair o) t
+next_done : (f : ExprFilter) (s t : Progress) (o : Option Operator) → is_memory (asked s).lexeme ≡ false → follower_of f (asked s).lexeme ≡ operator_found o → t ≡ looking s → result_of (NextOperator f) s ≡ R.Done (option_map operator_pair o) t
 next_done f s t o readable is look =
     let call = guarded (NextOperator f) s in
     let at = (asked s).at in
@@ -42,7 +41,7 @@ next_done f s t o readable is look =
     ∙ ap (R.Done (option_map operator_pair o)) (sym look)
 
 -- what the code answers where it looks for an operator, as the reading program gives it
-pub next_given : (f : ExprFilter) (s t : Cursor) (r : Result (Option Operator) ParseError) → IfOk r (λ o. follower_of f (asked s).lexeme ≡ operator_found o) → IfErr r (λ e. is_for_memory e ≡ false → (follower_of f (asked s).lexeme ≡ Unknown (text_of (asked s).lexeme)) × (is_memory (asked s).lexeme ≡ false) × (refusal_of e ≡ refusal (UnknownOperator (text_of (asked s).lexeme)) (asked s).at)) → IfErr r MemoryIsNowhere → t ≡ looking s → OnOk r (is_memory (asked s).lexeme ≡ false) → Gives (option_map operator_pair) (result_of (NextOperator f) s) r t
+pub next_given : (f : ExprFilter) (s t : Progress) (r : Result (Option Operator) ParseError) → IfOk r (λ o. follower_of f (asked s).lexeme ≡ operator_found o) → IfErr r (λ e. is_for_memory e ≡ false → (follower_of f (asked s).lexeme ≡ Unknown (text_of (asked s).lexeme)) × (is_memory (asked s).lexeme ≡ false) × (refusal_of e ≡ refusal (UnknownOperator (text_of (asked s).lexeme)) (asked s).at)) → IfErr r MemoryIsNowhere → t ≡ looking s → OnOk r (is_memory (asked s).lexeme ≡ false) → Gives (option_map operator_pair) (result_of (NextOperator f) s) r t
 next_given f s t (Ok o) found refused nowhere look readable = next_done f s t o readable found look
 next_given f s t (Err e) found refused nowhere look readable = (
   λ told. (
@@ -73,7 +72,7 @@ pub same_context : (language : LanguageValue) (frame : FrameValue) (c d : ParseS
 same_context language frame c d e = ap (under language frame) e
 
 -- What calls a name is read alike under settings that differ in their position alone.
-pub same_called : (language : LanguageValue) (frame : FrameValue) (c d : ParseSettings) (at : Position) (q r : Bool) (t : Cursor)
+pub same_called : (language : LanguageValue) (frame : FrameValue) (c d : ParseSettings) (at : Position) (q r : Bool) (t : Progress)
     → settings_of c ≡ settings_of d → c.pos ≡ at → q ≡ r
     → result_of (called language frame c q) t ≡ result_of (Called (context_of language frame d) (live_of frame) at r) t
 same_called language frame c d at q r t same stands is =

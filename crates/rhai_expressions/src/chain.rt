@@ -2,9 +2,9 @@
 
 ghost use Rattle.std.specs.Prelude.{◌≡◌, false, option_map};
 ghost use Rattle.rhai_ast.specs.View.{view};
-ghost use Rattle.rhai_grammar.specs.Cursors.{asked, cursor_of};
 ghost use Rattle.rhai_grammar.specs.Delivered.{is_end};
-ghost use Rattle.rhai_language.specs.Readers.{Covers, GoesOn, Reads, called, index, links, member};
+ghost use Rattle.rhai_reading.specs.Running.{asked};
+ghost use Rattle.rhai_language.specs.Readers.{Covers, GoesOn, Reads, called, index, links, member, state_of};
 ghost use Rattle.rhai_expressions.specs.Views.{call_view, linked};
 
 use crate::asks::end_index;
@@ -151,7 +151,7 @@ impl<R: LentReaders> ExprReader<'_, R> {
         let index = self
             .readers
             .parse_expr(self.language, shared, frame, settings)?;
-        end_index(self.language.alloc(), shared.input, indexed, index)
+        end_index(self.language.alloc(), shared, indexed, index)
     }
 
     /// Reads the member after a dot: a property, or a call of a method. The caller has looked at it.
@@ -162,7 +162,7 @@ impl<R: LentReaders> ExprReader<'_, R> {
         frame: &Frame<'_>,
         settings: ParseSettings,
     ) -> ParseResult<Expr>
-        requires seen { is_end (asked (cursor_of shared.now.input.now)).lexeme ≡ false }
+        requires seen { is_end (asked (state_of shared.old)).lexeme ≡ false }
         requires lent { Covers (R.lent self.now.readers) (member self.now.language.now frame.now settings)
             shared.old }
         ensures goes_on { GoesOn shared.old shared.new }

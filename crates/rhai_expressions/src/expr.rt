@@ -4,7 +4,7 @@ ghost use Rattle.std.specs.Prelude.{◌≡◌, false};
 ghost use Rattle.rhai_lower.specs.Nodes.{no_nodes, position_of};
 ghost use Rattle.rhai_ast.specs.View.{view};
 ghost use Rattle.rhai_grammar.specs.Beginnings.{beginning, is_sign};
-ghost use Rattle.rhai_grammar.specs.Cursors.{asked};
+ghost use Rattle.rhai_reading.specs.Running.{asked};
 ghost use Rattle.rhai_language.specs.Readers.{Covers, GoesOn, Reads, arguments, binary_op, expression, items};
 ghost use Rattle.rhai_language.specs.Readers.{operand, postfix};
 ghost use Rattle.rhai_language.specs.Readers.{right_operand, state_of, views_of};
@@ -49,7 +49,7 @@ impl<R: LentReaders> ExprReader<'_, R> {
                 return Ok(other);
             }
         };
-        let named = named_operand(self.language.alloc(), shared.input, frame, name, pos)?;
+        let named = named_operand(self.language.alloc(), shared, frame, name, pos)?;
         let NamedOperand { name, pos, called } = named;
         if !called {
             return Ok(Expr::Variable(name, pos));
@@ -221,7 +221,7 @@ impl<R: LentReaders> ExprReader<'_, R> {
         let mut settings = settings.at(lhs.position());
         let mut lhs = lhs;
         loop {
-            let Some(operator) = next_operator(self.language.alloc(), frame.filter(), shared.input)?
+            let Some(operator) = next_operator(self.language.alloc(), frame.filter(), shared)?
             else {
                 return Ok(lhs);
             };
@@ -232,7 +232,7 @@ impl<R: LentReaders> ExprReader<'_, R> {
             let place = place_after(&op_token);
             let rhs = self.parse_right_operand(shared, frame, settings, place)?;
             // A reserved symbol after the operand is refused before the level is raised.
-            next_operator(self.language.alloc(), frame.filter(), shared.input)?;
+            next_operator(self.language.alloc(), frame.filter(), shared)?;
             let deeper = settings.level_up_in_run(pos)?;
             let rhs = self.parse_binary_op(shared, frame, deeper.side, operator.strength, rhs)?;
             lhs = match make_binary(self.language.alloc(), op_token, pos, lhs, rhs) {

@@ -1,20 +1,20 @@
 //! What the readers of expressions ask for by leaves: the names of a path, and whether a name is called.
 
-ghost use Rattle.std.specs.Prelude.{◌≡◌, ◌≤◌, IfErr, IfOk, true};
+ghost use Rattle.std.specs.Prelude.{◌≡◌, IfErr, IfOk, true};
 ghost use Rattle.rhai_lower.specs.Nodes.{variable};
 ghost use Rattle.rhai_ast.specs.View.{named};
 ghost use Rattle.rhai_grammar.specs.Beginnings.{qualifies};
-ghost use Rattle.rhai_grammar.specs.Cursors.{asked, cursor_of, left};
 ghost use Rattle.rhai_grammar.specs.Contexts.{Context};
 ghost use Rattle.rhai_reading.specs.Reading.{Path, Postfix, call_on};
-ghost use Rattle.rhai_reading.specs.Running.{Fails, Gives, exec, guarded, result_of};
+ghost use Rattle.rhai_reading.specs.Running.{Fails, asked, exec, guarded, result_of};
+ghost use Rattle.rhai_language.specs.Readers.{GoesOn, Reads, state_of};
 ghost use Rattle.rhai_expressions.specs.Views.{variable_view};
 
 use rhai_ast::VariableExpr;
 use rhai_base::Frame;
 use rhai_base::words::qualify;
 use rhai_grammar::ParseResult;
-use rhai_input::TokenStream;
+use rhai_language::Shared;
 use rhai_leaves::cursor::skip;
 use rhai_leaves::statements::parse_var_name;
 use rhai_leaves::tokens::{is_called, is_qualified};
@@ -26,24 +26,24 @@ use std::alloc::Global;
 #[tactic(auto, using(crate::proofs::Readers::paths))]
 pub(crate) fn next_path(
     alloc: Global,
-    input: &mut TokenStream,
+    shared: &mut Shared<'_>,
     frame: &Frame<'_>,
     name: Box<VariableExpr>,
     pos: Position,
 ) -> ParseResult<(Box<VariableExpr>, Position)>
-    requires { qualifies (asked (cursor_of input.old)).lexeme ≡ true }
-    ensures gives { Gives variable_view (result_of (Path frame.now.live (variable (named name.value) pos))
-        (cursor_of input.old)) result (cursor_of input.new) }
-    ensures shorter { left (cursor_of input.new).tokens ≤ left (cursor_of input.old).tokens }
+    requires { qualifies (asked (state_of shared.old)).lexeme ≡ true }
+    ensures goes_on { GoesOn shared.old shared.new }
+    ensures reads { Reads (Path frame.now.live (variable (named name.value) pos)) variable_view shared.old result
+        shared.new }
 {
     let mut name = name;
     let mut pos = pos;
     loop {
-        skip(input);
-        let (next, next_pos) = parse_var_name(input)?;
+        skip(shared.input);
+        let (next, next_pos) = parse_var_name(shared.input)?;
         name = qualify(alloc, frame, name, pos, next)?;
         pos = next_pos;
-        if !is_qualified(input)? {
+        if !is_qualified(shared.input)? {
             return Ok((name, pos));
         }
     }
@@ -61,25 +61,25 @@ pub(crate) struct NamedOperand {
 /// token after them, which stays, calls the name.
 pub(crate) fn named_operand(
     alloc: Global,
-    input: &mut TokenStream,
+    shared: &mut Shared<'_>,
     frame: &Frame<'_>,
     name: Box<VariableExpr>,
     pos: Position,
 ) -> ParseResult<NamedOperand>
+    ensures goes_on { GoesOn shared.old shared.new }
     ensures found { (c : Context) → IfOk result (λ n.
-        result_of (Postfix c frame.now.live (variable (named name.value) pos)) (cursor_of input.old)
-        ≡ exec (guarded (Postfix c frame.now.live (variable (named name.value) pos)) (cursor_of input.old))
-        (call_on c frame.now.live (variable (named n.name.value) n.pos) n.called) (cursor_of input.new)) }
+        result_of (Postfix c frame.now.live (variable (named name.value) pos)) (state_of shared.old)
+        ≡ exec (guarded (Postfix c frame.now.live (variable (named name.value) pos)) (state_of shared.old))
+        (call_on c frame.now.live (variable (named n.name.value) n.pos) n.called) (state_of shared.new)) }
     ensures refused { (c : Context) → IfErr result (λ e. Fails
-        (result_of (Postfix c frame.now.live (variable (named name.value) pos)) (cursor_of input.old)) e
-        (cursor_of input.new)) }
-    ensures shorter { left (cursor_of input.new).tokens ≤ left (cursor_of input.old).tokens }
+        (result_of (Postfix c frame.now.live (variable (named name.value) pos)) (state_of shared.old)) e
+        (state_of shared.new)) }
 {
-    if !is_qualified(input)? {
-        let called = is_called(input)?;
+    if !is_qualified(shared.input)? {
+        let called = is_called(shared.input)?;
         return Ok(NamedOperand { name, pos, called });
     }
-    let (name, pos) = next_path(alloc, input, frame, name, pos)?;
-    let called = is_called(input)?;
+    let (name, pos) = next_path(alloc, shared, frame, name, pos)?;
+    let called = is_called(shared.input)?;
     Ok(NamedOperand { name, pos, called })
 }

@@ -8,6 +8,7 @@ pub mod StatementRowLemmas
 pub mod StringRowLemmas
 pub mod ConstructRowLemmas
 pub mod ModuleRowLemmas
+pub mod FunctionRowLemmas
 pub mod BeginningLemmas
 pub mod StartLemmas
 pub mod SlotLemmas

@@ -44,6 +44,7 @@ pub mod RowsOfStatements
 pub mod RowsOfStrings
 pub mod RowsOfConstructs
 pub mod RowsOfModules
+pub mod RowsOfFunctions
 pub mod StartLaws
 pub mod SlotLaws
 pub mod Imports

@@ -6,6 +6,7 @@ ghost use Rattle.rhai_grammar.specs.Rows.{CallRow, EndedRow, FlatRow, LateRow, M
 ghost use Rattle.rhai_grammar.specs.Rows.{PairRow, RangedRow, SizedRow, SumRow};
 ghost use Rattle.rhai_grammar.specs.RowsOfChains.{CaptureRow, GroupedRow, JoinedRow, QuestionedRow};
 ghost use Rattle.rhai_grammar.specs.RowsOfConstructs.{ArmRow, BreakRow, DefaultRow, IntegerRow, LoopRow, PipeRow};
+ghost use Rattle.rhai_grammar.specs.RowsOfFunctions.{FunctionRow};
 ghost use Rattle.rhai_grammar.specs.RowsOfModules.{ExportedRow, TwiceRow};
 ghost use Rattle.rhai_grammar.specs.RowsOfStatements.{AgainRow, ConstantRow, LetRow, OpenBlockRow};
 ghost use Rattle.rhai_grammar.specs.RowsOfStatements.{ScopesRow, SingleRow};
@@ -240,6 +241,14 @@ pub fn twice_row()
 #[tactic(auto, using(crate::proofs::ModuleRowLemmas::exported_row))]
 pub fn exported_row()
     ensures { ExportedRow }
+{}
+
+/// `fn f(a) { a }` gives a function of one parameter, to which its body refers by number 1. After a function of that
+/// name and number of parameters it is refused at its `fn`, and under the depth limit 3 for functions at the `a` of its
+/// body.
+#[tactic(auto, using(crate::proofs::FunctionRowLemmas::function_row))]
+pub fn function_row()
+    ensures { FunctionRow }
 {}
 
 /// `switch 1 { _ => 2, 3 => 4 }` is refused at the `_`: the default arm is the last one.

@@ -1,14 +1,16 @@
-//! The `{` that begins a block, and the `}` that ends it.
+//! Blocks: the `{`, the statements, and the `}`.
 
 ghost use Rattle.std.specs.Prelude.{◌+◌, ◌≤◌, OnOk};
-ghost use Rattle.rhai_grammar.specs.Cursors.{left};
-ghost use Rattle.rhai_language.specs.Readers.{GoesOn, Reads, state_of};
 ghost use Rattle.rhai_ast.specs.View.{block_view};
-ghost use Rattle.rhai_language.specs.Readers.{statements_of};
+ghost use Rattle.rhai_grammar.specs.Cursors.{left};
+ghost use Rattle.rhai_language.specs.Readers.{Covers, GoesOn, Reads, block, state_of, statements_of};
 ghost use Rattle.rhai_reading.specs.Reading.{BlockEnd, BlockStart};
 
+use crate::language::Language;
+use crate::lent::LentReaders;
 use crate::shared::Shared;
 use rhai_ast::{Stmt, StmtBlock};
+use rhai_base::{Frame, ParseSettings};
 use rhai_grammar::{DueToken, ParseResult};
 use rhai_leaves::cursor::peek;
 use rhai_leaves::due::match_token;
@@ -45,4 +47,22 @@ pub fn end_block(
     let end = *end;
     match_token(alloc, shared.input, DueToken::RightBrace, "to end this block")?;
     Ok(make_block(statements, start, end))
+}
+
+/// Reads a block after its `{`, where the settings stand, up to its `}`. Its definitions end with it. Its statements
+/// are read by `readers`.
+#[tactic(auto, using(rhai_reading::proofs::Steps::step_block, crate::proofs::Readers::readers))]
+pub fn parse_block<R: LentReaders>(
+    language: &Language,
+    readers: &R,
+    shared: &mut Shared<'_>,
+    frame: &Frame<'_>,
+    settings: ParseSettings,
+) -> ParseResult<StmtBlock>
+    requires lent { Covers (R.lent readers.now) (block language.now frame.now settings) shared.old }
+    ensures goes_on { GoesOn shared.old shared.new }
+    ensures reads { Reads (block language.now frame.now settings) block_view shared.old result shared.new }
+{
+    let statements = readers.parse_block_inside(language, shared, frame, settings)?;
+    end_block(language.alloc(), shared, statements, settings.pos)
 }

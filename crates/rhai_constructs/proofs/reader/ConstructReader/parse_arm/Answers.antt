@@ -1,5 +1,4 @@
 use Rattle.std.proofs.Common.{arith}
-use Rattle.rhai_grammar.specs.Cursors.{cursor_of}
 use Rattle.rhai_reading.specs.Running.{guarded}
 use Rattle.rhai_language.specs.Readers.{arm, state_of}
 use Rattle.rhai_constructs.specs.Switches.{arm_view}
@@ -11,4 +10,4 @@ use Rattle.rhai_constructs.proofs.Readers as rule
 pub returns-clause-reads : goal.returns-clause-reads
 returns-clause-reads g c =
     let call = guarded (arm c.args.self.now.language.now c.args.frame.now c.args.settings (collected_view c.args.before.now)) (state_of c.args.shared.now) in
-    gives_so arm_view c.end_arm.result (cursor_of c.end_arm.new.input) (grind (arith, rule.parse_arm)) (c.end_arm.ensures.gives call (grind (arith, rule.parse_arm)))
+    gives_so arm_view c.end_arm.result (state_of c.end_arm.new.shared) (grind (arith, rule.parse_arm)) (c.end_arm.ensures.gives call (grind (arith, rule.parse_arm)))

@@ -13,4 +13,4 @@ invariant-loop-arms g l = record {
 }
 
 abbrev pub decreases-loop-arms : goal.decreases-loop-arms
-decreases-loop-arms g l = left (state_of l.shared).tokens
+decreases-loop-arms g l = left (state_of l.shared).cursor.tokens

@@ -12,4 +12,4 @@ invariant-loop-cases g l = record {
 }
 
 abbrev pub decreases-loop-cases : goal.decreases-loop-cases
-decreases-loop-cases g l = left (state_of l.shared).tokens
+decreases-loop-cases g l = left (state_of l.shared).cursor.tokens

@@ -1,6 +1,5 @@
 use Rattle.std.proofs.Common.{arith}
 use Rattle.rhai_ast.specs.View.{view}
-use Rattle.rhai_grammar.specs.Cursors.{cursor_of}
 use Rattle.rhai_reading.specs.Running.{guarded}
 use Rattle.rhai_language.specs.Readers.{guard, state_of}
 use Rattle.rhai_constructs.proofs.reader.ConstructReader.parse_guard.Goals as goal
@@ -10,4 +9,4 @@ use Rattle.rhai_constructs.proofs.Readers as rule
 pub returns-clause-reads : goal.returns-clause-reads
 returns-clause-reads g c =
     let call = guarded (guard c.args.self.now.language.now c.args.frame.now c.args.settings) (state_of c.args.shared.now) in
-    gives_so view c.end_guard.result (cursor_of c.end_guard.new.input) (grind (arith, rule.parse_guard)) (c.end_guard.ensures.gives call)
+    gives_so view c.end_guard.result (state_of c.end_guard.new.shared) (grind (arith, rule.parse_guard)) (c.end_guard.ensures.gives call)

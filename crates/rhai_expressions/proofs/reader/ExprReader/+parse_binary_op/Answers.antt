@@ -1,4 +1,4 @@
-use Rattle.std.proofs.Common.{rules, arith, ◌∙◌, option_map}
+use Rattle.std.proofs.Common.{rules, ap, arith, ◌∙◌, option_map}
 use Rattle.std.proofs.lemmas.Result.{err_from_is_err_and}
 use Rattle.rhai_lower.specs.Lexemes.{lexeme}
 use Rattle.rhai_ast.specs.View.{view}
@@ -6,7 +6,7 @@ use Rattle.rhai_grammar.specs.Cursors.{cursor_of}
 use Rattle.rhai_reading.specs.Running.{Done, Refused}
 use Rattle.rhai_language.specs.Frames.{context_of, live_of}
 use Rattle.rhai_expressions.specs.Asks.{operator_pair}
-use Rattle.rhai_language.specs.Readers.{state_of}
+use Rattle.rhai_language.specs.Readers.{state_at, state_of}
 use Rattle.rhai_reading.proofs.RunSteps.{Walked, walked_on, walked_refused, walked_short, walked_side_refused}
 use Rattle.rhai_expressions.proofs.AnswerLemmas.{same_context}
 use Rattle.rhai_expressions.proofs.reader.ExprReader.+parse_binary_op.Goals as goal
@@ -14,21 +14,21 @@ use Rattle.rhai_expressions.proofs.reader.ExprReader.+parse_binary_op.Goals.{Aft
 
 -- an operator of a run with its right side
 walked : (g : _) (t : _) (c : After-make_binary g t) → Walked (context_of c.args.self.now.language.now c.args.frame.now c.loop-lhs.settings) (live_of c.args.frame.now) c.args.parent c.in-Some.operator.strength c.in-Some.operator.right c.place_after-place.result (option_map operator_pair c.in_ok-next_operator.field-0) (lexeme c.take-op_token.result.0) c.take-op_token.result.1 (view c.in_ok-rhs.rhs) (Done (view c.in_ok-rhs-2.rhs) (state_of c.parse_binary_op.new.shared)) (context_of c.args.self.now.language.now c.args.frame.now c.in_ok-deeper.deeper.side)
-    (state_of c.loop-lhs.shared) (cursor_of c.next_operator.new.input) (cursor_of c.take-op_token.new.input) (state_of c.parse_right_operand.new.shared) (cursor_of c.next_operator-in-loop-lhs.new.input) (state_of c.parse_binary_op.new.shared)
+    (state_of c.loop-lhs.shared) (state_of c.next_operator.new.shared) (state_at c.next_operator.new.shared (cursor_of c.take-op_token.new.input)) (state_of c.parse_right_operand.new.shared) (state_of c.next_operator-in-loop-lhs.new.shared) (state_of c.parse_binary_op.new.shared)
 walked g t c = record {
   operator = search rules;
   goes = search rules;
   readable = search rules;
   more = search rules;
-  look = search rules;
+  look = c.next_operator.ensures.after;
   token = search rules;
-  took = search rules;
+  took = ap (state_at c.next_operator.new.shared) c.take-op_token.ensures.after;
   shrinks = c.take-op_token.ensures.shrinks;
   stands = search rules;
   operand = search rules;
   operand_short = search rules;
   known = search rules;
-  look_on = search rules;
+  look_on = c.next_operator-in-loop-lhs.ensures.after;
   room = search rules;
   deeper = search rules;
   side = search rules;
@@ -41,20 +41,20 @@ returns-in_err-rhs-2-clause-reads g t c =
     rw (p.1, p.2) (
       λ told.
           let h : Walked (context_of c.args.self.now.language.now c.args.frame.now c.loop-lhs.settings) (live_of c.args.frame.now) c.args.parent c.in-Some.operator.strength c.in-Some.operator.right c.place_after-place.result (option_map operator_pair c.in_ok-next_operator.field-0) (lexeme c.take-op_token.result.0) c.take-op_token.result.1 (view c.in_ok-rhs.rhs) (Refused _ (state_of c.parse_binary_op.new.shared)) (context_of c.args.self.now.language.now c.args.frame.now c.in_ok-deeper.deeper.side)
-          (state_of c.loop-lhs.shared) (cursor_of c.next_operator.new.input) (cursor_of c.take-op_token.new.input) (state_of c.parse_right_operand.new.shared) (cursor_of c.next_operator-in-loop-lhs.new.input) (state_of c.parse_binary_op.new.shared) = record {
+          (state_of c.loop-lhs.shared) (state_of c.next_operator.new.shared) (state_at c.next_operator.new.shared (cursor_of c.take-op_token.new.input)) (state_of c.parse_right_operand.new.shared) (state_of c.next_operator-in-loop-lhs.new.shared) (state_of c.parse_binary_op.new.shared) = record {
             operator = search rules;
             goes = search rules;
             readable = search rules;
             more = search rules;
-            look = search rules;
+            look = c.next_operator.ensures.after;
             token = search rules;
-            took = search rules;
+            took = ap (state_at c.next_operator.new.shared) c.take-op_token.ensures.after;
             shrinks = c.take-op_token.ensures.shrinks;
             stands = search rules;
             operand = search rules;
             operand_short = search rules;
             known = search rules;
-            look_on = search rules;
+            look_on = c.next_operator-in-loop-lhs.ensures.after;
             room = search rules;
             deeper = search rules;
             side = c.in_err-rhs-2.ensures.reads.0 told;

@@ -16,4 +16,4 @@ invariant-loop-lhs g l = record {
 }
 
 abbrev pub decreases-loop-lhs : goal.decreases-loop-lhs
-decreases-loop-lhs g l = left (state_of l.shared).tokens
+decreases-loop-lhs g l = left (state_of l.shared).cursor.tokens

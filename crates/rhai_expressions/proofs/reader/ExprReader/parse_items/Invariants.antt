@@ -12,4 +12,4 @@ invariant-loop-items g l = record {
 }
 
 abbrev pub decreases-loop-items : goal.decreases-loop-items
-decreases-loop-items g l = left (state_of l.shared).tokens
+decreases-loop-items g l = left (state_of l.shared).cursor.tokens

@@ -16,4 +16,4 @@ invariant-loop-links g l = record {
 }
 
 abbrev pub decreases-loop-links : goal.decreases-loop-links
-decreases-loop-links g l = left (state_of l.shared).tokens
+decreases-loop-links g l = left (state_of l.shared).cursor.tokens

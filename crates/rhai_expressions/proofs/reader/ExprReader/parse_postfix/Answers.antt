@@ -4,7 +4,6 @@ use Rattle.rhai_lower.specs.Nodes.{variable}
 use Rattle.rhai_ast.specs.declared.ast.VariableExpr.{VariableExpr}
 use Rattle.rhai_ast.specs.View.{named}
 use Rattle.rhai_ast.proofs.Views.{view_variable}
-use Rattle.rhai_grammar.specs.Cursors.{cursor_of}
 use Rattle.rhai_grammar.specs.Modules.{is_qualified, module_fault}
 use Rattle.rhai_reading.specs.Running.{Done}
 use Rattle.rhai_language.specs.Frames.{context_of, live_of}
@@ -25,8 +24,8 @@ returns-then-not-called-clause-reads g c =
     let live = live_of c.args.frame.now in
     let x = variable (named c.in-Ok.variable.0.value) c.in-Ok.variable.1 in
     let y = variable (named c.in_ok-named.named.name.value) c.in_ok-named.named.pos in
-    rw (c.in-Ok.ensures.variable) (name_plain context live x y c.in_ok-named.named.called (state_of c.args.shared.now) (cursor_of c.named_operand.new.input) (search rules)
-    (c.in_ok-named.ensures.found context) ∙ ap (λ n. Done n (cursor_of c.named_operand.new.input)) (sym (view_variable c.in_ok-named.named.name c.in_ok-named.named.pos)))
+    rw (c.in-Ok.ensures.variable) (name_plain context live x y c.in_ok-named.named.called (state_of c.args.shared.now) (state_of c.named_operand.new.shared) (search rules)
+    (c.in_ok-named.ensures.found context) ∙ ap (λ n. Done n (state_of c.named_operand.new.shared)) (sym (view_variable c.in_ok-named.named.name c.in_ok-named.named.pos)))
 
 pub returns-in_err-call-clause-reads : goal.returns-in_err-call-clause-reads
 returns-in_err-call-clause-reads g c =
@@ -35,10 +34,10 @@ returns-in_err-call-clause-reads g c =
     let live = live_of c.args.frame.now in
     let x = variable (named c.in-Ok.variable.0.value) c.in-Ok.variable.1 in
     let y = variable (named c.in_ok-named.named.name.value) c.in_ok-named.named.pos in
-    let there = same_called c.args.self.now.language.now c.args.frame.now c.at.result c.args.settings c.in_ok-named.named.pos c.is_qualified_name-qualified.result (is_qualified y) (cursor_of c.named_operand.new.input) c.at.ensures.settings c.at.ensures.position (c.is_qualified_name-qualified.ensures c.in_ok-named.named.pos ∙ ap (λ (v : VariableExpr). is_qualified (variable (named v) c.in_ok-named.named.pos)) c.deref.ensures) in
+    let there = same_called c.args.self.now.language.now c.args.frame.now c.at.result c.args.settings c.in_ok-named.named.pos c.is_qualified_name-qualified.result (is_qualified y) (state_of c.named_operand.new.shared) c.at.ensures.settings c.at.ensures.position (c.is_qualified_name-qualified.ensures c.in_ok-named.named.pos ∙ ap (λ (v : VariableExpr). is_qualified (variable (named v) c.in_ok-named.named.pos)) c.deref.ensures) in
     rw (p.1, p.2) (
       λ told. rw (c.in-Ok.ensures.variable)
-          (call_refused context live x y c.in_ok-named.named.called (state_of c.args.shared.now) (cursor_of c.named_operand.new.input) (state_of c.parse_call.new.shared) (search rules) (c.in_ok-named.ensures.found context) c.in_ok-named.ensures.shorter _
+          (call_refused context live x y c.in_ok-named.named.called (state_of c.args.shared.now) (state_of c.named_operand.new.shared) (state_of c.parse_call.new.shared) (search rules) (c.in_ok-named.ensures.found context) c.in_ok-named.ensures.goes_on.shorter _
           (sym there ∙ c.in_err-call.ensures.reads.0 told)),
       c.in_err-call.ensures.reads.1,
     )
@@ -50,10 +49,10 @@ returns-in_err-test_path-clause-reads g c =
     let live = live_of c.args.frame.now in
     let x = variable (named c.in-Ok.variable.0.value) c.in-Ok.variable.1 in
     let y = variable (named c.in_ok-named.named.name.value) c.in_ok-named.named.pos in
-    let there = same_called c.args.self.now.language.now c.args.frame.now c.at.result c.args.settings c.in_ok-named.named.pos c.is_qualified_name-qualified.result (is_qualified y) (cursor_of c.named_operand.new.input) c.at.ensures.settings c.at.ensures.position (c.is_qualified_name-qualified.ensures c.in_ok-named.named.pos ∙ ap (λ (v : VariableExpr). is_qualified (variable (named v) c.in_ok-named.named.pos)) c.deref.ensures) in
+    let there = same_called c.args.self.now.language.now c.args.frame.now c.at.result c.args.settings c.in_ok-named.named.pos c.is_qualified_name-qualified.result (is_qualified y) (state_of c.named_operand.new.shared) c.at.ensures.settings c.at.ensures.position (c.is_qualified_name-qualified.ensures c.in_ok-named.named.pos ∙ ap (λ (v : VariableExpr). is_qualified (variable (named v) c.in_ok-named.named.pos)) c.deref.ensures) in
     rw (p.1, p.2) (
       λ told. rw (c.in-Ok.ensures.variable)
-          (call_unknown context live x y c.in_ok-named.named.called (state_of c.args.shared.now) (cursor_of c.named_operand.new.input) (state_of c.parse_call.new.shared) (search rules) (c.in_ok-named.ensures.found context) c.in_ok-named.ensures.shorter _
+          (call_unknown context live x y c.in_ok-named.named.called (state_of c.args.shared.now) (state_of c.named_operand.new.shared) (state_of c.parse_call.new.shared) (search rules) (c.in_ok-named.ensures.found context) c.in_ok-named.ensures.goes_on.shorter _
           (sym there ∙ c.in_ok-call.ensures.reads) _ (sym (ap (λ (v : VariableExpr). module_fault context live (variable (named v) c.in_ok-named.named.pos)) c.deref-2.ensures) ∙ c.in_err-test_path.ensures.refused context refl refl told)),
       c.in_err-test_path.ensures.nowhere,
     )
@@ -64,7 +63,7 @@ returns-clause-reads g c =
     let live = live_of c.args.frame.now in
     let x = variable (named c.in-Ok.variable.0.value) c.in-Ok.variable.1 in
     let y = variable (named c.in_ok-named.named.name.value) c.in_ok-named.named.pos in
-    let there = same_called c.args.self.now.language.now c.args.frame.now c.at.result c.args.settings c.in_ok-named.named.pos c.is_qualified_name-qualified.result (is_qualified y) (cursor_of c.named_operand.new.input) c.at.ensures.settings c.at.ensures.position (c.is_qualified_name-qualified.ensures c.in_ok-named.named.pos ∙ ap (λ (v : VariableExpr). is_qualified (variable (named v) c.in_ok-named.named.pos)) c.deref.ensures) in
+    let there = same_called c.args.self.now.language.now c.args.frame.now c.at.result c.args.settings c.in_ok-named.named.pos c.is_qualified_name-qualified.result (is_qualified y) (state_of c.named_operand.new.shared) c.at.ensures.settings c.at.ensures.position (c.is_qualified_name-qualified.ensures c.in_ok-named.named.pos ∙ ap (λ (v : VariableExpr). is_qualified (variable (named v) c.in_ok-named.named.pos)) c.deref.ensures) in
     rw (c.in-Ok.ensures.variable)
-    (call_given context live x y c.in_ok-named.named.called (state_of c.args.shared.now) (cursor_of c.named_operand.new.input) (state_of c.parse_call.new.shared) (search rules) (c.in_ok-named.ensures.found context) c.in_ok-named.ensures.shorter _
+    (call_given context live x y c.in_ok-named.named.called (state_of c.args.shared.now) (state_of c.named_operand.new.shared) (state_of c.parse_call.new.shared) (search rules) (c.in_ok-named.ensures.found context) c.in_ok-named.ensures.goes_on.shorter _
     (sym there ∙ c.in_ok-call.ensures.reads) (sym (ap (λ (v : VariableExpr). module_fault context live (variable (named v) c.in_ok-named.named.pos)) c.deref-2.ensures) ∙ c.in_ok-test_path.ensures.passes context refl refl) ∙ ap (λ n. Done n (state_of c.parse_call.new.shared)) (sym c.in_ok-make_call.ensures))
