@@ -1,6 +1,7 @@
 -- How the contracts of the readers speak of what they read and what they leave.
-use Rattle.std.specs.Prelude.{◌≡◌, ◌≤◌, ℕ, Bool, Option, Result, Vec}
+use Rattle.std.specs.Prelude.{◌≡◌, ◌≤◌, ℕ, Bool, List, Option, Result, Vec, map, option_map}
 use Rattle.std.specs.declared.alloc.Global.{Global}
+use Rattle.std.specs.declared.rc.Rc.{Rc}
 use Rattle.std.specs.declared.rc.RcStr.{RcStr}
 use Rattle.std.specs.Rc.{rc_str_bytes}
 use Rattle.rhai_lower.specs.Texts.{Text}
@@ -8,6 +9,7 @@ use Rattle.rhai_lower.specs.Nodes.{Node, Nodes, Properties, Statements}
 use Rattle.rhai_ast.specs.View.{property_views, statement_views, views}
 use Rattle.rhai_ast.specs.declared.ast.Expr.{Expr}
 use Rattle.rhai_ast.specs.declared.ast.Ident.{Ident}
+use Rattle.rhai_ast.specs.declared.ast.ScriptFuncDef.{ScriptFuncDef}
 use Rattle.rhai_ast.specs.declared.ast.Stmt.{Stmt}
 use Rattle.rhai_lower.specs.declared.position.Position.{Position}
 use Rattle.rhai_grammar.specs.Contexts.{Live}
@@ -15,6 +17,8 @@ use Rattle.rhai_grammar.specs.declared.role.Closing.{Closing}
 use Rattle.rhai_grammar.specs.declared.role.Construct.{Construct}
 use Rattle.rhai_grammar.specs.declared.role.OperandPlace.{OperandPlace}
 use Rattle.rhai_grammar.specs.Cursors.{Cursor, cursor_of, left}
+use Rattle.rhai_grammar.specs.Libraries.{Ended}
+use Rattle.rhai_grammar.specs.declared.key.FnKey.{FnKey}
 use Rattle.rhai_grammar.specs.Spots.{spot_after_operand}
 use Rattle.rhai_grammar.specs.Switches.{Collected}
 use Rattle.rhai_grammar.specs.declared.error.ParseError.{ParseError}
@@ -22,7 +26,7 @@ use Rattle.rhai_reading.specs.Reading as reading
 use Rattle.rhai_reading.specs.Reading.{Goal, Val}
 use Rattle.rhai_reading.specs.Running.{Gives, Progress, need, result_of}
 use Rattle.rhai_base.specs.Frames.{FrameValue}
-use Rattle.rhai_base.specs.Libraries.{library_of}
+use Rattle.rhai_base.specs.Libraries.{ended, library_of}
 use Rattle.rhai_base.specs.declared.settings.ParseSettings.{ParseSettings}
 use Rattle.rhai_language.specs.Bounds.{UpTo}
 use Rattle.rhai_language.specs.Languages.{LanguageValue}
@@ -230,6 +234,18 @@ statements_of ss = statement_views ss.items
 -- a name and its position
 abbrev pub name_view : RcStr Global × Position → Text × Position
 name_view n = (rc_str_bytes n.0, n.1)
+
+-- the names of the parameters of a function
+abbrev pub names_of : Vec (RcStr Global) Global → List Text
+names_of names = map rc_str_bytes names.items
+
+-- the name of a function, with the type of its objects, if it has one
+abbrev pub head_view : Option (RcStr Global) × RcStr Global → Option Text × Text
+head_view head = (option_map rc_str_bytes head.0, rc_str_bytes head.1)
+
+-- a function that has ended, with its key
+abbrev pub ended_view : FnKey × Rc ScriptFuncDef Global → Ended
+ended_view e = ended e.0 e.1
 
 -- what a reader returned, and what is live after it
 abbrev pub with_live : {X A : Type 0} → (X → A) → FrameValue → X → A × Live

@@ -47,6 +47,13 @@ impl Language {
         self.alloc
     }
 
+    /// The parts of the language that scripts may use.
+    pub fn options(&self) -> LangOptions
+        ensures { result.0 ≡ self.now.options }
+    {
+        self.options
+    }
+
     /// Whether scripts may have loops.
     pub fn allow_looping(&self) -> bool
         ensures { result ≡ (bit_and self.now.options 32 == 32) }
@@ -59,6 +66,20 @@ impl Language {
         ensures { result ≡ (bit_and self.now.options 128 == 128) }
     {
         self.options.contains(LangOptions::SHADOWING)
+    }
+
+    /// The greatest level of nesting in a function; 0 is no limit.
+    pub fn max_function_expr_depth(&self) -> usize
+        ensures { result ≡ self.now.max_function_expr_depth }
+    {
+        self.max_function_expr_depth
+    }
+
+    /// The greatest number of functions and closures of a script; 0 allows none.
+    pub fn max_functions(&self) -> usize
+        ensures { result ≡ self.now.max_functions }
+    {
+        self.max_functions
     }
 
     /// The greatest number of items of an array literal; 0 is no limit.

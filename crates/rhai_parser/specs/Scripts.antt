@@ -1,11 +1,11 @@
 -- What the parser promises about the tree that it returns, in terms of written forms only.
-use Rattle.std.specs.Prelude.{◌≡◌, List, [], Result, Vec}
+use Rattle.std.specs.Prelude.{◌≡◌, List, Result, Vec, map}
 use Rattle.std.specs.declared.alloc.Global.{Global}
 use Rattle.std.specs.declared.rc.Rc.{Rc}
 use Rattle.rhai_lower.specs.Texts.{Text}
 use Rattle.rhai_input.specs.Slots.{SlotValue}
-use Rattle.rhai_lower.specs.Nodes.{Node, expression, no_statements, one_statement}
-use Rattle.rhai_ast.specs.View.{statement_views}
+use Rattle.rhai_lower.specs.Nodes.{Function, Node, expression, no_statements, one_statement}
+use Rattle.rhai_ast.specs.View.{function_view, statement_views}
 use Rattle.rhai_ast.specs.declared.ast.AST.{AST}
 use Rattle.rhai_ast.specs.declared.ast.ScriptFuncDef.{ScriptFuncDef}
 use Rattle.rhai_ast.specs.declared.ast.Stmt.{Stmt}
@@ -13,38 +13,50 @@ use Rattle.rhai_grammar.specs.Cursors.{Cursor}
 use Rattle.rhai_grammar.specs.Contexts.{Context, Live}
 use Rattle.rhai_grammar.specs.Definitions.{after_statements}
 use Rattle.rhai_grammar.specs.Forms.{Statements}
+use Rattle.rhai_grammar.specs.Libraries.{Library}
 use Rattle.rhai_grammar.specs.Promises.{ReadsWhole, Returns, expressions, scripts}
 use Rattle.rhai_grammar.specs.Trees.{statement_trees, tree}
 use Rattle.rhai_grammar.specs.declared.error.ParseError.{ParseError}
 
--- a script of one expression, without functions
-pub record IsScriptOf (x : Node) (script : AST) : Type 0 where
-  pub statements : statement_views script.statements.items ≡ one_statement (expression x) no_statements
-  pub functions : script.functions.items ≡ []
+-- lists of the code's functions
+abbrev pub function_views : List (Rc ScriptFuncDef Global) → List Function
+function_views fs = map (λ f. function_view f.value) fs
 
--- the statements and functions of a script, and the slots and imports that are left after it
-pub record IsScript (fs : Statements) (live : Live)
+-- the functions of a library without their keys
+abbrev pub functions_in : Library → List Function
+functions_in library = map (λ e. e.function) library
+
+-- a script of one expression, with the functions of a library
+pub record IsScriptOf (x : Node) (library : Library) (script : AST) : Type 0 where
+  pub statements : statement_views script.statements.items ≡ one_statement (expression x) no_statements
+  pub functions : function_views script.functions.items ≡ functions_in library
+
+-- the statements of a script with the functions of a library, and the slots and imports that are left after it
+pub record IsScript (fs : Statements) (live : Live) (library : Library)
     (script : Vec Stmt Global × Vec (Rc ScriptFuncDef Global) Global) (left : List SlotValue) (modules : List Text) :
     Type 0
   where
     pub statements : statement_views script.0.items ≡ statement_trees fs live
-    pub functions : script.1.items ≡ []
+    pub functions : function_views script.1.items ≡ functions_in library
     pub slots : left ≡ (after_statements fs live).slots
     pub imports : modules ≡ (after_statements fs live).imports
 
--- the script of this tree, unless memory ran out
-abbrev pub Accepts : Node → Result AST ParseError → Type 0
-Accepts x result = Returns (IsScriptOf x) result
+-- the script of this tree with these functions, unless memory ran out
+abbrev pub Accepts : Node → Library → Result AST ParseError → Type 0
+Accepts x library result = Returns (IsScriptOf x library) result
 
--- A stream that is one expression is the script of its tree.
-abbrev pub ReadsExpression : {L : Type 0} → (library : List L) → Context → Live → (start left : Cursor)
+-- A stream that is one expression is the script of its tree, with the functions that there are after it.
+abbrev pub ReadsExpression : Context → Live → (before after : Library) → (start left : Cursor)
     → Result AST ParseError → Type 0
-ReadsExpression library context live start left result =
-    ReadsWhole library (expressions context live) (λ f script. IsScriptOf (tree f live) script) start left result
+ReadsExpression context live before after start left result =
+    ReadsWhole (expressions context live) (λ f script. IsScriptOf (tree f live) after script) before after start left
+    result
 
--- A stream that is a script gives its statements, no function, and the slots and imports that its statements leave.
-abbrev pub ReadsScript : {L : Type 0} → (library : List L) → Context → Live → (start left : Cursor)
+-- A stream that is a script gives its statements, the functions that there are after it, and the slots and imports that
+-- its statements leave.
+abbrev pub ReadsScript : Context → Live → (before after : Library) → (start left : Cursor)
     → Result (Vec Stmt Global × Vec (Rc ScriptFuncDef Global) Global) ParseError → (slots : List SlotValue)
     → (imports : List Text) → Type 0
-ReadsScript library context live start left result slots imports =
-    ReadsWhole library (scripts context live) (λ fs script. IsScript fs live script slots imports) start left result
+ReadsScript context live before after start left result slots imports =
+    ReadsWhole (scripts context live) (λ fs script. IsScript fs live after script slots imports) before after start
+    left result

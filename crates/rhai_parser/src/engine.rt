@@ -1,18 +1,15 @@
 //! The engine: language options and limits, and the entries of the parser.
 
-ghost use Rattle.std.specs.Prelude.{◌≡◌, ◌==◌, ◌++◌, ◌∷◌, List, [], IfErr, OnErr, OnOk, map};
+ghost use Rattle.std.specs.Prelude.{◌≡◌, ◌==◌, ◌++◌, ◌∷◌, [], IfErr, OnErr, OnOk, map};
 ghost use Rattle.std.specs.Int.RustNames.{bit_and};
 ghost use Rattle.std.specs.Fn.{FnOnceReturnsAtMut, FnOnceTakesAtMut};
-ghost use Rattle.std.specs.declared.alloc.Global.{Global};
-ghost use Rattle.std.specs.declared.rc.Rc.{Rc};
 ghost use Rattle.rhai_ast.specs.View.{view};
-ghost use Rattle.rhai_ast.specs.declared.ast.ScriptFuncDef.{ScriptFuncDef};
 ghost use Rattle.rhai_grammar.specs.Causes.{MemoryIsNowhere};
 ghost use Rattle.rhai_grammar.specs.Cursors.{cursor_of};
 ghost use Rattle.rhai_grammar.specs.Delivered.{code};
-ghost use Rattle.rhai_grammar.specs.declared.key.FnKey.{FnKey};
 ghost use Rattle.rhai_grammar.specs.Promises.{HasRead, UnlessMemory};
 ghost use Rattle.rhai_parser.specs.Scripts.{Accepts, ReadsExpression};
+ghost use Rattle.rhai_base.specs.Libraries.{library_of};
 ghost use Rattle.rhai_base.specs.States.{IsFresh};
 ghost use Rattle.rhai_language.specs.Frames.{context_of, live_of};
 ghost use Rattle.rhai_parser.specs.Starts.{live_in, starts_in};
@@ -21,12 +18,15 @@ ghost use Rattle.std.specs.Rc.{rc_str_bytes};
 ghost use Rattle.rhai_grammar.specs.Imports.{is_among};
 ghost use Rattle.rhai_parser.specs.Engines.{fresh_engine, with_bits, expr_settings};
 
+use crate::library::take_library;
 use crate::optimizer::{OptimizationLevel, optimize_into_ast};
 use crate::readers::parse_whole_expr;
 use bitflags::Flags;
 use rhai_ast::{AST, Expr, Stmt};
 use rhai_base::known::is_among;
-use rhai_base::{Frame, Known, LangOptions, ParseSettingFlags, ParseSettings, ParseState};
+use rhai_base::{
+    FnLib, Frame, Known, LangOptions, ParseSettingFlags, ParseSettings, ParseState, functions,
+};
 use rhai_grammar::ParseResult;
 use rhai_input::{Scope, TokenStream};
 use rhai_language::{Language, Shared};
@@ -252,48 +252,57 @@ impl Engine {
         }
     }
 
-    // The script of one expression, as the optimizer makes it.
-    #[tactic(auto, using(rhai_ast::proofs::Views::view_expression))]
+    // The script of one expression and of all functions of a library, as the optimizer makes it.
+    #[tactic(auto, using(rhai_ast::proofs::Views::view_expression, crate::proofs::PromiseLemmas::functions_are))]
     fn make_script(
         &self,
         expr: Expr,
+        lib: &FnLib,
         constants: Option<&Scope>,
         level: OptimizationLevel,
     ) -> ParseResult<AST>
-        ensures script { Accepts (view expr) result }
+        ensures script { Accepts (view expr) (library_of lib.now.entries) result }
         ensures nowhere { IfErr result MemoryIsNowhere }
     {
         let statement = Stmt::Expr(Box::new(self.language.alloc, expr)?);
         let statements = vec![in self.language.alloc; statement]?;
-        let functions = Vec::new(self.language.alloc);
+        let functions = functions(self.language.alloc, lib)?;
         Ok(optimize_into_ast(self.language.alloc, constants, statements, functions, level)?)
     }
 
-    // Reads the script of one expression that a whole stream is.
-    #[tactic(auto, using(crate::proofs::PromiseLemmas::expressions_read))]
+    // Reads the script of one expression that a whole stream is, with the functions of a library.
     fn read_script(
         &self,
         input: &mut TokenStream,
+        lib: &mut FnLib,
         frame: &Frame<'_>,
         settings: ParseSettings,
         constants: Option<&Scope>,
         level: OptimizationLevel,
     ) -> ParseResult<AST>
-        ensures reads { (library : List (FnKey × Rc ScriptFuncDef Global)) → (cursor_of input.old).mode ≡ code
-            → ReadsExpression library (context_of self.now frame.now settings) (live_of frame.now)
-            (cursor_of input.old) (cursor_of input.new) result }
+        ensures reads { (cursor_of input.old).mode ≡ code
+            → ReadsExpression (context_of self.now frame.now settings) (live_of frame.now)
+            (library_of lib.old.entries) (library_of lib.new.entries) (cursor_of input.old) (cursor_of input.new)
+            result }
         ensures memory { UnlessMemory (HasRead (cursor_of input.old) (cursor_of input.new)) result }
         ensures nowhere { IfErr result MemoryIsNowhere }
     {
-        let mut shared = Shared { input };
-        match parse_whole_expr(&self.language, &mut shared, frame, settings) {
-            Ok(expr) => self.make_script(expr, constants, level),
+        let mut library = take_library(self.language.alloc, lib)?;
+        let mut shared = Shared {
+            input,
+            library: &mut library,
+        };
+        let read = parse_whole_expr(&self.language, &mut shared, frame, settings);
+        *lib = library.into_functions();
+        match read {
+            Ok(expr) => self.make_script(expr, lib, constants, level),
             Err(error) => Err(error),
         }
     }
 
-    /// Reads the script of one expression that the whole stream is, up to its end mark, and hands its tree to the
-    /// optimizer with the state's external constants.
+    /// Reads the script of one expression that the whole stream is, up to its end mark, and hands its tree, with all
+    /// functions of the library, to the optimizer with the state's external constants. An expression has no functions:
+    /// the library keeps those that it had.
     ///
     /// `settings` may change the settings that the expression is read under: level 0 at 1:1, the engine's depth for a
     /// script, its options without `STMT_EXPR` and `LOOP_EXPR`, and the flags `GLOBAL_LEVEL` and
@@ -310,17 +319,17 @@ impl Engine {
         requires { FnOnceTakesAtMut F.FnOnce settings (expr_settings self.now) }
         ensures reads { IsFresh state.entry → (chosen : _)
             × FnOnceReturnsAtMut F.FnOnce settings (expr_settings self.now) tt chosen
-            × ReadsExpression state.entry.lib.now.entries (starts_in self.now state.entry chosen) (live_in state.entry)
+            × ReadsExpression (starts_in self.now state.entry chosen) (live_in state.entry)
+            (library_of state.entry.lib.now.entries) (library_of state.exit.1.0.now.entries)
             (cursor_of state.entry.input.now) (cursor_of state.exit.0.now) result }
         ensures memory { UnlessMemory (HasRead (cursor_of state.entry.input.now) (cursor_of state.exit.0.now)) result }
         ensures nowhere { IfErr result MemoryIsNowhere }
-        ensures library { state.exit.1.0.now ≡ state.entry.lib.now }
     {
         let mut chosen = self.expr_settings();
         settings(&mut chosen);
         let ParseState {
             input,
-            lib: _,
+            lib,
             tokenizer_control: _,
             expr_filter,
             external_constants,
@@ -334,6 +343,6 @@ impl Engine {
         } = state;
         let known = self.known(external_constants, &global_imports);
         let frame = Frame::new(stack, frame_pointer, imports, expr_filter, known);
-        self.read_script(input, &frame, chosen, external_constants, level)
+        self.read_script(input, lib, &frame, chosen, external_constants, level)
     }
 }

@@ -2,6 +2,7 @@
 #![tactic(auto)]
 
 pub mod engine;
+mod library;
 pub mod optimizer;
 mod readers;
 mod script;

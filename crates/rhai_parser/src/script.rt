@@ -8,19 +8,22 @@ ghost use Rattle.rhai_grammar.specs.Causes.{MemoryIsNowhere, is_for_memory};
 ghost use Rattle.rhai_grammar.specs.Contexts.{Live};
 ghost use Rattle.rhai_grammar.specs.Cursors.{cursor_of};
 ghost use Rattle.rhai_grammar.specs.Promises.{HasRead, UnlessMemory};
-ghost use Rattle.rhai_parser.specs.Scripts.{ReadsScript};
+ghost use Rattle.rhai_parser.specs.Scripts.{ReadsScript, function_views, functions_in};
 ghost use Rattle.rhai_reading.specs.Reading.{Script};
 ghost use Rattle.rhai_reading.specs.Running.{Gives, result_of};
+ghost use Rattle.rhai_base.specs.Libraries.{library_of};
 ghost use Rattle.rhai_base.specs.States.{IsFresh};
 ghost use Rattle.rhai_parser.specs.Engines.{script_settings};
 ghost use Rattle.rhai_language.specs.Frames.{context_of};
-ghost use Rattle.rhai_parser.specs.Starts.{live_in, starts_in};
+ghost use Rattle.rhai_parser.specs.Starts.{live_in, progress_of, starts_in};
 
 use crate::engine::Engine;
+use crate::library::take_library;
 use crate::readers::parse_statements;
 use rhai_ast::{ScriptFuncDef, Stmt, StmtBlockContainer};
-use rhai_base::library::functions;
-use rhai_base::{FnLib, Frame, ParseSettingFlags, ParseSettings, ParseState};
+use rhai_base::{
+    FnLib, Frame, Library, ParseSettingFlags, ParseSettings, ParseState, functions,
+};
 use rhai_grammar::{Closing, ParseResult};
 use rhai_input::{Scope, TokenStream};
 use rhai_language::Shared;
@@ -47,6 +50,7 @@ impl Engine {
     fn read_statements(
         &self,
         input: &mut TokenStream,
+        library: &mut Library,
         frame: Frame<'_>,
         stack: &mut Scope,
         imports: &mut Vec<RcStr>,
@@ -57,10 +61,10 @@ impl Engine {
             × (left.imports ≡ map rc_str_bytes imports.new.items)
             × Gives (λ ss. (statement_views ss.items, left))
             (result_of (Script (context_of self.now frame.entry settings) frame.entry.live)
-            (cursor_of input.old)) result (cursor_of input.new) }
+            (progress_of input.old library.old)) result (progress_of input.new library.new) }
     {
         let mut frame = frame;
-        let mut shared = Shared { input };
+        let mut shared = Shared { input, library };
         let statements = parse_statements(
             self.language(),
             &mut shared,
@@ -73,13 +77,14 @@ impl Engine {
     }
 
     // Statements with all functions of a library.
+    #[tactic(auto, using(crate::proofs::PromiseLemmas::functions_are))]
     fn with_functions(
         &self,
         statements: Vec<Stmt>,
         lib: &FnLib,
     ) -> ParseResult<(StmtBlockContainer, Vec<Rc<ScriptFuncDef>>)>
         ensures is { IfOk result (λ r. (statement_views r.0.items ≡ statement_views statements.items)
-            × (map (λ f. f.value) r.1.items ≡ map (λ f. f.value) (map (λ e. e.1) lib.now.entries))) }
+            × (function_views r.1.items ≡ functions_in (library_of lib.now.entries))) }
         ensures out { IfErr result (λ e. is_for_memory e ≡ true) }
         ensures nowhere { IfErr result MemoryIsNowhere }
     {
@@ -89,7 +94,7 @@ impl Engine {
 
     /// Reads a script up to the end mark of the stream: its statements, before the optimizer, and all functions of the
     /// library, in the order in which they ended. The state keeps the slots of the script's variables, its imports, and
-    /// the library.
+    /// the library, to which the functions of the script are added; those that had ended before an error stay there.
     ///
     /// `settings` may change the settings that the script is read under: level 0 at 1:1, the engine's depth for a
     /// script, its options, and the flag `GLOBAL_LEVEL`.
@@ -104,12 +109,12 @@ impl Engine {
         requires { FnOnceTakesAtMut F.FnOnce settings (script_settings self.now) }
         ensures reads { IsFresh state.old → (chosen : _)
             × FnOnceReturnsAtMut F.FnOnce settings (script_settings self.now) tt chosen
-            × ReadsScript state.old.lib.now.entries (starts_in self.now state.old chosen) (live_in state.old)
+            × ReadsScript (starts_in self.now state.old chosen) (live_in state.old)
+            (library_of state.old.lib.now.entries) (library_of state.new.lib.now.entries)
             (cursor_of state.old.input.now) (cursor_of state.new.input.now) result state.new.stack
             (map rc_str_bytes state.new.imports.items) }
         ensures memory { UnlessMemory (HasRead (cursor_of state.old.input.now) (cursor_of state.new.input.now)) result }
         ensures nowhere { IfErr result MemoryIsNowhere }
-        ensures library { state.new.lib.now ≡ state.old.lib.now }
         ensures kept { (state.new.global_imports ≡ state.old.global_imports)
             × (state.new.external_constants ≡ state.old.external_constants)
             × (state.new.frame_pointer ≡ state.old.frame_pointer)
@@ -118,6 +123,7 @@ impl Engine {
         let mut chosen = self.script_settings();
         settings(&mut chosen);
         let alloc = self.alloc();
+        let mut library = take_library(alloc, state.lib)?;
         let stack = mem::replace(&mut state.stack, Scope::new(alloc));
         let imports = mem::replace(&mut state.imports, Vec::new(alloc));
         let around = mem::replace(&mut state.global_imports, Vec::new(alloc));
@@ -131,12 +137,14 @@ impl Engine {
         );
         let read = self.read_statements(
             state.input,
+            &mut library,
             frame,
             &mut state.stack,
             &mut state.imports,
             chosen,
         );
         state.global_imports = around;
+        *state.lib = library.into_functions();
         match read {
             Ok(statements) => self.with_functions(statements, state.lib),
             Err(error) => Err(error),

@@ -1,6 +1,6 @@
 -- What the proofs of the readers rest on: for each reader its equation, and what it makes of what it read.
 use Rattle.rhai_ast.proofs.Views.{view_noop, view_unit}
-use Rattle.rhai_reading.proofs.Steps.{step_definition, step_export, step_expr_statement, step_import, step_initializer, step_inside, step_jump, step_statement, step_statements}
+use Rattle.rhai_reading.proofs.Steps.{step_definition, step_export, step_expr_statement, step_function, step_function_statement, step_import, step_initializer, step_inside, step_jump, step_statement, step_statements}
 use Rattle.rhai_language.proofs.Readers.{readers}
 
 pub ruleset parse_statements = (readers, step_statements)
@@ -20,3 +20,7 @@ pub ruleset parse_expr_stmt = (readers, step_expr_statement)
 pub ruleset parse_block_inside = (readers, step_inside)
 
 pub ruleset parse_jump = (readers, step_jump)
+
+pub ruleset parse_fn = (readers, step_function_statement)
+
+pub ruleset parse_function = (readers, step_function)

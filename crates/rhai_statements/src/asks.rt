@@ -1,26 +1,24 @@
 //! What the readers of statements ask for by leaves: the name of a definition and the end of an assignment, as the
 //! reading program gives them, and whether the value of a jump begins.
 
-ghost use Rattle.std.specs.Prelude.{◌≡◌, ◌≤◌, IfOk, false};
+ghost use Rattle.std.specs.Prelude.{◌≡◌, IfOk, false};
 ghost use Rattle.rhai_lower.specs.Lexemes.{lexeme};
 ghost use Rattle.rhai_lower.specs.Nodes.{assignment};
 ghost use Rattle.rhai_ast.specs.View.{statement_view, view};
 ghost use Rattle.rhai_grammar.specs.Contexts.{Context, allows_looping};
-ghost use Rattle.rhai_grammar.specs.Cursors.{Cursor, cursor_of, left};
 ghost use Rattle.rhai_grammar.specs.Starts.{starts};
 ghost use Rattle.rhai_grammar.specs.Statements.{ends_itself};
 ghost use Rattle.rhai_grammar.specs.Targets.{is_constant_use, target_fault, update_of};
 ghost use Rattle.rhai_base.specs.Settings.{settings_of};
 ghost use Rattle.rhai_reading.specs.Reading.{tested};
-ghost use Rattle.rhai_reading.specs.Running.{Caller, Gives, exec, result_of};
-ghost use Rattle.rhai_language.specs.Readers.{name_view, var_name};
+ghost use Rattle.rhai_reading.specs.Running.{Caller, Gives, Progress, exec};
+ghost use Rattle.rhai_language.specs.Readers.{GoesOn, Reads, name_view, var_name};
 
 use rhai_ast::{Expr, Stmt};
 use rhai_base::places::may_be_value;
 use rhai_base::{Frame, ParseSettings};
 use rhai_grammar::{Beginning, ParseResult};
-use rhai_input::TokenStream;
-use rhai_language::Language;
+use rhai_language::{Language, Shared};
 use rhai_leaves::statements::parse_var_name;
 use rhai_leaves::tokens::what_begins;
 use rhai_lower::{Position, Token};
@@ -33,16 +31,14 @@ use std::rc::RcStr;
 #[tactic(auto, using(rhai_reading::proofs::Steps::step_var_name))]
 pub(crate) fn next_var_name(
     language: &Language,
-    input: &mut TokenStream,
+    shared: &mut Shared<'_>,
     frame: &Frame<'_>,
     settings: ParseSettings,
 ) -> ParseResult<(RcStr, Position)>
-    ensures gives { Gives name_view (result_of (var_name language.now frame.now settings) (cursor_of input.old))
-        result
-        (cursor_of input.new) }
-    ensures shorter { left (cursor_of input.new).tokens ≤ left (cursor_of input.old).tokens }
+    ensures goes_on { GoesOn shared.old shared.new }
+    ensures reads { Reads (var_name language.now frame.now settings) name_view shared.old result shared.new }
 {
-    let (name, pos) = parse_var_name(input)?;
+    let (name, pos) = parse_var_name(shared.input)?;
     frame.test_name(language.allow_shadowing(), &name, pos)?;
     Ok((name, pos))
 }
@@ -56,7 +52,7 @@ pub(crate) fn end_assignment(
     target: Expr,
     value: Expr,
 ) -> ParseResult<Stmt>
-    ensures gives { (call : Caller) (t : Cursor) → Gives statement_view (exec call (tested
+    ensures gives { (call : Caller) (t : Progress) → Gives statement_view (exec call (tested
         (assignment (update_of (lexeme op)) (view target) (view value) pos)
         (target_fault (is_constant_use frame.now.live.slots (view target)) (lexeme op) pos (view target))) t) result t }
     ensures open { IfOk result (λ s. ends_itself (statement_view s) ≡ false) }

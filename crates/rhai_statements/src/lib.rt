@@ -2,6 +2,8 @@
 #![tactic(auto)]
 
 mod asks;
+mod function;
+mod functions;
 mod modules;
 pub mod reader;
 mod stmt;

@@ -1,21 +1,20 @@
 //! What the readers of statements ask for by leaves about modules: another name after `as`, and what an `export` does.
 
-ghost use Rattle.std.specs.Prelude.{◌≡◌, ◌≤◌, IfOk, OnOk, option_map, unwrap_or};
+ghost use Rattle.std.specs.Prelude.{◌≡◌, IfOk, OnOk, option_map, unwrap_or};
 ghost use Rattle.std.specs.Int.NonZero.{non_zero_usize_get};
 ghost use Rattle.std.specs.Rc.{rc_str_bytes};
 ghost use Rattle.rhai_lower.specs.Nodes.{variable};
 ghost use Rattle.rhai_ast.specs.View.{statement_view};
-ghost use Rattle.rhai_grammar.specs.Cursors.{cursor_of, left};
 ghost use Rattle.rhai_grammar.specs.Definitions.{defined_as, exported, reused};
 ghost use Rattle.rhai_grammar.specs.Trees.{export_tree};
 ghost use Rattle.rhai_reading.specs.Reading.{Alias};
-ghost use Rattle.rhai_reading.specs.Running.{Gives, result_of};
+ghost use Rattle.rhai_language.specs.Readers.{GoesOn, Reads};
 ghost use Rattle.rhai_base.specs.Frames.{SamePlace};
 
 use rhai_ast::Stmt;
 use rhai_base::Frame;
 use rhai_grammar::{DueToken, ParseResult};
-use rhai_input::TokenStream;
+use rhai_language::Shared;
 use rhai_leaves::due::pass_token;
 use rhai_leaves::statements::parse_var_name;
 use rhai_lower::Position;
@@ -26,15 +25,14 @@ use std::rc::RcStr;
 
 /// The name after `as`, if that comes next; both are taken.
 #[tactic(auto, using(rhai_reading::proofs::Steps::step_alias))]
-pub(crate) fn next_alias(input: &mut TokenStream) -> ParseResult<Option<RcStr>>
-    ensures gives { Gives (option_map rc_str_bytes) (result_of Alias (cursor_of input.old)) result
-        (cursor_of input.new) }
-    ensures shorter { left (cursor_of input.new).tokens ≤ left (cursor_of input.old).tokens }
+pub(crate) fn next_alias(shared: &mut Shared<'_>) -> ParseResult<Option<RcStr>>
+    ensures goes_on { GoesOn shared.old shared.new }
+    ensures reads { Reads Alias (option_map rc_str_bytes) shared.old result shared.new }
 {
-    if !pass_token(input, DueToken::As)? {
+    if !pass_token(shared.input, DueToken::As)? {
         return Ok(None);
     }
-    let (name, _) = parse_var_name(input)?;
+    let (name, _) = parse_var_name(shared.input)?;
     Ok(Some(name))
 }
 

@@ -18,9 +18,10 @@ use crate::reader::StmtReader;
 use rhai_ast::{Expr, Stmt};
 use rhai_base::places::{test_global, test_loop};
 use rhai_base::{Frame, ParseSettingFlags, ParseSettings};
-use rhai_grammar::{Closing, ParseResult, StatementStart};
+use rhai_grammar::{Closing, DueToken, ParseResult, StatementStart};
 use rhai_language::{LentReaders, Shared};
 use rhai_leaves::cursor::{peek, skip, take};
+use rhai_leaves::due::match_token;
 use rhai_leaves::statements::{
     assigns, has_value, list_ends, parse_var_name, statement_continues, what_is_exported,
     what_starts,
@@ -83,7 +84,7 @@ impl<R: LentReaders> StmtReader<'_, R> {
             (with_live statement_view frame.new) shared.old
             result shared.new }
         ensures takes { IfOk result (λ s. ends_itself (statement_view s) ≡ true
-            → left (state_of shared.new).tokens + 1 ≤ left (state_of shared.old).tokens) }
+            → left (state_of shared.new).cursor.tokens + 1 ≤ left (state_of shared.old).cursor.tokens) }
     {
         let (token, pos) = peek(shared.input)?;
         let settings = settings.at(*pos);
@@ -136,6 +137,18 @@ impl<R: LentReaders> StmtReader<'_, R> {
                 test_global(settings, settings.pos)?;
                 self.parse_export(shared, frame, settings.level_up()?)
             }
+            StatementStart::Function => {
+                skip(shared.input);
+                self.parse_fn(shared, frame, settings, settings.pos, false)
+            }
+            StatementStart::Private => {
+                skip(shared.input);
+                let (_, pos) = peek(shared.input)?;
+                let pos = *pos;
+                let note = "after `private`";
+                match_token(self.language.alloc(), shared.input, DueToken::Fn, note)?;
+                self.parse_fn(shared, frame, settings.at(pos), settings.pos, true)
+            }
             StatementStart::Expression => {
                 self.parse_expr_stmt(shared, frame, settings.level_up()?)
             }
@@ -161,7 +174,7 @@ impl<R: LentReaders> StmtReader<'_, R> {
         let source = self
             .readers
             .parse_expr(self.language, shared, frame, settings)?;
-        let name = next_alias(shared.input)?;
+        let name = next_alias(shared)?;
         frame.import(self.language.alloc(), &name)?;
         Ok(make_import(self.language.alloc(), source, name, settings.pos)?)
     }
@@ -189,7 +202,7 @@ impl<R: LentReaders> StmtReader<'_, R> {
             return self.parse_let(shared, frame, deeper.at(pos), constant, true);
         }
         let (name, _) = parse_var_name(shared.input)?;
-        let alias = next_alias(shared.input)?;
+        let alias = next_alias(shared)?;
         Ok(export_name(self.language.alloc(), frame, name, alias, settings.pos)?)
     }
 
@@ -211,7 +224,7 @@ impl<R: LentReaders> StmtReader<'_, R> {
         ensures reads { Reads (definition self.now.language.now frame.old settings constant exported)
             (with_live statement_view frame.new) shared.old result shared.new }
     {
-        let (name, _) = next_var_name(self.language, shared.input, frame, settings)?;
+        let (name, _) = next_var_name(self.language, shared, frame, settings)?;
         let value = self.parse_initializer(shared, frame, settings)?;
         let number = define_as(frame, &name, constant, exported)?;
         let pos = settings.pos;

@@ -14,4 +14,4 @@ invariant-loop-statements g l = record {
 }
 
 abbrev pub decreases-loop-statements : goal.decreases-loop-statements
-decreases-loop-statements g l = left (state_of l.shared).tokens
+decreases-loop-statements g l = left (state_of l.shared).cursor.tokens

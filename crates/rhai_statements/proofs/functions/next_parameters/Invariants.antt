@@ -1,0 +1,16 @@
+use Rattle.std.proofs.Common.{◌≡◌, []}
+use Rattle.std.specs.Rc.{rc_str_bytes}
+use Rattle.rhai_grammar.specs.Cursors.{left}
+use Rattle.rhai_reading.specs.Reading.{Parameters}
+use Rattle.rhai_reading.specs.Running.{result_of}
+use Rattle.rhai_language.specs.Readers.{GoesOn, names_of, state_of}
+use Rattle.rhai_statements.proofs.functions.next_parameters.Given as goal
+
+abbrev pub invariant-loop-names : goal.invariant-loop-names
+invariant-loop-names g l = record {
+  same : result_of (Parameters (rc_str_bytes l.fn.function) []) (state_of l.fn.shared) ≡ result_of (Parameters (rc_str_bytes l.function) (names_of l.names)) (state_of l.shared);
+  goes_on : GoesOn l.fn.shared l.shared;
+}
+
+abbrev pub decreases-loop-names : goal.decreases-loop-names
+decreases-loop-names g l = left (state_of l.shared).cursor.tokens

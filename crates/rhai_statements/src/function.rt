@@ -1,0 +1,149 @@
+//! Functions: where they may stand, what they are read under, and what they give.
+
+ghost use Rattle.std.specs.Prelude.{◌≡◌, ◌++◌, IfErr, IfOk, OnOk, length, map};
+ghost use Rattle.std.specs.Rc.{rc_str_bytes};
+ghost use Rattle.rhai_ast.specs.View.{block_view, statement_view};
+ghost use Rattle.rhai_grammar.specs.Contexts.{nothing_live};
+ghost use Rattle.rhai_grammar.specs.Functions.{ended_function, parameters_live};
+ghost use Rattle.rhai_base.specs.Frames.{SamePlace};
+ghost use Rattle.rhai_language.specs.Frames.{live_of};
+ghost use Rattle.rhai_language.specs.Readers.{Covers, GoesOn, Reads, ended_view, function, function_statement, head_view};
+ghost use Rattle.rhai_language.specs.Readers.{names_of, state_of, with_live};
+ghost use Rattle.rhai_reading.specs.Reading.{function_end};
+ghost use Rattle.rhai_reading.specs.Running.{Caller, Gives, exec};
+ghost use Rattle.rhai_lower.specs.Nodes.{noop};
+
+use crate::functions::{next_head, next_parameter_list};
+use crate::reader::StmtReader;
+use rhai_ast::{ScriptFuncDef, Stmt, StmtBlock};
+use rhai_base::places::test_function;
+use rhai_base::{Frame, ParseSettings};
+use rhai_grammar::{FnKey, ParseError, ParseErrorType, ParseResult};
+use rhai_language::blocks::parse_block;
+use rhai_language::{LentReaders, Shared};
+use rhai_leaves::functions::open_body;
+use rhai_lower::Position;
+use std::alloc::{AllocError, Global};
+use std::rc::{Rc, RcStr};
+
+/// A function with the key that it is found by.
+type EndedFn = (FnKey, Rc<ScriptFuncDef>);
+
+impl<R: LentReaders> StmtReader<'_, R> {
+    /// Reads a function after its `fn`, where the settings stand, as a statement that begins at `first`: at its
+    /// `private`, if it has one. It joins the library, and leaves nothing in its place.
+    #[tactic(auto, using(crate::proofs::Readers::parse_fn))]
+    pub(crate) fn parse_fn(
+        &self,
+        shared: &mut Shared<'_>,
+        frame: &Frame<'_>,
+        settings: ParseSettings,
+        first: Position,
+        private: bool,
+    ) -> ParseResult<Stmt>
+        requires lent { Covers (R.lent self.now.readers) (function_statement self.now.language.now frame.now settings
+            first private) shared.old }
+        ensures goes_on { GoesOn shared.old shared.new }
+        ensures reads { Reads (function_statement self.now.language.now frame.now settings first private)
+            (with_live statement_view frame.now) shared.old result shared.new }
+    {
+        test_function(settings, first)?;
+        shared
+            .library
+            .test_room(self.language.max_functions(), settings.pos)?;
+        let imports = frame.all_imports(self.language.alloc())?;
+        let mut inner = frame.in_function(self.language.alloc(), &imports);
+        let max_depth = self.language.max_function_expr_depth();
+        let deeper = settings
+            .in_function(self.language.options(), max_depth)
+            .level_up()?;
+        let (key, function) = self.parse_function(shared, &mut inner, deeper, private)?;
+        end_function(shared, key, function, settings.pos)
+    }
+
+    /// Reads a function after its `fn`, where the settings stand, up to the `}` of its body, in a frame of its own,
+    /// which then holds its parameters.
+    #[tactic(auto, using(crate::proofs::Readers::parse_function))]
+    fn parse_function(
+        &self,
+        shared: &mut Shared<'_>,
+        frame: &mut Frame<'_>,
+        settings: ParseSettings,
+        private: bool,
+    ) -> ParseResult<EndedFn>
+        requires alone { frame.old.live ≡ nothing_live }
+        requires lent { Covers (R.lent self.now.readers) (function self.now.language.now frame.old settings
+            private) shared.old }
+        ensures goes_on { GoesOn shared.old shared.new }
+        ensures reads { Reads (function self.now.language.now frame.old settings private) ended_view shared.old
+            result shared.new }
+    {
+        let head = next_head(self.language.alloc(), shared)?;
+        let names = next_parameter_list(self.language.alloc(), shared, &head.1)?;
+        let opening = open_body(shared.input, &head.1)?;
+        let deeper = settings.level_up_with_position(opening)?;
+        declare_parameters(frame, &names)?;
+        let body = parse_block(self.language, &self.readers, shared, frame, deeper)?;
+        Ok(make_function(self.language.alloc(), private, head, names, body)?)
+    }
+}
+
+// Gives each parameter a slot in the frame of its function. The error is that there is no memory for them.
+fn declare_parameters(frame: &mut Frame<'_>, names: &[RcStr]) -> Result<(), AllocError>
+    requires { frame.old.live ≡ nothing_live }
+    ensures ok { OnOk result (frame.new.live ≡ parameters_live (map rc_str_bytes names.now)) }
+    ensures place { SamePlace frame.old frame.new }
+{
+    for name in names {
+        frame.declare(name)?;
+    }
+    Ok(())
+}
+
+// A function of these parts with its key: its type, its name, and the number of its parameters.
+fn make_function(
+    alloc: Global,
+    private: bool,
+    head: (Option<RcStr>, RcStr),
+    params: Vec<RcStr>,
+    body: StmtBlock,
+) -> Result<EndedFn, AllocError>
+    ensures { IfOk result (λ e. ended_view e
+        ≡ ended_function private (head_view head).0 (head_view head).1 (names_of params) (block_view body)) }
+{
+    let (this_type, name) = head;
+    let key = FnKey {
+        this_type: this_type.clone()?,
+        name: name.clone()?,
+        params: params.len(),
+    };
+    let function = ScriptFuncDef {
+        this_type,
+        name,
+        private,
+        params,
+        body,
+    };
+    Ok((key, Rc::new(alloc, function)?))
+}
+
+// Adds a function whose `fn` is at `pos` to the library. Where a function has its key, the error is
+// `FnDuplicatedDefinition` at `pos`.
+fn end_function(
+    shared: &mut Shared<'_>,
+    key: FnKey,
+    function: Rc<ScriptFuncDef>,
+    pos: Position,
+) -> ParseResult<Stmt>
+    ensures goes_on { GoesOn shared.old shared.new }
+    ensures gives { (call : Caller) (live : _) → Gives (λ s. (statement_view s, live)) (exec call (function_end live pos
+        (ended_view (key, function)) (state_of shared.old).library) (state_of shared.old)) result
+        (state_of shared.new) }
+{
+    if shared.library.has(&key) {
+        let why = ParseErrorType::FnDuplicatedDefinition(key.name.clone()?, key.params);
+        return Err(ParseError(why, pos));
+    }
+    shared.library.add(key, function)?;
+    Ok(Stmt::Noop(pos))
+}
