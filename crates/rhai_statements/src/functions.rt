@@ -1,19 +1,17 @@
 //! What the reader of functions asks for by leaves: the name of a function with the type of its objects, and its
 //! parameters.
 
-ghost use Rattle.std.specs.Prelude.{◌≡◌, [], IfErr, OnOk, false, map};
+ghost use Rattle.std.specs.Prelude.{◌≡◌, [], IfErr, OnOk, false, map, true};
 ghost use Rattle.std.specs.Rc.{rc_str_bytes};
 ghost use Rattle.rhai_grammar.specs.Causes.{FnDuplicatedParam, MemoryIsNowhere, is_for_memory, refusal, refusal_of};
 ghost use Rattle.rhai_grammar.specs.Imports.{is_among};
 ghost use Rattle.rhai_reading.specs.Reading.{FunctionHead, ParameterList, Parameters};
 ghost use Rattle.rhai_language.specs.Readers.{GoesOn, Reads, head_view, names_of};
-ghost use Rattle.std.specs.Prelude.{true};
 
 use rhai_base::known::is_among;
 use rhai_grammar::{CommaList, DueToken, ParseError, ParseErrorType, ParseResult};
 use rhai_language::Shared;
-use rhai_leaves::cursor::peek;
-use rhai_leaves::due::{is_due, match_token};
+use rhai_leaves::due::{match_token, pass_token};
 use rhai_leaves::functions::{
     open_parameters, take_function_name, take_parameter, take_type, test_function_name, type_named,
 };
@@ -32,13 +30,13 @@ pub(crate) fn next_head(
     ensures reads { Reads FunctionHead head_view shared.old result shared.new }
 {
     let (text, named, pos) = take_type(shared.input)?;
-    let (token, _) = peek(shared.input)?;
-    if named && !is_due(DueToken::Period, token) {
+    if !named {
+        let note = "after the type of the objects of this function";
+        match_token(alloc, shared.input, DueToken::Period, note)?;
+    } else if !pass_token(shared.input, DueToken::Period)? {
         test_function_name(&text, pos)?;
         return Ok((None, text));
     }
-    let note = "after the type of the objects of this function";
-    match_token(alloc, shared.input, DueToken::Period, note)?;
     let (name, pos) = take_function_name(shared.input)?;
     test_function_name(&name, pos)?;
     let owner = type_named(alloc, text)?;
@@ -86,12 +84,7 @@ fn next_parameters(
 
 // Refuses a parameter of `function` at `pos` whose name one of these before it has. The error is `FnDuplicatedParam` at
 // `pos`, or `OutOfMemory`.
-fn test_parameter(
-    function: &RcStr,
-    names: &[RcStr],
-    name: &RcStr,
-    pos: Position,
-) -> ParseResult<()>
+fn test_parameter(function: &RcStr, names: &[RcStr], name: &RcStr, pos: Position) -> ParseResult<()>
     ensures passes { OnOk result (is_among (rc_str_bytes name.now) (map rc_str_bytes names.now) ≡ false) }
     ensures refused { IfErr result (λ e. is_for_memory e ≡ false
         → (is_among (rc_str_bytes name.now) (map rc_str_bytes names.now) ≡ true)

@@ -7,10 +7,10 @@ use Rattle.rhai_language.specs.Readers.{GoesOn, names_of, state_of}
 use Rattle.rhai_statements.proofs.functions.next_parameters.Given as goal
 
 abbrev pub invariant-loop-names : goal.invariant-loop-names
-invariant-loop-names g l = record {
+invariant-loop-names l = record {
   same : result_of (Parameters (rc_str_bytes l.fn.function) []) (state_of l.fn.shared) ≡ result_of (Parameters (rc_str_bytes l.function) (names_of l.names)) (state_of l.shared);
   goes_on : GoesOn l.fn.shared l.shared;
 }
 
 abbrev pub decreases-loop-names : goal.decreases-loop-names
-decreases-loop-names g l = left (state_of l.shared).cursor.tokens
+decreases-loop-names l = left (state_of l.shared).cursor.tokens
