@@ -118,14 +118,7 @@ impl<R: LentReaders> ConstructReader<'_, R> {
             "after the cases of this arm",
         )?;
         let does = self.parse_action(shared, frame, settings)?;
-        end_arm(
-            self.language.alloc(),
-            shared,
-            before,
-            cases,
-            guard,
-            does,
-        )
+        end_arm(self.language.alloc(), shared, before, cases, guard, does)
     }
 
     /// Reads the default arm after its `_`, which is at `default`, up to the `}` of the `switch`.

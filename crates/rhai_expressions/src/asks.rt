@@ -55,7 +55,12 @@ pub(crate) fn end_index(
         (state_of shared.new) }
 {
     test_index(alloc, indexed, &index)?;
-    match_token(alloc, shared.input, DueToken::RightBracket, "to close the index")?;
+    match_token(
+        alloc,
+        shared.input,
+        DueToken::RightBracket,
+        "to close the index",
+    )?;
     Ok(index)
 }
 

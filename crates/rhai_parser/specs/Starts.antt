@@ -2,22 +2,15 @@
 use Rattle.std.specs.Prelude.{List, Vec, map}
 use Rattle.std.specs.Rc.{rc_str_bytes}
 use Rattle.std.specs.declared.alloc.Global.{Global}
-use Rattle.std.specs.declared.rc.Rc.{Rc}
 use Rattle.std.specs.declared.rc.RcStr.{RcStr}
-use Rattle.rhai_ast.specs.declared.ast.ScriptFuncDef.{ScriptFuncDef}
 use Rattle.rhai_input.specs.Slots.{SlotValue}
-use Rattle.rhai_input.specs.Streams.{Stream}
 use Rattle.rhai_lower.specs.declared.position.Position.{Position}
 use Rattle.rhai_grammar.specs.Contexts.{Context, Known, Live}
-use Rattle.rhai_grammar.specs.Cursors.{cursor_of}
-use Rattle.rhai_grammar.specs.declared.key.FnKey.{FnKey}
 use Rattle.rhai_base.specs.Frames.{FrameValue, known_variables}
-use Rattle.rhai_base.specs.Libraries.{library_of}
 use Rattle.rhai_base.specs.declared.settings.ParseSettings.{ParseSettings}
 use Rattle.rhai_base.specs.declared.state.ParseState.{ParseState}
 use Rattle.rhai_language.specs.Frames.{context_of}
 use Rattle.rhai_language.specs.Languages.{LanguageValue}
-use Rattle.rhai_reading.specs.Running.{Progress}
 
 abbrev pub StateValue : Type 0
 StateValue = ParseState (List SlotValue) (Vec (RcStr Global × Position) Global) (Vec (RcStr Global) Global)
@@ -47,7 +40,3 @@ frame_in engine state =
 -- what goes down into the whole form, under the settings that the caller chose
 abbrev pub starts_in : LanguageValue → StateValue → ParseSettings → Context
 starts_in engine state settings = context_of engine (frame_in engine state) settings
-
--- what is left of a stream, and the functions of the library that goes along with it
-abbrev pub progress_of : Stream → List (FnKey × Rc ScriptFuncDef Global) → Progress
-progress_of input library = record { cursor = cursor_of input; library = library_of library }

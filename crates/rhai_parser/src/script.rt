@@ -15,7 +15,7 @@ ghost use Rattle.rhai_base.specs.Libraries.{library_of};
 ghost use Rattle.rhai_base.specs.States.{IsFresh};
 ghost use Rattle.rhai_parser.specs.Engines.{script_settings};
 ghost use Rattle.rhai_language.specs.Frames.{context_of};
-ghost use Rattle.rhai_parser.specs.Starts.{live_in, progress_of, starts_in};
+ghost use Rattle.rhai_parser.specs.Starts.{live_in, starts_in};
 
 use crate::engine::Engine;
 use crate::library::take_library;
@@ -61,7 +61,8 @@ impl Engine {
             × (left.imports ≡ map rc_str_bytes imports.new.items)
             × Gives (λ ss. (statement_views ss.items, left))
             (result_of (Script (context_of self.now frame.entry settings) frame.entry.live)
-            (progress_of input.old library.old)) result (progress_of input.new library.new) }
+            (record { cursor = cursor_of input.old; library = library_of library.old }))
+            result (record { cursor = cursor_of input.new; library = library_of library.new }) }
     {
         let mut frame = frame;
         let mut shared = Shared { input, library };

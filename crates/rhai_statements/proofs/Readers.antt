@@ -1,7 +1,8 @@
 -- What the proofs of the readers rest on: for each reader its equation, and what it makes of what it read.
 use Rattle.rhai_ast.proofs.Views.{view_noop, view_unit}
-use Rattle.rhai_reading.proofs.Steps.{step_definition, step_export, step_expr_statement, step_function, step_function_statement, step_import, step_initializer, step_inside, step_jump, step_statement, step_statements}
-use Rattle.rhai_language.proofs.Readers.{readers}
+use Rattle.rhai_reading.proofs.Steps.{step_definition, step_export, step_expr_statement, step_function, step_function_statement, step_import, step_initializer, step_inside, step_jump, step_parameter_list, step_parameters, step_statement, step_statements}
+use Rattle.rhai_language.proofs.Readers.{calls_of_readers, readers}
+use Rattle.rhai_statements.proofs.FunctionLemmas.{names_push}
 
 pub ruleset parse_statements = (readers, step_statements)
 
@@ -24,3 +25,7 @@ pub ruleset parse_jump = (readers, step_jump)
 pub ruleset parse_fn = (readers, step_function_statement)
 
 pub ruleset parse_function = (readers, step_function)
+
+pub ruleset next_parameter_list = (calls_of_readers, step_parameter_list)
+
+pub ruleset next_parameters = (calls_of_readers, step_parameters, names_push)

@@ -44,7 +44,7 @@ pub(crate) fn next_head(
 }
 
 /// The parameters of `function` after its name; all are taken.
-#[tactic(auto, using(rhai_reading::proofs::Steps::step_parameter_list))]
+#[tactic(auto, using(crate::proofs::Readers::next_parameter_list))]
 pub(crate) fn next_parameter_list(
     alloc: Global,
     shared: &mut Shared<'_>,
@@ -60,7 +60,7 @@ pub(crate) fn next_parameter_list(
 }
 
 // The parameters of `function` after the `(`, up to the `)`; all are taken.
-#[tactic(auto, using(rhai_reading::proofs::Steps::step_parameters))]
+#[tactic(auto, using(crate::proofs::Readers::next_parameters))]
 fn next_parameters(
     alloc: Global,
     shared: &mut Shared<'_>,
