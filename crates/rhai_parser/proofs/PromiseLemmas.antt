@@ -32,7 +32,7 @@ use Rattle.rhai_reading.proofs.Main.{Entry, expression_entry, script_entry}
 
 -- ---- functions
 
-abbrev Entries : Type 0
+abbrev pub Entries : Type 0
 Entries = List (FnKey × Rc ScriptFuncDef Global)
 
 abbrev values_of : Entries → List (Rc ScriptFuncDef Global)

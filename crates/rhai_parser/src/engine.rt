@@ -8,6 +8,8 @@ ghost use Rattle.rhai_grammar.specs.Causes.{MemoryIsNowhere};
 ghost use Rattle.rhai_grammar.specs.Cursors.{cursor_of};
 ghost use Rattle.rhai_grammar.specs.Delivered.{code};
 ghost use Rattle.rhai_grammar.specs.Promises.{HasRead, UnlessMemory};
+ghost use Rattle.rhai_reading.specs.Reading.{Whole};
+ghost use Rattle.rhai_reading.specs.Running.{Gives, result_of};
 ghost use Rattle.rhai_parser.specs.Scripts.{Accepts, ReadsExpression};
 ghost use Rattle.rhai_base.specs.Libraries.{library_of};
 ghost use Rattle.rhai_base.specs.States.{IsFresh};
@@ -25,7 +27,8 @@ use bitflags::Flags;
 use rhai_ast::{AST, Expr, Stmt};
 use rhai_base::known::is_among;
 use rhai_base::{
-    FnLib, Frame, Known, LangOptions, ParseSettingFlags, ParseSettings, ParseState, functions,
+    FnLib, Frame, Known, LangOptions, Library, ParseSettingFlags, ParseSettings, ParseState,
+    functions,
 };
 use rhai_grammar::ParseResult;
 use rhai_input::{Scope, TokenStream};
@@ -270,6 +273,22 @@ impl Engine {
         Ok(optimize_into_ast(self.language.alloc, constants, statements, functions, level)?)
     }
 
+    // Reads an expression that the end mark follows.
+    fn read_expression(
+        &self,
+        input: &mut TokenStream,
+        library: &mut Library,
+        frame: &Frame<'_>,
+        settings: ParseSettings,
+    ) -> ParseResult<Expr>
+        ensures reads { Gives view (result_of (Whole (context_of self.now frame.now settings) (live_of frame.now))
+            (record { cursor = cursor_of input.old; library = library_of library.old }))
+            result (record { cursor = cursor_of input.new; library = library_of library.new }) }
+    {
+        let mut shared = Shared { input, library };
+        parse_whole_expr(&self.language, &mut shared, frame, settings)
+    }
+
     // Reads the script of one expression that a whole stream is, with the functions of a library.
     fn read_script(
         &self,
@@ -288,11 +307,7 @@ impl Engine {
         ensures nowhere { IfErr result MemoryIsNowhere }
     {
         let mut library = take_library(self.language.alloc, lib)?;
-        let mut shared = Shared {
-            input,
-            library: &mut library,
-        };
-        let read = parse_whole_expr(&self.language, &mut shared, frame, settings);
+        let read = self.read_expression(input, &mut library, frame, settings);
         *lib = library.into_functions();
         match read {
             Ok(expr) => self.make_script(expr, lib, constants, level),

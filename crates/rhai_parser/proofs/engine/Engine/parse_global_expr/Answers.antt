@@ -1,5 +1,6 @@
 use Rattle.std.proofs.Common.{ap, refl, rules, subst}
 use Rattle.rhai_base.specs.Frames.{FrameValue}
+use Rattle.rhai_base.specs.Libraries.{library_of}
 use Rattle.rhai_grammar.specs.Cursors.{cursor_of, mode_by}
 use Rattle.rhai_parser.specs.Scripts.{ReadsExpression}
 use Rattle.rhai_language.specs.Frames.{context_of, live_of}
@@ -8,11 +9,10 @@ use Rattle.rhai_parser.proofs.engine.Engine.parse_global_expr.Goals as goal
 
 pub returns-clause-reads : goal.returns-clause-reads
 returns-clause-reads g c = λ fresh.
-    let library = c.args.state.lib.now.entries in
-    let read = c.read_script.ensures.reads library (ap mode_by fresh.mode) in (
+    let read = c.read_script.ensures.reads (ap mode_by fresh.mode) in (
       c.settings.new.arg2,
       search rules,
-      subst (λ (frame : FrameValue). ReadsExpression library (context_of c.args.self.now frame c.settings.new.arg2)
-          (live_of frame) (cursor_of c.args.state.input.now) (cursor_of c.read_script.new.input) c.read_script.result)
+      subst (λ (frame : FrameValue). ReadsExpression (context_of c.args.self.now frame c.settings.new.arg2)
+          (live_of frame) (library_of c.args.state.lib.now.entries) (library_of c.read_script.new.lib.entries) (cursor_of c.args.state.input.now) (cursor_of c.read_script.new.input) c.read_script.result)
           (frame_is c.args.self.now c.args.state c.new-frame.result _ _ _ _ c.new-frame.ensures c.known-known.ensures refl refl c.deref.ensures.value) read,
     )

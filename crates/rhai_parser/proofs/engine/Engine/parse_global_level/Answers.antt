@@ -1,30 +1,46 @@
-use Rattle.std.proofs.Common.{◌∙◌, ap, rules, sym}
+use Rattle.std.proofs.Common.{◌∙◌, ap, refl, rules, sym}
+use Rattle.std.proofs.lemmas.Result.{err_from_is_err_and}
 use Rattle.std.specs.Prelude.{Vec}
 use Rattle.std.specs.declared.alloc.Global.{Global}
 use Rattle.std.specs.declared.rc.RcStr.{RcStr}
 use Rattle.rhai_ast.specs.View.{statement_views}
+use Rattle.rhai_grammar.specs.Causes.{refusal_of}
 use Rattle.rhai_grammar.specs.Cursors.{cursor_of, mode_by}
 use Rattle.rhai_reading.specs.Reading.{Script}
-use Rattle.rhai_reading.specs.Running.{result_of}
+use Rattle.rhai_reading.specs.Running.{Done, Progress, Refused, result_of}
 use Rattle.rhai_base.specs.Frames.{FrameValue}
+use Rattle.rhai_base.specs.Libraries.{library_of}
 use Rattle.rhai_language.specs.Frames.{context_of}
 use Rattle.rhai_parser.specs.Starts.{live_in, starts_in}
 use Rattle.rhai_parser.proofs.FrameLemmas.{frame_is}
-use Rattle.rhai_parser.proofs.PromiseLemmas.{script_done, script_fails, has_read_done, has_read_fails}
+use Rattle.rhai_parser.proofs.PromiseLemmas.{Entries, script_done, script_fails, has_read_done, has_read_fails, reads_none}
 use Rattle.rhai_reading.proofs.Main.{script_entry}
 use Rattle.rhai_parser.proofs.engine.Engine.parse_global_level.Goals as goal
+
+pub returns-in_err-library-clause-reads : goal.returns-in_err-library-clause-reads
+returns-in_err-library-clause-reads g c = λ fresh.
+    let p = err_from_is_err_and c.from_residual.result c.from_residual.ensures.1 in (
+      c.settings.new.arg2,
+      search rules,
+      rw (p.1, p.2) (reads_none _ _ _ _ _ _ _ refl),
+    )
 
 pub returns-in-Ok-clause-reads : goal.returns-in-Ok-clause-reads
 returns-in-Ok-clause-reads g c = λ fresh.
     let read = c.in-Ok.ensures.reads in
     let framed = frame_is c.args.self.now c.args.state.now c.new-frame.result _ _ _ _ c.new-frame.ensures c.known-known.ensures c.replace-stack.ensures.value
     c.replace-imports.ensures.value (c.deref.ensures.value ∙ ap (λ (v : Vec (RcStr Global) Global). v.items) c.replace-around.ensures.value) in
-    let here = ap (λ (f : FrameValue). result_of (Script (context_of c.args.self.now f c.settings.new.arg2) f.live) (cursor_of c.args.state.now.input.now)) framed in (
+    let at : Entries → Progress = λ es. record { cursor = cursor_of c.args.state.now.input.now; library = library_of es } in
+    let to : Entries → Progress = λ es. record { cursor = cursor_of c.read_statements-read.new.input; library = library_of es } in
+    let context = starts_in c.args.self.now c.args.state.now c.settings.new.arg2 in
+    let live = live_in c.args.state.now in
+    let here = ap (λ (f : FrameValue). result_of (Script (context_of c.args.self.now f c.settings.new.arg2) f.live) (at c.in_ok-library.library)) framed
+    ∙ ap (λ (es : Entries). result_of (Script context live) (at es)) c.in_ok-library.ensures.ok in
+    let ended = ap (λ (es : Entries). Done (statement_views c.in-Ok.statements.items, read.0) (to es)) (sym c.into_functions.ensures) in (
       c.settings.new.arg2,
       search rules,
-      script_done c.args.state.now.lib.now.entries (starts_in c.args.self.now c.args.state.now c.settings.new.arg2) (live_in c.args.state.now)
-          read.0 _ _ (statement_views c.in-Ok.statements.items) _ _ c.with_functions.result (ap mode_by fresh.mode) (sym here ∙ read.3)
-          (sym read.1) (sym read.2) c.with_functions.ensures.out c.with_functions.ensures.is,
+      script_done context live read.0 (at c.args.state.now.lib.now.entries) (to c.into_functions.result.entries) (statement_views c.in-Ok.statements.items) _ _ c.with_functions.result
+          (ap mode_by fresh.mode) (sym here ∙ read.3 ∙ ended) (sym read.1) (sym read.2) c.with_functions.ensures.out c.with_functions.ensures.is,
     )
 
 pub returns-in-Ok-clause-memory : goal.returns-in-Ok-clause-memory
@@ -32,8 +48,10 @@ returns-in-Ok-clause-memory g c =
     let read = c.in-Ok.ensures.reads in
     let framed = frame_is c.args.self.now c.args.state.now c.new-frame.result _ _ _ _ c.new-frame.ensures c.known-known.ensures c.replace-stack.ensures.value
     c.replace-imports.ensures.value (c.deref.ensures.value ∙ ap (λ (v : Vec (RcStr Global) Global). v.items) c.replace-around.ensures.value) in
-    let here = ap (λ (f : FrameValue). result_of (Script (context_of c.args.self.now f c.settings.new.arg2) f.live) (cursor_of c.args.state.now.input.now)) framed in
-    has_read_done (script_entry (starts_in c.args.self.now c.args.state.now c.settings.new.arg2) (live_in c.args.state.now)) _ _
+    let at : Entries → Progress = λ es. record { cursor = cursor_of c.args.state.now.input.now; library = library_of es } in
+    let to : Entries → Progress = λ es. record { cursor = cursor_of c.read_statements-read.new.input; library = library_of es } in
+    let here = ap (λ (f : FrameValue). result_of (Script (context_of c.args.self.now f c.settings.new.arg2) f.live) (at c.in_ok-library.library)) framed in
+    has_read_done (script_entry (starts_in c.args.self.now c.args.state.now c.settings.new.arg2) (live_in c.args.state.now)) (at c.in_ok-library.library) (to c.read_statements-read.new.library)
     (statement_views c.in-Ok.statements.items, read.0) c.with_functions.result (sym here ∙ read.3)
 
 pub returns-in-Err-clause-reads : goal.returns-in-Err-clause-reads
@@ -41,11 +59,17 @@ returns-in-Err-clause-reads g c = λ fresh.
     let read = c.in-Err.ensures.reads in
     let framed = frame_is c.args.self.now c.args.state.now c.new-frame.result _ _ _ _ c.new-frame.ensures c.known-known.ensures c.replace-stack.ensures.value
     c.replace-imports.ensures.value (c.deref.ensures.value ∙ ap (λ (v : Vec (RcStr Global) Global). v.items) c.replace-around.ensures.value) in
-    let here = ap (λ (f : FrameValue). result_of (Script (context_of c.args.self.now f c.settings.new.arg2) f.live) (cursor_of c.args.state.now.input.now)) framed in (
+    let at : Entries → Progress = λ es. record { cursor = cursor_of c.args.state.now.input.now; library = library_of es } in
+    let to : Entries → Progress = λ es. record { cursor = cursor_of c.read_statements-read.new.input; library = library_of es } in
+    let context = starts_in c.args.self.now c.args.state.now c.settings.new.arg2 in
+    let live = live_in c.args.state.now in
+    let here = ap (λ (f : FrameValue). result_of (Script (context_of c.args.self.now f c.settings.new.arg2) f.live) (at c.in_ok-library.library)) framed
+    ∙ ap (λ (es : Entries). result_of (Script context live) (at es)) c.in_ok-library.ensures.ok in
+    let ended = ap (λ (es : Entries). Refused (refusal_of c.in-Err.error) (to es)) (sym c.into_functions.ensures) in (
       c.settings.new.arg2,
       search rules,
-      script_fails c.args.state.now.lib.now.entries (starts_in c.args.self.now c.args.state.now c.settings.new.arg2) (live_in c.args.state.now)
-          _ _ c.in-Err.error _ _ (ap mode_by fresh.mode) (λ told. sym here ∙ read.3.0 told, read.3.1),
+      script_fails context live (at c.args.state.now.lib.now.entries) (to c.into_functions.result.entries) c.in-Err.error _ _ (ap mode_by fresh.mode)
+          (λ told. sym here ∙ read.3.0 told ∙ ended, read.3.1),
     )
 
 pub returns-in-Err-clause-memory : goal.returns-in-Err-clause-memory
@@ -53,6 +77,8 @@ returns-in-Err-clause-memory g c =
     let read = c.in-Err.ensures.reads in
     let framed = frame_is c.args.self.now c.args.state.now c.new-frame.result _ _ _ _ c.new-frame.ensures c.known-known.ensures c.replace-stack.ensures.value
     c.replace-imports.ensures.value (c.deref.ensures.value ∙ ap (λ (v : Vec (RcStr Global) Global). v.items) c.replace-around.ensures.value) in
-    let here = ap (λ (f : FrameValue). result_of (Script (context_of c.args.self.now f c.settings.new.arg2) f.live) (cursor_of c.args.state.now.input.now)) framed in
-    has_read_fails (script_entry (starts_in c.args.self.now c.args.state.now c.settings.new.arg2) (live_in c.args.state.now)) _ _
+    let at : Entries → Progress = λ es. record { cursor = cursor_of c.args.state.now.input.now; library = library_of es } in
+    let to : Entries → Progress = λ es. record { cursor = cursor_of c.read_statements-read.new.input; library = library_of es } in
+    let here = ap (λ (f : FrameValue). result_of (Script (context_of c.args.self.now f c.settings.new.arg2) f.live) (at c.in_ok-library.library)) framed in
+    has_read_fails (script_entry (starts_in c.args.self.now c.args.state.now c.settings.new.arg2) (live_in c.args.state.now)) (at c.in_ok-library.library) (to c.read_statements-read.new.library)
     c.in-Err.error (λ told. sym here ∙ read.3.0 told, read.3.1)

@@ -1,0 +1,10 @@
+use Rattle.std.proofs.Common.{rules}
+use Rattle.rhai_ast.proofs.Views.{view_expression}
+use Rattle.rhai_parser.proofs.PromiseLemmas.{functions_are}
+use Rattle.rhai_parser.proofs.engine.Engine.make_script.Goals as goal
+
+pub returns-clause-script : goal.returns-clause-script
+returns-clause-script c = record {
+  statements = search (rules, view_expression);
+  functions = functions_are c.args.lib.now.entries c.in_ok-optimize_into_ast.field-0.functions.items (search rules);
+}
