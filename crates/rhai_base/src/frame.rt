@@ -1,6 +1,7 @@
 //! What is live in a block, and which tokens its expressions may contain.
 
-ghost use Rattle.std.specs.Prelude.{◌≡◌, ◌||◌, ◌++◌, IfErr, IfOk, OnOk, codes, false, length, map, not, option_map, true};
+ghost use Rattle.std.specs.Prelude.{◌≡◌, ◌||◌, ◌++◌, IfErr, IfOk, OnOk, codes, false, length, map, not};
+ghost use Rattle.std.specs.Prelude.{option_map, true};
 ghost use Rattle.std.specs.Option.{is_some};
 ghost use Rattle.std.specs.Int.NonZero.{non_zero_usize_get};
 ghost use Rattle.std.specs.Rc.{rc_str_bytes};
@@ -170,8 +171,8 @@ impl<'p> Frame<'p> {
         Frame::new(Scope::new(alloc), 0, Vec::new(alloc), filter, known)
     }
 
-    /// The names of the modules that were imported around the script, and then of those that are live here. The error is
-    /// that there is no memory for them.
+    /// The names of the modules that were imported around the script, and then of those that are live here. The error
+    /// is that there is no memory for them.
     pub fn all_imports(&self, alloc: Global) -> Result<Vec<RcStr>, AllocError>
         ensures { IfOk result (λ all. map rc_str_bytes all.items
             ≡ self.now.known.imports ++ self.now.live.imports) }

@@ -46,12 +46,12 @@ impl<'p> Known<'p> {
     }
 }
 
-/// Whether one of the modules has this name. Does not allocate.
-pub fn is_among(modules: &[RcStr], name: &str) -> bool
-    ensures { result ≡ is_among name.now (map rc_str_bytes modules.now) }
+/// Whether one of these names is this one. Does not allocate.
+pub fn is_among(names: &[RcStr], name: &str) -> bool
+    ensures { result ≡ is_among name.now (map rc_str_bytes names.now) }
 {
-    for module in modules {
-        if module.as_str() == name {
+    for other in names {
+        if other.as_str() == name {
             return true;
         }
     }

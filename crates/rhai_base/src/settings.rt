@@ -107,9 +107,9 @@ impl ParseSettings {
         }
     }
 
-    /// The settings in a function, at the old position: level 0, and at most `max_depth` levels, where 0 means no limit.
-    /// The parts of the language are those of `options`, with strict variables where these settings have them. Of the
-    /// flags stays that keys of object maps have to be strings. Does not allocate.
+    /// The settings in a function, at the old position: level 0, and at most `max_depth` levels, where 0 means no
+    /// limit. The parts of the language are those of `options`, with strict variables where these settings have them.
+    /// Of the flags stays that keys of object maps have to be strings. Does not allocate.
     pub fn in_function(&self, options: LangOptions, max_depth: usize) -> Self
         ensures settings { settings_of result ≡ function_settings (settings_of self.now) options.0 max_depth }
         ensures position { result.pos ≡ self.now.pos }

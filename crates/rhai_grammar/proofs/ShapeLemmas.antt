@@ -9,7 +9,6 @@ use Rattle.rhai_lower.specs.Nodes as node
 use Rattle.rhai_lower.specs.Nodes.{Nodes}
 use Rattle.rhai_lower.specs.declared.position.Position.{Position}
 use Rattle.rhai_grammar.specs.Beginnings.{is_this}
-use Rattle.rhai_grammar.specs.Chains.{Bracket}
 use Rattle.rhai_grammar.specs.Contexts.{Live, in_block}
 use Rattle.rhai_grammar.specs.Forms as form
 use Rattle.rhai_grammar.specs.Forms.{Action, Arguments, Arms, Base, Body, Branch, CaseGuard, Cases, Conditional, Construct, Elements, ExprStatement, Fields, Initializer, Items, JumpValue, Links, Operand, Primary, Run, Segments, Statement, Statements}

@@ -5,7 +5,7 @@ use Rattle.rhai_lower.specs.Lexemes.{Lexeme, Sign}
 use Rattle.rhai_lower.specs.declared.token.Token.TheVariants as token
 use Rattle.rhai_grammar.specs.Delivered.{code, Item, Mode, Point, Taken, Tokens, adding, ask, is_end, next_at, past}
 use Rattle.rhai_grammar.specs.Demands.{Demands, Fine, Met, Nothing, Verdict, verdict}
-use Rattle.rhai_grammar.specs.Libraries.{Library, with_ended}
+use Rattle.rhai_grammar.specs.Libraries.{with_ended}
 use Rattle.rhai_grammar.specs.Laws.{FormsFitWhereverSpelled}
 use Rattle.rhai_grammar.specs.Seen.{Gives, leads}
 use Rattle.rhai_grammar.proofs.Leads.{Leads, adds, ahead, here, literally, next, next_in, shape, test, test_in, tok}

@@ -1,6 +1,6 @@
 -- Functions of a script: where they may stand, what their parts are, and what they give.
-use Rattle.std.specs.Prelude.{◌≡◌, ℕ, Bool, true, false, ◌++◌, not, None, Option, Some, List, [], ◌∷◌, codes, length}
-use Rattle.std.specs.Prelude.{if◌then◌else◌, map, nat_lt, refl, unwrap_or}
+use Rattle.std.specs.Prelude.{◌≡◌, Bool, true, false, ◌++◌, not, None, Option, Some, List, [], ◌∷◌, codes, length}
+use Rattle.std.specs.Prelude.{if◌then◌else◌, map, nat_lt, refl}
 use Rattle.rhai_lower.specs.Texts.{Text, same_text}
 use Rattle.rhai_lower.specs.Names.{is_function_name}
 use Rattle.rhai_lower.specs.Lexemes.{Faulty, Lexeme, Name, Reserved, Sign, String, text_of}
@@ -29,7 +29,8 @@ use Rattle.rhai_grammar.specs.Settings.{function_settings}
 
 -- ---- what a function is read under
 
--- A function begins at level 0, under settings of its own. Its body may have `|` as an operator, and knows the live imports around it, but not their numbers.
+-- A function begins at level 0, under settings of its own. Its body may have `|` as an operator, and knows the live
+-- imports around it, but not their numbers.
 abbrev pub in_function : Context → Live → Context
 in_function context live = record context {
   settings = function_settings context.settings context.options context.sizes.function_depth;

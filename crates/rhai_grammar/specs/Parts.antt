@@ -8,7 +8,8 @@ use Rattle.rhai_lower.specs.declared.token.Token.TheVariants.{LeftParen}
 use Rattle.rhai_lower.specs.declared.token.Token.TheVariants.{Comma, DoubleColon}
 use Rattle.rhai_lower.specs.declared.token.Token.TheVariants as token
 use Rattle.rhai_grammar.specs.Functions.{after_type, duplicate_of, function_name_due, in_function, is_new, is_type}
-use Rattle.rhai_grammar.specs.Functions.{may_begin, names_function, parameter_due, parameters_due, type_or_name_due, untyped}
+use Rattle.rhai_grammar.specs.Functions.{may_begin, names_function, parameter_due, parameters_due, type_or_name_due}
+use Rattle.rhai_grammar.specs.Functions.{untyped}
 use Rattle.rhai_grammar.specs.Forms.{Owner, ParameterList, Parameters}
 use Rattle.rhai_grammar.specs.Imports.{is_among}
 use Rattle.rhai_grammar.specs.Libraries.{Ended}

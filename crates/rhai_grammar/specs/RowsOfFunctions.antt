@@ -1,5 +1,5 @@
 -- A worked row of functions: a script, its written form, and what the definitions say about it.
-use Rattle.std.specs.Prelude.{◌≡◌, ℕ, codes, false, None, Some, List, [], ◌∷◌, ◌++◌}
+use Rattle.std.specs.Prelude.{◌≡◌, ℕ, codes, false, None, List, [], ◌∷◌, ◌++◌}
 use Rattle.rhai_lower.specs.Positions.{place}
 use Rattle.rhai_lower.specs.Lexemes.{Lexeme, Name, Sign}
 use Rattle.rhai_lower.specs.Nodes as node
@@ -60,9 +60,9 @@ depth_of_functions limit = record on_global_level {
 abbrev pub holding : Library → Point → Point
 holding library s = record s { library = library }
 
--- The script has the function and no statements. Where a function of that name and number of parameters has ended before,
--- this one is refused at its `fn`, after its body. Under the depth limit 3 for functions the `a` of the body is too deep:
--- the `fn`, the `{`, the statement and the expression raise the level once each.
+-- The script has the function and no statements. Where a function of that name and number of parameters has ended
+-- before, this one is refused at its `fn`, after its body. Under the depth limit 3 for functions the `a` of the body is
+-- too deep: the `fn`, the `{`, the statement and the expression raise the level once each.
 pub record FunctionRow : Type 0 where
   pub tree_is : statement_trees function_form nothing_live ≡ node.no_statements
   pub fits : Met (whole_script function_form (depth_of_functions 4) nothing_live) (unread function_tokens 14)

@@ -14,7 +14,7 @@ use Rattle.rhai_grammar.specs.Demands.{◌▸◌, Tok}
 use Rattle.rhai_grammar.specs.Written as W
 use Rattle.rhai_lower.specs.Nodes as node
 use Rattle.rhai_grammar.specs.Forms.{Body, Branch, CatchName, Conditional, Construct}
-use Rattle.rhai_grammar.specs.Forms.{LoopNames, Statement}
+use Rattle.rhai_grammar.specs.Forms.{LoopNames}
 use Rattle.rhai_grammar.specs.Constructs.{do_end_due, do_token, kind_of}
 use Rattle.rhai_grammar.specs.declared.role.Construct.{Construct as ConstructKind}
 use Rattle.rhai_grammar.specs.Trees.{block_tree, branch_tree, caught, conditional_tree, construct_tree, counter_of}

@@ -1,5 +1,5 @@
 -- The forms of functions that each reader reads, with their trees and demands.
-use Rattle.std.proofs.Common.{Bool, Option, List, [], ◌∷◌, ◌++◌}
+use Rattle.std.proofs.Common.{Bool, Option, List, []}
 use Rattle.rhai_lower.specs.Texts.{Text}
 use Rattle.rhai_lower.specs.Lexemes.{Sign}
 use Rattle.rhai_lower.specs.Nodes as node

@@ -61,8 +61,9 @@ pub use Rattle.rhai_reading.specs.Goals.{Definition, Statement, Statements, Bloc
 pub use Rattle.rhai_reading.specs.Goals.{Branch, Braced, Catch, Conditional, Construct, DoEnd, Guard, Iterated}
 pub use Rattle.rhai_reading.specs.Goals.{Alias, Export, Import, LoopNames, Path, RightOperand}
 pub use Rattle.rhai_reading.specs.Goals.{Action, Arm, ArmEnd, Arms, Case, CaseGuard, Cases, DefaultArm}
-pub use Rattle.rhai_reading.specs.Goals.{DefaultEnd, Function, FunctionHead, FunctionStatement, ParameterList, Parameters}
-pub use Rattle.rhai_reading.specs.Goals.{Ret, Fail, Peek, Take, TakeText, Know, Add, Call, CallLiteral, Script, Val, Prog}
+pub use Rattle.rhai_reading.specs.Goals.{DefaultEnd, Function, FunctionHead, FunctionStatement, ParameterList}
+pub use Rattle.rhai_reading.specs.Goals.{Parameters, Script, Val}
+pub use Rattle.rhai_reading.specs.Goals.{Ret, Fail, Peek, Take, TakeText, Know, Add, Call, CallLiteral, Prog}
 pub use Rattle.rhai_reading.specs.Goals.{after_a_part, construct_on, match_name, match_token, part_next, raised, tested}
 pub use Rattle.rhai_reading.specs.ReadingStatements.{evaluated_at, var_name_at, value_at, definition_on}
 pub use Rattle.rhai_reading.specs.ReadingStatements.{jump_on, loop_at, statement_at, separated_at, statements_on}
@@ -85,7 +86,8 @@ whole_at expr lexeme at = if is_end lexeme then Ret expr else Fail (refusal (une
 -- after a name, which is no variable's where something calls it or makes it part of a path
 abbrev pub name_at : Context → Live → Text → Position → Lexeme → Library → Prog Node
 name_at context live name at lexeme library =
-    if excludes_use lexeme || may_use context live library name then Ret (name_tree live.slots (excludes_use lexeme) name at)
+    if excludes_use lexeme || may_use context live library name
+    then Ret (name_tree live.slots (excludes_use lexeme) name at)
     else Fail (refusal (cause.VariableUndefined name) at)
 
 -- after a reserved word

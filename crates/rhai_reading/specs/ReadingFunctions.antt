@@ -1,5 +1,5 @@
 -- The terms of the readers of functions.
-use Rattle.std.specs.Prelude.{Bool, true, false, ◌++◌, Option, Some, None, List, [], ◌∷◌, if◌then◌else◌}
+use Rattle.std.specs.Prelude.{Bool, ◌++◌, Option, Some, None, List, [], ◌∷◌, if◌then◌else◌}
 use Rattle.rhai_lower.specs.Texts.{Text}
 use Rattle.rhai_lower.specs.Lexemes.{Lexeme, text_of}
 use Rattle.rhai_lower.specs.Nodes as node

@@ -1,17 +1,15 @@
 //! Functions: where they may stand, what they are read under, and what they give.
 
-ghost use Rattle.std.specs.Prelude.{◌≡◌, ◌++◌, IfErr, IfOk, OnOk, length, map};
+ghost use Rattle.std.specs.Prelude.{◌≡◌, IfOk, OnOk, map};
 ghost use Rattle.std.specs.Rc.{rc_str_bytes};
 ghost use Rattle.rhai_ast.specs.View.{block_view, statement_view};
 ghost use Rattle.rhai_grammar.specs.Contexts.{nothing_live};
 ghost use Rattle.rhai_grammar.specs.Functions.{ended_function, parameters_live};
 ghost use Rattle.rhai_base.specs.Frames.{SamePlace};
-ghost use Rattle.rhai_language.specs.Frames.{live_of};
-ghost use Rattle.rhai_language.specs.Readers.{Covers, GoesOn, Reads, ended_view, function, function_statement, head_view};
-ghost use Rattle.rhai_language.specs.Readers.{names_of, state_of, with_live};
+ghost use Rattle.rhai_language.specs.Readers.{Covers, GoesOn, Reads, ended_view, function, function_statement};
+ghost use Rattle.rhai_language.specs.Readers.{head_view, names_of, state_of, with_live};
 ghost use Rattle.rhai_reading.specs.Reading.{function_end};
 ghost use Rattle.rhai_reading.specs.Running.{Caller, Gives, exec};
-ghost use Rattle.rhai_lower.specs.Nodes.{noop};
 
 use crate::functions::{next_head, next_parameter_list};
 use crate::reader::StmtReader;

@@ -5,7 +5,7 @@ use Rattle.rhai_lower.specs.declared.position.Position.{Position}
 use Rattle.rhai_grammar.specs.Causes.{Refusal}
 use Rattle.rhai_grammar.specs.Contexts.{Context, Live, level_up}
 use Rattle.rhai_grammar.specs.Delivered.{code, past}
-use Rattle.rhai_grammar.specs.Demands.{Blames, Fine, Verdict}
+use Rattle.rhai_grammar.specs.Demands.{Blames, Fine}
 use Rattle.rhai_grammar.specs.DueTokens.{is_due}
 use Rattle.rhai_grammar.specs.Forms as form
 use Rattle.rhai_grammar.specs.Forms.{Body, Owner, ParameterList, Parameters}
@@ -17,7 +17,7 @@ use Rattle.rhai_reading.proofs.Complete.Law.{BodyRead, IsRead, StatementRead}
 use Rattle.rhai_reading.proofs.FunctionKinds.{FunctionForm, HeadForm, function_of, function_statements, functions, heads}
 use Rattle.rhai_reading.proofs.FunctionKinds.{parameter_lists, parameters}
 use Rattle.rhai_reading.proofs.Looks.{no_other, op_at}
-use Rattle.rhai_reading.proofs.Reaches.{Reaches, add, due as due_now, if_false, if_true, know, next, part, peek, ret, take}
+use Rattle.rhai_reading.proofs.Reaches.{add, due as due_now, if_false, if_true, know, next, part, peek, ret, take}
 use Rattle.rhai_reading.proofs.Strengths.{not_true}
 use Rattle.rhai_reading.proofs.Tokens.{readable}
 

@@ -9,7 +9,7 @@ use Rattle.rhai_grammar.specs.Causes as cause
 use Rattle.rhai_grammar.specs.Causes.{refusal}
 use Rattle.rhai_grammar.specs.Contexts.{Context, Live, is_global, level_up}
 use Rattle.rhai_grammar.specs.Delivered.{code, Point, is_memory, past}
-use Rattle.rhai_grammar.specs.Demands.{Verdict, Wrong}
+use Rattle.rhai_grammar.specs.Demands.{Wrong}
 use Rattle.rhai_grammar.specs.DueTokens.{is_due, not_due}
 use Rattle.rhai_grammar.specs.Forms as form
 use Rattle.rhai_grammar.specs.Forms.{Body, ParameterList}

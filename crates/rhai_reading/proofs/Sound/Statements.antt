@@ -40,7 +40,7 @@ use Rattle.rhai_reading.proofs.FormKinds.{ExportDefinition, ExportForm, ExportNa
 use Rattle.rhai_reading.proofs.Sound.Law.{any_definition}
 use Rattle.std.specs.Prelude.{unwrap_or}
 use Rattle.rhai_reading.proofs.Dues.{expect, expect_name, stands}
-use Rattle.rhai_reading.proofs.FormKinds.{expressions, expr_statements, NameForm, var_names, initializers, statements}
+use Rattle.rhai_reading.proofs.FormKinds.{expr_statements, NameForm, var_names, initializers, statements}
 use Rattle.rhai_reading.proofs.FormKinds.{statement_lists, blocks, block_ends, body_form, definition_of, definitions}
 use Rattle.rhai_reading.proofs.FormKinds.{InsideForm, ManyInside, SingleInside, inside_of, inside_statements, insides, jump_values}
 use Rattle.rhai_reading.proofs.Sound.Literals.{inside_block}
