@@ -178,7 +178,6 @@ abbrev mutual
   statement_spelling (form.ExportDefined at constant keyword name name_at value) =
       in_code (Sign token.Export) at ∷ in_code (Sign (keyword_of constant)) keyword ∷ in_code (Name name) name_at
       ∷ initializer_spelling value
-
   statement_spelling (form.Function is_private at owner name name_at list opening body) =
       private_spelling is_private ++ (in_code (Sign token.Fn) at ∷ (owner_spelling owner
       ++ (in_code (Name name) name_at ∷ (parameter_list_spelling list

@@ -271,7 +271,6 @@ abbrev mutual
       Next exports_definition ▸ raise_at (level_up context) at (
       Tok code (item (Sign (keyword_of constant)) keyword) anything ▸
       new_name name name_at inner live (definition_value value inner live keyword more))))
-
   -- A function's body raises the level after its `{`, which is refused at its `fn`.
   statement (form.Function is_private at owner name name_at list opening body) context live more =
       let inside = level_up (in_function context live) in

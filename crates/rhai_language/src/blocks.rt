@@ -45,7 +45,12 @@ pub fn end_block(
 {
     let (_, end) = peek(shared.input)?;
     let end = *end;
-    match_token(alloc, shared.input, DueToken::RightBrace, "to end this block")?;
+    match_token(
+        alloc,
+        shared.input,
+        DueToken::RightBrace,
+        "to end this block",
+    )?;
     Ok(make_block(statements, start, end))
 }
 

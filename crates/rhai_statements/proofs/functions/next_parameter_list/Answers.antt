@@ -9,6 +9,6 @@ returns-in_err-open_parameters-clause-reads c =
     let p = err_from_is_err_and c.from_residual.result c.from_residual.ensures.1 in
     rw (p.1, p.2) (
       λ told. (let r = c.in_err-open_parameters.ensures.opens told in
-      parameters_refused (rc_str_bytes c.args.function.now) (state_of c.args.shared.now) _ _ r.1.0 r.0 r.1.1 r.1.2),
+          parameters_refused (rc_str_bytes c.args.function.now) (state_of c.args.shared.now) _ _ r.1.0 r.0 r.1.1 r.1.2),
       c.in_err-open_parameters.ensures.nowhere,
     )
