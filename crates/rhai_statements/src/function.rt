@@ -134,9 +134,9 @@ fn end_function(
     pos: Position,
 ) -> ParseResult<Stmt>
     ensures goes_on { GoesOn shared.old shared.new }
-    ensures gives { (call : Caller) (live : _) → Gives (λ s. (statement_view s, live)) (exec call (function_end live pos
-        (ended_view (key, function)) (state_of shared.old).library) (state_of shared.old)) result
-        (state_of shared.new) }
+    ensures gives { (call : Caller) (live : _) → Gives (λ s. (statement_view s, live))
+        (exec call (function_end live pos (ended_view (key, function)) (state_of shared.old).library)
+        (state_of shared.old)) result (state_of shared.new) }
 {
     if shared.library.has(&key) {
         let why = ParseErrorType::FnDuplicatedDefinition(key.name.clone()?, key.params);
