@@ -13,6 +13,7 @@ ghost use Rattle.rhai_reading.specs.Running.{Gives, result_of};
 ghost use Rattle.rhai_parser.specs.Scripts.{Accepts, ReadsExpression};
 ghost use Rattle.rhai_base.specs.Libraries.{library_of};
 ghost use Rattle.rhai_base.specs.States.{IsFresh};
+ghost use Rattle.rhai_language.specs.Readers.{nesting_of};
 ghost use Rattle.rhai_language.specs.Frames.{context_of, live_of};
 ghost use Rattle.rhai_parser.specs.Starts.{live_in, starts_in};
 ghost use Rattle.rhai_base.specs.Frames.{known_of, known_variables};
@@ -27,7 +28,7 @@ use bitflags::Flags;
 use rhai_ast::{AST, Expr, Stmt};
 use rhai_base::known::is_among;
 use rhai_base::{
-    FnLib, Frame, Known, LangOptions, Library, ParseSettingFlags, ParseSettings, ParseState,
+    FnLib, Frame, Known, LangOptions, Library, ParseCounts, ParseSettingFlags, ParseSettings, ParseState,
     functions,
 };
 use rhai_grammar::ParseResult;
@@ -278,15 +279,26 @@ impl Engine {
         &self,
         input: &mut TokenStream,
         library: &mut Library,
+        counts: &mut ParseCounts,
         frame: &Frame<'_>,
         settings: ParseSettings,
     ) -> ParseResult<Expr>
         ensures reads { Gives view (result_of (Whole (context_of self.now frame.now settings) (live_of frame.now))
-            (record { cursor = cursor_of input.old; library = library_of library.old }))
-            result (record { cursor = cursor_of input.new; library = library_of library.new }) }
+            (record { cursor = cursor_of input.old; library = library_of library.old; nesting = nesting_of counts.old }))
+            result (record {
+              cursor = cursor_of input.new;
+              library = library_of library.new;
+              nesting = nesting_of counts.new;
+            }) }
     {
-        let mut shared = Shared { input, library };
-        parse_whole_expr(&self.language, &mut shared, frame, settings)
+        let mut shared = Shared {
+            input,
+            library,
+            counts: *counts,
+        };
+        let expr = parse_whole_expr(&self.language, &mut shared, frame, settings);
+        *counts = shared.counts;
+        expr
     }
 
     // Reads the script of one expression that a whole stream is, with the functions of a library.
@@ -294,6 +306,7 @@ impl Engine {
         &self,
         input: &mut TokenStream,
         lib: &mut FnLib,
+        counts: &mut ParseCounts,
         frame: &Frame<'_>,
         settings: ParseSettings,
         constants: Option<&Scope>,
@@ -307,7 +320,7 @@ impl Engine {
         ensures nowhere { IfErr result MemoryIsNowhere }
     {
         let mut library = take_library(self.language.alloc, lib)?;
-        let read = self.read_expression(input, &mut library, frame, settings);
+        let read = self.read_expression(input, &mut library, counts, frame, settings);
         *lib = library.into_functions();
         match read {
             Ok(expr) => self.make_script(expr, lib, constants, level),
@@ -354,10 +367,19 @@ impl Engine {
             allow_capture: _,
             imports,
             global_imports,
-            counts: _,
+            mut counts,
         } = state;
+        counts.nest_enter();
         let known = self.known(external_constants, &global_imports);
         let frame = Frame::new(stack, frame_pointer, imports, expr_filter, known);
-        self.read_script(input, lib, &frame, chosen, external_constants, level)
+        self.read_script(
+            input,
+            lib,
+            &mut counts,
+            &frame,
+            chosen,
+            external_constants,
+            level,
+        )
     }
 }

@@ -12,16 +12,19 @@ ghost use Rattle.rhai_parser.specs.Scripts.{ReadsScript, function_views, functio
 ghost use Rattle.rhai_reading.specs.Reading.{Script};
 ghost use Rattle.rhai_reading.specs.Running.{Gives, result_of};
 ghost use Rattle.rhai_base.specs.Libraries.{library_of};
+ghost use Rattle.rhai_base.specs.Counts.{counts_of};
 ghost use Rattle.rhai_base.specs.States.{IsFresh};
+ghost use Rattle.rhai_parser.specs.Nesting.{StaysWithin};
 ghost use Rattle.rhai_parser.specs.Engines.{script_settings};
 ghost use Rattle.rhai_language.specs.Frames.{context_of};
+ghost use Rattle.rhai_language.specs.Readers.{nesting_of};
 ghost use Rattle.rhai_parser.specs.Starts.{live_in, starts_in};
 
 use crate::engine::Engine;
 use crate::library::take_library;
 use crate::readers::parse_statements;
 use rhai_ast::{ScriptFuncDef, Stmt, StmtBlockContainer};
-use rhai_base::{FnLib, Frame, Library, ParseSettingFlags, ParseSettings, ParseState, functions};
+use rhai_base::{FnLib, Frame, Library, ParseCounts, ParseSettingFlags, ParseSettings, ParseState, functions};
 use rhai_grammar::{Closing, ParseResult};
 use rhai_input::{Scope, TokenStream};
 use rhai_language::Shared;
@@ -49,6 +52,7 @@ impl Engine {
         &self,
         input: &mut TokenStream,
         library: &mut Library,
+        counts: &mut ParseCounts,
         frame: Frame<'_>,
         stack: &mut Scope,
         imports: &mut Vec<RcStr>,
@@ -59,11 +63,22 @@ impl Engine {
             × (left.imports ≡ map rc_str_bytes imports.new.items)
             × Gives (λ ss. (statement_views ss.items, left))
             (result_of (Script (context_of self.now frame.entry settings) frame.entry.live)
-            (record { cursor = cursor_of input.old; library = library_of library.old }))
-            result (record { cursor = cursor_of input.new; library = library_of library.new }) }
+            (record { cursor = cursor_of input.old; library = library_of library.old; nesting = nesting_of counts.old }))
+            result (record {
+              cursor = cursor_of input.new;
+              library = library_of library.new;
+              nesting = nesting_of counts.new;
+            }) }
+        ensures stays { UnlessMemory (λ refused. StaysWithin 1 self.now settings (counts_of counts.old)
+            (counts_of counts.new)) result }
     {
+        let _depth = self.max_function_expr_depth();
         let mut frame = frame;
-        let mut shared = Shared { input, library };
+        let mut shared = Shared {
+            input,
+            library,
+            counts: *counts,
+        };
         let statements = parse_statements(
             self.language(),
             &mut shared,
@@ -71,6 +86,7 @@ impl Engine {
             settings,
             Closing::EndMark,
         );
+        *counts = shared.counts;
         (*stack, *imports) = frame.into_parts();
         statements
     }
@@ -114,6 +130,9 @@ impl Engine {
             (map rc_str_bytes state.new.imports.items) }
         ensures memory { UnlessMemory (HasRead (cursor_of state.old.input.now) (cursor_of state.new.input.now)) result }
         ensures nowhere { IfErr result MemoryIsNowhere }
+        ensures nests { (chosen : _) × FnOnceReturnsAtMut F.FnOnce settings (script_settings self.now) tt chosen
+            × UnlessMemory (λ refused. StaysWithin 2 self.now chosen (counts_of state.old.counts)
+            (counts_of state.new.counts)) result }
         ensures kept { (state.new.global_imports ≡ state.old.global_imports)
             × (state.new.external_constants ≡ state.old.external_constants)
             × (state.new.frame_pointer ≡ state.old.frame_pointer)
@@ -134,14 +153,17 @@ impl Engine {
             state.expr_filter,
             known,
         );
+        state.counts.nest_enter();
         let read = self.read_statements(
             state.input,
             &mut library,
+            &mut state.counts,
             frame,
             &mut state.stack,
             &mut state.imports,
             chosen,
         );
+        state.counts.nest_leave();
         state.global_imports = around;
         *state.lib = library.into_functions();
         match read {

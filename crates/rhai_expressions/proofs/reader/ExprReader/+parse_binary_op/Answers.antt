@@ -8,13 +8,14 @@ use Rattle.rhai_language.specs.Frames.{context_of, live_of}
 use Rattle.rhai_expressions.specs.Asks.{operator_pair}
 use Rattle.rhai_language.specs.Readers.{state_at, state_of}
 use Rattle.rhai_reading.proofs.RunSteps.{Walked, walked_on, walked_refused, walked_short, walked_side_refused}
+use Rattle.rhai_reading.proofs.Steps.{nested_done}
 use Rattle.rhai_expressions.proofs.AnswerLemmas.{same_context}
 use Rattle.rhai_expressions.proofs.reader.ExprReader.+parse_binary_op.Goals as goal
 use Rattle.rhai_expressions.proofs.reader.ExprReader.+parse_binary_op.Goals.{After-make_binary}
 
 -- an operator of a run with its right side
 walked : (g : _) (t : _) (c : After-make_binary g t) → Walked (context_of c.args.self.now.language.now c.args.frame.now c.loop-lhs.settings) (live_of c.args.frame.now) c.args.parent c.in-Some.operator.strength c.in-Some.operator.right c.place_after-place.result (option_map operator_pair c.in_ok-next_operator.field-0) (lexeme c.take-op_token.result.0) c.take-op_token.result.1 (view c.in_ok-rhs.rhs) (Done (view c.in_ok-rhs-2.rhs) (state_of c.parse_binary_op.new.shared)) (context_of c.args.self.now.language.now c.args.frame.now c.in_ok-deeper.deeper.side)
-    (state_of c.loop-lhs.shared) (state_of c.next_operator.new.shared) (state_at c.next_operator.new.shared (cursor_of c.take-op_token.new.input)) (state_of c.parse_right_operand.new.shared) (state_of c.next_operator-in-loop-lhs.new.shared) (state_of c.parse_binary_op.new.shared)
+    (state_of c.loop-lhs.shared) (state_of c.next_operator.new.shared) (state_at c.next_operator.new.shared (cursor_of c.take-op_token.new.input)) (state_of c.leave.new.self) (state_of c.next_operator-in-loop-lhs.new.shared) (state_of c.parse_binary_op.new.shared)
 walked g t c = record {
   operator = search rules;
   goes = search rules;
@@ -25,7 +26,7 @@ walked g t c = record {
   took = ap (state_at c.next_operator.new.shared) c.take-op_token.ensures.after;
   shrinks = c.take-op_token.ensures.shrinks;
   stands = search rules;
-  operand = search rules;
+  operand = nested_done _ _ c.enter.ensures.enters (search rules) c.leave.ensures.leaves;
   operand_short = search rules;
   known = search rules;
   look_on = c.next_operator-in-loop-lhs.ensures.after;
@@ -41,7 +42,7 @@ returns-in_err-rhs-2-clause-reads g t c =
     rw (p.1, p.2) (
       λ told.
           let h : Walked (context_of c.args.self.now.language.now c.args.frame.now c.loop-lhs.settings) (live_of c.args.frame.now) c.args.parent c.in-Some.operator.strength c.in-Some.operator.right c.place_after-place.result (option_map operator_pair c.in_ok-next_operator.field-0) (lexeme c.take-op_token.result.0) c.take-op_token.result.1 (view c.in_ok-rhs.rhs) (Refused _ (state_of c.parse_binary_op.new.shared)) (context_of c.args.self.now.language.now c.args.frame.now c.in_ok-deeper.deeper.side)
-          (state_of c.loop-lhs.shared) (state_of c.next_operator.new.shared) (state_at c.next_operator.new.shared (cursor_of c.take-op_token.new.input)) (state_of c.parse_right_operand.new.shared) (state_of c.next_operator-in-loop-lhs.new.shared) (state_of c.parse_binary_op.new.shared) = record {
+          (state_of c.loop-lhs.shared) (state_of c.next_operator.new.shared) (state_at c.next_operator.new.shared (cursor_of c.take-op_token.new.input)) (state_of c.leave.new.self) (state_of c.next_operator-in-loop-lhs.new.shared) (state_of c.parse_binary_op.new.shared) = record {
             operator = search rules;
             goes = search rules;
             readable = search rules;
@@ -51,7 +52,7 @@ returns-in_err-rhs-2-clause-reads g t c =
             took = ap (state_at c.next_operator.new.shared) c.take-op_token.ensures.after;
             shrinks = c.take-op_token.ensures.shrinks;
             stands = search rules;
-            operand = search rules;
+            operand = nested_done _ _ c.enter.ensures.enters (search rules) c.leave.ensures.leaves;
             operand_short = search rules;
             known = search rules;
             look_on = c.next_operator-in-loop-lhs.ensures.after;

@@ -3,6 +3,7 @@ use Rattle.rhai_ast.specs.View.{view}
 use Rattle.rhai_grammar.specs.Causes.{refusal_of}
 use Rattle.rhai_grammar.specs.Cursors.{cursor_of}
 use Rattle.rhai_base.specs.Libraries.{library_of}
+use Rattle.rhai_language.specs.Readers.{nesting_of}
 use Rattle.rhai_language.specs.Frames.{context_of, live_of}
 use Rattle.rhai_reading.specs.Reading.{Whole}
 use Rattle.rhai_reading.specs.Running.{Done, Progress, Refused, result_of}
@@ -14,8 +15,8 @@ pub returns-in-Ok-clause-reads : goal.returns-in-Ok-clause-reads
 returns-in-Ok-clause-reads c = λ mode.
     let context = context_of c.args.self.now c.args.frame.now c.args.settings in
     let live = live_of c.args.frame.now in
-    let at : Entries → Progress = λ es. record { cursor = cursor_of c.args.input.now; library = library_of es } in
-    let to : Entries → Progress = λ es. record { cursor = cursor_of c.read_expression-read.new.input; library = library_of es } in
+    let at : Entries → Progress = λ es. record { cursor = cursor_of c.args.input.now; library = library_of es; nesting = nesting_of c.args.counts.now } in
+    let to : Entries → Progress = λ es. record { cursor = cursor_of c.read_expression-read.new.input; library = library_of es; nesting = nesting_of c.read_expression-read.new.counts } in
     let here = ap (λ (es : Entries). result_of (Whole context live) (at es)) c.in_ok-library.ensures.ok in
     let ended = ap (λ (es : Entries). Done (view c.in-Ok.expr) (to es)) (sym c.into_functions.ensures) in
     expression_done context live (at c.args.lib.now.entries) (to c.into_functions.result.entries) (view c.in-Ok.expr) c.make_script.result mode
@@ -23,8 +24,8 @@ returns-in-Ok-clause-reads c = λ mode.
 
 pub returns-in-Ok-clause-memory : goal.returns-in-Ok-clause-memory
 returns-in-Ok-clause-memory c =
-    let at : Entries → Progress = λ es. record { cursor = cursor_of c.args.input.now; library = library_of es } in
-    let to : Entries → Progress = λ es. record { cursor = cursor_of c.read_expression-read.new.input; library = library_of es } in
+    let at : Entries → Progress = λ es. record { cursor = cursor_of c.args.input.now; library = library_of es; nesting = nesting_of c.args.counts.now } in
+    let to : Entries → Progress = λ es. record { cursor = cursor_of c.read_expression-read.new.input; library = library_of es; nesting = nesting_of c.read_expression-read.new.counts } in
     has_read_done (expression_entry (context_of c.args.self.now c.args.frame.now c.args.settings) (live_of c.args.frame.now))
     (at c.in_ok-library.library) (to c.read_expression-read.new.library) (view c.in-Ok.expr) c.make_script.result c.in-Ok.ensures.reads
 
@@ -32,8 +33,8 @@ pub returns-in-Err-clause-reads : goal.returns-in-Err-clause-reads
 returns-in-Err-clause-reads c = λ mode.
     let context = context_of c.args.self.now c.args.frame.now c.args.settings in
     let live = live_of c.args.frame.now in
-    let at : Entries → Progress = λ es. record { cursor = cursor_of c.args.input.now; library = library_of es } in
-    let to : Entries → Progress = λ es. record { cursor = cursor_of c.read_expression-read.new.input; library = library_of es } in
+    let at : Entries → Progress = λ es. record { cursor = cursor_of c.args.input.now; library = library_of es; nesting = nesting_of c.args.counts.now } in
+    let to : Entries → Progress = λ es. record { cursor = cursor_of c.read_expression-read.new.input; library = library_of es; nesting = nesting_of c.read_expression-read.new.counts } in
     let here = ap (λ (es : Entries). result_of (Whole context live) (at es)) c.in_ok-library.ensures.ok in
     let ended = ap (λ (es : Entries). Refused (refusal_of c.in-Err.error) (to es)) (sym c.into_functions.ensures) in
     expression_fails context live (at c.args.lib.now.entries) (to c.into_functions.result.entries) c.in-Err.error mode
@@ -41,7 +42,7 @@ returns-in-Err-clause-reads c = λ mode.
 
 pub returns-in-Err-clause-memory : goal.returns-in-Err-clause-memory
 returns-in-Err-clause-memory c =
-    let at : Entries → Progress = λ es. record { cursor = cursor_of c.args.input.now; library = library_of es } in
-    let to : Entries → Progress = λ es. record { cursor = cursor_of c.read_expression-read.new.input; library = library_of es } in
+    let at : Entries → Progress = λ es. record { cursor = cursor_of c.args.input.now; library = library_of es; nesting = nesting_of c.args.counts.now } in
+    let to : Entries → Progress = λ es. record { cursor = cursor_of c.read_expression-read.new.input; library = library_of es; nesting = nesting_of c.read_expression-read.new.counts } in
     has_read_fails (expression_entry (context_of c.args.self.now c.args.frame.now c.args.settings) (live_of c.args.frame.now))
     (at c.in_ok-library.library) (to c.read_expression-read.new.library) c.in-Err.error c.in-Err.ensures.reads
