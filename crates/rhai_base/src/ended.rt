@@ -4,7 +4,7 @@ ghost use Rattle.std.specs.Prelude.{◌≡◌, ◌+◌, IfErr, IfOk, OnErr, OnOk
 ghost use Rattle.rhai_grammar.specs.Keys.{has_key, key_of, keys_of};
 ghost use Rattle.rhai_grammar.specs.Libraries.{closure_count, is_function, keys_in, with_ended};
 ghost use Rattle.rhai_base.specs.Index.{Agrees};
-ghost use Rattle.rhai_base.specs.Libraries.{ended, library_of};
+ghost use Rattle.rhai_base.specs.Libraries.{Grows, ended, library_of};
 ghost use Rattle.rhai_base.specs.Settings.{too_many_functions};
 
 use crate::library::{FnLib, has_function};
@@ -112,11 +112,12 @@ impl Library {
 
     /// Appends a function. The caller has to prove that no function has its key yet. Returns `AllocError` if memory
     /// runs out; then nothing changes.
-    #[tactic(auto, using(crate::proofs::LibraryLemmas::same_keys, crate::proofs::LibraryLemmas::one_more))]
+    #[tactic(auto, using(crate::proofs::LibraryLemmas::same_keys, crate::proofs::LibraryLemmas::one_more, crate::proofs::LibraryLemmas::grows_ended, crate::proofs::LibraryLemmas::grows_same))]
     pub fn add(&mut self, key: FnKey, function: Rc<ScriptFuncDef>) -> Result<(), AllocError>
         requires { has_key (key_of key) (keys_in (library_of self.old)) ≡ false }
         ensures ok { OnOk result (library_of self.new ≡ with_ended (library_of self.old) (ended key function)) }
         ensures err { OnErr result (self.new ≡ self.old) }
+        ensures grows { Grows (library_of self.old) (library_of self.new) }
     {
         self.names.add_function(&mut self.functions, key, function)
     }

@@ -29,7 +29,7 @@ use Rattle.rhai_reading.specs.Nesting.{Nesting}
 use Rattle.rhai_base.specs.Counts.{counts_of}
 use Rattle.rhai_base.specs.declared.counts.ParseCounts.{ParseCounts}
 use Rattle.rhai_base.specs.Frames.{FrameValue}
-use Rattle.rhai_base.specs.Libraries.{ended, library_of}
+use Rattle.rhai_base.specs.Libraries.{Grows, ended, library_of}
 use Rattle.rhai_base.specs.Uses.{uses_of}
 use Rattle.rhai_base.specs.declared.settings.ParseSettings.{ParseSettings}
 use Rattle.rhai_language.specs.Bounds.{UpTo}
@@ -279,10 +279,12 @@ pub record SameLoans (old new : Shared) : Type 0 where
   pub library : new.library.ghost_name ≡ old.library.ghost_name
   pub captured : new.captured.ghost_name ≡ old.captured.ghost_name
 
--- Each reference is still the one that was lent, and no more is left to read.
+-- Each reference is still the one that was lent, no more is left to read, and the functions that had ended are there
+-- still.
 pub record GoesOn (old new : Shared) : Type 0 where
   pub same : SameLoans old new
   pub shorter : left (state_of new).cursor.tokens ≤ left (state_of old).cursor.tokens
+  pub grows : Grows (state_of old).library (state_of new).library
 
 -- What a reader returned, seen by view, is what the goal gives, and so is what it left; unless memory ran out.
 abbrev pub Reads : {X : Type 0} (g : Goal) → (X → Val g) → Shared → Result X ParseError → Shared → Type 0

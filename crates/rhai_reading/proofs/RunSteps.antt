@@ -131,3 +131,46 @@ module _ {c : Context} {w : Live} {parent n : ℕ} {right : Bool} {place : Opera
 module _ {c : Context} {w : Live} {parent n : ℕ} {right : Bool} {place : OperandPlace} {next : Option (ℕ × Bool)} {op : Lexeme} {pos : Position} {x : Node} {r : Refusal} {d : Context} {s s1 s2 s3 s4 t : Progress} (h : Walked c w parent n right place next op pos x (R.Refused r t) d s s1 s2 s3 s4 t) where
   pub walked_side_refused : (at : Position) (lhs : Node) → result_of (BinaryOp c w at parent lhs) s ≡ R.Refused r t
   walked_side_refused at lhs = side_refused c w at parent lhs n right next x r s s1 s3 s4 t (walked_takes h)
+
+-- ---- the look after the operand is refused
+
+pub record Halted (c : Context) (w : Live) (parent n : ℕ) (right : Bool) (place : OperandPlace) (op : Lexeme) (pos : Position) (x : Node) (r : Refusal) (s s1 s2 s3 t : Progress) : Type 0 where
+  pub operator : result_of (NextOperator c.filter) s ≡ R.Done (Some (n, right)) s1
+  pub goes : continues parent n right ≡ true
+  pub readable : is_memory (asked s).lexeme ≡ false
+  pub more : is_end (asked s).lexeme ≡ false
+  pub look : s1 ≡ looking s
+  pub token : item op pos ≡ asked s1
+  pub took : s2 ≡ taking s1
+  pub shrinks : is_end (asked s1).lexeme ≡ false → left s2.cursor.tokens + 1 ≤ left s1.cursor.tokens
+  pub stands : place ≡ place_after op
+  pub operand : nested (result_of (RightOperand c w place)) s2 ≡ R.Done x s3
+  pub operand_short : left s3.cursor.tokens ≤ left s2.cursor.tokens
+  pub refused : result_of (NextOperator c.filter) s3 ≡ R.Refused r t
+
+module _ {c : Context} {w : Live} {parent n : ℕ} {right : Bool} {place : OperandPlace} {op : Lexeme} {pos : Position} {x : Node} {r : Refusal} {s s1 s2 s3 t : Progress} (h : Halted c w parent n right place op pos x r s s1 s2 s3 t) where
+  halted_short : (left (taking s1).cursor.tokens + 1 ≤ left s.cursor.tokens) × (left s3.cursor.tokens + 1 ≤ left s.cursor.tokens)
+  halted_short =
+      let more : is_end (asked s1).lexeme ≡ false = ap (λ (u : Progress). is_end (asked u).lexeme) h.look ∙ h.more in
+      let first : left s1.cursor.tokens ≡ left s.cursor.tokens = ap (λ (u : Progress). left u.cursor.tokens) h.look in
+      let shrinks = h.shrinks more in
+      let short = h.operand_short in
+      (subst (λ (u : Progress). left u.cursor.tokens + 1 ≤ left s.cursor.tokens) h.took (omega (arith, first, shrinks)), omega (arith, first, shrinks, short))
+
+  pub look_refused : (at : Position) (lhs : Node) → result_of (BinaryOp c w at parent lhs) s ≡ R.Refused r t
+  look_refused at lhs =
+      let g = BinaryOp c w at parent lhs in
+      let call = guarded g s in
+      let next = asked s1 in
+      let readable : is_memory (asked s1).lexeme ≡ false = ap (λ (u : Progress). is_memory (asked u).lexeme) h.look ∙ h.readable in
+      let place_is : place_after next.lexeme ≡ place = ap (λ (i : Item). place_after i.lexeme) (sym h.token) ∙ sym h.stands in
+      let operand = ap (λ b. nested (result_of (RightOperand c w b)) (taking s1)) place_is ∙ ap (nested (result_of (RightOperand c w place))) (sym h.took) ∙ h.operand in
+      let first = guarded_is g s (NextOperator c.filter) s (omega arith) ∙ h.operator in
+      let second = nested_is g s (RightOperand c w (place_after next.lexeme)) (taking s1) (let short = halted_short.0 in omega (arith, short)) ∙ operand in
+      let third = guarded_is g s (NextOperator c.filter) s3 (let short = halted_short.1 in omega (arith, short)) ∙ h.refused in
+      step_binary_op c w at parent lhs s
+      ∙ ap (λ o. R.and_then o (λ v u. exec call (binary_at c w at parent lhs v) u)) first
+      ∙ ap (λ b. exec call (if b then Peek (binary_on c w at parent lhs n) else Ret lhs) s1) h.goes
+      ∙ ap (λ m. if m then R.Refused out_of_memory (looking s1) else (if m then R.Refused out_of_memory (looking s1) else exec call (Call (RightOperand c w (place_after next.lexeme)) (binary_right c w at parent lhs n next.lexeme next.at)) (taking s1))) readable
+      ∙ ap (λ o. R.and_then o (λ v u. exec call (binary_right c w at parent lhs n next.lexeme next.at v) u)) second
+      ∙ ap (λ o. R.and_then o (λ v u. exec call (raised c at (λ d. Call (BinaryOp d w (position_of x) n x) (binary_next d w parent lhs next.lexeme next.at))) u)) third

@@ -35,7 +35,7 @@ loop-links-preserved g c =
     } in
     record {
       same = c.loop-links.invariant.same ∙ dot_goes_on taken;
-      goes_on = record { same = search rules; shorter = let less = (dot_short taken).1 in omega (arith, less, c.loop-links.invariant.goes_on.shorter) };
+      goes_on = record { same = search rules; shorter = let less = (dot_short taken).1 in omega (arith, less, c.loop-links.invariant.goes_on.shorter); grows = search rules };
     }
 
 pub loop-links-preserved-in-Bracket : goal.loop-links-preserved-in-Bracket
@@ -61,5 +61,5 @@ loop-links-preserved-in-Bracket g c =
     } in
     record {
       same = c.loop-links.invariant.same ∙ bracket_goes_on taken;
-      goes_on = record { same = search rules; shorter = let less = (bracket_short taken).1 in omega (arith, less, c.loop-links.invariant.goes_on.shorter) };
+      goes_on = record { same = search rules; shorter = let less = (bracket_short taken).1 in omega (arith, less, c.loop-links.invariant.goes_on.shorter); grows = search rules };
     }

@@ -1,4 +1,4 @@
-use Rattle.std.proofs.Common.{arith, subst, sym, ◌-◌, ◌^◌, ◌≤◌}
+use Rattle.std.proofs.Common.{[], arith, subst, sym, ◌-◌, ◌^◌, ◌≤◌}
 use Rattle.rhai_grammar.specs.Cursors.{cursor_of}
 use Rattle.rhai_grammar.specs.Promises.{UnlessMemory}
 use Rattle.rhai_base.specs.Counts.{counts_of}
@@ -20,5 +20,5 @@ returns-clause-stays c =
     subst (λ (e : LanguageValue). UnlessMemory (λ refused. StaysWithin 1 e c.args.settings (counts_of c.args.counts.now) (counts_of left.counts)) c.parse_statements-statements.result)
     c.language.ensures
     (stays_read (with_live statements_of c.parse_statements-statements.new.frame) (context_of c.language.result.now c.args.frame c.args.settings) c.args.frame.live
-    (record { cursor = cursor_of c.args.input.now; library = library_of c.args.library.now; nesting = nesting_of c.args.counts.now }) (state_of left)
+    (record { cursor = cursor_of c.args.input.now; library = library_of c.args.library.now; captured = []; nesting = nesting_of c.args.counts.now }) (state_of left)
     c.parse_statements-statements.result depth function c.parse_statements-statements.ensures.reads)
