@@ -334,7 +334,8 @@ impl<R: LentReaders> StmtReader<'_, R> {
             shared.new }
     {
         let (token, _) = peek(shared.input)?;
-        let valued = starts_expression(settings, self.language.allow_looping(), token);
+        let looping = self.language.allow_looping();
+        let valued = starts_expression(settings, looping, frame.filter(), token);
         let deeper = settings.level_up()?;
         if !valued {
             return Ok(None);
