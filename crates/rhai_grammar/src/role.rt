@@ -109,7 +109,7 @@ pub enum Linking {
 /// What a token is where an item of an array, or a parameter of a function, may begin.
 #[derive(Clone, Copy, PartialEq, Eq, Debug)]
 pub enum ItemPlace {
-    /// `]` or `)`, which ends the list.
+    /// `]`, `)` or `|`, which ends the list.
     End,
     /// The beginning of an item, or a parameter.
     Item,

@@ -66,7 +66,6 @@ pub(crate) fn end_assignment(
 /// `break` before it. `looping` is whether the engine lets scripts have loops, and `filter` which tokens an expression
 /// may contain. A construct or a closure begins one only where it may be an operand. An error of the tokenizer counts
 /// as a beginning.
-#[tactic(auto, using(crate::proofs::StartLemmas::closure_starts))]
 pub(crate) fn starts_expression(
     settings: ParseSettings,
     looping: bool,
