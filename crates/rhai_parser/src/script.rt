@@ -149,6 +149,7 @@ impl Engine {
             × (state.new.external_constants ≡ state.old.external_constants)
             × (state.new.frame_pointer ≡ state.old.frame_pointer)
             × (state.new.expr_filter ≡ state.old.expr_filter)
+            × (state.new.tokenizer_control ≡ state.old.tokenizer_control)
             × (state.new.external_vars ≡ state.old.external_vars)
             × (state.new.allow_capture ≡ state.old.allow_capture) }
     {

@@ -108,7 +108,7 @@ returns-in-Err-clause-nests g c = (
 )
 
 pub returns-in_err-library-clause-grows : goal.returns-in_err-library-clause-grows
-returns-in_err-library-clause-grows g c = begins_same _ _ c.in_err-library.ensures.err
+returns-in_err-library-clause-grows g c = begins_same c.args.state.now.lib.now.entries c.take_library.new.lib.entries (search rules)
 
 pub returns-in-Ok-clause-grows : goal.returns-in-Ok-clause-grows
 returns-in-Ok-clause-grows g c = begins_read _ _ _ _ c.in_ok-library.ensures.ok c.read_statements-read.ensures.grows c.into_functions.ensures

@@ -1,4 +1,4 @@
-use Rattle.std.proofs.Common.{[], ◌∙◌, ap, refl, sym}
+use Rattle.std.proofs.Common.{[], ◌∙◌, ap, refl, rules, sym}
 use Rattle.rhai_ast.specs.View.{view}
 use Rattle.rhai_grammar.specs.Causes.{refusal_of}
 use Rattle.rhai_grammar.specs.Cursors.{cursor_of}
@@ -48,7 +48,7 @@ returns-in-Err-clause-memory c =
     (at c.in_ok-library.library) (to c.read_expression-read.new.library) c.in-Err.error c.in-Err.ensures.reads.1
 
 pub returns-in_err-library-clause-grows : goal.returns-in_err-library-clause-grows
-returns-in_err-library-clause-grows c = begins_same _ _ c.in_err-library.ensures.err
+returns-in_err-library-clause-grows c = begins_same c.args.lib.now.entries c.take_library.new.lib.entries (search rules)
 
 pub returns-in-Ok-clause-grows : goal.returns-in-Ok-clause-grows
 returns-in-Ok-clause-grows c = begins_read _ _ _ _ c.in_ok-library.ensures.ok c.read_expression-read.ensures.grows c.into_functions.ensures
