@@ -41,8 +41,10 @@ impl<R: LentReaders> ConstructReader<'_, R> {
     {
         match kind {
             Construct::Block => {
-                let block =
-                    nested!(shared, parse_block(self.language, &self.readers, shared, frame, settings))?;
+                let block = nested!(
+                    shared,
+                    parse_block(self.language, &self.readers, shared, frame, settings)
+                )?;
                 Ok(make_block_statement(self.language.alloc(), block)?)
             }
             Construct::If => nested!(shared, self.parse_if(shared, frame, settings)),
@@ -162,7 +164,10 @@ impl<R: LentReaders> ConstructReader<'_, R> {
     {
         let opening = begin_block(self.language.alloc(), shared, "to begin this block")?;
         let deeper = settings.level_up_with_position(opening)?;
-        nested!(shared, parse_block(self.language, &self.readers, shared, frame, deeper))
+        nested!(
+            shared,
+            parse_block(self.language, &self.readers, shared, frame, deeper)
+        )
     }
 
     /// Reads a `while` after its keyword, where the settings stand.
@@ -181,7 +186,10 @@ impl<R: LentReaders> ConstructReader<'_, R> {
             shared.new }
     {
         let guard = nested!(shared, self.parse_guard(shared, frame, settings))?;
-        let body = nested!(shared, self.parse_braces(shared, frame, settings.loop_body()))?;
+        let body = nested!(
+            shared,
+            self.parse_braces(shared, frame, settings.loop_body())
+        )?;
         Ok(make_while(self.language.alloc(), guard, body, settings.pos)?)
     }
 
@@ -200,7 +208,10 @@ impl<R: LentReaders> ConstructReader<'_, R> {
             result
             shared.new }
     {
-        let body = nested!(shared, self.parse_braces(shared, frame, settings.loop_body()))?;
+        let body = nested!(
+            shared,
+            self.parse_braces(shared, frame, settings.loop_body())
+        )?;
         Ok(make_while(
             self.language.alloc(),
             Expr::Unit(Position::NONE),
@@ -223,7 +234,10 @@ impl<R: LentReaders> ConstructReader<'_, R> {
         ensures reads { Reads (construct self.now.language.now frame.now settings Do) statement_view shared.old result
             shared.new }
     {
-        let body = nested!(shared, self.parse_braces(shared, frame, settings.loop_body()))?;
+        let body = nested!(
+            shared,
+            self.parse_braces(shared, frame, settings.loop_body())
+        )?;
         let negated = next_do_end(self.language.alloc(), shared)?;
         let guard = nested!(shared, self.parse_guard(shared, frame, settings))?;
         Ok(make_do(self.language.alloc(), guard, body, negated, settings.pos)?)
@@ -247,7 +261,10 @@ impl<R: LentReaders> ConstructReader<'_, R> {
         let names = next_loop_names(self.language.alloc(), shared)?;
         let over = nested!(shared, self.parse_iterated(shared, frame, settings))?;
         let inner = loop_frame(self.language.alloc(), frame, &names)?;
-        let body = nested!(shared, self.parse_braces(shared, &inner, settings.loop_body()))?;
+        let body = nested!(
+            shared,
+            self.parse_braces(shared, &inner, settings.loop_body())
+        )?;
         Ok(make_for(
             self.language.alloc(),
             names.name,

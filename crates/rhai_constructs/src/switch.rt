@@ -74,7 +74,10 @@ impl<R: LentReaders> ConstructReader<'_, R> {
             match next_arm(self.language.alloc(), shared.input)? {
                 NextArm::End => return Ok(arms),
                 NextArm::Default(pos) => {
-                    let action = nested!(shared, self.parse_default_arm(shared, frame, settings, pos))?;
+                    let action = nested!(
+                        shared,
+                        self.parse_default_arm(shared, frame, settings, pos)
+                    )?;
                     push_default(&mut arms, action)?;
                     return Ok(arms);
                 }

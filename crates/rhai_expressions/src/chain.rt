@@ -174,7 +174,10 @@ impl<R: LentReaders> ExprReader<'_, R> {
         let is_name = is_name(token);
         skip(shared.input);
         if is_called(shared.input)? {
-            let call = nested!(shared, self.parse_call(shared, frame, settings.at(pos), false))?;
+            let call = nested!(
+                shared,
+                self.parse_call(shared, frame, settings.at(pos), false)
+            )?;
             return Ok(make_method(self.language.alloc(), name, pos, call)?);
         }
         if !is_name {

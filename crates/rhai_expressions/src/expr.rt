@@ -55,7 +55,10 @@ impl<R: LentReaders> ExprReader<'_, R> {
             return Ok(Expr::Variable(name, pos));
         }
         let qualified = is_qualified_name(&name);
-        let call = nested!(shared, self.parse_call(shared, frame, settings.at(pos), qualified))?;
+        let call = nested!(
+            shared,
+            self.parse_call(shared, frame, settings.at(pos), qualified)
+        )?;
         test_path(frame, settings, &name, pos)?;
         Ok(make_call(self.language.alloc(), name, pos, call)?)
     }
@@ -230,7 +233,10 @@ impl<R: LentReaders> ExprReader<'_, R> {
             }
             let (op_token, pos) = take(shared.input);
             let place = place_after(&op_token);
-            let rhs = nested!(shared, self.parse_right_operand(shared, frame, settings, place))?;
+            let rhs = nested!(
+                shared,
+                self.parse_right_operand(shared, frame, settings, place)
+            )?;
             // A reserved symbol after the operand is refused before the level is raised.
             next_operator(self.language.alloc(), frame.filter(), shared)?;
             let deeper = settings.level_up_in_run(pos)?;

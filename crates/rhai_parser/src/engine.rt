@@ -29,8 +29,8 @@ use bitflags::Flags;
 use rhai_ast::{AST, Expr, Stmt};
 use rhai_base::known::is_among;
 use rhai_base::{
-    FnLib, Frame, Known, LangOptions, Library, ParseCounts, ParseSettingFlags, ParseSettings, ParseState,
-    functions,
+    FnLib, Frame, Known, LangOptions, Library, ParseCounts, ParseSettingFlags, ParseSettings,
+    ParseState, functions,
 };
 use rhai_grammar::ParseResult;
 use rhai_input::{Scope, TokenStream};

@@ -188,7 +188,10 @@ fn parse_construct(
         stmt: parse_stmt,
     };
     let reader = ConstructReader { language, readers };
-    nested!(shared, reader.parse_construct(shared, frame, settings, kind))
+    nested!(
+        shared,
+        reader.parse_construct(shared, frame, settings, kind)
+    )
 }
 
 /// Reads the statements of a block up to its `}`, which stays. Its definitions end with it.

@@ -25,7 +25,9 @@ use crate::engine::Engine;
 use crate::library::take_library;
 use crate::readers::parse_statements;
 use rhai_ast::{ScriptFuncDef, Stmt, StmtBlockContainer};
-use rhai_base::{FnLib, Frame, Library, ParseCounts, ParseSettingFlags, ParseSettings, ParseState, functions};
+use rhai_base::{
+    FnLib, Frame, Library, ParseCounts, ParseSettingFlags, ParseSettings, ParseState, functions,
+};
 use rhai_grammar::{Closing, ParseResult};
 use rhai_input::{Scope, TokenStream};
 use rhai_language::Shared;

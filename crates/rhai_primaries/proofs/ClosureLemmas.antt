@@ -47,7 +47,10 @@ context_inside language outer inner here deeper filtered knows begun raised =
     ∙ ap (λ (x : Known). record (context_of language inner deeper) { filter = All; known = x }) knows
     ∙ ap (λ (x : ℕ). record (context_of language inner deeper) { filter = All; known = known_inside outer; begun = x }) begun
     ∙ ap (λ (x : Settings). record (context_of language inner deeper) {
-      settings = x; filter = All; known = known_inside outer; begun = outer.begun + 1;
+      settings = x;
+      filter = All;
+      known = known_inside outer;
+      begun = outer.begun + 1;
     }) raised
 
 -- what follows the parameters

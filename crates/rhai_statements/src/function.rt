@@ -57,7 +57,10 @@ impl<R: LentReaders> StmtReader<'_, R> {
         let deeper = settings
             .in_function(self.language.options(), max_depth)
             .level_up()?;
-        let (key, function) = nested!(shared, self.parse_function(shared, &mut inner, deeper, private))?;
+        let (key, function) = nested!(
+            shared,
+            self.parse_function(shared, &mut inner, deeper, private)
+        )?;
         end_function(shared, key, function, settings.pos)
     }
 
@@ -83,7 +86,10 @@ impl<R: LentReaders> StmtReader<'_, R> {
         let opening = open_body(shared.input, &head.1)?;
         let deeper = settings.level_up_with_position(opening)?;
         declare_parameters(frame, &names)?;
-        let body = nested!(shared, parse_block(self.language, &self.readers, shared, frame, deeper))?;
+        let body = nested!(
+            shared,
+            parse_block(self.language, &self.readers, shared, frame, deeper)
+        )?;
         Ok(make_function(self.language.alloc(), private, head, names, body)?)
     }
 }

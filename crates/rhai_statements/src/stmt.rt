@@ -143,7 +143,10 @@ impl<R: LentReaders> StmtReader<'_, R> {
             }
             StatementStart::Function => {
                 skip(shared.input);
-                nested!(shared, self.parse_fn(shared, frame, settings, settings.pos, false))
+                nested!(
+                    shared,
+                    self.parse_fn(shared, frame, settings, settings.pos, false)
+                )
             }
             StatementStart::Private => {
                 skip(shared.input);
@@ -151,7 +154,10 @@ impl<R: LentReaders> StmtReader<'_, R> {
                 let pos = *pos;
                 let note = "after `private`";
                 match_token(self.language.alloc(), shared.input, DueToken::Fn, note)?;
-                nested!(shared, self.parse_fn(shared, frame, settings.at(pos), settings.pos, true))
+                nested!(
+                    shared,
+                    self.parse_fn(shared, frame, settings.at(pos), settings.pos, true)
+                )
             }
             StatementStart::Expression => {
                 let deeper = settings.level_up()?;
@@ -204,7 +210,10 @@ impl<R: LentReaders> StmtReader<'_, R> {
         if let Some(constant) = what_is_exported(shared.input)? {
             let deeper = settings.level_up()?;
             let (_, pos) = take(shared.input);
-            return nested!(shared, self.parse_let(shared, frame, deeper.at(pos), constant, true));
+            return nested!(
+                shared,
+                self.parse_let(shared, frame, deeper.at(pos), constant, true)
+            );
         }
         let (name, _) = parse_var_name(shared.input)?;
         let alias = next_alias(shared)?;

@@ -17,7 +17,7 @@ returns c =
     let x = pointer (rc_str_bytes c.args.name) c.args.params c.args.pos in
     let named : called c.in_ok-curry.curry ≡ curry (length us) = c.in_ok-curry.ensures.called (length us) c.in_ok-args.ensures.count in
     let is : view (expr.Stmt c.in_ok-new-3.field-0)
-        ≡ block_value (braces (one_statement (share (shared_names slots us) c.args.pos) (one_statement
-        (expression (call (curry (length us)) (one_node x (captured_nodes slots us)) c.args.pos)) no_statements))
-        c.args.pos nowhere) = search (rules, named, view_block, view_block_value, view_call, view_expression, view_pointer, view_share) in
+    ≡ block_value (braces (one_statement (share (shared_names slots us) c.args.pos) (one_statement
+    (expression (call (curry (length us)) (one_node x (captured_nodes slots us)) c.args.pos)) no_statements))
+    c.args.pos nowhere) = search (rules, named, view_block, view_block_value, view_call, view_expression, view_pointer, view_share) in
     is ∙ sym (closure_values c.args.pos x c.args.captured.now c.args.frame.now.live (search rules))

@@ -11,59 +11,59 @@ falls is below same = omega (arith, is, below, same)
 pub parse_expr-parse_expr-read-requires : goal.parse_expr-parse_expr-read-requires
 parse_expr-parse_expr-read-requires t c =
     let same = ap (need (expression c.args.language.now c.args.frame.now c.args.settings)) c.enter.ensures.enters ∙ c.decreases in record {
-  lent = λ m below. (
-    λ language shared frame settings is. ((falls is below same, tt), λ result after told. told.1),
-    λ language shared frame settings is. ((falls is below same, tt), λ result after told. told.1),
-    λ language shared frame settings kind is. ((falls is below same, tt), λ result after told. told.2),
-    λ language shared frame settings is. ((falls is below same, tt), λ result after told. told.1),
-    λ language shared frame settings is. ((falls is below same, tt), λ result after left told. told.1),
-  );
-}
+      lent = λ m below. (
+        λ language shared frame settings is. ((falls is below same, tt), λ result after told. told.1),
+        λ language shared frame settings is. ((falls is below same, tt), λ result after told. told.1),
+        λ language shared frame settings kind is. ((falls is below same, tt), λ result after told. told.2),
+        λ language shared frame settings is. ((falls is below same, tt), λ result after told. told.1),
+        λ language shared frame settings is. ((falls is below same, tt), λ result after left told. told.1),
+      );
+    }
 
 pub parse_primary-parse_primary-read-requires : goal.parse_primary-parse_primary-read-requires
 parse_primary-parse_primary-read-requires t c =
     let same = ap (need (primary c.args.language.now c.args.frame.now c.args.settings)) c.enter.ensures.enters ∙ c.decreases in record {
-  lent = λ m below. (
-    λ language shared frame settings is. ((falls is below same, tt), λ result after told. told.1),
-    λ language shared frame settings is. ((falls is below same, tt), λ result after told. told.1),
-    λ language shared frame settings kind is. ((falls is below same, tt), λ result after told. told.2),
-    λ language shared frame settings is. ((falls is below same, tt), λ result after told. told.1),
-    λ language shared frame settings is. ((falls is below same, tt), λ result after left told. told.1),
-  );
-}
+      lent = λ m below. (
+        λ language shared frame settings is. ((falls is below same, tt), λ result after told. told.1),
+        λ language shared frame settings is. ((falls is below same, tt), λ result after told. told.1),
+        λ language shared frame settings kind is. ((falls is below same, tt), λ result after told. told.2),
+        λ language shared frame settings is. ((falls is below same, tt), λ result after told. told.1),
+        λ language shared frame settings is. ((falls is below same, tt), λ result after left told. told.1),
+      );
+    }
 
 pub parse_construct-parse_construct-read-requires : goal.parse_construct-parse_construct-read-requires
 parse_construct-parse_construct-read-requires t c =
     let same = ap (need (construct c.args.language.now c.args.frame.now c.args.settings c.args.kind)) c.enter.ensures.enters ∙ c.decreases in record {
-  lent = λ m below. (
-    λ language shared frame settings is. ((falls is below same, tt), λ result after told. told.1),
-    λ language shared frame settings is. ((falls is below same, tt), λ result after told. told.1),
-    λ language shared frame settings kind is. ((falls is below same, tt), λ result after told. told.2),
-    λ language shared frame settings is. ((falls is below same, tt), λ result after told. told.1),
-    λ language shared frame settings is. ((falls is below same, tt), λ result after left told. told.1),
-  );
-}
+      lent = λ m below. (
+        λ language shared frame settings is. ((falls is below same, tt), λ result after told. told.1),
+        λ language shared frame settings is. ((falls is below same, tt), λ result after told. told.1),
+        λ language shared frame settings kind is. ((falls is below same, tt), λ result after told. told.2),
+        λ language shared frame settings is. ((falls is below same, tt), λ result after told. told.1),
+        λ language shared frame settings is. ((falls is below same, tt), λ result after left told. told.1),
+      );
+    }
 
 pub parse_block_inside-parse_block_inside-read-requires : goal.parse_block_inside-parse_block_inside-read-requires
 parse_block_inside-parse_block_inside-read-requires t c =
     let same = ap (need (inside c.args.language.now c.args.frame.now c.args.settings)) c.enter.ensures.enters ∙ c.decreases in record {
-  lent = λ m below. (
-    λ language shared frame settings is. ((falls is below same, tt), λ result after told. told.1),
-    λ language shared frame settings is. ((falls is below same, tt), λ result after told. told.1),
-    λ language shared frame settings kind is. ((falls is below same, tt), λ result after told. told.2),
-    λ language shared frame settings is. ((falls is below same, tt), λ result after told. told.1),
-    λ language shared frame settings is. ((falls is below same, tt), λ result after left told. told.1),
-  );
-}
+      lent = λ m below. (
+        λ language shared frame settings is. ((falls is below same, tt), λ result after told. told.1),
+        λ language shared frame settings is. ((falls is below same, tt), λ result after told. told.1),
+        λ language shared frame settings kind is. ((falls is below same, tt), λ result after told. told.2),
+        λ language shared frame settings is. ((falls is below same, tt), λ result after told. told.1),
+        λ language shared frame settings is. ((falls is below same, tt), λ result after left told. told.1),
+      );
+    }
 
 pub parse_stmt-parse_stmt-read-requires : goal.parse_stmt-parse_stmt-read-requires
 parse_stmt-parse_stmt-read-requires t c =
     let same = ap (need (statement c.args.language.now c.args.frame.now c.args.settings)) c.enter.ensures.enters ∙ c.decreases in record {
-  lent = λ m below. (
-    λ language shared frame settings is. ((falls is below same, tt), λ result after told. told.1),
-    λ language shared frame settings is. ((falls is below same, tt), λ result after told. told.1),
-    λ language shared frame settings kind is. ((falls is below same, tt), λ result after told. told.2),
-    λ language shared frame settings is. ((falls is below same, tt), λ result after told. told.1),
-    λ language shared frame settings is. ((falls is below same, tt), λ result after left told. told.1),
-  );
-}
+      lent = λ m below. (
+        λ language shared frame settings is. ((falls is below same, tt), λ result after told. told.1),
+        λ language shared frame settings is. ((falls is below same, tt), λ result after told. told.1),
+        λ language shared frame settings kind is. ((falls is below same, tt), λ result after told. told.2),
+        λ language shared frame settings is. ((falls is below same, tt), λ result after told. told.1),
+        λ language shared frame settings is. ((falls is below same, tt), λ result after left told. told.1),
+      );
+    }
