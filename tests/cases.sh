@@ -1,6 +1,7 @@
 #!/usr/bin/env bash
-# Runs the table of cases and an example, or only the files named, through the program, and prints each run that fails.
-# cases/README.md describes the format of a case. The last line counts the runs; the exit status is 1 if any failed.
+# Runs the table of cases and the examples that have an answer, or only the files named, through the program, and prints
+# each run that fails. cases/README.md describes the format of a case. The last line counts the runs; the exit status is
+# 1 if any failed.
 #
 # usage: tests/cases.sh [PROGRAM] [FILE.txt ..]
 #
@@ -104,16 +105,20 @@ read_file() {
     end_answer
 }
 
-# Runs the list of the example $1 with the words $2. Its answer is in the file beside it.
+# Runs the list of the example whose answer is the file $1 as a script, with the default options. Only `modules` runs
+# with `options=255`: there variables have to be known.
 run_example() {
-    file=$root/examples/$1.tokens
+    local words=script
+    file=${1%.out}.tokens
     title='as in the file beside it'
-    answer=$(cat "$root/examples/$1.out")$'\n'
+    answer=$(cat "$1")$'\n'
     cp "$file" "$folder/list"
-    run "$2" 0
+    [ "${file##*/}" != modules.tokens ] || words='script options=255'
+    run "$words" 0
 }
 
 files=("$root"/tests/cases/*.txt)
+answers=("$root"/examples/*.out)
 case ${1:-} in
 '' | *.txt) take_built_program ;;
 *)
@@ -122,10 +127,10 @@ case ${1:-} in
     shift
     ;;
 esac
-[ $# = 0 ] || files=("$@")
+[ $# = 0 ] || files=("$@") answers=()
 set -f # no globbing: the words of a run are only split at blanks
 
 for file in "${files[@]}"; do read_file; done
-[ $# != 0 ] || run_example modules 'script options=255'
+for file in "${answers[@]}"; do run_example "$file"; done
 echo "$passed passed, $failed failed"
 [ "$failed" = 0 ]

@@ -1,5 +1,5 @@
 #!/usr/bin/env bash
-# Prints how many microseconds a token takes, in scripts of 10,000, 100,000 and 1,000,000 tokens of eight kinds, for
+# Prints how many microseconds a token takes, in scripts of 10,000, 100,000 and 1,000,000 tokens of ten kinds, for
 # the program and for another one that is given, run in turn. It is no part of the gate. It fails if a token of the
 # longest script takes the program more than twice the time of one of the shortest.
 #
@@ -64,6 +64,13 @@ make_list() {
                     put("id i"); put("sym ??"); put("sym break"); put("id x")
                     for (i = 0; i < 18; i++) put("sym }")
                 }
+                if (kind == "functions") {
+                    put("sym fn"); put("id f" made); put("sym ("); put("id a"); put("sym )")
+                    put("sym {"); put("id a"); put("sym }")
+                }
+                if (kind == "closures") {
+                    put("sym |"); put("id a"); put("sym |"); put("id a"); put("sym +"); put("id b"); put("sym ;")
+                }
                 if (kind == "lists") { put("int 1"); put("sym ,") }
                 if (kind == "arms") { put("int 1"); put("sym =>"); put("int 2"); put("sym ,") }
             }
@@ -92,7 +99,7 @@ time_of() {
 printf '%-12s %9s' kind tokens
 for program in "${programs[@]}"; do printf '  %12s' "${program##*/}"; done
 echo
-for kind in statements variables modules blocks conditions loops lists arms; do
+for kind in statements variables modules blocks conditions loops functions closures lists arms; do
     for tokens in 10000 100000 1000000; do
         make_list "$kind" "$tokens" >"$folder/list"
         count=$(($(wc -l <"$folder/list") - 1))

@@ -2,7 +2,7 @@
 use Rattle.std.proofs.Common.{◌≡◌, ℕ, suc, zero, ◌+◌, ◌-◌, ◌/◌, ◌%◌, ◌^◌, ◌<◌, ◌∙◌, ◌==◌, Bool, true, false, cond, List, [], ◌∷◌, ◌++◌, length, replicate, ap, sym, refl, arith, append_assoc, append-nil, eqb-true, eq-eqb, pow-suc}
 use Rattle.std.specs.Fmt.{digits, digits_onto, padded_integral, format_spec, char_count}
 use Rattle.std.proofs.lemmas.List.{replicate_more}
-use Rattle.rhai_base.specs.ClosureNames.{hex_digit, last_hex_digits}
+use Rattle.rhai_grammar.specs.Closures.{hex_digit, last_hex_digits}
 
 -- the digits of 0 are zeros
 last-of-zero : (count : ℕ) → last_hex_digits count 0 ≡ replicate count 48

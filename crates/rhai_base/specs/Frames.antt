@@ -24,19 +24,22 @@ known_of k = record {
   modules = map rc_str_bytes k.modules.now;
 }
 
--- what is live, how many frames are around this one, which tokens an expression may have, and what is known around the
--- script
+-- What is live, how many frames are around this one, which tokens an expression may have, what is known around the
+-- script, and how many functions and closures have begun around the frame.
 pub record FrameValue : Type 0 where
   pub live : Live
   pub depth : ℕ
   pub filter : ExprFilter
   pub known : context.Known
+  pub begun : ℕ
 
--- A frame is as deep as it was, its expressions may contain the same tokens, and the same is known.
+-- A frame is as deep as it was, its expressions may contain the same tokens, the same is known, and as many functions
+-- have begun.
 pub record SamePlace (old new : FrameValue) : Type 0 where
   pub depth : new.depth ≡ old.depth
   pub filter : new.filter ≡ old.filter
   pub known : new.known ≡ old.known
+  pub begun : new.begun ≡ old.begun
 
 -- the slots of the frame around a frame, and of all frames around that one
 abbrev pub outer_slots : Option (Bor FrameValue) → List SlotValue

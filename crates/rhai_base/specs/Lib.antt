@@ -6,4 +6,5 @@ pub mod Index
 pub mod Libraries
 pub mod Settings
 pub mod States
+pub mod Uses
 pub mod Words

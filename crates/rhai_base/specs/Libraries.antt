@@ -1,5 +1,5 @@
 -- The functions of the code as plain data.
-use Rattle.std.specs.Prelude.{List, map}
+use Rattle.std.specs.Prelude.{◌≡◌, List, ◌++◌, map}
 use Rattle.std.specs.declared.alloc.Global.{Global}
 use Rattle.std.specs.declared.rc.Rc.{Rc}
 use Rattle.rhai_ast.specs.View.{function_view}
@@ -15,3 +15,11 @@ ended key function = record { key = key_of key; function = function_view functio
 -- the functions of the code by their keys, in the order in which they ended
 abbrev pub library_of : List (FnKey × Rc ScriptFuncDef Global) → Library
 library_of entries = map (λ e. ended e.0 e.1) entries
+
+-- A library begins with another one: it holds what that one holds, in this order, and more or nothing after it.
+unfoldable pub Begins : (held library : Library) → Type 0
+Begins held library = (more : Library) × (library ≡ held ++ more)
+
+-- What a library began with before, it begins with after.
+abbrev pub Grows : (before after : Library) → Type 0
+Grows before after = (held : Library) → Begins held before → Begins held after

@@ -2,7 +2,7 @@
 
 ghost use Rattle.std.specs.Prelude.{◌≡◌, IfOk};
 ghost use Rattle.std.specs.Rc.{rc_str_bytes};
-ghost use Rattle.rhai_base.specs.ClosureNames.{closure_name};
+ghost use Rattle.rhai_grammar.specs.Closures.{closure_name};
 
 use std::alloc::{AllocError, Global};
 use std::rc::RcStr;

@@ -1,10 +1,10 @@
 //! The functions of a script with an index of their names.
 
-ghost use Rattle.std.specs.Prelude.{◌≡◌, IfErr, OnErr, OnOk, false, length, nat_lt, true};
+ghost use Rattle.std.specs.Prelude.{◌≡◌, ◌+◌, IfErr, IfOk, OnErr, OnOk, false, length, nat_lt, true};
 ghost use Rattle.rhai_grammar.specs.Keys.{has_key, key_of, keys_of};
-ghost use Rattle.rhai_grammar.specs.Libraries.{is_function, keys_in, with_ended};
+ghost use Rattle.rhai_grammar.specs.Libraries.{closure_count, is_function, keys_in, with_ended};
 ghost use Rattle.rhai_base.specs.Index.{Agrees};
-ghost use Rattle.rhai_base.specs.Libraries.{ended, library_of};
+ghost use Rattle.rhai_base.specs.Libraries.{Grows, ended, library_of};
 ghost use Rattle.rhai_base.specs.Settings.{too_many_functions};
 
 use crate::library::{FnLib, has_function};
@@ -86,26 +86,38 @@ impl Library {
         self.functions.len()
     }
 
-    /// Refuses one more function where there are `limit` already. The error is `TooManyFunctions` at `pos`. Does not
-    /// allocate, and takes constant time.
-    pub fn test_room(&self, limit: usize, pos: Position) -> ParseResult<()>
-        ensures passes { OnOk result (nat_lt (length (library_of self.now)) limit ≡ true) }
-        ensures refused { IfErr result (λ e. (nat_lt (length (library_of self.now)) limit ≡ false)
+    /// Refuses one more function where there are `limit` already, with those that have begun around it. The result is how
+    /// many have begun around what is in it. The error is `TooManyFunctions` at `pos`. Does not allocate, and takes
+    /// constant time.
+    pub fn test_room(&self, limit: usize, begun: usize, pos: Position) -> ParseResult<usize>
+        ensures passes { IfOk result (λ inside. (nat_lt (length (library_of self.now) + begun) limit ≡ true)
+            × (inside ≡ begun + 1)) }
+        ensures refused { IfErr result (λ e. (nat_lt (length (library_of self.now) + begun) limit ≡ false)
             × (e ≡ too_many_functions pos)) }
     {
-        if self.len() < limit {
-            return Ok(());
+        let ended = self.len();
+        if ended < limit && begun < limit - ended {
+            return Ok(begun + 1);
         }
         Err(ParseError(ParseErrorType::TooManyFunctions, pos))
     }
 
+    /// The number of closures. Does not allocate, and takes constant time.
+    #[tactic(auto, using(crate::proofs::LibraryLemmas::same_keys))]
+    pub fn closure_count(&self) -> usize
+        ensures { result ≡ closure_count (library_of self.now) }
+    {
+        self.names.closure_count()
+    }
+
     /// Appends a function. The caller has to prove that no function has its key yet. Returns `AllocError` if memory
     /// runs out; then nothing changes.
-    #[tactic(auto, using(crate::proofs::LibraryLemmas::same_keys, crate::proofs::LibraryLemmas::one_more))]
+    #[tactic(auto, using(crate::proofs::LibraryLemmas::same_keys, crate::proofs::LibraryLemmas::one_more, crate::proofs::LibraryLemmas::grows_ended, crate::proofs::LibraryLemmas::grows_same))]
     pub fn add(&mut self, key: FnKey, function: Rc<ScriptFuncDef>) -> Result<(), AllocError>
         requires { has_key (key_of key) (keys_in (library_of self.old)) ≡ false }
         ensures ok { OnOk result (library_of self.new ≡ with_ended (library_of self.old) (ended key function)) }
         ensures err { OnErr result (self.new ≡ self.old) }
+        ensures grows { Grows (library_of self.old) (library_of self.new) }
     {
         self.names.add_function(&mut self.functions, key, function)
     }

@@ -1,6 +1,6 @@
 //! What is live in a block, and which tokens its expressions may contain.
 
-ghost use Rattle.std.specs.Prelude.{◌≡◌, ◌||◌, ◌++◌, IfErr, IfOk, OnOk, codes, false, length, map, not};
+ghost use Rattle.std.specs.Prelude.{◌≡◌, ◌&&◌, ◌||◌, ◌++◌, IfErr, IfOk, OnOk, codes, false, length, map, not};
 ghost use Rattle.std.specs.Prelude.{option_map, true};
 ghost use Rattle.std.specs.Option.{is_some};
 ghost use Rattle.std.specs.Int.NonZero.{non_zero_usize_get};
@@ -52,6 +52,8 @@ pub struct Frame<'p> {
     filter: ExprFilter,
     // What is known around the script.
     known: Known<'p>,
+    // How many functions and closures have begun around this frame.
+    begun: usize,
 }
 
 impl<'p> Model for Frame<'p> {
@@ -70,6 +72,7 @@ impl<'p> Model for Frame<'p> {
       depth = outer_depth f.outer;
       filter = f.filter;
       known = known_of f.known;
+      begun = f.begun;
     } };
 
     ghost invariant = { λ f. IsCounted f.outer f.below f.stack f.above f.imports.items };
@@ -84,19 +87,21 @@ impl<'p> Model for Frame<'p> {
 impl<'p> Frame<'p> {
     /// The outermost frame, of a block that begins after the oldest `block` slots of `stack` and after all of
     /// `imports`. Its expressions may contain the tokens that `filter` lets pass. `known` is what is known around the
-    /// script. Does not allocate.
+    /// script, and `begun` functions and closures have begun around it. Does not allocate.
     pub fn new(
         stack: Scope,
         block: usize,
         imports: Vec<RcStr>,
         filter: ExprFilter,
         known: Known<'p>,
+        begun: usize,
     ) -> Frame<'p>
         ensures { result ≡ record {
           live = record { slots = stack; block = block; imports = map rc_str_bytes imports.items };
           depth = 0;
           filter = filter;
           known = known_of known.entry;
+          begun = begun;
         } }
     {
         let below = 0;
@@ -110,6 +115,7 @@ impl<'p> Frame<'p> {
             imports,
             filter,
             known,
+            begun,
         }
     }
 
@@ -119,6 +125,7 @@ impl<'p> Frame<'p> {
         ensures live { result.live ≡ in_block self.now.live }
         ensures filter { result.filter ≡ self.now.filter }
         ensures known { result.known ≡ self.now.known }
+        ensures begun { result.begun ≡ self.now.begun }
     {
         self.inner_with(alloc, self.filter)
     }
@@ -129,6 +136,7 @@ impl<'p> Frame<'p> {
         ensures live { result.live ≡ in_block self.now.live }
         ensures filter { result.filter ≡ AllButPipe }
         ensures known { result.known ≡ self.now.known }
+        ensures begun { result.begun ≡ self.now.begun }
     {
         self.inner_with(alloc, ExprFilter::AllButPipe)
     }
@@ -138,6 +146,7 @@ impl<'p> Frame<'p> {
         ensures live { result.live ≡ in_block self.now.live }
         ensures filter { result.filter ≡ filter }
         ensures known { result.known ≡ self.now.known }
+        ensures begun { result.begun ≡ self.now.begun }
     {
         Frame {
             outer: Some(self),
@@ -148,18 +157,20 @@ impl<'p> Frame<'p> {
             imports: Vec::new(alloc),
             filter,
             known: self.known,
+            begun: self.begun,
         }
     }
 
-    /// The frame of a function that stands in this one, in which nothing is live: it knows the same as this one, and of
-    /// modules the `imports`, which the caller takes from `all_imports`. Its expressions may contain every token. Does
-    /// not allocate.
-    pub fn in_function<'f>(&'f self, alloc: Global, imports: &'f [RcStr]) -> Frame<'f>
+    /// The frame of a function or closure that stands in this one, in which nothing is live: it knows the same as this
+    /// one, and of modules the `imports`, which the caller takes from `all_imports`. `begun` functions and closures have
+    /// begun around it, itself included. Its expressions may contain every token. Does not allocate.
+    pub fn in_function<'f>(&'f self, alloc: Global, imports: &'f [RcStr], begun: usize) -> Frame<'f>
         ensures { result ≡ record {
           live = nothing_live;
           depth = 0;
           filter = All;
           known = record self.now.known { imports = map rc_str_bytes imports.now };
+          begun = begun;
         } }
     {
         let known = Known {
@@ -168,7 +179,7 @@ impl<'p> Frame<'p> {
             modules: self.known.modules,
         };
         let filter = ExprFilter::All;
-        Frame::new(Scope::new(alloc), 0, Vec::new(alloc), filter, known)
+        Frame::new(Scope::new(alloc), 0, Vec::new(alloc), filter, known, begun)
     }
 
     /// The names of the modules that were imported around the script, and then of those that are live here. The error
@@ -192,6 +203,13 @@ impl<'p> Frame<'p> {
             outer.push_imports(all)?;
         }
         push_names(all, &self.imports)
+    }
+
+    /// How many functions and closures have begun around this frame. Does not allocate.
+    pub fn begun(&self) -> usize
+        ensures { result ≡ self.now.begun }
+    {
+        self.begun
     }
 
     /// Which tokens the expressions in this block may contain. Does not allocate.
@@ -344,6 +362,15 @@ impl<'p> Frame<'p> {
             || self.known.declares(name)
     }
 
+    /// Whether the variable `name`, used in a closure or not, as `closure` says, is one that the closure captures: no slot
+    /// has the name, and no function of the library. Does not allocate.
+    pub fn is_captured(&self, closure: bool, library: &Library, name: &str) -> bool
+        ensures { result ≡ (closure && not (is_some (number name.now self.now.live.slots)
+            || is_function (library_of library.now) name.now)) }
+    {
+        closure && !(self.place_of(name).is_some() || library.is_function(name))
+    }
+
     /// Whether a path may begin with `name`: under strict variables, which `strict` says, it is the name of an import,
     /// here or around the script, `global`, or the name of one of the engine's modules. Does not allocate.
     pub fn may_enter(&self, strict: bool, name: &str) -> bool
@@ -394,7 +421,7 @@ impl<'p> Frame<'p> {
 }
 
 // Adds names to others. The error is that there is no memory for them.
-fn push_names(all: &mut Vec<RcStr>, names: &[RcStr]) -> Result<(), AllocError>
+pub(crate) fn push_names(all: &mut Vec<RcStr>, names: &[RcStr]) -> Result<(), AllocError>
     ensures { OnOk result (map rc_str_bytes all.new.items
         ≡ map rc_str_bytes all.old.items ++ map rc_str_bytes names.now) }
 {

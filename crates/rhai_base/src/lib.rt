@@ -2,7 +2,9 @@
 //! imports, the library of functions, the nodes of values and names.
 #![tactic(auto)]
 
+pub mod captured;
 pub mod closure_name;
+pub mod closures;
 pub mod counts;
 pub mod ended;
 pub mod flags;

@@ -4,11 +4,13 @@ ghost use Rattle.std.specs.Prelude.{◌≡◌, IfErr, OnOk, false, true};
 ghost use Rattle.rhai_grammar.specs.Constructs.{may_be_value};
 ghost use Rattle.rhai_grammar.specs.Contexts.{Context, allows_looping};
 ghost use Rattle.rhai_grammar.specs.Settings.{at_global_level, in_loop};
+ghost use Rattle.rhai_grammar.specs.Starts.{may_be_closure};
 ghost use Rattle.rhai_base.specs.Settings.{no_export, no_function, no_loop, settings_of};
 
 use crate::flags::{LangOptions, ParseSettingFlags};
 use crate::settings::ParseSettings;
-use rhai_grammar::{Construct, ParseError, ParseErrorType, ParseResult};
+use rhai_grammar::role::Bars;
+use rhai_grammar::{Construct, ExprFilter, ParseError, ParseErrorType, ParseResult};
 use rhai_lower::Position;
 
 /// Whether a construct may be an operand under these settings: each kind has an option of its own, and `try` is none.
@@ -25,6 +27,19 @@ pub fn may_be_value(settings: ParseSettings, looping: bool, construct: Construct
             looping && settings.has_option(LangOptions::LOOP_EXPR)
         }
         Construct::Try => false,
+    }
+}
+
+/// Whether a closure may be an operand under these settings. Where an expression may not
+/// contain `|`, as `filter` says, none begins with it.
+pub fn may_be_closure(settings: ParseSettings, filter: ExprFilter, bars: Bars) -> bool
+    ensures { (context : Context) → context.settings ≡ settings_of settings → context.filter ≡ filter
+        → result ≡ may_be_closure context bars }
+{
+    let values = settings.has_option(LangOptions::ANON_FN);
+    match bars {
+        Bars::Pair => values,
+        Bars::List => values && matches!(filter, ExprFilter::All),
     }
 }
 

@@ -2,7 +2,7 @@
 
 ghost use Rattle.std.specs.Prelude.{◌≡◌, ◌==◌};
 ghost use Rattle.std.specs.Int.RustNames.{bit_and};
-ghost use Rattle.rhai_grammar.specs.Settings.{below_global_level, function_settings, loop_body};
+ghost use Rattle.rhai_grammar.specs.Settings.{below_global_level, closure_settings, function_settings, loop_body};
 ghost use Rattle.rhai_base.specs.Settings.{settings_of, Raises, RaisesInRun};
 
 use crate::flags::{LangOptions, ParseSettingFlags};
@@ -121,6 +121,24 @@ impl ParseSettings {
             level: 0,
             pos: self.pos,
             max_expr_depth: max_depth,
+        }
+    }
+
+    /// The settings in a closure, at the old position: the level and its limit stay. The parts of the language are those
+    /// of `options`, without strict variables. Of the flags stay that blocks hold a single statement and that keys of
+    /// object maps have to be strings. Does not allocate.
+    pub fn in_closure(&self, options: LangOptions) -> Self
+        ensures settings { settings_of result ≡ closure_settings (settings_of self.now) options.0 }
+        ensures position { result.pos ≡ self.now.pos }
+    {
+        let kept = ParseSettingFlags::DISALLOW_STATEMENTS_IN_BLOCKS
+            | ParseSettingFlags::DISALLOW_UNQUOTED_MAP_PROPERTIES;
+        ParseSettings {
+            flags: ParseSettingFlags::FN_SCOPE
+                | ParseSettingFlags::CLOSURE_SCOPE
+                | (self.flags & kept),
+            options: options - LangOptions::STRICT_VAR,
+            ..*self
         }
     }
 

@@ -4,6 +4,4 @@
 #[cfg(test)]
 mod allocation;
 #[cfg(test)]
-mod later_forms;
-#[cfg(test)]
 mod text_mode;

@@ -41,10 +41,13 @@ impl<R: LentReaders> ConstructReader<'_, R> {
     {
         match kind {
             Construct::Block => {
-                let block = parse_block(self.language, &self.readers, shared, frame, settings)?;
+                let block = nested!(
+                    shared,
+                    parse_block(self.language, &self.readers, shared, frame, settings)
+                )?;
                 Ok(make_block_statement(self.language.alloc(), block)?)
             }
-            Construct::If => self.parse_if(shared, frame, settings),
+            Construct::If => nested!(shared, self.parse_if(shared, frame, settings)),
             Construct::While => self.parse_while(shared, frame, settings),
             Construct::Loop => self.parse_loop(shared, frame, settings),
             Construct::Do => self.parse_do(shared, frame, settings),
@@ -69,9 +72,9 @@ impl<R: LentReaders> ConstructReader<'_, R> {
         ensures reads { Reads (conditional self.now.language.now frame.now settings) statement_view shared.old result
             shared.new }
     {
-        let guard = self.parse_guard(shared, frame, settings)?;
-        let body = self.parse_braces(shared, frame, settings)?;
-        let branch = self.parse_else(shared, frame, settings)?;
+        let guard = nested!(shared, self.parse_guard(shared, frame, settings))?;
+        let body = nested!(shared, self.parse_braces(shared, frame, settings))?;
+        let branch = nested!(shared, self.parse_else(shared, frame, settings))?;
         Ok(make_if(self.language.alloc(), guard, body, branch, settings.pos)?)
     }
 
@@ -97,10 +100,10 @@ impl<R: LentReaders> ConstructReader<'_, R> {
         let (_, pos) = peek(shared.input)?;
         let pos = *pos;
         if !pass_token(shared.input, DueToken::If)? {
-            return self.parse_braces(shared, frame, settings);
+            return nested!(shared, self.parse_braces(shared, frame, settings));
         }
         let deeper = settings.level_up_with_position(pos)?;
-        let statement = self.parse_if(shared, frame, deeper)?;
+        let statement = nested!(shared, self.parse_if(shared, frame, deeper))?;
         Ok(StmtBlock::from_stmt(self.language.alloc(), statement)?)
     }
 
@@ -161,7 +164,10 @@ impl<R: LentReaders> ConstructReader<'_, R> {
     {
         let opening = begin_block(self.language.alloc(), shared, "to begin this block")?;
         let deeper = settings.level_up_with_position(opening)?;
-        parse_block(self.language, &self.readers, shared, frame, deeper)
+        nested!(
+            shared,
+            parse_block(self.language, &self.readers, shared, frame, deeper)
+        )
     }
 
     /// Reads a `while` after its keyword, where the settings stand.
@@ -179,8 +185,11 @@ impl<R: LentReaders> ConstructReader<'_, R> {
             result
             shared.new }
     {
-        let guard = self.parse_guard(shared, frame, settings)?;
-        let body = self.parse_braces(shared, frame, settings.loop_body())?;
+        let guard = nested!(shared, self.parse_guard(shared, frame, settings))?;
+        let body = nested!(
+            shared,
+            self.parse_braces(shared, frame, settings.loop_body())
+        )?;
         Ok(make_while(self.language.alloc(), guard, body, settings.pos)?)
     }
 
@@ -199,7 +208,10 @@ impl<R: LentReaders> ConstructReader<'_, R> {
             result
             shared.new }
     {
-        let body = self.parse_braces(shared, frame, settings.loop_body())?;
+        let body = nested!(
+            shared,
+            self.parse_braces(shared, frame, settings.loop_body())
+        )?;
         Ok(make_while(
             self.language.alloc(),
             Expr::Unit(Position::NONE),
@@ -222,9 +234,12 @@ impl<R: LentReaders> ConstructReader<'_, R> {
         ensures reads { Reads (construct self.now.language.now frame.now settings Do) statement_view shared.old result
             shared.new }
     {
-        let body = self.parse_braces(shared, frame, settings.loop_body())?;
+        let body = nested!(
+            shared,
+            self.parse_braces(shared, frame, settings.loop_body())
+        )?;
         let negated = next_do_end(self.language.alloc(), shared)?;
-        let guard = self.parse_guard(shared, frame, settings)?;
+        let guard = nested!(shared, self.parse_guard(shared, frame, settings))?;
         Ok(make_do(self.language.alloc(), guard, body, negated, settings.pos)?)
     }
 
@@ -244,9 +259,12 @@ impl<R: LentReaders> ConstructReader<'_, R> {
             shared.new }
     {
         let names = next_loop_names(self.language.alloc(), shared)?;
-        let over = self.parse_iterated(shared, frame, settings)?;
+        let over = nested!(shared, self.parse_iterated(shared, frame, settings))?;
         let inner = loop_frame(self.language.alloc(), frame, &names)?;
-        let body = self.parse_braces(shared, &inner, settings.loop_body())?;
+        let body = nested!(
+            shared,
+            self.parse_braces(shared, &inner, settings.loop_body())
+        )?;
         Ok(make_for(
             self.language.alloc(),
             names.name,
@@ -273,10 +291,10 @@ impl<R: LentReaders> ConstructReader<'_, R> {
             result
             shared.new }
     {
-        let body = self.parse_braces(shared, frame, settings)?;
+        let body = nested!(shared, self.parse_braces(shared, frame, settings))?;
         let name = next_catch(self.language.alloc(), shared)?;
         let inner = catch_frame(self.language.alloc(), frame, &name)?;
-        let handler = self.parse_braces(shared, &inner, settings)?;
+        let handler = nested!(shared, self.parse_braces(shared, &inner, settings))?;
         Ok(make_try(self.language.alloc(), body, name, handler, settings.pos)?)
     }
 }

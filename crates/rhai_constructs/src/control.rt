@@ -137,6 +137,7 @@ pub(crate) fn loop_frame<'f>(
         ≡ loop_live (rc_str_bytes names.now.name) (option_map rc_str_bytes names.now.counter) frame.now.live) }
     ensures filter { IfOk result (λ inner. inner.filter ≡ frame.now.filter) }
     ensures known { IfOk result (λ inner. inner.known ≡ frame.now.known) }
+    ensures begun { IfOk result (λ inner. inner.begun ≡ frame.now.begun) }
 {
     let mut inner = frame.inner(alloc);
     if let Some(counter) = &names.counter {
@@ -156,6 +157,7 @@ pub(crate) fn catch_frame<'f>(
         ≡ catch_live (caught_name (option_map name_view name.now)) frame.now.live) }
     ensures filter { IfOk result (λ inner. inner.filter ≡ frame.now.filter) }
     ensures known { IfOk result (λ inner. inner.known ≡ frame.now.known) }
+    ensures begun { IfOk result (λ inner. inner.begun ≡ frame.now.begun) }
 {
     let mut inner = frame.inner(alloc);
     if let Some((name, _)) = name {

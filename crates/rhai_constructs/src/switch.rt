@@ -74,13 +74,16 @@ impl<R: LentReaders> ConstructReader<'_, R> {
             match next_arm(self.language.alloc(), shared.input)? {
                 NextArm::End => return Ok(arms),
                 NextArm::Default(pos) => {
-                    let action = self.parse_default_arm(shared, frame, settings, pos)?;
+                    let action = nested!(
+                        shared,
+                        self.parse_default_arm(shared, frame, settings, pos)
+                    )?;
                     push_default(&mut arms, action)?;
                     return Ok(arms);
                 }
                 NextArm::Case => {}
             }
-            let arm = self.parse_arm(shared, frame, settings, &arms)?;
+            let arm = nested!(shared, self.parse_arm(shared, frame, settings, &arms))?;
             push_arm(
                 self.language.alloc(),
                 &mut arms,
@@ -110,14 +113,14 @@ impl<R: LentReaders> ConstructReader<'_, R> {
             (left (state_of shared.new).cursor.tokens + 1 ≤ left (state_of shared.old).cursor.tokens) }
     {
         let cases = self.parse_cases(shared, frame, settings)?;
-        let guard = self.parse_case_guard(shared, frame, settings)?;
+        let guard = nested!(shared, self.parse_case_guard(shared, frame, settings))?;
         match_token(
             self.language.alloc(),
             shared.input,
             DueToken::DoubleArrow,
             "after the cases of this arm",
         )?;
-        let does = self.parse_action(shared, frame, settings)?;
+        let does = nested!(shared, self.parse_action(shared, frame, settings))?;
         end_arm(self.language.alloc(), shared, before, cases, guard, does)
     }
 
@@ -143,7 +146,7 @@ impl<R: LentReaders> ConstructReader<'_, R> {
             DueToken::DoubleArrow,
             "after the `_` of this arm",
         )?;
-        let does = self.parse_action(shared, frame, settings)?;
+        let does = nested!(shared, self.parse_action(shared, frame, settings))?;
         end_default(self.language.alloc(), shared, does, default)
     }
 
@@ -163,7 +166,7 @@ impl<R: LentReaders> ConstructReader<'_, R> {
     {
         let mut cases = Vec::new(self.language.alloc());
         loop {
-            let case = self.parse_case(shared, frame, settings)?;
+            let case = nested!(shared, self.parse_case(shared, frame, settings))?;
             cases.push(case)?;
             if pass_token(shared.input, DueToken::Pipe)? {
                 continue;
@@ -208,7 +211,7 @@ impl<R: LentReaders> ConstructReader<'_, R> {
         if !pass_token(shared.input, DueToken::If)? {
             return Ok(no_guard());
         }
-        self.parse_guard(shared, frame, settings)
+        nested!(shared, self.parse_guard(shared, frame, settings))
     }
 
     /// Reads what an arm does: a statement in a block of its own, or where blocks are single expressions, an

@@ -11,7 +11,7 @@ use Rattle.rhai_grammar.specs.declared.filter.ExprFilter.{ExprFilter}
 use Rattle.rhai_grammar.specs.Settings.{Settings}
 use Rattle.rhai_reading.specs.Reading.{Called, Ret, next_operator_at, NextOperator}
 use Rattle.rhai_reading.specs.Running as R
-use Rattle.rhai_reading.specs.Running.{Gives, Progress, asked, exec, guarded, looking, result_of}
+use Rattle.rhai_reading.specs.Running.{Gives, Progress, asked, exec, guarded, looking, nested, result_of}
 use Rattle.rhai_reading.proofs.Steps.{step_next_operator}
 use Rattle.rhai_leaves.specs.Operators.{operator_found}
 use Rattle.rhai_expressions.specs.Asks.{operator_pair}
@@ -65,6 +65,7 @@ under language frame c = record {
   sizes = sizes_of language;
   filter = frame.filter;
   known = frame.known;
+  begun = frame.begun;
 }
 
 -- Settings that differ in their position alone make one context.
@@ -74,8 +75,8 @@ same_context language frame c d e = ap (under language frame) e
 -- What calls a name is read alike under settings that differ in their position alone.
 pub same_called : (language : LanguageValue) (frame : FrameValue) (c d : ParseSettings) (at : Position) (q r : Bool) (t : Progress)
     → settings_of c ≡ settings_of d → c.pos ≡ at → q ≡ r
-    → result_of (called language frame c q) t ≡ result_of (Called (context_of language frame d) (live_of frame) at r) t
+    → nested (result_of (called language frame c q)) t ≡ nested (result_of (Called (context_of language frame d) (live_of frame) at r)) t
 same_called language frame c d at q r t same stands is =
-    ap (λ k. result_of (Called k (live_of frame) c.pos q) t) (same_context language frame c d same)
-    ∙ ap (λ p. result_of (Called (context_of language frame d) (live_of frame) p q) t) stands
-    ∙ ap (λ b. result_of (Called (context_of language frame d) (live_of frame) at b) t) is
+    ap (λ k. nested (result_of (Called k (live_of frame) c.pos q)) t) (same_context language frame c d same)
+    ∙ ap (λ p. nested (result_of (Called (context_of language frame d) (live_of frame) p q)) t) stands
+    ∙ ap (λ b. nested (result_of (Called (context_of language frame d) (live_of frame) at b)) t) is

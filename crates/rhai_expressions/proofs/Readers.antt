@@ -1,32 +1,32 @@
 -- What the proofs of the readers rest on: for each reader its equation, and what it makes of what it read.
 use Rattle.rhai_ast.proofs.Views.{view_property, view_unit, view_variable, views_push}
 use Rattle.rhai_reading.proofs.Outcomes.{bang_refused, operand_other, operand_sign, sign_outcome}
-use Rattle.rhai_reading.proofs.Steps.{step_arguments, step_binary_op, step_called, step_expression, step_index, step_items, step_links, step_member, step_operand, step_path, step_postfix, step_right_operand}
+use Rattle.rhai_reading.proofs.Steps.{nested_so, step_arguments, step_binary_op, step_called, step_expression, step_index, step_items, step_links, step_member, step_operand, step_path, step_postfix, step_right_operand}
 use Rattle.rhai_trees.proofs.ChainLemmas.{indexed_after, links_push}
 use Rattle.rhai_language.proofs.Readers.{calls_of_readers, readers}
 
 pub ruleset paths = (calls_of_readers, step_path)
 
-pub ruleset parse_expr = (readers, step_expression)
+pub ruleset parse_expr = (readers, nested_so, step_expression)
 
-pub ruleset parse_unary = (readers, step_operand, operand_sign, sign_outcome)
+pub ruleset parse_unary = (readers, nested_so, step_operand, operand_sign, sign_outcome)
 
-pub ruleset parse_unsigned = (readers, step_operand, operand_other)
+pub ruleset parse_unsigned = (readers, nested_so, step_operand, operand_other)
 
-pub ruleset parse_postfix = (readers, step_postfix, view_variable)
+pub ruleset parse_postfix = (readers, nested_so, step_postfix, view_variable)
 
 pub ruleset parse_fn_call_args = (readers, step_arguments)
 
 pub ruleset parse_items = (readers, step_items, views_push)
 
-pub ruleset parse_right_operand = (readers, step_right_operand, view_unit)
+pub ruleset parse_right_operand = (readers, nested_so, step_right_operand, view_unit)
 
-pub ruleset parse_binary_op = (readers, step_binary_op)
+pub ruleset parse_binary_op = (readers, nested_so, step_binary_op)
 
-pub ruleset parse_call = (readers, step_called, bang_refused)
+pub ruleset parse_call = (readers, nested_so, step_called, bang_refused)
 
-pub ruleset parse_links = (readers, step_links, links_push, indexed_after)
+pub ruleset parse_links = (readers, nested_so, step_links, links_push, indexed_after)
 
 pub ruleset parse_index = (readers, step_index)
 
-pub ruleset parse_member = (readers, step_member, view_property)
+pub ruleset parse_member = (readers, nested_so, step_member, view_property)

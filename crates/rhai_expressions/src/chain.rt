@@ -60,7 +60,7 @@ impl<R: LentReaders> ExprReader<'_, R> {
             }
             Calling::List => {
                 skip(shared.input);
-                match self.parse_fn_call_args(shared, frame, settings) {
+                match nested!(shared, self.parse_fn_call_args(shared, frame, settings)) {
                     Ok(args) => Ok(Call { bang, args }),
                     Err(error) => Err(error),
                 }
@@ -101,7 +101,7 @@ impl<R: LentReaders> ExprReader<'_, R> {
                     brackets = brackets.at(pos).level_up()?;
                     let deeper = brackets.level_up()?;
                     let indexed = indexed_operand(lhs, &links);
-                    let item = self.parse_index(shared, frame, deeper, indexed)?;
+                    let item = nested!(shared, self.parse_index(shared, frame, deeper, indexed))?;
                     links.push(Link {
                         kind: LinkKind::Index,
                         negated,
@@ -115,7 +115,7 @@ impl<R: LentReaders> ExprReader<'_, R> {
                     member_due(shared.input)?;
                     settings = settings.at(pos).level_up()?;
                     brackets = settings;
-                    let item = self.parse_member(shared, frame, settings)?;
+                    let item = nested!(shared, self.parse_member(shared, frame, settings))?;
                     links.push(Link {
                         kind: LinkKind::Dot,
                         negated,
@@ -174,7 +174,10 @@ impl<R: LentReaders> ExprReader<'_, R> {
         let is_name = is_name(token);
         skip(shared.input);
         if is_called(shared.input)? {
-            let call = self.parse_call(shared, frame, settings.at(pos), false)?;
+            let call = nested!(
+                shared,
+                self.parse_call(shared, frame, settings.at(pos), false)
+            )?;
             return Ok(make_method(self.language.alloc(), name, pos, call)?);
         }
         if !is_name {

@@ -55,7 +55,10 @@ impl<R: LentReaders> ExprReader<'_, R> {
             return Ok(Expr::Variable(name, pos));
         }
         let qualified = is_qualified_name(&name);
-        let call = self.parse_call(shared, frame, settings.at(pos), qualified)?;
+        let call = nested!(
+            shared,
+            self.parse_call(shared, frame, settings.at(pos), qualified)
+        )?;
         test_path(frame, settings, &name, pos)?;
         Ok(make_call(self.language.alloc(), name, pos, call)?)
     }
@@ -147,7 +150,7 @@ impl<R: LentReaders> ExprReader<'_, R> {
                 )?;
                 Ok(make_statement_value(self.language.alloc(), jump)?)
             }
-            OperandStart::Written => self.parse_unary(shared, frame, settings),
+            OperandStart::Written => nested!(shared, self.parse_unary(shared, frame, settings)),
         }
     }
 
@@ -170,7 +173,7 @@ impl<R: LentReaders> ExprReader<'_, R> {
         }
         let (sign, pos) = take(shared.input);
         let settings = settings.at(pos).level_up()?;
-        let operand = self.parse_unary(shared, frame, settings)?;
+        let operand = nested!(shared, self.parse_unary(shared, frame, settings))?;
         make_unary(self.language.alloc(), sign, pos, operand)
     }
 
@@ -193,7 +196,7 @@ impl<R: LentReaders> ExprReader<'_, R> {
         let primary = self
             .readers
             .parse_primary(self.language, shared, frame, settings)?;
-        let operand = self.parse_postfix(shared, frame, settings, primary)?;
+        let operand = nested!(shared, self.parse_postfix(shared, frame, settings, primary))?;
         match self.parse_links(shared, frame, settings, &operand) {
             Ok(links) => end_operand(self.language.alloc(), frame, settings, operand, links),
             Err(error) => Err(error),
@@ -230,7 +233,10 @@ impl<R: LentReaders> ExprReader<'_, R> {
             }
             let (op_token, pos) = take(shared.input);
             let place = place_after(&op_token);
-            let rhs = self.parse_right_operand(shared, frame, settings, place)?;
+            let rhs = nested!(
+                shared,
+                self.parse_right_operand(shared, frame, settings, place)
+            )?;
             // A reserved symbol after the operand is refused before the level is raised.
             next_operator(self.language.alloc(), frame.filter(), shared)?;
             let deeper = settings.level_up_in_run(pos)?;
@@ -258,7 +264,7 @@ impl<R: LentReaders> ExprReader<'_, R> {
     {
         let (_, pos) = peek(shared.input)?;
         let settings = settings.at(*pos).level_up()?;
-        let lhs = self.parse_unary(shared, frame, settings)?;
+        let lhs = nested!(shared, self.parse_unary(shared, frame, settings))?;
         self.parse_binary_op(shared, frame, settings, 1, lhs)
     }
 }

@@ -8,7 +8,10 @@ use Rattle.rhai_grammar.specs.declared.role.Construct.TheVariants as construct
 use Rattle.rhai_grammar.specs.Beginnings.{beginning, is_range, is_sign, is_value}
 use Rattle.rhai_grammar.specs.Constructs.{construct_token, may_be_value}
 use Rattle.rhai_grammar.specs.Contexts.{Context}
-use Rattle.rhai_grammar.specs.Starts.{begins}
+use Rattle.rhai_grammar.specs.Closures.{bars_token}
+use Rattle.rhai_grammar.specs.Starts.{begins, may_be_closure}
+use Rattle.rhai_grammar.specs.declared.role.Bars.{Bars}
+use Rattle.rhai_grammar.specs.declared.role.Bars.TheVariants as bars
 
 pub value_begins : (c : Context) (b : Beginning) → is_value b ≡ true → begins c b ≡ true
 value_begins c begin.Value e = refl
@@ -27,6 +30,11 @@ construct_begins c construct.While e = e
 construct_begins c construct.Loop e = e
 construct_begins c construct.Do e = e
 construct_begins c construct.For e = e
+
+pub closure_begins : (c : Context) (b : Bars) → may_be_closure c b ≡ true
+    → begins c (beginning (Sign (bars_token b))) ≡ true
+closure_begins c bars.Pair e = e
+closure_begins c bars.List e = e
 
 pub range_begins : (c : Context) (b : Beginning) → is_range b ≡ true → begins c b ≡ true
 range_begins c begin.Range e = refl

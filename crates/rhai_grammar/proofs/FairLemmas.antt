@@ -20,8 +20,10 @@ use Rattle.rhai_grammar.specs.Causes.{Refusal}
 use Rattle.rhai_grammar.specs.Chains.{index_refusal, last_fault}
 use Rattle.rhai_grammar.specs.Contexts.{Context, Live, in_block, level_up, loop_body}
 use Rattle.rhai_grammar.specs.Delivered as M
-use Rattle.rhai_grammar.specs.Delivered.{Item, Mode, Point, adding, is_memory, next_at, past}
-use Rattle.rhai_grammar.specs.Demands.{◌▸◌, Ahead, Blames, Adds, Demands, NextIn, TestIn, Fine, Literally, Met, Missed, Next, Nothing, Otherwise, Refused, Refuses, Shape, Test, Tok, Verdict, Wrong, verdict}
+use Rattle.rhai_grammar.specs.Delivered.{Item, Mode, Point, adding, apart, capturing, with_captured, is_memory, next_at, past}
+use Rattle.rhai_grammar.specs.CommaLists.{closing_of}
+use Rattle.rhai_grammar.specs.Functions.{parameter_due}
+use Rattle.rhai_grammar.specs.Demands.{◌▸◌, Apart, Captures, Uses, Ahead, Blames, Adds, Demands, TestIn, Fine, Literally, Met, Missed, Next, Nothing, Otherwise, Refused, Refuses, Shape, Test, Tok, Verdict, Wrong, verdict}
 use Rattle.rhai_grammar.specs.Forms as form
 use Rattle.rhai_grammar.specs.Forms.{Arguments, Base, Body, Branch, CatchName, Conditional, Construct, Elements, ExprStatement, Fields, Initializer, Items, JumpValue, Links, LoopNames, Operand, Primary, Run, Segments, Statement, Statements}
 use Rattle.rhai_grammar.specs.Definitions.{after_statement, catch_live, loop_live}
@@ -47,7 +49,12 @@ use Rattle.rhai_grammar.specs.Written as W
 use Rattle.rhai_grammar.specs.Written.{operands_fit}
 use Rattle.rhai_grammar.specs.Spots.{LinkSpot, Outermost, RightOf, Side, Spot, spot_after_bracket, spot_after_dot}
 use Rattle.rhai_grammar.specs.Spots.{filter_of, spot_after_operand, height_after, outermost, place_of, right_side}
-use Rattle.rhai_grammar.proofs.BeginningLemmas.{value_begins, sign_begins, construct_begins, range_begins}
+use Rattle.rhai_grammar.proofs.BeginningLemmas.{closure_begins, value_begins, sign_begins, construct_begins, range_begins}
+use Rattle.rhai_grammar.specs.Forms.{ClosureBody, ClosureHead}
+use Rattle.rhai_grammar.specs.Closures.{bars_of, bars_token, declared_names, in_closure}
+use Rattle.rhai_grammar.specs.Uses.{Use}
+use Rattle.rhai_grammar.specs.declared.list.CommaList.{CommaList}
+use Rattle.rhai_grammar.specs.declared.list.CommaList.TheVariants as lists
 
 -- ---- one token
 
@@ -140,17 +147,50 @@ function_name : (x : Owner) (name : Text) (at : Position) (k : Demands) → IsFa
 function_name form.NoOwner name at k h = (refl, h)
 function_name (form.Of type type_at dot) name at k h = λ e. (type_due type e, (dot_due type, (refl, h)))
 
-parameters : (x : Parameters) (function : Text) (before : List Text) (k : Demands) → IsFair k
-    → IsFair (W.parameters x function before k)
-parameters (form.NoParameter closing) function before k h = (refl, h)
-parameters (form.LastParameter name at closing) function before k h = (refl, (refl, h))
-parameters (form.Parameter name at comma rest) function before k h =
-    (refl, (refl, parameters rest function (before ++ name ∷ []) k h))
+parameters_end : (parts : CommaList) → is_refused (verdict (parameter_due parts) (Sign (closing_of parts))) ≡ false
+parameters_end lists.Arguments = refl
+parameters_end lists.Array = refl
+parameters_end lists.Map = refl
+parameters_end lists.Arms = refl
+parameters_end lists.Parameters = refl
+parameters_end lists.ClosureParameters = refl
+
+list_end : (parts : CommaList) → is_refused (verdict (V.following_due parts) (Sign (closing_of parts))) ≡ false
+list_end lists.Arguments = refl
+list_end lists.Array = refl
+list_end lists.Map = refl
+list_end lists.Arms = refl
+list_end lists.Parameters = refl
+list_end lists.ClosureParameters = refl
+
+list_goes_on : (parts : CommaList) → is_refused (verdict (V.following_due parts) (Sign token.Comma)) ≡ false
+list_goes_on lists.Arguments = refl
+list_goes_on lists.Array = refl
+list_goes_on lists.Map = refl
+list_goes_on lists.Arms = refl
+list_goes_on lists.Parameters = refl
+list_goes_on lists.ClosureParameters = refl
+
+parameters : (x : Parameters) (parts : CommaList) (function : Text) (before : List Text) (k : Demands) → IsFair k
+    → IsFair (W.parameters x parts function before k)
+parameters (form.NoParameter closing) parts function before k h = (parameters_end parts, h)
+parameters (form.LastParameter name at closing) parts function before k h = (refl, (list_end parts, h))
+parameters (form.Parameter name at comma rest) parts function before k h =
+    (refl, (list_goes_on parts, parameters rest parts function (before ++ name ∷ []) k h))
 
 parameter_list : (x : ParameterList) (function : Text) (k : Demands) → IsFair k
     → IsFair (W.parameter_list x function k)
 parameter_list (form.EmptyParameters at) function k h = (refl, h)
-parameter_list (form.ListedParameters opening list) function k h = (refl, parameters list function [] k h)
+parameter_list (form.ListedParameters opening list) function k h =
+    (refl, parameters list lists.Parameters function [] k h)
+
+closure_parameters : (x : ClosureHead) (k : Demands) → IsFair k → IsFair (W.closure_parameters x k)
+closure_parameters (form.Bars at) k h = h
+closure_parameters (form.Declared opening list) k h = parameters list lists.ClosureParameters [] [] k h
+
+captured_names : (us : List Use) (c : Context) (w : Live) (k : Demands) → IsFair k → IsFair (W.captured_names us c w k)
+captured_names [] c w k h = h
+captured_names (u ∷ us) c w k h = captured_names us c w k h
 
 separated : (comma : Option Position) (itself : Bool) (k : Demands) → IsFair k → IsFair (W.separated comma itself k)
 separated None itself k h = h
@@ -173,7 +213,16 @@ mutual
     operand_due c p (Sign (construct_token (kind_of x))) (construct_begins c (kind_of x) e),
     construct x (level_up (level_up c)) w at k h,
   )
+  primary (form.Closure head f number us) c w p k h = λ e. (
+    operand_due c p (Sign (bars_token (bars_of head))) (closure_begins c (bars_of head) e),
+    closure_parameters head _
+        (closure_body f (level_up (in_closure c w)) (parameters_live (declared_names head)) _ tt, captured_names us c w _ h),
+  )
   primary (form.Zero range at) c w p k h = λ e. (operand_due c p range (range_begins c (beginning range) e), h)
+
+  closure_body : (x : ClosureBody) (c : Context) (w : Live) (k : Demands) → IsFair k → IsFair (W.closure_body x c w k)
+  closure_body (form.Runs f) c w k h = statement f c w k h
+  closure_body (form.NoBody at) c w k h = (refl, h)
 
   base : (x : Base) (c : Context) (w : Live) (p : OperandPlace) (k : Demands) → IsFair k → IsFair (W.base x c w p k)
   base (form.Plain x names) c w p k h = primary x c w p _ (path names w.imports (primary_tree x w (is_scoped names)) _ h)
@@ -370,14 +419,19 @@ one_end Nothing s t u m n = sym m ∙ n
 one_end (Tok mode i others ▸ ds) s t u m n = one_end ds (past mode s) t u m.1 n.1
 one_end (Ahead i others ▸ ds) s t u m n = one_end ds s t u m.1 n.1
 one_end (Next v ▸ ds) s t u m n = one_end ds s t u m.1 n.1
-one_end (NextIn v ▸ ds) s t u m n = one_end ds s t u m.1 n.1
 one_end (Test holds d ▸ ds) s t u m n = one_end ds s t u m.1 n.1
 one_end (TestIn holds d ▸ ds) s t u m n = one_end ds s t u m.1 n.1
 one_end (Adds x ▸ ds) s t u m n = one_end ds (adding x s) t u m.1 n.1
+one_end (Uses v b x ▸ ds) s t u m n =
+    one_end ds (capturing (b s.library (next_at M.code s).lexeme) x s) t u m.1 n.1
+one_end (Captures holds d b x ▸ ds) s t u m n = one_end ds (capturing (b s.library) x s) t u m.1 n.1
 one_end (Shape holds ▸ ds) s t u m n = one_end ds s t u m.1 n.1
 one_end (Literally ds ▸ more) s t u m n =
     let same = one_end ds s n.0 m.0 n.1 m.1 in
     one_end more m.0 t u m.2 (subst (λ p. Met more p u) same n.2)
+one_end (Apart ds number us ▸ more) s t u m n =
+    let same = one_end ds (apart s) n.0 m.0 n.1 m.1 in
+    one_end more (with_captured s.captured m.0) t u m.3 (subst (λ p. Met more (with_captured s.captured p) u) same n.3)
 
 met_or_missed : (ds : Demands) (s t u : Point) (e : Refusal) (n : Mode) → IsFair ds → Met ds s t → Missed ds s e n u → ⊥
 met_or_missed Nothing s t u e o h m n = n
@@ -389,20 +443,29 @@ met_or_missed (Next v ▸ ds) s t u e o h m (inl r) =
     let i = next_at M.code s in
     unrefused (verdict v i.lexeme) i.at e (ap is_refused m.0) r.0
 met_or_missed (Next v ▸ ds) s t u e o h m (inr n) = met_or_missed ds s t u e o h m.1 n.1
-met_or_missed (NextIn v ▸ ds) s t u e o h m (inl r) =
+met_or_missed (Uses v b x ▸ ds) s t u e o h m (inl r) =
     let i = next_at M.code s in
     unrefused (verdict (v s.library) i.lexeme) i.at e (ap is_refused m.0) r.0
-met_or_missed (NextIn v ▸ ds) s t u e o h m (inr n) = met_or_missed ds s t u e o h m.1 n.1
+met_or_missed (Uses v b x ▸ ds) s t u e o h m (inr n) =
+    met_or_missed ds (capturing (b s.library (next_at M.code s).lexeme) x s) t u e o h m.1 n.1
 met_or_missed (TestIn holds d ▸ ds) s t u e o h m (inl r) = let a = m.0 in let b = r.0 in absurd cc
 met_or_missed (TestIn holds d ▸ ds) s t u e o h m (inr n) = met_or_missed ds s t u e o h m.1 n.1
 met_or_missed (Adds x ▸ ds) s t u e o h m n = met_or_missed ds (adding x s) t u e o h m.1 n.1
 met_or_missed (Test holds d ▸ ds) s t u e o h m (inl r) = let a = m.0 in let b = r.0 in absurd cc
 met_or_missed (Test holds d ▸ ds) s t u e o h m (inr n) = met_or_missed ds s t u e o h m.1 n.1
+met_or_missed (Captures holds d b x ▸ ds) s t u e o h m (inl r) = let a = m.0 in let b = r.0 in absurd cc
+met_or_missed (Captures holds d b x ▸ ds) s t u e o h m (inr n) =
+    met_or_missed ds (capturing (b s.library) x s) t u e o h m.1 n.1
 met_or_missed (Shape holds ▸ ds) s t u e o h m n = met_or_missed ds s t u e o (h m.0) m.1 n.1
 met_or_missed (Literally ds ▸ more) s t u e o h m (inl r) = met_or_missed ds s m.0 u r.0 o h.0 m.1 r.1
 met_or_missed (Literally ds ▸ more) s t u e o h m (inr n) =
     let same = one_end ds s n.0 m.0 n.1 m.1 in
     met_or_missed more m.0 t u e o h.1 m.2 (subst (λ p. Missed more p e o u) same n.2)
+met_or_missed (Apart ds number us ▸ more) s t u e o h m (inl r) = met_or_missed ds (apart s) m.0 u e o h.0 m.1 r
+met_or_missed (Apart ds number us ▸ more) s t u e o h m (inr n) =
+    let same = one_end ds (apart s) n.0 m.0 n.1 m.1 in
+    met_or_missed more (with_captured s.captured m.0) t u e o h.1 m.3
+    (subst (λ p. Missed more (with_captured s.captured p) e o u) same n.3)
 
 pub forms_are_fair : FormsAreFair
 forms_are_fair = record {

@@ -1,5 +1,5 @@
 -- What each form demands leads, over the tokens of its spelling, to what comes after it.
-use Rattle.std.proofs.Common.{◌≡◌, ℕ, ◌+◌, Bool, true, false, List, [], ◌∷◌, ◌++◌, append-nil, append_assoc, refl, sym, subst}
+use Rattle.std.proofs.Common.{◌≡◌, ℕ, ◌+◌, Bool, true, false, List, [], ◌∷◌, ◌++◌, append-nil, append_assoc, sym, subst}
 use Rattle.std.specs.Prelude.{Option, Some, None}
 use Rattle.rhai_lower.specs.Lexemes.{Lexeme, Sign, text_of, Name}
 use Rattle.rhai_lower.specs.Nodes.{Properties, no_properties, position_of, property, with_property}
@@ -10,8 +10,6 @@ use Rattle.rhai_lower.specs.declared.token.Token.TheVariants as token
 use Rattle.rhai_grammar.specs.Forms.{Owner, ParameterList, Parameters}
 use Rattle.rhai_grammar.specs.Functions.{in_function, parameter_names, parameters_live}
 use Rattle.rhai_grammar.specs.Spelling.{in_code, owner_spelling, parameter_list_spelling, parameter_spelling, private_spelling}
-use Rattle.rhai_grammar.specs.Beginnings.{beginning, is_range}
-use Rattle.rhai_grammar.specs.Starts.{is_omitted, operand_start}
 use Rattle.rhai_grammar.specs.declared.role.OperandPlace.{OperandPlace}
 use Rattle.rhai_grammar.specs.declared.role.OperandPlace.TheVariants as place
 use Rattle.rhai_grammar.specs.Causes.{Refusal}
@@ -19,8 +17,8 @@ use Rattle.rhai_grammar.specs.Chains.{index_refusal, last_fault}
 use Rattle.rhai_grammar.specs.Constructs.{guard_fault, iterated_fault}
 use Rattle.rhai_grammar.specs.Contexts.{Context, Live, in_block, level_up, loop_body}
 use Rattle.rhai_grammar.specs.Definitions.{after_statement, catch_live, loop_live}
-use Rattle.rhai_grammar.specs.Delivered.{Mode, code, Item, Taken, is_end}
-use Rattle.rhai_grammar.specs.Demands.{◌▸◌, Adds, Ahead, Demands, Literally, Next, NextIn, Nothing, Shape, Test, TestIn, Tok, Verdict}
+use Rattle.rhai_grammar.specs.Delivered.{Mode, code, Item, Taken}
+use Rattle.rhai_grammar.specs.Demands.{◌▸◌, Adds, Ahead, Apart, Captures, Uses, Demands, Literally, Next, Nothing, Shape, Test, TestIn, Tok, Verdict}
 use Rattle.rhai_grammar.specs.Libraries.{Ended, Library}
 use Rattle.rhai_grammar.specs.Forms as form
 use Rattle.rhai_grammar.specs.Forms.{Arguments, Base, Body, Elements, ExprStatement, Fields, Initializer, Items, Links}
@@ -44,6 +42,12 @@ use Rattle.rhai_grammar.specs.Trees.{named_tree}
 use Rattle.rhai_lower.specs.Nodes.{Node}
 use Rattle.rhai_lower.specs.Texts.{Text}
 use Rattle.rhai_grammar.specs.Forms.{Action, Arms, CaseGuard, Cases}
+use Rattle.rhai_grammar.specs.Forms.{ClosureBody, ClosureHead}
+use Rattle.rhai_grammar.specs.Closures.{declared_names, in_closure}
+use Rattle.rhai_grammar.specs.Spelling.{closure_body_spelling, closure_parameter_spelling}
+use Rattle.rhai_grammar.specs.Uses.{Use}
+use Rattle.rhai_grammar.specs.declared.list.CommaList.{CommaList}
+use Rattle.rhai_grammar.specs.declared.list.CommaList.TheVariants as lists
 use Rattle.rhai_grammar.specs.Spelling.{action_spelling, arm_spelling, case_spelling, comma_spelling, guard_spelling}
 use Rattle.rhai_grammar.specs.Switches.{Collected, arm_fault, nothing_collected, with_arm_collected}
 use Rattle.rhai_grammar.specs.Trees.{action_ends, action_tree, case_trees, guard_tree}
@@ -52,62 +56,56 @@ use Rattle.rhai_grammar.specs.Written as W
 use Rattle.rhai_grammar.specs.declared.role.Closing.{Closing}
 use Rattle.rhai_grammar.specs.declared.role.Closing.TheVariants.{Brace}
 
--- Demands lead to others over these tokens, as long as the conditions on the form hold; and no end mark is demanded
--- ahead. The first mode is that of the next token, the second that of the one after these: what looks at the next token
+-- Demands lead to others over these tokens, as long as the conditions on the form hold. The first mode is that of the next token, the second that of the one after these: what looks at the next token
 -- does so in code mode, so nothing looks directly before a text.
 pub data Leads : Mode → Mode → List Taken → Demands → Demands → Type 0 where
   here : {n : Mode} {k : Demands} → Leads n n [] k k
   tok : {m n o : Mode} {ts : List Taken} {i : Item} {v : Lexeme → Verdict} {ds k : Demands} → Leads n o ts ds k
       → Leads m o (record { mode = m; item = i } ∷ ts) (Tok m i v ▸ ds) k
-  ahead : {n : Mode} {ts : List Taken} {i : Item} {v : Lexeme → Verdict} {ds k : Demands} → is_end i.lexeme ≡ false
+  ahead : {n : Mode} {ts : List Taken} {i : Item} {v : Lexeme → Verdict} {ds k : Demands}
       → Leads code n ts ds k → Leads code n ts (Ahead i v ▸ ds) k
   next : {n : Mode} {ts : List Taken} {v : Lexeme → Verdict} {ds k : Demands} → Leads code n ts ds k
       → Leads code n ts (Next v ▸ ds) k
-  next_in : {n : Mode} {ts : List Taken} {v : Library → Lexeme → Verdict} {ds k : Demands} → Leads code n ts ds k
-      → Leads code n ts (NextIn v ▸ ds) k
+  uses : {n : Mode} {ts : List Taken} {v : Library → Lexeme → Verdict} {b : Library → Lexeme → Bool} {u : Use}
+      {ds k : Demands} → Leads code n ts ds k → Leads code n ts (Uses v b u ▸ ds) k
   test_in : {m n : Mode} {ts : List Taken} {b : Library → Bool} {e : Refusal} {ds k : Demands} → Leads m n ts ds k
       → Leads m n ts (TestIn b e ▸ ds) k
   adds : {m n : Mode} {ts : List Taken} {x : Ended} {ds k : Demands} → Leads m n ts ds k
       → Leads m n ts (Adds x ▸ ds) k
   test : {m n : Mode} {ts : List Taken} {b : Bool} {e : Refusal} {ds k : Demands} → Leads m n ts ds k
       → Leads m n ts (Test b e ▸ ds) k
+  captures : {m n : Mode} {ts : List Taken} {h : Library → Bool} {e : Refusal} {b : Library → Bool} {u : Use}
+      {ds k : Demands} → Leads m n ts ds k → Leads m n ts (Captures h e b u ▸ ds) k
   shape : {m n : Mode} {ts : List Taken} {b : Bool} {ds k : Demands} → (b ≡ true → Leads m n ts ds k)
       → Leads m n ts (Shape b ▸ ds) k
   -- what is demanded literally, up to its end, and then what comes after it
   literally : {m n o : Mode} {a b : List Taken} {ds more k : Demands} → Leads m n a ds Nothing → Leads n o b more k
       → Leads m o (a ++ b) (Literally ds ▸ more) k
+  -- what is demanded in a closure of its own
+  apart : {m n o : Mode} {a b : List Taken} {ds more k : Demands} {number : ℕ} {captured : List Use}
+      → Leads m n a ds Nothing → Leads n o b more k → Leads m o (a ++ b) (Apart ds number captured ▸ more) k
 
 -- one after the other
 pub on : {m n o : Mode} {a b : List Taken} {ds k j : Demands} → Leads m n a ds k → Leads n o b k j
     → Leads m o (a ++ b) ds j
 on here h = h
 on (tok r) h = tok (on r h)
-on (ahead e r) h = ahead e (on r h)
+on (ahead r) h = ahead (on r h)
 on (next r) h = next (on r h)
 on (test r) h = test (on r h)
-on (next_in r) h = next_in (on r h)
 on (test_in r) h = test_in (on r h)
 on (adds r) h = adds (on r h)
+on (uses r) h = uses (on r h)
+on (captures r) h = captures (on r h)
 on (shape f) h = shape (λ e. on (f e) h)
 on {m = m} {o = o} {b = b} {j = j} (literally {a = x} {b = y} {ds = ds} {more = more} p r) h =
     subst (λ ts. Leads m o ts (Literally ds ▸ more) j) (sym (append_assoc x y b)) (literally p (on r h))
+on {m = m} {o = o} {b = b} {j = j} (apart {a = x} {b = y} {ds = ds} {more = more} {number = n} {captured = us} p r) h =
+    subst (λ ts. Leads m o ts (Apart ds n us ▸ more) j) (sym (append_assoc x y b)) (apart p (on r h))
 
 -- followed by what has no tokens
 pub all_of : {m n : Mode} {a : List Taken} {ds k : Demands} → Leads m n (a ++ []) ds k → Leads m n a ds k
 all_of {m = m} {n = n} {a = a} {ds = ds} {k = k} h = subst (λ ts. Leads m n ts ds k) (append-nil a) h
-
-range_goes_on : (l : Lexeme) → is_range (beginning l) ≡ true → is_end l ≡ false
-range_goes_on (Sign EOF) e = absurd cc
-range_goes_on _ e = refl
-
-omitted_goes_on : (p : OperandPlace) (l : Lexeme) → is_omitted (operand_start p l) ≡ true → is_end l ≡ false
-omitted_goes_on p (Sign EOF) e = by p e
-  where
-    by : (p : OperandPlace) → is_omitted (operand_start p (Sign EOF)) ≡ true → is_end (Sign EOF) ≡ false
-    by place.AfterRange e = absurd cc
-    by place.AfterCoalesce e = absurd cc
-    by place.Elsewhere e = absurd cc
-omitted_goes_on p _ e = refl
 
 unfaulted : (r : Option Refusal) {ts : List Taken} {k j : Demands} → Leads code code ts k j → Leads code code ts (W.unfaulted r k) j
 unfaulted None h = h
@@ -168,17 +166,27 @@ function_name : (x : Owner) (name : Text) (at : Position) {ts : List Taken} {mor
 function_name form.NoOwner name at h = tok (next h)
 function_name (form.Of type type_at dot) name at h = shape (λ e. tok (tok (tok (test h))))
 
-parameters : (x : Parameters) (function : Text) (before : List Text) (k : Demands)
-    → Leads code code (parameter_spelling x) (W.parameters x function before k) k
-parameters (form.NoParameter closing) function before k = tok here
-parameters (form.LastParameter name at closing) function before k = tok (test (tok here))
-parameters (form.Parameter name at comma rest) function before k =
-    tok (test (tok (parameters rest function (before ++ name ∷ []) k)))
+parameters : (x : Parameters) (parts : CommaList) (function : Text) (before : List Text) (k : Demands)
+    → Leads code code (parameter_spelling parts x) (W.parameters x parts function before k) k
+parameters (form.NoParameter closing) parts function before k = tok here
+parameters (form.LastParameter name at closing) parts function before k = tok (test (tok here))
+parameters (form.Parameter name at comma rest) parts function before k =
+    tok (test (tok (parameters rest parts function (before ++ name ∷ []) k)))
 
 parameter_list : (x : ParameterList) (function : Text) (k : Demands)
     → Leads code code (parameter_list_spelling x) (W.parameter_list x function k) k
 parameter_list (form.EmptyParameters at) function k = tok here
-parameter_list (form.ListedParameters opening list) function k = tok (parameters list function [] k)
+parameter_list (form.ListedParameters opening list) function k = tok (parameters list lists.Parameters function [] k)
+
+pub closure_parameters : (x : ClosureHead) (k : Demands)
+    → Leads code code (closure_parameter_spelling x) (W.closure_parameters x k) k
+closure_parameters (form.Bars at) k = here
+closure_parameters (form.Declared opening list) k = parameters list lists.ClosureParameters [] [] k
+
+captured_names : (us : List Use) (c : Context) (w : Live) {ts : List Taken} {k j : Demands} → Leads code code ts k j
+    → Leads code code ts (W.captured_names us c w k) j
+captured_names [] c w h = h
+captured_names (u ∷ us) c w h = captures (captured_names us c w h)
 
 separated : (comma : Option Position) (itself : Bool) (k : Demands)
     → Leads code code (comma_spelling comma) (W.separated comma itself k) k
@@ -189,7 +197,7 @@ mutual
   pub primary : (x : Primary) (c : Context) (w : Live) (p : OperandPlace) (k : Demands)
       → Leads code code (primary_spelling x) (W.primary x c w p k) k
   primary (form.Value token at) c w p k = shape (λ e. tok here)
-  primary (form.Named name at) c w p k = tok (next_in here)
+  primary (form.Named name at) c w p k = tok (uses here)
   primary (form.Word word at) c w p k = tok (next here)
   primary (form.Group opening inside closing) c w p k = tok (test (on (expressed inside (level_up c) w (run inside _ _)) (tok here)))
   primary (form.Array opening list) c w p k = tok (test (elements list 0 (level_up c) w opening k))
@@ -197,7 +205,17 @@ mutual
   primary (form.Interpolated first at list) c w p k = tok (test (segments list (level_up c) w at k))
   primary (form.CompoundValue at x) c w p k =
       shape (λ e. tok (test (test (construct x (level_up (level_up c)) w at k))))
-  primary (form.Zero range at) c w p k = shape (λ e. ahead (range_goes_on range e) here)
+  primary (form.Closure head f number us) c w p k =
+      let inner = in_closure c w in
+      shape (λ e. tok (test_in (on (closure_parameters head _) (test (all_of (apart
+      (closure_body f (level_up inner) (parameters_live (declared_names head)) Nothing)
+      (captured_names us c w (test_in (adds here)))))))))
+  primary (form.Zero range at) c w p k = shape (λ e. ahead here)
+
+  pub closure_body : (x : ClosureBody) (c : Context) (w : Live) (k : Demands)
+      → Leads code code (closure_body_spelling x) (W.closure_body x c w k) k
+  closure_body (form.Runs f) c w k = next (statement f c w k)
+  closure_body (form.NoBody at) c w k = ahead here
 
   pub base : (x : Base) (c : Context) (w : Live) (p : OperandPlace) (k : Demands)
       → Leads code code (base_spelling x) (W.base x c w p k) k
@@ -238,7 +256,7 @@ mutual
       (unfaulted (module_fault c w (base_tree x w)) here)))
   operand (form.Signed sign at x) c w p k =
       shape (λ e. tok (test (all_of (on (operand x (level_up c) w place.Elsewhere _) (test here)))))
-  operand (form.NoOperand token at) c w p k = shape (λ e. ahead (omitted_goes_on p token e) here)
+  operand (form.NoOperand token at) c w p k = shape (λ e. ahead here)
   operand (form.Jump x) c w p k = next (statement x (below_global c) (in_block w) k)
 
   pub arguments : (x : Arguments) (others : Lexeme → Verdict) (c : Context) (w : Live) (name : Position) (k : Demands)

@@ -3,12 +3,14 @@ pub mod SeenLemmas
 pub mod Leads
 pub mod SpellingLemmas
 pub mod StreamLemmas
+pub mod ClosureLemmas
 pub mod RowLemmas
 pub mod StatementRowLemmas
 pub mod StringRowLemmas
 pub mod ConstructRowLemmas
 pub mod ModuleRowLemmas
 pub mod FunctionRowLemmas
+pub mod ClosureRowLemmas
 pub mod BeginningLemmas
 pub mod StartLemmas
 pub mod SlotLemmas

@@ -16,6 +16,10 @@ use Rattle.rhai_grammar.specs.Definitions.{after_statement, alias_of, catch_live
 use Rattle.rhai_grammar.specs.Modules.{is_scoped, path_tree}
 use Rattle.rhai_grammar.specs.Interpolations.{with_text}
 use Rattle.rhai_grammar.specs.Laws.{TreesKeepShape}
+use Rattle.rhai_grammar.specs.Closures.{bars_at, captured_nodes, closure_node, declared_names, shared_names}
+use Rattle.rhai_grammar.specs.Functions.{names_after}
+use Rattle.rhai_grammar.specs.Uses.{Use, names_of}
+use Rattle.std.proofs.Common.{ℕ, List, ◌++◌, length}
 use Rattle.rhai_grammar.specs.Operators.{joining}
 use Rattle.rhai_grammar.specs.Shapes as shape
 use Rattle.rhai_grammar.specs.Shapes.{node_shape, nodes_shape}
@@ -79,6 +83,51 @@ made _ = refl
 value_of_statement : (f g : node.Statement) → shape.statement_shape f ≡ g → node_shape (node.block_value (node.made_block f)) ≡ node.block_value (node.made_block g)
 value_of_statement f g e = ap node.block_value (made f ∙ ap node.made_block e)
 
+-- ---- closures
+
+parameter_names : (x : form.Parameters) (before : List Text) → names_after (shape.parameters_shape x) before ≡ names_after x before
+parameter_names (form.NoParameter closing) before = refl
+parameter_names (form.LastParameter t at closing) before = refl
+parameter_names (form.Parameter t at comma rest) before = parameter_names rest (before ++ t ∷ [])
+
+head_names : (x : form.ClosureHead) → declared_names (shape.head_shape x) ≡ declared_names x
+head_names (form.Bars at) = refl
+head_names (form.Declared opening list) = parameter_names list []
+
+head_place : (x : form.ClosureHead) → bars_at (shape.head_shape x) ≡ nowhere
+head_place (form.Bars at) = refl
+head_place (form.Declared opening list) = refl
+
+use_names : (us : List Use) → names_of (shape.captured_shape us) ≡ names_of us
+use_names [] = refl
+use_names (u ∷ us) = let e = use_names us in cc
+
+use_count : (us : List Use) → length (shape.captured_shape us) ≡ length us
+use_count [] = refl
+use_count (u ∷ us) = let e = use_count us in cc
+
+use_nodes : (us : List Use) (w : Live) → nodes_shape (captured_nodes w.slots us) ≡ captured_nodes w.slots (shape.captured_shape us)
+use_nodes [] w = refl
+use_nodes (u ∷ us) w = let e = use_nodes us w in cc
+
+use_shares : (us : List Use) (w : Live) → shape.shared_shape (shared_names w.slots us) ≡ shared_names w.slots (shape.captured_shape us)
+use_shares [] w = refl
+use_shares (u ∷ us) w = let e = use_shares us w in cc
+
+closure_by : (at : Position) (n : ℕ) (us : List Use) (names : List Text) (w : Live)
+    → node_shape (closure_node at n us names w) ≡ closure_node nowhere n (shape.captured_shape us) names w
+closure_by at n [] names w = refl
+closure_by at n (u ∷ us) names w =
+    let a = use_names us in let b = use_count us in let c = use_nodes us w in let d = use_shares us w in cc
+
+closure : (head : form.ClosureHead) (n : ℕ) (us : List Use) (w : Live)
+    → node_shape (closure_node (bars_at head) n us (declared_names head) w)
+    ≡ closure_node (bars_at (shape.head_shape head)) n (shape.captured_shape us) (declared_names (shape.head_shape head)) w
+closure head n us w =
+    closure_by (bars_at head) n us (declared_names head) w
+    ∙ ap (λ at. closure_node at n (shape.captured_shape us) (declared_names head) w) (sym (head_place head))
+    ∙ ap (λ names. closure_node (bars_at (shape.head_shape head)) n (shape.captured_shape us) names w) (sym (head_names head))
+
 mutual
   primary : (x : Primary) (w : Live) (called : Bool) → node_shape (primary_tree x w called) ≡ primary_tree (shape.primary_shape x) w called
   primary (form.Value token at) w called = value token at
@@ -90,6 +139,7 @@ mutual
   primary (form.Interpolated first at list) w called =
       let e = segments list w in texted first at (T.segment_trees list w) ∙ (cc)
   primary (form.CompoundValue at x) w called = value_of_statement (T.construct_tree x w at) _ (construct x w at)
+  primary (form.Closure head f number us) w called = closure head number us w
   primary (form.Zero range at) w called = refl
 
   base : (x : Base) (w : Live) → node_shape (base_tree x w) ≡ base_tree (shape.base_shape x) w

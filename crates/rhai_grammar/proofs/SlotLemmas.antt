@@ -166,7 +166,7 @@ marked name constant slots place e =
           ∙ ap (λ (s : SlotValue). s.constant) (get_or-set_same slots i new (fresh_slot [] false) there);
     }
 
-same : (t : Text) → same_text t t ≡ true
+pub same : (t : Text) → same_text t t ≡ true
 same [] = refl
 same (b ∷ t) = and_from (nat_eq b b) (same_text t t) (eq-eqb b b refl) (same t)
 

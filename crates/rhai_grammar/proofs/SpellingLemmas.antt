@@ -32,7 +32,8 @@ use Rattle.rhai_grammar.specs.Statements as S
 use Rattle.rhai_grammar.specs.declared.role.Closing.TheVariants.{EndMark}
 use Rattle.rhai_grammar.proofs.Leads as L
 use Rattle.rhai_grammar.proofs.SeenLemmas.{both, leads_on}
-use Rattle.rhai_grammar.proofs.Leads.{Leads, adds, ahead, all_of, expressed, here, literally, next, next_in, on, shape, test, test_in, tok}
+use Rattle.rhai_grammar.specs.Delivered.{capturing, with_captured}
+use Rattle.rhai_grammar.proofs.Leads.{Leads, adds, apart, captures, uses, ahead, all_of, expressed, here, literally, next, on, shape, test, test_in, tok}
 
 -- the tokens taken from one point of a stream to another
 abbrev Way : List Taken → Tokens → Tokens → Type 0
@@ -57,18 +58,28 @@ spelled here s t m = record { end = s; met = m; way = (tt, refl) }
 spelled (tok {m = mode} h) s t m =
     let r = spelled h (past mode s) t m.1 in
     record { end = r.end; met = r.met; way = ((m.0, r.way.0), r.way.1) }
-spelled (ahead e h) s t m = spelled h s t m.1
+spelled (ahead h) s t m = spelled h s t m.1
 spelled (next h) s t m = spelled h s t m.1
 spelled (test h) s t m = spelled h s t m.1
-spelled (next_in h) s t m = spelled h s t m.1
 spelled (test_in h) s t m = spelled h s t m.1
 spelled (adds {x = x} h) s t m =
     let r = spelled h (adding x s) t m.1 in
+    record { end = r.end; met = r.met; way = r.way }
+spelled (uses {b = b} {u = u} h) s t m =
+    let r = spelled h (capturing (b s.library (next_at M.code s).lexeme) u s) t m.1 in
+    record { end = r.end; met = r.met; way = r.way }
+spelled (captures {b = b} {u = u} h) s t m =
+    let r = spelled h (capturing (b s.library) u s) t m.1 in
     record { end = r.end; met = r.met; way = r.way }
 spelled (shape f) s t m = spelled (f m.0) s t m.1
 spelled (literally {a = a} {b = b} {more = more} p r) s t m =
     let first = spelled p s m.0 m.1 in
     let rest = spelled r first.end t (subst (λ u. Met more u t) (sym first.met) m.2) in
+    record { end = rest.end; met = rest.met; way = way_on a b s.tokens _ _ first.way rest.way }
+spelled (apart {a = a} {b = b} {more = more} p r) s t m =
+    let first = spelled p (M.apart s) m.0 m.1 in
+    let rest = spelled r (with_captured s.captured first.end) t
+    (subst (λ u. Met more (with_captured s.captured u) t) (sym first.met) m.3) in
     record { end = rest.end; met = rest.met; way = way_on a b s.tokens _ _ first.way rest.way }
 
 pub are_spelled : {m n : Mode} (taken : List Taken) (ds : Demands) → Leads m n taken ds Nothing → (s t : Point) → Met ds s t

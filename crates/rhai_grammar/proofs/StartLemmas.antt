@@ -18,7 +18,13 @@ use Rattle.rhai_grammar.specs.Spots.{outermost}
 use Rattle.rhai_grammar.specs.StartLaws.{IsBegun, StartsOfExpressions, is_added}
 use Rattle.rhai_grammar.specs.Starts.{begins, starts}
 use Rattle.rhai_grammar.specs.Written as W
-use Rattle.rhai_grammar.proofs.BeginningLemmas.{value_begins, sign_begins, construct_begins, range_begins}
+use Rattle.rhai_grammar.specs.Closures.{bars_at, bars_of, bars_token}
+use Rattle.rhai_grammar.specs.Delivered.{adding, apart}
+use Rattle.rhai_grammar.specs.Functions.{may_begin}
+use Rattle.rhai_grammar.specs.Starts.{may_be_closure}
+use Rattle.rhai_grammar.specs.Trees.{closure_tree}
+use Rattle.rhai_grammar.specs.declared.role.Bars.TheVariants as bars
+use Rattle.rhai_grammar.proofs.BeginningLemmas.{closure_begins, value_begins, sign_begins, construct_begins, range_begins}
 
 -- ---- an expression that fits begins with a token that begins one
 
@@ -39,6 +45,7 @@ primary (form.Array opening list) c w k s t m = next_is c s (Sign token.LeftBrac
 primary (form.Map opening list) c w k s t m = next_is c s (Sign token.MapStart) opening m.0 refl
 primary (form.Interpolated first at list) c w k s t m = next_is c s (Interpolated first) at m.0 refl
 primary (form.CompoundValue at x) c w k s t m = next_is c s (Sign (construct_token (kind_of x))) at m.1.0 (construct_begins c (kind_of x) m.0)
+primary (form.Closure head f number us) c w k s t m = next_is c s (Sign (bars_token (bars_of head))) (bars_at head) m.1.0 (closure_begins c (bars_of head) m.0)
 primary (form.Zero range at) c w k s t m = next_is c s range at m.1.0 (range_begins c (beginning range) m.0)
 
 base : (x : Base) (c : Context) (w : Live) (k : Demands) (s t : Point) → Met (W.base x c w Elsewhere k) s t → starts c (next_at code s).lexeme ≡ true
@@ -71,7 +78,7 @@ stream [] = Ends here
 stream (l ∷ ls) = let rest = stream ls in Then (item l here) (item l here) rest rest
 
 abbrev unread : List Lexeme → Point
-unread ls = record { tokens = stream ls; taken = []; library = [] }
+unread ls = record { tokens = stream ls; taken = []; library = []; captured = [] }
 
 -- the point after as many tokens in code mode
 abbrev after : List Lexeme → Point → Point
@@ -155,41 +162,69 @@ interpolated : (c : Context) (w : Live) (a : Text) (b : Bool) → has_single_blo
 interpolated c w a true e = filled_by c w a single (Sign token.LeftBrace ∷ one ∷ Sign token.RightBrace ∷ []) (refl, (refl, (refl, (refl, (refl, (e, (refl, (refl, (refl, (refl, (refl, (refl, (refl, (refl, (refl, (refl, (refl, (refl, (refl, (refl, (refl, (refl, refl))))))))))))))))))))))
 interpolated c w a false e = filled_by c w a many (Sign token.LeftBrace ∷ Sign token.RightBrace ∷ []) (refl, (refl, (refl, (refl, (refl, (ap not e, (refl, (refl, (refl, (refl, (refl, (refl, (refl, (refl, refl))))))))))))))
 
-sign : (c : Context) (w : Live) (l : Token) → starts (unlimited c) (Sign l) ≡ true → Starts (unlimited c) w (Sign l)
-sign c w token.Unit h = begun_by c w (Sign token.Unit) (value (Sign token.Unit)) [] (refl, (refl, (refl, (refl, (refl, (refl, (refl, (refl, refl))))))))
-sign c w token.True h = begun_by c w (Sign token.True) (value (Sign token.True)) [] (refl, (refl, (refl, (refl, (refl, (refl, (refl, (refl, refl))))))))
-sign c w token.False h = begun_by c w (Sign token.False) (value (Sign token.False)) [] (refl, (refl, (refl, (refl, (refl, (refl, (refl, (refl, refl))))))))
-sign c w token.LeftParen h = begun_by c w (Sign token.LeftParen) (plain (form.Group here (value one) here)) (one ∷ Sign token.RightParen ∷ []) (refl, (refl, (refl, (refl, (refl, (refl, (refl, (refl, (refl, (refl, (refl, (refl, (refl, (refl, (refl, (refl, (refl, refl)))))))))))))))))
-sign c w token.LeftBracket h = begun_by c w (Sign token.LeftBracket) (plain (form.Array here (form.NoElement here))) (Sign token.RightBracket ∷ []) (refl, (refl, (refl, (refl, (refl, (refl, (refl, (refl, (refl, refl)))))))))
-sign c w token.MapStart h = begun_by c w (Sign token.MapStart) (plain (form.Map here (form.NoField here))) (Sign token.RightBrace ∷ []) (refl, (refl, (refl, (refl, (refl, (refl, (refl, (refl, (refl, refl)))))))))
-sign c w token.LeftBrace h = block c w (has_single_blocks c) refl h
-sign c w token.If h = if_begins c w (has_single_blocks c) refl h
-sign c w token.Switch h = switch_begins c w h
-sign c w token.While h = while_begins c w (has_single_blocks (loop_body c)) refl h
-sign c w token.Loop h = loop_begins c w (has_single_blocks (loop_body c)) refl h
-sign c w token.Do h = do_begins c w (has_single_blocks (loop_body c)) refl h
-sign c w token.For h = for_begins c w (has_single_blocks (loop_body c)) refl h
-sign c w token.Minus h = begun_by c w (Sign token.Minus) (signed (Sign token.Minus)) (one ∷ []) (refl, (refl, (refl, (refl, (refl, (refl, (refl, (refl, (refl, (refl, (refl, (refl, refl))))))))))))
-sign c w token.UnaryMinus h = begun_by c w (Sign token.UnaryMinus) (signed (Sign token.UnaryMinus)) (one ∷ []) (refl, (refl, (refl, (refl, (refl, (refl, (refl, (refl, (refl, (refl, (refl, (refl, refl))))))))))))
-sign c w token.Plus h = begun_by c w (Sign token.Plus) (signed (Sign token.Plus)) (one ∷ []) (refl, (refl, (refl, (refl, (refl, (refl, (refl, (refl, (refl, (refl, (refl, (refl, refl))))))))))))
-sign c w token.UnaryPlus h = begun_by c w (Sign token.UnaryPlus) (signed (Sign token.UnaryPlus)) (one ∷ []) (refl, (refl, (refl, (refl, (refl, (refl, (refl, (refl, (refl, (refl, (refl, (refl, refl))))))))))))
-sign c w token.Bang h = begun_by c w (Sign token.Bang) (signed (Sign token.Bang)) (one ∷ []) (refl, (refl, (refl, (refl, (refl, (refl, (refl, (refl, (refl, (refl, (refl, (refl, refl))))))))))))
-sign c w token.ExclusiveRange h = begun_by c w (Sign token.ExclusiveRange) (range (Sign token.ExclusiveRange)) (one ∷ []) (refl, (refl, (refl, (refl, (refl, (refl, (refl, (refl, (refl, (refl, (refl, (refl, (refl, (refl, (refl, (refl, (refl, (refl, (refl, (refl, (refl, (refl, refl))))))))))))))))))))))
-sign c w token.InclusiveRange h = begun_by c w (Sign token.InclusiveRange) (range (Sign token.InclusiveRange)) (one ∷ []) (refl, (refl, (refl, (refl, (refl, (refl, (refl, (refl, (refl, (refl, (refl, (refl, (refl, (refl, (refl, (refl, (refl, (refl, (refl, (refl, (refl, (refl, refl))))))))))))))))))))))
-sign c w _ h = absurd cc
+-- a closure, whose body is an empty statement
+abbrev closure : form.ClosureHead → Primary
+closure head = form.Closure head (form.Runs (form.EmptyStatement here)) 0 []
 
-any : (c : Context) (w : Live) (l : Lexeme) → starts (unlimited c) l ≡ true → Starts (unlimited c) w l
-any c w (Integer n) h = begun_by c w (Integer n) (value (Integer n)) [] (refl, (refl, (refl, (refl, (refl, (refl, (refl, (refl, refl))))))))
-any c w (Character n) h = begun_by c w (Character n) (value (Character n)) [] (refl, (refl, (refl, (refl, (refl, (refl, (refl, (refl, refl))))))))
-any c w (String a) h = begun_by c w (String a) (value (String a)) [] (refl, (refl, (refl, (refl, (refl, (refl, (refl, (refl, refl))))))))
-any c w (Interpolated a) h = interpolated c w a (has_single_blocks c) refl
-any c w (Name a) h =
+abbrev closed : form.ClosureHead → Point → Point
+closed head s = adding (closure_tree head (form.Runs (form.EmptyStatement here)) 0 []) s
+
+pair_begins : (c : Context) (w : Live) → may_begin (unlimited c) [] ≡ true → may_be_closure (unlimited c) bars.Pair ≡ true
+    → Starts (unlimited c) w (Sign token.Or)
+pair_begins c w room h =
+    let ls = Sign token.Or ∷ Sign token.SemiColon ∷ [] in
+    inr (
+      plain (closure (form.Bars here)),
+      unread ls,
+      closed (form.Bars here) (after ls (unread ls)),
+      refl,
+      (refl, (h, (refl, (room, (refl, (apart (after ls (unread ls)), (refl, (refl, refl)), (refl, refl), (refl, (tt, (refl, (refl, (refl, (refl, (refl, refl))))))))))))),
+    )
+
+list_begins : (c : Context) (w : Live) → may_begin (unlimited c) [] ≡ true → may_be_closure (unlimited c) bars.List ≡ true
+    → Starts (unlimited c) w (Sign token.Pipe)
+list_begins c w room h =
+    let ls = Sign token.Pipe ∷ Sign token.Pipe ∷ Sign token.SemiColon ∷ [] in
+    let head = form.Declared here (form.NoParameter here) in
+    inr (plain (closure head), unread ls, closed head (after ls (unread ls)), refl, (refl, (h, (refl, (room, (refl, (refl, (apart (after ls (unread ls)), (refl, (refl, refl)), (refl, refl), (refl, (tt, (refl, (refl, (refl, (refl, (refl, refl)))))))))))))))
+
+sign : (c : Context) (w : Live) (l : Token) → may_begin (unlimited c) [] ≡ true → starts (unlimited c) (Sign l) ≡ true → Starts (unlimited c) w (Sign l)
+sign c w token.Unit room h = begun_by c w (Sign token.Unit) (value (Sign token.Unit)) [] (refl, (refl, (refl, (refl, (refl, (refl, (refl, (refl, refl))))))))
+sign c w token.True room h = begun_by c w (Sign token.True) (value (Sign token.True)) [] (refl, (refl, (refl, (refl, (refl, (refl, (refl, (refl, refl))))))))
+sign c w token.False room h = begun_by c w (Sign token.False) (value (Sign token.False)) [] (refl, (refl, (refl, (refl, (refl, (refl, (refl, (refl, refl))))))))
+sign c w token.LeftParen room h = begun_by c w (Sign token.LeftParen) (plain (form.Group here (value one) here)) (one ∷ Sign token.RightParen ∷ []) (refl, (refl, (refl, (refl, (refl, (refl, (refl, (refl, (refl, (refl, (refl, (refl, (refl, (refl, (refl, (refl, (refl, refl)))))))))))))))))
+sign c w token.LeftBracket room h = begun_by c w (Sign token.LeftBracket) (plain (form.Array here (form.NoElement here))) (Sign token.RightBracket ∷ []) (refl, (refl, (refl, (refl, (refl, (refl, (refl, (refl, (refl, refl)))))))))
+sign c w token.MapStart room h = begun_by c w (Sign token.MapStart) (plain (form.Map here (form.NoField here))) (Sign token.RightBrace ∷ []) (refl, (refl, (refl, (refl, (refl, (refl, (refl, (refl, (refl, refl)))))))))
+sign c w token.LeftBrace room h = block c w (has_single_blocks c) refl h
+sign c w token.If room h = if_begins c w (has_single_blocks c) refl h
+sign c w token.Switch room h = switch_begins c w h
+sign c w token.While room h = while_begins c w (has_single_blocks (loop_body c)) refl h
+sign c w token.Loop room h = loop_begins c w (has_single_blocks (loop_body c)) refl h
+sign c w token.Do room h = do_begins c w (has_single_blocks (loop_body c)) refl h
+sign c w token.For room h = for_begins c w (has_single_blocks (loop_body c)) refl h
+sign c w token.Or room h = pair_begins c w room h
+sign c w token.Pipe room h = list_begins c w room h
+sign c w token.Minus room h = begun_by c w (Sign token.Minus) (signed (Sign token.Minus)) (one ∷ []) (refl, (refl, (refl, (refl, (refl, (refl, (refl, (refl, (refl, (refl, (refl, (refl, refl))))))))))))
+sign c w token.UnaryMinus room h = begun_by c w (Sign token.UnaryMinus) (signed (Sign token.UnaryMinus)) (one ∷ []) (refl, (refl, (refl, (refl, (refl, (refl, (refl, (refl, (refl, (refl, (refl, (refl, refl))))))))))))
+sign c w token.Plus room h = begun_by c w (Sign token.Plus) (signed (Sign token.Plus)) (one ∷ []) (refl, (refl, (refl, (refl, (refl, (refl, (refl, (refl, (refl, (refl, (refl, (refl, refl))))))))))))
+sign c w token.UnaryPlus room h = begun_by c w (Sign token.UnaryPlus) (signed (Sign token.UnaryPlus)) (one ∷ []) (refl, (refl, (refl, (refl, (refl, (refl, (refl, (refl, (refl, (refl, (refl, (refl, refl))))))))))))
+sign c w token.Bang room h = begun_by c w (Sign token.Bang) (signed (Sign token.Bang)) (one ∷ []) (refl, (refl, (refl, (refl, (refl, (refl, (refl, (refl, (refl, (refl, (refl, (refl, refl))))))))))))
+sign c w token.ExclusiveRange room h = begun_by c w (Sign token.ExclusiveRange) (range (Sign token.ExclusiveRange)) (one ∷ []) (refl, (refl, (refl, (refl, (refl, (refl, (refl, (refl, (refl, (refl, (refl, (refl, (refl, (refl, (refl, (refl, (refl, (refl, (refl, (refl, (refl, (refl, refl))))))))))))))))))))))
+sign c w token.InclusiveRange room h = begun_by c w (Sign token.InclusiveRange) (range (Sign token.InclusiveRange)) (one ∷ []) (refl, (refl, (refl, (refl, (refl, (refl, (refl, (refl, (refl, (refl, (refl, (refl, (refl, (refl, (refl, (refl, (refl, (refl, (refl, (refl, (refl, (refl, refl))))))))))))))))))))))
+sign c w _ room h = absurd cc
+
+any : (c : Context) (w : Live) (l : Lexeme) → may_begin (unlimited c) [] ≡ true → starts (unlimited c) l ≡ true → Starts (unlimited c) w l
+any c w (Integer n) room h = begun_by c w (Integer n) (value (Integer n)) [] (refl, (refl, (refl, (refl, (refl, (refl, (refl, (refl, refl))))))))
+any c w (Character n) room h = begun_by c w (Character n) (value (Character n)) [] (refl, (refl, (refl, (refl, (refl, (refl, (refl, (refl, refl))))))))
+any c w (String a) room h = begun_by c w (String a) (value (String a)) [] (refl, (refl, (refl, (refl, (refl, (refl, (refl, (refl, refl))))))))
+any c w (Interpolated a) room h = interpolated c w a (has_single_blocks c) refl
+any c w (Name a) room h =
     begun_by c w (Name a) (form.Just (form.Linked (form.Call (form.Named a here) form.NoPath None (form.EmptyPair here)) form.NoLink)) (Sign token.Unit ∷ [])
     (refl, (refl, (refl, (refl, (refl, (refl, (refl, (refl, (refl, refl)))))))))
-any c w (Reserved a) h = inl refl
-any c w (Faulty f) h = inl refl
-any c w (Comment a) h = absurd cc
-any c w (Sign l) h = sign c w l h
+any c w (Reserved a) room h = inl refl
+any c w (Faulty f) room h = inl refl
+any c w (Comment a) room h = absurd cc
+any c w (Sign l) room h = sign c w l room h
 
 added : (c : Context) (l : Lexeme) → is_added l ≡ true → starts c l ≡ true
 added c (Reserved a) e = refl
@@ -200,5 +235,5 @@ pub starts_of_expressions : StartsOfExpressions
 starts_of_expressions = record {
   only = λ c w f s t m. run f (level_up c) w _ s t m.1;
   added = added;
-  begins = λ c w l e. subst (λ n. starts (limited c n) l ≡ true → Starts (limited c n) w l) (sym e) (any c w l);
+  begins = λ c w l e. subst (λ n. may_begin (limited c n) [] ≡ true → starts (limited c n) l ≡ true → Starts (limited c n) w l) (sym e) (any c w l);
 }

@@ -19,6 +19,7 @@ use Rattle.rhai_grammar.specs.Delivered.{is_end}
 use Rattle.rhai_grammar.specs.declared.role.Beginning.{Beginning}
 use Rattle.rhai_grammar.specs.declared.role.Beginning.TheVariants as begin
 use Rattle.rhai_grammar.specs.declared.role.Construct.TheVariants as construct
+use Rattle.rhai_grammar.specs.declared.role.Bars.TheVariants as bars
 use Rattle.rhai_grammar.specs.declared.role.Calling.{Calling}
 use Rattle.rhai_grammar.specs.declared.role.Calling.TheVariants as call
 use Rattle.rhai_grammar.specs.declared.role.Linking.{Linking}
@@ -50,6 +51,8 @@ sign_beginning token.While = begin.Construct construct.While
 sign_beginning token.Loop = begin.Construct construct.Loop
 sign_beginning token.Do = begin.Construct construct.Do
 sign_beginning token.For = begin.Construct construct.For
+sign_beginning token.Or = begin.Closure bars.Pair
+sign_beginning token.Pipe = begin.Closure bars.List
 sign_beginning Minus = begin.Sign
 sign_beginning UnaryMinus = begin.Sign
 sign_beginning Plus = begin.Sign

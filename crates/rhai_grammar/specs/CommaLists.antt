@@ -11,7 +11,7 @@ use Rattle.rhai_grammar.specs.Beginnings.{missing, is_name}
 use Rattle.rhai_grammar.specs.declared.list.AfterPart.{AfterPart}
 use Rattle.rhai_grammar.specs.declared.list.AfterPart.TheVariants.{Comma, Close, Nothing}
 use Rattle.rhai_grammar.specs.declared.list.CommaList.{CommaList}
-use Rattle.rhai_grammar.specs.declared.list.CommaList.TheVariants.{Arguments, Arms, Array, Map, Parameters}
+use Rattle.rhai_grammar.specs.declared.list.CommaList.TheVariants.{Arguments, Arms, Array, ClosureParameters, Map, Parameters}
 
 -- the token that closes a list
 abbrev pub closing_of : CommaList → Token
@@ -20,6 +20,7 @@ closing_of Array = token.RightBracket
 closing_of Map = token.RightBrace
 closing_of Arms = token.RightBrace
 closing_of Parameters = token.RightParen
+closing_of ClosureParameters = token.Pipe
 
 abbrev pub sign_after : CommaList → Token → AfterPart
 sign_after Arguments token.Comma = Comma
@@ -37,6 +38,9 @@ sign_after Arms _ = Nothing
 sign_after Parameters token.Comma = Comma
 sign_after Parameters token.RightParen = Close
 sign_after Parameters _ = Nothing
+sign_after ClosureParameters token.Comma = Comma
+sign_after ClosureParameters token.Pipe = Close
+sign_after ClosureParameters _ = Nothing
 
 -- what a token is after a part of a list
 abbrev pub after_part : CommaList → Lexeme → AfterPart
@@ -53,6 +57,7 @@ closing_text Array = codes "]"
 closing_text Map = codes "}"
 closing_text Arms = codes "}"
 closing_text Parameters = codes ")"
+closing_text ClosureParameters = codes "|"
 
 -- Where another token follows a part, a comma is missing before it, or else the closing token: that is missing at the
 -- end of the stream, but for parameters, and after a property before all but a name.
@@ -62,6 +67,7 @@ wants_comma Array l = not (is_end l)
 wants_comma Map l = is_name l
 wants_comma Arms l = not (is_end l)
 wants_comma Parameters l = true
+wants_comma ClosureParameters l = true
 
 -- what is missing there
 abbrev pub due_after : CommaList → Lexeme → Text

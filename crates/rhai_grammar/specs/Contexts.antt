@@ -5,7 +5,7 @@ use Rattle.rhai_lower.specs.Texts.{Text}
 use Rattle.rhai_input.specs.Slots.{SlotValue}
 use Rattle.rhai_grammar.specs.Settings as settings
 use Rattle.rhai_grammar.specs.declared.filter.ExprFilter.{ExprFilter}
-use Rattle.rhai_grammar.specs.declared.filter.ExprFilter.TheVariants.{AllButPipe}
+use Rattle.rhai_grammar.specs.declared.filter.ExprFilter.TheVariants.{All, AllButPipe}
 use Rattle.rhai_grammar.specs.Settings.{Settings}
 
 -- The engine's limits other than the depth of a script: the greatest number of items in an array literal, and of
@@ -29,13 +29,14 @@ abbrev pub nothing_known : Known
 nothing_known = record { variables = []; imports = []; modules = [] }
 
 -- What a form passes on to its parts, with little but the level changed: the settings, the engine's options (as bits)
--- and limits, which tokens an expression may have, and what is known.
+-- and limits, which tokens an expression may have, what is known, and how many functions and closures have begun around.
 pub record Context : Type 0 where
   pub settings : Settings
   pub options : ℕ
   pub sizes : Sizes
   pub filter : ExprFilter
   pub known : Known
+  pub begun : ℕ
 
 -- What was defined before a form, in written order, and is still live.
 pub record Live : Type 0 where
@@ -89,6 +90,15 @@ has_switch_values context = settings.switch_values context.settings
 -- a loop is an operand
 abbrev pub has_loop_values : Context → Bool
 has_loop_values context = allows_looping context && settings.loop_values context.settings
+
+-- a closure is an operand
+abbrev pub has_closures : Context → Bool
+has_closures context = settings.closure_values context.settings
+
+-- `|` may be an operator, or begin a closure
+abbrev pub allows_pipe : ExprFilter → Bool
+allows_pipe All = true
+allows_pipe AllButPipe = false
 
 -- in the body of a loop, which `break` and `continue` leave
 abbrev pub is_in_loop : Context → Bool

@@ -1,6 +1,8 @@
 -- The delivered stream, and what was taken of it.
 use Rattle.std.specs.Prelude.{◌≡◌, Bool, true, false, List, ◌∷◌, refl}
 use Rattle.rhai_grammar.specs.Libraries.{Ended, Library, with_ended}
+use Rattle.rhai_grammar.specs.Uses.{Use, noted}
+use Rattle.std.specs.Prelude.{[]}
 use Rattle.rhai_lower.specs.Positions.{place}
 use Rattle.rhai_lower.specs.Lexemes.{Lexeme, Faulty, Sign, NoMemory}
 use Rattle.rhai_lower.specs.declared.position.Position.{Position}
@@ -55,11 +57,13 @@ pub record Taken : Type 0 where
   pub mode : Mode
   pub item : Item
 
--- what is left of a stream, what was taken of it, the latest token first, and the functions that have ended
+-- What is left of a stream, what was taken of it, the latest token first, the functions that have ended, and the names
+-- that the closure around has captured, each at its first use.
 pub record Point : Type 0 where
   pub tokens : Tokens
   pub taken : List Taken
   pub library : Library
+  pub captured : List Use
 
 -- the next token at a point, requested in a mode
 abbrev pub next_at : Mode → Point → Item
@@ -75,6 +79,18 @@ past m s = record s {
 -- the point after one more function has ended
 abbrev pub adding : Ended → Point → Point
 adding ended s = record s { library = with_ended s.library ended }
+
+-- the point with these uses
+abbrev pub with_captured : List Use → Point → Point
+with_captured uses s = record s { captured = uses }
+
+-- the point after one more use, if it is one
+abbrev pub capturing : Bool → Use → Point → Point
+capturing captures u s = with_captured (noted captures u s.captured) s
+
+-- the point where a closure's body begins: nothing was used
+abbrev pub apart : Point → Point
+apart s = with_captured [] s
 
 abbrev example_tokens : Tokens
 example_tokens =

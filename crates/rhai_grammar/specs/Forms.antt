@@ -3,6 +3,8 @@ use Rattle.std.specs.Prelude.{Bool, Option}
 use Rattle.rhai_lower.specs.Texts.{Text}
 use Rattle.rhai_lower.specs.Lexemes.{Lexeme}
 use Rattle.rhai_lower.specs.declared.position.Position.{Position}
+use Rattle.rhai_grammar.specs.Uses.{Use}
+use Rattle.std.specs.Prelude.{ℕ, List}
 
 -- the variables of `for`
 pub data LoopNames : Type 0 where
@@ -31,7 +33,7 @@ pub data Owner : Type 0 where
   NoOwner : Owner
   Of : (type : Lexeme) (at dot : Position) → Owner
 
--- the parameters of a function up to the `)`
+-- the parameters of a function up to the `)`, or of a closure up to the `|`
 pub data Parameters : Type 0 where
   -- no further parameter, after the `(` or a comma
   NoParameter : (closing : Position) → Parameters
@@ -42,6 +44,13 @@ pub data ParameterList : Type 0 where
   -- `()` as one token
   EmptyParameters : (at : Position) → ParameterList
   ListedParameters : (opening : Position) → Parameters → ParameterList
+
+-- what a closure begins with, and its parameters
+pub data ClosureHead : Type 0 where
+  -- `||` as one token
+  Bars : (at : Position) → ClosureHead
+  -- parameters between two `|`
+  Declared : (opening : Position) → Parameters → ClosureHead
 
 mutual
   -- an operand without signs, call and links
@@ -62,8 +71,17 @@ mutual
     Interpolated : (first : Text) (at : Position) → Segments → Primary
     -- a construct as a value
     CompoundValue : (at : Position) → Construct → Primary
+    -- A closure. Its number, and the names that it captures, each at its first use, are not written: they are fixed by
+    -- what it demands.
+    Closure : ClosureHead → ClosureBody → (number : ℕ) → (captured : List Use) → Primary
     -- the omitted zero before a range operator; it names the operator, which is not one of this form's tokens
     Zero : (range : Lexeme) (at : Position) → Primary
+
+  -- what a closure does
+  pub data ClosureBody : Type 0 where
+    Runs : Statement → ClosureBody
+    -- nothing, before the end mark, which is at a position and is not one of this form's tokens
+    NoBody : (at : Position) → ClosureBody
 
   -- an operand without signs and links; a name may be followed by a path
   pub data Base : Type 0 where

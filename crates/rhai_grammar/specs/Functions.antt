@@ -1,5 +1,5 @@
 -- Functions of a script: where they may stand, what their parts are, and what they give.
-use Rattle.std.specs.Prelude.{◌≡◌, Bool, true, false, ◌++◌, not, None, Option, Some, List, [], ◌∷◌, codes, length}
+use Rattle.std.specs.Prelude.{◌≡◌, ◌+◌, Bool, true, false, ◌++◌, not, None, Option, Some, List, [], ◌∷◌, codes, length}
 use Rattle.std.specs.Prelude.{if◌then◌else◌, map, nat_lt, refl}
 use Rattle.rhai_lower.specs.Texts.{Text, same_text}
 use Rattle.rhai_lower.specs.Names.{is_function_name}
@@ -15,6 +15,11 @@ use Rattle.rhai_grammar.specs.Beginnings.{calling, missing}
 use Rattle.rhai_grammar.specs.declared.role.Calling.{Calling}
 use Rattle.rhai_grammar.specs.declared.role.Calling.TheVariants as calls_by
 use Rattle.rhai_grammar.specs.Contexts.{Context, Live}
+use Rattle.rhai_grammar.specs.CommaLists.{after_part, closing_text}
+use Rattle.rhai_grammar.specs.declared.list.AfterPart.{AfterPart}
+use Rattle.rhai_grammar.specs.declared.list.AfterPart.TheVariants as after
+use Rattle.rhai_grammar.specs.declared.list.CommaList.{CommaList}
+use Rattle.rhai_grammar.specs.declared.list.CommaList.TheVariants as lists
 use Rattle.rhai_grammar.specs.Demands.{Verdict, Fine, Wrong, Blames, Otherwise}
 use Rattle.rhai_grammar.specs.DueTokens.{is_due, not_due}
 use Rattle.rhai_grammar.specs.declared.due.DueToken.TheVariants as due
@@ -36,15 +41,16 @@ in_function context live = record context {
   settings = function_settings context.settings context.options context.sizes.function_depth;
   filter = All;
   known = record context.known { imports = context.known.imports ++ live.imports };
+  begun = context.begun + 1;
 }
 
 -- what is live where the body begins: the parameters
 abbrev pub parameters_live : List Text → Live
 parameters_live names = record { slots = map (λ name. fresh_slot name false) names; block = 0; imports = [] }
 
--- One more function is within the limit.
+-- One more function or closure is within the limit, with those that have ended and those that have begun around it.
 abbrev pub may_begin : Context → Library → Bool
-may_begin context library = nat_lt (length library) context.sizes.functions
+may_begin context library = nat_lt (length library + context.begun) context.sizes.functions
 
 -- ---- its name
 
@@ -143,28 +149,31 @@ abbrev pub is_keyword : Lexeme → Bool
 is_keyword (Sign t) = is_keyword_sign t
 is_keyword _ = false
 
--- what a token is where a parameter may be
-abbrev pub parameter_place : Lexeme → ItemPlace
-parameter_place (Sign token.RightParen) = place.End
-parameter_place (Name t) = place.Item
-parameter_place _ = place.Nothing
+abbrev pub place_by : AfterPart → ItemPlace
+place_by after.Close = place.End
+place_by _ = place.Nothing
+
+-- what a token is where a parameter of a function or of a closure may be
+abbrev pub parameter_place : CommaList → Lexeme → ItemPlace
+parameter_place parts (Name t) = place.Item
+parameter_place parts l = place_by (after_part parts l)
 
 abbrev pub is_reserved_token : Lexeme → Bool
 is_reserved_token (Reserved t) = true
 is_reserved_token _ = false
 
 -- the error for a token that may not stand there
-abbrev pub no_parameter : Lexeme → Cause
-no_parameter l = if is_reserved_token l then cause.Reserved (text_of l) else
-    if is_keyword l then cause.VariableExpected else missing (codes ")") l
+abbrev pub no_parameter : CommaList → Lexeme → Cause
+no_parameter parts l = if is_reserved_token l then cause.Reserved (text_of l) else
+    if is_keyword l then cause.VariableExpected else missing (closing_text parts) l
 
-abbrev pub parameter_by : Lexeme → ItemPlace → Verdict
-parameter_by l place.Nothing = Wrong (no_parameter l)
-parameter_by l _ = Otherwise
+abbrev pub parameter_by : CommaList → Lexeme → ItemPlace → Verdict
+parameter_by parts l place.Nothing = Wrong (no_parameter parts l)
+parameter_by parts l _ = Otherwise
 
--- where a parameter may be: a name, or `)`
-abbrev pub parameter_due : Lexeme → Verdict
-parameter_due l = parameter_by l (parameter_place l)
+-- where a parameter may be: a name, or what closes the list
+abbrev pub parameter_due : CommaList → Lexeme → Verdict
+parameter_due parts l = parameter_by parts l (parameter_place parts l)
 
 -- the names of parameters, after those before
 abbrev pub names_after : Parameters → (before : List Text) → List Text
@@ -213,7 +222,7 @@ duplicate_of key at = refusal (cause.FnDuplicatedDefinition key.name key.params)
 example : (places : Position)
     → (names_after (form.Parameter (codes "a") places places (form.Parameter (codes "b") places places
     (form.NoParameter places))) [] ≡ codes "a" ∷ codes "b" ∷ [])
-    × (parameter_due (Reserved (codes "this")) ≡ Wrong (cause.Reserved (codes "this")))
-    × (parameter_due (Sign token.If) ≡ Wrong cause.VariableExpected)
+    × (parameter_due lists.Parameters (Reserved (codes "this")) ≡ Wrong (cause.Reserved (codes "this")))
+    × (parameter_due lists.Parameters (Sign token.If) ≡ Wrong cause.VariableExpected)
     × (type_name (Name (codes "int")) ≡ codes "i64")
 example places = (refl, refl, refl, refl)

@@ -4,7 +4,7 @@ use Rattle.rhai_input.specs.Entries.{ask_of, may_be_delivered}
 use Rattle.rhai_lower.specs.declared.position.Position.{Position}
 use Rattle.rhai_input.specs.declared.stream.Entry.{Entry}
 use Rattle.rhai_grammar.specs.Causes.{Refusal}
-use Rattle.rhai_grammar.specs.Delivered.{Mode, code, Point, Ends, Taken, ask, is_end}
+use Rattle.rhai_grammar.specs.Delivered.{Mode, code, Point, Ends, Taken, ask}
 use Rattle.rhai_grammar.specs.Cursors.{Cursor, delivered}
 use Rattle.rhai_grammar.specs.Seen.{Gives, leads}
 use Rattle.rhai_grammar.specs.Contexts.{Context, Live}
@@ -15,7 +15,7 @@ use Rattle.rhai_grammar.specs.Definitions.{after_statements}
 use Rattle.rhai_grammar.specs.Shapes.{run_shape, node_shape, script_shape, statements_shape}
 use Rattle.rhai_grammar.specs.Spelling.{script_spelling, spelling, IsDelivered}
 use Rattle.rhai_grammar.specs.Demands.{Verdict, Wrong, Blames, Demands, Nothing, Tok, Ahead, Next, Test, Shape}
-use Rattle.rhai_grammar.specs.Demands.{◌▸◌, Adds, Literally, NextIn, TestIn}
+use Rattle.rhai_grammar.specs.Demands.{◌▸◌, Adds, Apart, Captures, Literally, TestIn, Uses}
 use Rattle.rhai_grammar.specs.Demands.{verdict, Met, Missed}
 use Rattle.rhai_grammar.specs.Promises.{IsWritten, IsWrittenTo, expressions, scripts}
 use Rattle.rhai_grammar.specs.Libraries.{Library}
@@ -31,12 +31,11 @@ pub record FormsAreSpelled : Type 0 where
   pub script : (context : Context) (live : Live) → AreSpelled (scripts context live) script_spelling
 
 -- A form that fits on one stream fits, after the same functions, on every stream that begins with its spelling and goes
--- on with the end mark. What else these streams would deliver, as in text mode, and the position of the end mark make
--- no difference.
+-- on with the same end mark. What else these streams would deliver, as in text mode, makes no difference.
 abbrev FitWhereverSpelled : {F : Type 0} → (whole : F → Demands) → (spelled : F → List Taken) → Type 0
 FitWhereverSpelled {F} whole spelled =
-    (f : F) (s t other : Point) → Met (whole f) s t → other.library ≡ s.library
-    → Gives (spelled f) other.tokens → is_end (ask code (leads (spelled f) other.tokens)).lexeme ≡ true
+    (f : F) (s t other : Point) → Met (whole f) s t → other.library ≡ s.library → other.captured ≡ s.captured
+    → Gives (spelled f) other.tokens → ask code (leads (spelled f) other.tokens) ≡ ask code t.tokens
     → (end : Point) × Met (whole f) other end
 
 pub record FormsFitWhereverSpelled : Type 0 where
@@ -87,12 +86,14 @@ IsFair Nothing = Unit {0}
 IsFair (Tok m i others ▸ ds) = (is_refused (verdict others i.lexeme) ≡ false) × IsFair ds
 IsFair (Ahead i others ▸ ds) = (is_refused (verdict others i.lexeme) ≡ false) × IsFair ds
 IsFair (Next v ▸ ds) = IsFair ds
-IsFair (NextIn v ▸ ds) = IsFair ds
+IsFair (Uses v captures u ▸ ds) = IsFair ds
 IsFair (Test holds e ▸ ds) = IsFair ds
 IsFair (TestIn holds e ▸ ds) = IsFair ds
 IsFair (Adds ended ▸ ds) = IsFair ds
+IsFair (Captures holds e captures u ▸ ds) = IsFair ds
 IsFair (Shape holds ▸ ds) = holds ≡ true → IsFair ds
 IsFair (Literally ds ▸ more) = IsFair ds × IsFair more
+IsFair (Apart ds number captured ▸ more) = IsFair ds × IsFair more
 
 -- In no form is a token both required and refused at one place. So if a form fits along a stream, it gives no error
 -- there.

@@ -24,6 +24,8 @@ pub mod Modules
 pub mod Targets
 pub mod Interpolations
 pub mod Trees
+pub mod Uses
+pub mod Closures
 pub mod Demands
 pub mod Constructs
 pub mod Statements
@@ -45,6 +47,8 @@ pub mod RowsOfStrings
 pub mod RowsOfConstructs
 pub mod RowsOfModules
 pub mod RowsOfFunctions
+pub mod RowsOfClosures
 pub mod StartLaws
+pub mod ClosureLaws
 pub mod SlotLaws
 pub mod Imports

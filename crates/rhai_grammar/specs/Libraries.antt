@@ -3,7 +3,8 @@ use Rattle.std.specs.Prelude.{◌≡◌, Bool, true, false, None, List, [], ◌�
 use Rattle.rhai_lower.specs.Texts.{Text}
 use Rattle.rhai_lower.specs.Positions.{nowhere}
 use Rattle.rhai_lower.specs.Nodes.{Function, braces, no_statements}
-use Rattle.rhai_grammar.specs.Keys.{Key, has_name}
+use Rattle.rhai_grammar.specs.Keys.{Key, closures, has_name}
+use Rattle.std.specs.Prelude.{ℕ}
 
 -- a function that has ended, with what it is found by
 pub record Ended : Type 0 where
@@ -19,6 +20,10 @@ keys_in library = map (λ e. e.key) library
 -- whether a function has this name
 abbrev pub is_function : Library → Text → Bool
 is_function library name = has_name name (keys_in library)
+
+-- how many of them are closures
+abbrev pub closure_count : Library → ℕ
+closure_count library = closures (keys_in library)
 
 -- a library with one more function
 abbrev pub with_ended : Library → Ended → Library

@@ -1,5 +1,5 @@
 -- Modules: names with a path before them, such as `a::b::c`, and what has to be known under strict variables.
-use Rattle.std.specs.Prelude.{◌≡◌, ℕ, Bool, true, false, ◌||◌, ◌++◌, not, Option, Some, None, List, [], ◌∷◌, codes}
+use Rattle.std.specs.Prelude.{◌≡◌, ℕ, Bool, true, false, ◌||◌, ◌&&◌, ◌++◌, not, Option, Some, None, List, [], ◌∷◌, codes}
 use Rattle.std.specs.Prelude.{if◌then◌else◌, refl}
 use Rattle.std.specs.Option.{is_some}
 use Rattle.rhai_lower.specs.Texts.{Text, same_text}
@@ -14,6 +14,9 @@ use Rattle.rhai_grammar.specs.Forms.{NoPath, Path, Scoped}
 use Rattle.rhai_grammar.specs.Imports.{is_among, module_number}
 use Rattle.rhai_grammar.specs.Libraries.{Library, is_function}
 use Rattle.rhai_grammar.specs.Slots.{number}
+use Rattle.rhai_grammar.specs.Settings.{in_closure}
+use Rattle.rhai_grammar.specs.Beginnings.{excludes_use}
+use Rattle.rhai_lower.specs.Lexemes.{Lexeme}
 
 -- ---- names with a path
 
@@ -60,6 +63,20 @@ abbrev pub may_use : Context → Live → Library → Text → Bool
 may_use context live library name =
     not (is_strict context) || (is_some (number name live.slots)
     || (is_function library name || is_declared name context.known.variables))
+
+-- In a closure, no slot has this name, nor a function that has ended: it stands for what is around the closure, which
+-- captures it.
+abbrev pub is_captured : Context → Live → Text → Library → Bool
+is_captured context live name library =
+    in_closure context.settings && not (is_some (number name live.slots) || is_function library name)
+
+-- A name before this token is a use that is captured.
+abbrev pub captures_use : Context → Live → Text → Library → Lexeme → Bool
+captures_use context live name library token = not (excludes_use token) && is_captured context live name library
+
+-- What a closure captures is used around it. If that is a closure, too, the name need not be known there.
+abbrev pub may_capture : Context → Live → Text → Library → Bool
+may_capture context live name library = in_closure context.settings || may_use context live library name
 
 -- Under strict variables the first name of a path is that of an import, here or around the script, `global`, or a
 -- module of the engine.

@@ -14,7 +14,13 @@ use Rattle.rhai_grammar.specs.Forms.{Owner, ParameterList, Parameters}
 use Rattle.rhai_grammar.specs.Imports.{is_among}
 use Rattle.rhai_grammar.specs.Libraries.{Ended}
 use Rattle.rhai_grammar.specs.declared.list.CommaList.TheVariants as lists
-use Rattle.rhai_grammar.specs.Demands.{Adds, TestIn}
+use Rattle.rhai_grammar.specs.Demands.{Adds, Apart, Captures, TestIn}
+use Rattle.rhai_grammar.specs.Closures.{declared_names, in_closure}
+use Rattle.rhai_grammar.specs.Forms.{ClosureHead}
+use Rattle.rhai_grammar.specs.Functions.{parameters_live}
+use Rattle.rhai_grammar.specs.Modules.{is_captured, may_capture}
+use Rattle.rhai_grammar.specs.Uses.{Use}
+use Rattle.std.specs.Prelude.{ℕ}
 use Rattle.std.specs.Prelude.{◌++◌, [], ◌∷◌, unwrap_or}
 use Rattle.rhai_grammar.specs.Causes as cause
 use Rattle.rhai_grammar.specs.Causes.{Refusal, refusal}
@@ -211,30 +217,58 @@ function_name (form.Of type type_at dot) name at more =
     Tok code (item (Sign token.Period) dot) (after_type type) ▸ Tok code (item (Name name) at) function_name_due ▸
     Test (names_function name) (refusal cause.FnMissingName at) ▸ more
 
--- no two parameters of a function have one name
-abbrev pub parameter : (name : Text) → (at : Position) → (function : Text) → (before : List Text) → Demands → Demands
-parameter name at function before more =
-    Tok code (item (Name name) at) parameter_due ▸
+-- No two parameters of a function have one name. In the refusal of a closure that has, `function` is empty.
+abbrev pub parameter : CommaList → (name : Text) → (at : Position) → (function : Text) → (before : List Text) → Demands
+    → Demands
+parameter parts name at function before more =
+    Tok code (item (Name name) at) (parameter_due parts) ▸
     Test (not (is_among name before)) (refusal (cause.FnDuplicatedParam function name) at) ▸ more
 
-abbrev pub parameters : Parameters → (function : Text) → (before : List Text) → Demands → Demands
-parameters (form.NoParameter closing) function before more =
-    Tok code (item (Sign token.RightParen) closing) parameter_due ▸ more
-parameters (form.LastParameter name at closing) function before more =
-    parameter name at function before (closed_at lists.Parameters closing more)
-parameters (form.Parameter name at comma rest) function before more =
-    parameter name at function before (
-    comma_at lists.Parameters comma (parameters rest function (before ++ name ∷ []) more))
+abbrev pub parameters : Parameters → CommaList → (function : Text) → (before : List Text) → Demands → Demands
+parameters (form.NoParameter closing) parts function before more =
+    Tok code (item (Sign (closing_of parts)) closing) (parameter_due parts) ▸ more
+parameters (form.LastParameter name at closing) parts function before more =
+    parameter parts name at function before (closed_at parts closing more)
+parameters (form.Parameter name at comma rest) parts function before more =
+    parameter parts name at function before (
+    comma_at parts comma (parameters rest parts function (before ++ name ∷ []) more))
 
 abbrev pub parameter_list : ParameterList → (function : Text) → Demands → Demands
 parameter_list (form.EmptyParameters at) function more =
     Tok code (item (Sign token.Unit) at) (parameters_due function) ▸ more
 parameter_list (form.ListedParameters opening list) function more =
-    Tok code (item (Sign LeftParen) opening) (parameters_due function) ▸ parameters list function [] more
+    Tok code (item (Sign LeftParen) opening) (parameters_due function) ▸
+    parameters list lists.Parameters function [] more
 
--- A function ends where no other has its key.
+-- A function ends where no other has its key. So does a closure, whose name is new unless the script was given closures
+-- whose names are not those of the numbers below their count.
 abbrev pub function_ends : Ended → (at : Position) → Demands → Demands
 function_ends ended at more = TestIn (is_new ended.key) (duplicate_of ended.key at) ▸ Adds ended ▸ more
+
+-- ---- closures
+
+-- the parameters of a closure, after its first token
+abbrev pub closure_parameters : ClosureHead → Demands → Demands
+closure_parameters (form.Bars at) more = more
+closure_parameters (form.Declared opening list) more = parameters list lists.ClosureParameters [] [] more
+
+-- The names that a closure captures are used where it ends, in this order.
+abbrev pub captured_names : List Use → Context → Live → Demands → Demands
+captured_names [] context live more = more
+captured_names (u ∷ captured) context live more =
+    Captures (may_capture context live u.name) (refusal (cause.VariableUndefined u.name) u.at)
+    (is_captured context live u.name) u ▸ captured_names captured context live more
+
+-- A closure begins where one more function is within the limit, and its parameters follow. After these the level is
+-- raised at its first token, which is at a position, in the closure. `inside` is what its body demands then.
+abbrev pub as_closure : ClosureHead → (at : Position) → (inside : Context → Live → Demands → Demands) → (number : ℕ) → List Use → Ended
+    → Context → Live → Demands → Demands
+as_closure head at inside number captured ended context live more =
+    TestIn (may_begin context) (refusal cause.TooManyFunctions at) ▸
+    closure_parameters head (
+    raise_at (in_closure context live) at (
+    Apart (inside (level_up (in_closure context live)) (parameters_live (declared_names head)) Nothing) number captured ▸
+    captured_names captured context live (function_ends ended at more)))
 
 -- ---- places
 

@@ -9,12 +9,13 @@ use Rattle.rhai_grammar.specs.Contexts.{Context, Live}
 use Rattle.rhai_grammar.specs.Forms.{Run, Statements}
 use Rattle.rhai_grammar.specs.Demands.{Demands, Met, Missed}
 use Rattle.rhai_grammar.specs.Libraries.{Library}
+use Rattle.rhai_grammar.specs.Uses.{Use}
 use Rattle.rhai_grammar.specs.Written.{whole_expression, whole_script}
 use Rattle.rhai_grammar.specs.declared.error.ParseError.{ParseError}
 
 -- the point at which parsing starts, with these functions
 abbrev pub start_of : Library → Cursor → Point
-start_of library s = record { tokens = s.tokens; taken = []; library = library }
+start_of library s = record { tokens = s.tokens; taken = []; library = library; captured = [] }
 
 -- A form fits after some functions and spells a whole stream, up to its end mark; `whole` is what each form demands of
 -- it.
@@ -81,10 +82,13 @@ pub record IsNamed {F : Type 0} (whole : F → Demands) (before after : Library)
     (start left : Cursor) (e : Refusal) : Type 0
   where
     pub form : F
+    -- the names that were used there
+    pub captured : List Use
     pub missed : Missed (whole form) (start_of before start) e left.mode (record {
       tokens = left.tokens;
       taken = latest_first taken [];
       library = after;
+      captured = captured;
     })
     pub last : StandsAtLast e left
 

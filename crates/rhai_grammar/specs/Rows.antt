@@ -24,7 +24,7 @@ line [] end = Ends (place 1 end)
 line (t ∷ ts) end = let rest = line ts end in let i = item t.0 (place 1 t.1) in Then i i rest rest
 
 abbrev pub unread : List (Lexeme × ℕ) → ℕ → Point
-unread ts end = record { tokens = line ts end; taken = []; library = [] }
+unread ts end = record { tokens = line ts end; taken = []; library = []; captured = [] }
 
 abbrev pub taken_from : List (Lexeme × ℕ) → List Taken
 taken_from [] = []
@@ -32,7 +32,7 @@ taken_from (t ∷ ts) = record { mode = code; item = item t.0 (place 1 t.1) } �
 
 -- the point at which the first of these tokens were taken, and the second are left
 abbrev pub between : List (Lexeme × ℕ) → List (Lexeme × ℕ) → ℕ → Point
-between ts us end = record { tokens = line us end; taken = reverse (taken_from ts); library = [] }
+between ts us end = record { tokens = line us end; taken = reverse (taken_from ts); library = []; captured = [] }
 
 -- a context at level 0 with a depth limit, without flags and options, and with literals of any size
 abbrev pub depth : ℕ → Context
@@ -42,6 +42,7 @@ depth limit = record {
   sizes = record { array = 0; map = 0; function_depth = 32; functions = 100 };
   filter = All;
   known = nothing_known;
+  begun = 0;
 }
 
 -- an operand without links

@@ -80,6 +80,23 @@ function_settings settings options limit = record {
   limit = limit;
 }
 
+-- the bit of the flags that says that a closure's body is parsed
+abbrev pub in_closure : Settings → Bool
+in_closure settings = bit_and settings.flags 4 == 4
+
+-- the bit of the options that makes a closure an operand
+abbrev pub closure_values : Settings → Bool
+closure_values settings = bit_and settings.options 16 == 16
+
+-- The settings in a closure: the level and its limit stay; the flags that say that a function's and a closure's body is
+-- parsed, and the two about blocks and the keys of object maps, where they are set; and the engine's options, without
+-- strict variables.
+abbrev pub closure_settings : Settings → (options : ℕ) → Settings
+closure_settings settings options = record settings {
+  flags = bit_or 6 (bit_and settings.flags 48);
+  options = bit_and options 191;
+}
+
 abbrev at_level : ℕ → ℕ → Settings
 at_level limit level = record { flags = 0; options = 0; level = level; limit = limit }
 

@@ -14,6 +14,8 @@ use Rattle.rhai_grammar.specs.Forms as form
 use Rattle.rhai_grammar.specs.Forms.{Arguments, Base, Body, Elements, ExprStatement, Fields, Initializer, Items, Links}
 use Rattle.rhai_grammar.specs.Forms.{Branch, CatchName, Conditional, Construct, JumpValue, LoopNames, Operand}
 use Rattle.rhai_grammar.specs.Forms.{Action, Alias, CaseGuard, Path, Primary, Run, Segments}
+use Rattle.rhai_grammar.specs.Forms.{ClosureBody, ClosureHead}
+use Rattle.rhai_grammar.specs.Uses.{Use}
 
 -- ---- trees
 
@@ -21,7 +23,7 @@ abbrev pub path_shape : List (Text × Position) → List (Text × Position)
 path_shape [] = []
 path_shape (part ∷ parts) = (part.0, nowhere) ∷ path_shape parts
 
-abbrev shared_shape : List (Text × Position × Option ℕ) → List (Text × Position × Option ℕ)
+abbrev pub shared_shape : List (Text × Position × Option ℕ) → List (Text × Position × Option ℕ)
 shared_shape [] = []
 shared_shape (name ∷ names) = (name.0, nowhere, name.2) ∷ shared_shape names
 
@@ -136,6 +138,14 @@ abbrev pub parameter_list_shape : ParameterList → ParameterList
 parameter_list_shape (form.EmptyParameters at) = form.EmptyParameters nowhere
 parameter_list_shape (form.ListedParameters opening list) = form.ListedParameters nowhere (parameters_shape list)
 
+abbrev pub captured_shape : List Use → List Use
+captured_shape [] = []
+captured_shape (u ∷ captured) = record { name = u.name; at = nowhere } ∷ captured_shape captured
+
+abbrev pub head_shape : ClosureHead → ClosureHead
+head_shape (form.Bars at) = form.Bars nowhere
+head_shape (form.Declared opening list) = form.Declared nowhere (parameters_shape list)
+
 abbrev mutual
   pub primary_shape : Primary → Primary
   primary_shape (form.Value token at) = form.Value token nowhere
@@ -146,7 +156,13 @@ abbrev mutual
   primary_shape (form.Map opening fields) = form.Map nowhere (fields_shape fields)
   primary_shape (form.Interpolated first at segments) = form.Interpolated first nowhere (segments_shape segments)
   primary_shape (form.CompoundValue at x) = form.CompoundValue nowhere (construct_shape x)
+  primary_shape (form.Closure head body number captured) =
+      form.Closure (head_shape head) (closure_body_shape body) number (captured_shape captured)
   primary_shape (form.Zero range at) = form.Zero range nowhere
+
+  pub closure_body_shape : ClosureBody → ClosureBody
+  closure_body_shape (form.Runs f) = form.Runs (written_shape f)
+  closure_body_shape (form.NoBody at) = form.NoBody nowhere
 
   pub base_shape : Base → Base
   base_shape (form.Plain x names) = form.Plain (primary_shape x) (scoped_shape names)

@@ -15,6 +15,11 @@ use Rattle.rhai_grammar.specs.Forms.{Body, Branch, CatchName, Conditional, Const
 use Rattle.rhai_grammar.specs.Forms.{Alias, JumpValue, LoopNames, Owner, ParameterList, Parameters, Path, Segments}
 use Rattle.rhai_grammar.specs.Forms.{Statement, Statements}
 use Rattle.rhai_grammar.specs.Forms.{Action, Arms, CaseGuard, Cases}
+use Rattle.rhai_grammar.specs.Forms.{ClosureBody, ClosureHead}
+use Rattle.rhai_grammar.specs.Closures.{bars_at, bars_of, bars_token}
+use Rattle.rhai_grammar.specs.CommaLists.{closing_of}
+use Rattle.rhai_grammar.specs.declared.list.CommaList.{CommaList}
+use Rattle.rhai_grammar.specs.declared.list.CommaList.TheVariants as lists
 use Rattle.rhai_grammar.specs.Constructs.{construct_token, do_token, kind_of}
 use Rattle.rhai_grammar.specs.Starts.{jump_token}
 use Rattle.rhai_grammar.specs.Statements.{keyword_of}
@@ -58,17 +63,22 @@ abbrev pub owner_spelling : Owner → List Taken
 owner_spelling form.NoOwner = []
 owner_spelling (form.Of type at dot) = in_code type at ∷ in_code (Sign token.Period) dot ∷ []
 
-abbrev pub parameter_spelling : Parameters → List Taken
-parameter_spelling (form.NoParameter closing) = in_code (Sign RightParen) closing ∷ []
-parameter_spelling (form.LastParameter name at closing) =
-    in_code (Name name) at ∷ in_code (Sign RightParen) closing ∷ []
-parameter_spelling (form.Parameter name at comma rest) =
-    in_code (Name name) at ∷ in_code (Sign Comma) comma ∷ parameter_spelling rest
+abbrev pub parameter_spelling : CommaList → Parameters → List Taken
+parameter_spelling parts (form.NoParameter closing) = in_code (Sign (closing_of parts)) closing ∷ []
+parameter_spelling parts (form.LastParameter name at closing) =
+    in_code (Name name) at ∷ in_code (Sign (closing_of parts)) closing ∷ []
+parameter_spelling parts (form.Parameter name at comma rest) =
+    in_code (Name name) at ∷ in_code (Sign Comma) comma ∷ parameter_spelling parts rest
 
 abbrev pub parameter_list_spelling : ParameterList → List Taken
 parameter_list_spelling (form.EmptyParameters at) = in_code (Sign token.Unit) at ∷ []
 parameter_list_spelling (form.ListedParameters opening list) =
-    in_code (Sign LeftParen) opening ∷ parameter_spelling list
+    in_code (Sign LeftParen) opening ∷ parameter_spelling lists.Parameters list
+
+-- the parameters of a closure, after its first token
+abbrev pub closure_parameter_spelling : ClosureHead → List Taken
+closure_parameter_spelling (form.Bars at) = []
+closure_parameter_spelling (form.Declared opening list) = parameter_spelling lists.ClosureParameters list
 
 abbrev pub names_spelling : LoopNames → List Taken
 names_spelling (form.Variable name at) = in_code (Name name) at ∷ []
@@ -81,8 +91,8 @@ catch_spelling form.NoName = []
 catch_spelling (form.Caught opening name at closing) =
     in_code (Sign LeftParen) opening ∷ in_code (Name name) at ∷ in_code (Sign RightParen) closing ∷ []
 
--- A form's tokens in written order, each with the mode in which it is requested. The omitted zero and the omitted unit
--- have none.
+-- A form's tokens in written order, each with the mode in which it is requested. The omitted zero, the omitted unit and
+-- the empty body of a closure have none.
 abbrev mutual
   pub primary_spelling : Primary → List Taken
   primary_spelling (form.Value token at) = in_code token at ∷ []
@@ -94,7 +104,14 @@ abbrev mutual
   primary_spelling (form.Map opening fields) = in_code (Sign MapStart) opening ∷ field_spelling fields
   primary_spelling (form.Interpolated first at list) = in_code (Interpolated first) at ∷ segment_spelling list
   primary_spelling (form.CompoundValue at x) = in_code (Sign (construct_token (kind_of x))) at ∷ construct_spelling x
+  primary_spelling (form.Closure head body number captured) =
+      in_code (Sign (bars_token (bars_of head))) (bars_at head)
+      ∷ (closure_parameter_spelling head ++ closure_body_spelling body)
   primary_spelling (form.Zero range at) = []
+
+  pub closure_body_spelling : ClosureBody → List Taken
+  closure_body_spelling (form.Runs f) = statement_spelling f
+  closure_body_spelling (form.NoBody at) = []
 
   pub base_spelling : Base → List Taken
   base_spelling (form.Plain x names) = primary_spelling x ++ path_spelling names

@@ -1,5 +1,6 @@
 -- Laws on the tokens that begin an expression.
-use Rattle.std.specs.Prelude.{◌≡◌, ◌⊎◌, Bool, true, false, codes, refl}
+use Rattle.std.specs.Prelude.{◌≡◌, ◌⊎◌, Bool, true, false, [], codes, refl}
+use Rattle.rhai_grammar.specs.Functions.{may_begin}
 use Rattle.rhai_lower.specs.Lexemes.{Lexeme, Faulty, Name, Reserved, Sign, UnterminatedString}
 use Rattle.rhai_lower.specs.declared.token.Token.TheVariants.{LeftParen}
 use Rattle.rhai_grammar.specs.Delivered.{code, next_at, Point}
@@ -23,14 +24,15 @@ IsBegun context live token =
     × Met (expression f context live Nothing) s t
 
 -- A token begins an expression exactly where some expression that fits begins with it, or it is one of those that are
--- added. Where the depth is limited there may be no room for such an expression, so that half is about contexts without
--- a limit; what was defined before makes no difference.
+-- added. Where the depth is limited there may be no room for such an expression, nor for a closure where the functions
+-- are, so that half is about contexts without a limit and with room for a function; what was defined before makes no
+-- difference.
 pub record StartsOfExpressions : Type 0 where
   pub only : (context : Context) (live : Live) (f : Run) (s t : Point) → Met (expression f context live Nothing) s t
       → starts context (next_at code s).lexeme ≡ true
   pub added : (context : Context) (token : Lexeme) → is_added token ≡ true → starts context token ≡ true
   pub begins : (context : Context) (live : Live) (token : Lexeme) → context.settings.limit ≡ 0
-      → starts context token ≡ true
+      → may_begin context [] ≡ true → starts context token ≡ true
       → (is_added token ≡ true) ⊎ IsBegun context live token
 
 -- A reserved word is added, even one that is refused; a name and a `(` are not, and have to begin an expression.

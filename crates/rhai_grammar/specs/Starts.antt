@@ -1,12 +1,14 @@
 -- Which tokens begin an expression, and what a jump makes of that: `return`, `throw` and `break` have a value exactly
 -- where the next token begins one.
-use Rattle.std.specs.Prelude.{◌≡◌, Bool, true, false, if◌then◌else◌, refl}
+use Rattle.std.specs.Prelude.{◌≡◌, ◌&&◌, Bool, true, false, if◌then◌else◌, refl}
 use Rattle.rhai_lower.specs.Lexemes.{Lexeme, Faulty, Sign, UnterminatedString}
 use Rattle.rhai_lower.specs.declared.token.Token.{Token}
 use Rattle.rhai_lower.specs.declared.token.Token.TheVariants as token
 use Rattle.rhai_grammar.specs.Beginnings.{beginning, omits_operand}
 use Rattle.rhai_grammar.specs.Constructs.{may_be_value}
-use Rattle.rhai_grammar.specs.Contexts.{Context}
+use Rattle.rhai_grammar.specs.Contexts.{Context, allows_pipe, has_closures}
+use Rattle.rhai_grammar.specs.declared.role.Bars.{Bars}
+use Rattle.rhai_grammar.specs.declared.role.Bars.TheVariants as bars
 use Rattle.rhai_grammar.specs.Demands.{Verdict, Fine, Otherwise}
 use Rattle.rhai_grammar.specs.declared.role.Beginning.{Beginning}
 use Rattle.rhai_grammar.specs.declared.role.Beginning.TheVariants as begin
@@ -15,10 +17,16 @@ use Rattle.rhai_grammar.specs.declared.role.OperandPlace.TheVariants as place
 use Rattle.rhai_grammar.specs.declared.role.OperandStart.{OperandStart}
 use Rattle.rhai_grammar.specs.declared.role.OperandStart.TheVariants as start
 
--- An operand begins so under this context: a construct only where it may be a value.
+-- A closure may be an operand, but in a case of a `switch` not one that begins with `|`.
+abbrev pub may_be_closure : Context → Bars → Bool
+may_be_closure context bars.Pair = has_closures context
+may_be_closure context bars.List = has_closures context && allows_pipe context.filter
+
+-- An operand begins so under this context: a construct and a closure only where it may be a value.
 abbrev pub begins : Context → Beginning → Bool
 begins context begin.Nothing = false
 begins context (begin.Construct kind) = may_be_value context kind
+begins context (begin.Closure by) = may_be_closure context by
 begins context _ = true
 
 -- A token begins an expression if it begins an operand. An error of the tokenizer counts as a beginning too, so that it

@@ -37,6 +37,9 @@ use Rattle.rhai_grammar.specs.Forms.{Primary, Base, Links, Operand, Arguments, I
 use Rattle.rhai_grammar.specs.Forms.{Body, Branch, CatchName, Conditional, Construct, ExprStatement, Initializer}
 use Rattle.rhai_grammar.specs.Forms.{JumpValue, LoopNames, Path, Segments, Statement, Statements}
 use Rattle.rhai_grammar.specs.Forms.{Action, Arms, CaseGuard, Cases}
+use Rattle.rhai_grammar.specs.Forms.{ClosureBody, ClosureHead}
+use Rattle.rhai_grammar.specs.Closures.{bars_at, closure_node, declared_names, ended_closure}
+use Rattle.rhai_grammar.specs.Uses.{Use}
 
 -- ---- names and calls
 
@@ -174,6 +177,8 @@ abbrev mutual
   primary_tree (form.Interpolated first at segments) live called =
       interpolated (with_text first at (segment_trees segments live)) at
   primary_tree (form.CompoundValue at x) live called = block_value (made_block (construct_tree x live at))
+  primary_tree (form.Closure head body number captured) live called =
+      closure_node (bars_at head) number captured (declared_names head) live
   primary_tree (form.Zero range at) live called = integer (pos 0) at
 
   pub base_tree : Base → Live → Node
@@ -331,6 +336,17 @@ function_tree is_private owner name list opening body =
     let names = parameter_names list in
     ended_function (is_some is_private) (owner_of owner) name names
     (block_tree opening body (parameters_live names))
+
+-- what a closure's body is; it lies in the block of the closure's parameters
+abbrev pub body_tree : ClosureBody → Live → node.Statement
+body_tree (form.Runs f) live = statement_tree f live
+body_tree (form.NoBody at) live = noop at
+
+-- the function of a closure
+abbrev pub closure_tree : ClosureHead → ClosureBody → (number : ℕ) → (captured : List Use) → Ended
+closure_tree head body number captured =
+    let names = declared_names head in
+    ended_closure number captured names (made_block (body_tree body (parameters_live names)))
 
 -- An arm that does this needs no comma after it.
 abbrev pub action_ends : Action → Live → Bool

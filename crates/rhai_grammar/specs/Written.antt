@@ -32,7 +32,7 @@ use Rattle.rhai_grammar.specs.Trees.{is_variable, bracket_link, member_link, met
 use Rattle.rhai_grammar.specs.Trees.{argument_trees, named_tree, operand_tree, statement_tree, tree}
 use Rattle.rhai_grammar.specs.Modules.{is_qualified, is_scoped, module_fault}
 use Rattle.rhai_grammar.specs.Chains.{index_refusal, last_fault}
-use Rattle.rhai_grammar.specs.Demands.{Verdict, Demands, Nothing, Tok, Ahead, Next, NextIn}
+use Rattle.rhai_grammar.specs.Demands.{Verdict, Demands, Nothing, Tok, Ahead, Next}
 use Rattle.rhai_grammar.specs.Demands.{Test, Shape, ◌▸◌}
 use Rattle.rhai_grammar.specs.Verdicts.{operand_due, anything, after_name, after_word, uncalled, unlinked, member_due}
 use Rattle.rhai_grammar.specs.Verdicts.{uncalled_member, list_due, close_or_argument, argument_due}
@@ -57,8 +57,14 @@ pub use Rattle.rhai_grammar.specs.Parts.{in_braces, as_guard, as_iterated, loop_
 pub use Rattle.rhai_grammar.specs.Parts.{as_case, banged, global_at, other_name, path}
 pub use Rattle.rhai_grammar.specs.Parts.{function_at, function_begins, function_ends, function_name}
 pub use Rattle.rhai_grammar.specs.Parts.{parameter, parameter_list, parameters}
+pub use Rattle.rhai_grammar.specs.Parts.{as_closure, captured_names, closure_parameters}
 use Rattle.rhai_grammar.specs.Functions.{body_due, in_function, parameter_names, parameters_live}
-use Rattle.rhai_grammar.specs.Trees.{function_tree}
+use Rattle.rhai_grammar.specs.Trees.{closure_tree, function_tree}
+use Rattle.rhai_grammar.specs.Closures.{bars_at, bars_of, bars_token, runs}
+use Rattle.rhai_grammar.specs.Demands.{Uses}
+use Rattle.rhai_grammar.specs.Forms.{ClosureBody}
+use Rattle.rhai_grammar.specs.Modules.{captures_use}
+use Rattle.rhai_grammar.specs.Starts.{may_be_closure}
 
 -- ---- the forms
 
@@ -68,7 +74,7 @@ abbrev mutual
       Shape (is_value (beginning token)) ▸ Tok code (item token at) (operand_due context place) ▸ more
   primary (form.Named name at) context live place more =
       Tok code (item (Name name) at) (operand_due context place) ▸
-      NextIn (after_name context live name at) ▸ more
+      Uses (after_name context live name at) (captures_use context live name) (record { name = name; at = at }) ▸ more
   primary (form.Word word at) context live place more =
       Tok code (item (Reserved word) at) (operand_due context place) ▸ Next (after_word context word at) ▸ more
   primary (form.Group opening inside closing) context live place more =
@@ -87,8 +93,19 @@ abbrev mutual
       Shape (may_be_value context (kind_of x)) ▸
       Tok code (item (Sign (construct_token (kind_of x))) at) (operand_due context place) ▸
       inside_at at context (construct x (level_up (level_up context)) live at more)
+  -- Its body lies in the block of its parameters. When it has ended, the names that it captures are used, and it joins
+  -- the functions.
+  primary (form.Closure head body number captured) context live place more =
+      Shape (may_be_closure context (bars_of head)) ▸
+      Tok code (item (Sign (bars_token (bars_of head))) (bars_at head)) (operand_due context place) ▸
+      as_closure head (bars_at head) (closure_body body) number captured (closure_tree head body number captured) context
+      live more
   primary (form.Zero range at) context live place more =
       Shape (is_range (beginning range)) ▸ Ahead (item range at) (operand_due context place) ▸ more
+
+  pub closure_body : ClosureBody → Context → Live → Demands → Demands
+  closure_body (form.Runs f) context live more = Next runs ▸ statement f context live more
+  closure_body (form.NoBody at) context live more = Ahead (item (Sign token.EOF) at) anything ▸ more
 
   -- A variable that is called is the name of a call. Only what calls it may follow a reserved word other than `this`.
   -- Where the name has a path, the module that it begins with is tested after the arguments.

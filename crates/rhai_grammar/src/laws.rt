@@ -1,10 +1,12 @@
 //! Laws of the definitions, as contracts of functions that do nothing.
 
+ghost use Rattle.rhai_grammar.specs.ClosureLaws.{CapturedAreUsed, ParametersAreCaptured};
 ghost use Rattle.rhai_grammar.specs.Laws.{ChainsAreJoined, EntriesAreDelivered, FormsAreFair};
 ghost use Rattle.rhai_grammar.specs.Laws.{FormsAreSpelled, FormsFitWhereverSpelled, StreamsAreWhole, TreesKeepShape};
 ghost use Rattle.rhai_grammar.specs.Rows.{CallRow, EndedRow, FlatRow, LateRow, MinusRow, OpenRow};
 ghost use Rattle.rhai_grammar.specs.Rows.{PairRow, RangedRow, SizedRow, SumRow};
 ghost use Rattle.rhai_grammar.specs.RowsOfChains.{CaptureRow, GroupedRow, JoinedRow, QuestionedRow};
+ghost use Rattle.rhai_grammar.specs.RowsOfClosures.{ClosureSumRow, DotRow, EmptyBodyRow, FunctionNameRow, MemberRow, NestedRow, SlotRow};
 ghost use Rattle.rhai_grammar.specs.RowsOfConstructs.{ArmRow, BreakRow, DefaultRow, IntegerRow, LoopRow, PipeRow};
 ghost use Rattle.rhai_grammar.specs.RowsOfFunctions.{FunctionRow};
 ghost use Rattle.rhai_grammar.specs.RowsOfModules.{ExportedRow, TwiceRow};
@@ -20,7 +22,8 @@ pub fn forms_are_spelled()
     ensures { FormsAreSpelled }
 {}
 
-/// A form that fits on one stream fits on every stream that begins with its spelling and goes on with the end mark.
+/// A form that fits on one stream fits on every stream that begins with its spelling and goes on with the same end
+/// mark.
 #[tactic(auto, using(crate::proofs::StreamLemmas::forms_fit_wherever_spelled))]
 pub fn forms_fit_wherever_spelled()
     ensures { FormsFitWhereverSpelled }
@@ -294,4 +297,60 @@ pub fn reuse()
 #[tactic(auto, using(crate::proofs::SlotLemmas::scopes_close))]
 pub fn scopes_close()
     ensures { ScopesClose }
+{}
+
+/// The parameters of a closure are the names that it captures, and then its own; `curry` has the captured ones, in the
+/// same order.
+#[tactic(auto, using(crate::proofs::ClosureLemmas::parameters_are_captured))]
+pub fn parameters_are_captured()
+    ensures { ParametersAreCaptured }
+{}
+
+/// A closure captures each name once, and each that has no slot around it and is no function is used there.
+#[tactic(auto, using(crate::proofs::ClosureLemmas::captured_are_used))]
+pub fn captured_are_used()
+    ensures { CapturedAreUsed }
+{}
+
+/// `|| x in y` captures `x`, and then `y`.
+#[tactic(auto, using(crate::proofs::ClosureRowLemmas::member_row))]
+pub fn member_row()
+    ensures { MemberRow }
+{}
+
+/// `|x| x + y` has the parameters `y` and `x`.
+#[tactic(auto, using(crate::proofs::ClosureRowLemmas::closure_sum_row))]
+pub fn closure_sum_row()
+    ensures { ClosureSumRow }
+{}
+
+/// `let x = 1; || x` shares the slot of `x`, which has number 1.
+#[tactic(auto, using(crate::proofs::ClosureRowLemmas::slot_row))]
+pub fn slot_row()
+    ensures { SlotRow }
+{}
+
+/// `|| || x` gives two closures, each with the parameter `x`.
+#[tactic(auto, using(crate::proofs::ClosureRowLemmas::nested_row))]
+pub fn nested_row()
+    ensures { NestedRow }
+{}
+
+/// `||` has an empty body. It is refused where no function may begin, and `|| x`
+/// where variables have to be known.
+#[tactic(auto, using(crate::proofs::ClosureRowLemmas::empty_body_row))]
+pub fn empty_body_row()
+    ensures { EmptyBodyRow }
+{}
+
+/// `|| f` captures nothing after a function `f`.
+#[tactic(auto, using(crate::proofs::ClosureRowLemmas::function_name_row))]
+pub fn function_name_row()
+    ensures { FunctionNameRow }
+{}
+
+/// In `|| {1}.x` the dot belongs to the closure.
+#[tactic(auto, using(crate::proofs::ClosureRowLemmas::dot_row))]
+pub fn dot_row()
+    ensures { DotRow }
 {}

@@ -13,6 +13,8 @@ pub enum CommaList {
     Arms,
     /// The parameters of a function, up to `)`.
     Parameters,
+    /// The parameters of a closure, up to `|`.
+    ClosureParameters,
 }
 
 /// What a token is after a part of such a list.

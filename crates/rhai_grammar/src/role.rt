@@ -22,6 +22,15 @@ pub enum Construct {
     Try,
 }
 
+/// The token that a closure begins with.
+#[derive(Clone, Copy, PartialEq, Eq, Debug)]
+pub enum Bars {
+    /// `||`, as one token.
+    Pair,
+    /// `|`, which begins a list of parameters.
+    List,
+}
+
 /// What a token begins where an operand is expected.
 #[derive(Clone, Copy, PartialEq, Eq, Debug)]
 pub enum Beginning {
@@ -41,6 +50,8 @@ pub enum Beginning {
     Interpolated,
     /// A construct, which is an operand only where the options allow it.
     Construct(Construct),
+    /// A closure, which is an operand only where the options allow it.
+    Closure(Bars),
     /// A sign before an operand.
     Sign,
     /// A range whose left operand is omitted.
@@ -98,7 +109,7 @@ pub enum Linking {
 /// What a token is where an item of an array, or a parameter of a function, may begin.
 #[derive(Clone, Copy, PartialEq, Eq, Debug)]
 pub enum ItemPlace {
-    /// `]` or `)`, which ends the list.
+    /// `]`, `)` or `|`, which ends the list.
     End,
     /// The beginning of an item, or a parameter.
     Item,

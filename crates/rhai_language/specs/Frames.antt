@@ -13,6 +13,7 @@ context_of language frame settings = record {
   sizes = sizes_of language;
   filter = frame.filter;
   known = frame.known;
+  begun = frame.begun;
 }
 
 -- what was defined before it

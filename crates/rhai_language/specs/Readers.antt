@@ -24,9 +24,13 @@ use Rattle.rhai_grammar.specs.Switches.{Collected}
 use Rattle.rhai_grammar.specs.declared.error.ParseError.{ParseError}
 use Rattle.rhai_reading.specs.Reading as reading
 use Rattle.rhai_reading.specs.Reading.{Goal, Val}
-use Rattle.rhai_reading.specs.Running.{Gives, Progress, need, result_of}
+use Rattle.rhai_reading.specs.Running.{Gives, Progress, need, nested, result_of}
+use Rattle.rhai_reading.specs.Nesting.{Nesting}
+use Rattle.rhai_base.specs.Counts.{counts_of}
+use Rattle.rhai_base.specs.declared.counts.ParseCounts.{ParseCounts}
 use Rattle.rhai_base.specs.Frames.{FrameValue}
-use Rattle.rhai_base.specs.Libraries.{ended, library_of}
+use Rattle.rhai_base.specs.Libraries.{Grows, ended, library_of}
+use Rattle.rhai_base.specs.Uses.{uses_of}
 use Rattle.rhai_base.specs.declared.settings.ParseSettings.{ParseSettings}
 use Rattle.rhai_language.specs.Bounds.{UpTo}
 use Rattle.rhai_language.specs.Languages.{LanguageValue}
@@ -251,9 +255,19 @@ ended_view e = ended e.0 e.1
 abbrev pub with_live : {X A : Type 0} → (X → A) → FrameValue → X → A × Live
 with_live view frame x = (view x, live_of frame)
 
--- what is left to read, and the functions that have ended
+-- how many readers are active, and the greatest number that was
+abbrev pub nesting_of : ParseCounts → Nesting
+nesting_of c = record { active = (counts_of c).active; peak = (counts_of c).peak }
+
+-- what is left to read, the functions that have ended, the names that the closure around has captured, and how deeply
+-- readers are nested
 abbrev pub state_of : Shared → Progress
-state_of s = record { cursor = cursor_of s.input.now; library = library_of s.library.now }
+state_of s = record {
+  cursor = cursor_of s.input.now;
+  library = library_of s.library.now;
+  captured = uses_of s.captured.now.items;
+  nesting = nesting_of s.counts;
+}
 
 -- what is left to read from this cursor, with the functions that had ended
 abbrev pub state_at : Shared → Cursor → Progress
@@ -263,15 +277,22 @@ state_at s cursor = record (state_of s) { cursor = cursor }
 pub record SameLoans (old new : Shared) : Type 0 where
   pub input : new.input.ghost_name ≡ old.input.ghost_name
   pub library : new.library.ghost_name ≡ old.library.ghost_name
+  pub captured : new.captured.ghost_name ≡ old.captured.ghost_name
 
--- Each reference is still the one that was lent, and no more is left to read.
+-- Each reference is still the one that was lent, no more is left to read, and the functions that had ended are there
+-- still.
 pub record GoesOn (old new : Shared) : Type 0 where
   pub same : SameLoans old new
   pub shorter : left (state_of new).cursor.tokens ≤ left (state_of old).cursor.tokens
+  pub grows : Grows (state_of old).library (state_of new).library
 
 -- What a reader returned, seen by view, is what the goal gives, and so is what it left; unless memory ran out.
 abbrev pub Reads : {X : Type 0} (g : Goal) → (X → Val g) → Shared → Result X ParseError → Shared → Type 0
 Reads g view old result new = Gives view (result_of g (state_of old)) result (state_of new)
+
+-- The same of a reader that counts: it is entered and left.
+abbrev pub Nests : {X : Type 0} (g : Goal) → (X → Val g) → Shared → Result X ParseError → Shared → Type 0
+Nests g view old result new = Gives view (nested (result_of g) (state_of old)) result (state_of new)
 
 -- Calls of each need below that of this goal may be made.
 abbrev pub Covers : (ℕ → Type 0) → Goal → Shared → Type 0

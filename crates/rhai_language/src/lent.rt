@@ -2,7 +2,7 @@
 
 ghost use Rattle.std.specs.Prelude.{ℕ};
 ghost use Rattle.rhai_ast.specs.View.{statement_view, view};
-ghost use Rattle.rhai_language.specs.Readers.{GoesOn, Reads, construct, expression, inside, primary, state_of};
+ghost use Rattle.rhai_language.specs.Readers.{GoesOn, Nests, construct, expression, inside, primary, state_of};
 ghost use Rattle.rhai_language.specs.Readers.{statement, statements_of, with_live};
 ghost use Rattle.rhai_reading.specs.Running.{need};
 
@@ -27,7 +27,7 @@ pub trait LentReaders {
     ) -> ParseResult<Expr>
         requires covered { lent self.now (need (expression language.now frame.now settings) (state_of shared.old)) }
         ensures goes_on { GoesOn shared.old shared.new }
-        ensures reads { Reads (expression language.now frame.now settings) view shared.old result shared.new };
+        ensures reads { Nests (expression language.now frame.now settings) view shared.old result shared.new };
 
     /// Reads what an operand begins with, without its sign, what calls it and its links.
     fn parse_primary(
@@ -39,7 +39,7 @@ pub trait LentReaders {
     ) -> ParseResult<Expr>
         requires covered { lent self.now (need (primary language.now frame.now settings) (state_of shared.old)) }
         ensures goes_on { GoesOn shared.old shared.new }
-        ensures reads { Reads (primary language.now frame.now settings) view shared.old result shared.new };
+        ensures reads { Nests (primary language.now frame.now settings) view shared.old result shared.new };
 
     /// Reads a construct of this kind after its first token, where the settings stand.
     fn parse_construct(
@@ -52,7 +52,7 @@ pub trait LentReaders {
     ) -> ParseResult<Stmt>
         requires covered { lent self.now (need (construct language.now frame.now settings kind) (state_of shared.old)) }
         ensures goes_on { GoesOn shared.old shared.new }
-        ensures reads { Reads (construct language.now frame.now settings kind) statement_view shared.old result
+        ensures reads { Nests (construct language.now frame.now settings kind) statement_view shared.old result
             shared.new };
 
     /// Reads the statements of a block up to its `}`, which stays. Its definitions end with it.
@@ -65,7 +65,7 @@ pub trait LentReaders {
     ) -> ParseResult<Vec<Stmt>>
         requires covered { lent self.now (need (inside language.now frame.now settings) (state_of shared.old)) }
         ensures goes_on { GoesOn shared.old shared.new }
-        ensures reads { Reads (inside language.now frame.now settings) statements_of shared.old result shared.new };
+        ensures reads { Nests (inside language.now frame.now settings) statements_of shared.old result shared.new };
 
     /// Reads a statement. The level is raised at its first token.
     fn parse_stmt(
@@ -77,6 +77,6 @@ pub trait LentReaders {
     ) -> ParseResult<Stmt>
         requires covered { lent self.now (need (statement language.now frame.old settings) (state_of shared.old)) }
         ensures goes_on { GoesOn shared.old shared.new }
-        ensures reads { Reads (statement language.now frame.old settings) (with_live statement_view frame.new)
+        ensures reads { Nests (statement language.now frame.old settings) (with_live statement_view frame.new)
             shared.old result shared.new };
 }

@@ -5,6 +5,7 @@
 pub mod blocks;
 pub mod language;
 pub mod lent;
+pub mod parameters;
 pub mod shared;
 
 pub use language::Language;

@@ -13,6 +13,7 @@ use Rattle.rhai_grammar.specs.Delivered.{is_memory}
 use Rattle.rhai_grammar.specs.DueTokens.{is_due}
 use Rattle.rhai_grammar.specs.Functions.{is_type, no_body, no_function_name, no_parameter, no_parameters}
 use Rattle.rhai_grammar.specs.Functions.{parameter_place}
+use Rattle.rhai_grammar.specs.declared.list.CommaList.{CommaList}
 use Rattle.rhai_grammar.specs.declared.due.DueToken.TheVariants.{LeftBrace}
 use Rattle.rhai_grammar.specs.declared.error.ParseError.{ParseError}
 use Rattle.rhai_grammar.specs.declared.role.Calling.TheVariants.{List, Pair}
@@ -50,18 +51,18 @@ OpensParameters function s (Err e) t =
     is_for_memory e ≡ false → (is_list (calling (asked s).lexeme) ≡ false)
     × Refuses (no_parameters function (asked s).lexeme) s e t
 
-abbrev pub ParameterTaken : Cursor → Option (RcStr Global × Position) → Type 0
-ParameterTaken s None = parameter_place (asked s).lexeme ≡ place.End
-ParameterTaken s (Some name) =
-    (parameter_place (asked s).lexeme ≡ place.Item) × (rc_str_bytes name.0 ≡ text_of (asked s).lexeme)
+abbrev pub ParameterTaken : CommaList → Cursor → Option (RcStr Global × Position) → Type 0
+ParameterTaken parts s None = parameter_place parts (asked s).lexeme ≡ place.End
+ParameterTaken parts s (Some name) =
+    (parameter_place parts (asked s).lexeme ≡ place.Item) × (rc_str_bytes name.0 ≡ text_of (asked s).lexeme)
     × (name.1 ≡ (asked s).at)
 
--- A parameter is taken, with its position, or the `)` that closes the list (none); or another token is refused.
-abbrev pub TakesParameter : Cursor → Result (Option (RcStr Global × Position)) ParseError → Cursor → Type 0
-TakesParameter s (Ok x) t = ParameterTaken s x × (is_memory (asked s).lexeme ≡ false) × (t ≡ taking s)
-TakesParameter s (Err e) t =
-    is_for_memory e ≡ false → (parameter_place (asked s).lexeme ≡ place.Nothing)
-    × Refuses (no_parameter (asked s).lexeme) s e t
+-- A parameter is taken, with its position, or what closes the list (none); or another token is refused.
+abbrev pub TakesParameter : CommaList → Cursor → Result (Option (RcStr Global × Position)) ParseError → Cursor → Type 0
+TakesParameter parts s (Ok x) t = ParameterTaken parts s x × (is_memory (asked s).lexeme ≡ false) × (t ≡ taking s)
+TakesParameter parts s (Err e) t =
+    is_for_memory e ≡ false → (parameter_place parts (asked s).lexeme ≡ place.Nothing)
+    × Refuses (no_parameter parts (asked s).lexeme) s e t
 
 -- The `{` of the body is taken, with its position; or another token is refused.
 abbrev pub OpensBody : (function : Text) → Cursor → Result Position ParseError → Cursor → Type 0

@@ -1,4 +1,5 @@
 pub mod Arms
+pub mod Closures
 pub mod CommaLists
 pub mod Constructs
 pub mod DueTokens

@@ -14,10 +14,11 @@ ghost use Rattle.rhai_leaves.specs.Functions.{FunctionNames, OpensBody, OpensPar
 
 use crate::cursor::{peek, skip};
 use crate::due::is_due;
+use crate::lists::{closes_list, closing_text};
 use crate::refusals::missing_token;
 use crate::tokens::what_calls;
 use rhai_grammar::{
-    Calling, DueToken, InputError, ItemPlace, ParseError, ParseErrorType, ParseResult,
+    Calling, CommaList, DueToken, InputError, ItemPlace, ParseError, ParseErrorType, ParseResult,
 };
 use rhai_input::TokenStream;
 use rhai_lower::{Position, Token, is_valid_function_name};
@@ -181,8 +182,8 @@ fn is_reserved(token: &Token) -> bool
 }
 
 // Why a token is refused where a parameter may be: the tokenizer's error, if it is one.
-fn no_parameter(alloc: Global, token: &Token) -> Result<ParseErrorType, AllocError>
-    ensures { IfOk result (λ e. cause_of e ≡ no_parameter (lexeme token.now)) }
+fn no_parameter(alloc: Global, list: CommaList, token: &Token) -> Result<ParseErrorType, AllocError>
+    ensures { IfOk result (λ e. cause_of e ≡ no_parameter list (lexeme token.now)) }
 {
     if is_reserved(token) {
         return Ok(ParseErrorType::Reserved(token.text(alloc)?));
@@ -190,40 +191,42 @@ fn no_parameter(alloc: Global, token: &Token) -> Result<ParseErrorType, AllocErr
     if is_keyword(token) {
         return Ok(ParseErrorType::VariableExpected);
     }
-    missing_token(alloc, ")", "to close the parameters of a function", token)
+    let (due, note) = closing_text(list);
+    missing_token(alloc, due, note, token)
 }
 
 // What a token is where a parameter may be.
-fn parameter_place(token: &Token) -> ItemPlace
-    ensures place { result ≡ parameter_place (lexeme token.now) }
+fn parameter_place(list: CommaList, token: &Token) -> ItemPlace
+    ensures place { result ≡ parameter_place list (lexeme token.now) }
     ensures more { result ≡ Nothing ⊎ (is_end (lexeme token.now) ≡ false) }
 {
     match token {
-        Token::RightParen => ItemPlace::End,
         Token::Identifier(_) => ItemPlace::Item,
+        _ if closes_list(list, token) => ItemPlace::End,
         _ => ItemPlace::Nothing,
     }
 }
 
-/// Takes a parameter, with its position, or the `)` that closes the list; none for that.
+/// Takes a parameter of a function or of a closure, with its position, or the token that closes the list; none for that.
 ///
 /// A reserved token there is `Reserved`, a keyword is `VariableExpected`, an error of the tokenizer is that error, and
 /// any other token is `MissingToken`; if memory runs out, the error is `OutOfMemory`.
 pub fn take_parameter(
     alloc: Global,
     input: &mut TokenStream,
+    list: CommaList,
 ) -> ParseResult<Option<(RcStr, Position)>>
-    ensures parameter { TakesParameter (cursor_of input.old) result (cursor_of input.new) }
+    ensures parameter { TakesParameter list (cursor_of input.old) result (cursor_of input.new) }
     ensures nowhere { IfErr result MemoryIsNowhere }
     ensures shorter { left (cursor_of input.new).tokens ≤ left (cursor_of input.old).tokens }
     ensures shrinks { OnOk result (left (cursor_of input.new).tokens + 1 ≤ left (cursor_of input.old).tokens) }
 {
     let (token, pos) = peek(input)?;
     let pos = *pos;
-    let parameter = match parameter_place(token) {
+    let parameter = match parameter_place(list, token) {
         ItemPlace::End => None,
         ItemPlace::Item => Some((token.text(alloc)?, pos)),
-        ItemPlace::Nothing => return Err(ParseError(no_parameter(alloc, token)?, pos)),
+        ItemPlace::Nothing => return Err(ParseError(no_parameter(alloc, list, token)?, pos)),
     };
     skip(input);
     Ok(parameter)

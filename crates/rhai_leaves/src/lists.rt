@@ -28,6 +28,11 @@ pub(crate) fn after_part(list: CommaList, token: &Token) -> AfterPart
             Token::RightParen => AfterPart::Close,
             _ => AfterPart::Nothing,
         },
+        CommaList::ClosureParameters => match token {
+            Token::Comma => AfterPart::Comma,
+            Token::Pipe => AfterPart::Close,
+            _ => AfterPart::Nothing,
+        },
         CommaList::Array => match token {
             Token::Comma => AfterPart::Comma,
             Token::RightBracket => AfterPart::Close,
@@ -47,13 +52,14 @@ pub fn closes_list(list: CommaList, token: &Token) -> bool
 {
     match list {
         CommaList::Arguments | CommaList::Parameters => matches!(token, Token::RightParen),
+        CommaList::ClosureParameters => matches!(token, Token::Pipe),
         CommaList::Array => matches!(token, Token::RightBracket),
         CommaList::Map | CommaList::Arms => matches!(token, Token::RightBrace),
     }
 }
 
 // How the token that closes a list is written, and what it is for.
-fn closing_text(list: CommaList) -> (&'static str, &'static str)
+pub(crate) fn closing_text(list: CommaList) -> (&'static str, &'static str)
     ensures { result.0.now ≡ closing_text list }
 {
     match list {
@@ -62,6 +68,7 @@ fn closing_text(list: CommaList) -> (&'static str, &'static str)
         CommaList::Map => ("}", "to end this object map literal"),
         CommaList::Arms => ("}", "to end this `switch`"),
         CommaList::Parameters => (")", "to close the parameters of a function"),
+        CommaList::ClosureParameters => ("|", "to close the parameters of a closure"),
     }
 }
 
@@ -73,6 +80,7 @@ fn comma_note(list: CommaList) -> &'static str {
         CommaList::Map => "to separate the properties of this object map literal",
         CommaList::Arms => "to separate the arms of this `switch`",
         CommaList::Parameters => "to separate the parameters of a function",
+        CommaList::ClosureParameters => "to separate the parameters of a closure",
     }
 }
 
@@ -83,7 +91,7 @@ fn wants_comma(list: CommaList, token: &Token) -> bool
     match list {
         CommaList::Arguments | CommaList::Array | CommaList::Arms => !is_end(token),
         CommaList::Map => matches!(token, Token::Identifier(_)),
-        CommaList::Parameters => true,
+        CommaList::Parameters | CommaList::ClosureParameters => true,
     }
 }
 

@@ -7,11 +7,12 @@ ghost use Rattle.rhai_grammar.specs.Cursors.{asked, cursor_of, looking};
 ghost use Rattle.rhai_grammar.specs.Beginnings.{beginning, calling, calls, excludes_use, is_begun, is_call};
 ghost use Rattle.rhai_grammar.specs.Beginnings.{is_sign, omits_operand, qualifies};
 ghost use Rattle.rhai_grammar.specs.CommaLists.{no_argument};
+ghost use Rattle.rhai_leaves.specs.Closures.{EndsHere};
 ghost use Rattle.rhai_grammar.specs.Starts.{jumps, operand_start, place_after};
 ghost use Rattle.rhai_grammar.specs.declared.role.OperandStart.TheVariants.{Jump};
 
 use crate::cursor::peek;
-use rhai_grammar::role::{OperandPlace, OperandStart};
+use rhai_grammar::role::{Bars, OperandPlace, OperandStart};
 use rhai_grammar::{Beginning, Calling, Construct};
 use rhai_input::TokenStream;
 use rhai_lower::{Position, Token};
@@ -42,6 +43,8 @@ pub fn what_begins(token: &Token) -> Beginning
         Token::Loop => Beginning::Construct(Construct::Loop),
         Token::Do => Beginning::Construct(Construct::Do),
         Token::For => Beginning::Construct(Construct::For),
+        Token::Or => Beginning::Closure(Bars::Pair),
+        Token::Pipe => Beginning::Closure(Bars::List),
         Token::Minus | Token::UnaryMinus | Token::Plus | Token::UnaryPlus | Token::Bang => {
             Beginning::Sign
         }
@@ -174,6 +177,20 @@ pub fn excludes_use(input: &mut TokenStream) -> Result<bool, AllocError>
 {
     let (token, _) = peek(input)?;
     Ok(calls(token) || qualifies(token))
+}
+
+/// The position of the next token, which stays, if it is the end mark. The error comes where the tokenizer ran out of
+/// memory at that token.
+pub fn ends_here(input: &mut TokenStream) -> Result<Option<Position>, AllocError>
+    ensures end { IfOk result (EndsHere (asked (cursor_of input.old))) }
+    ensures after { cursor_of input.new ≡ looking (cursor_of input.old) }
+    ensures readable { OnOk result (is_memory (asked (cursor_of input.old)).lexeme ≡ false) }
+{
+    let (token, pos) = peek(input)?;
+    if is_end(token) {
+        return Ok(Some(*pos));
+    }
+    Ok(None)
 }
 
 /// Whether the next token, which stays, is the `::` that makes the name before it part of a path. The error comes where

@@ -1,2 +1,3 @@
 pub mod PromiseLemmas
 pub mod FrameLemmas
+pub mod NestLemmas

@@ -1,4 +1,5 @@
 -- From what the reading program gives to what is promised.
+use Rattle.std.proofs.lemmas.List.{append-nil}
 use Rattle.std.proofs.Common.{inl, ◌≡◌, Bool, true, false, List, [], ◌∷◌, refl, sym, ap, ◌∙◌, subst, Result, Ok, Err, IfErr, IfOk}
 use Rattle.std.specs.Prelude.{Vec, map}
 use Rattle.std.specs.declared.alloc.Global.{Global}
@@ -12,7 +13,6 @@ use Rattle.rhai_ast.specs.declared.ast.ScriptFuncDef.{ScriptFuncDef}
 use Rattle.rhai_ast.specs.declared.ast.Stmt.{Stmt}
 use Rattle.rhai_grammar.specs.Causes.{refusal_of, is_for_memory}
 use Rattle.rhai_grammar.specs.Cursors.{Cursor}
-use Rattle.rhai_grammar.specs.Delivered.{code}
 use Rattle.rhai_grammar.specs.Contexts.{Context, Live}
 use Rattle.rhai_grammar.specs.Demands.{Demands}
 use Rattle.rhai_grammar.specs.Forms as form
@@ -21,14 +21,14 @@ use Rattle.rhai_grammar.specs.Trees.{statement_trees, tree}
 use Rattle.rhai_grammar.specs.Definitions.{after_statements}
 use Rattle.rhai_grammar.specs.Promises.{HasRead, IsWrittenTo, ReadsWhole, Returns, UnlessMemory}
 use Rattle.rhai_grammar.specs.declared.key.FnKey.{FnKey}
-use Rattle.rhai_base.specs.Libraries.{library_of}
+use Rattle.rhai_base.specs.Libraries.{Begins, Grows, library_of}
 use Rattle.rhai_parser.specs.Scripts.{Accepts, IsScript, IsScriptOf, ReadsExpression, ReadsScript, function_views, functions_in}
 use Rattle.rhai_grammar.specs.declared.error.ParseError.{ParseError}
 use Rattle.rhai_leaves.proofs.ErrorLemmas.{memory_cause}
 use Rattle.rhai_reading.specs.Reading.{Goal, Script, Val, Whole}
 use Rattle.rhai_reading.specs.Running.{Done, Fails, Progress, result_of}
 use Rattle.rhai_reading.proofs.Main as M
-use Rattle.rhai_reading.proofs.Main.{Entry, expression_entry, script_entry}
+use Rattle.rhai_reading.proofs.Main.{Entry, IsNew, expression_entry, script_entry}
 
 -- ---- functions
 
@@ -56,6 +56,17 @@ held (e ∷ es) = ap (λ fs. function_view e.1.value ∷ fs) (held es)
 pub functions_are : (es : Entries) (rs : List (Rc ScriptFuncDef Global)) → functions_of rs ≡ functions_of (values_of es)
     → function_views rs ≡ functions_in (library_of es)
 functions_are es rs same = viewed rs ∙ ap seen same ∙ sym (held es)
+
+-- ---- what a library held
+
+pub begins_same : (old now : Entries) → now ≡ old → Begins (library_of old) (library_of now)
+unfolding Begins
+begins_same old now same = ([], ap library_of same ∙ sym (append-nil (library_of old)))
+
+pub begins_read : (old read left now : Entries) → read ≡ old → Grows (library_of read) (library_of left) → now ≡ left
+    → Begins (library_of old) (library_of now)
+begins_read old read left now same grows is =
+    subst (λ es. Begins (library_of old) (library_of es)) (sym is) (grows (library_of old) (begins_same old read same))
 
 -- ---- promises
 
@@ -92,7 +103,7 @@ reads_none whole Is before after s left e out = record {
 module _ {F X : Type 0} {g : Goal} {whole : F → Demands} {tree_of : F → Val g} (E : Entry g whole tree_of)
     (Is : F → X → Type 0) (s left : Progress) where
   -- a form that was read, and what is made of it
-  pub reads_done : (v : Val g) (result : Result X ParseError) → s.cursor.mode ≡ code → result_of g s ≡ Done v left
+  pub reads_done : (v : Val g) (result : Result X ParseError) → IsNew s → result_of g s ≡ Done v left
       → IfErr result (λ e. is_for_memory e ≡ true) → ((f : F) → tree_of f ≡ v → Returns (Is f) result)
       → ReadsWhole whole Is s.library left.library s.cursor left.cursor result
   reads_done v (Ok x) mode e out is = record {
@@ -103,7 +114,7 @@ module _ {F X : Type 0} {g : Goal} {whole : F → Demands} {tree_of : F → Val 
   reads_done v (Err d) mode e out is = reads_none whole Is s.library left.library s.cursor left.cursor d out
 
   -- an error, of the reading program or if memory ran out
-  pub reads_fails : (e : ParseError) → s.cursor.mode ≡ code → Fails (result_of g s) e left
+  pub reads_fails : (e : ParseError) → IsNew s → Fails (result_of g s) e left
       → ReadsWhole whole Is s.library left.library s.cursor left.cursor (Err e)
   reads_fails e mode fails = record {
     accepted = tt;
@@ -130,13 +141,13 @@ module _ {F : Type 0} {g : Goal} {whole : F → Demands} {tree_of : F → Val g}
 -- ---- the two entries
 
 pub expression_done : (c : Context) (live : Live) (s left : Progress) (x : Node) (result : Result AST ParseError)
-    → s.cursor.mode ≡ code → result_of (Whole c live) s ≡ Done x left → Accepts x left.library result
+    → IsNew s → result_of (Whole c live) s ≡ Done x left → Accepts x left.library result
     → ReadsExpression c live s.library left.library s.cursor left.cursor result
 expression_done c live s left x result mode e is =
     reads_done (expression_entry c live) (λ f script. IsScriptOf (tree f live) left.library script) s left x result mode e
     (ran_out (IsScriptOf x left.library) result is) (λ f same. subst (λ y. Accepts y left.library result) (sym same) is)
 
-pub expression_fails : (c : Context) (live : Live) (s left : Progress) (e : ParseError) → s.cursor.mode ≡ code
+pub expression_fails : (c : Context) (live : Live) (s left : Progress) (e : ParseError) → IsNew s
     → Fails (result_of (Whole c live) s) e left
     → ReadsExpression c live s.library left.library s.cursor left.cursor (Err e)
 expression_fails c live s left e mode fails =
@@ -165,7 +176,7 @@ made_so library live left ss slots modules (Err e) same too out is fs trees live
 
 -- a script that was read, and the slots and imports that it leaves
 pub script_done : (c : Context) (live left : Live) (s t : Progress) (ss : Statements) (slots : List SlotValue)
-    (modules : List Text) (result : Result Read ParseError) → s.cursor.mode ≡ code
+    (modules : List Text) (result : Result Read ParseError) → IsNew s
     → result_of (Script c live) s ≡ Done (ss, left) t → slots ≡ left.slots → modules ≡ left.imports
     → IfErr result (λ e. is_for_memory e ≡ true) → IsMade t.library ss result
     → ReadsScript c live s.library t.library s.cursor t.cursor result slots modules
@@ -174,7 +185,7 @@ script_done c live left s t ss slots modules result mode read same too out is =
     (λ fs tree. made_so t.library live left ss slots modules result same too out is fs (ap (λ v. v.0) tree) (ap (λ v. v.1) tree))
 
 pub script_fails : (c : Context) (live : Live) (s left : Progress) (e : ParseError) (slots : List SlotValue)
-    (modules : List Text) → s.cursor.mode ≡ code → Fails (result_of (Script c live) s) e left
+    (modules : List Text) → IsNew s → Fails (result_of (Script c live) s) e left
     → ReadsScript c live s.library left.library s.cursor left.cursor (Err e) slots modules
 script_fails c live s left e slots modules mode fails =
     reads_fails (script_entry c live) (λ fs script. IsScript fs live left.library script slots modules) s left e mode fails

@@ -1,4 +1,5 @@
 pub mod Engines
 pub mod Starts
+pub mod Nesting
 pub mod Scripts
 pub mod Optimizer

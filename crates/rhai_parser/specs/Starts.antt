@@ -6,6 +6,7 @@ use Rattle.std.specs.declared.rc.RcStr.{RcStr}
 use Rattle.rhai_input.specs.Slots.{SlotValue}
 use Rattle.rhai_lower.specs.declared.position.Position.{Position}
 use Rattle.rhai_grammar.specs.Contexts.{Context, Known, Live}
+use Rattle.rhai_base.specs.Counts.{counts_of}
 use Rattle.rhai_base.specs.Frames.{FrameValue, known_variables}
 use Rattle.rhai_base.specs.declared.settings.ParseSettings.{ParseSettings}
 use Rattle.rhai_base.specs.declared.state.ParseState.{ParseState}
@@ -32,10 +33,15 @@ known_in engine state = record {
   modules = engine.sub_modules;
 }
 
--- the frame in which the whole form is read
+-- the frame in which the whole form is read; the functions and closures that have begun are those of the state's counts
 abbrev pub frame_in : LanguageValue → StateValue → FrameValue
-frame_in engine state =
-    record { live = live_in state; depth = 0; filter = state.expr_filter; known = known_in engine state }
+frame_in engine state = record {
+  live = live_in state;
+  depth = 0;
+  filter = state.expr_filter;
+  known = known_in engine state;
+  begun = (counts_of state.counts).begun;
+}
 
 -- what goes down into the whole form, under the settings that the caller chose
 abbrev pub starts_in : LanguageValue → StateValue → ParseSettings → Context

@@ -1,6 +1,6 @@
 //! The engine: language options and limits, and the entries of the parser.
 
-ghost use Rattle.std.specs.Prelude.{◌≡◌, ◌==◌, ◌++◌, ◌∷◌, [], IfErr, OnErr, OnOk, map};
+ghost use Rattle.std.specs.Prelude.{◌≡◌, ◌==◌, ◌++◌, ◌∷◌, [], IfErr, List, OnErr, OnOk, map};
 ghost use Rattle.std.specs.Int.RustNames.{bit_and};
 ghost use Rattle.std.specs.Fn.{FnOnceReturnsAtMut, FnOnceTakesAtMut};
 ghost use Rattle.rhai_ast.specs.View.{view};
@@ -8,11 +8,13 @@ ghost use Rattle.rhai_grammar.specs.Causes.{MemoryIsNowhere};
 ghost use Rattle.rhai_grammar.specs.Cursors.{cursor_of};
 ghost use Rattle.rhai_grammar.specs.Delivered.{code};
 ghost use Rattle.rhai_grammar.specs.Promises.{HasRead, UnlessMemory};
+ghost use Rattle.rhai_grammar.specs.Uses.{Use};
 ghost use Rattle.rhai_reading.specs.Reading.{Whole};
 ghost use Rattle.rhai_reading.specs.Running.{Gives, result_of};
 ghost use Rattle.rhai_parser.specs.Scripts.{Accepts, ReadsExpression};
-ghost use Rattle.rhai_base.specs.Libraries.{library_of};
+ghost use Rattle.rhai_base.specs.Libraries.{Begins, Grows, library_of};
 ghost use Rattle.rhai_base.specs.States.{IsFresh};
+ghost use Rattle.rhai_language.specs.Readers.{nesting_of};
 ghost use Rattle.rhai_language.specs.Frames.{context_of, live_of};
 ghost use Rattle.rhai_parser.specs.Starts.{live_in, starts_in};
 ghost use Rattle.rhai_base.specs.Frames.{known_of, known_variables};
@@ -27,8 +29,8 @@ use bitflags::Flags;
 use rhai_ast::{AST, Expr, Stmt};
 use rhai_base::known::is_among;
 use rhai_base::{
-    FnLib, Frame, Known, LangOptions, Library, ParseSettingFlags, ParseSettings, ParseState,
-    functions,
+    FnLib, Frame, Known, LangOptions, Library, ParseCounts, ParseSettingFlags, ParseSettings,
+    ParseState, functions,
 };
 use rhai_grammar::ParseResult;
 use rhai_input::{Scope, TokenStream};
@@ -278,15 +280,36 @@ impl Engine {
         &self,
         input: &mut TokenStream,
         library: &mut Library,
+        counts: &mut ParseCounts,
         frame: &Frame<'_>,
         settings: ParseSettings,
     ) -> ParseResult<Expr>
-        ensures reads { Gives view (result_of (Whole (context_of self.now frame.now settings) (live_of frame.now))
-            (record { cursor = cursor_of input.old; library = library_of library.old }))
-            result (record { cursor = cursor_of input.new; library = library_of library.new }) }
+        ensures reads { (used : List Use)
+            × Gives view (result_of (Whole (context_of self.now frame.now settings) (live_of frame.now))
+            (record {
+              cursor = cursor_of input.old;
+              library = library_of library.old;
+              captured = [];
+              nesting = nesting_of counts.old;
+            }))
+            result (record {
+              cursor = cursor_of input.new;
+              library = library_of library.new;
+              captured = used;
+              nesting = nesting_of counts.new;
+            }) }
+        ensures grows { Grows (library_of library.old) (library_of library.new) }
     {
-        let mut shared = Shared { input, library };
-        parse_whole_expr(&self.language, &mut shared, frame, settings)
+        let mut captured = Vec::new(self.language.alloc);
+        let mut shared = Shared {
+            input,
+            library,
+            captured: &mut captured,
+            counts: *counts,
+        };
+        let expr = parse_whole_expr(&self.language, &mut shared, frame, settings);
+        *counts = shared.counts;
+        expr
     }
 
     // Reads the script of one expression that a whole stream is, with the functions of a library.
@@ -294,6 +317,7 @@ impl Engine {
         &self,
         input: &mut TokenStream,
         lib: &mut FnLib,
+        counts: &mut ParseCounts,
         frame: &Frame<'_>,
         settings: ParseSettings,
         constants: Option<&Scope>,
@@ -305,9 +329,10 @@ impl Engine {
             result }
         ensures memory { UnlessMemory (HasRead (cursor_of input.old) (cursor_of input.new)) result }
         ensures nowhere { IfErr result MemoryIsNowhere }
+        ensures grows { Begins (library_of lib.old.entries) (library_of lib.new.entries) }
     {
         let mut library = take_library(self.language.alloc, lib)?;
-        let read = self.read_expression(input, &mut library, frame, settings);
+        let read = self.read_expression(input, &mut library, counts, frame, settings);
         *lib = library.into_functions();
         match read {
             Ok(expr) => self.make_script(expr, lib, constants, level),
@@ -316,8 +341,8 @@ impl Engine {
     }
 
     /// Reads the script of one expression that the whole stream is, up to its end mark, and hands its tree, with all
-    /// functions of the library, to the optimizer with the state's external constants. An expression has no functions:
-    /// the library keeps those that it had.
+    /// functions of the library, to the optimizer with the state's external constants. The closures of the expression
+    /// join the library, after the functions that it had; those that had ended before an error stay there.
     ///
     /// `settings` may change the settings that the expression is read under: level 0 at 1:1, the engine's depth for a
     /// script, its options without `STMT_EXPR` and `LOOP_EXPR`, and the flags `GLOBAL_LEVEL` and
@@ -339,6 +364,7 @@ impl Engine {
             (cursor_of state.entry.input.now) (cursor_of state.exit.0.now) result }
         ensures memory { UnlessMemory (HasRead (cursor_of state.entry.input.now) (cursor_of state.exit.0.now)) result }
         ensures nowhere { IfErr result MemoryIsNowhere }
+        ensures grows { Begins (library_of state.entry.lib.now.entries) (library_of state.exit.1.0.now.entries) }
     {
         let mut chosen = self.expr_settings();
         settings(&mut chosen);
@@ -354,10 +380,20 @@ impl Engine {
             allow_capture: _,
             imports,
             global_imports,
-            counts: _,
+            mut counts,
         } = state;
         let known = self.known(external_constants, &global_imports);
-        let frame = Frame::new(stack, frame_pointer, imports, expr_filter, known);
-        self.read_script(input, lib, &frame, chosen, external_constants, level)
+        let begun = counts.fn_begun();
+        let frame = Frame::new(stack, frame_pointer, imports, expr_filter, known, begun);
+        counts.nest_enter();
+        self.read_script(
+            input,
+            lib,
+            &mut counts,
+            &frame,
+            chosen,
+            external_constants,
+            level,
+        )
     }
 }

@@ -5,7 +5,7 @@ ghost use Rattle.rhai_lower.specs.Nodes.{no_statements};
 ghost use Rattle.rhai_ast.specs.View.{statement_view, view};
 ghost use Rattle.rhai_base.specs.Frames.{SamePlace};
 ghost use Rattle.rhai_reading.specs.Running.{need};
-ghost use Rattle.rhai_language.specs.Readers.{GoesOn, Reads, construct, expression, inside, primary, state_of};
+ghost use Rattle.rhai_language.specs.Readers.{GoesOn, Nests, Reads, construct, expression, inside, primary, state_of};
 ghost use Rattle.rhai_language.specs.Readers.{statement, statements, statements_of, whole, with_live};
 
 use rhai_ast::{Expr, Stmt};
@@ -42,31 +42,31 @@ where
         → E.pre s.expr language shared frame settings
         × ((result : _) (after : _) → E.post s.expr language shared frame settings result after
         → GoesOn shared.now after.now
-        × Reads (expression language.now frame.now settings) view shared.now result after.now))
+        × Nests (expression language.now frame.now settings) view shared.now result after.now))
         × ((language : _) (shared : _) (frame : _) (settings : _)
         → need (primary language.now frame.now settings) (state_of shared.now) ≡ n
         → P.pre s.primary language shared frame settings
         × ((result : _) (after : _) → P.post s.primary language shared frame settings result after
         → GoesOn shared.now after.now
-        × Reads (primary language.now frame.now settings) view shared.now result after.now))
+        × Nests (primary language.now frame.now settings) view shared.now result after.now))
         × ((language : _) (shared : _) (frame : _) (settings : _) (kind : _)
         → need (construct language.now frame.now settings kind) (state_of shared.now) ≡ n
         → C.pre s.construct language shared frame settings kind
         × ((result : _) (after : _) → C.post s.construct language shared frame settings kind result after
         → GoesOn shared.now after.now
-        × Reads (construct language.now frame.now settings kind) statement_view shared.now result after.now))
+        × Nests (construct language.now frame.now settings kind) statement_view shared.now result after.now))
         × ((language : _) (shared : _) (frame : _) (settings : _)
         → need (inside language.now frame.now settings) (state_of shared.now) ≡ n
         → I.pre s.inside language shared frame settings
         × ((result : _) (after : _) → I.post s.inside language shared frame settings result after
         → GoesOn shared.now after.now
-        × Reads (inside language.now frame.now settings) statements_of shared.now result after.now))
+        × Nests (inside language.now frame.now settings) statements_of shared.now result after.now))
         × ((language : _) (shared : _) (frame : _) (settings : _)
         → need (statement language.now frame.now settings) (state_of shared.now) ≡ n
         → S.pre s.stmt language shared frame settings
         × ((result : _) (after : _) (left : _) → S.post s.stmt language shared frame settings result after left
         → GoesOn shared.now after.now
-        × Reads (statement language.now frame.now settings) (with_live statement_view left.now) shared.now result
+        × Nests (statement language.now frame.now settings) (with_live statement_view left.now) shared.now result
         after.now)) };
 
     fn parse_expr(
@@ -122,6 +122,7 @@ where
 }
 
 /// Reads an expression. The level is raised at its first token.
+#[tactic(auto, using(rhai_reading::proofs::Steps::nested_so))]
 #[cycle(parser)]
 pub(crate) fn parse_expr(
     language: &Language,
@@ -130,7 +131,7 @@ pub(crate) fn parse_expr(
     settings: ParseSettings,
 ) -> ParseResult<Expr>
     ensures goes_on { GoesOn shared.old shared.new }
-    ensures reads { Reads (expression language.now frame.now settings) view shared.old result shared.new }
+    ensures reads { Nests (expression language.now frame.now settings) view shared.old result shared.new }
 {
     let readers = Lent {
         expr: parse_expr,
@@ -140,10 +141,11 @@ pub(crate) fn parse_expr(
         stmt: parse_stmt,
     };
     let reader = ExprReader { language, readers };
-    reader.parse_expr(shared, frame, settings)
+    nested!(shared, reader.parse_expr(shared, frame, settings))
 }
 
 /// Reads what an operand begins with, without its sign, what calls it and its links.
+#[tactic(auto, using(rhai_reading::proofs::Steps::nested_so))]
 #[cycle(parser)]
 fn parse_primary(
     language: &Language,
@@ -152,7 +154,7 @@ fn parse_primary(
     settings: ParseSettings,
 ) -> ParseResult<Expr>
     ensures goes_on { GoesOn shared.old shared.new }
-    ensures reads { Reads (primary language.now frame.now settings) view shared.old result shared.new }
+    ensures reads { Nests (primary language.now frame.now settings) view shared.old result shared.new }
 {
     let readers = Lent {
         expr: parse_expr,
@@ -162,10 +164,11 @@ fn parse_primary(
         stmt: parse_stmt,
     };
     let reader = PrimaryReader { language, readers };
-    reader.parse_primary(shared, frame, settings)
+    nested!(shared, reader.parse_primary(shared, frame, settings))
 }
 
 /// Reads a construct of this kind after its first token, where the settings stand.
+#[tactic(auto, using(rhai_reading::proofs::Steps::nested_so))]
 #[cycle(parser)]
 fn parse_construct(
     language: &Language,
@@ -175,7 +178,7 @@ fn parse_construct(
     kind: Construct,
 ) -> ParseResult<Stmt>
     ensures goes_on { GoesOn shared.old shared.new }
-    ensures reads { Reads (construct language.now frame.now settings kind) statement_view shared.old result shared.new }
+    ensures reads { Nests (construct language.now frame.now settings kind) statement_view shared.old result shared.new }
 {
     let readers = Lent {
         expr: parse_expr,
@@ -185,10 +188,14 @@ fn parse_construct(
         stmt: parse_stmt,
     };
     let reader = ConstructReader { language, readers };
-    reader.parse_construct(shared, frame, settings, kind)
+    nested!(
+        shared,
+        reader.parse_construct(shared, frame, settings, kind)
+    )
 }
 
 /// Reads the statements of a block up to its `}`, which stays. Its definitions end with it.
+#[tactic(auto, using(rhai_reading::proofs::Steps::nested_so))]
 #[cycle(parser)]
 fn parse_block_inside(
     language: &Language,
@@ -197,7 +204,7 @@ fn parse_block_inside(
     settings: ParseSettings,
 ) -> ParseResult<Vec<Stmt>>
     ensures goes_on { GoesOn shared.old shared.new }
-    ensures reads { Reads (inside language.now frame.now settings) statements_of shared.old result shared.new }
+    ensures reads { Nests (inside language.now frame.now settings) statements_of shared.old result shared.new }
 {
     let readers = Lent {
         expr: parse_expr,
@@ -207,10 +214,11 @@ fn parse_block_inside(
         stmt: parse_stmt,
     };
     let reader = StmtReader { language, readers };
-    reader.parse_block_inside(shared, frame, settings)
+    nested!(shared, reader.parse_block_inside(shared, frame, settings))
 }
 
 /// Reads a statement. The level is raised at its first token.
+#[tactic(auto, using(rhai_reading::proofs::Steps::nested_so))]
 #[cycle(parser)]
 fn parse_stmt(
     language: &Language,
@@ -219,7 +227,7 @@ fn parse_stmt(
     settings: ParseSettings,
 ) -> ParseResult<Stmt>
     ensures goes_on { GoesOn shared.old shared.new }
-    ensures reads { Reads (statement language.now frame.old settings) (with_live statement_view frame.new) shared.old
+    ensures reads { Nests (statement language.now frame.old settings) (with_live statement_view frame.new) shared.old
         result shared.new }
 {
     let readers = Lent {
@@ -230,7 +238,7 @@ fn parse_stmt(
         stmt: parse_stmt,
     };
     let reader = StmtReader { language, readers };
-    reader.parse_stmt(shared, frame, settings)
+    nested!(shared, reader.parse_stmt(shared, frame, settings))
 }
 
 /// Reads an expression that the end mark follows.

@@ -1,6 +1,6 @@
 //! The entry that reads a whole script.
 
-ghost use Rattle.std.specs.Prelude.{◌≡◌, IfErr, IfOk, map, true};
+ghost use Rattle.std.specs.Prelude.{◌≡◌, [], IfErr, IfOk, List, map, true};
 ghost use Rattle.std.specs.Rc.{rc_str_bytes};
 ghost use Rattle.std.specs.Fn.{FnOnceReturnsAtMut, FnOnceTakesAtMut};
 ghost use Rattle.rhai_ast.specs.View.{statement_views};
@@ -8,20 +8,26 @@ ghost use Rattle.rhai_grammar.specs.Causes.{MemoryIsNowhere, is_for_memory};
 ghost use Rattle.rhai_grammar.specs.Contexts.{Live};
 ghost use Rattle.rhai_grammar.specs.Cursors.{cursor_of};
 ghost use Rattle.rhai_grammar.specs.Promises.{HasRead, UnlessMemory};
+ghost use Rattle.rhai_grammar.specs.Uses.{Use};
 ghost use Rattle.rhai_parser.specs.Scripts.{ReadsScript, function_views, functions_in};
 ghost use Rattle.rhai_reading.specs.Reading.{Script};
 ghost use Rattle.rhai_reading.specs.Running.{Gives, result_of};
-ghost use Rattle.rhai_base.specs.Libraries.{library_of};
+ghost use Rattle.rhai_base.specs.Libraries.{Begins, Grows, library_of};
+ghost use Rattle.rhai_base.specs.Counts.{counts_of};
 ghost use Rattle.rhai_base.specs.States.{IsFresh};
+ghost use Rattle.rhai_parser.specs.Nesting.{StaysWithin};
 ghost use Rattle.rhai_parser.specs.Engines.{script_settings};
 ghost use Rattle.rhai_language.specs.Frames.{context_of};
+ghost use Rattle.rhai_language.specs.Readers.{nesting_of};
 ghost use Rattle.rhai_parser.specs.Starts.{live_in, starts_in};
 
 use crate::engine::Engine;
 use crate::library::take_library;
 use crate::readers::parse_statements;
 use rhai_ast::{ScriptFuncDef, Stmt, StmtBlockContainer};
-use rhai_base::{FnLib, Frame, Library, ParseSettingFlags, ParseSettings, ParseState, functions};
+use rhai_base::{
+    FnLib, Frame, Library, ParseCounts, ParseSettingFlags, ParseSettings, ParseState, functions,
+};
 use rhai_grammar::{Closing, ParseResult};
 use rhai_input::{Scope, TokenStream};
 use rhai_language::Shared;
@@ -49,21 +55,42 @@ impl Engine {
         &self,
         input: &mut TokenStream,
         library: &mut Library,
+        counts: &mut ParseCounts,
         frame: Frame<'_>,
         stack: &mut Scope,
         imports: &mut Vec<RcStr>,
         settings: ParseSettings,
     ) -> ParseResult<Vec<Stmt>>
         requires { frame.depth ≡ 0 }
-        ensures reads { (left : Live) × (left.slots ≡ stack.new)
+        ensures reads { (left : Live) × (used : List Use) × (left.slots ≡ stack.new)
             × (left.imports ≡ map rc_str_bytes imports.new.items)
             × Gives (λ ss. (statement_views ss.items, left))
             (result_of (Script (context_of self.now frame.entry settings) frame.entry.live)
-            (record { cursor = cursor_of input.old; library = library_of library.old }))
-            result (record { cursor = cursor_of input.new; library = library_of library.new }) }
+            (record {
+              cursor = cursor_of input.old;
+              library = library_of library.old;
+              captured = [];
+              nesting = nesting_of counts.old;
+            }))
+            result (record {
+              cursor = cursor_of input.new;
+              library = library_of library.new;
+              captured = used;
+              nesting = nesting_of counts.new;
+            }) }
+        ensures stays { UnlessMemory (λ refused. StaysWithin 1 self.now settings (counts_of counts.old)
+            (counts_of counts.new)) result }
+        ensures grows { Grows (library_of library.old) (library_of library.new) }
     {
+        let _depth = self.max_function_expr_depth();
         let mut frame = frame;
-        let mut shared = Shared { input, library };
+        let mut captured = Vec::new(self.alloc());
+        let mut shared = Shared {
+            input,
+            library,
+            captured: &mut captured,
+            counts: *counts,
+        };
         let statements = parse_statements(
             self.language(),
             &mut shared,
@@ -71,6 +98,7 @@ impl Engine {
             settings,
             Closing::EndMark,
         );
+        *counts = shared.counts;
         (*stack, *imports) = frame.into_parts();
         statements
     }
@@ -93,7 +121,8 @@ impl Engine {
 
     /// Reads a script up to the end mark of the stream: its statements, before the optimizer, and all functions of the
     /// library, in the order in which they ended. The state keeps the slots of the script's variables, its imports, and
-    /// the library, to which the functions of the script are added; those that had ended before an error stay there.
+    /// the library, to which the functions and closures of the script are added; those that had ended before an error
+    /// stay there.
     ///
     /// `settings` may change the settings that the script is read under: level 0 at 1:1, the engine's depth for a
     /// script, its options, and the flag `GLOBAL_LEVEL`.
@@ -114,10 +143,17 @@ impl Engine {
             (map rc_str_bytes state.new.imports.items) }
         ensures memory { UnlessMemory (HasRead (cursor_of state.old.input.now) (cursor_of state.new.input.now)) result }
         ensures nowhere { IfErr result MemoryIsNowhere }
+        ensures grows { Begins (library_of state.old.lib.now.entries) (library_of state.new.lib.now.entries) }
+        ensures nests { (chosen : _) × FnOnceReturnsAtMut F.FnOnce settings (script_settings self.now) tt chosen
+            × UnlessMemory (λ refused. StaysWithin 2 self.now chosen (counts_of state.old.counts)
+            (counts_of state.new.counts)) result }
         ensures kept { (state.new.global_imports ≡ state.old.global_imports)
             × (state.new.external_constants ≡ state.old.external_constants)
             × (state.new.frame_pointer ≡ state.old.frame_pointer)
-            × (state.new.expr_filter ≡ state.old.expr_filter) }
+            × (state.new.expr_filter ≡ state.old.expr_filter)
+            × (state.new.tokenizer_control ≡ state.old.tokenizer_control)
+            × (state.new.external_vars ≡ state.old.external_vars)
+            × (state.new.allow_capture ≡ state.old.allow_capture) }
     {
         let mut chosen = self.script_settings();
         settings(&mut chosen);
@@ -133,15 +169,19 @@ impl Engine {
             imports,
             state.expr_filter,
             known,
+            state.counts.fn_begun(),
         );
+        state.counts.nest_enter();
         let read = self.read_statements(
             state.input,
             &mut library,
+            &mut state.counts,
             frame,
             &mut state.stack,
             &mut state.imports,
             chosen,
         );
+        state.counts.nest_leave();
         state.global_imports = around;
         *state.lib = library.into_functions();
         match read {

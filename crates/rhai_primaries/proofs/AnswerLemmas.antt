@@ -1,5 +1,5 @@
 -- What the reading program does where the code asks a function outside of the readers.
-use Rattle.std.proofs.Common.{◌≡◌, Bool, true, false, ◌&&◌, ◌||◌, Ok, Err, refl, sym, ap, ◌∙◌, if◌then◌else◌}
+use Rattle.std.proofs.Common.{◌≡◌, Bool, Result, true, false, ◌&&◌, ◌||◌, Ok, Err, refl, sym, ap, ◌∙◌, if◌then◌else◌}
 use Rattle.rhai_lower.specs.Texts.{Text}
 use Rattle.rhai_lower.specs.Lexemes.{Lexeme}
 use Rattle.rhai_lower.specs.Nodes.{Node, Properties}
@@ -13,9 +13,10 @@ use Rattle.rhai_grammar.specs.Modules.{may_use}
 use Rattle.rhai_grammar.specs.Settings.{in_function, strict_names}
 use Rattle.rhai_grammar.specs.Trees.{name_tree}
 use Rattle.rhai_grammar.specs.declared.role.Beginning.TheVariants as begin
-use Rattle.rhai_reading.specs.Reading.{Ret, Fail, Know, Primary, name_at, word_at, Peek, NextKey, match_token, key_on, room_at}
+use Rattle.rhai_grammar.specs.Uses.{Use, noted}
+use Rattle.rhai_reading.specs.Reading.{Ret, Fail, Know, Note, Primary, name_at, word_at, Peek, NextKey, match_token, key_on, room_at}
 use Rattle.rhai_reading.specs.Running as R
-use Rattle.rhai_reading.specs.Running.{Caller, Progress, asked, exec, guarded, looking, result_of, taking}
+use Rattle.rhai_reading.specs.Running.{Caller, Progress, asked, exec, guarded, looking, result_of, taking, with_captured}
 use Rattle.rhai_reading.proofs.Steps.{step_next_key}
 use Rattle.rhai_base.specs.Words.{name_result, word_result}
 use Rattle.rhai_grammar.specs.declared.due.DueToken.TheVariants as due
@@ -50,21 +51,36 @@ worded_outcome c w {word} {at} {called} {s} {s1} {s2} {t} h =
 
 -- ---- names
 
-name_chosen : (b : Bool) (x : Node) (e : Refusal) → (if b then Ret x else Fail e) ≡ answered (if b then Ok x else Err e)
-name_chosen true x e = refl
-name_chosen false x e = refl
+-- what the code answers to a name
+abbrev pub answer : Bool → Node → Refusal → Result Node Refusal
+answer b x e = if b then Ok x else Err e
 
-pub named_outcome : (c : Context) (w : Live) {name : Text} {at : Position} {excluded : Bool} {s s1 s2 t : Progress}
+-- a name that is used is noted, where the code answers
+pub noted_name : (call : Caller) (b captures : Bool) (u : Use) (x : Node) (e : Refusal) (s t : Progress) (y : Node)
+    → answer b x e ≡ Ok y → t ≡ with_captured (noted captures u s.captured) s
+    → exec call (if b then Note captures u (Ret x) else Fail e) s ≡ R.Done y t
+noted_name call true captures u x e s t y is left =
+    let h : answer true x e ≡ Ok y = is in
+    let same : x ≡ y = cc in
+    ap (λ n. R.Done n (with_captured (noted captures u s.captured) s)) same ∙ ap (R.Done y) (sym left)
+noted_name call false captures u x e s t y is left =
+    let h : answer false x e ≡ Ok y = is in absurd cc
+
+-- and where it refuses the name, it is not
+pub refused_name : (call : Caller) (b captures : Bool) (u : Use) (x : Node) (e f : Refusal) (s : Progress)
+    → answer b x e ≡ Err f
+    → exec call (if b then Note captures u (Ret x) else Fail e) s ≡ R.Refused f s
+refused_name call true captures u x e f s is =
+    let h : answer true x e ≡ Err f = is in absurd cc
+refused_name call false captures u x e f s is =
+    let h : answer false x e ≡ Err f = is in
+    let same : e ≡ f = cc in ap (λ r. R.Refused r s) same
+
+-- what follows the look after a name
+pub named : (c : Context) (w : Live) {name : Text} {at : Position} {excluded : Bool} {s s1 s2 t : Progress}
     → Worded begin.Name excludes_use name at excluded s s1 s2 t
-    → result_of (Primary c w) s ≡ outcome (name_result c.known w.slots t.library (strict_names c.settings) excluded name at) t
-named_outcome c w {name} {at} {excluded} {s} {s1} {s2} {t} h =
-    let call = guarded (Primary c w) s in
-    let l = (asked s2).lexeme in
-    worded c w (λ x p l q. Know (name_at c w x p l)) (λ l p. refl) h
-    ∙ ap (λ q. exec call q t) (name_chosen (excludes_use l || may_use c w t.library name) (name_tree w.slots (excludes_use l) name at)
-    (refusal (VariableUndefined name) at))
-    ∙ exec_answered call (name_result c.known w.slots t.library (strict_names c.settings) (excludes_use l) name at) t
-    ∙ ap (λ b. outcome (name_result c.known w.slots t.library (strict_names c.settings) b name at) t) (sym h.is_so)
+    → result_of (Primary c w) s ≡ exec (guarded (Primary c w) s) (name_at c w name at (asked s2).lexeme t.library) t
+named c w h = worded c w (λ x p l q. Know (name_at c w x p l)) (λ l p. refl) h
 
 -- ---- keys
 

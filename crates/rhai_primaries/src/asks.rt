@@ -1,24 +1,33 @@
 //! What the readers of literals ask for by leaves, as the reading program gives it: the next key, and the text after a
 //! block.
 
-ghost use Rattle.std.specs.Prelude.{◌+◌, ◌≤◌, OnOk, option_map};
-ghost use Rattle.rhai_ast.specs.View.{property_views, written};
+ghost use Rattle.std.specs.Prelude.{◌≡◌, ◌+◌, ◌≤◌, OnOk, option_map};
+ghost use Rattle.rhai_ast.specs.View.{property_views, view, written};
 ghost use Rattle.rhai_grammar.specs.Cursors.{left};
 ghost use Rattle.rhai_base.specs.Frames.{FrameValue};
 ghost use Rattle.rhai_reading.specs.Reading.{NextKey, TextAfter};
-ghost use Rattle.rhai_language.specs.Frames.{context_of};
+ghost use Rattle.std.specs.Rc.{rc_str_bytes};
+ghost use Rattle.rhai_lower.specs.Lexemes.{Lexeme};
+ghost use Rattle.rhai_grammar.specs.Beginnings.{excludes_use};
+ghost use Rattle.rhai_reading.specs.Reading.{name_at};
+ghost use Rattle.rhai_reading.specs.Running.{Caller, Gives, exec};
+ghost use Rattle.rhai_language.specs.Frames.{context_of, live_of};
+ghost use Rattle.rhai_language.specs.Languages.{LanguageValue};
 ghost use Rattle.rhai_language.specs.Readers.{GoesOn, Reads, state_of};
 ghost use Rattle.rhai_primaries.specs.Views.{text_view};
 
 use crate::keys;
 use rhai_ast::{Expr, Ident};
-use rhai_base::ParseSettings;
+use rhai_base::words::name_node;
+use rhai_base::{Frame, ParseSettingFlags, ParseSettings};
 use rhai_grammar::{DueToken, ParseResult};
 use rhai_language::{Language, Shared};
 use rhai_leaves::due::match_token;
 use rhai_leaves::items::room_for_value;
 use rhai_leaves::strings::{TextPart, end_interpolation};
+use rhai_lower::Position;
 use std::alloc::Global;
+use std::rc::RcStr;
 
 /// The key of the property after these ones, with its `:`, and a look at the value that is due; none where the `}` is,
 /// which is taken. The language limits how many properties the literal has.
@@ -54,6 +63,34 @@ pub(crate) fn next_key(
         Ok(()) => Ok(Some(key)),
         Err(error) => Err(error),
     }
+}
+
+/// What a name is in this frame, where `excluded` says that it is no use of a variable. A use that the closure around
+/// captures is noted.
+///
+/// Under strict variables a variable that is not known is `VariableUndefined`; if memory runs out, the error is
+/// `OutOfMemory`.
+pub(crate) fn used_name(
+    alloc: Global,
+    shared: &mut Shared<'_>,
+    frame: &Frame<'_>,
+    settings: ParseSettings,
+    name: RcStr,
+    excluded: bool,
+    pos: Position,
+) -> ParseResult<Expr>
+    ensures goes_on { GoesOn shared.old shared.new }
+    ensures gives { (language : LanguageValue) (call : Caller) (token : Lexeme) → excluded ≡ excludes_use token
+        → Gives view (exec call (name_at (context_of language frame.now settings) (live_of frame.now)
+        (rc_str_bytes name) pos token (state_of shared.old).library) (state_of shared.old)) result
+        (state_of shared.new) }
+{
+    let closure = settings.has_flag(ParseSettingFlags::CLOSURE_SCOPE);
+    let captures = !excluded && frame.is_captured(closure, shared.library, &name);
+    let used = name.clone()?;
+    let node = name_node(alloc, frame, shared.library, settings, name, excluded, pos)?;
+    shared.note(captures, &used, pos)?;
+    Ok(node)
 }
 
 /// The `}` of a block in an interpolated string, and the text after it; both are taken.

@@ -1,13 +1,14 @@
-//! What an operand begins with: a value, a name, a group, an array, an object map, a string, or a construct.
+//! What an operand begins with: a value, a name, a group, an array, an object map, a string, a construct, or a closure.
 
 ghost use Rattle.rhai_ast.specs.View.{view};
 ghost use Rattle.rhai_language.specs.Readers.{Covers, GoesOn, Reads, primary};
 
+use crate::asks::used_name;
 use crate::reader::PrimaryReader;
 use rhai_ast::Expr;
 use rhai_base::literals::value_of;
-use rhai_base::places::may_be_value;
-use rhai_base::words::{name_node, word_node};
+use rhai_base::places::{may_be_closure, may_be_value};
+use rhai_base::words::word_node;
 use rhai_base::{Frame, ParseSettings};
 use rhai_grammar::{Beginning, DueToken, ParseResult};
 use rhai_language::{LentReaders, Shared};
@@ -43,10 +44,10 @@ impl<R: LentReaders> PrimaryReader<'_, R> {
                 let name = token.text(self.language.alloc())?;
                 skip(shared.input);
                 let excluded = excludes_use(shared.input)?;
-                name_node(
+                used_name(
                     self.language.alloc(),
+                    shared,
                     frame,
-                    shared.library,
                     settings,
                     name,
                     excluded,
@@ -103,6 +104,14 @@ impl<R: LentReaders> PrimaryReader<'_, R> {
                     .readers
                     .parse_construct(self.language, shared, frame, deeper, kind)?;
                 Ok(make_statement_value(self.language.alloc(), statement)?)
+            }
+            Beginning::Closure(bars) => {
+                if !may_be_closure(settings, frame.filter(), bars) {
+                    return Err(no_operand(self.language.alloc(), token, pos));
+                }
+                skip(shared.input);
+                let here = settings.at(pos);
+                nested!(shared, self.parse_closure(shared, frame, here, bars))
             }
             Beginning::Range => Ok(Expr::IntegerConstant(0, pos)),
             Beginning::Sign | Beginning::Nothing => Err(no_operand(

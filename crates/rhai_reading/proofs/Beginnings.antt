@@ -1,5 +1,4 @@
 -- Which token it is that a view of one found.
-use Rattle.rhai_grammar.specs.Functions.{parameter_place}
 use Rattle.std.proofs.Common.{◌≡◌, ℕ, Bool, true, false, refl, ap, ◌∙◌, subst, if◌then◌else◌}
 use Rattle.rhai_lower.specs.Lexemes.{Lexeme, Interpolated, Name, Reserved, Sign, String, text_of}
 use Rattle.rhai_grammar.specs.Interpolations.{is_last_text, is_text}
@@ -10,6 +9,7 @@ use Rattle.rhai_lower.specs.declared.position.Position.{Position}
 use Rattle.rhai_lower.specs.declared.token.Token.TheVariants as token
 use Rattle.rhai_grammar.specs.Causes as cause
 use Rattle.rhai_grammar.specs.Causes.{refusal}
+use Rattle.rhai_grammar.specs.Closures.{bars_token}
 use Rattle.rhai_grammar.specs.Contexts.{full}
 use Rattle.rhai_grammar.specs.Delivered.{code, Item, item, Point, next_at}
 use Rattle.rhai_grammar.specs.Demands.{Blames, Wrong}
@@ -50,6 +50,7 @@ Begins begin.Group i = i ≡ item (Sign token.LeftParen) i.at
 Begins begin.Array i = i ≡ item (Sign token.LeftBracket) i.at
 Begins begin.Map i = i ≡ item (Sign token.MapStart) i.at
 Begins begin.Interpolated i = i ≡ item (Interpolated (text_of i.lexeme)) i.at
+Begins (begin.Closure b) i = i ≡ item (Sign (bars_token b)) i.at
 Begins (begin.Construct k) i = i ≡ item (Sign (construct_token k)) i.at
 Begins _ i = Unit {0}
 
@@ -67,6 +68,8 @@ begins (Sign token.While) p = refl
 begins (Sign token.Loop) p = refl
 begins (Sign token.Do) p = refl
 begins (Sign token.For) p = refl
+begins (Sign token.Or) p = refl
+begins (Sign token.Pipe) p = refl
 begins _ p = tt
 
 pub begun : {v : Beginning} (s : Point) → beginning (op_at s) ≡ v → Begins v (next_at code s)
@@ -108,21 +111,6 @@ places limit count l p = room_places (full limit count) (item l p)
 pub placed : {v : ItemPlace} (limit count : ℕ) (s : Point) → item_place limit count (op_at s) ≡ v
     → Places v (next_at code s)
 placed limit count s e = subst (λ v. Places v (next_at code s)) e (places limit count (op_at s) (pos_at s))
-
--- ---- where a parameter may be
-
-abbrev pub ParameterIs : ItemPlace → Item → Type 0
-ParameterIs place.End i = i ≡ item (Sign token.RightParen) i.at
-ParameterIs place.Item i = i ≡ item (Name (text_of i.lexeme)) i.at
-ParameterIs _ i = Unit {0}
-
-parameter_at : (l : Lexeme) (p : Position) → ParameterIs (parameter_place l) (item l p)
-parameter_at (Sign token.RightParen) p = refl
-parameter_at (Name t) p = refl
-parameter_at _ p = tt
-
-pub parameter_is : {v : ItemPlace} (s : Point) → parameter_place (op_at s) ≡ v → ParameterIs v (next_at code s)
-parameter_is s e = subst (λ v. ParameterIs v (next_at code s)) e (parameter_at (op_at s) (pos_at s))
 
 -- ---- where a key may stand: it is named by the text of its token
 

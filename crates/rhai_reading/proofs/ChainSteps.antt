@@ -14,8 +14,8 @@ use Rattle.rhai_grammar.specs.Trees.{bracket_link, member_link}
 use Rattle.rhai_grammar.specs.Spots.{LinkSpot, spot_after_bracket, spot_after_dot}
 use Rattle.rhai_reading.specs.Reading.{Fail, Ret, Call, Index, Links, Member, dot_at, links_at, raised}
 use Rattle.rhai_reading.specs.Running as R
-use Rattle.rhai_reading.specs.Running.{exec, result_of, guarded}
-use Rattle.rhai_reading.proofs.Steps.{step_links, guarded_is, and_then_done}
+use Rattle.rhai_reading.specs.Running.{exec, guarded, nested, result_of}
+use Rattle.rhai_reading.proofs.Steps.{and_then_done, guarded_is, nested_is, step_links}
 
 -- From s a dot stands, whose member x ends at t.
 pub record TakesDot (w : Live) (q : LinkSpot) (x : Node) (s t : Progress) : Type 0 where
@@ -24,7 +24,7 @@ pub record TakesDot (w : Live) (q : LinkSpot) (x : Node) (s t : Progress) : Type
   pub readable_on : is_memory (asked (taking s)).lexeme ≡ false
   pub due : member_place (asked (taking s)).lexeme ≡ AMember
   pub room : has_room q.settings ≡ true
-  pub member : result_of (Member (level_up q.settings) w) (looking (taking s)) ≡ R.Done x t
+  pub member : nested (result_of (Member (level_up q.settings) w)) (looking (taking s)) ≡ R.Done x t
   pub after_dot : left (taking s).cursor.tokens + 1 ≤ left s.cursor.tokens
   pub after_member : left t.cursor.tokens + 1 ≤ left s.cursor.tokens
 
@@ -35,7 +35,7 @@ dot_taken w q x s t h =
     let l = (asked s).lexeme in
     let at = (asked s).at in
     let u = taking s in
-    let inner = guarded_is g s (Member (level_up q.settings) w) (looking u) (omega (arith, h.after_dot)) ∙ h.member in
+    let inner = nested_is g s (Member (level_up q.settings) w) (looking u) (omega (arith, h.after_dot)) ∙ h.member in
     let on = Links w (spot_after_dot q (member_link l at x)) in
     step_links w q s
     ∙ ap (λ m. if m then R.Refused out_of_memory (looking s) else exec call (links_at w q l at (linking l)) (looking s)) h.readable
@@ -62,7 +62,7 @@ pub record DotTaken (d : Context) (w : Live) (q next : LinkSpot) (l : Lexeme) (a
   pub look_on : s3 ≡ looking s2
   pub room : has_room q.settings ≡ true
   pub deeper : d ≡ level_up q.settings
-  pub member : result_of (Member d w) s3 ≡ R.Done x t
+  pub member : nested (result_of (Member d w)) s3 ≡ R.Done x t
   pub member_short : left t.cursor.tokens ≤ left s3.cursor.tokens
   pub joined : next ≡ record { settings = d; brackets = d; indexed = None; before = q.before ++ (member_link l at x ∷ []) }
 
@@ -85,7 +85,7 @@ dot_goes_on {d} {w} {q} {next} {l} {at} {x} {s} {s1} {s2} {s3} {t} h =
       readable_on = ap (λ (u : Progress). is_memory (asked u).lexeme) (sym there) ∙ h.readable_on;
       due = ap (λ (u : Progress). member_place (asked u).lexeme) (sym there) ∙ h.due;
       room = h.room;
-      member = ap (λ (f : Context). result_of (Member f w) (looking (taking s))) (sym h.deeper) ∙ ap (result_of (Member d w)) (sym looked) ∙ h.member;
+      member = ap (λ (f : Context). nested (result_of (Member f w)) (looking (taking s))) (sym h.deeper) ∙ ap (nested (result_of (Member d w))) (sym looked) ∙ h.member;
       after_dot = subst (λ (u : Progress). left u.cursor.tokens + 1 ≤ left s.cursor.tokens) there short.0;
       after_member = short.1;
     } in
@@ -102,7 +102,7 @@ record TakesBracket (w : Live) (q : LinkSpot) (x : Node) (s t : Progress) : Type
   bracket : linking (asked s).lexeme ≡ link.Bracket
   room : has_room q.brackets ≡ true
   room_on : has_room (level_up q.brackets) ≡ true
-  index : result_of (Index (level_up (level_up q.brackets)) w q.indexed) (taking s) ≡ R.Done x t
+  index : nested (result_of (Index (level_up (level_up q.brackets)) w q.indexed)) (taking s) ≡ R.Done x t
   after_bracket : left (taking s).cursor.tokens + 1 ≤ left s.cursor.tokens
   after_index : left t.cursor.tokens + 1 ≤ left s.cursor.tokens
 
@@ -114,7 +114,7 @@ bracket_taken w q x s t h =
     let at = (asked s).at in
     let u = taking s in
     let d = level_up q.brackets in
-    let inner = guarded_is g s (Index (level_up d) w q.indexed) u (omega (arith, h.after_bracket)) ∙ h.index in
+    let inner = nested_is g s (Index (level_up d) w q.indexed) u (omega (arith, h.after_bracket)) ∙ h.index in
     let on = Links w (spot_after_bracket q (bracket_link l at x)) in
     step_links w q s
     ∙ ap (λ m. if m then R.Refused out_of_memory (looking s) else exec call (links_at w q l at (linking l)) (looking s)) h.readable
@@ -139,7 +139,7 @@ pub record BracketTaken (d e : Context) (w : Live) (q next : LinkSpot) (l : Lexe
   pub deeper : d ≡ level_up q.brackets
   pub room_on : has_room d ≡ true
   pub inside : e ≡ level_up d
-  pub index : result_of (Index e w q.indexed) s2 ≡ R.Done x t
+  pub index : nested (result_of (Index e w q.indexed)) s2 ≡ R.Done x t
   pub index_short : left t.cursor.tokens ≤ left s2.cursor.tokens
   pub joined : next ≡ record { settings = q.settings; brackets = d; indexed = None; before = q.before ++ (bracket_link l at x ∷ []) }
 
@@ -160,7 +160,7 @@ bracket_goes_on {d} {e} {w} {q} {next} {l} {at} {x} {s} {s1} {s2} {t} h =
       bracket = ap (λ (i : Item). linking i.lexeme) (sym h.token) ∙ h.bracket;
       room = h.room;
       room_on = ap has_room (sym h.deeper) ∙ h.room_on;
-      index = ap (λ (f : Context). result_of (Index f w q.indexed) (taking s)) (sym twice) ∙ ap (result_of (Index e w q.indexed)) (sym there) ∙ h.index;
+      index = ap (λ (f : Context). nested (result_of (Index f w q.indexed)) (taking s)) (sym twice) ∙ ap (nested (result_of (Index e w q.indexed))) (sym there) ∙ h.index;
       after_bracket = subst (λ (u : Progress). left u.cursor.tokens + 1 ≤ left s.cursor.tokens) there short.0;
       after_index = short.1;
     } in

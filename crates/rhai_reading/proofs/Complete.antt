@@ -9,8 +9,12 @@ pub mod Statements
 pub mod Constructs
 pub mod Switches
 pub mod Functions
+pub mod Closures
 pub mod Whole
 use Rattle.rhai_reading.proofs.Complete.Functions as Y
+use Rattle.rhai_reading.proofs.Complete.Closures as Z
+use Rattle.rhai_grammar.specs.Forms.{ClosureBody}
+use Rattle.rhai_reading.proofs.Complete.Law.{ClosureBodyRead}
 use Rattle.std.proofs.Common.{Bool, true}
 use Rattle.rhai_grammar.specs.Delivered.{Point}
 use Rattle.rhai_grammar.specs.Contexts.{Context, Live}
@@ -57,7 +61,13 @@ mutual
   primary (form.Map opening list) = L.object_map opening list (fields list)
   primary (form.Interpolated first pos list) = T.interpolated first pos list (segments list)
   primary (form.CompoundValue pos x) = T.compound_value pos x (construct x)
+  primary (form.Closure (form.Bars pos) f number us) = Z.bars_alone pos f number us (closure_body f)
+  primary (form.Closure (form.Declared pos list) f number us) = Z.declared pos list f number us (closure_body f)
   primary (form.Zero range pos) = O.zero range pos
+
+  closure_body : (x : ClosureBody) → ClosureBodyRead x
+  closure_body (form.Runs f) = Z.runs_statement f (statement f)
+  closure_body (form.NoBody pos) = Z.no_body pos
 
   base : (x : Base) → BaseRead x
   base (form.Plain x names) = C.plain x names (primary x)

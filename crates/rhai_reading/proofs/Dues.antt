@@ -1,4 +1,7 @@
 -- A token that is due, and what follows a part of a list: what is shown there, whatever the token and the list are.
+use Rattle.rhai_grammar.specs.Functions.{parameter_place, place_by}
+use Rattle.rhai_grammar.specs.declared.role.ItemPlace.{ItemPlace}
+use Rattle.rhai_grammar.specs.declared.role.ItemPlace.TheVariants as place
 use Rattle.std.proofs.Common.{◌≡◌, Bool, true, false, refl, subst}
 use Rattle.rhai_lower.specs.Lexemes.{Lexeme, Name, Sign, text_of}
 use Rattle.rhai_lower.specs.Texts.{Text}
@@ -100,10 +103,33 @@ follows lists.Arms _ p = tt
 follows lists.Parameters (Sign token.Comma) p = refl
 follows lists.Parameters (Sign token.RightParen) p = refl
 follows lists.Parameters _ p = tt
+follows lists.ClosureParameters (Sign token.Comma) p = refl
+follows lists.ClosureParameters (Sign token.Pipe) p = refl
+follows lists.ClosureParameters _ p = tt
 
 pub followed : {v : AfterPart} (parts : CommaList) (s : Point) → after_part parts (op_at s) ≡ v
     → Follows parts v (next_at code s)
 followed parts s e = subst (λ v. Follows parts v (next_at code s)) e (follows parts (op_at s) (pos_at s))
+
+-- ---- where a parameter may be
+
+abbrev pub ParameterIs : CommaList → ItemPlace → Item → Type 0
+ParameterIs parts place.End i = i ≡ item (Sign (closing_of parts)) i.at
+ParameterIs parts place.Item i = i ≡ item (Name (text_of i.lexeme)) i.at
+ParameterIs parts _ i = Unit {0}
+
+ends_parameters : (parts : CommaList) (v : AfterPart) (i : Item) → Follows parts v i → ParameterIs parts (place_by v) i
+ends_parameters parts Close i h = h
+ends_parameters parts _ i h = tt
+
+parameter_at : (parts : CommaList) (l : Lexeme) (p : Position) → ParameterIs parts (parameter_place parts l) (item l p)
+parameter_at parts (Name t) p = refl
+parameter_at parts (Sign t) p = ends_parameters parts (after_part parts (Sign t)) (item (Sign t) p) (follows parts (Sign t) p)
+parameter_at parts _ p = tt
+
+pub parameter_is : {v : ItemPlace} (parts : CommaList) (s : Point) → parameter_place parts (op_at s) ≡ v
+    → ParameterIs parts v (next_at code s)
+parameter_is parts s e = subst (λ v. ParameterIs parts v (next_at code s)) e (parameter_at parts (op_at s) (pos_at s))
 
 only_close : (v : AfterPart) → is_close v ≡ true → v ≡ Close
 only_close Close e = refl

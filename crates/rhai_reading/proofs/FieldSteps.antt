@@ -13,8 +13,8 @@ use Rattle.rhai_reading.specs.Running.{Progress, asked, looking, taking}
 use Rattle.rhai_grammar.specs.Delivered.{is_memory}
 use Rattle.rhai_reading.specs.Reading.{Ret, Fail, Call, Expression, Fields, NextKey, part_next, field_next, field_on}
 use Rattle.rhai_reading.specs.Running as R
-use Rattle.rhai_reading.specs.Running.{exec, result_of, guarded}
-use Rattle.rhai_reading.proofs.Steps.{step_fields, guarded_is, and_then_done}
+use Rattle.rhai_reading.specs.Running.{exec, guarded, nested, result_of}
+use Rattle.rhai_reading.proofs.Steps.{and_then_done, guarded_is, nested_is, step_fields}
 
 -- the equation of the properties of an object map, with the key as the code asks for it
 pub step_fields_key : (c : Context) (w : Live) (at : Position) (before : Properties) (s : Progress)
@@ -28,7 +28,7 @@ step_fields_key c w at before s =
 pub record TakesField (c : Context) (w : Live) (before : Properties) (key : Text × Position) (x : Node) (s s1 s2 : Progress) : Type 0 where
   pub key_read : result_of (NextKey c before) s ≡ R.Done (Some key) s1
   pub room : has_room c ≡ true
-  pub value : result_of (Expression (level_up c) w) s1 ≡ R.Done x s2
+  pub value : nested (result_of (Expression (level_up c) w)) s1 ≡ R.Done x s2
   pub readable : is_memory (asked s2).lexeme ≡ false
   pub comma : after_part lists.Map (asked s2).lexeme ≡ Comma
   pub after_key : left s1.cursor.tokens ≤ left s.cursor.tokens
@@ -39,7 +39,7 @@ field_taken c w opening before key x s s1 s2 h =
     let g = Fields c w opening before in
     let call = guarded g s in
     let ps = with_property before key.0 key.1 x in
-    let inner = guarded_is g s (Expression (level_up c) w) s1 (omega (arith, h.after_key)) ∙ h.value in
+    let inner = nested_is g s (Expression (level_up c) w) s1 (omega (arith, h.after_key)) ∙ h.value in
     let on = Fields c w opening ps in
     step_fields_key c w opening before s
     ∙ ap (λ o. R.and_then o (λ v u. exec call (field_on c w opening before v) u)) h.key_read
@@ -57,7 +57,7 @@ pub record FieldTaken (c d : Context) (w : Live) (before after : Properties) (ke
   pub key_short : left s1.cursor.tokens ≤ left s.cursor.tokens
   pub room : has_room c ≡ true
   pub deeper : d ≡ level_up c
-  pub value : result_of (Expression d w) s1 ≡ R.Done x s2
+  pub value : nested (result_of (Expression d w)) s1 ≡ R.Done x s2
   pub value_short : left s2.cursor.tokens ≤ left s1.cursor.tokens
   pub readable : is_memory (asked s2).lexeme ≡ false
   pub comma : after_part lists.Map (asked s2).lexeme ≡ Comma
@@ -73,7 +73,7 @@ field_goes_on {c} {d} {w} opening {before} {after} {key} {x} {s} {s1} {s2} {t} h
     let taken : TakesField c w before key x s s1 s2 = record {
       key_read = h.key_read;
       room = h.room;
-      value = ap (λ (e : Context). result_of (Expression e w) s1) (sym h.deeper) ∙ h.value;
+      value = ap (λ (e : Context). nested (result_of (Expression e w)) s1) (sym h.deeper) ∙ h.value;
       readable = h.readable;
       comma = h.comma;
       after_key = h.key_short;

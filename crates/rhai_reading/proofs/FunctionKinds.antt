@@ -17,6 +17,7 @@ use Rattle.rhai_grammar.specs.Forms.{Body, Owner, ParameterList, Parameters}
 use Rattle.rhai_grammar.specs.Functions.{body_due, ended_function, in_function, may_begin, names_after, owner_of}
 use Rattle.rhai_grammar.specs.Functions.{parameter_names, parameters_live}
 use Rattle.rhai_grammar.specs.Libraries.{Ended}
+use Rattle.rhai_grammar.specs.declared.list.CommaList.{CommaList}
 use Rattle.rhai_grammar.specs.Trees.{block_tree}
 use Rattle.rhai_grammar.specs.Written as W
 use Rattle.rhai_reading.proofs.Shows.{Kind}
@@ -39,10 +40,10 @@ parameter_lists function = record {
   demands = λ x k. W.parameter_list x function k;
 }
 
-abbrev pub parameters : (function : Text) → (before : List Text) → Kind Parameters (List Text)
-parameters function before = record {
+abbrev pub parameters : CommaList → (function : Text) → (before : List Text) → Kind Parameters (List Text)
+parameters parts function before = record {
   tree = λ t x. names_after x before;
-  demands = λ x k. W.parameters x function before k;
+  demands = λ x k. W.parameters x parts function before k;
 }
 
 -- a function after its `fn`

@@ -1,4 +1,7 @@
 pub mod Steps
+pub mod Rooms
+pub mod Heights
+pub mod Dives
 pub mod Joins
 pub mod Strengths
 pub mod Rules
@@ -12,6 +15,7 @@ pub mod Shows
 pub mod FormKinds
 pub mod ConstructKinds
 pub mod FunctionKinds
+pub mod ClosureKinds
 pub mod SwitchKinds
 pub mod Reaches
 pub mod Complete

@@ -17,8 +17,8 @@ use Rattle.rhai_grammar.specs.Statements.{no_variable}
 use Rattle.rhai_reading.specs.Reading.{Call, Called, Fail, Path, Peek, Postfix, Prog, Ret, Take, call_at, call_on, match_name, path_on}
 use Rattle.rhai_reading.specs.Reading.{postfix_at, tested}
 use Rattle.rhai_reading.specs.Running as R
-use Rattle.rhai_reading.specs.Running.{Caller, exec, guarded, result_of}
-use Rattle.rhai_reading.proofs.Steps.{and_then_done, guarded_is, step_path, step_postfix}
+use Rattle.rhai_reading.specs.Running.{Caller, exec, guarded, nested, result_of}
+use Rattle.rhai_reading.proofs.Steps.{and_then_done, guarded_is, nested_is, step_path, step_postfix}
 use Rattle.rhai_reading.proofs.Tokens.{readable}
 
 colons_readable : (l : Lexeme) → qualifies l ≡ true → is_memory l ≡ false
@@ -175,14 +175,14 @@ scoped_refused c w x e s s1 t named colons look path =
 pub name_called : (c : Context) (w : Live) (x y : Node) (called : Bool) (s t : Progress) → called ≡ true
     → result_of (Postfix c w x) s ≡ exec (guarded (Postfix c w x) s) (call_on c w y called) t
     → left t.cursor.tokens ≤ left s.cursor.tokens
-    → result_of (Postfix c w x) s ≡ R.and_then (result_of (Called c w (position_of y) (is_qualified y)) t) (λ a u.
+    → result_of (Postfix c w x) s ≡ R.and_then (nested (result_of (Called c w (position_of y) (is_qualified y))) t) (λ a u.
     exec (guarded (Postfix c w x) s) (tested (call_tree y a.0 a.1) (module_fault c w y)) u)
 name_called c w x y called s t is found short =
     let call = guarded (Postfix c w x) s in
     let g = Called c w (position_of y) (is_qualified y) in
     found
     ∙ ap (λ b. exec call (call_on c w y b) t) is
-    ∙ ap (λ o. R.and_then o (λ a u. exec call (tested (call_tree y a.0 a.1) (module_fault c w y)) u)) (guarded_is (Postfix c w x) s g t (omega (arith, short)))
+    ∙ ap (λ o. R.and_then o (λ a u. exec call (tested (call_tree y a.0 a.1) (module_fault c w y)) u)) (nested_is (Postfix c w x) s g t (omega (arith, short)))
 
 -- where nothing calls it
 pub name_plain : (c : Context) (w : Live) (x y : Node) (called : Bool) (s t : Progress) → called ≡ false
@@ -197,11 +197,11 @@ module _ (c : Context) (w : Live) (x y : Node) (called : Bool) (s t u : Progress
   rest a v = exec (guarded (Postfix c w x) s) (tested (call_tree y a.0 a.1) (module_fault c w y)) v
 
   -- what calls it is refused
-  pub call_refused : (e : Refusal) → result_of (Called c w (position_of y) (is_qualified y)) t ≡ R.Refused e u
+  pub call_refused : (e : Refusal) → nested (result_of (Called c w (position_of y) (is_qualified y))) t ≡ R.Refused e u
       → result_of (Postfix c w x) s ≡ R.Refused e u
   call_refused e given = name_called c w x y called s t is found short ∙ ap (λ o. R.and_then o rest) given
 
-  module _ (a : Bool × Nodes) (given : result_of (Called c w (position_of y) (is_qualified y)) t ≡ R.Done a u) where
+  module _ (a : Bool × Nodes) (given : nested (result_of (Called c w (position_of y) (is_qualified y))) t ≡ R.Done a u) where
     -- its module is tested
     pub call_given : module_fault c w y ≡ None → result_of (Postfix c w x) s ≡ R.Done (call_tree y a.0 a.1) u
     call_given free =

@@ -13,8 +13,8 @@ use Rattle.rhai_grammar.specs.Operators.{operator_result}
 use Rattle.rhai_grammar.specs.Contexts.{Context, Live, has_room, level_up}
 use Rattle.rhai_reading.specs.Reading.{Ret, Fail, Peek, Call, NextOperator, RightOperand, BinaryOp, continues, raised, binary_at, binary_on, binary_right, binary_next}
 use Rattle.rhai_reading.specs.Running as R
-use Rattle.rhai_reading.specs.Running.{exec, result_of, guarded}
-use Rattle.rhai_reading.proofs.Steps.{step_binary_op, guarded_is, and_then_done}
+use Rattle.rhai_reading.specs.Running.{exec, guarded, nested, result_of}
+use Rattle.rhai_reading.proofs.Steps.{and_then_done, guarded_is, nested_is, step_binary_op}
 use Rattle.rhai_reading.proofs.Outcomes.{binary_done, binary_refused}
 
 -- From s an operator of strength n stands after the left operand; its right side gives o, and leaves t.
@@ -22,7 +22,7 @@ pub record TakesOne (c : Context) (w : Live) (parent n : ℕ) (right : Bool) (ne
   pub operator : result_of (NextOperator c.filter) s ≡ R.Done (Some (n, right)) s1
   pub goes : continues parent n right ≡ true
   pub readable : is_memory (asked s1).lexeme ≡ false
-  pub operand : result_of (RightOperand c w (place_after (asked s1).lexeme)) (taking s1) ≡ R.Done x s2
+  pub operand : nested (result_of (RightOperand c w (place_after (asked s1).lexeme))) (taking s1) ≡ R.Done x s2
   pub known : result_of (NextOperator c.filter) s2 ≡ R.Done next s3
   pub room : has_room c ≡ true
   pub side : result_of (BinaryOp (level_up c) w (position_of x) n x) s3 ≡ o
@@ -35,7 +35,7 @@ one_operator : (c : Context) (w : Live) (at : Position) (parent : ℕ) (lhs : No
 one_operator c w at parent lhs n right next x o s s1 s2 s3 t h =
     let g = BinaryOp c w at parent lhs in
     let first = guarded_is g s (NextOperator c.filter) s (omega arith) ∙ h.operator in
-    let second = guarded_is g s (RightOperand c w (place_after (asked s1).lexeme)) (taking s1) (omega (arith, h.after_operator)) ∙ h.operand in
+    let second = nested_is g s (RightOperand c w (place_after (asked s1).lexeme)) (taking s1) (omega (arith, h.after_operator)) ∙ h.operand in
     let third = guarded_is g s (NextOperator c.filter) s2 (omega (arith, h.after_operand)) ∙ h.known in
     let fourth = guarded_is g s (BinaryOp (level_up c) w (position_of x) n x) s3 (omega (arith, h.after_look)) ∙ h.side in
     let call = guarded g s in
@@ -78,7 +78,7 @@ pub record Walked (c : Context) (w : Live) (parent n : ℕ) (right : Bool) (plac
   pub took : s2 ≡ taking s1
   pub shrinks : is_end (asked s1).lexeme ≡ false → left s2.cursor.tokens + 1 ≤ left s1.cursor.tokens
   pub stands : place ≡ place_after op
-  pub operand : result_of (RightOperand c w place) s2 ≡ R.Done x s3
+  pub operand : nested (result_of (RightOperand c w place)) s2 ≡ R.Done x s3
   pub operand_short : left s3.cursor.tokens ≤ left s2.cursor.tokens
   pub known : result_of (NextOperator c.filter) s3 ≡ R.Done next s4
   pub look_on : s4 ≡ looking s3
@@ -104,7 +104,7 @@ module _ {c : Context} {w : Live} {parent n : ℕ} {right : Bool} {place : Opera
         operator = h.operator;
         goes = h.goes;
         readable = ap (λ (u : Progress). is_memory (asked u).lexeme) h.look ∙ h.readable;
-        operand = ap (λ b. result_of (RightOperand c w b) (taking s1)) place_is ∙ ap (result_of (RightOperand c w place)) (sym h.took) ∙ h.operand;
+        operand = ap (λ b. nested (result_of (RightOperand c w b)) (taking s1)) place_is ∙ ap (nested (result_of (RightOperand c w place))) (sym h.took) ∙ h.operand;
         known = h.known;
         room = h.room;
         side = ap (λ e. result_of (BinaryOp e w (position_of x) n x) s4) (sym h.deeper) ∙ h.side;
@@ -131,3 +131,46 @@ module _ {c : Context} {w : Live} {parent n : ℕ} {right : Bool} {place : Opera
 module _ {c : Context} {w : Live} {parent n : ℕ} {right : Bool} {place : OperandPlace} {next : Option (ℕ × Bool)} {op : Lexeme} {pos : Position} {x : Node} {r : Refusal} {d : Context} {s s1 s2 s3 s4 t : Progress} (h : Walked c w parent n right place next op pos x (R.Refused r t) d s s1 s2 s3 s4 t) where
   pub walked_side_refused : (at : Position) (lhs : Node) → result_of (BinaryOp c w at parent lhs) s ≡ R.Refused r t
   walked_side_refused at lhs = side_refused c w at parent lhs n right next x r s s1 s3 s4 t (walked_takes h)
+
+-- ---- the look after the operand is refused
+
+pub record Halted (c : Context) (w : Live) (parent n : ℕ) (right : Bool) (place : OperandPlace) (op : Lexeme) (pos : Position) (x : Node) (r : Refusal) (s s1 s2 s3 t : Progress) : Type 0 where
+  pub operator : result_of (NextOperator c.filter) s ≡ R.Done (Some (n, right)) s1
+  pub goes : continues parent n right ≡ true
+  pub readable : is_memory (asked s).lexeme ≡ false
+  pub more : is_end (asked s).lexeme ≡ false
+  pub look : s1 ≡ looking s
+  pub token : item op pos ≡ asked s1
+  pub took : s2 ≡ taking s1
+  pub shrinks : is_end (asked s1).lexeme ≡ false → left s2.cursor.tokens + 1 ≤ left s1.cursor.tokens
+  pub stands : place ≡ place_after op
+  pub operand : nested (result_of (RightOperand c w place)) s2 ≡ R.Done x s3
+  pub operand_short : left s3.cursor.tokens ≤ left s2.cursor.tokens
+  pub refused : result_of (NextOperator c.filter) s3 ≡ R.Refused r t
+
+module _ {c : Context} {w : Live} {parent n : ℕ} {right : Bool} {place : OperandPlace} {op : Lexeme} {pos : Position} {x : Node} {r : Refusal} {s s1 s2 s3 t : Progress} (h : Halted c w parent n right place op pos x r s s1 s2 s3 t) where
+  halted_short : (left (taking s1).cursor.tokens + 1 ≤ left s.cursor.tokens) × (left s3.cursor.tokens + 1 ≤ left s.cursor.tokens)
+  halted_short =
+      let more : is_end (asked s1).lexeme ≡ false = ap (λ (u : Progress). is_end (asked u).lexeme) h.look ∙ h.more in
+      let first : left s1.cursor.tokens ≡ left s.cursor.tokens = ap (λ (u : Progress). left u.cursor.tokens) h.look in
+      let shrinks = h.shrinks more in
+      let short = h.operand_short in
+      (subst (λ (u : Progress). left u.cursor.tokens + 1 ≤ left s.cursor.tokens) h.took (omega (arith, first, shrinks)), omega (arith, first, shrinks, short))
+
+  pub look_refused : (at : Position) (lhs : Node) → result_of (BinaryOp c w at parent lhs) s ≡ R.Refused r t
+  look_refused at lhs =
+      let g = BinaryOp c w at parent lhs in
+      let call = guarded g s in
+      let next = asked s1 in
+      let readable : is_memory (asked s1).lexeme ≡ false = ap (λ (u : Progress). is_memory (asked u).lexeme) h.look ∙ h.readable in
+      let place_is : place_after next.lexeme ≡ place = ap (λ (i : Item). place_after i.lexeme) (sym h.token) ∙ sym h.stands in
+      let operand = ap (λ b. nested (result_of (RightOperand c w b)) (taking s1)) place_is ∙ ap (nested (result_of (RightOperand c w place))) (sym h.took) ∙ h.operand in
+      let first = guarded_is g s (NextOperator c.filter) s (omega arith) ∙ h.operator in
+      let second = nested_is g s (RightOperand c w (place_after next.lexeme)) (taking s1) (let short = halted_short.0 in omega (arith, short)) ∙ operand in
+      let third = guarded_is g s (NextOperator c.filter) s3 (let short = halted_short.1 in omega (arith, short)) ∙ h.refused in
+      step_binary_op c w at parent lhs s
+      ∙ ap (λ o. R.and_then o (λ v u. exec call (binary_at c w at parent lhs v) u)) first
+      ∙ ap (λ b. exec call (if b then Peek (binary_on c w at parent lhs n) else Ret lhs) s1) h.goes
+      ∙ ap (λ m. if m then R.Refused out_of_memory (looking s1) else (if m then R.Refused out_of_memory (looking s1) else exec call (Call (RightOperand c w (place_after next.lexeme)) (binary_right c w at parent lhs n next.lexeme next.at)) (taking s1))) readable
+      ∙ ap (λ o. R.and_then o (λ v u. exec call (binary_right c w at parent lhs n next.lexeme next.at v) u)) second
+      ∙ ap (λ o. R.and_then o (λ v u. exec call (raised c at (λ d. Call (BinaryOp d w (position_of x) n x) (binary_next d w parent lhs next.lexeme next.at))) u)) third

@@ -8,15 +8,19 @@ use Rattle.rhai_grammar.specs.Beginnings.{unexpected}
 use Rattle.rhai_grammar.specs.DueTokens.{is_due, not_due}
 use Rattle.rhai_grammar.specs.Interpolations.{is_text}
 use Rattle.rhai_grammar.specs.declared.due.DueToken.TheVariants.{RightBrace}
-use Rattle.rhai_grammar.specs.Delivered.{code, text, Item, Point, next_at, past, is_memory}
+use Rattle.rhai_grammar.specs.Delivered.{Mode, code, text, Item, Point, next_at, past, is_memory}
 use Rattle.rhai_grammar.specs.Seen.{StandsAtLast, is_at_last}
 use Rattle.rhai_grammar.specs.Contexts.{Context, has_room}
 use Rattle.rhai_grammar.specs.Demands as D
 use Rattle.rhai_grammar.specs.Demands.{Verdict, Fine, Wrong, Blames, Otherwise, Demands, Nothing, ◌▸◌, Tok, Next, Test, Literally, verdict}
 use Rattle.rhai_grammar.specs.Libraries.{Ended, Library}
 use Rattle.rhai_grammar.specs.Delivered.{adding}
-use Rattle.rhai_reading.specs.Reading.{Know, Add}
-use Rattle.rhai_grammar.specs.Demands.{NextIn}
+use Rattle.rhai_reading.specs.Reading.{Know, Add, Note, CallApart}
+use Rattle.rhai_grammar.specs.Delivered.{apart, capturing, with_captured}
+use Rattle.rhai_grammar.specs.Uses.{Use}
+use Rattle.rhai_reading.specs.Histories as H
+use Rattle.std.proofs.Common.{List}
+use Rattle.rhai_grammar.specs.Demands.{Uses}
 use Rattle.rhai_reading.specs.Reading.{Goal, Val, Prog, Ret, Fail, Peek, Take, TakeText, Call, CallLiteral}
 use Rattle.rhai_reading.specs.Histories.{State, Outcome, Done, Refused, Unfinished, after_brace, and_then, exec, looking, recast}
 use Rattle.rhai_reading.proofs.Joins.{cursor}
@@ -103,8 +107,9 @@ pub ill : {v : Lexeme → Verdict} {ds : Demands} {s : Point} {c : Cause} → is
 ill {v = v} {s = s} m e = lost (lost_at v s _ _ m e refl)
 
 -- so it is where the functions that have ended are known
-pub blamed_in : {v : Library → Lexeme → Verdict} {ds : Demands} {s : Point} {e : Refusal}
-    → is_memory (op_at s) ≡ false → v s.library (op_at s) ≡ Blames e → Way (NextIn v ▸ ds) s (Lost e s)
+pub blamed_in : {v : Library → Lexeme → Verdict} {c : Library → Lexeme → Bool} {x : Use} {ds : Demands} {s : Point}
+    {e : Refusal} → is_memory (op_at s) ≡ false → v s.library (op_at s) ≡ Blames e
+    → Way (Uses v c x ▸ ds) s (Lost e s)
 blamed_in {v = v} {s = s} m e = lost (lost_at (v s.library) s _ _ m e refl)
 
 pub blamed : {v : Lexeme → Verdict} {ds : Demands} {s : Point} {e : Refusal} → is_memory (op_at s) ≡ false
@@ -157,6 +162,11 @@ module _ {A : Type 0} {call : Histories} {Q : A → Point → Type 0} {N : Refus
       → Shows call Q N (Add ended p) s b
   add h = record { shown = h.shown }
 
+  -- a name is used, if it is a use
+  pub note : {c : Bool} {u : Use} {p : Prog A} {s : Point} {b : Bool} → Shows call Q N p (capturing c u s) b
+      → Shows call Q N (Note c u p) s b
+  note h = record { shown = h.shown }
+
   pub either : (t : Bool) {p q : Prog A} {s : Point} {b : Bool} → (t ≡ true → Shows call Q N p s b)
       → (t ≡ false → Shows call Q N q s b) → Shows call Q N (if t then p else q) s b
   either true yes_ no_ = record { shown = (yes_ refl).shown }
@@ -202,6 +212,25 @@ module _ {A : Type 0} {call : Histories} {Q : A → Point → Type 0} {N : Refus
       → ((e : Refusal) (t : State) → M e t → N e t)
       → ((x : Val g) (t : Point) (b : Bool) → P x t → Shows call Q N (k x) t b) → Shows call Q N (CallLiteral g k) s b
   called_literal {k = k} h refused done = record { shown = after k _ h.told refused done }
+
+  after_apart : {B : Type 0} {P : B → Point → Type 0} {M : Refusal → State → Type 0} (us : List Use)
+      (k : B → List Use → Prog A) (o : Outcome B) → Ensures P M o → ((e : Refusal) (t : State) → M e t → N e t)
+      → ((x : B) (t : Point) (b : Bool) → P x t → Shows call Q N (k x t.captured) (with_captured us t) b)
+      → Ensures Q N (and_then o (λ v t. exec call (k v t.point.captured) (H.with_captured us t)))
+  after_apart us k (Done x t) h refused done =
+      subst (λ m. Ensures Q N (exec call (k x t.point.captured)
+      (record { point = with_captured us t.point; mode = m; peeked = t.peeked }))) (sym h.0)
+      (done x t.point t.peeked h.1).shown
+  after_apart us k (Refused e t) h refused done = λ w. refused e t (h w)
+  after_apart us k Unfinished h refused done = tt
+
+  -- a reader in a closure of its own, and what comes after it
+  pub called_apart : {g : Goal} {P : Val g → Point → Type 0} {M : Refusal → State → Type 0}
+      {k : Val g → List Use → Prog A} {s : Point} {b : Bool} → Tells P M (call g (at (apart s) b))
+      → ((e : Refusal) (t : State) → M e t → N e t)
+      → ((x : Val g) (t : Point) (b : Bool) → P x t → Shows call Q N (k x t.captured) (with_captured s.captured t) b)
+      → Shows call Q N (CallApart g k) s b
+  called_apart {k = k} {s = s} h refused done = record { shown = after_apart s.captured k _ h.told refused done }
 
 -- a reader at the end
 pub tail : {call : Histories} (g : Goal) {Q : Val g → Point → Type 0} {N : Refusal → State → Type 0} {s : Point}
@@ -293,6 +322,19 @@ module _ {A F B : Type 0} {call : Histories} {Q : A → Point → Type 0} {K : K
       called_literal (record { told = recast_told L u _ h.told })
       (λ e t r. record { form = wrap r.form; stops = way r.form _ _ (λ j. r.stops); last = r.last })
       (λ x t b r. subst (λ y. Shows call Q (Halts K from) (k y) t b) r.is (on r.form t b r.passes))
+
+  -- such a part in a closure of its own
+  pub part_apart : {G : Type 0} {g : Goal} {L : Kind G (Val g)} {k : Val g → List Use → Prog A} {s : Point} {b : Bool}
+      → Answers L (apart s) (call g (at (apart s) b))
+      → (wrap : G → F) → ((f : G) (k : Demands) (e : Refusal) (n : Mode) (u : Point)
+      → ((j : Demands) → Way (L.demands f j) (apart s) (Astray e n u)) → Way (K.demands (wrap f) k) from (Astray e n u))
+      → ((f : G) (t : Point) (b : Bool) → Passed L f (apart s) t
+      → Shows call Q (Halts K from) (k (L.tree t f) t.captured) (with_captured s.captured t) b)
+      → Shows call Q (Halts K from) (CallApart g k) s b
+  part_apart {k = k} {s = s} h wrap way on =
+      called_apart h (λ e t r. record { form = wrap r.form; stops = way r.form _ e _ _ (λ j. r.stops); last = r.last })
+      (λ x t b r. subst (λ y. Shows call Q (Halts K from) (k y t.captured) (with_captured s.captured t) b) r.is
+      (on r.form t b r.passes))
 
 -- ---- what is left of a form
 

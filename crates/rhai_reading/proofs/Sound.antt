@@ -9,6 +9,7 @@ pub mod Statements
 pub mod Switches
 pub mod Constructs
 pub mod Functions
+pub mod Closures
 pub mod Whole
 use Rattle.rhai_reading.proofs.Sound.Functions as Y
 use Rattle.std.proofs.Common.{◌≡◌, ℕ, zero, suc, Bool}
@@ -29,6 +30,7 @@ use Rattle.rhai_reading.proofs.Shows.{Histories, tells}
 pub use Rattle.rhai_reading.proofs.Shows.{Ensures}
 pub use Rattle.rhai_reading.proofs.Sound.Law.{Sound, WholeRead, WholeHalts}
 use Rattle.rhai_reading.proofs.Sound.Law.{AllSound}
+use Rattle.rhai_reading.proofs.Sound.Closures as Z
 use Rattle.rhai_reading.proofs.Sound.Operands as O
 use Rattle.rhai_reading.proofs.Sound.Calls as C
 use Rattle.rhai_reading.proofs.Sound.Literals as L
@@ -92,7 +94,9 @@ step ih (R.FunctionStatement c w from at is_private) s b = tells (Y.function_sta
 step ih (R.Function c at is_private) s b = tells (Y.function ih c at is_private s b)
 step {call = call} ih R.FunctionHead s b = tells (Y.head call s b)
 step ih (R.ParameterList function) s b = tells (Y.parameter_list ih function s b)
-step ih (R.Parameters function before) s b = tells (Y.parameters_of ih function before s b)
+step ih (R.Parameters parts function before) s b = tells (Y.parameters_of ih parts function before s b)
+step ih (R.Closure c w at by) s b = tells (Z.closure ih c w at by s b)
+step ih (R.ClosureBody c w) s b = tells (Z.closure_body ih c w s b)
 step {call = call} ih R.BlockStart s b = tells (L.block_start call s b)
 step ih (R.Inside c w) s b = tells (T.inside ih c w s b)
 step ih (R.Block c w opening) s b = tells (T.block ih c w opening s b)

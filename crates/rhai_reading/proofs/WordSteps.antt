@@ -12,7 +12,7 @@ use Rattle.rhai_grammar.specs.Delivered.{is_memory}
 use Rattle.rhai_grammar.specs.Contexts.{Context, Live}
 use Rattle.rhai_reading.specs.Reading.{Peek, Primary, Prog, Take, primary_at}
 use Rattle.rhai_reading.specs.Running as R
-use Rattle.rhai_reading.specs.Running.{exec, result_of, guarded}
+use Rattle.rhai_reading.specs.Running.{exec, guarded, nested, result_of}
 use Rattle.rhai_reading.proofs.Steps.{step_primary}
 
 -- A name or a reserved word that was taken, with a look after it: `holds` says whether the next token passes a test.

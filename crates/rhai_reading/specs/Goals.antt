@@ -2,6 +2,8 @@
 use Rattle.std.specs.Prelude.{if◌then◌else◌}
 use Rattle.rhai_lower.specs.Lexemes.{Lexeme}
 use Rattle.rhai_grammar.specs.Libraries.{Ended, Library}
+use Rattle.rhai_grammar.specs.Uses.{Use}
+use Rattle.rhai_grammar.specs.declared.role.Bars.{Bars}
 use Rattle.rhai_grammar.specs.Causes as cause
 use Rattle.rhai_grammar.specs.Causes.{Refusal, refusal}
 use Rattle.rhai_grammar.specs.DueTokens.{is_due, not_due}
@@ -143,8 +145,12 @@ pub data Goal : Type 0 where
   FunctionHead : Goal
   -- its parameters, after its name
   ParameterList : (function : Text) → Goal
-  -- its parameters up to the `)`, after these
-  Parameters : (function : Text) (before : List Text) → Goal
+  -- the parameters of a function or of a closure, up to what closes them, after these
+  Parameters : (parts : CommaList) (function : Text) (before : List Text) → Goal
+  -- a closure after its first token, which is at a position
+  Closure : Context → Live → (at : Position) → Bars → Goal
+  -- the statement of a closure, or nothing before the end mark
+  ClosureBody : Context → Live → Goal
 
 -- a script, up to the end mark
 abbrev pub Script : Context → Live → Goal
@@ -208,7 +214,9 @@ Val (FunctionStatement context live first at is_private) = node.Statement × Liv
 Val (Function context at is_private) = Ended
 Val FunctionHead = Option Text × Text
 Val (ParameterList function) = List Text
-Val (Parameters function before) = List Text
+Val (Parameters parts function before) = List Text
+Val (Closure context live at bars) = Node
+Val (ClosureBody context live) = node.Statement
 
 -- a reader that gives an A
 pub data Prog (A : Type 0) : Type 0 where
@@ -224,9 +232,13 @@ pub data Prog (A : Type 0) : Type 0 where
   Know : (Library → Prog A) → Prog A
   -- one more function ends
   Add : Ended → Prog A → Prog A
+  -- a name is captured by the closure around, or not
+  Note : Bool → Use → Prog A → Prog A
   Call : (goal : Goal) → (Val goal → Prog A) → Prog A
   -- calls a reader, and reports what it refuses as a missing literal
   CallLiteral : (goal : Goal) → (Val goal → Prog A) → Prog A
+  -- calls a reader in a closure of its own, and knows what was used there
+  CallApart : (goal : Goal) → (Val goal → List Use → Prog A) → Prog A
 
 -- ---- terms that several readers have
 

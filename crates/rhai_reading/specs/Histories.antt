@@ -5,6 +5,8 @@ use Rattle.rhai_lower.specs.declared.position.Position.{Position}
 use Rattle.rhai_grammar.specs.Delivered as point
 use Rattle.rhai_grammar.specs.Delivered.{Mode, code, text, Item, Point, next_at, past}
 use Rattle.rhai_grammar.specs.Libraries.{Ended}
+use Rattle.rhai_grammar.specs.Uses.{Use}
+use Rattle.std.specs.Prelude.{List}
 use Rattle.rhai_reading.specs.Moves as moves
 use Rattle.rhai_reading.specs.Moves.{Moves}
 use Rattle.rhai_reading.specs.Reading.{Goal, Val, Prog, body}
@@ -32,6 +34,9 @@ after_brace s = record (taking s) { mode = text }
 abbrev pub adding : Ended → State → State
 adding ended s = record s { point = point.adding ended s.point }
 
+abbrev pub with_captured : List Use → State → State
+with_captured uses s = record s { point = point.with_captured uses s.point }
+
 abbrev pub steps : Moves State
 steps = record {
   asked = asked;
@@ -40,6 +45,9 @@ steps = record {
   after_brace = after_brace;
   library = λ s. s.point.library;
   adding = adding;
+  captured = λ s. s.point.captured;
+  with_captured = with_captured;
+  called = λ g run s. run s;
 }
 
 abbrev pub Outcome : Type 0 → Type 0

@@ -2,7 +2,9 @@ pub mod Goals
 pub mod ReadingStatements
 pub mod ReadingSwitches
 pub mod ReadingFunctions
+pub mod ReadingClosures
 pub mod Reading
 pub mod Moves
+pub mod Nesting
 pub mod Running
 pub mod Histories

@@ -9,11 +9,20 @@ use Rattle.rhai_grammar.specs.DueTokens.{is_due, not_due}
 use Rattle.rhai_grammar.specs.Interpolations.{is_text}
 use Rattle.rhai_grammar.specs.Libraries.{Ended, Library}
 use Rattle.rhai_grammar.specs.declared.due.DueToken.TheVariants.{RightBrace}
-use Rattle.rhai_reading.specs.Goals.{Goal, Val, Prog, Ret, Fail, Peek, Take, TakeText, Know, Add, Call, CallLiteral}
+use Rattle.rhai_reading.specs.Goals.{Goal, Val, Prog, Ret, Fail, Peek, Take, TakeText, Know, Add, Note, Call, CallLiteral, CallApart}
+use Rattle.rhai_grammar.specs.Uses.{Use, noted}
+use Rattle.std.specs.Prelude.{List, []}
+
+-- what came of a reader, with the state that it left
+pub data Outcome (S A : Type 0) : Type 0 where
+  Done : A → S → Outcome S A
+  Refused : Refusal → S → Outcome S A
+  Unfinished : Outcome S A
 
 -- How the states move along which a reader reads: the token that the next request gives; the state after it was peeked,
 -- and after it was taken; after a `}` was taken, where the next request is one in text mode; the functions that have
--- ended; and the state after one more has.
+-- ended; the state after one more has; the names that were used in the closure around it, and the state with others;
+-- and what comes of a reader that another one calls.
 pub record Moves (S : Type 0) : Type 0 where
   pub asked : S → Item
   pub looking : S → S
@@ -21,12 +30,9 @@ pub record Moves (S : Type 0) : Type 0 where
   pub after_brace : S → S
   pub library : S → Library
   pub adding : Ended → S → S
-
--- what came of a reader, with the state that it left
-pub data Outcome (S A : Type 0) : Type 0 where
-  Done : A → S → Outcome S A
-  Refused : Refusal → S → Outcome S A
-  Unfinished : Outcome S A
+  pub captured : S → List Use
+  pub with_captured : List Use → S → S
+  pub called : (g : Goal) → (S → Outcome S (Val g)) → S → Outcome S (Val g)
 
 abbrev pub and_then : {S A B : Type 0} → Outcome S A → (A → S → Outcome S B) → Outcome S B
 and_then (Done x s) f = f x s
@@ -61,5 +67,9 @@ exec moves call (TakeText k) s = if is_memory (moves.asked s).lexeme then Refuse
     else Refused (refusal (not_due RightBrace (moves.asked s).lexeme) (moves.asked s).at) (moves.looking s)
 exec moves call (Know k) s = exec moves call (k (moves.library s)) s
 exec moves call (Add ended p) s = exec moves call p (moves.adding ended s)
-exec moves call (Call g k) s = and_then (call g s) (λ v t. exec moves call (k v) t)
-exec moves call (CallLiteral g k) s = and_then (recast (call g s)) (λ v t. exec moves call (k v) t)
+exec moves call (Note captures u p) s = exec moves call p (moves.with_captured (noted captures u (moves.captured s)) s)
+exec moves call (Call g k) s = and_then (moves.called g (call g) s) (λ v t. exec moves call (k v) t)
+exec moves call (CallLiteral g k) s = and_then (recast (moves.called g (call g) s)) (λ v t. exec moves call (k v) t)
+exec moves call (CallApart g k) s =
+    and_then (moves.called g (call g) (moves.with_captured [] s))
+    (λ v t. exec moves call (k v (moves.captured t)) (moves.with_captured (moves.captured s) t))

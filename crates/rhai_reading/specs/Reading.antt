@@ -62,8 +62,8 @@ pub use Rattle.rhai_reading.specs.Goals.{Branch, Braced, Catch, Conditional, Con
 pub use Rattle.rhai_reading.specs.Goals.{Alias, Export, Import, LoopNames, Path, RightOperand}
 pub use Rattle.rhai_reading.specs.Goals.{Action, Arm, ArmEnd, Arms, Case, CaseGuard, Cases, DefaultArm}
 pub use Rattle.rhai_reading.specs.Goals.{DefaultEnd, Function, FunctionHead, FunctionStatement, ParameterList}
-pub use Rattle.rhai_reading.specs.Goals.{Parameters, Script, Val}
-pub use Rattle.rhai_reading.specs.Goals.{Ret, Fail, Peek, Take, TakeText, Know, Add, Call, CallLiteral, Prog}
+pub use Rattle.rhai_reading.specs.Goals.{Closure, ClosureBody, Parameters, Script, Val}
+pub use Rattle.rhai_reading.specs.Goals.{Ret, Fail, Peek, Take, TakeText, Know, Add, Note, Call, CallLiteral, CallApart, Prog}
 pub use Rattle.rhai_reading.specs.Goals.{after_a_part, construct_on, match_name, match_token, part_next, raised, tested}
 pub use Rattle.rhai_reading.specs.ReadingStatements.{evaluated_at, var_name_at, value_at, definition_on}
 pub use Rattle.rhai_reading.specs.ReadingStatements.{jump_on, loop_at, statement_at, separated_at, statements_on}
@@ -72,6 +72,9 @@ pub use Rattle.rhai_reading.specs.ReadingStatements.{no_brace, else_at, branch_a
 pub use Rattle.rhai_reading.specs.ReadingStatements.{first_of_two, loop_names_at, catch_at, do_end_at}
 pub use Rattle.rhai_reading.specs.ReadingStatements.{alias_at, export_at, export_on, global_at, import_on}
 pub use Rattle.rhai_reading.specs.ReadingFunctions.{function_at, function_body_at, function_end, function_on, head_at}
+pub use Rattle.rhai_reading.specs.ReadingClosures.{captured_on, closure_added, closure_at, closure_body_at, closure_by, closure_end, closure_on}
+use Rattle.rhai_grammar.specs.Modules.{captures_use}
+use Rattle.rhai_grammar.specs.Starts.{may_be_closure}
 pub use Rattle.rhai_reading.specs.ReadingFunctions.{named_at, owner_at, parameter_at, parameters_at}
 pub use Rattle.rhai_reading.specs.ReadingSwitches.{cases_at, case_guard_at, action_at, action_on, arm_end_at}
 pub use Rattle.rhai_reading.specs.ReadingSwitches.{default_end_at, arm_on, default_at, default_on, arms_at}
@@ -87,7 +90,8 @@ whole_at expr lexeme at = if is_end lexeme then Ret expr else Fail (refusal (une
 abbrev pub name_at : Context → Live → Text → Position → Lexeme → Library → Prog Node
 name_at context live name at lexeme library =
     if excludes_use lexeme || may_use context live library name
-    then Ret (name_tree live.slots (excludes_use lexeme) name at)
+    then Note (captures_use context live name library lexeme) (record { name = name; at = at })
+    (Ret (name_tree live.slots (excludes_use lexeme) name at))
     else Fail (refusal (cause.VariableUndefined name) at)
 
 -- after a reserved word
@@ -114,6 +118,9 @@ primary_at context live lexeme at begin.Interpolated =
     Ret (interpolated ns at))))
 primary_at context live lexeme at (begin.Construct kind) =
     if may_be_value context kind then construct_on context live at kind (λ f. Ret (block_value (made_block f)))
+    else Fail (refusal (no_operand lexeme) at)
+primary_at context live lexeme at (begin.Closure by) =
+    if may_be_closure context by then Take (Call (Closure context live at by) Ret)
     else Fail (refusal (no_operand lexeme) at)
 primary_at context live lexeme at begin.Sign = Fail (refusal (unexpected lexeme) at)
 primary_at context live lexeme at begin.Range = Ret (integer (lib.IntN.pos 0) at)
@@ -396,5 +403,7 @@ body (Function context at is_private) =
     Peek (function_body_at context at is_private head names)))
 body FunctionHead = Peek head_at
 body (ParameterList function) = Peek (λ lexeme at. parameters_at function lexeme at (calling lexeme))
-body (Parameters function before) =
-    Peek (λ lexeme at. parameter_at function before lexeme at (parameter_place lexeme))
+body (Parameters parts function before) =
+    Peek (λ lexeme at. parameter_at parts function before lexeme at (parameter_place parts lexeme))
+body (Closure context live at bars) = Know (closure_at context live at bars)
+body (ClosureBody context live) = Peek (closure_body_at context live)

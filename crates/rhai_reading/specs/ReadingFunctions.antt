@@ -16,6 +16,7 @@ use Rattle.rhai_grammar.specs.Functions.{no_function_name, no_parameter, no_para
 use Rattle.rhai_grammar.specs.Imports.{is_among}
 use Rattle.rhai_grammar.specs.Libraries.{Ended, Library}
 use Rattle.rhai_grammar.specs.declared.due.DueToken.TheVariants as due
+use Rattle.rhai_grammar.specs.declared.list.CommaList.{CommaList}
 use Rattle.rhai_grammar.specs.declared.list.CommaList.TheVariants as lists
 use Rattle.rhai_grammar.specs.declared.role.Calling.{Calling}
 use Rattle.rhai_grammar.specs.declared.role.Calling.TheVariants as calls_by
@@ -50,19 +51,20 @@ head_at lexeme at =
 -- ---- the parameters
 
 -- where a parameter may be
-abbrev pub parameter_at : (function : Text) → (before : List Text) → Lexeme → Position → ItemPlace → Prog (List Text)
-parameter_at function before lexeme at place.End = Take (Ret before)
-parameter_at function before lexeme at place.Item =
+abbrev pub parameter_at : CommaList → (function : Text) → (before : List Text) → Lexeme → Position → ItemPlace
+    → Prog (List Text)
+parameter_at parts function before lexeme at place.End = Take (Ret before)
+parameter_at parts function before lexeme at place.Item =
     Take (if is_among (text_of lexeme) before
     then Fail (refusal (cause.FnDuplicatedParam function (text_of lexeme)) at)
-    else after_a_part lists.Parameters (Call (Parameters function (before ++ text_of lexeme ∷ [])) Ret)
+    else after_a_part parts (Call (Parameters parts function (before ++ text_of lexeme ∷ [])) Ret)
     (Ret (before ++ text_of lexeme ∷ [])))
-parameter_at function before lexeme at place.Nothing = Fail (refusal (no_parameter lexeme) at)
+parameter_at parts function before lexeme at place.Nothing = Fail (refusal (no_parameter parts lexeme) at)
 
 -- after the name of a function
 abbrev pub parameters_at : (function : Text) → Lexeme → Position → Calling → Prog (List Text)
 parameters_at function lexeme at calls_by.Pair = Take (Ret [])
-parameters_at function lexeme at calls_by.List = Take (Call (Parameters function []) Ret)
+parameters_at function lexeme at calls_by.List = Take (Call (Parameters lists.Parameters function []) Ret)
 parameters_at function lexeme at _ = Fail (refusal (no_parameters function lexeme) at)
 
 -- ---- the body

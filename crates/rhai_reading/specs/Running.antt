@@ -7,9 +7,12 @@ use Rattle.rhai_grammar.specs.Cursors as cursors
 use Rattle.rhai_grammar.specs.Cursors.{Cursor, left}
 use Rattle.rhai_grammar.specs.Delivered.{Item}
 use Rattle.rhai_grammar.specs.Libraries.{Ended, Library, with_ended}
+use Rattle.rhai_grammar.specs.Uses.{Use}
+use Rattle.std.specs.Prelude.{List}
 use Rattle.rhai_grammar.specs.declared.error.ParseError.{ParseError}
 use Rattle.rhai_reading.specs.Moves as moves
 use Rattle.rhai_reading.specs.Moves.{Moves, Outcome}
+use Rattle.rhai_reading.specs.Nesting.{Nesting, entered, is_counted, left_one}
 pub use Rattle.rhai_reading.specs.Moves.{Done, Refused, Unfinished, and_then, recast}
 use Rattle.rhai_reading.specs.Reading.{Goal, Whole, Expression, Operand, Primary, Postfix, Arguments, Items, Elements}
 use Rattle.rhai_reading.specs.Reading.{Fields, NextKey, Called, Links, Index, Member, NextOperator, BinaryOp, Val}
@@ -19,13 +22,16 @@ use Rattle.rhai_reading.specs.Reading.{Alias, Export, Import, Path}
 use Rattle.rhai_reading.specs.Reading.{Branch, Braced, Catch, Conditional, Construct, DoEnd, Guard, Iterated, LoopNames}
 use Rattle.rhai_reading.specs.Reading.{Action, Arm, ArmEnd, Arms, Case, CaseGuard, Cases, DefaultArm, DefaultEnd}
 use Rattle.rhai_reading.specs.Reading.{RightOperand}
-use Rattle.rhai_reading.specs.Reading.{Function, FunctionHead, FunctionStatement, ParameterList, Parameters}
+use Rattle.rhai_reading.specs.Reading.{Closure, ClosureBody, Function, FunctionHead, FunctionStatement, ParameterList, Parameters}
 use Rattle.rhai_reading.specs.Reading.{Prog, body}
 
--- what is left of a stream, and the functions that have ended
+-- What is left of a stream, the functions that have ended, the names that the closure around has captured, and how deeply
+-- readers are nested.
 pub record Progress : Type 0 where
   pub cursor : Cursor
   pub library : Library
+  pub captured : List Use
+  pub nesting : Nesting
 
 abbrev pub asked : Progress → Item
 asked s = cursors.asked s.cursor
@@ -42,6 +48,25 @@ after_brace s = record s { cursor = cursors.after_brace s.cursor }
 abbrev pub adding : Ended → Progress → Progress
 adding ended s = record s { library = with_ended s.library ended }
 
+abbrev pub with_captured : List Use → Progress → Progress
+with_captured uses s = record s { captured = uses }
+
+-- where a reader that counts is entered, and after it is left
+abbrev pub entering : Progress → Progress
+entering s = record s { nesting = entered s.nesting }
+
+abbrev pub leaving : Progress → Progress
+leaving s = record s { nesting = left_one s.nesting }
+
+abbrev pub left_so : {A : Type 0} → Outcome Progress A → Outcome Progress A
+left_so (Done x s) = Done x (leaving s)
+left_so (Refused e s) = Refused e (leaving s)
+left_so Unfinished = Unfinished
+
+-- what comes of a reader that counts
+unfoldable pub nested : {A : Type 0} → (Progress → Outcome Progress A) → Progress → Outcome Progress A
+nested run s = left_so (run (entering s))
+
 abbrev pub steps : Moves Progress
 steps = record {
   asked = asked;
@@ -50,6 +75,9 @@ steps = record {
   after_brace = after_brace;
   library = λ s. s.library;
   adding = adding;
+  captured = λ s. s.captured;
+  with_captured = with_captured;
+  called = λ g run s. if is_counted g then nested run s else run s;
 }
 
 abbrev pub Out : Type 0 → Type 0
@@ -124,7 +152,9 @@ rank (FunctionStatement context live first at is_private) = 2
 rank (Function context at is_private) = 1
 rank FunctionHead = 0
 rank (ParameterList function) = 0
-rank (Parameters function before) = 0
+rank (Parameters parts function before) = 0
+rank (Closure context live at bars) = 7
+rank (ClosureBody context live) = 6
 
 -- the work that is left, above every rank for each token
 abbrev pub work : ℕ → ℕ → ℕ

@@ -1,5 +1,5 @@
 -- Functions: what the reading program does where a leaf has decided.
-use Rattle.std.proofs.Common.{◌≡◌, ◌∙◌, Bool, true, false, List, [], ◌∷◌, ◌++◌, Result, ap, arith, if◌then◌else◌, map, refl, sym}
+use Rattle.std.proofs.Common.{◌≡◌, ◌∙◌, ◌+◌, ℕ, Bool, true, false, List, [], ◌∷◌, ◌++◌, Result, ap, arith, if◌then◌else◌, map, refl, sym}
 use Rattle.std.proofs.lemmas.List.{map_push}
 use Rattle.std.specs.Rc.{rc_str_bytes}
 use Rattle.std.specs.declared.alloc.Global.{Global}
@@ -26,8 +26,8 @@ use Rattle.rhai_grammar.specs.declared.role.Calling.TheVariants as calls_by
 use Rattle.rhai_reading.specs.Reading.{Call, Fail, Function, FunctionStatement, Know, ParameterList, function_end, function_on}
 use Rattle.rhai_reading.specs.Reading.{parameters_at, raised}
 use Rattle.rhai_reading.specs.Running as R
-use Rattle.rhai_reading.specs.Running.{Done, Fails, Gives, Out, Progress, and_then, asked, exec, guarded, looking, result_of}
-use Rattle.rhai_reading.proofs.Steps.{guarded_is, step_function_statement, step_parameter_list}
+use Rattle.rhai_reading.specs.Running.{Done, Fails, Gives, Out, Progress, and_then, asked, exec, guarded, looking, nested, result_of}
+use Rattle.rhai_reading.proofs.Steps.{nested_is, step_function_statement, step_parameter_list}
 use Rattle.rhai_lower.specs.Nodes as node
 use Rattle.rhai_base.specs.Frames.{FrameValue}
 use Rattle.rhai_base.specs.Settings.{settings_of}
@@ -35,9 +35,6 @@ use Rattle.rhai_base.specs.declared.settings.ParseSettings.{ParseSettings}
 use Rattle.rhai_language.proofs.Given.{gives_so}
 use Rattle.rhai_language.specs.Frames.{context_of, live_of}
 use Rattle.rhai_language.specs.Languages.{LanguageValue}
-
-pub names_push : (ns : List (RcStr Global)) (n : RcStr Global) → map rc_str_bytes (ns ++ n ∷ []) ≡ map rc_str_bytes ns ++ rc_str_bytes n ∷ []
-names_push ns n = map_push rc_str_bytes ns n
 
 no_list : (function : Text) (l : Lexeme) (at : Position) (k : Calling) → is_list k ≡ false
     → parameters_at function l at k ≡ Fail (refusal (no_parameters function l) at)
@@ -68,13 +65,14 @@ known_inside outer = record outer.known { imports = outer.known.imports ++ outer
 
 -- the context of a function is that of its frame
 pub context_inside : (language : LanguageValue) (outer inner : FrameValue) (here deeper : ParseSettings)
-    → inner.filter ≡ All → inner.known ≡ known_inside outer
+    → inner.filter ≡ All → inner.known ≡ known_inside outer → inner.begun ≡ outer.begun + 1
     → settings_of deeper ≡ settings.level_up (function_settings (settings_of here) language.options language.max_function_expr_depth)
     → context_of language inner deeper ≡ level_up (in_function (context_of language outer here) (live_of outer))
-context_inside language outer inner here deeper filtered knows raised =
+context_inside language outer inner here deeper filtered knows begun raised =
     ap (λ (x : ExprFilter). record (context_of language inner deeper) { filter = x }) filtered
     ∙ ap (λ (x : Known). record (context_of language inner deeper) { filter = All; known = x }) knows
-    ∙ ap (λ (x : Settings). record (context_of language inner deeper) { settings = x; filter = All; known = known_inside outer }) raised
+    ∙ ap (λ (x : ℕ). record (context_of language inner deeper) { filter = All; known = known_inside outer; begun = x }) begun
+    ∙ ap (λ (x : Settings). record (context_of language inner deeper) { settings = x; filter = All; known = known_inside outer; begun = outer.begun + 1 }) raised
 
 -- A function may begin, at a position in a context of its own.
 pub record Begun (c : Context) (w : Live) (at : Position) (d : Context) (here : Position) (s : Progress) : Type 0 where
@@ -90,7 +88,7 @@ after c w first at p s ended t =
     exec (guarded (FunctionStatement c w first at p) s) (function_end w at ended t.library) t
 
 pub begun_runs : (c : Context) (w : Live) (first at : Position) (p : Bool) (d : Context) (here : Position) (s : Progress) → Begun c w at d here s
-    → result_of (FunctionStatement c w first at p) s ≡ and_then (result_of (Function d here p) s) (after c w first at p s)
+    → result_of (FunctionStatement c w first at p) s ≡ and_then (nested (result_of (Function d here p)) s) (after c w first at p s)
 begun_runs c w first at p d here s h =
     let call = guarded (FunctionStatement c w first at p) s in
     let inside = Call (Function (level_up (in_function c w)) at p) (λ ended. Know (function_end w at ended)) in
@@ -99,18 +97,18 @@ begun_runs c w first at p d here s h =
     ∙ ap (λ b. exec call (if b then raised (in_function c w) at (λ deeper. Call (Function deeper at p) (λ ended. Know (function_end w at ended))) else Fail (refusal cause.TooManyFunctions at)) s) h.fits
     ∙ ap (λ b. exec call (if b then inside else Fail (refusal cause.ExprTooDeep at)) s) h.room
     ∙ ap (λ o. and_then o (after c w first at p s)) (
-    guarded_is (FunctionStatement c w first at p) s (Function (level_up (in_function c w)) at p) s (omega arith)
-    ∙ ap (λ e. result_of (Function e at p) s) (sym h.context)
-    ∙ ap (λ q. result_of (Function d q p) s) (sym h.stands))
+    nested_is (FunctionStatement c w first at p) s (Function (level_up (in_function c w)) at p) s (omega arith)
+    ∙ ap (λ e. nested (result_of (Function e at p)) s) (sym h.context)
+    ∙ ap (λ q. nested (result_of (Function d q p)) s) (sym h.stands))
 
 pub function_fails : (c : Context) (w : Live) (first at : Position) (p : Bool) (d : Context) (here : Position) (s : Progress) → Begun c w at d here s
-    → (e : ParseError) (t : Progress) → Fails (result_of (Function d here p) s) e t
+    → (e : ParseError) (t : Progress) → Fails (nested (result_of (Function d here p)) s) e t
     → Fails (result_of (FunctionStatement c w first at p) s) e t
 function_fails c w first at p d here s h e t fails =
     (λ told. begun_runs c w first at p d here s h ∙ ap (λ o. and_then o (after c w first at p s)) (fails.0 told), fails.1)
 
 pub function_gives : {X : Type 0} (view : X → node.Statement × Live) (c : Context) (w : Live) (first at : Position) (p : Bool) (d : Context) (here : Position) (s : Progress)
-    → Begun c w at d here s → (ended : Ended) (t : Progress) → result_of (Function d here p) s ≡ Done ended t
+    → Begun c w at d here s → (ended : Ended) (t : Progress) → nested (result_of (Function d here p)) s ≡ Done ended t
     → (r : Result X ParseError) (u : Progress) → Gives view (after c w first at p s ended t) r u
     → Gives view (result_of (FunctionStatement c w first at p) s) r u
 function_gives view c w first at p d here s h ended t done r u gives =

@@ -1,31 +1,28 @@
 -- What the proofs of the readers rest on: for each reader its equation, and what it makes of what it read.
 use Rattle.rhai_ast.proofs.Views.{view_noop, view_unit}
-use Rattle.rhai_reading.proofs.Steps.{step_definition, step_export, step_expr_statement, step_function, step_function_statement, step_import, step_initializer, step_inside, step_jump, step_parameter_list, step_parameters, step_statement, step_statements}
+use Rattle.rhai_reading.proofs.Steps.{nested_so, step_definition, step_export, step_expr_statement, step_function, step_function_statement, step_import, step_initializer, step_inside, step_jump, step_parameter_list, step_statement, step_statements}
 use Rattle.rhai_language.proofs.Readers.{calls_of_readers, readers}
-use Rattle.rhai_statements.proofs.FunctionLemmas.{names_push}
 
-pub ruleset parse_statements = (readers, step_statements)
+pub ruleset parse_statements = (readers, nested_so, step_statements)
 
-pub ruleset parse_stmt = (readers, step_statement, view_noop)
+pub ruleset parse_stmt = (readers, nested_so, step_statement, view_noop)
 
-pub ruleset parse_import = (readers, step_import)
+pub ruleset parse_import = (readers, nested_so, step_import)
 
-pub ruleset parse_export = (readers, step_export)
+pub ruleset parse_export = (readers, nested_so, step_export)
 
-pub ruleset parse_let = (readers, step_definition)
+pub ruleset parse_let = (readers, nested_so, step_definition)
 
-pub ruleset parse_initializer = (readers, step_initializer, view_unit)
+pub ruleset parse_initializer = (readers, nested_so, step_initializer, view_unit)
 
-pub ruleset parse_expr_stmt = (readers, step_expr_statement)
+pub ruleset parse_expr_stmt = (readers, nested_so, step_expr_statement)
 
-pub ruleset parse_block_inside = (readers, step_inside)
+pub ruleset parse_block_inside = (readers, nested_so, step_inside)
 
-pub ruleset parse_jump = (readers, step_jump)
+pub ruleset parse_jump = (readers, nested_so, step_jump)
 
-pub ruleset parse_fn = (readers, step_function_statement)
+pub ruleset parse_fn = (readers, nested_so, step_function_statement)
 
-pub ruleset parse_function = (readers, step_function)
+pub ruleset parse_function = (readers, nested_so, step_function)
 
 pub ruleset next_parameter_list = (calls_of_readers, step_parameter_list)
-
-pub ruleset next_parameters = (calls_of_readers, step_parameters, names_push)

@@ -15,9 +15,9 @@ ghost use Rattle.rhai_reading.specs.Running.{Caller, Gives, Progress, exec};
 ghost use Rattle.rhai_language.specs.Readers.{GoesOn, Reads, name_view, var_name};
 
 use rhai_ast::{Expr, Stmt};
-use rhai_base::places::may_be_value;
+use rhai_base::places::{may_be_closure, may_be_value};
 use rhai_base::{Frame, ParseSettings};
-use rhai_grammar::{Beginning, ParseResult};
+use rhai_grammar::{Beginning, ExprFilter, ParseResult};
 use rhai_language::{Language, Shared};
 use rhai_leaves::statements::parse_var_name;
 use rhai_leaves::tokens::what_begins;
@@ -63,11 +63,17 @@ pub(crate) fn end_assignment(
 }
 
 /// Whether a token begins an expression under these settings, so that it is the value of the `return`, `throw` or
-/// `break` before it. `looping` is whether the engine lets scripts have loops. A construct begins an expression only
-/// where it may be an operand. An error of the tokenizer counts as a beginning.
-pub(crate) fn starts_expression(settings: ParseSettings, looping: bool, token: &Token) -> bool
+/// `break` before it. `looping` is whether the engine lets scripts have loops, and `filter` which tokens an expression
+/// may contain. A construct or a closure begins one only where it may be an operand. An error of the tokenizer counts
+/// as a beginning.
+pub(crate) fn starts_expression(
+    settings: ParseSettings,
+    looping: bool,
+    filter: ExprFilter,
+    token: &Token,
+) -> bool
     ensures { (context : Context) → context.settings ≡ settings_of settings → looping ≡ allows_looping context
-        → result ≡ starts context (lexeme token.now) }
+        → context.filter ≡ filter → result ≡ starts context (lexeme token.now) }
 {
     if matches!(token, Token::LexError(_)) {
         return true;
@@ -75,6 +81,7 @@ pub(crate) fn starts_expression(settings: ParseSettings, looping: bool, token: &
     match what_begins(token) {
         Beginning::Nothing => false,
         Beginning::Construct(construct) => may_be_value(settings, looping, construct),
+        Beginning::Closure(bars) => may_be_closure(settings, filter, bars),
         Beginning::Value
         | Beginning::Name
         | Beginning::Word

@@ -18,6 +18,7 @@ use rhai_base::places::test_function;
 use rhai_base::{Frame, ParseSettings};
 use rhai_grammar::{FnKey, ParseError, ParseErrorType, ParseResult};
 use rhai_language::blocks::parse_block;
+use rhai_language::parameters::declare_parameters;
 use rhai_language::{LentReaders, Shared};
 use rhai_leaves::functions::open_body;
 use rhai_lower::Position;
@@ -46,16 +47,20 @@ impl<R: LentReaders> StmtReader<'_, R> {
             (with_live statement_view frame.now) shared.old result shared.new }
     {
         test_function(settings, first)?;
-        shared
+        let limit = self.language.max_functions();
+        let begun = shared
             .library
-            .test_room(self.language.max_functions(), settings.pos)?;
+            .test_room(limit, frame.begun(), settings.pos)?;
         let imports = frame.all_imports(self.language.alloc())?;
-        let mut inner = frame.in_function(self.language.alloc(), &imports);
+        let mut inner = frame.in_function(self.language.alloc(), &imports, begun);
         let max_depth = self.language.max_function_expr_depth();
         let deeper = settings
             .in_function(self.language.options(), max_depth)
             .level_up()?;
-        let (key, function) = self.parse_function(shared, &mut inner, deeper, private)?;
+        let (key, function) = nested!(
+            shared,
+            self.parse_function(shared, &mut inner, deeper, private)
+        )?;
         end_function(shared, key, function, settings.pos)
     }
 
@@ -81,21 +86,12 @@ impl<R: LentReaders> StmtReader<'_, R> {
         let opening = open_body(shared.input, &head.1)?;
         let deeper = settings.level_up_with_position(opening)?;
         declare_parameters(frame, &names)?;
-        let body = parse_block(self.language, &self.readers, shared, frame, deeper)?;
+        let body = nested!(
+            shared,
+            parse_block(self.language, &self.readers, shared, frame, deeper)
+        )?;
         Ok(make_function(self.language.alloc(), private, head, names, body)?)
     }
-}
-
-// Gives each parameter a slot in the frame of its function. The error is that there is no memory for them.
-fn declare_parameters(frame: &mut Frame<'_>, names: &[RcStr]) -> Result<(), AllocError>
-    requires { frame.old.live ≡ nothing_live }
-    ensures ok { OnOk result (frame.new.live ≡ parameters_live (map rc_str_bytes names.now)) }
-    ensures place { SamePlace frame.old frame.new }
-{
-    for name in names {
-        frame.declare(name)?;
-    }
-    Ok(())
 }
 
 // A function of these parts with its key: its type, its name, and the number of its parameters.

@@ -55,7 +55,7 @@ impl<R: LentReaders> StmtReader<'_, R> {
             if list_ends(self.language.alloc(), shared.input, closing)? {
                 return Ok(statements);
             }
-            let statement = self.parse_stmt(shared, frame, settings)?;
+            let statement = nested!(shared, self.parse_stmt(shared, frame, settings))?;
             let ended = ends_itself(&statement);
             push_statement(&mut statements, statement)?;
             if ended {
@@ -101,26 +101,28 @@ impl<R: LentReaders> StmtReader<'_, R> {
             }
             StatementStart::Let => {
                 skip(shared.input);
-                self.parse_let(shared, frame, settings.level_up()?, false, false)
+                let deeper = settings.level_up()?;
+                nested!(shared, self.parse_let(shared, frame, deeper, false, false))
             }
             StatementStart::Const => {
                 skip(shared.input);
-                self.parse_let(shared, frame, settings.level_up()?, true, false)
+                let deeper = settings.level_up()?;
+                nested!(shared, self.parse_let(shared, frame, deeper, true, false))
             }
             StatementStart::Return => {
                 skip(shared.input);
-                let value = self.parse_jump(shared, frame, settings)?;
+                let value = nested!(shared, self.parse_jump(shared, frame, settings))?;
                 Ok(make_jump(self.language.alloc(), value, false, settings.pos)?)
             }
             StatementStart::Throw => {
                 skip(shared.input);
-                let value = self.parse_jump(shared, frame, settings)?;
+                let value = nested!(shared, self.parse_jump(shared, frame, settings))?;
                 Ok(make_jump(self.language.alloc(), value, true, settings.pos)?)
             }
             StatementStart::Break => {
                 skip(shared.input);
                 test_loop(settings, settings.pos)?;
-                let value = self.parse_jump(shared, frame, settings)?;
+                let value = nested!(shared, self.parse_jump(shared, frame, settings))?;
                 Ok(make_break(self.language.alloc(), value, settings.pos)?)
             }
             StatementStart::Continue => {
@@ -130,16 +132,21 @@ impl<R: LentReaders> StmtReader<'_, R> {
             }
             StatementStart::Import => {
                 skip(shared.input);
-                self.parse_import(shared, frame, settings.level_up()?.level_up()?)
+                let deeper = settings.level_up()?.level_up()?;
+                nested!(shared, self.parse_import(shared, frame, deeper))
             }
             StatementStart::Export => {
                 skip(shared.input);
                 test_global(settings, settings.pos)?;
-                self.parse_export(shared, frame, settings.level_up()?)
+                let deeper = settings.level_up()?;
+                nested!(shared, self.parse_export(shared, frame, deeper))
             }
             StatementStart::Function => {
                 skip(shared.input);
-                self.parse_fn(shared, frame, settings, settings.pos, false)
+                nested!(
+                    shared,
+                    self.parse_fn(shared, frame, settings, settings.pos, false)
+                )
             }
             StatementStart::Private => {
                 skip(shared.input);
@@ -147,10 +154,14 @@ impl<R: LentReaders> StmtReader<'_, R> {
                 let pos = *pos;
                 let note = "after `private`";
                 match_token(self.language.alloc(), shared.input, DueToken::Fn, note)?;
-                self.parse_fn(shared, frame, settings.at(pos), settings.pos, true)
+                nested!(
+                    shared,
+                    self.parse_fn(shared, frame, settings.at(pos), settings.pos, true)
+                )
             }
             StatementStart::Expression => {
-                self.parse_expr_stmt(shared, frame, settings.level_up()?)
+                let deeper = settings.level_up()?;
+                nested!(shared, self.parse_expr_stmt(shared, frame, deeper))
             }
         }
     }
@@ -199,7 +210,10 @@ impl<R: LentReaders> StmtReader<'_, R> {
         if let Some(constant) = what_is_exported(shared.input)? {
             let deeper = settings.level_up()?;
             let (_, pos) = take(shared.input);
-            return self.parse_let(shared, frame, deeper.at(pos), constant, true);
+            return nested!(
+                shared,
+                self.parse_let(shared, frame, deeper.at(pos), constant, true)
+            );
         }
         let (name, _) = parse_var_name(shared.input)?;
         let alias = next_alias(shared)?;
@@ -225,7 +239,7 @@ impl<R: LentReaders> StmtReader<'_, R> {
             (with_live statement_view frame.new) shared.old result shared.new }
     {
         let (name, _) = next_var_name(self.language, shared, frame, settings)?;
-        let value = self.parse_initializer(shared, frame, settings)?;
+        let value = nested!(shared, self.parse_initializer(shared, frame, settings))?;
         let number = define_as(frame, &name, constant, exported)?;
         let pos = settings.pos;
         Ok(make_definition(
@@ -305,7 +319,7 @@ impl<R: LentReaders> StmtReader<'_, R> {
             shared.new }
     {
         if settings.has_flag(ParseSettingFlags::DISALLOW_STATEMENTS_IN_BLOCKS) {
-            let statement = self.parse_expr_stmt(shared, frame, settings)?;
+            let statement = nested!(shared, self.parse_expr_stmt(shared, frame, settings))?;
             return Ok(vec![in self.language.alloc(); statement]?);
         }
         let mut inner = frame.inner(self.language.alloc());
@@ -329,7 +343,8 @@ impl<R: LentReaders> StmtReader<'_, R> {
             shared.new }
     {
         let (token, _) = peek(shared.input)?;
-        let valued = starts_expression(settings, self.language.allow_looping(), token);
+        let looping = self.language.allow_looping();
+        let valued = starts_expression(settings, looping, frame.filter(), token);
         let deeper = settings.level_up()?;
         if !valued {
             return Ok(None);

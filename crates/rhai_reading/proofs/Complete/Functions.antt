@@ -1,4 +1,11 @@
 -- Functions: the steps to what is written.
+use Rattle.rhai_grammar.specs.declared.list.CommaList.{CommaList}
+use Rattle.rhai_grammar.specs.declared.list.CommaList.TheVariants as lists
+use Rattle.rhai_grammar.specs.CommaLists.{after_part, closing_of}
+use Rattle.rhai_grammar.specs.Functions.{parameter_place}
+use Rattle.rhai_lower.specs.declared.token.Token.TheVariants as token
+use Rattle.rhai_lower.specs.Lexemes.{Sign}
+use Rattle.rhai_reading.specs.Reading.{Prog, Ret, Take}
 use Rattle.std.proofs.Common.{◌≡◌, Bool, true, false, None, Option, Some, List, [], ◌∷◌, ◌++◌, if◌then◌else◌, refl}
 use Rattle.rhai_lower.specs.Texts.{Text}
 use Rattle.rhai_lower.specs.declared.position.Position.{Position}
@@ -42,21 +49,51 @@ head f k s t b m = by f.owner f.name f.at k s t b m
 
 -- ---- the parameters
 
-pub parameter_rest : (x : Parameters) (function : Text) (before : List Text)
-    → IsRead (R.Parameters function before) (parameters function before) x
-parameter_rest (form.NoParameter closing) function before k s t b m = due_now m.0 refl refl (ret m.1)
-parameter_rest (form.LastParameter name at closing) function before k s t b m =
-    due_now m.0 refl refl (if_false _ (not_true _ m.1.0) (due_now m.1.1.0 refl refl (ret m.1.1.1)))
-parameter_rest (form.Parameter name at comma rest) function before k s t b m =
-    due_now m.0 refl refl (if_false _ (not_true _ m.1.0) (due_now m.1.1.0 refl refl
-    (part (parameter_rest rest function (before ++ name ∷ []) k (past code (past code s)) t false m.1.1.1)
+end_taken : (parts : CommaList) (function : Text) (before : List Text) (at : Position)
+    → R.parameter_at parts function before (Sign (closing_of parts)) at (parameter_place parts (Sign (closing_of parts)))
+    ≡ Take (Ret before)
+end_taken lists.Arguments function before at = refl
+end_taken lists.Array function before at = refl
+end_taken lists.Map function before at = refl
+end_taken lists.Arms function before at = refl
+end_taken lists.Parameters function before at = refl
+end_taken lists.ClosureParameters function before at = refl
+
+list_ends : {A : Type 0} (parts : CommaList) (on end : Prog A) (at : Position)
+    → R.part_next parts on end (Sign (closing_of parts)) at (after_part parts (Sign (closing_of parts))) ≡ Take end
+list_ends lists.Arguments on end at = refl
+list_ends lists.Array on end at = refl
+list_ends lists.Map on end at = refl
+list_ends lists.Arms on end at = refl
+list_ends lists.Parameters on end at = refl
+list_ends lists.ClosureParameters on end at = refl
+
+list_goes_on : {A : Type 0} (parts : CommaList) (on end : Prog A) (at : Position)
+    → R.part_next parts on end (Sign token.Comma) at (after_part parts (Sign token.Comma)) ≡ Take on
+list_goes_on lists.Arguments on end at = refl
+list_goes_on lists.Array on end at = refl
+list_goes_on lists.Map on end at = refl
+list_goes_on lists.Arms on end at = refl
+list_goes_on lists.Parameters on end at = refl
+list_goes_on lists.ClosureParameters on end at = refl
+
+pub parameter_rest : (x : Parameters) (parts : CommaList) (function : Text) (before : List Text)
+    → IsRead (R.Parameters parts function before) (parameters parts function before) x
+parameter_rest (form.NoParameter closing) parts function before k s t b m =
+    due_now m.0 refl (end_taken parts function before closing) (ret m.1)
+parameter_rest (form.LastParameter name at closing) parts function before k s t b m =
+    due_now m.0 refl refl (if_false _ (not_true _ m.1.0)
+    (due_now m.1.1.0 refl (list_ends parts _ _ closing) (ret m.1.1.1)))
+parameter_rest (form.Parameter name at comma rest) parts function before k s t b m =
+    due_now m.0 refl refl (if_false _ (not_true _ m.1.0) (due_now m.1.1.0 refl (list_goes_on parts _ _ comma)
+    (part (parameter_rest rest parts function (before ++ name ∷ []) k (past code (past code s)) t false m.1.1.1)
     (λ u l n. ret n))))
 
 pub parameter_list : (x : ParameterList) (function : Text)
     → IsRead (R.ParameterList function) (parameter_lists function) x
 parameter_list (form.EmptyParameters at) function k s t b m = due_now m.0 refl refl (ret m.1)
 parameter_list (form.ListedParameters opening list) function k s t b m =
-    due_now m.0 refl refl (part (parameter_rest list function [] k (past code s) t false m.1) (λ u l n. ret n))
+    due_now m.0 refl refl (part (parameter_rest list lists.Parameters function [] k (past code s) t false m.1) (λ u l n. ret n))
 
 -- ---- the whole
 

@@ -11,7 +11,8 @@ use Rattle.rhai_grammar.specs.Beginnings.{calling, excludes_use}
 use Rattle.rhai_grammar.specs.declared.filter.ExprFilter.{ExprFilter}
 use Rattle.rhai_grammar.specs.Strengths.{Follower, follower_of, is_operator, strength}
 use Rattle.rhai_grammar.specs.Forms.{Primary, Base, Links, Operand, Arguments, Items, Elements, Fields, Run, Just}
-use Rattle.rhai_grammar.specs.Forms.{Binary}
+use Rattle.rhai_grammar.specs.Forms.{Binary, ClosureBody}
+use Rattle.rhai_reading.proofs.ClosureKinds.{closure_bodies}
 use Rattle.rhai_grammar.specs.Trees.{is_variable, primary_tree, base_tree, argument_trees, tree}
 use Rattle.rhai_grammar.specs.Demands.{Verdict, Fine, Demands, verdict, Met}
 use Rattle.rhai_grammar.specs.Written as W
@@ -119,6 +120,9 @@ PrimaryRead x =
     → Met (W.primary x c w place k) s t
     → ((u : Point) → Met k u t → Usable (primary_tree x w called) called (op_at u))
     → Reaches (body (R.Primary c w)) s b (primary_tree x w called) k t
+
+abbrev pub ClosureBodyRead : ClosureBody → Type 0
+ClosureBodyRead x = (c : Context) (w : Live) → IsRead (R.ClosureBody c w) (closure_bodies c w) x
 
 -- with what comes after it
 abbrev pub BaseRead : Base → Type 0

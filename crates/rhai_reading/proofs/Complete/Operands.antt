@@ -32,6 +32,14 @@ use Rattle.rhai_reading.proofs.Looks.{op_at, pos_at}
 use Rattle.rhai_reading.proofs.Tokens.{is_primary, value_is, range_is, sign_is, value_primary, range_primary}
 use Rattle.rhai_reading.proofs.Tokens.{primary_begun, sign_begun, begun_readable, written, unwritten_readable, jump_start_is, omitted_is}
 use Rattle.rhai_reading.proofs.Tokens.{called_no_this}
+use Rattle.rhai_grammar.specs.Closures.{bars_of, bars_token}
+use Rattle.rhai_grammar.specs.Delivered.{capturing}
+use Rattle.rhai_grammar.specs.Modules.{captures_use}
+use Rattle.rhai_grammar.specs.Uses.{Use}
+use Rattle.rhai_grammar.specs.declared.role.Bars.{Bars}
+use Rattle.rhai_grammar.specs.declared.role.Bars.TheVariants as bars
+use Rattle.rhai_lower.specs.Lexemes.{Sign}
+use Rattle.rhai_reading.proofs.Reaches.{note}
 use Rattle.rhai_reading.proofs.Complete.Law.{PrimaryRead, BaseRead, LinksRead, OperandRead, ExpressionRead, StatementRead}
 use Rattle.rhai_grammar.specs.Constructs.{kind_of}
 use Rattle.rhai_grammar.specs.Starts.{jump_stands, operand_start}
@@ -42,6 +50,10 @@ use Rattle.rhai_grammar.specs.declared.role.OperandPlace.TheVariants.{Elsewhere}
 -- what a test says of the token that stands at a point
 looks : (f : Lexeme → Bool) (s : Point) (i : Item) → next_at code s ≡ i → f i.lexeme ≡ true → f (op_at s) ≡ true
 looks f s i e h = ap (λ (j : Item). f j.lexeme) e ∙ h
+
+bars_primary : (by : Bars) → is_primary (beginning (Sign (bars_token by))) ≡ true
+bars_primary bars.Pair = refl
+bars_primary bars.List = refl
 
 -- the first token of a primary
 begins_here : (x : Primary) (c : Context) (w : Live) (place : OperandPlace) (k : Demands) (s t : Point)
@@ -56,6 +68,8 @@ begins_here (form.Map opening list) c w place k s t m = looks (λ l. is_primary 
 begins_here (form.Interpolated first pos list) c w place k s t m = looks (λ l. is_primary (beginning l)) s _ m.0 refl
 begins_here (form.CompoundValue pos x) c w place k s t m =
     looks (λ l. is_primary (beginning l)) s _ m.1.0 (ap is_primary (starts_value c (kind_of x) m.0))
+begins_here (form.Closure head f number us) c w place k s t m =
+    looks (λ l. is_primary (beginning l)) s _ m.1.0 (bars_primary (bars_of head))
 begins_here (form.Zero range pos) c w place k s t m =
     looks (λ l. is_primary (beginning l)) s _ m.1.0 (range_primary (beginning range) m.0)
 
@@ -111,10 +125,12 @@ may_so false e h = absurd cc
 
 pub named : (name : Text) (pos : Position) → PrimaryRead (form.Named name pos)
 named name pos c w place called k s t b m behind =
-    let u = behind (past code s) m.1.1 in
+    let is = captures_use c w name s.library (op_at (past code s)) in
+    let x : Use = record { name = name; at = pos } in
+    let u = behind (capturing is x (past code s)) m.1.1 in
     due m.0 refl refl (next_in (V.after_name c w name pos) m.1.0 (λ e.
     if_true _ (may_so (excludes_use (op_at (past code s)) || may_use c w s.library name) _ e)
-    (gives (ap (λ v. name_tree w.slots v name pos) (u.1 refl)) m.1.1)))
+    (note is x (gives (ap (λ v. name_tree w.slots v name pos) (u.1 refl)) m.1.1))))
 
 pub word : (text : Text) (pos : Position) → PrimaryRead (form.Word text pos)
 word text pos c w place called k s t b m behind =

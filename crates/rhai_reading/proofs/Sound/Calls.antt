@@ -171,6 +171,7 @@ same_tree (form.Array opening list) w true e = refl
 same_tree (form.Map opening list) w true e = refl
 same_tree (form.Interpolated first pos list) w true e = refl
 same_tree (form.CompoundValue pos x) w true e = refl
+same_tree (form.Closure head f number us) w true e = refl
 same_tree (form.Zero range pos) w true e = refl
 
 module _ {call : Histories} (ih : AllSound call) (c : Context) (w : Live) (place : OperandPlace) (from : Point)

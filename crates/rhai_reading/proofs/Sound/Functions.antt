@@ -25,9 +25,10 @@ use Rattle.rhai_grammar.specs.declared.role.ItemPlace.{ItemPlace}
 use Rattle.rhai_grammar.specs.declared.role.ItemPlace.TheVariants as place
 use Rattle.rhai_reading.specs.Reading as R
 use Rattle.rhai_reading.specs.Reading.{body}
-use Rattle.rhai_reading.proofs.Beginnings.{called, name_is, parameter_is}
+use Rattle.rhai_reading.proofs.Beginnings.{called, name_is}
+use Rattle.rhai_grammar.specs.declared.list.CommaList.{CommaList}
 use Rattle.rhai_reading.proofs.ConstructKinds.{BracedForm}
-use Rattle.rhai_reading.proofs.Dues.{separated, stands}
+use Rattle.rhai_reading.proofs.Dues.{parameter_is, separated, stands}
 use Rattle.rhai_reading.proofs.FunctionKinds.{FunctionForm, HeadForm, any_function, any_head, any_list, function_of}
 use Rattle.rhai_reading.proofs.FunctionKinds.{function_statements, functions, heads, parameter_lists, parameters}
 use Rattle.rhai_reading.proofs.Looks.{op_at, pos_at}
@@ -106,7 +107,7 @@ module _ {call : Histories} (ih : AllSound call) (function : Text) (s : Point) w
       → Goes call (parameter_lists function) s (R.parameters_at function (op_at s) (pos_at s) v) s true
   list_by calls_by.Pair e m = take (done (form.EmptyParameters (pos_at s)) (λ k o r. called s e ▹ r))
   list_by calls_by.List e m =
-      take (ends (ih.of (R.Parameters function []) (past code s) false) (form.ListedParameters (pos_at s))
+      take (ends (ih.of (R.Parameters lists.Parameters function []) (past code s) false) (form.ListedParameters (pos_at s))
       (λ v x. refl) (λ x k o r. called s e ▹ r))
   list_by calls_by.Bang e m = refuse any_list (λ k. wrong m (rw e))
   list_by calls_by.Nothing e m = refuse any_list (λ k. wrong m (rw e))
@@ -114,27 +115,28 @@ module _ {call : Histories} (ih : AllSound call) (function : Text) (s : Point) w
   pub parameter_list : (b : Bool) → Goes call (parameter_lists function) s (body (R.ParameterList function)) s b
   parameter_list b = look (λ m. list_by (calling (op_at s)) refl m)
 
-module _ {call : Histories} (ih : AllSound call) (function : Text) (before : List Text) (s : Point) where
-  parameter_by : (v : ItemPlace) → parameter_place (op_at s) ≡ v → is_memory (op_at s) ≡ false
-      → Goes call (parameters function before) s (R.parameter_at function before (op_at s) (pos_at s) v) s true
-  parameter_by place.End e m = take (done (form.NoParameter (pos_at s)) (λ k o r. parameter_is s e ▹ r))
-  parameter_by place.Item e m =
-      let name = text_of (op_at s) in
-      let t = past code s in
-      let here = parameter_is s e in
-      let last : Position → form.Parameters = λ p. form.LastParameter name (pos_at s) p in
-      take (either (is_among name before) (λ twice. halt (last nowhere) refl (λ k. here ▹ fails (ap not twice)))
-      (λ fresh.
-      let new = ap not fresh in
-      separated lists.Parameters (last nowhere) (λ other k. here ▹ new ▹ other.way)
-      (λ comma. ends (ih.of (R.Parameters function (before ++ name ∷ [])) (past code t) false)
-      (form.Parameter name (pos_at s) (pos_at t)) (λ v x. refl) (λ x k o r. here ▹ new ▹ comma ▹ r))
-      (λ close. done (last (pos_at t)) (λ k o r. here ▹ new ▹ close ▹ r))))
-  parameter_by place.Nothing e m = refuse (form.NoParameter nowhere) (λ k. wrong m (rw e))
+module _ {call : Histories} (ih : AllSound call) (parts : CommaList) (function : Text) (before : List Text) (s : Point)
+  where
+    parameter_by : (v : ItemPlace) → parameter_place parts (op_at s) ≡ v → is_memory (op_at s) ≡ false
+        → Goes call (parameters parts function before) s (R.parameter_at parts function before (op_at s) (pos_at s) v) s true
+    parameter_by place.End e m = take (done (form.NoParameter (pos_at s)) (λ k o r. parameter_is parts s e ▹ r))
+    parameter_by place.Item e m =
+        let name = text_of (op_at s) in
+        let t = past code s in
+        let here = parameter_is parts s e in
+        let last : Position → form.Parameters = λ p. form.LastParameter name (pos_at s) p in
+        take (either (is_among name before) (λ twice. halt (last nowhere) refl (λ k. here ▹ fails (ap not twice)))
+        (λ fresh.
+        let new = ap not fresh in
+        separated parts (last nowhere) (λ other k. here ▹ new ▹ other.way)
+        (λ comma. ends (ih.of (R.Parameters parts function (before ++ name ∷ [])) (past code t) false)
+        (form.Parameter name (pos_at s) (pos_at t)) (λ v x. refl) (λ x k o r. here ▹ new ▹ comma ▹ r))
+        (λ close. done (last (pos_at t)) (λ k o r. here ▹ new ▹ close ▹ r))))
+    parameter_by place.Nothing e m = refuse (form.NoParameter nowhere) (λ k. wrong m (rw e))
 
-  pub parameters_of : (b : Bool)
-      → Goes call (parameters function before) s (body (R.Parameters function before)) s b
-  parameters_of b = look (λ m. parameter_by (parameter_place (op_at s)) refl m)
+    pub parameters_of : (b : Bool)
+        → Goes call (parameters parts function before) s (body (R.Parameters parts function before)) s b
+    parameters_of b = look (λ m. parameter_by (parameter_place parts (op_at s)) refl m)
 
 -- ---- the whole
 

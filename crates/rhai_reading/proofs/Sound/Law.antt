@@ -1,5 +1,6 @@
 -- What each reader shows.
 use Rattle.rhai_reading.proofs.FunctionKinds.{function_statements, functions, heads, parameter_lists, parameters}
+use Rattle.rhai_reading.proofs.ClosureKinds.{closure_bodies, closures}
 use Rattle.std.proofs.Common.{◌≡◌, ℕ, Bool, true, false, None, [], refl}
 use Rattle.rhai_lower.specs.Lexemes.{Lexeme, Integer}
 use Rattle.rhai_lower.specs.Positions.{nowhere}
@@ -146,7 +147,9 @@ Sound (R.FunctionStatement c w from at is_private) s o = Answers (function_state
 Sound (R.Function c at is_private) s o = Answers (functions c at is_private) s o
 Sound R.FunctionHead s o = Answers heads s o
 Sound (R.ParameterList function) s o = Answers (parameter_lists function) s o
-Sound (R.Parameters function before) s o = Answers (parameters function before) s o
+Sound (R.Parameters parts function before) s o = Answers (parameters parts function before) s o
+Sound (R.Closure c w at by) s o = Answers (closures c w at by) s o
+Sound (R.ClosureBody c w) s o = Answers (closure_bodies c w) s o
 
 pub record AllSound (call : Histories) : Type 0 where
   pub of : (g : Goal) (s : Point) (b : Bool) → Sound g s (call g (at s b))

@@ -37,6 +37,14 @@ use Rattle.rhai_reading.proofs.ConstructKinds.{OfKind, of_kind}
 use Rattle.rhai_reading.proofs.Lists.{first_text}
 use Rattle.rhai_reading.proofs.Sound.Law.{any_segments}
 use Rattle.rhai_reading.specs.Reading as R
+use Rattle.rhai_reading.proofs.ClosureKinds.{closure_form}
+use Rattle.rhai_grammar.specs.Closures.{bars_token}
+use Rattle.rhai_grammar.specs.Starts.{may_be_closure}
+use Rattle.rhai_grammar.specs.declared.role.Bars.{Bars}
+use Rattle.rhai_grammar.specs.declared.role.Bars.TheVariants as bars
+use Rattle.rhai_reading.proofs.Shows.{note}
+use Rattle.rhai_grammar.specs.Modules.{captures_use}
+use Rattle.rhai_grammar.specs.Trees.{name_tree}
 use Rattle.rhai_reading.specs.Reading.{body}
 use Rattle.rhai_reading.proofs.Beginnings.{begun}
 use Rattle.rhai_reading.proofs.Dues.{expect}
@@ -49,6 +57,25 @@ use Rattle.rhai_reading.proofs.FormKinds.{tree_before, operands, primaries}
 use Rattle.rhai_reading.proofs.Sound.Law.{AllSound, any_construct, any_primary, any_operand, any_run}
 
 module _ {call : Histories} (ih : AllSound call) (c : Context) (w : Live) (place : OperandPlace) (s : Point) where
+  closure_by : (by : Bars) → next_at code s ≡ item (Sign (bars_token by)) (pos_at s) → may_be_closure c by ≡ true
+      → Goes call (primaries c w place) s (R.Call (R.Closure c w (pos_at s) by) R.Ret) (past code s) false
+  closure_by bars.Pair here can =
+      ends (ih.of (R.Closure c w (pos_at s) bars.Pair) (past code s) false) (closure_form bars.Pair (pos_at s))
+      (λ t f. refl) (λ f k o r. can ▹ here ▹ r)
+  closure_by bars.List here can =
+      ends (ih.of (R.Closure c w (pos_at s) bars.List) (past code s) false) (closure_form bars.List (pos_at s))
+      (λ t f. refl) (λ f k o r. can ▹ here ▹ r)
+
+  named_by : beginning (op_at s) ≡ begin.Name → is_memory (op_at (past code s)) ≡ false
+      → excludes_use (op_at (past code s)) || may_use c w s.library (text_of (op_at s)) ≡ true
+      → Goes call (primaries c w place) s (
+      R.Note (captures_use c w (text_of (op_at s)) s.library (op_at (past code s)))
+      (record { name = text_of (op_at s); at = pos_at s })
+      (R.Ret (name_tree w.slots (excludes_use (op_at (past code s))) (text_of (op_at s)) (pos_at s)))) (past code s) true
+  named_by e n may =
+      let x = form.Named (text_of (op_at s)) (pos_at s) in
+      note (gives x refl (λ k o r. begun s e ▹ fine n (rw may) ▹ r))
+
   primary_by : (v : Beginning) → beginning (op_at s) ≡ v → operand_start place (op_at s) ≡ first.Written → is_sign v ≡ false
       → is_memory (op_at s) ≡ false
       → Goes call (primaries c w place) s (R.primary_at c w (op_at s) (pos_at s) v) s true
@@ -59,7 +86,7 @@ module _ {call : Histories} (ih : AllSound call) (c : Context) (w : Live) (place
       let x = form.Named name (pos_at s) in
       let next = op_at (past code s) in
       take (look (λ n. know (either (excludes_use next || may_use c w s.library name)
-      (λ may. done x (λ k o r. begun s e ▹ fine n (rw may) ▹ r))
+      (λ may. named_by e n may)
       (λ none. halt x refl (λ k. begun s e ▹ blamed_in n (rw none))))))
   primary_by begin.Word e written sign m =
       let word = text_of (op_at s) in
@@ -113,6 +140,9 @@ module _ {call : Histories} (ih : AllSound call) (c : Context) (w : Live) (place
       (ih.of (R.Construct (level_up (level_up c)) w (pos_at s) kind) (past code s) false)
       (λ f. form.CompoundValue (pos_at s) f.construct)
       (λ t f. refl) (λ f k o r. may f value ▹ here f ▹ below ▹ deeper ▹ r)))))
+      (λ none. refuse any_primary (λ k. refl ▹ wrong m (rw (written, e, none))))
+  primary_by (begin.Closure by) e written sign m =
+      either (may_be_closure c by) (λ can. take (closure_by by (begun s e) can))
       (λ none. refuse any_primary (λ k. refl ▹ wrong m (rw (written, e, none))))
   primary_by begin.Sign e written sign m = absurd cc
   primary_by begin.Range e written sign m = done (form.Zero (op_at s) (pos_at s)) (λ k o r. ap is_range e ▹ refl ▹ r)

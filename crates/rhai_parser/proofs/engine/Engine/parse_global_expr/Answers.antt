@@ -14,5 +14,5 @@ returns-clause-reads g c = λ fresh.
       search rules,
       subst (λ (frame : FrameValue). ReadsExpression (context_of c.args.self.now frame c.settings.new.arg2)
           (live_of frame) (library_of c.args.state.lib.now.entries) (library_of c.read_script.new.lib.entries) (cursor_of c.args.state.input.now) (cursor_of c.read_script.new.input) c.read_script.result)
-          (frame_is c.args.self.now c.args.state c.new-frame.result _ _ _ _ c.new-frame.ensures c.known-known.ensures refl refl c.deref.ensures.value) read,
+          (frame_is c.args.self.now c.args.state c.new-frame.result _ _ _ _ _ c.new-frame.ensures c.known-known.ensures refl refl c.deref.ensures.value c.fn_begun-begun.ensures) read,
     )

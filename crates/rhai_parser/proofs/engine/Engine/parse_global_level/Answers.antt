@@ -1,4 +1,4 @@
-use Rattle.std.proofs.Common.{◌∙◌, ap, refl, rules, sym}
+use Rattle.std.proofs.Common.{[], ◌∙◌, ap, refl, rules, sym}
 use Rattle.std.proofs.lemmas.Result.{err_from_is_err_and}
 use Rattle.std.specs.Prelude.{Vec}
 use Rattle.std.specs.declared.alloc.Global.{Global}
@@ -10,10 +10,14 @@ use Rattle.rhai_reading.specs.Reading.{Script}
 use Rattle.rhai_reading.specs.Running.{Done, Progress, Refused, result_of}
 use Rattle.rhai_base.specs.Frames.{FrameValue}
 use Rattle.rhai_base.specs.Libraries.{library_of}
+use Rattle.rhai_language.specs.Readers.{nesting_of}
 use Rattle.rhai_language.specs.Frames.{context_of}
 use Rattle.rhai_parser.specs.Starts.{live_in, starts_in}
 use Rattle.rhai_parser.proofs.FrameLemmas.{frame_is}
-use Rattle.rhai_parser.proofs.PromiseLemmas.{Entries, script_done, script_fails, has_read_done, has_read_fails, reads_none}
+use Rattle.std.proofs.Math.Nat.{le-max_left}
+use Rattle.rhai_base.specs.Counts.{counts_of}
+use Rattle.rhai_parser.proofs.NestLemmas.{always, entry_stays}
+use Rattle.rhai_parser.proofs.PromiseLemmas.{Entries, begins_read, begins_same, script_done, script_fails, has_read_done, has_read_fails, reads_none}
 use Rattle.rhai_reading.proofs.Main.{script_entry}
 use Rattle.rhai_parser.proofs.engine.Engine.parse_global_level.Goals as goal
 
@@ -28,10 +32,10 @@ returns-in_err-library-clause-reads g c = λ fresh.
 pub returns-in-Ok-clause-reads : goal.returns-in-Ok-clause-reads
 returns-in-Ok-clause-reads g c = λ fresh.
     let read = c.in-Ok.ensures.reads in
-    let framed = frame_is c.args.self.now c.args.state.now c.new-frame.result _ _ _ _ c.new-frame.ensures c.known-known.ensures c.replace-stack.ensures.value
-    c.replace-imports.ensures.value (c.deref.ensures.value ∙ ap (λ (v : Vec (RcStr Global) Global). v.items) c.replace-around.ensures.value) in
-    let at : Entries → Progress = λ es. record { cursor = cursor_of c.args.state.now.input.now; library = library_of es } in
-    let to : Entries → Progress = λ es. record { cursor = cursor_of c.read_statements-read.new.input; library = library_of es } in
+    let framed = frame_is c.args.self.now c.args.state.now c.new-frame.result _ _ _ _ _ c.new-frame.ensures c.known-known.ensures c.replace-stack.ensures.value
+    c.replace-imports.ensures.value (c.deref.ensures.value ∙ ap (λ (v : Vec (RcStr Global) Global). v.items) c.replace-around.ensures.value) c.fn_begun.ensures in
+    let at : Entries → Progress = λ es. record { cursor = cursor_of c.args.state.now.input.now; library = library_of es; captured = []; nesting = nesting_of c.nest_enter.new.self } in
+    let to : Entries → Progress = λ es. record { cursor = cursor_of c.read_statements-read.new.input; library = library_of es; captured = read.1; nesting = nesting_of c.read_statements-read.new.counts } in
     let context = starts_in c.args.self.now c.args.state.now c.settings.new.arg2 in
     let live = live_in c.args.state.now in
     let here = ap (λ (f : FrameValue). result_of (Script (context_of c.args.self.now f c.settings.new.arg2) f.live) (at c.in_ok-library.library)) framed
@@ -40,27 +44,27 @@ returns-in-Ok-clause-reads g c = λ fresh.
       c.settings.new.arg2,
       search rules,
       script_done context live read.0 (at c.args.state.now.lib.now.entries) (to c.into_functions.result.entries) (statement_views c.in-Ok.statements.items) _ _ c.with_functions.result
-          (ap mode_by fresh.mode) (sym here ∙ read.3 ∙ ended) (sym read.1) (sym read.2) c.with_functions.ensures.out c.with_functions.ensures.is,
+          (record { mode = ap mode_by fresh.mode; captured = refl }) (sym here ∙ read.4 ∙ ended) (sym read.2) (sym read.3) c.with_functions.ensures.out c.with_functions.ensures.is,
     )
 
 pub returns-in-Ok-clause-memory : goal.returns-in-Ok-clause-memory
 returns-in-Ok-clause-memory g c =
     let read = c.in-Ok.ensures.reads in
-    let framed = frame_is c.args.self.now c.args.state.now c.new-frame.result _ _ _ _ c.new-frame.ensures c.known-known.ensures c.replace-stack.ensures.value
-    c.replace-imports.ensures.value (c.deref.ensures.value ∙ ap (λ (v : Vec (RcStr Global) Global). v.items) c.replace-around.ensures.value) in
-    let at : Entries → Progress = λ es. record { cursor = cursor_of c.args.state.now.input.now; library = library_of es } in
-    let to : Entries → Progress = λ es. record { cursor = cursor_of c.read_statements-read.new.input; library = library_of es } in
+    let framed = frame_is c.args.self.now c.args.state.now c.new-frame.result _ _ _ _ _ c.new-frame.ensures c.known-known.ensures c.replace-stack.ensures.value
+    c.replace-imports.ensures.value (c.deref.ensures.value ∙ ap (λ (v : Vec (RcStr Global) Global). v.items) c.replace-around.ensures.value) c.fn_begun.ensures in
+    let at : Entries → Progress = λ es. record { cursor = cursor_of c.args.state.now.input.now; library = library_of es; captured = []; nesting = nesting_of c.nest_enter.new.self } in
+    let to : Entries → Progress = λ es. record { cursor = cursor_of c.read_statements-read.new.input; library = library_of es; captured = read.1; nesting = nesting_of c.read_statements-read.new.counts } in
     let here = ap (λ (f : FrameValue). result_of (Script (context_of c.args.self.now f c.settings.new.arg2) f.live) (at c.in_ok-library.library)) framed in
     has_read_done (script_entry (starts_in c.args.self.now c.args.state.now c.settings.new.arg2) (live_in c.args.state.now)) (at c.in_ok-library.library) (to c.read_statements-read.new.library)
-    (statement_views c.in-Ok.statements.items, read.0) c.with_functions.result (sym here ∙ read.3)
+    (statement_views c.in-Ok.statements.items, read.0) c.with_functions.result (sym here ∙ read.4)
 
 pub returns-in-Err-clause-reads : goal.returns-in-Err-clause-reads
 returns-in-Err-clause-reads g c = λ fresh.
     let read = c.in-Err.ensures.reads in
-    let framed = frame_is c.args.self.now c.args.state.now c.new-frame.result _ _ _ _ c.new-frame.ensures c.known-known.ensures c.replace-stack.ensures.value
-    c.replace-imports.ensures.value (c.deref.ensures.value ∙ ap (λ (v : Vec (RcStr Global) Global). v.items) c.replace-around.ensures.value) in
-    let at : Entries → Progress = λ es. record { cursor = cursor_of c.args.state.now.input.now; library = library_of es } in
-    let to : Entries → Progress = λ es. record { cursor = cursor_of c.read_statements-read.new.input; library = library_of es } in
+    let framed = frame_is c.args.self.now c.args.state.now c.new-frame.result _ _ _ _ _ c.new-frame.ensures c.known-known.ensures c.replace-stack.ensures.value
+    c.replace-imports.ensures.value (c.deref.ensures.value ∙ ap (λ (v : Vec (RcStr Global) Global). v.items) c.replace-around.ensures.value) c.fn_begun.ensures in
+    let at : Entries → Progress = λ es. record { cursor = cursor_of c.args.state.now.input.now; library = library_of es; captured = []; nesting = nesting_of c.nest_enter.new.self } in
+    let to : Entries → Progress = λ es. record { cursor = cursor_of c.read_statements-read.new.input; library = library_of es; captured = read.1; nesting = nesting_of c.read_statements-read.new.counts } in
     let context = starts_in c.args.self.now c.args.state.now c.settings.new.arg2 in
     let live = live_in c.args.state.now in
     let here = ap (λ (f : FrameValue). result_of (Script (context_of c.args.self.now f c.settings.new.arg2) f.live) (at c.in_ok-library.library)) framed
@@ -68,17 +72,46 @@ returns-in-Err-clause-reads g c = λ fresh.
     let ended = ap (λ (es : Entries). Refused (refusal_of c.in-Err.error) (to es)) (sym c.into_functions.ensures) in (
       c.settings.new.arg2,
       search rules,
-      script_fails context live (at c.args.state.now.lib.now.entries) (to c.into_functions.result.entries) c.in-Err.error _ _ (ap mode_by fresh.mode)
-          (λ told. sym here ∙ read.3.0 told ∙ ended, read.3.1),
+      script_fails context live (at c.args.state.now.lib.now.entries) (to c.into_functions.result.entries) c.in-Err.error _ _ (record { mode = ap mode_by fresh.mode; captured = refl })
+          (λ told. sym here ∙ read.4.0 told ∙ ended, read.4.1),
     )
 
 pub returns-in-Err-clause-memory : goal.returns-in-Err-clause-memory
 returns-in-Err-clause-memory g c =
     let read = c.in-Err.ensures.reads in
-    let framed = frame_is c.args.self.now c.args.state.now c.new-frame.result _ _ _ _ c.new-frame.ensures c.known-known.ensures c.replace-stack.ensures.value
-    c.replace-imports.ensures.value (c.deref.ensures.value ∙ ap (λ (v : Vec (RcStr Global) Global). v.items) c.replace-around.ensures.value) in
-    let at : Entries → Progress = λ es. record { cursor = cursor_of c.args.state.now.input.now; library = library_of es } in
-    let to : Entries → Progress = λ es. record { cursor = cursor_of c.read_statements-read.new.input; library = library_of es } in
+    let framed = frame_is c.args.self.now c.args.state.now c.new-frame.result _ _ _ _ _ c.new-frame.ensures c.known-known.ensures c.replace-stack.ensures.value
+    c.replace-imports.ensures.value (c.deref.ensures.value ∙ ap (λ (v : Vec (RcStr Global) Global). v.items) c.replace-around.ensures.value) c.fn_begun.ensures in
+    let at : Entries → Progress = λ es. record { cursor = cursor_of c.args.state.now.input.now; library = library_of es; captured = []; nesting = nesting_of c.nest_enter.new.self } in
+    let to : Entries → Progress = λ es. record { cursor = cursor_of c.read_statements-read.new.input; library = library_of es; captured = read.1; nesting = nesting_of c.read_statements-read.new.counts } in
     let here = ap (λ (f : FrameValue). result_of (Script (context_of c.args.self.now f c.settings.new.arg2) f.live) (at c.in_ok-library.library)) framed in
     has_read_fails (script_entry (starts_in c.args.self.now c.args.state.now c.settings.new.arg2) (live_in c.args.state.now)) (at c.in_ok-library.library) (to c.read_statements-read.new.library)
-    c.in-Err.error (λ told. sym here ∙ read.3.0 told, read.3.1)
+    c.in-Err.error (λ told. sym here ∙ read.4.0 told, read.4.1)
+
+pub returns-in_err-library-clause-nests : goal.returns-in_err-library-clause-nests
+returns-in_err-library-clause-nests g c =
+    (c.settings.new.arg2, search rules, always c.from_residual.result (λ positive more start. le-max_left _ _))
+
+pub returns-in-Ok-clause-nests : goal.returns-in-Ok-clause-nests
+returns-in-Ok-clause-nests g c = (
+  c.settings.new.arg2,
+  search rules,
+  always c.with_functions.result (entry_stays c.args.self.now c.settings.new.arg2 (counts_of c.args.state.now.counts) (counts_of c.nest_enter.new.self)
+      (counts_of c.read_statements-read.new.counts) (counts_of c.nest_leave.new.self) c.nest_enter.ensures c.nest_leave.ensures c.in-Ok.ensures.stays),
+)
+
+pub returns-in-Err-clause-nests : goal.returns-in-Err-clause-nests
+returns-in-Err-clause-nests g c = (
+  c.settings.new.arg2,
+  search rules,
+  λ told. entry_stays c.args.self.now c.settings.new.arg2 (counts_of c.args.state.now.counts) (counts_of c.nest_enter.new.self)
+      (counts_of c.read_statements-read.new.counts) (counts_of c.nest_leave.new.self) c.nest_enter.ensures c.nest_leave.ensures (c.in-Err.ensures.stays told),
+)
+
+pub returns-in_err-library-clause-grows : goal.returns-in_err-library-clause-grows
+returns-in_err-library-clause-grows g c = begins_same c.args.state.now.lib.now.entries c.take_library.new.lib.entries (search rules)
+
+pub returns-in-Ok-clause-grows : goal.returns-in-Ok-clause-grows
+returns-in-Ok-clause-grows g c = begins_read _ _ _ _ c.in_ok-library.ensures.ok c.read_statements-read.ensures.grows c.into_functions.ensures
+
+pub returns-in-Err-clause-grows : goal.returns-in-Err-clause-grows
+returns-in-Err-clause-grows g c = begins_read _ _ _ _ c.in_ok-library.ensures.ok c.read_statements-read.ensures.grows c.into_functions.ensures

@@ -26,5 +26,5 @@ loop-properties-preserved g c =
     } in
     record {
       same = c.loop-properties.invariant.same ∙ field_goes_on _ taken;
-      goes_on = record { same = search rules; shorter = let less = field_short taken in omega (arith, less, c.loop-properties.invariant.goes_on.shorter) };
+      goes_on = record { same = search rules; shorter = let less = field_short taken in omega (arith, less, c.loop-properties.invariant.goes_on.shorter); grows = search rules };
     }

@@ -2,10 +2,14 @@ use Rattle.std.proofs.Common.{ap, rules}
 use Rattle.std.specs.Rc.{rc_str_bytes}
 use Rattle.rhai_ast.specs.View.{view}
 use Rattle.rhai_grammar.specs.Cursors.{cursor_of}
+use Rattle.rhai_language.proofs.Given.{gives_so}
+use Rattle.rhai_language.specs.Frames.{context_of, live_of}
 use Rattle.rhai_language.specs.Readers.{state_at, state_of}
+use Rattle.rhai_reading.specs.Reading.{Primary}
+use Rattle.rhai_reading.specs.Running.{guarded}
 use Rattle.rhai_reading.proofs.Outcomes.{answer_given}
 use Rattle.rhai_reading.proofs.WordSteps.{Worded}
-use Rattle.rhai_primaries.proofs.AnswerLemmas.{named_outcome, worded_outcome}
+use Rattle.rhai_primaries.proofs.AnswerLemmas.{named, worded_outcome}
 use Rattle.rhai_grammar.specs.Beginnings.{calls, excludes_use}
 use Rattle.rhai_grammar.specs.declared.role.Beginning.TheVariants as begin
 use Rattle.rhai_primaries.proofs.reader.PrimaryReader.parse_primary.Goals as goal
@@ -23,7 +27,10 @@ returns-in_ok-excluded-in-Name-clause-reads g c =
       readable_on = search rules;
       look_on = search rules;
     } in
-    answer_given view _ _ c.name_node.result (named_outcome _ _ h) c.name_node.ensures.answers c.name_node.ensures.nowhere
+    let context = context_of c.args.self.now.language.now c.args.frame.now c.args.settings in
+    let live = live_of c.args.frame.now in
+    gives_so view c.used_name.result (state_of c.used_name.new.shared) (named context live h)
+    (c.used_name.ensures.gives c.args.self.now.language.now (guarded (Primary context live) (state_of c.args.shared.now)) _ h.is_so)
 
 pub returns-in_ok-called-in-Word-clause-reads : goal.returns-in_ok-called-in-Word-clause-reads
 returns-in_ok-called-in-Word-clause-reads g c =

@@ -1,4 +1,4 @@
-use Rattle.std.proofs.Common.{◌∙◌, ap, refl, rules}
+use Rattle.std.proofs.Common.{◌∙◌, Err, ap, refl, rules}
 use Rattle.std.proofs.lemmas.Result.{err_from_is_err_and}
 use Rattle.rhai_ast.specs.View.{statement_view}
 use Rattle.rhai_base.specs.Frames.{FrameValue}
@@ -6,6 +6,7 @@ use Rattle.rhai_language.specs.Frames.{context_of, live_of}
 use Rattle.rhai_language.specs.Readers.{ended_view, state_of, with_live}
 use Rattle.rhai_reading.specs.Reading.{FunctionStatement}
 use Rattle.rhai_reading.specs.Running.{guarded}
+use Rattle.rhai_reading.proofs.Steps.{nested_done, nested_gives}
 use Rattle.rhai_statements.proofs.FunctionLemmas.{Begun, context_inside, function_fails, function_gives}
 use Rattle.rhai_statements.proofs.reader.StmtReader.parse_fn.Goals as goal
 
@@ -18,11 +19,11 @@ returns-in_err-key-clause-reads g c =
       global = search rules;
       fits = search rules;
       room = search rules;
-      context = context_inside c.args.self.now.language.now c.args.frame.now c.in_function-inner.result c.args.settings c.in_ok-deeper.deeper (search rules) (search rules) (search rules);
+      context = context_inside c.args.self.now.language.now c.args.frame.now c.in_function-inner.result c.args.settings c.in_ok-deeper.deeper (search rules) (search rules) (search rules) (search rules);
       stands = search rules;
     } in
     rw (p.1, p.2) (function_fails context (live_of c.args.frame.now) c.args.first c.args.settings.pos c.args.private inside c.in_ok-deeper.deeper.pos (state_of c.args.shared.now) begun
-    _ _ c.in_err-key.ensures.reads)
+    _ (state_of c.leave.new.self) (nested_gives ended_view _ _ _ _ _ (Err _) c.enter.ensures.enters c.in_err-key.ensures.reads c.leave.ensures.leaves))
 
 pub returns-clause-reads : goal.returns-clause-reads
 returns-clause-reads g c =
@@ -32,10 +33,10 @@ returns-clause-reads g c =
       global = search rules;
       fits = search rules;
       room = search rules;
-      context = context_inside c.args.self.now.language.now c.args.frame.now c.in_function-inner.result c.args.settings c.in_ok-deeper.deeper (search rules) (search rules) (search rules);
+      context = context_inside c.args.self.now.language.now c.args.frame.now c.in_function-inner.result c.args.settings c.in_ok-deeper.deeper (search rules) (search rules) (search rules) (search rules);
       stands = search rules;
     } in
     let call = guarded (FunctionStatement context (live_of c.args.frame.now) c.args.first c.args.settings.pos c.args.private) (state_of c.args.shared.now) in
     function_gives (with_live statement_view c.args.frame.now) context (live_of c.args.frame.now) c.args.first c.args.settings.pos c.args.private inside c.in_ok-deeper.deeper.pos (state_of c.args.shared.now) begun
-    (ended_view (c.in_ok-key.key, c.in_ok-key.function)) (state_of c.parse_function.new.shared) c.in_ok-key.ensures.reads
+    (ended_view (c.in_ok-key.key, c.in_ok-key.function)) (state_of c.leave.new.self) (nested_done _ _ c.enter.ensures.enters c.in_ok-key.ensures.reads c.leave.ensures.leaves)
     c.end_function.result (state_of c.end_function.new.shared) (c.end_function.ensures.gives call (live_of c.args.frame.now))

@@ -3,7 +3,7 @@ use Rattle.std.proofs.Common.{◌≡◌, ◌++◌, drop, map}
 use Rattle.std.specs.Rc.{rc_str_bytes}
 use Rattle.rhai_grammar.specs.Functions.{parameters_live}
 use Rattle.rhai_base.specs.Frames.{SamePlace}
-use Rattle.rhai_statements.proofs.function.declare_parameters.Given as goal
+use Rattle.rhai_language.proofs.parameters.declare_parameters.Given as goal
 
 abbrev pub invariant-loop-name : goal.invariant-loop-name
 invariant-loop-name l = record {

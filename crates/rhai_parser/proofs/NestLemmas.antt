@@ -1,0 +1,82 @@
+-- From the room of a whole script to what is promised.
+use Rattle.std.proofs.Common.{◌≡◌, ℕ, ◌+◌, ◌*◌, ◌-◌, ◌^◌, ◌≤◌, max, min, subst, sym, ap, arith, Result, Ok, Err}
+use Rattle.std.proofs.Math.Nat.{le-max_left, le-max_right, max-le, min-le_left}
+use Rattle.rhai_lower.specs.Nodes as node
+use Rattle.rhai_grammar.specs.Causes.{Refusal}
+use Rattle.rhai_grammar.specs.Contexts.{Context, Live}
+use Rattle.rhai_grammar.specs.Settings.{one_more}
+use Rattle.rhai_reading.specs.Reading.{Script}
+use Rattle.rhai_reading.specs.Running.{Done, Gives, Progress, Refused, result_of}
+use Rattle.rhai_grammar.specs.Promises.{UnlessMemory}
+use Rattle.rhai_grammar.specs.declared.error.ParseError.{ParseError}
+use Rattle.rhai_base.specs.Counts.{Counts, with_entered, with_left}
+use Rattle.rhai_base.specs.declared.settings.ParseSettings.{ParseSettings}
+use Rattle.rhai_language.specs.Languages.{LanguageValue}
+use Rattle.rhai_parser.specs.Nesting.{StaysWithin}
+use Rattle.rhai_reading.proofs.Rooms.{Stays, StaysSo}
+use Rattle.rhai_reading.proofs.Heights.{IsLimited, nests_within, room, script_room}
+
+module _ (c : Context) (w : Live) (s t : Progress) (h : IsLimited c.settings.limit c.sizes.function_depth)
+    (start : c.settings.level ≡ 0) where
+  abbrev most : ℕ
+  most = max s.nesting.peak (s.nesting.active + 8 * (c.settings.limit + c.sizes.function_depth + 1))
+
+  so : Stays s.nesting.active (max s.nesting.peak (s.nesting.active + room (Script c w))) t.nesting → t.nesting.peak ≤ most
+  so stays =
+      let left = le-max_left s.nesting.peak (s.nesting.active + 8 * (c.settings.limit + c.sizes.function_depth + 1)) in
+      let right = le-max_right s.nesting.peak (s.nesting.active + 8 * (c.settings.limit + c.sizes.function_depth + 1)) in
+      let whole = script_room c w start in
+      let both : max s.nesting.peak (s.nesting.active + room (Script c w)) ≤ most = max-le left (omega (arith, whole, right)) in
+      omega (arith, stays.peak, both)
+
+  pub within_done : {x : node.Statements × Live} → result_of (Script c w) s ≡ Done x t → t.nesting.peak ≤ most
+  within_done e =
+      so (subst (StaysSo s.nesting.active (max s.nesting.peak (s.nesting.active + room (Script c w)))) e (nests_within (Script c w) h s))
+
+  pub within_refused : {r : Refusal} → result_of (Script c w) s ≡ Refused r t → t.nesting.peak ≤ most
+  within_refused e =
+      so (subst (StaysSo s.nesting.active (max s.nesting.peak (s.nesting.active + room (Script c w)))) e (nests_within (Script c w) h s))
+
+-- the entry itself is one more
+pub with_entry : (p a peak n : ℕ) → peak ≤ max (max p (one_more a)) (one_more a + 8 * (n + 1))
+    → peak ≤ max p (a + 8 * (n + 2))
+unfolding one_more
+with_entry p a peak n h =
+    let less = min-le_left (a + 1) (2 ^ 64 - 1) in
+    let left = le-max_left p (a + 8 * (n + 2)) in
+    let right = le-max_right p (a + 8 * (n + 2)) in
+    let first : max p (min (a + 1) (2 ^ 64 - 1)) ≤ max p (a + 8 * (n + 2)) = max-le left (omega (arith, less, right)) in
+    let both : max (max p (min (a + 1) (2 ^ 64 - 1))) (min (a + 1) (2 ^ 64 - 1) + 8 * (n + 1)) ≤ max p (a + 8 * (n + 2)) = max-le first (omega (arith, less, right)) in
+    omega (arith, h, both)
+
+-- what the code's reader of a script answers
+pub stays_read : {X : Type 0} (view : X → node.Statements × Live) (c : Context) (w : Live) (s t : Progress)
+    (r : Result X ParseError) → c.settings.limit ≤ 2 ^ 64 - 1 → c.sizes.function_depth ≤ 2 ^ 64 - 1
+    → Gives view (result_of (Script c w) s) r t
+    → UnlessMemory (λ refused. 1 ≤ c.settings.limit → 1 ≤ c.sizes.function_depth → c.settings.level ≡ 0
+    → t.nesting.peak ≤ max s.nesting.peak (s.nesting.active + 8 * (c.settings.limit + c.sizes.function_depth + 1))) r
+stays_read view c w s t (Ok x) depth function gives = λ positive more start.
+    within_done c w s t (record { positive = positive; bounded = depth; function_positive = more; function_bounded = function })
+    start gives
+stays_read view c w s t (Err e) depth function gives = λ told positive more start.
+    within_refused c w s t (record { positive = positive; bounded = depth; function_positive = more; function_bounded = function })
+    start (gives.0 told)
+
+-- so it is for the entry, which is entered before and left after
+pub entry_stays : (engine : LanguageValue) (settings : ParseSettings) (old begun read left : Counts)
+    → begun ≡ with_entered old → left ≡ with_left read → StaysWithin 1 engine settings begun read
+    → StaysWithin 2 engine settings old left
+entry_stays engine settings old begun read left enters leaves stays = λ positive more start.
+    let n = settings.max_expr_depth + engine.max_function_expr_depth in
+    let h : read.peak ≤ max begun.peak (begun.active + 8 * (settings.max_expr_depth + engine.max_function_expr_depth + 1))
+    = stays positive more start in
+    let i : left.peak ≡ read.peak = ap (λ (c : Counts). c.peak) leaves in
+    let j : read.peak ≤ max (max old.peak (one_more old.active)) (one_more old.active + 8 * (settings.max_expr_depth + engine.max_function_expr_depth + 1))
+    = subst (λ (c : Counts). read.peak ≤ max c.peak (c.active + 8 * (settings.max_expr_depth + engine.max_function_expr_depth + 1))) enters h in
+    subst (λ m. m ≤ max old.peak (old.active + 8 * (settings.max_expr_depth + engine.max_function_expr_depth + 2))) (sym i)
+    (with_entry old.peak old.active read.peak (settings.max_expr_depth + engine.max_function_expr_depth) j)
+
+-- what always holds holds unless memory ran out
+pub always : {A : Type 0} {P : Type 0} (r : Result A ParseError) → P → UnlessMemory (λ refused. P) r
+always (Ok x) p = p
+always (Err e) p = λ told. p

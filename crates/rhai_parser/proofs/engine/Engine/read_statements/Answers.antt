@@ -1,0 +1,45 @@
+use Rattle.std.proofs.Common.{List, [], ap, arith, rules, subst, sym, ◌-◌, ◌^◌, ◌≤◌, ◌≡◌}
+use Rattle.rhai_ast.specs.View.{statement_views}
+use Rattle.rhai_grammar.specs.Cursors.{cursor_of}
+use Rattle.rhai_grammar.specs.Promises.{UnlessMemory}
+use Rattle.rhai_grammar.specs.Uses.{Use}
+use Rattle.rhai_base.specs.Counts.{counts_of}
+use Rattle.rhai_base.specs.Libraries.{library_of}
+use Rattle.rhai_base.specs.Uses.{uses_of}
+use Rattle.rhai_reading.specs.Reading.{Script}
+use Rattle.rhai_reading.specs.Running.{Gives, Progress, result_of}
+use Rattle.rhai_language.specs.Frames.{context_of}
+use Rattle.rhai_language.specs.Languages.{LanguageValue}
+use Rattle.rhai_language.specs.Readers.{nesting_of, state_of, statements_of, with_live}
+use Rattle.rhai_parser.specs.Nesting.{StaysWithin}
+use Rattle.rhai_parser.proofs.NestLemmas.{stays_read}
+use Rattle.rhai_parser.proofs.engine.Engine.read_statements.Goals as goal
+
+pub returns-clause-reads : goal.returns-clause-reads
+returns-clause-reads c =
+    let left = c.parse_statements-statements.new.shared in
+    let view = with_live statements_of c.parse_statements-statements.new.frame in
+    let from : List Use → Progress = λ us. record { cursor = cursor_of c.args.input.now; library = library_of c.args.library.now; captured = us; nesting = nesting_of c.args.counts.now } in
+    let none : uses_of c.new-captured.result.items ≡ [] = ap uses_of c.new-captured.ensures.items in
+    let read = subst (λ (e : LanguageValue). Gives view (result_of (Script (context_of e c.args.frame c.args.settings) c.args.frame.live) (from (uses_of c.new-captured.result.items))) c.parse_statements-statements.result (state_of left))
+    c.language.ensures c.parse_statements-statements.ensures.reads in
+    let new = subst (λ us. Gives view (result_of (Script (context_of c.args.self.now c.args.frame c.args.settings) c.args.frame.live) (from us)) c.parse_statements-statements.result (state_of left)) none read in (
+      c.parse_statements-statements.new.frame.live,
+      uses_of left.captured.now.items,
+      search rules,
+      search rules,
+      search (rules, new),
+    )
+
+pub returns-clause-stays : goal.returns-clause-stays
+returns-clause-stays c =
+    let depth : c.args.settings.max_expr_depth ≤ 2 ^ 64 - 1 = grind arith in
+    let here : c.args.self.now.max_function_expr_depth ≤ 2 ^ 64 - 1 = grind arith in
+    let function : c.language.result.now.max_function_expr_depth ≤ 2 ^ 64 - 1 =
+    subst (λ (e : LanguageValue). e.max_function_expr_depth ≤ 2 ^ 64 - 1) (sym c.language.ensures) here in
+    let left = c.parse_statements-statements.new.shared in
+    subst (λ (e : LanguageValue). UnlessMemory (λ refused. StaysWithin 1 e c.args.settings (counts_of c.args.counts.now) (counts_of left.counts)) c.parse_statements-statements.result)
+    c.language.ensures
+    (stays_read (with_live statements_of c.parse_statements-statements.new.frame) (context_of c.language.result.now c.args.frame c.args.settings) c.args.frame.live
+    (record { cursor = cursor_of c.args.input.now; library = library_of c.args.library.now; captured = uses_of c.new-captured.result.items; nesting = nesting_of c.args.counts.now }) (state_of left)
+    c.parse_statements-statements.result depth function c.parse_statements-statements.ensures.reads)
