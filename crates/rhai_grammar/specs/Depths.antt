@@ -1,5 +1,5 @@
--- How deep a form is: the greatest number of its expressions, blocks, functions and closures, counted together, that lie
--- one in another.
+-- How deep a form is: the greatest number of its expressions, blocks, functions and closures, counted together, that
+-- lie one in another.
 use Rattle.std.specs.Prelude.{◌≡◌, ℕ, ◌+◌, None, codes, max, refl}
 use Rattle.rhai_lower.specs.Positions.{place}
 use Rattle.rhai_grammar.specs.Forms as form
@@ -11,10 +11,10 @@ use Rattle.rhai_grammar.specs.RowsOfClosures.{nested_form}
 use Rattle.rhai_grammar.specs.RowsOfStatements.{evaluates}
 use Rattle.rhai_grammar.specs.RowsOfStrings.{jump_form, string_form}
 
--- Each expression, block, function and closure counts one more than what is deepest in it; what is none of these is as
--- deep as what is deepest in it. A `Run` is an expression where one is read, as a value, an item, an argument, an index,
--- a case or a guard: there `1 +` stands before the depth of the run. A `Body` is a block: there `1 +` stands before the
--- depth of what is in it. The statement of an arm, of a jump after `??` and of a closure is in no block of its own.
+-- An expression, a block, a function and a closure are one deeper than what is deepest in them; what is none of these
+-- is as deep as what is deepest in it. A `Run` is an expression where an expression is due, as a value, an item, an
+-- argument, an index, a case or a guard: `1 + run_depth` is the depth of that. A `Body` is a block: `1 + body_depth` is
+-- its depth. The statement of an arm, of a jump after `??` and of a closure is in no block of its own.
 abbrev mutual
   pub primary_depth : Primary → ℕ
   primary_depth (form.Value token at) = 0

@@ -8,16 +8,18 @@ use Rattle.rhai_grammar.specs.Delivered.{Item, item, is_memory}
 use Rattle.rhai_grammar.specs.Interpolations.{is_text}
 use Rattle.rhai_grammar.specs.Libraries.{Ended, Library}
 use Rattle.rhai_grammar.specs.Uses.{Use, noted}
-use Rattle.rhai_reading.specs.Histories.{State, adding, after_brace, asked, looking, taking, with_captured, Outcome, Done, Runs}
+use Rattle.rhai_reading.specs.Histories.{State, adding, after_brace, asked, looking, taking, with_captured, Outcome}
+use Rattle.rhai_reading.specs.Histories.{Done, Runs}
 use Rattle.rhai_reading.specs.Nesting.{is_counted}
-use Rattle.rhai_reading.specs.Reading.{Goal, Val, Prog, Ret, Peek, Take, TakeText, Know, Add, Note, Call, CallLiteral, CallApart}
-use Rattle.rhai_reading.specs.Reading.{body}
-use Rattle.rhai_reading.proofs.Dives.{Dives, dives_add, dives_apart, dives_call, dives_counted, dives_know, dives_literal}
-use Rattle.rhai_reading.proofs.Dives.{dives_note, dives_peek, dives_ret, dives_take, dives_text, shallower}
+use Rattle.rhai_reading.specs.Reading.{Goal, Val, Prog, Ret, Peek, Take, TakeText, Know, Add, Note, Call, CallLiteral}
+use Rattle.rhai_reading.specs.Reading.{CallApart, body}
+use Rattle.rhai_reading.proofs.Dives.{Dives, dives_add, dives_apart, dives_call, dives_counted, dives_know}
+use Rattle.rhai_reading.proofs.Dives.{dives_literal, dives_note, dives_peek, dives_ret, dives_take, dives_text}
+use Rattle.rhai_reading.proofs.Dives.{shallower}
 use Rattle.rhai_reading.proofs.Rules.{runs_add, runs_call, runs_call_apart, runs_call_literal, runs_know, runs_note}
 use Rattle.rhai_reading.proofs.Rules.{runs_peek, runs_ret, runs_take, runs_text}
 
--- p comes to o. Where the peak is z above the readers that are active, it is D z above them then.
+-- p comes to o. Where the peak was z above the readers that are active, it is D z above them then.
 pub record Deep {A : Type 0} (D : ℕ → ℕ) (p : Prog A) (s : State) (o : Outcome A) : Type 0 where
   pub runs : Runs p s o
   pub dives : Dives D p s

@@ -1,37 +1,24 @@
 -- The nesting bound from below: after acceptance readers were nested at least as deeply as the form is deep.
-use Rattle.std.proofs.Common.{◌≡◌, ℕ, ◌+◌, ◌-◌, ◌^◌, ◌≤◌, Bool, true, false, max, min, nat_lt, inl, inr, refl, subst, arith}
-use Rattle.std.proofs.lemmas.Bool.{ltb-false, ltb-true}
-use Rattle.std.specs.Prelude.{◌⊎◌}
+use Rattle.std.proofs.Common.{◌≡◌, ℕ, ◌+◌, ◌≤◌, max, inr, refl, subst}
+use Rattle.std.proofs.Common.{arith}
 use Rattle.rhai_lower.specs.Nodes as node
 use Rattle.rhai_lower.specs.Nodes.{Node}
 use Rattle.rhai_grammar.specs.Contexts.{Context, Live}
 use Rattle.rhai_grammar.specs.Depths.{run_depth, statements_depth}
 use Rattle.rhai_grammar.specs.Forms.{Run, Statements}
 use Rattle.rhai_grammar.specs.Promises.{IsWritten, expressions, scripts}
-use Rattle.rhai_grammar.specs.Settings.{one_more}
 use Rattle.rhai_reading.specs.Nesting.{Nesting, entered}
 use Rattle.rhai_reading.specs.Reading.{Goal, Script, Val, Whole, body}
 use Rattle.rhai_reading.specs.Running.{Done, Progress, entering, nested, result_of}
 use Rattle.rhai_reading.proofs.Complete.{complete, complete_script}
 use Rattle.rhai_reading.proofs.Dives.{Above, Dives, High, above_less, dives_result, goes_above, left_high}
-use Rattle.rhai_reading.proofs.Grows.{Goes}
+use Rattle.rhai_reading.proofs.Grows.{Goes, entered_goes}
 use Rattle.rhai_reading.proofs.Main.{IsNew, begun, begun_at, from}
 use Rattle.rhai_reading.proofs.Rules.{at}
 
 -- The peak is at least so many readers above those that were active before, or it is the greatest number that there is.
 abbrev pub NestsAtLeast : ℕ → (before after : Nesting) → Type 0
 NestsAtLeast depth before after = Above (before.active + depth) after
-
--- one that was entered is active
-entered_goes : (n : Nesting) → Goes (n.active + 1) (entered n)
-unfolding one_more
-entered_goes n = by (nat_lt n.active (2 ^ 64 - 1)) refl
-  where
-    by : (b : Bool) → nat_lt n.active (2 ^ 64 - 1) ≡ b → (2 ^ 64 - 1 ≤ max n.peak (min (n.active + 1) (2 ^ 64 - 1)))
-        ⊎ ((n.active + 1 ≤ min (n.active + 1) (2 ^ 64 - 1))
-        × (n.active + 1 ≤ max n.peak (min (n.active + 1) (2 ^ 64 - 1))))
-    by true e = let less = ltb-true n.active (2 ^ 64 - 1) e in inr (omega (arith, less), omega (arith, less))
-    by false e = let more = ltb-false n.active (2 ^ 64 - 1) e in inl (omega (arith, more))
 
 module _ (g : Goal) (d : ℕ) (s : Progress) (new : IsNew s)
     (deep : Dives (λ z. max d z) (body g) (at (from s) s.cursor.peeked)) where

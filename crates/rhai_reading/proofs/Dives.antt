@@ -1,38 +1,31 @@
--- How deeply readers are nested at least: how high the peak is after a term was run.
-use Rattle.std.proofs.Common.{◌≡◌, ℕ, zero, suc, ◌+◌, ◌-◌, ◌^◌, ◌≤◌, Bool, true, false, max, sym, ap, subst, ◌∙◌, arith, nat_lt}
-use Rattle.std.proofs.Common.{if◌then◌else◌}
-use Rattle.std.proofs.Math.Nat.{le-max_left}
-use Rattle.std.proofs.Common.{inl, inr}
+-- How deeply readers are nested at least: how high the peak is after a term was run, a rule for each of its steps.
+use Rattle.std.proofs.Common.{◌≡◌, ℕ, zero, suc, ◌+◌, ◌-◌, ◌^◌, ◌≤◌, Bool, true, false, max, sym, ap, subst, ◌∙◌, arith}
+use Rattle.std.proofs.Common.{nat_lt, if◌then◌else◌, inl, inr, List, []}
 use Rattle.std.specs.Prelude.{◌⊎◌}
-use Rattle.rhai_grammar.specs.Settings.{one_more}
-use Rattle.rhai_lower.specs.Lexemes.{Lexeme}
+use Rattle.rhai_lower.specs.Lexemes.{Lexeme, Sign}
 use Rattle.rhai_lower.specs.declared.position.Position.{Position}
-use Rattle.rhai_grammar.specs.Delivered.{is_memory}
-use Rattle.rhai_grammar.specs.DueTokens.{is_due}
+use Rattle.rhai_grammar.specs.Delivered.{is_memory, Item, item}
+use Rattle.rhai_grammar.specs.DueTokens.{is_due, not_due}
 use Rattle.rhai_grammar.specs.Interpolations.{is_text}
 use Rattle.rhai_grammar.specs.declared.due.DueToken.TheVariants.{RightBrace}
-use Rattle.rhai_reading.specs.Reading.{Goal, Val, Prog, Ret, Peek, Take, TakeText, Know, Add, Note, Call, CallLiteral, CallApart, body}
-use Rattle.rhai_grammar.specs.Causes.{out_of_memory}
-use Rattle.rhai_grammar.specs.Uses.{noted}
-use Rattle.std.proofs.Common.{List, []}
-use Rattle.rhai_grammar.specs.Delivered.{Item}
+use Rattle.rhai_reading.specs.Reading.{Goal, Val, Prog, Ret, Peek, Take, TakeText, Know, Add, Note, Call, CallLiteral}
+use Rattle.rhai_reading.specs.Reading.{CallApart, body}
+use Rattle.rhai_grammar.specs.Causes.{out_of_memory, refusal}
+use Rattle.rhai_grammar.specs.Uses.{noted, Use}
 use Rattle.rhai_grammar.specs.Cursors as C
 use Rattle.rhai_reading.specs.Histories as H
 use Rattle.rhai_reading.specs.Histories.{State, Runs}
 use Rattle.rhai_reading.proofs.Joins.{Finished, Rest, flat, forget, level_calls, rest, unnested}
-use Rattle.rhai_lower.specs.Lexemes.{Sign}
 use Rattle.rhai_lower.specs.declared.token.Token.TheVariants.{LeftParen}
-use Rattle.rhai_grammar.specs.Causes.{refusal}
-use Rattle.rhai_grammar.specs.Delivered.{item}
 use Rattle.rhai_reading.specs.Nesting.{Nesting, entered, is_counted}
-use Rattle.rhai_reading.specs.Running.{Caller, Done, Out, Progress, Refused, Unfinished, after_brace, and_then, asked, adding, entering, exec, left_so, level, looking, need, nested, only_less, recast, result_of, taking, with_captured}
+use Rattle.rhai_reading.specs.Running.{Caller, Done, Out, Progress, Refused, Unfinished, after_brace, and_then, asked}
+use Rattle.rhai_reading.specs.Running.{adding, entering, exec, left_so, level, looking, need, nested, only_less, recast}
+use Rattle.rhai_reading.specs.Running.{result_of, taking, with_captured, text_from}
 use Rattle.rhai_lower.specs.declared.token.Token.TheVariants as token
 use Rattle.rhai_grammar.specs.Libraries.{Ended, Library, with_ended}
-use Rattle.rhai_grammar.specs.Uses.{Use}
 use Rattle.rhai_grammar.specs.Beginnings.{unexpected}
-use Rattle.rhai_grammar.specs.DueTokens.{not_due}
-use Rattle.rhai_reading.specs.Running.{text_from}
-use Rattle.rhai_reading.proofs.Grows.{AllGrow, Goes, Grows, GrowsSo, call_grows, less_grows, level_grows, one_deeper, recast_grows}
+use Rattle.rhai_reading.proofs.Grows.{AllGrow, Goes, Grows, GrowsSo, call_grows, goes_less, less_grows, level_grows}
+use Rattle.rhai_reading.proofs.Grows.{one_deeper, recast_grows}
 
 -- ---- what is run, and how high the peak is then
 
@@ -45,7 +38,7 @@ High c (Done x t) = Above c t.nesting
 High c (Refused e t) = Above c t.nesting
 High c Unfinished = Unit {0}
 
--- Where the peak is z above the readers that are active, it is D z above them after a term was run from s.
+-- Where at least a readers are active and the peak is z above a, it is D z above a after a term was run from s.
 pub record Dives {A : Type 0} (D : ℕ → ℕ) (p : Prog A) (s : State) : Type 0 where
   pub dives : (n : ℕ) (g : Goal) (u t : Progress) (a z : ℕ) → rest s ≡ unnested t → Goes a t.nesting
       → Above (a + z) t.nesting → High (a + D z) (exec (only_less (level n) g u) p t)
@@ -177,17 +170,13 @@ left_high c (Done x t) h = h
 left_high c (Refused e t) h = h
 left_high c Unfinished h = tt
 
-less_goes : (a : ℕ) (n : Nesting) → Goes (a + 1) n → Goes a n
-less_goes a n (inl top) = inl top
-less_goes a n (inr h) = inr (omega (arith, h.0), omega (arith, h.1))
-
 pub goes_above : (a : ℕ) (n : Nesting) → Goes a n → Above (a + 0) n
 goes_above a n (inl top) = inl top
 goes_above a n (inr h) = inr (omega (arith, h.1))
 
 entered_above : (c : ℕ) (n : Nesting) → Above c n → Above c (entered n)
-entered_above c n (inl top) = inl (omega (arith, top, le-max_left n.peak (one_more n.active)))
-entered_above c n (inr h) = inr (omega (arith, h, le-max_left n.peak (one_more n.active)))
+entered_above c n (inl top) = inl (omega (arith, top))
+entered_above c n (inr h) = inr (omega (arith, h))
 
 both_high : {A : Type 0} (c d e : ℕ) (o : Out A) → e ≤ max c d → High c o → High d o → High e o
 both_high c d e (Done x t) le (inl top) k = inl top
@@ -243,7 +232,7 @@ module _ (g : Goal) {s : State} {D : ℕ → ℕ} (r : Dives D (body g) s) where
   unfolding nested
   called_dives true n h u t a z e go k =
       left_high (a + D z) _ (reader_dives n h u (entering t) a z e
-      (less_goes a (entered t.nesting) (one_deeper a t.nesting go)) (entered_above (a + z) t.nesting k))
+      (goes_less a (a + 1) (entered t.nesting) (omega arith) (one_deeper a t.nesting go)) (entered_above (a + z) t.nesting k))
   called_dives false n h u t a z e go k = reader_dives n h u t a z e go k
 
   -- one that counts is one deeper

@@ -1,20 +1,20 @@
 -- How readers are nested while they run: no more of them are active afterwards, and the peak does not fall.
 use Rattle.std.proofs.Common.{◌≡◌, ℕ, zero, suc, ◌+◌, ◌-◌, ◌^◌, ◌≤◌, Bool, true, false, max, min, refl, arith, nat_lt}
-use Rattle.std.proofs.Common.{if◌then◌else◌}
+use Rattle.std.proofs.Common.{if◌then◌else◌, inl, inr, []}
 use Rattle.std.proofs.lemmas.Bool.{ltb-false, ltb-true}
-use Rattle.std.proofs.Math.Nat.{le-max_left, le-max_right, min-eq_left, min-eq_right}
-use Rattle.std.proofs.Common.{inl, inr}
 use Rattle.std.specs.Prelude.{◌⊎◌}
 use Rattle.rhai_grammar.specs.Settings.{one_more}
 use Rattle.rhai_grammar.specs.Delivered.{is_memory}
 use Rattle.rhai_grammar.specs.DueTokens.{is_due}
 use Rattle.rhai_grammar.specs.Interpolations.{is_text}
 use Rattle.rhai_grammar.specs.declared.due.DueToken.TheVariants.{RightBrace}
-use Rattle.rhai_reading.specs.Reading.{Goal, Prog, Ret, Fail, Peek, Take, TakeText, Know, Add, Note, Call, CallLiteral, CallApart, body}
+use Rattle.rhai_reading.specs.Reading.{Goal, Prog, Ret, Fail, Peek, Take, TakeText, Know, Add, Note, Call, CallLiteral}
+use Rattle.rhai_reading.specs.Reading.{CallApart, body}
 use Rattle.rhai_grammar.specs.Uses.{noted}
-use Rattle.std.proofs.Common.{[]}
 use Rattle.rhai_reading.specs.Nesting.{Nesting, entered, is_counted, left_one}
-use Rattle.rhai_reading.specs.Running.{Caller, Done, Out, Progress, Refused, Unfinished, after_brace, and_then, asked, adding, entering, exec, left_so, level, looking, need, nested, only_less, recast, taking, with_captured}
+use Rattle.rhai_reading.specs.Running.{Caller, Done, Out, Progress, Refused, Unfinished, after_brace, and_then, asked}
+use Rattle.rhai_reading.specs.Running.{adding, entering, exec, left_so, level, looking, need, nested, only_less, recast}
+use Rattle.rhai_reading.specs.Running.{taking, with_captured}
 
 -- The peak is the greatest number that there is, or this many readers are active.
 abbrev pub Goes : ℕ → Nesting → Type 0
@@ -33,26 +33,28 @@ GrowsSo a m Unfinished = Unit {0}
 abbrev pub AllGrow : Caller → Type 0
 AllGrow call = (g : Goal) (a m : ℕ) (s : Progress) → Grows a m s.nesting → GrowsSo a m (call g s)
 
-pub one_deeper : (a : ℕ) (n : Nesting) → Goes a n → Goes (a + 1) (entered n)
+pub goes_less : (a b : ℕ) (n : Nesting) → a ≤ b → Goes b n → Goes a n
+goes_less a b n le (inl top) = inl top
+goes_less a b n le (inr h) = inr (omega (arith, le, h.0), omega (arith, le, h.1))
+
+-- one that was entered is active
+pub entered_goes : (n : Nesting) → Goes (n.active + 1) (entered n)
 unfolding one_more
-one_deeper a n (inl top) = inl (omega (arith, top, le-max_left n.peak (min (n.active + 1) (2 ^ 64 - 1))))
-one_deeper a n (inr h) = by (nat_lt n.active (2 ^ 64 - 1)) refl
+entered_goes n = by (nat_lt n.active (2 ^ 64 - 1)) refl
   where
-    by : (b : Bool) → nat_lt n.active (2 ^ 64 - 1) ≡ b
-        → (2 ^ 64 - 1 ≤ max n.peak (min (n.active + 1) (2 ^ 64 - 1)))
-        ⊎ ((a + 1 ≤ min (n.active + 1) (2 ^ 64 - 1)) × (a + 1 ≤ max n.peak (min (n.active + 1) (2 ^ 64 - 1))))
-    by true e =
-        let less = ltb-true n.active (2 ^ 64 - 1) e in
-        let is : min (n.active + 1) (2 ^ 64 - 1) ≡ n.active + 1 = min-eq_left (omega (arith, less)) in
-        inr (omega (arith, is, h.0), omega (arith, is, h.0, le-max_right n.peak (min (n.active + 1) (2 ^ 64 - 1))))
-    by false e =
-        let more = ltb-false n.active (2 ^ 64 - 1) e in
-        let is : min (n.active + 1) (2 ^ 64 - 1) ≡ 2 ^ 64 - 1 = min-eq_right (omega (arith, more)) in
-        inl (omega (arith, is, le-max_right n.peak (min (n.active + 1) (2 ^ 64 - 1))))
+    by : (b : Bool) → nat_lt n.active (2 ^ 64 - 1) ≡ b → (2 ^ 64 - 1 ≤ max n.peak (min (n.active + 1) (2 ^ 64 - 1)))
+        ⊎ ((n.active + 1 ≤ min (n.active + 1) (2 ^ 64 - 1))
+        × (n.active + 1 ≤ max n.peak (min (n.active + 1) (2 ^ 64 - 1))))
+    by true e = let less = ltb-true n.active (2 ^ 64 - 1) e in inr (omega (arith, less), omega (arith, less))
+    by false e = let more = ltb-false n.active (2 ^ 64 - 1) e in inl (omega (arith, more))
+
+pub one_deeper : (a : ℕ) (n : Nesting) → Goes a n → Goes (a + 1) (entered n)
+one_deeper a n (inl top) = inl (omega (arith, top))
+one_deeper a n (inr h) = goes_less (a + 1) (n.active + 1) (entered n) (omega (arith, h.0)) (entered_goes n)
 
 pub enters : (a m : ℕ) (n : Nesting) → Grows a m n → Grows (a + 1) m (entered n)
 enters a m n h =
-    record { goes = one_deeper a n h.goes; peak = omega (arith, h.peak, le-max_left n.peak (one_more n.active)) }
+    record { goes = one_deeper a n h.goes; peak = omega (arith, h.peak) }
 
 left_goes : (a : ℕ) (n : Nesting) → Goes (a + 1) n → Goes a (left_one n)
 left_goes a n (inl top) = inl top

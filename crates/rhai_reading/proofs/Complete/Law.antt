@@ -11,19 +11,21 @@ use Rattle.rhai_grammar.specs.Beginnings.{calling, excludes_use}
 use Rattle.rhai_grammar.specs.declared.filter.ExprFilter.{ExprFilter}
 use Rattle.rhai_grammar.specs.Strengths.{Follower, follower_of, is_operator, strength}
 use Rattle.rhai_grammar.specs.Forms.{Primary, Base, Links, Operand, Arguments, Items, Elements, Fields, Run, Just}
-use Rattle.rhai_grammar.specs.Forms.{Binary, ClosureBody}
+use Rattle.rhai_grammar.specs.Forms.{Binary, ClosureBody, Body, Branch, Conditional, Construct, ExprStatement}
+use Rattle.rhai_grammar.specs.Forms.{Initializer, JumpValue, Segments, Statement, Statements, Action, Arms, CaseGuard}
+use Rattle.rhai_grammar.specs.Forms.{Cases}
 use Rattle.rhai_reading.proofs.ClosureKinds.{closure_bodies}
 use Rattle.rhai_grammar.specs.Trees.{is_variable, primary_tree, base_tree, argument_trees, tree}
-use Rattle.rhai_grammar.specs.Depths.{action_depth, arguments_depth, arms_depth, base_depth, body_depth, branch_depth, case_guard_depth}
-use Rattle.rhai_grammar.specs.Depths.{cases_depth, closure_body_depth, conditional_depth, construct_depth, elements_depth}
-use Rattle.rhai_grammar.specs.Depths.{expr_statement_depth, fields_depth, initializer_depth, items_depth, jump_value_depth}
-use Rattle.rhai_grammar.specs.Depths.{links_depth, operand_depth, primary_depth, run_depth, segments_depth, statement_depth}
-use Rattle.rhai_grammar.specs.Depths.{statements_depth}
+use Rattle.rhai_grammar.specs.Depths.{action_depth, arguments_depth, arms_depth, base_depth, body_depth, branch_depth}
+use Rattle.rhai_grammar.specs.Depths.{case_guard_depth, cases_depth, closure_body_depth, conditional_depth}
+use Rattle.rhai_grammar.specs.Depths.{construct_depth, elements_depth, expr_statement_depth, fields_depth}
+use Rattle.rhai_grammar.specs.Depths.{initializer_depth, items_depth, jump_value_depth, links_depth, operand_depth}
+use Rattle.rhai_grammar.specs.Depths.{primary_depth, run_depth, segments_depth, statement_depth, statements_depth}
 use Rattle.rhai_grammar.specs.Demands.{Verdict, Fine, Demands, verdict, Met}
 use Rattle.rhai_grammar.specs.Written as W
 use Rattle.rhai_grammar.specs.Spots.{LinkSpot, Height, Side, Outermost, RightOf, Spot, filter_of, height_after}
-use Rattle.rhai_grammar.specs.Verdicts.{operator_known}
 use Rattle.rhai_grammar.specs.Spots.{side_fits, left_fits}
+use Rattle.rhai_grammar.specs.Verdicts.{operator_known}
 use Rattle.rhai_reading.specs.Reading as R
 use Rattle.rhai_reading.specs.Reading.{Goal, Val, Prog, Ret, Peek, Take, Call, list_on, body}
 use Rattle.rhai_reading.specs.Histories.{State, Outcome, Done}
@@ -32,19 +34,16 @@ use Rattle.rhai_grammar.specs.Starts.{place_after}
 use Rattle.rhai_grammar.specs.declared.role.OperandPlace.TheVariants.{Elsewhere}
 use Rattle.rhai_reading.proofs.Rules.{at}
 use Rattle.rhai_reading.proofs.Shows.{Kind}
-use Rattle.rhai_reading.proofs.FormKinds.{expressions, operands, items, elements, fields, links}
-use Rattle.rhai_reading.proofs.FormKinds.{expr_statements, initializers, statements, statement_lists, blocks}
+use Rattle.rhai_reading.proofs.FormKinds.{expressions, operands, items, elements, fields, links, expr_statements}
+use Rattle.rhai_reading.proofs.FormKinds.{initializers, statements, statement_lists, blocks, InsideForm, ManyInside}
+use Rattle.rhai_reading.proofs.FormKinds.{SingleInside, insides, jump_values, segments}
 use Rattle.rhai_lower.specs.Nodes as node
 use Rattle.rhai_grammar.specs.Forms as form
-use Rattle.rhai_grammar.specs.Forms.{Body, Branch, Conditional, Construct, ExprStatement, Initializer, JumpValue}
-use Rattle.rhai_grammar.specs.Forms.{Segments, Statement, Statements}
-use Rattle.rhai_grammar.specs.Forms.{Action, Arms, CaseGuard, Cases}
 use Rattle.rhai_grammar.specs.Switches.{Collected}
 use Rattle.rhai_reading.proofs.SwitchKinds.{actions, arm_lists, case_guards, cases}
 use Rattle.rhai_grammar.specs.Constructs.{kind_of}
 use Rattle.rhai_reading.proofs.ConstructKinds.{branches, conditionals, constructs}
 use Rattle.rhai_grammar.specs.declared.role.OperandPlace.{OperandPlace}
-use Rattle.rhai_reading.proofs.FormKinds.{InsideForm, ManyInside, SingleInside, insides, jump_values, segments}
 use Rattle.rhai_grammar.specs.declared.role.Closing.{Closing}
 use Rattle.rhai_reading.proofs.Reaches.{Reaches}
 use Rattle.rhai_reading.proofs.Looks.{op_at, follower_at, climb}
@@ -100,7 +99,7 @@ pub record Reads (f : Run) (q : Spot) (k : Demands) (s : Point) (b : Bool) (t : 
   pub end : Point
   pub met : Met k end t
   pub looked : Bool
-  -- how deep the first operand is, and how high the peak is after the others
+  -- how deep the first operand is, and how high the peak is after the others, from where it was before them
   pub here : ℕ
   pub others : ℕ → ℕ
   pub deep : (z : ℕ) → max (run_depth f) z ≤ others (max here z)
@@ -140,13 +139,13 @@ abbrev pub OperandRead : Operand → Type 0
 OperandRead x =
     (c : Context) (w : Live) (place : OperandPlace) → IsRead (operand_depth x) (R.RightOperand c w place) (operands c w place) x
 
--- one that no sign or operator stands before
+-- one that is written, wherever it stands
 abbrev pub WrittenRead : Operand → Type 0
 WrittenRead x =
     (c : Context) (w : Live) (place : OperandPlace)
     → IsRead (operand_depth x) (R.Operand c w) (operands c w place) x
 
--- the first operand of a run
+-- one that stands on the right of no operator
 abbrev pub FirstRead : Operand → Type 0
 FirstRead x = (c : Context) (w : Live) → IsRead (operand_depth x) (R.Operand c w) (operands c w Elsewhere) x
 
