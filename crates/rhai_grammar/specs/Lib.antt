@@ -48,6 +48,7 @@ pub mod RowsOfConstructs
 pub mod RowsOfModules
 pub mod RowsOfFunctions
 pub mod RowsOfClosures
+pub mod Depths
 pub mod StartLaws
 pub mod ClosureLaws
 pub mod SlotLaws
