@@ -6,7 +6,8 @@ ghost use Rattle.rhai_grammar.specs.Laws.{FormsAreSpelled, FormsFitWhereverSpell
 ghost use Rattle.rhai_grammar.specs.Rows.{CallRow, EndedRow, FlatRow, LateRow, MinusRow, OpenRow};
 ghost use Rattle.rhai_grammar.specs.Rows.{PairRow, RangedRow, SizedRow, SumRow};
 ghost use Rattle.rhai_grammar.specs.RowsOfChains.{CaptureRow, GroupedRow, JoinedRow, QuestionedRow};
-ghost use Rattle.rhai_grammar.specs.RowsOfClosures.{ClosureSumRow, DotRow, EmptyBodyRow, FunctionNameRow, MemberRow, NestedRow, SlotRow};
+ghost use Rattle.rhai_grammar.specs.RowsOfClosures.{CaseRow, ClosureSumRow, DotRow, EmptyBodyRow, FunctionNameRow};
+ghost use Rattle.rhai_grammar.specs.RowsOfClosures.{MemberRow, NestedRow, SecondFunctionRow, SlotRow};
 ghost use Rattle.rhai_grammar.specs.RowsOfConstructs.{ArmRow, BreakRow, DefaultRow, IntegerRow, LoopRow, PipeRow};
 ghost use Rattle.rhai_grammar.specs.RowsOfFunctions.{FunctionRow};
 ghost use Rattle.rhai_grammar.specs.RowsOfModules.{ExportedRow, TwiceRow};
@@ -353,4 +354,16 @@ pub fn function_name_row()
 #[tactic(auto, using(crate::proofs::ClosureRowLemmas::dot_row))]
 pub fn dot_row()
     ensures { DotRow }
+{}
+
+/// In `switch 1 { || 1 | 2 => 3 }` the case is the closure of `1 | 2`.
+#[tactic(auto, using(crate::proofs::ClosureRowLemmas::case_row))]
+pub fn case_row()
+    ensures { CaseRow }
+{}
+
+/// `fn f() { || 1 }` is refused at its `||` where there may be one function.
+#[tactic(auto, using(crate::proofs::ClosureRowLemmas::second_function_row))]
+pub fn second_function_row()
+    ensures { SecondFunctionRow }
 {}
