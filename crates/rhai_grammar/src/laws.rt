@@ -300,8 +300,8 @@ pub fn scopes_close()
     ensures { ScopesClose }
 {}
 
-/// The parameters of a closure are the names that it captures, and then its own; `curry` has the captured ones, in the
-/// same order.
+/// The parameters of a closure are the names that it captures, and then its own; `curry` has the pointer to it and the
+/// captured ones, in the same order.
 #[tactic(auto, using(crate::proofs::ClosureLemmas::parameters_are_captured))]
 pub fn parameters_are_captured()
     ensures { ParametersAreCaptured }
