@@ -26,6 +26,7 @@ pub mod Interpolations
 pub mod Trees
 pub mod Uses
 pub mod Closures
+pub mod UsesOfForms
 pub mod Demands
 pub mod Constructs
 pub mod Statements
