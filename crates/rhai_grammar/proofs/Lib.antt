@@ -4,6 +4,10 @@ pub mod Leads
 pub mod SpellingLemmas
 pub mod StreamLemmas
 pub mod ClosureLemmas
+pub mod EventSteps
+pub mod EventParts
+pub mod EventLemmas
+pub mod CaptureLemmas
 pub mod RowLemmas
 pub mod StatementRowLemmas
 pub mod StringRowLemmas

@@ -1,5 +1,5 @@
--- Laws of closures that users rely on: what their parameters are, what `curry` hands over, and where captured names are
--- used.
+-- Laws of closures that users rely on: what their parameters are, what `curry` hands over, which names are captured,
+-- and where these are used.
 use Rattle.std.specs.Prelude.{◌≡◌, ◌⊎◌, ℕ, Bool, true, false, ◌++◌, List, [], ◌∷◌, None, Option, length, map}
 use Rattle.std.specs.Option.{is_some}
 use Rattle.rhai_lower.specs.Nodes as node
@@ -11,14 +11,16 @@ use Rattle.rhai_grammar.specs.Closures.{bars_at, closure_name, curry, declared_n
 use Rattle.rhai_grammar.specs.Contexts.{Context, Live}
 use Rattle.rhai_grammar.specs.Delivered.{Point}
 use Rattle.rhai_grammar.specs.Demands.{Met, Nothing}
-use Rattle.rhai_grammar.specs.Forms.{Closure, ClosureBody, ClosureHead}
+use Rattle.rhai_grammar.specs.Forms.{Closure, ClosureBody, ClosureHead, Run, Statement, Statements}
 use Rattle.rhai_grammar.specs.Imports.{is_among}
-use Rattle.rhai_grammar.specs.Libraries.{is_function}
+use Rattle.rhai_grammar.specs.Libraries.{closure_count, is_function}
 use Rattle.rhai_grammar.specs.Settings.{in_closure}
 use Rattle.rhai_grammar.specs.Slots.{number}
 use Rattle.rhai_grammar.specs.Trees.{closure_tree, named_by, primary_tree}
 use Rattle.rhai_grammar.specs.Uses.{Use, names_of}
-use Rattle.rhai_grammar.specs.Written.{primary}
+use Rattle.rhai_grammar.specs.UsesOfForms.{ended_in, events, first_uses, free_uses, own_events, primary_events}
+use Rattle.rhai_grammar.specs.UsesOfForms.{script_events, statement_events, uses_in, with_uses}
+use Rattle.rhai_grammar.specs.Written.{primary, statement, whole_expression, whole_script}
 use Rattle.rhai_grammar.specs.declared.role.OperandPlace.{OperandPlace}
 
 -- the names of variables
@@ -78,3 +80,32 @@ pub record CapturedAreUsed : Type 0 where
       → in_closure context.settings ≡ true → (name : Text) → is_among name (names_of captured) ≡ true
       → (is_some (number name live.slots) ≡ true) ⊎ ((is_function t.library name ≡ true)
       ⊎ (is_among name (names_of t.captured) ≡ true))
+
+-- A closure that fits captures those names of its body's uses that, at the use, no live slot of the closure has and no
+-- function that has ended bears, each at its first use. Its number is the count of the closures that have ended before
+-- it, those in its body among them. In the form around it, its uses are the names that it captures.
+pub record CapturedAreFreeUses : Type 0 where
+  pub captured : (context : Context) (live : Live) (place : OperandPlace) (head : ClosureHead) (body : ClosureBody)
+      (n : ℕ) (captured : List Use) (s t : Point)
+      → Met (primary (Closure head body n captured) context live place Nothing) s t
+      → captured ≡ first_uses (free_uses (own_events head body) s.library)
+  pub number : (context : Context) (live : Live) (place : OperandPlace) (head : ClosureHead) (body : ClosureBody)
+      (n : ℕ) (captured : List Use) (s t : Point)
+      → Met (primary (Closure head body n captured) context live place Nothing) s t
+      → n ≡ closure_count (s.library ++ ended_in (own_events head body))
+  pub around : (head : ClosureHead) (body : ClosureBody) (n : ℕ) (captured : List Use) (live : Live) (called : Bool) →
+      uses_in (primary_events (Closure head body n captured) live called) ≡ captured
+
+-- After a whole expression or script the functions are those before it, and those that end in it, in the order in which
+-- they end. A statement in a closure captures its free uses; elsewhere nothing is captured.
+pub record FormsLeaveTheirEvents : Type 0 where
+  pub expression : (context : Context) (live : Live) (f : Run) (s t : Point) → Met (whole_expression f context live) s t
+      → t.library ≡ s.library ++ ended_in (events f live)
+  pub script : (context : Context) (live : Live) (fs : Statements) (s t : Point)
+      → Met (whole_script fs context live) s t
+      → t.library ≡ s.library ++ ended_in (script_events fs live)
+  pub inside : (context : Context) (live : Live) (f : Statement) (s t : Point) → in_closure context.settings ≡ true
+      → Met (statement f context live Nothing) s t
+      → t.captured ≡ with_uses s.captured (free_uses (statement_events f live) s.library)
+  pub outside : (context : Context) (live : Live) (f : Statement) (s t : Point) → in_closure context.settings ≡ false
+      → Met (statement f context live Nothing) s t → t.captured ≡ s.captured

@@ -267,11 +267,17 @@ second_begun =
 abbrev pub second_rest : List (Lexeme × ℕ)
 second_rest = (Integer (pos 1), 13) ∷ (Sign token.RightBrace, 15) ∷ []
 
+abbrev pub second_body : form.Body
+second_body =
+    form.Many (form.LastStatement (evaluates (closure (bars 10) (evaluating (number 1 13)) 0 []))) (place 1 15)
+
+abbrev pub second_function : form.Statement
+second_function =
+    form.Function None (place 1 1) form.NoOwner (codes "f") (place 1 4) (form.EmptyParameters (place 1 5)) (place 1 8)
+    second_body
+
 abbrev pub second_form : Statements
-second_form =
-    form.Standing (form.Function None (place 1 1) form.NoOwner (codes "f") (place 1 4)
-    (form.EmptyParameters (place 1 5)) (place 1 8) (form.Many (form.LastStatement (evaluates (closure (bars 10) (evaluating (number 1 13)) 0 []))) (
-    place 1 15))) form.NoStatement
+second_form = form.Standing second_function form.NoStatement
 
 abbrev pub room_for_one : Context
 room_for_one =

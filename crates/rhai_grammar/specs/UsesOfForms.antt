@@ -13,8 +13,8 @@ use Rattle.rhai_grammar.specs.Contexts.{Live, in_block}
 use Rattle.rhai_grammar.specs.Definitions.{after_statement, catch_live, loop_live}
 use Rattle.rhai_grammar.specs.Forms as form
 use Rattle.rhai_grammar.specs.Forms.{Action, Arguments, Arms, Base, Body, Branch, CaseGuard, Cases, ClosureBody}
-use Rattle.rhai_grammar.specs.Forms.{Conditional, Construct, Elements, ExprStatement, Fields, Initializer, Items}
-use Rattle.rhai_grammar.specs.Forms.{JumpValue, Links, Operand, Primary, Run, Segments, Statement, Statements}
+use Rattle.rhai_grammar.specs.Forms.{ClosureHead, Conditional, Construct, Elements, ExprStatement, Fields, Initializer}
+use Rattle.rhai_grammar.specs.Forms.{Items, JumpValue, Links, Operand, Primary, Run, Segments, Statement, Statements}
 use Rattle.rhai_grammar.specs.Functions.{parameter_names, parameters_live}
 use Rattle.rhai_grammar.specs.Libraries.{Ended, Library, is_function, with_ended}
 use Rattle.rhai_grammar.specs.Modules.{is_scoped}
@@ -207,9 +207,17 @@ free_uses (Used u slots ∷ more) library =
     let rest = free_uses more library in if is_free slots library u.name then u ∷ rest else rest
 free_uses (HasEnded e ∷ more) library = free_uses more (with_ended library e)
 
+-- uses with more of them; of each name the first use is kept
+abbrev pub with_uses : List Use → (more : List Use) → List Use
+with_uses uses more = fold with_use uses more
+
 -- of each name the first use
 abbrev pub first_uses : List Use → List Use
-first_uses uses = fold with_use [] uses
+first_uses uses = with_uses [] uses
+
+-- the events of a closure's body
+abbrev pub own_events : ClosureHead → ClosureBody → List Event
+own_events head body = closure_events body (parameters_live (declared_names head))
 
 -- ---- an example
 

@@ -1,6 +1,7 @@
 //! Laws of the definitions, as contracts of functions that do nothing.
 
-ghost use Rattle.rhai_grammar.specs.ClosureLaws.{CapturedAreUsed, ParametersAreCaptured};
+ghost use Rattle.rhai_grammar.specs.ClosureLaws.{CapturedAreFreeUses, CapturedAreUsed, FormsLeaveTheirEvents};
+ghost use Rattle.rhai_grammar.specs.ClosureLaws.{ParametersAreCaptured};
 ghost use Rattle.rhai_grammar.specs.Laws.{ChainsAreJoined, EntriesAreDelivered, FormsAreFair};
 ghost use Rattle.rhai_grammar.specs.Laws.{FormsAreSpelled, FormsFitWhereverSpelled, StreamsAreWhole, TreesKeepShape};
 ghost use Rattle.rhai_grammar.specs.Rows.{CallRow, EndedRow, FlatRow, LateRow, MinusRow, OpenRow};
@@ -311,6 +312,19 @@ pub fn parameters_are_captured()
 #[tactic(auto, using(crate::proofs::ClosureLemmas::captured_are_used))]
 pub fn captured_are_used()
     ensures { CapturedAreUsed }
+{}
+
+/// What a closure captures are the uses in its body that no live slot of it has there, and no function that has ended,
+/// each name at its first use. Its number is the count of closures that have ended before it.
+#[tactic(auto, using(crate::proofs::CaptureLemmas::captured_are_free_uses))]
+pub fn captured_are_free_uses()
+    ensures { CapturedAreFreeUses }
+{}
+
+/// The functions after a form are those before it and those that end in it. Names are captured in closures alone.
+#[tactic(auto, using(crate::proofs::CaptureLemmas::forms_leave_their_events))]
+pub fn forms_leave_their_events()
+    ensures { FormsLeaveTheirEvents }
 {}
 
 /// `|| x in y` captures `x`, and then `y`.
