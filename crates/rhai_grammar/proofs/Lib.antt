@@ -18,6 +18,7 @@ pub mod ClosureRowLemmas
 pub mod BeginningLemmas
 pub mod StartLemmas
 pub mod SlotLemmas
+pub mod LibraryLemmas
 pub mod ChainLemmas
 pub mod FairLemmas
 pub mod SwitchLemmas

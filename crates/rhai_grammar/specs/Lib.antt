@@ -52,4 +52,6 @@ pub mod RowsOfClosures
 pub mod StartLaws
 pub mod ClosureLaws
 pub mod SlotLaws
+pub mod NumberedLibraries
+pub mod LibraryLaws
 pub mod Imports

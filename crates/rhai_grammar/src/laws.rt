@@ -4,6 +4,7 @@ ghost use Rattle.rhai_grammar.specs.ClosureLaws.{CapturedAreFreeUses, CapturedAr
 ghost use Rattle.rhai_grammar.specs.ClosureLaws.{ParametersAreCaptured};
 ghost use Rattle.rhai_grammar.specs.Laws.{ChainsAreJoined, EntriesAreDelivered, FormsAreFair};
 ghost use Rattle.rhai_grammar.specs.Laws.{FormsAreSpelled, FormsFitWhereverSpelled, StreamsAreWhole, TreesKeepShape};
+ghost use Rattle.rhai_grammar.specs.LibraryLaws.{NumbersAreKept};
 ghost use Rattle.rhai_grammar.specs.Rows.{CallRow, EndedRow, FlatRow, LateRow, MinusRow, OpenRow};
 ghost use Rattle.rhai_grammar.specs.Rows.{PairRow, RangedRow, SizedRow, SumRow};
 ghost use Rattle.rhai_grammar.specs.RowsOfChains.{CaptureRow, GroupedRow, JoinedRow, QuestionedRow};
@@ -325,6 +326,13 @@ pub fn captured_are_free_uses()
 #[tactic(auto, using(crate::proofs::CaptureLemmas::forms_leave_their_events))]
 pub fn forms_leave_their_events()
     ensures { FormsLeaveTheirEvents }
+{}
+
+/// A library whose closures are numbered stays so with one more closure of the next number, and with one more function
+/// that is no closure. In it the key of the next closure is new.
+#[tactic(auto, using(crate::proofs::LibraryLemmas::numbers_are_kept))]
+pub fn numbers_are_kept()
+    ensures { NumbersAreKept }
 {}
 
 /// `|| x in y` captures `x`, and then `y`.
