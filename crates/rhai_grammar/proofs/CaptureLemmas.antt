@@ -1,5 +1,5 @@
 -- What closures capture, by what happens in their bodies.
-use Rattle.std.proofs.Common.{◌≡◌, ℕ, Bool, true, ◌++◌, List, [], ◌∷◌, refl, sym, ap, ◌∙◌}
+use Rattle.std.proofs.Common.{◌≡◌, ℕ, Bool, true, false, ◌++◌, List, [], ◌∷◌, refl, sym, ap, ◌∙◌}
 use Rattle.rhai_input.specs.Slots.{SlotValue}
 use Rattle.rhai_grammar.specs.ClosureLaws.{CapturedAreFreeUses, FormsLeaveTheirEvents}
 use Rattle.rhai_grammar.specs.Closures.{declared_names, in_closure}
@@ -8,10 +8,9 @@ use Rattle.rhai_grammar.specs.Delivered as D
 use Rattle.rhai_grammar.specs.Delivered.{Point, code, past, with_captured}
 use Rattle.rhai_grammar.specs.Demands.{Demands, Met, Nothing}
 use Rattle.rhai_grammar.specs.Forms as form
-use Rattle.rhai_grammar.specs.Forms.{ClosureBody, ClosureHead}
+use Rattle.rhai_grammar.specs.Forms.{ClosureBody, ClosureHead, Run, Statements}
 use Rattle.rhai_grammar.specs.Functions.{parameters_live}
 use Rattle.rhai_grammar.specs.Libraries.{Ended, closure_count}
-use Rattle.rhai_grammar.specs.Settings as S
 use Rattle.rhai_grammar.specs.Trees.{closure_tree}
 use Rattle.rhai_grammar.specs.Uses.{Use}
 use Rattle.rhai_grammar.specs.UsesOfForms.{Event, HasEnded, Used, ended_in, ends_only, events, first_uses, free_uses}
@@ -21,7 +20,8 @@ use Rattle.rhai_grammar.specs.declared.role.Closing.TheVariants.{EndMark}
 use Rattle.rhai_grammar.specs.declared.role.OperandPlace.{OperandPlace}
 use Rattle.rhai_grammar.proofs.EventLemmas as happens
 use Rattle.rhai_grammar.proofs.EventParts.{closure_parameters, expressed}
-use Rattle.rhai_grammar.proofs.EventSteps.{Does, all_of, captured_is, captured_outside, here, is_closure, library_is, next, on}
+use Rattle.rhai_grammar.proofs.EventEffects.{captured_is, captured_outside, library_is}
+use Rattle.rhai_grammar.proofs.EventSteps.{Does, Scope, all_of, deeper, here, is_closure, next, on, scope_of}
 
 -- what is known where the body of a closure ends
 record Ran (head : ClosureHead) (body : ClosureBody) (n : ℕ) (us : List Use) (s : Point) : Type 0 where
@@ -31,11 +31,13 @@ record Ran (head : ClosureHead) (body : ClosureBody) (n : ℕ) (us : List Use) (
 ran : (c : Context) (w : Live) (p : OperandPlace) (head : ClosureHead) (f : ClosureBody) (n : ℕ) (us : List Use) (s t : Point)
     → Met (W.primary (form.Closure head f n us) c w p Nothing) s t → Ran head f n us s
 ran c w p head f n us s t m =
-    let a = (closure_parameters {q = true} head _).did (past code s) t m.1.1.1 in
+    let q = scope_of c in
+    let a = (closure_parameters {q = q} head _).did (past code s) t m.1.1.1 in
     let m2 = a.met.1 in
     let inner = level_up (in_closure c w) in
     let es = own_events head f in
-    let b = (happens.closure_body f inner (parameters_live (declared_names head)) Nothing (is_closure c w)).did
+    let b = (happens.closure_body {q = deeper true q} f inner (parameters_live (declared_names head)) Nothing
+    (is_closure {q = q} c w (refl, refl, refl))).did
     (D.apart a.end) m2.0 m2.1 in
     let there : b.end ≡ m2.0 = b.met in
     record {
@@ -61,23 +63,34 @@ captured_are_free_uses = record {
   around = λ head f n us w called. uses_around (own_events head f) w.slots us (closure_tree head f n us);
 }
 
-left : (q : Bool) (es : List Event) (ds : Demands) (s t : Point) → Does q es ds Nothing → Met ds s t
+left : (q : Scope) (es : List Event) (ds : Demands) (s t : Point) → Does q es ds Nothing → Met ds s t
     → t.library ≡ s.library ++ ended_in es
 left q es ds s t h m =
     let r = h.did s t m in
     sym (ap (λ (x : Point). x.library) r.met) ∙ r.library ∙ library_is es s.library
 
+-- whole expressions and scripts
+pub whole_expression : (c : Context) (w : Live) (f : Run) → Does (scope_of c) (events f w) (W.whole_expression f c w) Nothing
+whole_expression c w f =
+    all_of (on (expressed f c w (happens.run f _ _ (refl, refl, refl) (refl, refl, refl))) (next here))
+
+pub whole_script : (c : Context) (w : Live) (fs : Statements)
+    → Does (scope_of c) (script_events fs w) (W.whole_script fs c w) Nothing
+whole_script c w fs = happens.statements fs EndMark c w Nothing (refl, refl, refl)
+
+-- a scope in a closure or not
+abbrev scope_by : Bool → Context → Scope
+scope_by b c = record { inside = b; begun = c.begun; functions = c.sizes.functions }
+
 pub forms_leave_their_events : FormsLeaveTheirEvents
 forms_leave_their_events = record {
-  expression = λ c w f s t m. left (S.in_closure c.settings) (events f w) (W.whole_expression f c w) s t
-      (all_of (on (expressed f c w (happens.run f _ _ refl refl)) (next here))) m;
-  script = λ c w fs s t m. left (S.in_closure c.settings) (script_events fs w) (W.whole_script fs c w) s t
-      (happens.statements fs EndMark c w Nothing refl) m;
+  expression = λ c w f s t m. left (scope_of c) (events f w) (W.whole_expression f c w) s t (whole_expression c w f) m;
+  script = λ c w fs s t m. left (scope_of c) (script_events fs w) (W.whole_script fs c w) s t (whole_script c w fs) m;
   inside = λ c w f s t i m.
-      let r = (happens.statement f c w Nothing i).did s t m in
+      let r = (happens.statement {q = scope_by true c} f c w Nothing (i, refl, refl)).did s t m in
       sym (ap (λ (x : Point). x.captured) r.met) ∙ r.captured ∙ captured_is (statement_events f w) s.library s.captured;
   outside = λ c w f s t i m.
-      let r = (happens.statement f c w Nothing i).did s t m in
+      let r = (happens.statement {q = scope_by false c} f c w Nothing (i, refl, refl)).did s t m in
       sym (ap (λ (x : Point). x.captured) r.met) ∙ r.captured
       ∙ captured_outside (statement_events f w) s.library s.captured;
 }

@@ -1,8 +1,9 @@
 -- What happens along the demands of each form.
-use Rattle.std.proofs.Common.{ℕ, ◌+◌, Bool, true, false}
+use Rattle.std.proofs.Common.{◌≡◌, ℕ, ◌+◌, Bool, true, false, Option, length, refl}
 use Rattle.std.specs.Prelude.{Some, None}
 use Rattle.rhai_lower.specs.Lexemes.{Lexeme, text_of}
 use Rattle.rhai_lower.specs.Nodes.{Properties, no_properties, position_of, property, with_property}
+use Rattle.rhai_lower.specs.Texts.{Text}
 use Rattle.rhai_lower.specs.declared.position.Position.{Position}
 use Rattle.rhai_grammar.specs.Chains.{index_refusal, last_fault}
 use Rattle.rhai_grammar.specs.Closures.{declared_names, in_closure}
@@ -15,7 +16,7 @@ use Rattle.rhai_grammar.specs.Forms.{Action, Alias, Arguments, Arms, Base, Body,
 use Rattle.rhai_grammar.specs.Forms.{ClosureBody, ClosureHead, Conditional, Construct, Elements, ExprStatement, Fields}
 use Rattle.rhai_grammar.specs.Forms.{Initializer, Items, JumpValue, Links, LoopNames, Operand, Owner, ParameterList}
 use Rattle.rhai_grammar.specs.Forms.{Parameters, Path, Primary, Run, Segments, Statement, Statements}
-use Rattle.rhai_grammar.specs.Functions.{in_function, parameter_names, parameters_live}
+use Rattle.rhai_grammar.specs.Functions.{in_function, names_function, owner_of, parameter_names, parameters_live}
 use Rattle.rhai_grammar.specs.Modules.{is_qualified, is_scoped, module_fault}
 use Rattle.rhai_grammar.specs.Spots.{LinkSpot, Spot, height_after, place_of}
 use Rattle.rhai_grammar.specs.Spots.{right_side, spot_after_bracket, spot_after_dot, spot_after_operand}
@@ -23,22 +24,22 @@ use Rattle.rhai_grammar.specs.Switches.{Collected, arm_fault, nothing_collected,
 use Rattle.rhai_grammar.specs.Targets.{is_constant_use, target_fault}
 use Rattle.rhai_grammar.specs.Trees.{action_ends, action_tree, argument_trees, base_tree, bracket_link, case_trees, caught}
 use Rattle.rhai_grammar.specs.Trees.{caught_name, counter_of, guard_tree, loop_name, member_link}
-use Rattle.rhai_grammar.specs.Trees.{method_tree, named_tree, primary_tree, tree}
+use Rattle.rhai_grammar.specs.Trees.{function_tree, method_tree, named_tree, primary_tree, tree}
 use Rattle.rhai_grammar.specs.UsesOfForms.{action_events, argument_events, arm_events, base_events}
 use Rattle.rhai_grammar.specs.UsesOfForms.{body_events, branch_events, case_events, closure_events, conditional_events}
 use Rattle.rhai_grammar.specs.UsesOfForms.{construct_events, element_events, evaluation_events, events, field_events}
 use Rattle.rhai_grammar.specs.UsesOfForms.{guard_events, item_events, jump_events, link_events, operand_events}
 use Rattle.rhai_grammar.specs.UsesOfForms.{primary_events, script_events, segment_events, statement_events}
-use Rattle.rhai_grammar.specs.UsesOfForms.{value_events}
+use Rattle.rhai_grammar.specs.UsesOfForms.{ends_only, used_at, value_events}
 use Rattle.rhai_grammar.specs.Verdicts as V
 use Rattle.rhai_grammar.specs.Written as W
 use Rattle.rhai_grammar.specs.declared.role.Closing.{Closing}
 use Rattle.rhai_grammar.specs.declared.role.Closing.TheVariants.{Brace}
 use Rattle.rhai_grammar.specs.declared.role.OperandPlace.{OperandPlace}
 use Rattle.rhai_grammar.specs.declared.role.OperandPlace.TheVariants as place
-use Rattle.rhai_grammar.proofs.EventSteps.{Does, Is, adds, ahead, all_of, apart, here, is_below}
-use Rattle.rhai_grammar.proofs.EventSteps.{is_closure, is_in_loop, is_no_closure, literally, next, on, own, shape, test}
-use Rattle.rhai_grammar.proofs.EventSteps.{test_in, tok}
+use Rattle.rhai_grammar.proofs.EventEnds.{closure_runs, dead_name, ended, function_runs, no_closure}
+use Rattle.rhai_grammar.proofs.EventSteps.{Does, Is, Scope, ahead, all_of, deeper, here, is_below, is_closure, is_in_loop}
+use Rattle.rhai_grammar.proofs.EventSteps.{is_no_closure, literally, next, on, regrouped, shape, test, test_in, tok}
 use Rattle.rhai_grammar.proofs.EventParts.{Follows, bang_follows, banged, call_follows, captured_names, caught_by}
 use Rattle.rhai_grammar.proofs.EventParts.{closure_parameters, expressed, function_at, function_name, guarded}
 use Rattle.rhai_grammar.proofs.EventParts.{iterated, named, other_name, parameter_list, path, plain_follows, raised}
@@ -46,12 +47,34 @@ use Rattle.rhai_grammar.proofs.EventParts.{separated, unfaulted, unused, used}
 
 -- ---- forms
 
-height : {q : Bool} (f : Run) (p : Spot) → Is q p.begins → Is q (height_after p f).settings
+height : {q : Scope} (f : Run) (p : Spot) → Is q p.begins → Is q (height_after p f).settings
 height (form.Just x) p i = i
 height (form.Binary op at l r) p i = height l p i
 
+-- a function around its body
+function_does : {q : Scope} (is_private : Option Position) (at : Position) (owner : Owner) (name : Text)
+    (name_at : Position) (list : ParameterList) (opening : Position) (body : Body) (c : Context) (w : Live) (k : Demands)
+    → Is q c
+    → Does (deeper false q) (body_events body (parameters_live (parameter_names list)))
+    (W.block body (level_up (level_up (in_function c w))) (parameters_live (parameter_names list))
+    (W.function_ends (function_tree is_private owner name list opening body) at k))
+    (W.function_ends (function_tree is_private owner name list opening body) at k)
+    → Does q (statement_events (form.Function is_private at owner name name_at list opening body) w)
+    (W.statement (form.Function is_private at owner name name_at list opening body) c w k) k
+function_does {q = q} is_private at owner name name_at list opening body c w k i h = by (names_function name) refl
+  where
+    by : (b : Bool) → names_function name ≡ b
+        → Does q (statement_events (form.Function is_private at owner name name_at list opening body) w)
+        (W.statement (form.Function is_private at owner name name_at list opening body) c w k) k
+    by true e =
+        on (function_at is_private at) (test (ended c i (test (on (function_name owner name name_at)
+        (on (parameter_list list name _) (tok (test here)))))
+        (function_runs (no_closure (owner_of owner) name (length (parameter_names list)) e) h)))
+    by false e =
+        on (function_at is_private at) (test (test_in (test (dead_name owner name name_at _ e))))
+
 mutual
-  pub primary : {q : Bool} (x : Primary) (called : Bool) (c : Context) (w : Live) (p : OperandPlace) (k : Demands) → Is q c
+  pub primary : {q : Scope} (x : Primary) (called : Bool) (c : Context) (w : Live) (p : OperandPlace) (k : Demands) → Is q c
       → Follows x called k → Does q (primary_events x w called) (W.primary x c w p k) k
   primary (form.Value token at) called c w p k i f = shape (tok here)
   primary (form.Named name at) false c w p k i f = used c w p name at k i f
@@ -66,17 +89,18 @@ mutual
       shape (tok (test (test (construct x (level_up (level_up c)) w at k i))))
   primary (form.Closure head f number us) called c w p k i g =
       let inner = level_up (in_closure c w) in
-      shape (tok (test_in (on (closure_parameters head _) (test (apart
-      (closure_body f inner (parameters_live (declared_names head)) Nothing (is_closure c w))
-      (on (captured_names us c w _ i) (test_in (adds here))))))))
+      let own = ends_only (closure_events f (parameters_live (declared_names head))) in
+      shape (tok (regrouped own (used_at w.slots us) _ (ended c i (on (closure_parameters head _) (test here))
+      (closure_runs w.slots refl (closure_body f inner (parameters_live (declared_names head)) Nothing (is_closure c w i))
+      (captured_names us c w _ i)))))
   primary (form.Zero range at) called c w p k i f = shape (ahead here)
 
-  pub closure_body : {q : Bool} (x : ClosureBody) (c : Context) (w : Live) (k : Demands) → Is q c
+  pub closure_body : {q : Scope} (x : ClosureBody) (c : Context) (w : Live) (k : Demands) → Is q c
       → Does q (closure_events x w) (W.closure_body x c w k) k
   closure_body (form.Runs f) c w k i = next (statement f c w k i)
   closure_body (form.NoBody at) c w k i = ahead here
 
-  pub base : {q : Bool} (x : Base) (c : Context) (w : Live) (p : OperandPlace) (k : Demands) → Is q c
+  pub base : {q : Scope} (x : Base) (c : Context) (w : Live) (p : OperandPlace) (k : Demands) → Is q c
       → Does q (base_events x w) (W.base x c w p k) k
   base (form.Plain x names) c w p k i =
       all_of (on (primary x (is_scoped names) c w p _ i (plain_follows x names w k))
@@ -93,7 +117,7 @@ mutual
       (shape (tok (on (banged (is_qualified y) bang)
       (all_of (on (arguments args V.list_due c w (position_of y) _ i) (unfaulted (module_fault c w y))))))))
 
-  pub links : {q : Bool} (x : Links) (p : LinkSpot) (w : Live) (k : Demands) → Is q p.settings → Is q p.brackets
+  pub links : {q : Scope} (x : Links) (p : LinkSpot) (w : Live) (k : Demands) → Is q p.settings → Is q p.brackets
       → Does q (link_events x w) (W.links x p w k) k
   links form.NoLink p w k i j = next (unfaulted (last_fault p.before))
   links (form.Bracket opening at f closing more) p w k i j =
@@ -112,7 +136,7 @@ mutual
       shape (shape (tok (next (test (tok (next (tok
       (on (arguments args V.list_due (level_up p.settings) w name_at _ i) (links more (spot_after_dot p l) w k i i)))))))))
 
-  pub operand : {q : Bool} (x : Operand) (c : Context) (w : Live) (p : OperandPlace) (k : Demands) → Is q c
+  pub operand : {q : Scope} (x : Operand) (c : Context) (w : Live) (p : OperandPlace) (k : Demands) → Is q c
       → Does q (operand_events x w) (W.operand x c w p k) k
   operand (form.Linked x list) c w p k i =
       on (base x c w p _ i) (all_of (on (links list (spot_after_operand c (base_tree x w)) w _ i i)
@@ -122,19 +146,19 @@ mutual
   operand (form.NoOperand token at) c w p k i = shape (ahead here)
   operand (form.Jump x) c w p k i = next (statement x (below_global c) (in_block w) k (is_below c i))
 
-  pub arguments : {q : Bool} (x : Arguments) (others : Lexeme → Verdict) (c : Context) (w : Live) (name : Position)
+  pub arguments : {q : Scope} (x : Arguments) (others : Lexeme → Verdict) (c : Context) (w : Live) (name : Position)
       (k : Demands) → Is q c → Does q (argument_events x w) (W.arguments x others c w name k) k
   arguments (form.EmptyPair at) others c w name k i = tok here
   arguments (form.Empty opening closing) others c w name k i = tok (tok here)
   arguments (form.Listed opening list) others c w name k i = tok (next (test (items list (level_up c) w k i)))
 
-  pub items : {q : Bool} (x : Items) (c : Context) (w : Live) (k : Demands) → Is q c
+  pub items : {q : Scope} (x : Items) (c : Context) (w : Live) (k : Demands) → Is q c
       → Does q (item_events x w) (W.items x c w k) k
   items (form.Last f closing) c w k i = all_of (on (expressed f c w (run f _ _ i i)) (tok here))
   items (form.Trailing f comma closing) c w k i = all_of (on (expressed f c w (run f _ _ i i)) (tok (tok here)))
   items (form.More f comma more) c w k i = on (expressed f c w (run f _ _ i i)) (tok (next (items more c w k i)))
 
-  pub elements : {q : Bool} (x : Elements) (count : ℕ) (c : Context) (w : Live) (opening : Position) (k : Demands)
+  pub elements : {q : Scope} (x : Elements) (count : ℕ) (c : Context) (w : Live) (opening : Position) (k : Demands)
       → Is q c → Does q (element_events x w) (W.elements x count c w opening k) k
   elements (form.NoElement closing) count c w opening k i = tok here
   elements (form.LastElement f closing) count c w opening k i =
@@ -142,7 +166,7 @@ mutual
   elements (form.Element f comma more) count c w opening k i =
       next (test (on (expressed f (level_up c) w (run f _ _ i i)) (tok (elements more (count + 1) c w opening k i))))
 
-  pub fields : {q : Bool} (x : Fields) (before : Properties) (c : Context) (w : Live) (opening : Position) (k : Demands)
+  pub fields : {q : Scope} (x : Fields) (before : Properties) (c : Context) (w : Live) (opening : Position) (k : Demands)
       → Is q c → Does q (field_events x w) (W.fields x before c w opening k) k
   fields (form.NoField closing) before c w opening k i = tok here
   fields (form.LastField key at colon f closing) before c w opening k i =
@@ -151,39 +175,39 @@ mutual
       let others = fields more (with_property before (text_of key) at (tree f w)) c w opening k i in
       shape (tok (test (tok (next (test (on (expressed f (level_up c) w (run f _ _ i i)) (tok others)))))))
 
-  pub segments : {q : Bool} (x : Segments) (c : Context) (w : Live) (start : Position) (k : Demands) → Is q c
+  pub segments : {q : Scope} (x : Segments) (c : Context) (w : Live) (start : Position) (k : Demands) → Is q c
       → Does q (segment_events x w) (W.segments x c w start k) k
   segments (form.LastSegment opening f last at) c w start k i =
       tok (test (all_of (on (block f (level_up c) w _ i) (tok here))))
   segments (form.Segment opening f more at rest) c w start k i =
       tok (test (on (block f (level_up c) w _ i) (tok (segments rest c w start k i))))
 
-  pub run : {q : Bool} (f : Run) (p : Spot) (k : Demands) → Is q p.first → Is q p.begins
+  pub run : {q : Scope} (f : Run) (p : Spot) (k : Demands) → Is q p.first → Is q p.begins
       → Does q (events f p.live) (W.run f p k) k
   run (form.Just x) p k i j = all_of (on (operand x p.first p.live (place_of p.side) _ i) (next (raised p.side)))
-  run (form.Binary op at l r) p k i j =
+  run {q = q} (form.Binary op at l r) p k i j =
       let side = right_side op (height_after p l) p.live in
-      let h = height l p j in
+      let h = height {q = q} l p j in
       on (run l p _ i j) (shape (shape (shape (tok (all_of (on (run r side _ h h) (next (test (test here)))))))))
 
-  pub evaluation : {q : Bool} (x : ExprStatement) (c : Context) (w : Live) (k : Demands) → Is q c
+  pub evaluation : {q : Scope} (x : ExprStatement) (c : Context) (w : Live) (k : Demands) → Is q c
       → Does q (evaluation_events x w) (W.expr_statement x c w k) k
   evaluation (form.Evaluate f) c w k i = all_of (on (expressed f c w (run f _ _ i i)) (next here))
   evaluation (form.Assign f op at value) c w k i =
       on (expressed f c w (run f _ _ i i)) (shape (tok (all_of (on (expressed value c w (run value _ _ i i))
       (unfaulted (target_fault (is_constant_use w.slots (tree f w)) op at (tree f w)))))))
 
-  pub initializer : {q : Bool} (x : Initializer) (c : Context) (w : Live) (at : Position) (k : Demands) → Is q c
+  pub initializer : {q : Scope} (x : Initializer) (c : Context) (w : Live) (at : Position) (k : Demands) → Is q c
       → Does q (value_events x w) (W.definition_value x c w at k) k
   initializer form.NoValue c w at k i = next here
   initializer (form.Valued equals f) c w at k i = tok (test (expressed f (level_up c) w (run f _ _ i i)))
 
-  pub jump_value : {q : Bool} (x : JumpValue) (c : Context) (w : Live) (at : Position) (k : Demands) → Is q c
+  pub jump_value : {q : Scope} (x : JumpValue) (c : Context) (w : Live) (at : Position) (k : Demands) → Is q c
       → Does q (jump_events x w) (W.jump_value x c w at k) k
   jump_value form.Absent c w at k i = next (test here)
   jump_value (form.Present f) c w at k i = next (test (expressed f (level_up c) w (run f _ _ i i)))
 
-  pub statement : {q : Bool} (x : Statement) (c : Context) (w : Live) (k : Demands) → Is q c
+  pub statement : {q : Scope} (x : Statement) (c : Context) (w : Live) (k : Demands) → Is q c
       → Does q (statement_events x w) (W.statement x c w k) k
   statement (form.EmptyStatement at) c w k i = tok here
   statement (form.Expression x) c w k i = next (next (evaluation x (level_up c) w k i))
@@ -200,11 +224,10 @@ mutual
       tok (test (test (next (test (tok (tok (test (initializer value (level_up (level_up c)) w keyword k i))))))))
   statement (form.Function is_private at owner name name_at list opening body) c w k i =
       let inner = level_up (level_up (in_function c w)) in
-      on (function_at is_private at) (test (test_in (test (on (function_name owner name name_at) (
-      on (parameter_list list name _) (tok (test (on (own
-      (block body inner (parameters_live (parameter_names list)) _ (is_no_closure c w))) (test_in (adds here))))))))))
+      function_does is_private at owner name name_at list opening body c w k i
+      (block body inner (parameters_live (parameter_names list)) _ (is_no_closure c w i))
 
-  pub construct : {q : Bool} (x : Construct) (c : Context) (w : Live) (at : Position) (k : Demands) → Is q c
+  pub construct : {q : Scope} (x : Construct) (c : Context) (w : Live) (at : Position) (k : Demands) → Is q c
       → Does q (construct_events x w) (W.construct x c w at k) k
   construct (form.Block f) c w at k i = block f c w k i
   construct (form.If x) c w at k i = conditional x c w at k i
@@ -223,18 +246,18 @@ mutual
       let inner = catch_live (caught_name (caught name)) w in
       tok (test (on (block f (level_up c) w _ i) (tok (on (caught_by name _) (tok (test (block g (level_up c) inner k i)))))))
 
-  pub conditional : {q : Bool} (x : Conditional) (c : Context) (w : Live) (at : Position) (k : Demands) → Is q c
+  pub conditional : {q : Scope} (x : Conditional) (c : Context) (w : Live) (at : Position) (k : Demands) → Is q c
       → Does q (conditional_events x w) (W.conditional x c w at k) k
   conditional (form.Guarded guard opening f rest) c w at k i =
       on (guarded guard c w (λ j. run guard _ j i i)) (tok (test (on (block f (level_up c) w _ i) (branch rest c w at k i))))
 
-  pub branch : {q : Bool} (x : Branch) (c : Context) (w : Live) (at : Position) (k : Demands) → Is q c
+  pub branch : {q : Scope} (x : Branch) (c : Context) (w : Live) (at : Position) (k : Demands) → Is q c
       → Does q (branch_events x w) (W.branch x c w at k) k
   branch form.NoElse c w at k i = next here
   branch (form.Else else_at opening f) c w at k i = tok (next (tok (test (block f (level_up c) w k i))))
   branch (form.ElseIf else_at if_at x) c w at k i = tok (tok (test (conditional x (level_up c) w if_at k i)))
 
-  pub arms : {q : Bool} (x : Arms) (b : Collected) (c : Context) (w : Live) (k : Demands) → Is q c
+  pub arms : {q : Scope} (x : Arms) (b : Collected) (c : Context) (w : Live) (k : Demands) → Is q c
       → Does q (arm_events x w) (W.arms x b c w k) k
   arms (form.NoArm closing) b c w k i = tok here
   arms (form.Arm xs guard arrow does comma rest) b c w k i =
@@ -245,24 +268,24 @@ mutual
   arms (form.DefaultArm at arrow does comma closing) b c w k i =
       tok (next (tok (all_of (on (action does c w _ i) (on (separated comma (action_ends does w) _) (tok here))))))
 
-  pub cases : {q : Bool} (x : Cases) (c : Context) (w : Live) (k : Demands) → Is q c
+  pub cases : {q : Scope} (x : Cases) (c : Context) (w : Live) (k : Demands) → Is q c
       → Does q (case_events x w) (W.cases x c w k) k
   cases (form.LastCase f) c w k i =
       all_of (literally (expressed f (in_case c) (in_block w) (run f _ _ i i)) (next here))
   cases (form.Case f pipe rest) c w k i =
       literally (expressed f (in_case c) (in_block w) (run f _ _ i i)) (tok (cases rest c w k i))
 
-  pub case_guard : {q : Bool} (x : CaseGuard) (c : Context) (w : Live) (k : Demands) → Is q c
+  pub case_guard : {q : Scope} (x : CaseGuard) (c : Context) (w : Live) (k : Demands) → Is q c
       → Does q (guard_events x w) (W.case_guard x c w k) k
   case_guard form.NoGuard c w k i = next here
   case_guard (form.Guard at f) c w k i = tok (guarded f c w (λ j. run f _ j i i))
 
-  pub action : {q : Bool} (x : Action) (c : Context) (w : Live) (k : Demands) → Is q c
+  pub action : {q : Scope} (x : Action) (c : Context) (w : Live) (k : Demands) → Is q c
       → Does q (action_events x w) (W.action x c w k) k
   action (form.Does f) c w k i = shape (next (statement f (below_global c) (in_block w) k (is_below c i)))
   action (form.Gives f) c w k i = shape (expressed f c w (run f _ _ i i))
 
-  pub statements : {q : Bool} (xs : Statements) (closing : Closing) (c : Context) (w : Live) (k : Demands) → Is q c
+  pub statements : {q : Scope} (xs : Statements) (closing : Closing) (c : Context) (w : Live) (k : Demands) → Is q c
       → Does q (script_events xs w) (W.statements xs closing c w k) k
   statements form.NoStatement closing c w k i = next here
   statements (form.LastStatement f) closing c w k i = next (all_of (on (statement f c w _ i) (shape (next here))))
@@ -271,7 +294,7 @@ mutual
   statements (form.Standing f rest) closing c w k i =
       next (on (statement f c w _ i) (shape (statements rest closing c (after_statement f w) k i)))
 
-  pub block : {q : Bool} (x : Body) (c : Context) (w : Live) (k : Demands) → Is q c
+  pub block : {q : Scope} (x : Body) (c : Context) (w : Live) (k : Demands) → Is q c
       → Does q (body_events x w) (W.block x c w k) k
   block (form.Many fs closing) c w k i =
       shape (all_of (on (statements fs Brace (below_global c) (in_block w) _ (is_below c i)) (tok here)))

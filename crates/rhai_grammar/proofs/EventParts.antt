@@ -1,5 +1,5 @@
 -- What happens along the demands of the parts of forms: names, and what uses none.
-use Rattle.std.proofs.Common.{◌≡◌, Bool, true, false, ◌&&◌, ◌||◌, not, List, [], ◌∷◌, ◌++◌, refl, ap, ◌∙◌, if◌then◌else◌}
+use Rattle.std.proofs.Common.{◌≡◌, ◌⊎◌, inl, inr, Bool, true, false, ◌&&◌, ◌||◌, not, List, [], ◌∷◌, ◌++◌, refl, ap, ◌∙◌, if◌then◌else◌}
 use Rattle.std.specs.Prelude.{Option, Some, None}
 use Rattle.rhai_lower.specs.Lexemes.{Lexeme, Sign}
 use Rattle.rhai_lower.specs.Nodes.{Node}
@@ -9,8 +9,8 @@ use Rattle.rhai_lower.specs.declared.token.Token.TheVariants as token
 use Rattle.rhai_grammar.specs.Beginnings.{calls, excludes_use, qualifies}
 use Rattle.rhai_grammar.specs.Constructs.{guard_fault, iterated_fault}
 use Rattle.rhai_grammar.specs.Contexts.{Context, Live, level_up}
-use Rattle.rhai_grammar.specs.Delivered.{Item, Point, capturing, code, is_memory, item, next_at, past}
-use Rattle.rhai_grammar.specs.Demands.{Demands, Fine, Met, Next, Otherwise, Shape, Tok, Verdict, verdict, ◌▸◌}
+use Rattle.rhai_grammar.specs.Delivered.{Mode, Item, Point, capturing, code, is_memory, item, next_at, past}
+use Rattle.rhai_grammar.specs.Demands.{Missed, Demands, Fine, Met, Next, Otherwise, Shape, Tok, Verdict, verdict, ◌▸◌}
 use Rattle.rhai_grammar.specs.Forms as form
 use Rattle.rhai_grammar.specs.Forms.{Action, Alias, Arguments, Arms, Base, Body, Branch, CaseGuard, Cases, CatchName}
 use Rattle.rhai_grammar.specs.Forms.{ClosureBody, ClosureHead, Conditional, Construct, Elements, ExprStatement, Fields}
@@ -21,6 +21,8 @@ use Rattle.rhai_grammar.specs.Settings as S
 use Rattle.rhai_grammar.specs.Spots.{Outermost, RightOf, Side, outermost}
 use Rattle.rhai_grammar.specs.Trees.{is_variable}
 use Rattle.rhai_grammar.specs.Trees.{named_tree, primary_tree, tree}
+use Rattle.rhai_grammar.specs.Causes.{Refusal}
+use Rattle.rhai_grammar.specs.Libraries.{Library}
 use Rattle.rhai_grammar.specs.Uses.{Use, noted}
 use Rattle.rhai_grammar.specs.UsesOfForms.{Event}
 use Rattle.rhai_grammar.specs.UsesOfForms.{is_free}
@@ -30,88 +32,88 @@ use Rattle.rhai_grammar.specs.Written as W
 use Rattle.rhai_grammar.specs.declared.list.CommaList.{CommaList}
 use Rattle.rhai_grammar.specs.declared.list.CommaList.TheVariants as lists
 use Rattle.rhai_grammar.specs.declared.role.OperandPlace.{OperandPlace}
-use Rattle.rhai_grammar.proofs.EventSteps.{Does, Is, all_of, captures, here}
+use Rattle.rhai_grammar.proofs.EventSteps.{Does, Is, Orderly, Reached, Scope, Within, stop, all_of, captures, here}
 use Rattle.rhai_grammar.proofs.EventSteps.{next, on, shape, test}
 use Rattle.rhai_grammar.proofs.EventSteps.{tok, unfaulted_by}
 
 -- ---- what no names are used in
 
-pub raised : {q : Bool} (side : Side) {k : Demands} → Does q [] (W.raise_after side k) k
+pub raised : {q : Scope} (side : Side) {k : Demands} → Does q [] (W.raise_after side k) k
 raised Outermost = here
 raised (RightOf op height) = test here
 
-pub unfaulted : {q : Bool} (r : Option _) {k : Demands} → Does q [] (W.unfaulted r k) k
+pub unfaulted : {q : Scope} (r : Option _) {k : Demands} → Does q [] (W.unfaulted r k) k
 unfaulted r = unfaulted_by r here
 
 -- the two ends of an expression
-pub expressed : {q : Bool} (f : Run) (c : Context) (w : Live) {es : List Event} {k : Demands}
+pub expressed : {q : Scope} (f : Run) (c : Context) (w : Live) {es : List Event} {k : Demands}
     → Does q es (W.run f (outermost (level_up c) w) (W.ended c k)) (W.ended c k) → Does q es (W.expression f c w k) k
 expressed f c w h = next (all_of (on h (next here)))
 
 -- a guard, and what `for` goes over
-pub guarded : {q : Bool} (f : Run) (c : Context) (w : Live) {es : List Event} {k : Demands}
+pub guarded : {q : Scope} (f : Run) (c : Context) (w : Live) {es : List Event} {k : Demands}
     → ((j : Demands) → Does q es (W.run f (outermost (level_up c) w) j) j)
     → Does q es (W.as_guard (W.run f) (tree f w) c w k) k
 guarded f c w h =
     next (all_of (on (expressed f c w (h _)) (all_of (on (unfaulted (guard_fault (tree f w))) (next here)))))
 
-pub iterated : {q : Bool} (f : Run) (c : Context) (w : Live) {es : List Event} {k : Demands}
+pub iterated : {q : Scope} (f : Run) (c : Context) (w : Live) {es : List Event} {k : Demands}
     → ((j : Demands) → Does q es (W.run f (outermost (level_up c) w) j) j)
     → Does q es (W.as_iterated (W.run f) (tree f w) c w k) k
 iterated f c w h = next (all_of (on (expressed f c w (h _)) (unfaulted (iterated_fault (tree f w)))))
 
-pub path : {q : Bool} (x : Path) (imports : List Text) (y : Node) (k : Demands) → Does q [] (W.path x imports y k) k
+pub path : {q : Scope} (x : Path) (imports : List Text) (y : Node) (k : Demands) → Does q [] (W.path x imports y k) k
 path form.NoPath imports y k = next here
 path (form.Scoped colons name at rest) imports y k = shape (tok (tok (path rest imports (qualified imports y name at) k)))
 
-pub banged : {q : Bool} (x : Bool) (bang : Position) {k : Demands} → Does q [] (W.banged x bang k) k
+pub banged : {q : Scope} (x : Bool) (bang : Position) {k : Demands} → Does q [] (W.banged x bang k) k
 banged false bang = here
 banged true bang = next here
 
-pub other_name : {q : Bool} (x : Alias) (k : Demands) → Does q [] (W.other_name x k) k
+pub other_name : {q : Scope} (x : Alias) (k : Demands) → Does q [] (W.other_name x k) k
 other_name form.NoAlias k = next here
 other_name (form.As as_at name at) k = tok (tok here)
 
-pub named : {q : Bool} (x : LoopNames) (k : Demands) → Does q [] (W.loop_names x k) k
+pub named : {q : Scope} (x : LoopNames) (k : Demands) → Does q [] (W.loop_names x k) k
 named (form.Variable name at) k = tok here
 named (form.Counted opening name at comma counter counter_at closing) k = tok (tok (tok (tok (test (tok here)))))
 
-pub caught_by : {q : Bool} (x : CatchName) (k : Demands) → Does q [] (W.catch_name x k) k
+pub caught_by : {q : Scope} (x : CatchName) (k : Demands) → Does q [] (W.catch_name x k) k
 caught_by form.NoName k = next here
 caught_by (form.Caught opening name at closing) k = tok (tok (tok here))
 
-pub function_at : {q : Bool} (is_private : Option Position) (at : Position) {k : Demands}
+pub function_at : {q : Scope} (is_private : Option Position) (at : Position) {k : Demands}
     → Does q [] (W.function_at is_private at k) k
 function_at None at = tok here
 function_at (Some first) at = tok (tok here)
 
-pub function_name : {q : Bool} (x : Owner) (name : Text) (at : Position) {k : Demands}
+pub function_name : {q : Scope} (x : Owner) (name : Text) (at : Position) {k : Demands}
     → Does q [] (W.function_name x name at k) k
 function_name form.NoOwner name at = tok (next here)
 function_name (form.Of type type_at dot) name at = shape (tok (tok (tok (test here))))
 
-pub parameters : {q : Bool} (x : Parameters) (parts : CommaList) (function : Text) (before : List Text) (k : Demands)
+pub parameters : {q : Scope} (x : Parameters) (parts : CommaList) (function : Text) (before : List Text) (k : Demands)
     → Does q [] (W.parameters x parts function before k) k
 parameters (form.NoParameter closing) parts function before k = tok here
 parameters (form.LastParameter name at closing) parts function before k = tok (test (tok here))
 parameters (form.Parameter name at comma rest) parts function before k =
     tok (test (tok (parameters rest parts function (before ++ name ∷ []) k)))
 
-pub parameter_list : {q : Bool} (x : ParameterList) (function : Text) (k : Demands)
+pub parameter_list : {q : Scope} (x : ParameterList) (function : Text) (k : Demands)
     → Does q [] (W.parameter_list x function k) k
 parameter_list (form.EmptyParameters at) function k = tok here
 parameter_list (form.ListedParameters opening list) function k = tok (parameters list lists.Parameters function [] k)
 
-pub closure_parameters : {q : Bool} (x : ClosureHead) (k : Demands) → Does q [] (W.closure_parameters x k) k
+pub closure_parameters : {q : Scope} (x : ClosureHead) (k : Demands) → Does q [] (W.closure_parameters x k) k
 closure_parameters (form.Bars at) k = here
 closure_parameters (form.Declared opening list) k = parameters list lists.ClosureParameters [] [] k
 
-pub captured_names : {q : Bool} (us : List Use) (c : Context) (w : Live) (k : Demands) → Is q c
+pub captured_names : {q : Scope} (us : List Use) (c : Context) (w : Live) (k : Demands) → Is q c
     → Does q (used_at w.slots us) (W.captured_names us c w k) k
 captured_names [] c w k i = here
 captured_names (u ∷ us) c w k i = captures c w u i (captured_names us c w k i)
 
-pub separated : {q : Bool} (comma : Option Position) (itself : Bool) (k : Demands)
+pub separated : {q : Scope} (comma : Option Position) (itself : Bool) (k : Demands)
     → Does q [] (W.separated comma itself k) k
 separated None itself k = next here
 separated (Some at) itself k = tok here
@@ -181,7 +183,22 @@ bang_follows x (form.Scoped colons name at rest) imports y bang b k e s t m =
     ap (λ (i : Item). excludes_use i.lexeme) m.1.0
 
 -- a name that is used, and one that is not
-pub used : {q : Bool} (c : Context) (w : Live) (p : OperandPlace) (name : Text) (at : Position) (k : Demands) → Is q c
+name_stopped : {q : Scope} (c : Context) (w : Live) (p : OperandPlace) (name : Text) (at : Position) (k : Demands)
+    (l : Library) (s t : Point) (e : Refusal) (n : Mode) → s.library ≡ l
+    → Missed (W.primary (form.Named name at) c w p k) s e n t
+    → (Orderly q s.library → Within q t.library) ⊎ Reached q s.library l k e n t
+name_stopped {q = q} c w p name at k l s t e n same (inl a) = inl (stop q s t a.2)
+name_stopped {q = q} c w p name at k l s t e n same (inr (is, inl a)) = inl (stop q (past code s) t a.2)
+name_stopped {q = q} c w p name at k l s t e n same (inr (is, inr b)) = inr (record {
+  end =
+      capturing (captures_use c w name s.library (next_at code (past code s)).lexeme) (record { name = name; at = at })
+      (past code s);
+  missed = b.1;
+  library = same;
+  orderly = λ g. g;
+})
+
+pub used : {q : Scope} (c : Context) (w : Live) (p : OperandPlace) (name : Text) (at : Position) (k : Demands) → Is q c
     → Follows (form.Named name at) false k
     → Does q (primary_events (form.Named name at) w false) (W.primary (form.Named name at) c w p k) k
 used {q = q} c w p name at k i f = record {
@@ -196,14 +213,16 @@ used {q = q} c w p name at k i f = record {
         library = refl;
         captured =
             ap (λ x. noted (not x && (S.in_closure c.settings && free)) u s.captured) (f refl r t m.1.1)
-            ∙ ap (λ x. noted (x && free) u s.captured) i;
+            ∙ ap (λ x. noted (x && free) u s.captured) i.0;
+        orderly = λ g. g;
       };
+  stopped = λ s t e n m. name_stopped c w p name at k s.library s t e n refl m;
 }
 
-pub unused : {q : Bool} (c : Context) (w : Live) (p : OperandPlace) (name : Text) (at : Position) (k : Demands)
+pub unused : {q : Scope} (c : Context) (w : Live) (p : OperandPlace) (name : Text) (at : Position) (k : Demands)
     → Follows (form.Named name at) true k
     → Does q (primary_events (form.Named name at) w true) (W.primary (form.Named name at) c w p k) k
-unused c w p name at k f = record {
+unused {q = q} c w p name at k f = record {
   did = λ s t m.
       let u : Use = record { name = name; at = at } in
       let l = (next_at code (past code s)).lexeme in
@@ -214,5 +233,7 @@ unused c w p name at k f = record {
         library = refl;
         captured =
             ap (λ x. noted (not x && is_captured c w name s.library) u s.captured) (f refl r t m.1.1);
+        orderly = λ g. g;
       };
+  stopped = λ s t e n m. name_stopped c w p name at k s.library s t e n refl m;
 }

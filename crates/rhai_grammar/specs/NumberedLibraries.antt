@@ -1,12 +1,13 @@
 -- Libraries whose closures are numbered, so that the name of the next closure is new.
-use Rattle.std.specs.Prelude.{◌≡◌, ◌<◌, ℕ, true, false, None, [], ◌∷◌, count_by, refl}
+use Rattle.std.specs.Prelude.{◌≡◌, ◌<◌, ◌≤◌, ◌+◌, ◌^◌, ℕ, true, false, None, [], ◌∷◌, count_by, length, refl}
 use Rattle.std.specs.List.{Contains}
 use Rattle.rhai_lower.specs.Nodes.{braces, no_statements}
 use Rattle.rhai_lower.specs.Positions.{nowhere}
 use Rattle.rhai_lower.specs.Texts.{same_text}
 use Rattle.rhai_grammar.specs.Closures.{closure_name, last_hex_digits}
+use Rattle.rhai_grammar.specs.Functions.{is_new}
 use Rattle.rhai_grammar.specs.Keys.{Key, is_closure}
-use Rattle.rhai_grammar.specs.Libraries.{Ended, Library, closure_count, keys_in}
+use Rattle.rhai_grammar.specs.Libraries.{Ended, Library, closure_count, keys_in, with_ended}
 
 -- how many functions bear the name of the closure with this number
 abbrev pub bearers : Library → (number : ℕ) → ℕ
@@ -17,6 +18,19 @@ pub record IsNumbered (library : Library) : Type 0 where
   pub below : (k : Key) → Contains (keys_in library) k → is_closure k ≡ true
       → (n : ℕ) × (n < closure_count library) × (k.name ≡ closure_name n)
   pub once : (n : ℕ) → n < closure_count library → bearers library n ≡ 1
+
+-- Each of these functions has a key that none before it has.
+abbrev pub AreNew : (before : Library) → Library → Type 0
+AreNew before [] = Unit {0}
+AreNew before (x ∷ more) = (is_new x.key before ≡ true) × AreNew (with_ended before x) more
+
+-- A library that parsing may leave: its closures are numbered, no two functions have one key, and with those that have
+-- begun and not ended they are within the limit, which is a number of at most 64 bits.
+pub record IsOrderly (limit begun : ℕ) (library : Library) : Type 0 where
+  pub numbered : IsNumbered library
+  pub keys : AreNew [] library
+  pub within : length library + begun ≤ limit
+  pub bound : limit ≤ 2 ^ 64
 
 abbrev example_closure : (number : ℕ) → Ended
 example_closure number = record {

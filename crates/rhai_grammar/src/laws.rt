@@ -4,7 +4,7 @@ ghost use Rattle.rhai_grammar.specs.ClosureLaws.{CapturedAreFreeUses, CapturedAr
 ghost use Rattle.rhai_grammar.specs.ClosureLaws.{ParametersAreCaptured};
 ghost use Rattle.rhai_grammar.specs.Laws.{ChainsAreJoined, EntriesAreDelivered, FormsAreFair};
 ghost use Rattle.rhai_grammar.specs.Laws.{FormsAreSpelled, FormsFitWhereverSpelled, StreamsAreWhole, TreesKeepShape};
-ghost use Rattle.rhai_grammar.specs.LibraryLaws.{NumbersAreKept};
+ghost use Rattle.rhai_grammar.specs.LibraryLaws.{LibrariesStayOrderly, NumbersAreKept};
 ghost use Rattle.rhai_grammar.specs.Rows.{CallRow, EndedRow, FlatRow, LateRow, MinusRow, OpenRow};
 ghost use Rattle.rhai_grammar.specs.Rows.{PairRow, RangedRow, SizedRow, SumRow};
 ghost use Rattle.rhai_grammar.specs.RowsOfChains.{CaptureRow, GroupedRow, JoinedRow, QuestionedRow};
@@ -333,6 +333,13 @@ pub fn forms_leave_their_events()
 #[tactic(auto, using(crate::proofs::LibraryLemmas::numbers_are_kept))]
 pub fn numbers_are_kept()
     ensures { NumbersAreKept }
+{}
+
+/// From an orderly library no more functions and closures end than the limit allows, and no two with one key, also
+/// where the script is refused. No closure is refused for its key.
+#[tactic(auto, using(crate::proofs::OrderLemmas::libraries_stay_orderly))]
+pub fn libraries_stay_orderly()
+    ensures { LibrariesStayOrderly }
 {}
 
 /// `|| x in y` captures `x`, and then `y`.
