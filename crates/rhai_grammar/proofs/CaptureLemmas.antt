@@ -53,7 +53,7 @@ uses_around : (es : List Event) (slots : List SlotValue) (us : List Use) (x : En
     → uses_in (ends_only es ++ (used_at slots us ++ HasEnded x ∷ [])) ≡ us
 uses_around [] slots [] x = refl
 uses_around [] slots (u ∷ us) x = ap (λ vs. u ∷ vs) (uses_around [] slots us x)
-uses_around (Used u slots ∷ es) others us x = uses_around es others us x
+uses_around (Used u slots called ∷ es) others us x = uses_around es others us x
 uses_around (HasEnded y ∷ es) slots us x = uses_around es slots us x
 
 pub captured_are_free_uses : CapturedAreFreeUses

@@ -38,7 +38,7 @@ use Rattle.rhai_grammar.specs.declared.role.Closing.TheVariants.{Brace}
 use Rattle.rhai_grammar.specs.declared.role.OperandPlace.{OperandPlace}
 use Rattle.rhai_grammar.specs.declared.role.OperandPlace.TheVariants as place
 use Rattle.rhai_grammar.proofs.EventEnds.{closure_runs, dead_name, ended, function_runs, no_closure}
-use Rattle.rhai_grammar.proofs.EventSteps.{Does, Is, Scope, ahead, all_of, deeper, here, is_below, is_closure, is_in_loop}
+use Rattle.rhai_grammar.proofs.EventSteps.{Does, Is, Scope, ahead, all_of, called, deeper, here, is_below, is_closure, is_in_loop}
 use Rattle.rhai_grammar.proofs.EventSteps.{is_no_closure, literally, next, on, regrouped, shape, test, test_in, tok}
 use Rattle.rhai_grammar.proofs.EventParts.{Follows, bang_follows, banged, call_follows, captured_names, caught_by}
 use Rattle.rhai_grammar.proofs.EventParts.{closure_parameters, expressed, function_at, function_name, guarded}
@@ -76,24 +76,26 @@ function_does {q = q} is_private at owner name name_at list opening body c w k i
 mutual
   pub primary : {q : Scope} (x : Primary) (called : Bool) (c : Context) (w : Live) (p : OperandPlace) (k : Demands) → Is q c
       → Follows x called k → Does q (primary_events x w called) (W.primary x c w p k) k
-  primary (form.Value token at) called c w p k i f = shape (tok here)
+  primary (form.Value token at) goes_on c w p k i f = shape (tok here)
   primary (form.Named name at) false c w p k i f = used c w p name at k i f
   primary (form.Named name at) true c w p k i f = unused c w p name at k f
-  primary (form.Word word at) called c w p k i f = tok (next here)
-  primary (form.Group opening inside closing) called c w p k i f =
+  primary (form.Word word at) goes_on c w p k i f = tok (next here)
+  primary (form.Group opening inside closing) true c w p k i f =
+      called (tok (test (all_of (on (expressed inside (level_up c) w (run inside _ _ i i)) (tok here)))))
+  primary (form.Group opening inside closing) false c w p k i f =
       tok (test (all_of (on (expressed inside (level_up c) w (run inside _ _ i i)) (tok here))))
-  primary (form.Array opening list) called c w p k i f = tok (test (elements list 0 (level_up c) w opening k i))
-  primary (form.Map opening list) called c w p k i f = tok (test (fields list no_properties (level_up c) w opening k i))
-  primary (form.Interpolated first at list) called c w p k i f = tok (test (segments list (level_up c) w at k i))
-  primary (form.CompoundValue at x) called c w p k i f =
+  primary (form.Array opening list) goes_on c w p k i f = tok (test (elements list 0 (level_up c) w opening k i))
+  primary (form.Map opening list) goes_on c w p k i f = tok (test (fields list no_properties (level_up c) w opening k i))
+  primary (form.Interpolated first at list) goes_on c w p k i f = tok (test (segments list (level_up c) w at k i))
+  primary (form.CompoundValue at x) goes_on c w p k i f =
       shape (tok (test (test (construct x (level_up (level_up c)) w at k i))))
-  primary (form.Closure head f number us) called c w p k i g =
+  primary (form.Closure head f number us) goes_on c w p k i g =
       let inner = level_up (in_closure c w) in
       let own = ends_only (closure_events f (parameters_live (declared_names head))) in
       shape (tok (regrouped own (used_at w.slots us) _ (ended c i (on (closure_parameters head _) (test here))
       (closure_runs w.slots refl (closure_body f inner (parameters_live (declared_names head)) Nothing (is_closure c w i))
       (captured_names us c w _ i)))))
-  primary (form.Zero range at) called c w p k i f = shape (ahead here)
+  primary (form.Zero range at) goes_on c w p k i f = shape (ahead here)
 
   pub closure_body : {q : Scope} (x : ClosureBody) (c : Context) (w : Live) (k : Demands) → Is q c
       → Does q (closure_events x w) (W.closure_body x c w k) k

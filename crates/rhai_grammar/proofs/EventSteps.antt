@@ -16,9 +16,9 @@ use Rattle.rhai_grammar.specs.Modules.{is_captured}
 use Rattle.rhai_grammar.specs.NumberedLibraries.{IsOrderly}
 use Rattle.rhai_grammar.specs.Settings as S
 use Rattle.rhai_grammar.specs.Uses.{Use, noted}
-use Rattle.rhai_grammar.specs.UsesOfForms.{Event, Used, is_free}
+use Rattle.rhai_grammar.specs.UsesOfForms.{as_called, Event, Used, is_free}
 use Rattle.rhai_grammar.specs.Written as W
-use Rattle.rhai_grammar.proofs.EventEffects.{captured_after, captured_on, library_after, library_on}
+use Rattle.rhai_grammar.proofs.EventEffects.{captured_after, captured_called, library_called, captured_on, library_after, library_on}
 
 -- What of a context matters here: whether it is that of a closure, how many functions have begun around, and how many
 -- there may be.
@@ -153,6 +153,22 @@ pub regrouped : {q : Scope} (a b c : List Event) {ds k : Demands} → Does q ((a
     → Does q (a ++ (b ++ c)) ds k
 regrouped {q = q} a b c {ds = ds} {k = k} h = subst (λ es. Does q es ds k) (append_assoc a b c) h
 
+pub called : {q : Scope} {a : List Event} {ds k : Demands} → Does q a ds k → Does q (as_called a) ds k
+called {q = q} {a = a} {ds = ds} {k = k} h = record {
+  did = λ s t m.
+      let r = h.did s t m in
+      record {
+        end = r.end;
+        met = r.met;
+        library = r.library ∙ sym (library_called a s.library);
+        captured = r.captured ∙ sym (captured_called q.inside a s.library s.captured);
+        orderly = r.orderly;
+      };
+  stopped = λ s t e n m.
+      subst (λ l. (Orderly q s.library → Within q t.library) ⊎ Reached q s.library l k e n t)
+      (sym (library_called a s.library)) (h.stopped s t e n m);
+}
+
 -- What is demanded literally is met or missed as any other demand.
 pub literally : {q : Scope} {a b : List Event} {ds more k : Demands} → Does q a ds Nothing → Does q b more k
     → Does q (a ++ b) (Literally ds ▸ more) k
@@ -243,7 +259,7 @@ is_closure c w i = (
 -- a captured name, used where its closure ends
 pub captures : {q : Scope} (c : Context) (w : Live) (u : Use) {holds : Library → Bool} {r : Refusal} {es : List Event}
     {ds k : Demands} → Is q c → Does q es ds k
-    → Does q (Used u w.slots ∷ es) (Captures holds r (is_captured c w u.name) u ▸ ds) k
+    → Does q (Used u w.slots false ∷ es) (Captures holds r (is_captured c w u.name) u ▸ ds) k
 captures {q = q} c w u {es = es} {k = k} i h = record {
   did = λ s t m.
       subst (λ (b : Bool). Passed q s.library (library_after es s.library) (captured_after q.inside es s.library

@@ -1,15 +1,15 @@
 -- What a form does in written order: it uses names, and functions end in it. From this follows what a closure captures.
-use Rattle.std.specs.Prelude.{◌≡◌, ℕ, ◌||◌, ◌++◌, Bool, true, false, not, None, List, [], ◌∷◌, length, map, codes}
+use Rattle.std.specs.Prelude.{◌≡◌, ℕ, ◌||◌, ◌++◌, Bool, true, false, not, None, List, [], ◌∷◌, length, map, codes, pos}
 use Rattle.std.specs.Prelude.{if◌then◌else◌, refl}
 use Rattle.std.specs.List.{fold}
 use Rattle.std.specs.Option.{is_some}
-use Rattle.rhai_lower.specs.Lexemes.{Sign}
+use Rattle.rhai_lower.specs.Lexemes.{Integer, Sign}
 use Rattle.rhai_lower.specs.Positions.{place}
 use Rattle.rhai_lower.specs.Texts.{Text}
 use Rattle.rhai_lower.specs.declared.token.Token.TheVariants.{Period, Plus}
 use Rattle.rhai_input.specs.Slots.{SlotValue, fresh_slot}
 use Rattle.rhai_grammar.specs.Closures.{declared_names}
-use Rattle.rhai_grammar.specs.Contexts.{Live, in_block}
+use Rattle.rhai_grammar.specs.Contexts.{Live, in_block, nothing_live}
 use Rattle.rhai_grammar.specs.Definitions.{after_statement, catch_live, loop_live}
 use Rattle.rhai_grammar.specs.Forms as form
 use Rattle.rhai_grammar.specs.Forms.{Action, Arguments, Arms, Base, Body, Branch, CaseGuard, Cases, ClosureBody}
@@ -23,41 +23,49 @@ use Rattle.rhai_grammar.specs.Trees.{caught, caught_name, closure_tree, counter_
 use Rattle.rhai_grammar.specs.Uses.{Use, with_use}
 
 pub data Event : Type 0 where
-  -- a variable's name is used where these slots are live
-  Used : Use → (slots : List SlotValue) → Event
+  -- A variable's name is used where these slots are live. If it is in parentheses, a call or a path may go on from
+  -- there, as in `(f)(1)`.
+  Used : Use → (slots : List SlotValue) → (called : Bool) → Event
   -- a function or a closure ends
   HasEnded : Ended → Event
 
 -- the names that are used, in written order
 abbrev pub uses_in : List Event → List Use
 uses_in [] = []
-uses_in (Used u slots ∷ more) = u ∷ uses_in more
+uses_in (Used u slots called ∷ more) = u ∷ uses_in more
 uses_in (HasEnded e ∷ more) = uses_in more
 
 -- the functions and closures, in the order in which they end
 abbrev pub ended_in : List Event → List Ended
 ended_in [] = []
-ended_in (Used u slots ∷ more) = ended_in more
+ended_in (Used u slots called ∷ more) = ended_in more
 ended_in (HasEnded e ∷ more) = e ∷ ended_in more
 
 -- the same events without the uses
 abbrev pub ends_only : List Event → List Event
 ends_only events = map HasEnded (ended_in events)
 
+-- the same events, where a call or a path goes on from the parentheses around them
+abbrev pub as_called : List Event → List Event
+as_called [] = []
+as_called (Used u slots called ∷ more) = Used u slots true ∷ as_called more
+as_called (HasEnded e ∷ more) = HasEnded e ∷ as_called more
+
 -- what a closure captures, used where it ends
 abbrev pub used_at : List SlotValue → (captured : List Use) → List Event
-used_at slots captured = map (λ u. Used u slots) captured
+used_at slots captured = map (λ u. Used u slots false) captured
 
 -- The events of a form. A name is used unless it is a property, the name of a function that is called or a part of a
--- path. In parentheses it is used also where these are called, as `f` in `(f)(1)`. The names in a function are its own,
--- and so are those in a closure, which uses what it captures where it ends.
+-- path. In parentheses it is used also where these are called. The names in a function are its own, and so are those in
+-- a closure, which uses what it captures where it ends.
 abbrev mutual
   pub primary_events : Primary → Live → (called : Bool) → List Event
   primary_events (form.Value token at) live called = []
   primary_events (form.Named name at) live called =
-      if called then [] else Used (record { name = name; at = at }) live.slots ∷ []
+      if called then [] else Used (record { name = name; at = at }) live.slots false ∷ []
   primary_events (form.Word word at) live called = []
-  primary_events (form.Group opening inside closing) live called = events inside live
+  primary_events (form.Group opening inside closing) live called =
+      if called then as_called (events inside live) else events inside live
   primary_events (form.Array opening elements) live called = element_events elements live
   primary_events (form.Map opening fields) live called = field_events fields live
   primary_events (form.Interpolated first at segments) live called = segment_events segments live
@@ -203,7 +211,7 @@ is_free slots library name = not (is_some (number name slots) || is_function lib
 -- the uses of names that are free there, after these functions
 abbrev pub free_uses : List Event → Library → List Use
 free_uses [] library = []
-free_uses (Used u slots ∷ more) library =
+free_uses (Used u slots called ∷ more) library =
     let rest = free_uses more library in if is_free slots library u.name then u ∷ rest else rest
 free_uses (HasEnded e ∷ more) library = free_uses more (with_ended library e)
 
@@ -249,11 +257,23 @@ example_form =
     form.Binary (Sign Plus) (place 1 5) example_property (only (form.Call (named (codes "f") 7) form.NoPath None (
     form.Listed (place 1 8) (form.Last (only (form.Plain example_closure form.NoPath)) (place 1 13)))))
 
+-- `(f)(1)`
+abbrev example_called : Primary
+example_called = form.Group (place 1 1) (only (form.Plain (named (codes "f") 2) form.NoPath)) (place 1 3)
+
+abbrev example_argument : Run
+example_argument = only (form.Plain (form.Value (Integer (pos 1)) (place 1 5)) form.NoPath)
+
+abbrev example_call : Run
+example_call =
+    only (form.Call example_called form.NoPath None (form.Listed (place 1 4) (form.Last example_argument (place 1 6))))
+
 abbrev example_live : Live
 example_live = record { slots = fresh_slot (codes "y") false ∷ []; block = 0; imports = [] }
 
 example : (uses_in (events example_form example_live) ≡ name_at (codes "x") 1 ∷ name_at (codes "y") 12 ∷ [])
     × (length (ended_in (events example_form example_live)) ≡ 1)
     × (free_uses (events example_form example_live) [] ≡ name_at (codes "x") 1 ∷ [])
+    × (events example_call nothing_live ≡ Used (name_at (codes "f") 2) [] true ∷ [])
 unfolding number
-example = (refl, refl, refl)
+example = (refl, refl, refl, refl)
