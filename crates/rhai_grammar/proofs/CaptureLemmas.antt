@@ -1,19 +1,20 @@
 -- What closures capture, by what happens in their bodies.
-use Rattle.std.proofs.Common.{◌≡◌, ℕ, Bool, true, false, ◌++◌, List, [], ◌∷◌, refl, sym, ap, ◌∙◌}
+use Rattle.std.proofs.Common.{inl, inr, ◌≡◌, ℕ, Bool, true, false, ◌++◌, List, [], ◌∷◌, refl, sym, ap, ◌∙◌}
 use Rattle.rhai_input.specs.Slots.{SlotValue}
+use Rattle.rhai_grammar.specs.Causes.{Refusal}
 use Rattle.rhai_grammar.specs.ClosureLaws.{CapturedAreFreeUses, FormsLeaveTheirEvents}
 use Rattle.rhai_grammar.specs.Closures.{declared_names, in_closure}
 use Rattle.rhai_grammar.specs.Contexts.{Context, Live, level_up}
 use Rattle.rhai_grammar.specs.Delivered as D
-use Rattle.rhai_grammar.specs.Delivered.{Point, code, past, with_captured}
-use Rattle.rhai_grammar.specs.Demands.{Demands, Met, Nothing}
+use Rattle.rhai_grammar.specs.Delivered.{Mode, Point, code, past, with_captured}
+use Rattle.rhai_grammar.specs.Demands.{Demands, Met, Missed, Nothing}
 use Rattle.rhai_grammar.specs.Forms as form
 use Rattle.rhai_grammar.specs.Forms.{ClosureBody, ClosureHead, Run, Statements}
 use Rattle.rhai_grammar.specs.Functions.{parameters_live}
 use Rattle.rhai_grammar.specs.Libraries.{Ended, closure_count}
 use Rattle.rhai_grammar.specs.Trees.{closure_tree}
 use Rattle.rhai_grammar.specs.Uses.{Use}
-use Rattle.rhai_grammar.specs.UsesOfForms.{Event, HasEnded, Used, ended_in, ends_only, events, first_uses, free_uses}
+use Rattle.rhai_grammar.specs.UsesOfForms.{Event, HoldsFirst, HasEnded, Used, ended_in, ends_only, events, first_uses, free_uses}
 use Rattle.rhai_grammar.specs.UsesOfForms.{own_events, script_events, statement_events, used_at, uses_in}
 use Rattle.rhai_grammar.specs.Written as W
 use Rattle.rhai_grammar.specs.declared.role.Closing.TheVariants.{EndMark}
@@ -69,6 +70,10 @@ left q es ds s t h m =
     let r = h.did s t m in
     sym (ap (λ (x : Point). x.library) r.met) ∙ r.library ∙ library_is es s.library
 
+first : (q : Scope) (es : List Event) (ds : Demands) (s t : Point) (e : Refusal) (n : Mode) → Does q es ds Nothing
+    → Missed ds s e n t → HoldsFirst s.library (ended_in es) t.library
+first q es ds s t e n h m = elim (h.stopped s t e n m) [ inl f ↦ f.1 | inr r ↦ absurd r.missed ]
+
 -- whole expressions and scripts
 pub whole_expression : (c : Context) (w : Live) (f : Run) → Does (scope_of c) (events f w) (W.whole_expression f c w) Nothing
 whole_expression c w f =
@@ -86,6 +91,8 @@ pub forms_leave_their_events : FormsLeaveTheirEvents
 forms_leave_their_events = record {
   expression = λ c w f s t m. left (scope_of c) (events f w) (W.whole_expression f c w) s t (whole_expression c w f) m;
   script = λ c w fs s t m. left (scope_of c) (script_events fs w) (W.whole_script fs c w) s t (whole_script c w fs) m;
+  expression_refused = λ c w f s t e n m. first (scope_of c) _ _ s t e n (whole_expression c w f) m;
+  script_refused = λ c w fs s t e n m. first (scope_of c) _ _ s t e n (whole_script c w fs) m;
   inside = λ c w f s t i m.
       let r = (happens.statement {q = scope_by true c} f c w Nothing (i, refl, refl)).did s t m in
       sym (ap (λ (x : Point). x.captured) r.met) ∙ r.captured ∙ captured_is (statement_events f w) s.library s.captured;

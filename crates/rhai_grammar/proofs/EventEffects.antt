@@ -1,10 +1,10 @@
 -- What events leave: functions that have ended, and captured names.
-use Rattle.std.proofs.Common.{◌≡◌, ◌&&◌, ◌++◌, Bool, true, false, List, [], ◌∷◌, refl, sym, ◌∙◌, append-nil, append_assoc, if◌then◌else◌}
+use Rattle.std.proofs.Common.{◌≡◌, ◌&&◌, ◌++◌, Bool, true, false, List, [], ◌∷◌, refl, sym, ap, ◌∙◌, append-nil, append_assoc, if◌then◌else◌, subst}
 use Rattle.std.specs.List.{fold}
 use Rattle.rhai_input.specs.Slots.{SlotValue}
 use Rattle.rhai_grammar.specs.Libraries.{Library, with_ended}
 use Rattle.rhai_grammar.specs.Uses.{Use, noted, with_use}
-use Rattle.rhai_grammar.specs.UsesOfForms.{as_called, Event, HasEnded, Used, ended_in, ends_only, free_uses, is_free, used_at}
+use Rattle.rhai_grammar.specs.UsesOfForms.{as_called, Event, HoldsFirst, HasEnded, Used, ended_in, ends_only, free_uses, is_free, used_at}
 
 -- the functions after events
 abbrev pub library_after : List Event → Library → Library
@@ -79,3 +79,51 @@ pub captured_called : (q : Bool) (a : List Event) (l : Library) (us : List Use)
 captured_called q [] l us = refl
 captured_called q (Used u slots called ∷ a) l us = captured_called q a l (noted (q && is_free slots l u.name) u us)
 captured_called q (HasEnded x ∷ a) l us = captured_called q a (with_ended l x) us
+
+-- ---- the first of the functions that end
+
+ended_on : (a b : List Event) → ended_in (a ++ b) ≡ ended_in a ++ ended_in b
+ended_on [] b = refl
+ended_on (Used u slots called ∷ a) b = ended_on a b
+ended_on (HasEnded x ∷ a) b = ap (λ xs. x ∷ xs) (ended_on a b)
+
+pub ended_called : (a : List Event) → ended_in (as_called a) ≡ ended_in a
+ended_called [] = refl
+ended_called (Used u slots called ∷ a) = ended_called a
+ended_called (HasEnded x ∷ a) = ap (λ xs. x ∷ xs) (ended_called a)
+
+ended_only : (a : List Event) → ended_in (ends_only a) ≡ ended_in a
+ended_only [] = refl
+ended_only (Used u slots called ∷ a) = ended_only a
+ended_only (HasEnded x ∷ a) = ap (λ xs. x ∷ xs) (ended_only a)
+
+-- none of them
+pub holds_none : (es : List Event) (l m : Library) → m ≡ l → HoldsFirst l (ended_in es) m
+holds_none es l m e = record { done = []; rest = ended_in es; ended_is = refl; after_is = e ∙ sym (append-nil l) }
+
+-- those of the first events
+pub holds_front : (a b : List Event) (l m : Library) → HoldsFirst l (ended_in a) m → HoldsFirst l (ended_in (a ++ b)) m
+holds_front a b l m h = record {
+  done = h.done;
+  rest = h.rest ++ ended_in b;
+  ended_is = ended_on a b ∙ ap (λ xs. xs ++ ended_in b) h.ended_is ∙ append_assoc h.done h.rest (ended_in b);
+  after_is = h.after_is;
+}
+
+-- all of the first events, and then those of the second
+pub holds_later : (a b : List Event) (l m n : Library) → m ≡ library_after a l → HoldsFirst m (ended_in b) n
+    → HoldsFirst l (ended_in (a ++ b)) n
+holds_later a b l m n e h = record {
+  done = ended_in a ++ h.done;
+  rest = h.rest;
+  ended_is =
+      ended_on a b ∙ ap (λ xs. ended_in a ++ xs) h.ended_is ∙ sym (append_assoc (ended_in a) h.done h.rest);
+  after_is =
+      h.after_is ∙ ap (λ k. k ++ h.done) (e ∙ library_is a l) ∙ append_assoc l (ended_in a) h.done;
+}
+
+pub holds_called : (a : List Event) (l m : Library) → HoldsFirst l (ended_in a) m → HoldsFirst l (ended_in (as_called a)) m
+holds_called a l m h = subst (λ xs. HoldsFirst l xs m) (sym (ended_called a)) h
+
+pub holds_own : (a : List Event) (l m : Library) → HoldsFirst l (ended_in a) m → HoldsFirst l (ended_in (ends_only a)) m
+holds_own a l m h = subst (λ xs. HoldsFirst l xs m) (sym (ended_only a)) h

@@ -26,12 +26,12 @@ use Rattle.rhai_grammar.specs.Keys.{is_closure}
 use Rattle.rhai_grammar.specs.Libraries.{Ended, Library, closure_count, keys_in, with_ended}
 use Rattle.rhai_grammar.specs.NumberedLibraries.{AreNew, IsNumbered, IsOrderly}
 use Rattle.rhai_grammar.specs.Uses.{Use}
-use Rattle.rhai_grammar.specs.UsesOfForms.{Event, HasEnded, ends_only, used_at}
+use Rattle.rhai_grammar.specs.UsesOfForms.{HoldsFirst, ended_in, Event, HasEnded, ends_only, used_at}
 use Rattle.rhai_grammar.specs.Written as W
 use Rattle.rhai_grammar.specs.declared.due.DueToken.TheVariants as due
-use Rattle.rhai_grammar.proofs.EventEffects.{captured_after, captured_ends, captured_on, captured_outside, library_after}
+use Rattle.rhai_grammar.proofs.EventEffects.{holds_front, holds_later, holds_own, captured_after, captured_ends, captured_on, captured_outside, library_after}
 use Rattle.rhai_grammar.proofs.EventEffects.{library_ends, library_on, library_used}
-use Rattle.rhai_grammar.proofs.EventSteps.{Does, Is, Orderly, Reached, Scope, Within, deeper, shape, stop, tok}
+use Rattle.rhai_grammar.proofs.EventSteps.{Does, Is, Orderly, Reached, Scope, Stops, deeper, shape, stop, tok}
 use Rattle.rhai_grammar.proofs.LibraryLemmas.{closure_added, function_added}
 
 -- ---- libraries with one more function
@@ -73,6 +73,10 @@ one_begun q c l m i e f g =
 
 -- ---- bodies
 
+-- the scope with one more that has begun
+abbrev one_more : Scope → Scope
+one_more q = deeper true q
+
 -- the end of a body, where the functions stay numbered with its own
 record Ran (q : Scope) (from l : Library) (us : List Use) (x : Ended) (k : Demands) (t : Point) : Type 0 where
   end : Point
@@ -93,7 +97,7 @@ pub record Runs (q : Scope) (es : List Event) (x : Ended) (ds k : Demands) : Typ
   did : (s t : Point) → Met ds s t
       → Ran q s.library (library_after es s.library) (captured_after q.inside es s.library s.captured) x k t
   stopped : (s t : Point) (e : Refusal) (n : Mode) → Missed ds s e n t
-      → (Begun q s.library → Within q t.library) ⊎ Halted q s.library (library_after es s.library) x k e n t
+      → Stops (one_more q) s.library es t ⊎ Halted q s.library (library_after es s.library) x k e n t
 
 -- From where a function or closure may begin to where it has ended.
 pub ended : {q : Scope} (c : Context) {es : List Event} {x : Ended} {ds body k : Demands} {why other : Refusal} → Is q c
@@ -123,8 +127,11 @@ ended {q = q} c {es = es} {x = x} {ds = ds} {body = inside} {k = k} {why = why} 
     last : (s t : Point) (e : Refusal) (n : Mode) (p : Point) → p.library ≡ library_after es s.library
         → (Orderly q s.library → Begun q p.library × IsNumbered (with_ended p.library x))
         → Missed (TestIn (is_new x.key) other ▸ Adds x ▸ k) p e n t
-        → (Orderly q s.library → Within q t.library) ⊎ Reached q s.library (library_after (es ++ HasEnded x ∷ []) s.library) k e n t
-    last s t e n p l g (inl a) = inl (λ o. stop q p t a.3 (fewer q p.library (g o).0))
+        → Stops q s.library (es ++ HasEnded x ∷ []) t ⊎ Reached q s.library (library_after (es ++ HasEnded x ∷ []) s.library) k e n t
+    last s t e n p l g (inl a) = inl (
+      λ o. (stop q es p t a.3).0 (fewer q p.library (g o).0),
+      holds_later es (HasEnded x ∷ []) s.library p.library t.library l (stop q (HasEnded x ∷ []) p t a.3).1,
+    )
     last s t e n p l g (inr b) = inr (record {
       end = adding x p;
       missed = b.1.1;
@@ -134,23 +141,27 @@ ended {q = q} c {es = es} {x = x} {ds = ds} {body = inside} {k = k} {why = why} 
 
     later : (s t : Point) (e : Refusal) (n : Mode) (r : Point) → r.library ≡ s.library
         → (Orderly q s.library → Begun q r.library)
-        → (Begun q r.library → Within q t.library) ⊎ Halted q r.library (library_after es r.library) x (TestIn (is_new x.key) other ▸ Adds x ▸ k) e n t
-        → (Orderly q s.library → Within q t.library) ⊎ Reached q s.library (library_after (es ++ HasEnded x ∷ []) s.library) k e n t
-    later s t e n r l g (inl h) = inl (λ o. h (g o))
+        → Stops (one_more q) r.library es t ⊎ Halted q r.library (library_after es r.library) x (TestIn (is_new x.key) other ▸ Adds x ▸ k) e n t
+        → Stops q s.library (es ++ HasEnded x ∷ []) t ⊎ Reached q s.library (library_after (es ++ HasEnded x ∷ []) s.library) k e n t
+    later s t e n r l g (inl h) = inl (
+      λ o. h.0 (g o),
+      holds_front es (HasEnded x ∷ []) s.library t.library (subst (λ m. HoldsFirst m (ended_in es) t.library) l h.1),
+    )
     later s t e n r l g (inr p) =
         last s t e n p.end (p.library ∙ ap (library_after es) l) (λ o. p.orderly (g o)) p.missed
 
     after : (s t : Point) (e : Refusal) (n : Mode) → may_begin c s.library ≡ true
-        → (Orderly q s.library → Within q t.library) ⊎ Reached q s.library s.library inside e n t
-        → (Orderly q s.library → Within q t.library) ⊎ Reached q s.library (library_after (es ++ HasEnded x ∷ []) s.library) k e n t
-    after s t e n room (inl h) = inl h
+        → Stops q s.library [] t ⊎ Reached q s.library s.library inside e n t
+        → Stops q s.library (es ++ HasEnded x ∷ []) t ⊎ Reached q s.library (library_after (es ++ HasEnded x ∷ []) s.library) k e n t
+    after s t e n room (inl h) =
+        inl (h.0, holds_front [] (es ++ HasEnded x ∷ []) s.library t.library h.1)
     after s t e n room (inr r) =
         later s t e n r.end r.library (one_begun q c s.library r.end.library i room r.library)
         (body.stopped r.end t e n r.missed)
 
     first : (s t : Point) (e : Refusal) (n : Mode) → Missed (TestIn (may_begin c) why ▸ ds) s e n t
-        → (Orderly q s.library → Within q t.library) ⊎ Reached q s.library (library_after (es ++ HasEnded x ∷ []) s.library) k e n t
-    first s t e n (inl a) = inl (stop q s t a.3)
+        → Stops q s.library (es ++ HasEnded x ∷ []) t ⊎ Reached q s.library (library_after (es ++ HasEnded x ∷ []) s.library) k e n t
+    first s t e n (inl a) = inl (stop q (es ++ HasEnded x ∷ []) s t a.3)
     first s t e n (inr b) = after s t e n b.0 (path.stopped s t e n b.1)
 
 -- the body of a function whose name is not that of a closure
@@ -172,9 +183,9 @@ function_runs {q = q} {es = es} {x = x} {ds = ds} {k = k} other h = record {
 }
   where
     by : (s t : Point) (e : Refusal) (n : Mode)
-        → (Begun q s.library → Within q t.library) ⊎ Reached (deeper false q) s.library (library_after es s.library) k e n t
-        → (Begun q s.library → Within q t.library) ⊎ Halted q s.library (library_after (ends_only es) s.library) x k e n t
-    by s t e n (inl g) = inl g
+        → Stops (deeper false q) s.library es t ⊎ Reached (deeper false q) s.library (library_after es s.library) k e n t
+        → Stops (one_more q) s.library (ends_only es) t ⊎ Halted q s.library (library_after (ends_only es) s.library) x k e n t
+    by s t e n (inl g) = inl (g.0, holds_own es s.library t.library g.1)
     by s t e n (inr r) = inr (record {
       end = r.end;
       missed = r.missed;
@@ -219,19 +230,21 @@ closure_runs {q = q} slots {es = es} {x = x} {ds = ds} {more = more} {k = k} {n 
         )
 
     body : (s t : Point) (e : Refusal) (m : Mode)
-        → (Begun q s.library → Within q t.library) ⊎ Reached (deeper true q) s.library (library_after es s.library) Nothing e m t
-        → Begun q s.library → Within q t.library
+        → Stops (one_more q) s.library es t ⊎ Reached (one_more q) s.library (library_after es s.library) Nothing e m t
+        → Stops (one_more q) s.library es t
     body s t e m (inl h) = h
     body s t e m (inr r) = absurd r.missed
 
     later : (s between end t : Point) (e : Refusal) (m : Mode) → end ≡ between → end.library ≡ library_after es s.library
         → closure_count between.library ≡ n → (Begun q s.library → Begun q end.library)
-        → (Orderly q between.library → Within q t.library)
+        → Stops q between.library (used_at slots us) t
         ⊎ Reached q between.library (library_after (used_at slots us) between.library) k e m t
-        → (Begun q s.library → Within q t.library)
+        → Stops (one_more q) s.library (ends_only es ++ used_at slots us) t
         ⊎ Halted q s.library (library_after (ends_only es ++ used_at slots us) s.library) x k e m t
-    later s between end t e m there l count o (inl h) =
-        inl (λ g. h (fewer q between.library (subst (λ (p : Point). Begun q p.library) there (o g))))
+    later s between end t e m there l count o (inl h) = inl (
+      λ g. h.0 (fewer q between.library (subst (λ (p : Point). Begun q p.library) there (o g))),
+      holds_later (ends_only es) (used_at slots us) s.library between.library t.library (to_there s between end there l) h.1,
+    )
     later s between end t e m there l count o (inr p) = inr (record {
       end = p.end;
       missed = p.missed;
@@ -242,9 +255,11 @@ closure_runs {q = q} slots {es = es} {x = x} {ds = ds} {more = more} {k = k} {n 
     })
 
     first : (s t : Point) (e : Refusal) (m : Mode) → Missed (Apart ds n us ▸ more) s e m t
-        → (Begun q s.library → Within q t.library)
+        → Stops (one_more q) s.library (ends_only es ++ used_at slots us) t
         ⊎ Halted q s.library (library_after (ends_only es ++ used_at slots us) s.library) x k e m t
-    first s t e m (inl x) = inl (body s t e m (f.stopped (D.apart s) t e m x))
+    first s t e m (inl x) =
+        let h = body s t e m (f.stopped (D.apart s) t e m x) in
+        inl (h.0, holds_front (ends_only es) (used_at slots us) s.library t.library (holds_own es s.library t.library h.1))
     first s t e m (inr x) =
         let r = f.did (D.apart s) x.0 x.1 in
         later s x.0 r.end t e m r.met r.library x.2.0 r.orderly (g.stopped (with_captured s.captured x.0) t e m x.3)
@@ -254,9 +269,9 @@ closure_runs {q = q} slots {es = es} {x = x} {ds = ds} {more = more} {k = k} {n 
 -- A test that does not hold is missed.
 dead_test : {q : Scope} {b : Bool} {r : Refusal} {es : List Event} {ds k : Demands} → b ≡ false
     → Does q es (Test b r ▸ ds) k
-dead_test {q = q} e = record {
+dead_test {q = q} {es = es} e = record {
   did = λ s t m. absurd (let f = m.0 in cc);
-  stopped = λ s t x n m. elim m [ inl a ↦ inl (stop q s t a.3) | inr b ↦ absurd (let f = b.0 in cc) ];
+  stopped = λ s t x n m. elim m [ inl a ↦ inl (stop q es s t a.3) | inr b ↦ absurd (let f = b.0 in cc) ];
 }
 
 untyped_not : (m d f : Bool) (r : Refusal) → f ≡ false
@@ -273,10 +288,10 @@ untyped_fails name at l e h =
 
 dead_untyped : {q : Scope} (name : Text) (at : Position) {es : List Event} {ds k : Demands} → names_function name ≡ false
     → Does q es (Next (untyped name at) ▸ ds) k
-dead_untyped {q = q} name at e = record {
+dead_untyped {q = q} name at {es = es} e = record {
   did = λ s t m. absurd (untyped_fails name at (next_at code s).lexeme e m.0);
   stopped = λ s t x n m. elim m [
-    | inl a ↦ inl (stop q s t a.2)
+    | inl a ↦ inl (stop q es s t a.2)
     | inr b ↦ absurd (untyped_fails name at (next_at code s).lexeme e b.0)
   ];
 }

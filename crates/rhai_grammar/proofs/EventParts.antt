@@ -22,7 +22,6 @@ use Rattle.rhai_grammar.specs.Spots.{Outermost, RightOf, Side, outermost}
 use Rattle.rhai_grammar.specs.Trees.{is_variable}
 use Rattle.rhai_grammar.specs.Trees.{named_tree, primary_tree, tree}
 use Rattle.rhai_grammar.specs.Causes.{Refusal}
-use Rattle.rhai_grammar.specs.Libraries.{Library}
 use Rattle.rhai_grammar.specs.Uses.{Use, noted}
 use Rattle.rhai_grammar.specs.UsesOfForms.{Event}
 use Rattle.rhai_grammar.specs.UsesOfForms.{is_free}
@@ -32,7 +31,7 @@ use Rattle.rhai_grammar.specs.Written as W
 use Rattle.rhai_grammar.specs.declared.list.CommaList.{CommaList}
 use Rattle.rhai_grammar.specs.declared.list.CommaList.TheVariants as lists
 use Rattle.rhai_grammar.specs.declared.role.OperandPlace.{OperandPlace}
-use Rattle.rhai_grammar.proofs.EventSteps.{Does, Is, Orderly, Reached, Scope, Within, stop, all_of, captures, here}
+use Rattle.rhai_grammar.proofs.EventSteps.{Does, Is, Reached, Scope, Stops, stop, all_of, captures, here}
 use Rattle.rhai_grammar.proofs.EventSteps.{next, on, shape, test}
 use Rattle.rhai_grammar.proofs.EventSteps.{tok, unfaulted_by}
 
@@ -184,17 +183,16 @@ bang_follows x (form.Scoped colons name at rest) imports y bang b k e s t m =
 
 -- a name that is used, and one that is not
 name_stopped : {q : Scope} (c : Context) (w : Live) (p : OperandPlace) (name : Text) (at : Position) (k : Demands)
-    (l : Library) (s t : Point) (e : Refusal) (n : Mode) → s.library ≡ l
-    → Missed (W.primary (form.Named name at) c w p k) s e n t
-    → (Orderly q s.library → Within q t.library) ⊎ Reached q s.library l k e n t
-name_stopped {q = q} c w p name at k l s t e n same (inl a) = inl (stop q s t a.2)
-name_stopped {q = q} c w p name at k l s t e n same (inr (is, inl a)) = inl (stop q (past code s) t a.2)
-name_stopped {q = q} c w p name at k l s t e n same (inr (is, inr b)) = inr (record {
+    (s t : Point) (e : Refusal) (n : Mode) → Missed (W.primary (form.Named name at) c w p k) s e n t
+    → Stops q s.library [] t ⊎ Reached q s.library s.library k e n t
+name_stopped {q = q} c w p name at k s t e n (inl a) = inl (stop q [] s t a.2)
+name_stopped {q = q} c w p name at k s t e n (inr (is, inl a)) = inl (stop q [] (past code s) t a.2)
+name_stopped {q = q} c w p name at k s t e n (inr (is, inr b)) = inr (record {
   end =
       capturing (captures_use c w name s.library (next_at code (past code s)).lexeme) (record { name = name; at = at })
       (past code s);
   missed = b.1;
-  library = same;
+  library = refl;
   orderly = λ g. g;
 })
 
@@ -216,7 +214,7 @@ used {q = q} c w p name at k i f = record {
             ∙ ap (λ x. noted (x && free) u s.captured) i.0;
         orderly = λ g. g;
       };
-  stopped = λ s t e n m. name_stopped c w p name at k s.library s t e n refl m;
+  stopped = λ s t e n m. name_stopped c w p name at k s t e n m;
 }
 
 pub unused : {q : Scope} (c : Context) (w : Live) (p : OperandPlace) (name : Text) (at : Position) (k : Demands)
@@ -235,5 +233,5 @@ unused {q = q} c w p name at k f = record {
             ap (λ x. noted (not x && is_captured c w name s.library) u s.captured) (f refl r t m.1.1);
         orderly = λ g. g;
       };
-  stopped = λ s t e n m. name_stopped c w p name at k s.library s t e n refl m;
+  stopped = λ s t e n m. name_stopped c w p name at k s t e n m;
 }

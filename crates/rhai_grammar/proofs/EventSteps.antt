@@ -16,9 +16,9 @@ use Rattle.rhai_grammar.specs.Modules.{is_captured}
 use Rattle.rhai_grammar.specs.NumberedLibraries.{IsOrderly}
 use Rattle.rhai_grammar.specs.Settings as S
 use Rattle.rhai_grammar.specs.Uses.{Use, noted}
-use Rattle.rhai_grammar.specs.UsesOfForms.{as_called, Event, Used, is_free}
+use Rattle.rhai_grammar.specs.UsesOfForms.{HoldsFirst, ended_in, as_called, Event, Used, is_free}
 use Rattle.rhai_grammar.specs.Written as W
-use Rattle.rhai_grammar.proofs.EventEffects.{captured_after, captured_called, library_called, captured_on, library_after, library_on}
+use Rattle.rhai_grammar.proofs.EventEffects.{holds_called, holds_front, holds_later, holds_none, captured_after, captured_called, library_called, captured_on, library_after, library_on}
 
 -- What of a context matters here: whether it is that of a closure, how many functions have begun around, and how many
 -- there may be.
@@ -54,17 +54,24 @@ pub record Reached (q : Scope) (from l : Library) (k : Demands) (e : Refusal) (n
   pub library : end.library ≡ l
   pub orderly : Orderly q from → Orderly q end.library
 
+-- They are missed before others, after the first of these events.
+abbrev pub Stops : Scope → (from : Library) → List Event → (t : Point) → Type 0
+Stops q from es t = (Orderly q from → Within q t.library) × HoldsFirst from (ended_in es) t.library
+
 -- Where demands are met, these events happen up to where the others are. Where they are missed, that is before the others,
 -- or these are missed.
 pub record Does (q : Scope) (es : List Event) (ds k : Demands) : Type 0 where
   pub did : (s t : Point) → Met ds s t
       → Passed q s.library (library_after es s.library) (captured_after q.inside es s.library s.captured) k t
   pub stopped : (s t : Point) (e : Refusal) (n : Mode) → Missed ds s e n t
-      → (Orderly q s.library → Within q t.library) ⊎ Reached q s.library (library_after es s.library) k e n t
+      → Stops q s.library es t ⊎ Reached q s.library (library_after es s.library) k e n t
 
 -- where the demands stop at once
-pub stop : (q : Scope) (s t : Point) → t ≡ s → Orderly q s.library → Within q t.library
-stop q s t e g = subst (λ (p : Point). Within q p.library) (sym e) (within q s.library g)
+pub stop : (q : Scope) (es : List Event) (s t : Point) → t ≡ s → Stops q s.library es t
+stop q es s t e = (
+  λ g. subst (λ (p : Point). Within q p.library) (sym e) (within q s.library g),
+  holds_none es s.library t.library (ap (λ (p : Point). p.library) e),
+)
 
 pub here : {q : Scope} {k : Demands} → Does q [] k k
 here = record {
@@ -74,37 +81,37 @@ here = record {
 
 pub tok : {q : Scope} {m : Mode} {i : Item} {v : Lexeme → Verdict} {es : List Event} {ds k : Demands} → Does q es ds k
     → Does q es (Tok m i v ▸ ds) k
-tok {q = q} {m = m} h = record {
+tok {q = q} {m = m} {es = es} h = record {
   did = λ s t e. h.did (past m s) t e.1;
-  stopped = λ s t e n x. elim x [ inl a ↦ inl (stop q s t a.2) | inr b ↦ h.stopped (past m s) t e n b.1 ];
+  stopped = λ s t e n x. elim x [ inl a ↦ inl (stop q es s t a.2) | inr b ↦ h.stopped (past m s) t e n b.1 ];
 }
 
 pub ahead : {q : Scope} {i : Item} {v : Lexeme → Verdict} {es : List Event} {ds k : Demands} → Does q es ds k
     → Does q es (Ahead i v ▸ ds) k
-ahead {q = q} h = record {
+ahead {q = q} {es = es} h = record {
   did = λ s t e. h.did s t e.1;
-  stopped = λ s t e n x. elim x [ inl a ↦ inl (stop q s t a.2) | inr b ↦ h.stopped s t e n b.1 ];
+  stopped = λ s t e n x. elim x [ inl a ↦ inl (stop q es s t a.2) | inr b ↦ h.stopped s t e n b.1 ];
 }
 
 pub next : {q : Scope} {v : Lexeme → Verdict} {es : List Event} {ds k : Demands} → Does q es ds k
     → Does q es (Next v ▸ ds) k
-next {q = q} h = record {
+next {q = q} {es = es} h = record {
   did = λ s t e. h.did s t e.1;
-  stopped = λ s t e n x. elim x [ inl a ↦ inl (stop q s t a.2) | inr b ↦ h.stopped s t e n b.1 ];
+  stopped = λ s t e n x. elim x [ inl a ↦ inl (stop q es s t a.2) | inr b ↦ h.stopped s t e n b.1 ];
 }
 
 pub test : {q : Scope} {b : Bool} {r : Refusal} {es : List Event} {ds k : Demands} → Does q es ds k
     → Does q es (Test b r ▸ ds) k
-test {q = q} h = record {
+test {q = q} {es = es} h = record {
   did = λ s t e. h.did s t e.1;
-  stopped = λ s t e n x. elim x [ inl a ↦ inl (stop q s t a.3) | inr b ↦ h.stopped s t e n b.1 ];
+  stopped = λ s t e n x. elim x [ inl a ↦ inl (stop q es s t a.3) | inr b ↦ h.stopped s t e n b.1 ];
 }
 
 pub test_in : {q : Scope} {b : Library → Bool} {r : Refusal} {es : List Event} {ds k : Demands} → Does q es ds k
     → Does q es (TestIn b r ▸ ds) k
-test_in {q = q} h = record {
+test_in {q = q} {es = es} h = record {
   did = λ s t e. h.did s t e.1;
-  stopped = λ s t e n x. elim x [ inl a ↦ inl (stop q s t a.3) | inr b ↦ h.stopped s t e n b.1 ];
+  stopped = λ s t e n x. elim x [ inl a ↦ inl (stop q es s t a.3) | inr b ↦ h.stopped s t e n b.1 ];
 }
 
 pub shape : {q : Scope} {b : Bool} {es : List Event} {ds k : Demands} → Does q es ds k → Does q es (Shape b ▸ ds) k
@@ -130,14 +137,15 @@ on {q = q} {a = a} {b = b} {k = k} {j = j} f g = record {
 }
   where
     by : (s t : Point) (e : Refusal) (n : Mode)
-        → (Orderly q s.library → Within q t.library) ⊎ Reached q s.library (library_after a s.library) k e n t
-        → (Orderly q s.library → Within q t.library) ⊎ Reached q s.library (library_after (a ++ b) s.library) j e n t
-    by s t e n (inl h) = inl h
+        → Stops q s.library a t ⊎ Reached q s.library (library_after a s.library) k e n t
+        → Stops q s.library (a ++ b) t ⊎ Reached q s.library (library_after (a ++ b) s.library) j e n t
+    by s t e n (inl h) = inl (h.0, holds_front a b s.library t.library h.1)
     by s t e n (inr r) = later (g.stopped r.end t e n r.missed)
       where
-        later : (Orderly q r.end.library → Within q t.library) ⊎ Reached q r.end.library (library_after b r.end.library) j e n t
-            → (Orderly q s.library → Within q t.library) ⊎ Reached q s.library (library_after (a ++ b) s.library) j e n t
-        later (inl h) = inl (λ o. h (r.orderly o))
+        later : Stops q r.end.library b t ⊎ Reached q r.end.library (library_after b r.end.library) j e n t
+            → Stops q s.library (a ++ b) t ⊎ Reached q s.library (library_after (a ++ b) s.library) j e n t
+        later (inl h) =
+            inl (λ o. h.0 (r.orderly o), holds_later a b s.library r.end.library t.library r.library h.1)
         later (inr p) = inr (record {
           end = p.end;
           missed = p.missed;
@@ -164,10 +172,19 @@ called {q = q} {a = a} {ds = ds} {k = k} h = record {
         captured = r.captured ∙ sym (captured_called q.inside a s.library s.captured);
         orderly = r.orderly;
       };
-  stopped = λ s t e n m.
-      subst (λ l. (Orderly q s.library → Within q t.library) ⊎ Reached q s.library l k e n t)
-      (sym (library_called a s.library)) (h.stopped s t e n m);
+  stopped = λ s t e n m. by s t e n (h.stopped s t e n m);
 }
+  where
+    by : (s t : Point) (e : Refusal) (n : Mode)
+        → Stops q s.library a t ⊎ Reached q s.library (library_after a s.library) k e n t
+        → Stops q s.library (as_called a) t ⊎ Reached q s.library (library_after (as_called a) s.library) k e n t
+    by s t e n (inl f) = inl (f.0, holds_called a s.library t.library f.1)
+    by s t e n (inr r) = inr (record {
+      end = r.end;
+      missed = r.missed;
+      library = r.library ∙ sym (library_called a s.library);
+      orderly = r.orderly;
+    })
 
 -- What is demanded literally is met or missed as any other demand.
 pub literally : {q : Scope} {a b : List Event} {ds more k : Demands} → Does q a ds Nothing → Does q b more k
@@ -192,16 +209,18 @@ literally {q = q} {a = a} {b = b} {ds = ds} {more = more} {k = k} f g = record {
 }
   where
     within_it : (s t : Point) (e : Refusal) (n : Mode)
-        → (Orderly q s.library → Within q t.library) ⊎ Reached q s.library (library_after a s.library) Nothing e n t
-        → Orderly q s.library → Within q t.library
+        → Stops q s.library a t ⊎ Reached q s.library (library_after a s.library) Nothing e n t → Stops q s.library a t
     within_it s t e n (inl h) = h
     within_it s t e n (inr r) = absurd r.missed
 
     later : (s between t : Point) (e : Refusal) (n : Mode)
         → Passed q s.library (library_after a s.library) (captured_after q.inside a s.library s.captured) Nothing between
-        → (Orderly q between.library → Within q t.library) ⊎ Reached q between.library (library_after b between.library) k e n t
-        → (Orderly q s.library → Within q t.library) ⊎ Reached q s.library (library_after (a ++ b) s.library) k e n t
-    later s between t e n r (inl h) = inl (λ o. h (subst (λ (x : Point). Orderly q x.library) r.met (r.orderly o)))
+        → Stops q between.library b t ⊎ Reached q between.library (library_after b between.library) k e n t
+        → Stops q s.library (a ++ b) t ⊎ Reached q s.library (library_after (a ++ b) s.library) k e n t
+    later s between t e n r (inl h) = inl (
+      λ o. h.0 (subst (λ (x : Point). Orderly q x.library) r.met (r.orderly o)),
+      holds_later a b s.library between.library t.library (sym (ap (λ (x : Point). x.library) r.met) ∙ r.library) h.1,
+    )
     later s between t e n r (inr p) = inr (record {
       end = p.end;
       missed = p.missed;
@@ -212,8 +231,10 @@ literally {q = q} {a = a} {b = b} {ds = ds} {more = more} {k = k} f g = record {
     })
 
     by : (s t : Point) (e : Refusal) (n : Mode) → Missed (Literally ds ▸ more) s e n t
-        → (Orderly q s.library → Within q t.library) ⊎ Reached q s.library (library_after (a ++ b) s.library) k e n t
-    by s t e n (inl m) = inl (within_it s t m.0 n (f.stopped s t m.0 n m.1))
+        → Stops q s.library (a ++ b) t ⊎ Reached q s.library (library_after (a ++ b) s.library) k e n t
+    by s t e n (inl m) =
+        let h = within_it s t m.0 n (f.stopped s t m.0 n m.1) in
+        inl (h.0, holds_front a b s.library t.library h.1)
     by s t e n (inr m) = later s m.0 t e n (f.did s m.0 m.1) (g.stopped m.0 t e n m.2)
 
 pub unfaulted_by : {q : Scope} {es : List Event} {k j : Demands} (r : Option Refusal) → Does q es k j
@@ -266,7 +287,7 @@ captures {q = q} c w u {es = es} {k = k} i h = record {
       (noted (b && is_free w.slots s.library u.name) u s.captured)) k t) i.0
       (h.did (capturing (is_captured c w u.name s.library) u s) t m.1);
   stopped = λ s t e n x. elim x [
-    | inl a ↦ inl (stop q s t a.3)
+    | inl a ↦ inl (stop q es s t a.3)
     | inr b ↦ h.stopped (capturing (is_captured c w u.name s.library) u s) t e n b.1
   ];
 }

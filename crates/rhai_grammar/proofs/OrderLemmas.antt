@@ -28,7 +28,7 @@ kept q es ds s t h g m = let r = h.did s t m in subst (λ (p : Point). Orderly q
 
 refused : (q : Scope) (es : List Event) (ds : Demands) (s t : Point) (e : Refusal) (n : Mode) → Does q es ds Nothing
     → Orderly q s.library → Missed ds s e n t → Within q t.library
-refused q es ds s t e n h g m = elim (h.stopped s t e n m) [ inl f ↦ f g | inr r ↦ absurd r.missed ]
+refused q es ds s t e n h g m = elim (h.stopped s t e n m) [ inl f ↦ f.0 g | inr r ↦ absurd r.missed ]
 
 key : (c : Context) (w : Live) (head : ClosureHead) (f : ClosureBody) (n : ℕ) (us : List Use) (s t : Point)
     → IsOrderly c.sizes.functions (c.begun + 1) s.library → Met (up_to_key head f n us c w) s t

@@ -7,10 +7,11 @@ use Rattle.rhai_lower.specs.Nodes.{Node, Nodes}
 use Rattle.rhai_lower.specs.Positions.{nowhere}
 use Rattle.rhai_lower.specs.Texts.{Text}
 use Rattle.rhai_lower.specs.declared.position.Position.{Position}
+use Rattle.rhai_grammar.specs.Causes.{Refusal}
 use Rattle.rhai_grammar.specs.Closures.{bars_at, closure_name, curry, declared_names}
 use Rattle.rhai_grammar.specs.Contexts.{Context, Live}
-use Rattle.rhai_grammar.specs.Delivered.{Point}
-use Rattle.rhai_grammar.specs.Demands.{Met, Nothing}
+use Rattle.rhai_grammar.specs.Delivered.{Mode, Point}
+use Rattle.rhai_grammar.specs.Demands.{Met, Missed, Nothing}
 use Rattle.rhai_grammar.specs.Forms.{Closure, ClosureBody, ClosureHead, Run, Statement, Statements}
 use Rattle.rhai_grammar.specs.Imports.{is_among}
 use Rattle.rhai_grammar.specs.Libraries.{closure_count, is_function}
@@ -18,8 +19,8 @@ use Rattle.rhai_grammar.specs.Settings.{in_closure}
 use Rattle.rhai_grammar.specs.Slots.{number}
 use Rattle.rhai_grammar.specs.Trees.{closure_tree, named_by, primary_tree}
 use Rattle.rhai_grammar.specs.Uses.{Use, names_of}
-use Rattle.rhai_grammar.specs.UsesOfForms.{ended_in, events, first_uses, free_uses, own_events, primary_events}
-use Rattle.rhai_grammar.specs.UsesOfForms.{script_events, statement_events, uses_in, with_uses}
+use Rattle.rhai_grammar.specs.UsesOfForms.{HoldsFirst, ended_in, events, first_uses, free_uses, own_events}
+use Rattle.rhai_grammar.specs.UsesOfForms.{primary_events, script_events, statement_events, uses_in, with_uses}
 use Rattle.rhai_grammar.specs.Written.{primary, statement, whole_expression, whole_script}
 use Rattle.rhai_grammar.specs.declared.role.OperandPlace.{OperandPlace}
 
@@ -97,13 +98,19 @@ pub record CapturedAreFreeUses : Type 0 where
       uses_in (primary_events (Closure head body n captured) live called) ≡ captured
 
 -- After a whole expression or script the functions are those before it, and those that end in it, in the order in which
--- they end. A statement in a closure captures its free uses; elsewhere nothing is captured.
+-- they end; where it is refused, they are those before it, and the first of these. A statement in a closure captures
+-- its free uses; elsewhere nothing is captured.
 pub record FormsLeaveTheirEvents : Type 0 where
   pub expression : (context : Context) (live : Live) (f : Run) (s t : Point) → Met (whole_expression f context live) s t
       → t.library ≡ s.library ++ ended_in (events f live)
   pub script : (context : Context) (live : Live) (fs : Statements) (s t : Point)
       → Met (whole_script fs context live) s t
       → t.library ≡ s.library ++ ended_in (script_events fs live)
+  pub expression_refused : (context : Context) (live : Live) (f : Run) (s t : Point) (e : Refusal) (mode : Mode)
+      → Missed (whole_expression f context live) s e mode t → HoldsFirst s.library (ended_in (events f live)) t.library
+  pub script_refused : (context : Context) (live : Live) (fs : Statements) (s t : Point) (e : Refusal) (mode : Mode)
+      → Missed (whole_script fs context live) s e mode t
+      → HoldsFirst s.library (ended_in (script_events fs live)) t.library
   pub inside : (context : Context) (live : Live) (f : Statement) (s t : Point) → in_closure context.settings ≡ true
       → Met (statement f context live Nothing) s t
       → t.captured ≡ with_uses s.captured (free_uses (statement_events f live) s.library)

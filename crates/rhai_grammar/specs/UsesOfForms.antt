@@ -202,6 +202,13 @@ abbrev mutual
   body_events (form.Many fs closing) live = script_events fs (in_block live)
   body_events (form.Single x closing) live = evaluation_events x live
 
+-- After a refusal the functions are those before, and the first of those that end in the form.
+pub record HoldsFirst (before : Library) (ended : List Ended) (after : Library) : Type 0 where
+  pub done : List Ended
+  pub rest : List Ended
+  pub ended_is : ended ≡ done ++ rest
+  pub after_is : after ≡ before ++ done
+
 -- ---- what is captured
 
 -- no live slot has this name, nor a function that has ended
@@ -257,7 +264,7 @@ example_form =
     form.Binary (Sign Plus) (place 1 5) example_property (only (form.Call (named (codes "f") 7) form.NoPath None (
     form.Listed (place 1 8) (form.Last (only (form.Plain example_closure form.NoPath)) (place 1 13)))))
 
--- `(f)(1)`
+-- `(f)(1)`, from its `(f)` and its 1
 abbrev example_called : Primary
 example_called = form.Group (place 1 1) (only (form.Plain (named (codes "f") 2) form.NoPath)) (place 1 3)
 

@@ -322,7 +322,8 @@ pub fn captured_are_free_uses()
     ensures { CapturedAreFreeUses }
 {}
 
-/// The functions after a form are those before it and those that end in it. Names are captured in closures alone.
+/// The functions after a form are those before it and those that end in it; where it is refused, those before it and
+/// the first of these. Names are captured in closures alone.
 #[tactic(auto, using(crate::proofs::CaptureLemmas::forms_leave_their_events))]
 pub fn forms_leave_their_events()
     ensures { FormsLeaveTheirEvents }
