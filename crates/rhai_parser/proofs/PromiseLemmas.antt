@@ -1,6 +1,6 @@
 -- From what the reading program gives to what is promised.
 use Rattle.std.proofs.lemmas.List.{append-nil}
-use Rattle.std.proofs.Common.{inl, ◌≡◌, Bool, true, false, List, [], ◌∷◌, refl, sym, ap, ◌∙◌, subst, Result, Ok, Err, IfErr, IfOk}
+use Rattle.std.proofs.Common.{ℕ, inl, ◌≡◌, Bool, true, false, List, [], ◌∷◌, refl, sym, ap, ◌∙◌, subst, Result, Ok, Err, IfErr, IfOk}
 use Rattle.std.specs.Prelude.{Vec, map}
 use Rattle.std.specs.declared.alloc.Global.{Global}
 use Rattle.std.specs.declared.rc.Rc.{Rc}
@@ -11,15 +11,18 @@ use Rattle.rhai_ast.specs.View.{function_view, statement_views}
 use Rattle.rhai_ast.specs.declared.ast.AST.{AST}
 use Rattle.rhai_ast.specs.declared.ast.ScriptFuncDef.{ScriptFuncDef}
 use Rattle.rhai_ast.specs.declared.ast.Stmt.{Stmt}
-use Rattle.rhai_grammar.specs.Causes.{refusal_of, is_for_memory}
+use Rattle.rhai_grammar.specs.Causes.{Refusal, refusal_of, is_for_memory}
 use Rattle.rhai_grammar.specs.Cursors.{Cursor}
 use Rattle.rhai_grammar.specs.Contexts.{Context, Live}
-use Rattle.rhai_grammar.specs.Demands.{Demands}
+use Rattle.rhai_grammar.specs.Delivered.{Mode, Point}
+use Rattle.rhai_grammar.specs.Demands.{Demands, Met, Missed}
 use Rattle.rhai_grammar.specs.Forms as form
 use Rattle.rhai_grammar.specs.Libraries.{Library}
 use Rattle.rhai_grammar.specs.Trees.{statement_trees, tree}
 use Rattle.rhai_grammar.specs.Definitions.{after_statements}
-use Rattle.rhai_grammar.specs.Promises.{HasRead, IsWrittenTo, ReadsWhole, Returns, UnlessMemory}
+use Rattle.rhai_grammar.specs.NumberedLibraries.{IsOrderly}
+use Rattle.rhai_grammar.proofs.OrderLemmas.{libraries_stay_orderly}
+use Rattle.rhai_grammar.specs.Promises.{HasRead, IsWrittenTo, ReadsWhole, Returns, UnlessMemory, expressions, scripts, start_of}
 use Rattle.rhai_grammar.specs.declared.key.FnKey.{FnKey}
 use Rattle.rhai_base.specs.Libraries.{Begins, Grows, library_of}
 use Rattle.rhai_parser.specs.Scripts.{Accepts, IsScript, IsScriptOf, ReadsExpression, ReadsScript, function_views, functions_in}
@@ -189,3 +192,39 @@ pub script_fails : (c : Context) (live : Live) (s left : Progress) (e : ParseErr
     → ReadsScript c live s.library left.library s.cursor left.cursor (Err e) slots modules
 script_fails c live s left e slots modules mode fails =
     reads_fails (script_entry c live) (λ fs script. IsScript fs live left.library script slots modules) s left e mode fails
+
+-- ---- what the library holds
+
+module _ {F X : Type 0} (whole : F → Demands) (Is : F → X → Type 0) (limit : ℕ) (before after : Library) (s left : Cursor)
+    (fits : (f : F) (a b : Point) → IsOrderly limit 0 a.library → Met (whole f) a b → IsOrderly limit 0 b.library)
+    (misses : (f : F) (a b : Point) (e : Refusal) (m : Mode) → IsOrderly limit 0 a.library → Missed (whole f) a e m b → IsOrderly limit 0 b.library)
+    where
+      orderly_so : (result : Result X ParseError) → ReadsWhole whole Is before after s left result → IsOrderly limit 0 before
+          → UnlessMemory (λ refused. IsOrderly limit 0 after) result
+      orderly_so (Ok x) reads orderly =
+          let w = reads.accepted in
+          subst (IsOrderly limit 0) w.1.2 (fits w.0 (start_of before s) w.1.0 orderly w.1.1)
+      orderly_so (Err e) reads orderly = λ other.
+          let named = (reads.refused other).1.named in
+          misses named.form (start_of before s) _ _ _ orderly named.missed
+
+pub script_orderly : (c : Context) (live : Live) (before after : Library) (s left : Cursor) (slots : List SlotValue)
+    (modules : List Text) (result : Result Read ParseError) → c.begun ≡ 0
+    → ReadsScript c live before after s left result slots modules → IsOrderly c.sizes.functions 0 before
+    → UnlessMemory (λ refused. IsOrderly c.sizes.functions 0 after) result
+script_orderly c live before after s left slots modules result none reads =
+    orderly_so (scripts c live) (λ fs script. IsScript fs live after script slots modules) c.sizes.functions before after s left
+    (λ f a b o met. subst (λ n. IsOrderly c.sizes.functions n b.library) none
+    (libraries_stay_orderly.script c live f a b (subst (λ n. IsOrderly c.sizes.functions n a.library) (sym none) o) met))
+    (λ f a b e m o missed. libraries_stay_orderly.script_refused c live f a b e m (subst (λ n. IsOrderly c.sizes.functions n a.library) (sym none) o) missed)
+    result reads
+
+pub expression_orderly : (c : Context) (live : Live) (before after : Library) (s left : Cursor) (result : Result AST ParseError)
+    → c.begun ≡ 0 → ReadsExpression c live before after s left result → IsOrderly c.sizes.functions 0 before
+    → UnlessMemory (λ refused. IsOrderly c.sizes.functions 0 after) result
+expression_orderly c live before after s left result none reads =
+    orderly_so (expressions c live) (λ f script. IsScriptOf (tree f live) after script) c.sizes.functions before after s left
+    (λ f a b o met. subst (λ n. IsOrderly c.sizes.functions n b.library) none
+    (libraries_stay_orderly.expression c live f a b (subst (λ n. IsOrderly c.sizes.functions n a.library) (sym none) o) met))
+    (λ f a b e m o missed. libraries_stay_orderly.expression_refused c live f a b e m (subst (λ n. IsOrderly c.sizes.functions n a.library) (sym none) o) missed)
+    result reads

@@ -7,6 +7,7 @@ ghost use Rattle.rhai_ast.specs.View.{view};
 ghost use Rattle.rhai_grammar.specs.Causes.{MemoryIsNowhere};
 ghost use Rattle.rhai_grammar.specs.Cursors.{cursor_of};
 ghost use Rattle.rhai_grammar.specs.Delivered.{code};
+ghost use Rattle.rhai_grammar.specs.NumberedLibraries.{IsOrderly};
 ghost use Rattle.rhai_grammar.specs.Promises.{HasRead, UnlessMemory};
 ghost use Rattle.rhai_grammar.specs.Uses.{Use};
 ghost use Rattle.rhai_reading.specs.Reading.{Whole};
@@ -365,6 +366,10 @@ impl Engine {
         ensures memory { UnlessMemory (HasRead (cursor_of state.entry.input.now) (cursor_of state.exit.0.now)) result }
         ensures nowhere { IfErr result MemoryIsNowhere }
         ensures grows { Begins (library_of state.entry.lib.now.entries) (library_of state.exit.1.0.now.entries) }
+        ensures orderly { IsFresh state.entry
+            → IsOrderly self.now.max_functions 0 (library_of state.entry.lib.now.entries)
+            → UnlessMemory (λ refused. IsOrderly self.now.max_functions 0
+            (library_of state.exit.1.0.now.entries)) result }
     {
         let mut chosen = self.expr_settings();
         settings(&mut chosen);

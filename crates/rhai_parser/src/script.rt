@@ -13,9 +13,10 @@ ghost use Rattle.rhai_parser.specs.Scripts.{ReadsScript, function_views, functio
 ghost use Rattle.rhai_reading.specs.Reading.{Script};
 ghost use Rattle.rhai_reading.specs.Running.{Gives, result_of};
 ghost use Rattle.rhai_base.specs.Libraries.{Begins, Grows, library_of};
-ghost use Rattle.rhai_base.specs.Counts.{counts_of};
+ghost use Rattle.rhai_base.specs.Counts.{counts_of, none_yet};
 ghost use Rattle.rhai_base.specs.States.{IsFresh};
-ghost use Rattle.rhai_parser.specs.Nesting.{StaysWithin};
+ghost use Rattle.rhai_grammar.specs.NumberedLibraries.{IsOrderly};
+ghost use Rattle.rhai_parser.specs.Nesting.{NestsAsWritten, StaysWithin};
 ghost use Rattle.rhai_parser.specs.Engines.{script_settings};
 ghost use Rattle.rhai_language.specs.Frames.{context_of};
 ghost use Rattle.rhai_language.specs.Readers.{nesting_of};
@@ -140,13 +141,22 @@ impl Engine {
             × ReadsScript (starts_in self.now state.old chosen) (live_in state.old)
             (library_of state.old.lib.now.entries) (library_of state.new.lib.now.entries)
             (cursor_of state.old.input.now) (cursor_of state.new.input.now) result state.new.stack
-            (map rc_str_bytes state.new.imports.items) }
+            (map rc_str_bytes state.new.imports.items)
+            × UnlessMemory (λ refused. StaysWithin 2 self.now chosen none_yet (counts_of state.new.counts)) result
+            × IfOk result (λ script. NestsAsWritten (starts_in self.now state.old chosen) (live_in state.old)
+            (library_of state.old.lib.now.entries) (cursor_of state.old.input.now) (counts_of state.new.counts)) }
         ensures memory { UnlessMemory (HasRead (cursor_of state.old.input.now) (cursor_of state.new.input.now)) result }
         ensures nowhere { IfErr result MemoryIsNowhere }
         ensures grows { Begins (library_of state.old.lib.now.entries) (library_of state.new.lib.now.entries) }
+        ensures orderly { IsFresh state.old
+            → IsOrderly self.now.max_functions 0 (library_of state.old.lib.now.entries)
+            → UnlessMemory (λ refused. IsOrderly self.now.max_functions 0
+            (library_of state.new.lib.now.entries)) result }
         ensures nests { (chosen : _) × FnOnceReturnsAtMut F.FnOnce settings (script_settings self.now) tt chosen
             × UnlessMemory (λ refused. StaysWithin 2 self.now chosen (counts_of state.old.counts)
             (counts_of state.new.counts)) result }
+        ensures lent { (state.new.input.ghost_name ≡ state.old.input.ghost_name)
+            × (state.new.lib.ghost_name ≡ state.old.lib.ghost_name) }
         ensures kept { (state.new.global_imports ≡ state.old.global_imports)
             × (state.new.external_constants ≡ state.old.external_constants)
             × (state.new.frame_pointer ≡ state.old.frame_pointer)
