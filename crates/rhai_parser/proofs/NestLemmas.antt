@@ -13,7 +13,11 @@ use Rattle.rhai_base.specs.Counts.{Counts, with_entered, with_left}
 use Rattle.rhai_base.specs.declared.settings.ParseSettings.{ParseSettings}
 use Rattle.rhai_language.specs.Languages.{LanguageValue}
 use Rattle.std.specs.Prelude.{◌⊎◌}
+use Rattle.rhai_grammar.specs.Cursors.{Cursor}
 use Rattle.rhai_grammar.specs.Depths.{statements_depth}
+use Rattle.rhai_grammar.specs.Forms.{Statements}
+use Rattle.rhai_grammar.specs.Libraries.{Library}
+use Rattle.rhai_grammar.specs.Promises.{IsWritten, scripts}
 use Rattle.rhai_parser.specs.Nesting.{NestsAsWritten, StaysWithin}
 use Rattle.rhai_reading.specs.Nesting.{Nesting, entered}
 use Rattle.rhai_reading.proofs.DepthMain.{script_nests}
@@ -104,3 +108,11 @@ nests_written c w s left x after new first last e fs written =
 pub if_ok : {A : Type 0} {P : Type 0} (r : Result A ParseError) → P → IfOk r (λ x. P)
 if_ok (Ok x) p = p
 if_ok (Err e) p = tt
+
+-- the entry is left
+pub nests_left : {A : Type 0} (c : Context) (w : Live) (before : Library) (s : Cursor) (read left : Counts) (r : Result A ParseError)
+    → left ≡ with_left read → IfOk r (λ x. NestsAsWritten c w before s read) → IfOk r (λ x. NestsAsWritten c w before s left)
+nests_left c w before s read left (Ok x) leaves nests =
+    subst (λ p. (fs : Statements) → IsWritten (scripts c w) fs before s → (2 ^ 64 - 1 ≤ p) ⊎ (1 + statements_depth fs ≤ p))
+    (sym (ap (λ (n : Counts). n.peak) leaves)) nests
+nests_left c w before s read left (Err e) leaves nests = tt

@@ -267,7 +267,7 @@ impl Engine {
         constants: Option<&Scope>,
         level: OptimizationLevel,
     ) -> ParseResult<AST>
-        ensures script { Accepts (view expr) (library_of lib.now.entries) result }
+        ensures script { Accepts constants.entry level (view expr) (library_of lib.now.entries) result }
         ensures nowhere { IfErr result MemoryIsNowhere }
     {
         let statement = Stmt::Expr(Box::new(self.language.alloc, expr)?);
@@ -327,7 +327,7 @@ impl Engine {
         ensures reads { (cursor_of input.old).mode ≡ code
             → ReadsExpression (context_of self.now frame.now settings) (live_of frame.now)
             (library_of lib.old.entries) (library_of lib.new.entries) (cursor_of input.old) (cursor_of input.new)
-            result }
+            constants.entry level result }
         ensures memory { UnlessMemory (HasRead (cursor_of input.old) (cursor_of input.new)) result }
         ensures nowhere { IfErr result MemoryIsNowhere }
         ensures grows { Begins (library_of lib.old.entries) (library_of lib.new.entries) }
@@ -362,7 +362,8 @@ impl Engine {
             × FnOnceReturnsAtMut F.FnOnce settings (expr_settings self.now) tt chosen
             × ReadsExpression (starts_in self.now state.entry chosen) (live_in state.entry)
             (library_of state.entry.lib.now.entries) (library_of state.exit.1.0.now.entries)
-            (cursor_of state.entry.input.now) (cursor_of state.exit.0.now) result }
+            (cursor_of state.entry.input.now) (cursor_of state.exit.0.now) state.entry.external_constants level
+            result }
         ensures memory { UnlessMemory (HasRead (cursor_of state.entry.input.now) (cursor_of state.exit.0.now)) result }
         ensures nowhere { IfErr result MemoryIsNowhere }
         ensures grows { Begins (library_of state.entry.lib.now.entries) (library_of state.exit.1.0.now.entries) }
