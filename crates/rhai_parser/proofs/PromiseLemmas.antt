@@ -201,15 +201,15 @@ script_fails c live s left e slots modules mode fails =
 module _ {F X : Type 0} (whole : F → Demands) (Is : F → X → Type 0) (limit : ℕ) (before after : Library) (s left : Cursor)
     (fits : (f : F) (a b : Point) → IsOrderly limit 0 a.library → Met (whole f) a b → IsOrderly limit 0 b.library)
     (misses : (f : F) (a b : Point) (e : Refusal) (m : Mode) → IsOrderly limit 0 a.library → Missed (whole f) a e m b → IsOrderly limit 0 b.library)
-    where
-      orderly_so : (result : Result X ParseError) → ReadsWhole whole Is before after s left result → IsOrderly limit 0 before
-          → UnlessMemory (λ refused. IsOrderly limit 0 after) result
-      orderly_so (Ok x) reads orderly =
-          let w = reads.accepted in
-          subst (IsOrderly limit 0) w.1.2 (fits w.0 (start_of before s) w.1.0 orderly w.1.1)
-      orderly_so (Err e) reads orderly = λ other.
-          let named = (reads.refused other).1.named in
-          misses named.form (start_of before s) _ _ _ orderly named.missed
+  where
+    orderly_so : (result : Result X ParseError) → ReadsWhole whole Is before after s left result → IsOrderly limit 0 before
+        → UnlessMemory (λ refused. IsOrderly limit 0 after) result
+    orderly_so (Ok x) reads orderly =
+        let w = reads.accepted in
+        subst (IsOrderly limit 0) w.1.2 (fits w.0 (start_of before s) w.1.0 orderly w.1.1)
+    orderly_so (Err e) reads orderly = λ other.
+        let named = (reads.refused other).1.named in
+        misses named.form (start_of before s) _ _ _ orderly named.missed
 
 script_fits_orderly : (c : Context) (live : Live) → c.begun ≡ 0 → (fs : form.Statements) (a b : Point)
     → IsOrderly c.sizes.functions 0 a.library → Met (scripts c live fs) a b → IsOrderly c.sizes.functions 0 b.library

@@ -151,7 +151,15 @@ impl Engine {
             (counts_of counts.new)) result }
     {
         let mut library = take_library(self.alloc(), lib)?;
-        let read = self.read_statements(input, &mut library, counts, frame, stack, imports, settings);
+        let read = self.read_statements(
+            input,
+            &mut library,
+            counts,
+            frame,
+            stack,
+            imports,
+            settings,
+        );
         *lib = library.into_functions();
         match read {
             Ok(statements) => self.with_functions(statements, lib),
