@@ -13,7 +13,7 @@ use rhai_ast::{Expr, Stmt, StmtBlock};
 use rhai_base::{Frame, ParseSettings};
 use rhai_grammar::{Construct, DueToken, ParseResult};
 use rhai_language::blocks::{begin_block, parse_block};
-use rhai_language::{LentReaders, Shared};
+use rhai_language::{LentReaders, Shared, nested};
 use rhai_leaves::constructs::guard_begins;
 use rhai_leaves::cursor::peek;
 use rhai_leaves::due::pass_token;

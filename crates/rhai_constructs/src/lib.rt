@@ -2,16 +2,6 @@
 //! statements in them is lent to them.
 #![tactic(auto)]
 
-// Calls a reader that counts: it is entered before, and left after.
-macro_rules! nested {
-    ($shared:ident, $read:expr) => {{
-        $shared.enter();
-        let read = $read;
-        $shared.leave();
-        read
-    }};
-}
-
 pub mod arms;
 mod construct;
 pub mod control;

@@ -18,7 +18,7 @@ use rhai_ast::ast::SwitchCasesCollection;
 use rhai_ast::{Expr, Stmt};
 use rhai_base::{Frame, ParseSettingFlags, ParseSettings};
 use rhai_grammar::{DueToken, ParseResult};
-use rhai_language::{LentReaders, Shared};
+use rhai_language::{LentReaders, Shared, nested};
 use rhai_leaves::arms::{NextArm, action_due, default_unguarded, next_arm};
 use rhai_leaves::due::{match_token, pass_token};
 use rhai_lower::Position;

@@ -13,7 +13,7 @@ use rhai_ast::Expr;
 use rhai_base::words::{Call, make_method};
 use rhai_base::{Frame, ParseSettings};
 use rhai_grammar::{Calling, Linking, ParseResult};
-use rhai_language::{LentReaders, Shared};
+use rhai_language::{LentReaders, Shared, nested};
 use rhai_leaves::cursor::{peek, skip};
 use rhai_leaves::due::{arguments_due, no_bang};
 use rhai_leaves::links::{is_name, is_negated, member_due, unscoped, what_links};

@@ -17,7 +17,7 @@ use rhai_base::modules::test_path;
 use rhai_base::words::{as_variable, is_qualified_name, make_call};
 use rhai_base::{Frame, ParseSettings};
 use rhai_grammar::{CommaList, DueToken, OperandPlace, OperandStart, ParseResult};
-use rhai_language::{LentReaders, Shared};
+use rhai_language::{LentReaders, Shared, nested};
 use rhai_leaves::cursor::{peek, skip, take};
 use rhai_leaves::lists::{closes_list, list_continues};
 use rhai_leaves::refusals::missing;

@@ -5,12 +5,11 @@ use Rattle.std.specs.Prelude.{Option}
 use Rattle.std.proofs.lemmas.List.{map-append}
 use Rattle.std.proofs.lemmas.List.Folds.{list_any-append}
 use Rattle.std.specs.Cmp.Lexicographic as L
-use Rattle.rhai_lower.specs.Nodes as node
 use Rattle.rhai_lower.specs.Texts.{Text, same_text}
 use Rattle.rhai_lower.specs.declared.position.Position.{Position}
 use Rattle.rhai_input.specs.Slots.{SlotValue}
 use Rattle.rhai_grammar.specs.ClosureLaws.{AreDistinct, CapturedAreUsed, ParametersAreCaptured, names_in}
-use Rattle.rhai_grammar.specs.Closures.{all_names, bars_at, captured_nodes, closure_name, declared_names, in_closure, shared_names}
+use Rattle.rhai_grammar.specs.Closures.{bars_at, captured_nodes, declared_names, in_closure, shared_names}
 use Rattle.rhai_grammar.specs.Contexts.{Context, Live, level_up}
 use Rattle.rhai_grammar.specs.Delivered as D
 use Rattle.rhai_grammar.specs.Delivered.{Point, adding, code, next_at, past, capturing, with_captured}
@@ -49,10 +48,11 @@ name_count (u ∷ us) = let e = name_count us in cc
 pub parameters_are_captured : ParametersAreCaptured
 parameters_are_captured = record {
   parameters = λ head f n us. refl;
+  key = λ head f n us. refl;
+  alone = λ head f n w called. refl;
   handed = λ head f n u us w called. record {
     shared = shared_names w.slots (u ∷ us);
     handed = captured_nodes w.slots (u ∷ us);
-    pointer = node.pointer (closure_name n) (length (all_names (u ∷ us) (declared_names head))) (bars_at head);
     is = let e = name_count us in cc;
     shared_are = shared_are w.slots (u ∷ us);
     handed_are = handed_are w.slots (u ∷ us);

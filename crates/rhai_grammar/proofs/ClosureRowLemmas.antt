@@ -1,9 +1,10 @@
 -- The worked rows of closures, by evaluation.
 use Rattle.std.proofs.Common.{inl, inr, refl}
 use Rattle.rhai_grammar.specs.Closures.{last_hex_digits}
+use Rattle.rhai_grammar.specs.Functions.{names_function}
 use Rattle.rhai_grammar.specs.Settings.{one_more}
 use Rattle.rhai_grammar.specs.Slots.{number}
-use Rattle.rhai_grammar.specs.RowsOfClosures.{ClosureSumRow, DotRow, EmptyBodyRow, FunctionNameRow, MemberRow, NestedRow, SlotRow}
+use Rattle.rhai_grammar.specs.RowsOfClosures.{CaseRow, ClosureSumRow, DotRow, EmptyBodyRow, FunctionNameRow, MemberRow, NestedRow, SecondFunctionRow, SlotRow}
 
 pub member_row : MemberRow
 unfolding one_more number
@@ -32,3 +33,11 @@ function_name_row = record { tree_is = refl; fits = (refl, (refl, (refl, (refl, 
 pub dot_row : DotRow
 unfolding one_more number
 dot_row = record { tree_is = refl; fits = (refl, (refl, (refl, (refl, (refl, (_, (refl, (refl, (refl, (refl, (refl, (refl, (refl, (refl, (refl, (refl, (refl, (refl, (refl, (refl, (refl, (refl, (refl, (refl, (refl, (refl, (refl, refl))))))))))))))))))))), (refl, refl), (refl, (tt, (refl, (refl, (refl, (refl, (refl, (refl, (refl, (refl, (refl, (refl, (refl, (refl, refl)))))))))))))))))))) }
+
+pub case_row : CaseRow
+unfolding one_more number
+case_row = record { tree_is = refl; fits = (refl, (refl, (refl, (refl, (refl, (refl, (refl, (refl, (refl, (refl, (refl, (refl, (refl, (refl, (refl, (_, (refl, (refl, (refl, (refl, (refl, (_, (refl, (refl, (refl, (refl, (refl, (refl, (refl, (refl, (refl, (refl, (refl, (refl, (refl, (refl, (refl, (refl, (refl, (refl, (refl, (refl, (refl, (refl, (refl, (refl, (refl, (refl, refl)))))))))))))))))))))))))), (refl, refl), (refl, (tt, (refl, (refl, (refl, (refl, (refl, refl))))))))))))), (refl, (refl, (refl, (refl, (refl, (refl, (refl, (refl, (refl, (refl, (refl, (refl, (refl, (refl, (refl, (refl, (refl, (refl, (refl, (refl, refl)))))))))))))))))))))))))))))))))))) }
+
+pub second_function_row : SecondFunctionRow
+unfolding one_more number names_function
+second_function_row = record { many = inr (refl, inr (refl, inr (refl, inr (refl, inr (refl, inr (refl, inr (refl, inr (refl, inr (refl, inr (refl, (refl, inr (refl, inr (refl, inr (refl, inr (refl, (refl, inr (refl, inl (refl, refl, refl, refl)))))))))))))))))) }

@@ -4,6 +4,13 @@ pub mod Leads
 pub mod SpellingLemmas
 pub mod StreamLemmas
 pub mod ClosureLemmas
+pub mod EventEffects
+pub mod EventSteps
+pub mod EventEnds
+pub mod EventParts
+pub mod EventLemmas
+pub mod CaptureLemmas
+pub mod OrderLemmas
 pub mod RowLemmas
 pub mod StatementRowLemmas
 pub mod StringRowLemmas
@@ -14,6 +21,7 @@ pub mod ClosureRowLemmas
 pub mod BeginningLemmas
 pub mod StartLemmas
 pub mod SlotLemmas
+pub mod LibraryLemmas
 pub mod ChainLemmas
 pub mod FairLemmas
 pub mod SwitchLemmas

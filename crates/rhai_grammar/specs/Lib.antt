@@ -26,6 +26,7 @@ pub mod Interpolations
 pub mod Trees
 pub mod Uses
 pub mod Closures
+pub mod UsesOfForms
 pub mod Demands
 pub mod Constructs
 pub mod Statements
@@ -48,7 +49,10 @@ pub mod RowsOfConstructs
 pub mod RowsOfModules
 pub mod RowsOfFunctions
 pub mod RowsOfClosures
+pub mod Depths
 pub mod StartLaws
 pub mod ClosureLaws
 pub mod SlotLaws
+pub mod NumberedLibraries
+pub mod LibraryLaws
 pub mod Imports

@@ -1,5 +1,5 @@
 -- Worked rows of closures: expressions and a script, their written forms, and what the definitions say about them.
-use Rattle.std.specs.Prelude.{pos, ◌≡◌, ℕ, false, None, Option, Some, List, [], ◌∷◌, ◌++◌, codes, map, length}
+use Rattle.std.specs.Prelude.{pos, ◌≡◌, ℕ, true, false, None, Option, Some, List, [], ◌∷◌, ◌++◌, codes, map, length}
 use Rattle.rhai_lower.specs.Lexemes.{Integer, Lexeme, Name, Sign}
 use Rattle.rhai_lower.specs.Nodes as node
 use Rattle.rhai_lower.specs.Nodes.{Node}
@@ -16,10 +16,12 @@ use Rattle.rhai_grammar.specs.Forms as form
 use Rattle.rhai_grammar.specs.Forms.{ClosureBody, ClosureHead, Run, Statements}
 use Rattle.rhai_grammar.specs.Libraries.{Ended}
 use Rattle.rhai_grammar.specs.Rows.{between, depth, number, plain, unread}
+use Rattle.rhai_grammar.specs.RowsOfConstructs.{arm_of, switch_alone}
 use Rattle.rhai_grammar.specs.RowsOfFunctions.{holding, one_function}
-use Rattle.rhai_grammar.specs.RowsOfStatements.{ended, evaluates, let_tokens, named}
+use Rattle.rhai_grammar.specs.RowsOfModules.{on_global_level}
+use Rattle.rhai_grammar.specs.RowsOfStatements.{ended, evaluates, integer, let_tokens, named}
 use Rattle.rhai_grammar.specs.Operators.{operator_call}
-use Rattle.rhai_grammar.specs.Trees.{body_tree, tree, variable_of}
+use Rattle.rhai_grammar.specs.Trees.{body_tree, statement_trees, tree, variable_of}
 use Rattle.rhai_grammar.specs.Uses.{Use}
 use Rattle.rhai_grammar.specs.Written.{whole_expression, whole_script}
 
@@ -226,3 +228,61 @@ pub record EmptyBodyRow : Type 0 where
       (refusal cause.TooManyFunctions (place 1 1)) code (between ((Sign token.Or, 1) ∷ []) [] 3)
   pub unknown : Missed (whole_expression use_form strict nothing_live) (unread use_tokens 5)
       (refusal (cause.VariableUndefined (codes "x")) (place 1 4)) code (between use_tokens [] 5)
+
+-- ---- `switch 1 { || 1 | 2 => 3 }`: in a case `|` is no operator, but in a closure it is one again, so the case is the
+-- closure of `1 | 2`, whose pointer is a literal value
+
+abbrev pub case_tokens : List (Lexeme × ℕ)
+case_tokens =
+    (Sign token.Switch, 1) ∷ (Integer (pos 1), 8) ∷ (Sign token.LeftBrace, 10) ∷ (Sign token.Or, 12)
+    ∷ (Integer (pos 1), 15) ∷ (Sign token.Pipe, 17) ∷ (Integer (pos 2), 19) ∷ (Sign token.DoubleArrow, 21)
+    ∷ (Integer (pos 3), 24) ∷ (Sign token.RightBrace, 26) ∷ []
+
+abbrev pub case_body : Run
+case_body = form.Binary (Sign token.Pipe) (place 1 17) (number 1 15) (number 2 19)
+
+abbrev pub case_form : Statements
+case_form =
+    switch_alone (number 1 8) 10 (
+    arm_of (closure (bars 12) (evaluating case_body) 0 []) 21 (evaluates (number 3 24)) None (form.NoArm (place 1 26)))
+
+abbrev pub case_switch : node.Statement
+case_switch =
+    node.switch_statement (integer 1 8) (node.one_arm (node.boolean true nowhere)
+    (node.block_value (node.made_block (node.expression (integer 3 24)))) node.no_arms) (
+    node.one_case (pointer 0 0 12) (0 ∷ []) node.no_cases) [] None (place 1 1)
+
+pub record CaseRow : Type 0 where
+  pub tree_is : statement_trees case_form nothing_live ≡ node.one_statement case_switch node.no_statements
+  pub fits : Met (whole_script case_form with_closures nothing_live) (unread case_tokens 27)
+      (holding (giving 0 [] (tree case_body nothing_live) ∷ []) (between case_tokens [] 27))
+
+-- ---- `fn f() { || 1 }` where there may be one function: the closure would be the second, and is refused at its `||`
+
+abbrev pub second_begun : List (Lexeme × ℕ)
+second_begun =
+    (Sign token.Fn, 1) ∷ (Name (codes "f"), 4) ∷ (Sign token.Unit, 5) ∷ (Sign token.LeftBrace, 8) ∷ (Sign token.Or, 10)
+    ∷ []
+
+abbrev pub second_rest : List (Lexeme × ℕ)
+second_rest = (Integer (pos 1), 13) ∷ (Sign token.RightBrace, 15) ∷ []
+
+abbrev pub second_body : form.Body
+second_body =
+    form.Many (form.LastStatement (evaluates (closure (bars 10) (evaluating (number 1 13)) 0 []))) (place 1 15)
+
+abbrev pub second_function : form.Statement
+second_function =
+    form.Function None (place 1 1) form.NoOwner (codes "f") (place 1 4) (form.EmptyParameters (place 1 5)) (place 1 8)
+    second_body
+
+abbrev pub second_form : Statements
+second_form = form.Standing second_function form.NoStatement
+
+abbrev pub room_for_one : Context
+room_for_one =
+    record on_global_level { sizes = record { array = 0; map = 0; function_depth = 32; functions = 1 } }
+
+pub record SecondFunctionRow : Type 0 where
+  pub many : Missed (whole_script second_form room_for_one nothing_live) (unread (second_begun ++ second_rest) 16)
+      (refusal cause.TooManyFunctions (place 1 10)) code (between second_begun second_rest 16)

@@ -1,12 +1,15 @@
 //! Laws of the definitions, as contracts of functions that do nothing.
 
-ghost use Rattle.rhai_grammar.specs.ClosureLaws.{CapturedAreUsed, ParametersAreCaptured};
+ghost use Rattle.rhai_grammar.specs.ClosureLaws.{CapturedAreFreeUses, CapturedAreUsed, FormsLeaveTheirEvents};
+ghost use Rattle.rhai_grammar.specs.ClosureLaws.{ParametersAreCaptured};
 ghost use Rattle.rhai_grammar.specs.Laws.{ChainsAreJoined, EntriesAreDelivered, FormsAreFair};
 ghost use Rattle.rhai_grammar.specs.Laws.{FormsAreSpelled, FormsFitWhereverSpelled, StreamsAreWhole, TreesKeepShape};
+ghost use Rattle.rhai_grammar.specs.LibraryLaws.{LibrariesStayOrderly, NumbersAreKept};
 ghost use Rattle.rhai_grammar.specs.Rows.{CallRow, EndedRow, FlatRow, LateRow, MinusRow, OpenRow};
 ghost use Rattle.rhai_grammar.specs.Rows.{PairRow, RangedRow, SizedRow, SumRow};
 ghost use Rattle.rhai_grammar.specs.RowsOfChains.{CaptureRow, GroupedRow, JoinedRow, QuestionedRow};
-ghost use Rattle.rhai_grammar.specs.RowsOfClosures.{ClosureSumRow, DotRow, EmptyBodyRow, FunctionNameRow, MemberRow, NestedRow, SlotRow};
+ghost use Rattle.rhai_grammar.specs.RowsOfClosures.{CaseRow, ClosureSumRow, DotRow, EmptyBodyRow, FunctionNameRow};
+ghost use Rattle.rhai_grammar.specs.RowsOfClosures.{MemberRow, NestedRow, SecondFunctionRow, SlotRow};
 ghost use Rattle.rhai_grammar.specs.RowsOfConstructs.{ArmRow, BreakRow, DefaultRow, IntegerRow, LoopRow, PipeRow};
 ghost use Rattle.rhai_grammar.specs.RowsOfFunctions.{FunctionRow};
 ghost use Rattle.rhai_grammar.specs.RowsOfModules.{ExportedRow, TwiceRow};
@@ -299,8 +302,8 @@ pub fn scopes_close()
     ensures { ScopesClose }
 {}
 
-/// The parameters of a closure are the names that it captures, and then its own; `curry` has the captured ones, in the
-/// same order.
+/// The parameters of a closure are the names that it captures, and then its own; `curry` has the pointer to it and the
+/// captured ones, in the same order.
 #[tactic(auto, using(crate::proofs::ClosureLemmas::parameters_are_captured))]
 pub fn parameters_are_captured()
     ensures { ParametersAreCaptured }
@@ -310,6 +313,34 @@ pub fn parameters_are_captured()
 #[tactic(auto, using(crate::proofs::ClosureLemmas::captured_are_used))]
 pub fn captured_are_used()
     ensures { CapturedAreUsed }
+{}
+
+/// What a closure captures are the uses in its body that no live slot of it has there, and no function that has ended,
+/// each name at its first use. Its number is the count of closures that have ended before it.
+#[tactic(auto, using(crate::proofs::CaptureLemmas::captured_are_free_uses))]
+pub fn captured_are_free_uses()
+    ensures { CapturedAreFreeUses }
+{}
+
+/// The functions after a form are those before it and those that end in it; where it is refused, those before it and
+/// the first of these. Names are captured in closures alone.
+#[tactic(auto, using(crate::proofs::CaptureLemmas::forms_leave_their_events))]
+pub fn forms_leave_their_events()
+    ensures { FormsLeaveTheirEvents }
+{}
+
+/// A library whose closures are numbered stays so with one more closure of the next number, and with one more function
+/// that is no closure. In it the key of the next closure is new.
+#[tactic(auto, using(crate::proofs::LibraryLemmas::numbers_are_kept))]
+pub fn numbers_are_kept()
+    ensures { NumbersAreKept }
+{}
+
+/// From an orderly library no more functions and closures end than the limit allows, and no two with one key, also
+/// where the script is refused. No closure is refused for its key.
+#[tactic(auto, using(crate::proofs::OrderLemmas::libraries_stay_orderly))]
+pub fn libraries_stay_orderly()
+    ensures { LibrariesStayOrderly }
 {}
 
 /// `|| x in y` captures `x`, and then `y`.
@@ -353,4 +384,16 @@ pub fn function_name_row()
 #[tactic(auto, using(crate::proofs::ClosureRowLemmas::dot_row))]
 pub fn dot_row()
     ensures { DotRow }
+{}
+
+/// In `switch 1 { || 1 | 2 => 3 }` the case is the closure of `1 | 2`.
+#[tactic(auto, using(crate::proofs::ClosureRowLemmas::case_row))]
+pub fn case_row()
+    ensures { CaseRow }
+{}
+
+/// `fn f() { || 1 }` is refused at its `||` where there may be one function.
+#[tactic(auto, using(crate::proofs::ClosureRowLemmas::second_function_row))]
+pub fn second_function_row()
+    ensures { SecondFunctionRow }
 {}

@@ -2,6 +2,17 @@
 //! contracts speak.
 #![tactic(auto)]
 
+/// Calls a reader that counts: it is entered before, and left after. No `?` may stand inside.
+#[macro_export]
+macro_rules! nested {
+    ($shared:ident, $read:expr) => {{
+        $shared.enter();
+        let read = $read;
+        $shared.leave();
+        read
+    }};
+}
+
 pub mod blocks;
 pub mod language;
 pub mod lent;

@@ -1,5 +1,5 @@
 -- From the room of a whole script to what is promised.
-use Rattle.std.proofs.Common.{◌≡◌, ℕ, ◌+◌, ◌*◌, ◌-◌, ◌^◌, ◌≤◌, max, min, subst, sym, ap, arith, Result, Ok, Err}
+use Rattle.std.proofs.Common.{IfOk, ◌≡◌, ℕ, ◌+◌, ◌*◌, ◌-◌, ◌^◌, ◌≤◌, max, min, subst, sym, ap, arith, Result, Ok, Err}
 use Rattle.std.proofs.Math.Nat.{le-max_left, le-max_right, max-le, min-le_left}
 use Rattle.rhai_lower.specs.Nodes as node
 use Rattle.rhai_grammar.specs.Causes.{Refusal}
@@ -12,7 +12,16 @@ use Rattle.rhai_grammar.specs.declared.error.ParseError.{ParseError}
 use Rattle.rhai_base.specs.Counts.{Counts, with_entered, with_left}
 use Rattle.rhai_base.specs.declared.settings.ParseSettings.{ParseSettings}
 use Rattle.rhai_language.specs.Languages.{LanguageValue}
-use Rattle.rhai_parser.specs.Nesting.{StaysWithin}
+use Rattle.std.specs.Prelude.{◌⊎◌}
+use Rattle.rhai_grammar.specs.Cursors.{Cursor}
+use Rattle.rhai_grammar.specs.Depths.{statements_depth}
+use Rattle.rhai_grammar.specs.Forms.{Statements}
+use Rattle.rhai_grammar.specs.Libraries.{Library}
+use Rattle.rhai_grammar.specs.Promises.{IsWritten, scripts}
+use Rattle.rhai_parser.specs.Nesting.{NestsAsWritten, StaysWithin}
+use Rattle.rhai_reading.specs.Nesting.{Nesting, entered}
+use Rattle.rhai_reading.proofs.DepthMain.{script_nests}
+use Rattle.rhai_reading.proofs.Main.{IsNew}
 use Rattle.rhai_reading.proofs.Rooms.{Stays, StaysSo}
 use Rattle.rhai_reading.proofs.Heights.{IsLimited, nests_within, room, script_room}
 
@@ -80,3 +89,30 @@ entry_stays engine settings old begun read left enters leaves stays = λ positiv
 pub always : {A : Type 0} {P : Type 0} (r : Result A ParseError) → P → UnlessMemory (λ refused. P) r
 always (Ok x) p = p
 always (Err e) p = λ told. p
+
+-- ---- from below
+
+-- the entry is the first that is active
+pub nests_written : (c : Context) (w : Live) (s left : Progress) (x : node.Statements × Live) (after : Counts) → IsNew s
+    → s.nesting ≡ entered (record { active = 0; peak = 0 }) → left.nesting.peak ≡ after.peak
+    → result_of (Script c w) s ≡ Done x left → NestsAsWritten c w s.library s.cursor after
+unfolding one_more
+nests_written c w s left x after new first last e fs written =
+    let active : s.nesting.active ≡ 1 = ap (λ (n : Nesting). n.active) first in
+    let peak : s.nesting.peak ≡ 1 = ap (λ (n : Nesting). n.peak) first in
+    subst (λ p. (2 ^ 64 - 1 ≤ p) ⊎ (1 + statements_depth fs ≤ p)) last (
+    subst (λ a. (2 ^ 64 - 1 ≤ left.nesting.peak) ⊎ (a + statements_depth fs ≤ left.nesting.peak)) active
+    (script_nests c w s left new x fs written (omega (arith, active, peak)) e))
+
+-- what holds of all results holds of one
+pub if_ok : {A : Type 0} {P : Type 0} (r : Result A ParseError) → P → IfOk r (λ x. P)
+if_ok (Ok x) p = p
+if_ok (Err e) p = tt
+
+-- the entry is left
+pub nests_left : {A : Type 0} (c : Context) (w : Live) (before : Library) (s : Cursor) (read left : Counts) (r : Result A ParseError)
+    → left ≡ with_left read → IfOk r (λ x. NestsAsWritten c w before s read) → IfOk r (λ x. NestsAsWritten c w before s left)
+nests_left c w before s read left (Ok x) leaves nests =
+    subst (λ p. (fs : Statements) → IsWritten (scripts c w) fs before s → (2 ^ 64 - 1 ≤ p) ⊎ (1 + statements_depth fs ≤ p))
+    (sym (ap (λ (n : Counts). n.peak) leaves)) nests
+nests_left c w before s read left (Err e) leaves nests = tt

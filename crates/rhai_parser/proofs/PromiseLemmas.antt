@@ -1,6 +1,6 @@
 -- From what the reading program gives to what is promised.
 use Rattle.std.proofs.lemmas.List.{append-nil}
-use Rattle.std.proofs.Common.{inl, ◌≡◌, Bool, true, false, List, [], ◌∷◌, refl, sym, ap, ◌∙◌, subst, Result, Ok, Err, IfErr, IfOk}
+use Rattle.std.proofs.Common.{ℕ, inl, ◌≡◌, Bool, true, false, List, [], ◌∷◌, refl, sym, ap, ◌∙◌, subst, Result, Ok, Err, IfErr, IfOk}
 use Rattle.std.specs.Prelude.{Vec, map}
 use Rattle.std.specs.declared.alloc.Global.{Global}
 use Rattle.std.specs.declared.rc.Rc.{Rc}
@@ -11,18 +11,23 @@ use Rattle.rhai_ast.specs.View.{function_view, statement_views}
 use Rattle.rhai_ast.specs.declared.ast.AST.{AST}
 use Rattle.rhai_ast.specs.declared.ast.ScriptFuncDef.{ScriptFuncDef}
 use Rattle.rhai_ast.specs.declared.ast.Stmt.{Stmt}
-use Rattle.rhai_grammar.specs.Causes.{refusal_of, is_for_memory}
+use Rattle.rhai_grammar.specs.Causes.{Refusal, refusal_of, is_for_memory}
 use Rattle.rhai_grammar.specs.Cursors.{Cursor}
 use Rattle.rhai_grammar.specs.Contexts.{Context, Live}
-use Rattle.rhai_grammar.specs.Demands.{Demands}
+use Rattle.rhai_grammar.specs.Delivered.{Mode, Point}
+use Rattle.rhai_grammar.specs.Demands.{Demands, Met, Missed}
 use Rattle.rhai_grammar.specs.Forms as form
 use Rattle.rhai_grammar.specs.Libraries.{Library}
 use Rattle.rhai_grammar.specs.Trees.{statement_trees, tree}
 use Rattle.rhai_grammar.specs.Definitions.{after_statements}
-use Rattle.rhai_grammar.specs.Promises.{HasRead, IsWrittenTo, ReadsWhole, Returns, UnlessMemory}
+use Rattle.rhai_grammar.specs.NumberedLibraries.{IsOrderly}
+use Rattle.rhai_grammar.proofs.OrderLemmas.{libraries_stay_orderly}
+use Rattle.rhai_grammar.specs.Promises.{HasRead, ReadsWhole, Returns, UnlessMemory, expressions, scripts, start_of}
 use Rattle.rhai_grammar.specs.declared.key.FnKey.{FnKey}
 use Rattle.rhai_base.specs.Libraries.{Begins, Grows, library_of}
-use Rattle.rhai_parser.specs.Scripts.{Accepts, IsScript, IsScriptOf, ReadsExpression, ReadsScript, function_views, functions_in}
+use Rattle.rhai_parser.specs.Scripts.{Accepts, Constants, IsMadeOf, IsScript, IsScriptOf, ReadsAst, ReadsExpression, ReadsScript, function_views, functions_in}
+use Rattle.rhai_parser.specs.Optimizer.{Optimized}
+use Rattle.rhai_parser.specs.declared.optimizer.OptimizationLevel.{OptimizationLevel}
 use Rattle.rhai_grammar.specs.declared.error.ParseError.{ParseError}
 use Rattle.rhai_leaves.proofs.ErrorLemmas.{memory_cause}
 use Rattle.rhai_reading.specs.Reading.{Goal, Script, Val, Whole}
@@ -77,7 +82,7 @@ ran_out Is (Ok x) is = tt
 ran_out Is (Err e) is = is
 
 -- what is said of a result may be said of a refusal
-read_so : (s left : Cursor) → HasRead s left false → HasRead s left true
+pub read_so : (s left : Cursor) → HasRead s left false → HasRead s left true
 read_so s left h =
     record { taken = h.taken; saw = h.saw; modes = h.modes; mode = inl h.mode; memory = h.memory }
 
@@ -140,20 +145,21 @@ module _ {F : Type 0} {g : Goal} {whole : F → Demands} {tree_of : F → Val g}
 
 -- ---- the two entries
 
-pub expression_done : (c : Context) (live : Live) (s left : Progress) (x : Node) (result : Result AST ParseError)
-    → IsNew s → result_of (Whole c live) s ≡ Done x left → Accepts x left.library result
-    → ReadsExpression c live s.library left.library s.cursor left.cursor result
-expression_done c live s left x result mode e is =
-    reads_done (expression_entry c live) (λ f script. IsScriptOf (tree f live) left.library script) s left x result mode e
-    (ran_out (IsScriptOf x left.library) result is) (λ f same. subst (λ y. Accepts y left.library result) (sym same) is)
+module _ (constants : Constants) (level : OptimizationLevel) (c : Context) (live : Live) (s left : Progress) where
+  pub expression_done : (x : Node) (result : Result AST ParseError) → IsNew s → result_of (Whole c live) s ≡ Done x left
+      → Accepts constants level x left.library result
+      → ReadsExpression c live s.library left.library s.cursor left.cursor constants level result
+  expression_done x result mode e is =
+      reads_done (expression_entry c live) (λ f script. IsScriptOf constants level (tree f live) left.library script) s left x result mode e
+      (ran_out (IsScriptOf constants level x left.library) result is)
+      (λ f same. subst (λ y. Accepts constants level y left.library result) (sym same) is)
 
-pub expression_fails : (c : Context) (live : Live) (s left : Progress) (e : ParseError) → IsNew s
-    → Fails (result_of (Whole c live) s) e left
-    → ReadsExpression c live s.library left.library s.cursor left.cursor (Err e)
-expression_fails c live s left e mode fails =
-    reads_fails (expression_entry c live) (λ f script. IsScriptOf (tree f live) left.library script) s left e mode fails
+  pub expression_fails : (e : ParseError) → IsNew s → Fails (result_of (Whole c live) s) e left
+      → ReadsExpression c live s.library left.library s.cursor left.cursor constants level (Err e)
+  expression_fails e mode fails =
+      reads_fails (expression_entry c live) (λ f script. IsScriptOf constants level (tree f live) left.library script) s left e mode fails
 
-abbrev Read : Type 0
+abbrev pub Read : Type 0
 Read = Vec Stmt Global × Vec (Rc ScriptFuncDef Global) Global
 
 -- what was made of a script: its statements, and the functions of a library
@@ -189,3 +195,100 @@ pub script_fails : (c : Context) (live : Live) (s left : Progress) (e : ParseErr
     → ReadsScript c live s.library left.library s.cursor left.cursor (Err e) slots modules
 script_fails c live s left e slots modules mode fails =
     reads_fails (script_entry c live) (λ fs script. IsScript fs live left.library script slots modules) s left e mode fails
+
+-- ---- what the library holds
+
+module _ {F X : Type 0} (whole : F → Demands) (Is : F → X → Type 0) (limit : ℕ) (before after : Library) (s left : Cursor)
+    (fits : (f : F) (a b : Point) → IsOrderly limit 0 a.library → Met (whole f) a b → IsOrderly limit 0 b.library)
+    (misses : (f : F) (a b : Point) (e : Refusal) (m : Mode) → IsOrderly limit 0 a.library → Missed (whole f) a e m b → IsOrderly limit 0 b.library)
+  where
+    orderly_so : (result : Result X ParseError) → ReadsWhole whole Is before after s left result → IsOrderly limit 0 before
+        → UnlessMemory (λ refused. IsOrderly limit 0 after) result
+    orderly_so (Ok x) reads orderly =
+        let w = reads.accepted in
+        subst (IsOrderly limit 0) w.1.2 (fits w.0 (start_of before s) w.1.0 orderly w.1.1)
+    orderly_so (Err e) reads orderly = λ other.
+        let named = (reads.refused other).1.named in
+        misses named.form (start_of before s) _ _ _ orderly named.missed
+
+script_fits_orderly : (c : Context) (live : Live) → c.begun ≡ 0 → (fs : form.Statements) (a b : Point)
+    → IsOrderly c.sizes.functions 0 a.library → Met (scripts c live fs) a b → IsOrderly c.sizes.functions 0 b.library
+script_fits_orderly c live none fs a b o met =
+    subst (λ n. IsOrderly c.sizes.functions n b.library) none
+    (libraries_stay_orderly.script c live fs a b (subst (λ n. IsOrderly c.sizes.functions n a.library) (sym none) o) met)
+
+script_misses_orderly : (c : Context) (live : Live) → c.begun ≡ 0 → (fs : form.Statements) (a b : Point) (e : Refusal) (m : Mode)
+    → IsOrderly c.sizes.functions 0 a.library → Missed (scripts c live fs) a e m b → IsOrderly c.sizes.functions 0 b.library
+script_misses_orderly c live none fs a b e m o missed =
+    libraries_stay_orderly.script_refused c live fs a b e m (subst (λ n. IsOrderly c.sizes.functions n a.library) (sym none) o) missed
+
+pub script_orderly : (c : Context) (live : Live) (before after : Library) (s left : Cursor) (slots : List SlotValue)
+    (modules : List Text) (result : Result Read ParseError) → c.begun ≡ 0
+    → ReadsScript c live before after s left result slots modules → IsOrderly c.sizes.functions 0 before
+    → UnlessMemory (λ refused. IsOrderly c.sizes.functions 0 after) result
+script_orderly c live before after s left slots modules result none reads =
+    orderly_so (scripts c live) (λ fs script. IsScript fs live after script slots modules) c.sizes.functions before after s left
+    (script_fits_orderly c live none) (script_misses_orderly c live none)
+    result reads
+
+pub expression_orderly : (c : Context) (live : Live) (before after : Library) (s left : Cursor) (constants : Constants)
+    (level : OptimizationLevel) (result : Result AST ParseError) → c.begun ≡ 0
+    → ReadsExpression c live before after s left constants level result → IsOrderly c.sizes.functions 0 before
+    → UnlessMemory (λ refused. IsOrderly c.sizes.functions 0 after) result
+expression_orderly c live before after s left constants level result none reads =
+    orderly_so (expressions c live) (λ f script. IsScriptOf constants level (tree f live) after script) c.sizes.functions before after s left
+    (λ f a b o met. subst (λ n. IsOrderly c.sizes.functions n b.library) none
+    (libraries_stay_orderly.expression c live f a b (subst (λ n. IsOrderly c.sizes.functions n a.library) (sym none) o) met))
+    (λ f a b e m o missed. libraries_stay_orderly.expression_refused c live f a b e m (subst (λ n. IsOrderly c.sizes.functions n a.library) (sym none) o) missed)
+    result reads
+
+-- ---- what the optimizer makes of a script
+
+module _ (c : Context) (live : Live) (before after : Library) (s left : Cursor) (slots : List SlotValue) (modules : List Text)
+    (constants : Constants) (level : OptimizationLevel) where
+  makes : (read : Read) (fs : form.Statements) (result : Result AST ParseError) → IsScript fs live after read slots modules
+      → IfOk result (λ script. Optimized constants read.0 read.1 level script) → IfErr result (λ e. is_for_memory e ≡ true)
+      → Returns (λ script. IsMadeOf constants level (statement_trees fs live) after script) result
+  makes read fs (Ok script) is made out = record {
+    statements = read.0;
+    functions = read.1;
+    trees_are = is.statements;
+    functions_are = is.functions;
+    optimized = made;
+  }
+  makes read fs (Err e) is made out = out
+
+  pub ast_done : (read : Read) (result : Result AST ParseError) → ReadsScript c live before after s left (Ok read) slots modules
+      → IfOk result (λ script. Optimized constants read.0 read.1 level script) → IfErr result (λ e. is_for_memory e ≡ true)
+      → ReadsAst c live before after s left constants level result
+  ast_done read (Ok script) reads made out = record {
+    accepted = (let w = reads.accepted in (w.0, w.1, makes read w.0 (Ok script) w.2 made out));
+    only = λ fs other written. (let w = reads.only fs other written in (makes read fs (Ok script) w.0 made out, w.1));
+    refused = tt;
+  }
+  ast_done read (Err e) reads made out =
+      reads_none (scripts c live) (λ fs script. IsMadeOf constants level (statement_trees fs live) after script) before after s left e out
+
+  pub ast_fails : (e : ParseError) → ReadsScript c live before after s left (Err e) slots modules
+      → ReadsAst c live before after s left constants level (Err e)
+  ast_fails e reads = record { accepted = tt; only = reads.only; refused = reads.refused }
+
+pub ast_orderly : (c : Context) (live : Live) (before after : Library) (s left : Cursor) (constants : Constants)
+    (level : OptimizationLevel) (result : Result AST ParseError) → c.begun ≡ 0
+    → ReadsAst c live before after s left constants level result → IsOrderly c.sizes.functions 0 before
+    → UnlessMemory (λ refused. IsOrderly c.sizes.functions 0 after) result
+ast_orderly c live before after s left constants level result none reads =
+    orderly_so (scripts c live) (λ fs script. IsMadeOf constants level (statement_trees fs live) after script) c.sizes.functions before after s left
+    (script_fits_orderly c live none) (script_misses_orderly c live none) result reads
+
+-- What holds unless memory ran out holds of a result that is made of another one.
+pub unless_on : {X : Type 0} {P Q : Type 0} (r : Result X ParseError) → (P → Q) → UnlessMemory (λ refused. P) r
+    → UnlessMemory (λ refused. Q) r
+unless_on (Ok x) f p = f p
+unless_on (Err e) f p = λ other. f (p other)
+
+-- what was read of a script, and is said of what is made of it, too
+pub read_on : {X Y : Type 0} (P : Bool → Type 0) (x : X) (result : Result Y ParseError) → (P false → P true)
+    → UnlessMemory P (Ok x) → UnlessMemory P result
+read_on P x (Ok y) more p = p
+read_on P x (Err e) more p = λ other. more p

@@ -1,13 +1,26 @@
--- How deeply grammar functions are nested while a script is read.
-use Rattle.std.specs.Prelude.{◌≡◌, ℕ, ◌+◌, ◌*◌, ◌≤◌, max}
+-- How deeply parsing functions are nested while a script is read.
+use Rattle.std.specs.Prelude.{◌≡◌, ◌⊎◌, ℕ, ◌+◌, ◌-◌, ◌*◌, ◌^◌, ◌≤◌, max}
+use Rattle.rhai_grammar.specs.Contexts.{Context, Live}
+use Rattle.rhai_grammar.specs.Cursors.{Cursor}
+use Rattle.rhai_grammar.specs.Depths.{statements_depth}
+use Rattle.rhai_grammar.specs.Forms.{Statements}
+use Rattle.rhai_grammar.specs.Libraries.{Library}
+use Rattle.rhai_grammar.specs.Promises.{IsWritten, scripts}
 use Rattle.rhai_base.specs.Counts.{Counts}
 use Rattle.rhai_base.specs.declared.settings.ParseSettings.{ParseSettings}
 use Rattle.rhai_language.specs.Languages.{LanguageValue}
 
--- Where both depth limits are positive and the level is 0, never were more grammar functions active, beside those that
+-- Where both depth limits are positive and the level is 0, never were more parsing functions active, beside those that
 -- were, than eight for each level of a script and of a function, and for these more.
 abbrev pub StaysWithin : (more : ℕ) → LanguageValue → ParseSettings → (before after : Counts) → Type 0
 StaysWithin more engine settings before after =
     1 ≤ settings.max_expr_depth → 1 ≤ engine.max_function_expr_depth → settings.level ≡ 0
     → after.peak
     ≤ max before.peak (before.active + 8 * (settings.max_expr_depth + engine.max_function_expr_depth + more))
+
+-- For each script that fits and spells the stream, at least as many parsing functions were active at once as its
+-- expressions, blocks, functions and closures lie one in another, and the entry; or as many as a `usize` counts.
+abbrev pub NestsAsWritten : Context → Live → (before : Library) → (start : Cursor) → (after : Counts) → Type 0
+NestsAsWritten context live before start after =
+    (fs : Statements) → IsWritten (scripts context live) fs before start
+    → (2 ^ 64 - 1 ≤ after.peak) ⊎ (1 + statements_depth fs ≤ after.peak)

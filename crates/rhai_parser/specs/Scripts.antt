@@ -1,9 +1,11 @@
 -- What the parser promises about the tree that it returns, in terms of written forms only.
-use Rattle.std.specs.Prelude.{◌≡◌, List, Result, Vec, map}
+use Rattle.std.specs.Prelude.{◌≡◌, List, Option, Result, Vec, map}
+use Rattle.std.specs.Borrow.{Bor}
 use Rattle.std.specs.declared.alloc.Global.{Global}
 use Rattle.std.specs.declared.rc.Rc.{Rc}
 use Rattle.rhai_lower.specs.Texts.{Text}
 use Rattle.rhai_input.specs.Slots.{SlotValue}
+use Rattle.rhai_lower.specs.Nodes as node
 use Rattle.rhai_lower.specs.Nodes.{Function, Node, expression, no_statements, one_statement}
 use Rattle.rhai_ast.specs.View.{function_view, statement_views}
 use Rattle.rhai_ast.specs.declared.ast.AST.{AST}
@@ -17,6 +19,8 @@ use Rattle.rhai_grammar.specs.Libraries.{Library}
 use Rattle.rhai_grammar.specs.Promises.{ReadsWhole, Returns, expressions, scripts}
 use Rattle.rhai_grammar.specs.Trees.{statement_trees, tree}
 use Rattle.rhai_grammar.specs.declared.error.ParseError.{ParseError}
+use Rattle.rhai_parser.specs.Optimizer.{Optimized}
+use Rattle.rhai_parser.specs.declared.optimizer.OptimizationLevel.{OptimizationLevel}
 
 -- lists of the code's functions
 abbrev pub function_views : List (Rc ScriptFuncDef Global) → List Function
@@ -26,10 +30,25 @@ function_views fs = map (λ f. function_view f.value) fs
 abbrev pub functions_in : Library → List Function
 functions_in library = map (λ e. e.function) library
 
--- a script of one expression, with the functions of a library
-pub record IsScriptOf (x : Node) (library : Library) (script : AST) : Type 0 where
-  pub statements : statement_views script.statements.items ≡ one_statement (expression x) no_statements
-  pub functions : function_views script.functions.items ≡ functions_in library
+-- variables from outside, as the code hands them on
+abbrev pub Constants : Type 0
+Constants = Option (Bor (List SlotValue))
+
+-- What the optimizer makes, with these constants and at this level, of statements that stand for these trees and of the
+-- functions of a library.
+pub record IsMadeOf (constants : Constants) (level : OptimizationLevel) (trees : node.Statements) (library : Library)
+    (script : AST) : Type 0
+  where
+    pub statements : Vec Stmt Global
+    pub functions : Vec (Rc ScriptFuncDef Global) Global
+    pub trees_are : statement_views statements.items ≡ trees
+    pub functions_are : function_views functions.items ≡ functions_in library
+    pub optimized : Optimized constants statements functions level script
+
+-- the script of one expression
+abbrev pub IsScriptOf : Constants → OptimizationLevel → Node → Library → AST → Type 0
+IsScriptOf constants level x library script =
+    IsMadeOf constants level (one_statement (expression x) no_statements) library script
 
 -- the statements of a script with the functions of a library, and the slots and imports that are left after it
 pub record IsScript (fs : Statements) (live : Live) (library : Library)
@@ -42,15 +61,15 @@ pub record IsScript (fs : Statements) (live : Live) (library : Library)
     pub imports : modules ≡ (after_statements fs live).imports
 
 -- the script of this tree with these functions, unless memory ran out
-abbrev pub Accepts : Node → Library → Result AST ParseError → Type 0
-Accepts x library result = Returns (IsScriptOf x library) result
+abbrev pub Accepts : Constants → OptimizationLevel → Node → Library → Result AST ParseError → Type 0
+Accepts constants level x library result = Returns (IsScriptOf constants level x library) result
 
--- A stream that is one expression is the script of its tree, with the functions that there are after it.
-abbrev pub ReadsExpression : Context → Live → (before after : Library) → (start left : Cursor)
-    → Result AST ParseError → Type 0
-ReadsExpression context live before after start left result =
-    ReadsWhole (expressions context live) (λ f script. IsScriptOf (tree f live) after script) before after start left
-    result
+-- A stream that is one expression is what the optimizer makes of its tree, with the functions that there are after it.
+abbrev pub ReadsExpression : Context → Live → (before after : Library) → (start left : Cursor) → Constants
+    → OptimizationLevel → Result AST ParseError → Type 0
+ReadsExpression context live before after start left constants level result =
+    ReadsWhole (expressions context live) (λ f script. IsScriptOf constants level (tree f live) after script) before
+    after start left result
 
 -- A stream that is a script gives its statements, the functions that there are after it, and the slots and imports that
 -- its statements leave.
@@ -60,3 +79,10 @@ abbrev pub ReadsScript : Context → Live → (before after : Library) → (star
 ReadsScript context live before after start left result slots imports =
     ReadsWhole (scripts context live) (λ fs script. IsScript fs live after script slots imports) before after start
     left result
+
+-- A stream that is a script is what the optimizer makes of its statements, with the functions that there are after it.
+abbrev pub ReadsAst : Context → Live → (before after : Library) → (start left : Cursor) → Constants
+    → OptimizationLevel → Result AST ParseError → Type 0
+ReadsAst context live before after start left constants level result =
+    ReadsWhole (scripts context live) (λ fs script. IsMadeOf constants level (statement_trees fs live) after script)
+    before after start left result

@@ -1,5 +1,5 @@
 -- What a whole script or expression stands in at an entry, in the state that it is given.
-use Rattle.std.specs.Prelude.{List, Vec, map}
+use Rattle.std.specs.Prelude.{◌≡◌, List, Vec, map}
 use Rattle.std.specs.Rc.{rc_str_bytes}
 use Rattle.std.specs.declared.alloc.Global.{Global}
 use Rattle.std.specs.declared.rc.RcStr.{RcStr}
@@ -46,3 +46,16 @@ frame_in engine state = record {
 -- what goes down into the whole form, under the settings that the caller chose
 abbrev pub starts_in : LanguageValue → StateValue → ParseSettings → Context
 starts_in engine state settings = context_of engine (frame_in engine state) settings
+
+-- A state after a script was read in it: the stream and the library are those that were lent to it, and what the script
+-- does not change is as it was.
+pub record KeepsState (old new : StateValue) : Type 0 where
+  pub input : new.input.ghost_name ≡ old.input.ghost_name
+  pub lib : new.lib.ghost_name ≡ old.lib.ghost_name
+  pub global_imports : new.global_imports ≡ old.global_imports
+  pub external_constants : new.external_constants ≡ old.external_constants
+  pub frame_pointer : new.frame_pointer ≡ old.frame_pointer
+  pub expr_filter : new.expr_filter ≡ old.expr_filter
+  pub tokenizer_control : new.tokenizer_control ≡ old.tokenizer_control
+  pub external_vars : new.external_vars ≡ old.external_vars
+  pub allow_capture : new.allow_capture ≡ old.allow_capture

@@ -7,6 +7,7 @@ ghost use Rattle.rhai_ast.specs.View.{view};
 ghost use Rattle.rhai_grammar.specs.Causes.{MemoryIsNowhere};
 ghost use Rattle.rhai_grammar.specs.Cursors.{cursor_of};
 ghost use Rattle.rhai_grammar.specs.Delivered.{code};
+ghost use Rattle.rhai_grammar.specs.NumberedLibraries.{IsOrderly};
 ghost use Rattle.rhai_grammar.specs.Promises.{HasRead, UnlessMemory};
 ghost use Rattle.rhai_grammar.specs.Uses.{Use};
 ghost use Rattle.rhai_reading.specs.Reading.{Whole};
@@ -266,7 +267,7 @@ impl Engine {
         constants: Option<&Scope>,
         level: OptimizationLevel,
     ) -> ParseResult<AST>
-        ensures script { Accepts (view expr) (library_of lib.now.entries) result }
+        ensures script { Accepts constants.entry level (view expr) (library_of lib.now.entries) result }
         ensures nowhere { IfErr result MemoryIsNowhere }
     {
         let statement = Stmt::Expr(Box::new(self.language.alloc, expr)?);
@@ -326,7 +327,7 @@ impl Engine {
         ensures reads { (cursor_of input.old).mode ≡ code
             → ReadsExpression (context_of self.now frame.now settings) (live_of frame.now)
             (library_of lib.old.entries) (library_of lib.new.entries) (cursor_of input.old) (cursor_of input.new)
-            result }
+            constants.entry level result }
         ensures memory { UnlessMemory (HasRead (cursor_of input.old) (cursor_of input.new)) result }
         ensures nowhere { IfErr result MemoryIsNowhere }
         ensures grows { Begins (library_of lib.old.entries) (library_of lib.new.entries) }
@@ -361,10 +362,15 @@ impl Engine {
             × FnOnceReturnsAtMut F.FnOnce settings (expr_settings self.now) tt chosen
             × ReadsExpression (starts_in self.now state.entry chosen) (live_in state.entry)
             (library_of state.entry.lib.now.entries) (library_of state.exit.1.0.now.entries)
-            (cursor_of state.entry.input.now) (cursor_of state.exit.0.now) result }
+            (cursor_of state.entry.input.now) (cursor_of state.exit.0.now) state.entry.external_constants level
+            result }
         ensures memory { UnlessMemory (HasRead (cursor_of state.entry.input.now) (cursor_of state.exit.0.now)) result }
         ensures nowhere { IfErr result MemoryIsNowhere }
         ensures grows { Begins (library_of state.entry.lib.now.entries) (library_of state.exit.1.0.now.entries) }
+        ensures orderly { IsFresh state.entry
+            → IsOrderly self.now.max_functions 0 (library_of state.entry.lib.now.entries)
+            → UnlessMemory (λ refused. IsOrderly self.now.max_functions 0
+            (library_of state.exit.1.0.now.entries)) result }
     {
         let mut chosen = self.expr_settings();
         settings(&mut chosen);

@@ -1,16 +1,6 @@
 //! The parser: from a stream of tokens to the tree of a script.
 #![tactic(auto)]
 
-// Calls a reader that counts: it is entered before, and left after.
-macro_rules! nested {
-    ($shared:ident, $read:expr) => {{
-        $shared.enter();
-        let read = $read;
-        $shared.leave();
-        read
-    }};
-}
-
 pub mod engine;
 mod library;
 pub mod optimizer;

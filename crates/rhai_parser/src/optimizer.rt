@@ -1,7 +1,7 @@
 //! A stand-in for the optimizer: it leaves every script as it is.
 
-ghost use Rattle.std.specs.Prelude.{◌≡◌, Ok};
-ghost use Rattle.rhai_parser.specs.Optimizer.{script_of};
+ghost use Rattle.std.specs.Prelude.{IfOk};
+ghost use Rattle.rhai_parser.specs.Optimizer.{Optimized};
 
 use rhai_ast::{AST, ScriptFuncDef, StmtBlockContainer};
 use rhai_input::Scope;
@@ -21,6 +21,7 @@ pub enum OptimizationLevel {
 
 /// The script of these statements and functions, unchanged, whatever the constants and the level are. Does not allocate
 /// and never fails.
+#[tactic(auto, unfolding(crate::specs::Optimizer::Optimized))]
 pub fn optimize_into_ast(
     _alloc: Global,
     _constants: Option<&Scope>,
@@ -28,7 +29,7 @@ pub fn optimize_into_ast(
     functions: Vec<Rc<ScriptFuncDef>>,
     _level: OptimizationLevel,
 ) -> Result<AST, AllocError>
-    ensures { result ≡ Ok (script_of statements functions) }
+    ensures { IfOk result (λ script. Optimized _constants.entry statements functions _level script) }
 {
     Ok(AST {
         statements,

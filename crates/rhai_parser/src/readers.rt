@@ -13,7 +13,7 @@ use rhai_base::{Frame, ParseSettings};
 use rhai_constructs::ConstructReader;
 use rhai_expressions::ExprReader;
 use rhai_grammar::{Closing, Construct, ParseResult};
-use rhai_language::{Language, LentReaders, Shared};
+use rhai_language::{Language, LentReaders, Shared, nested};
 use rhai_leaves::due::end_due;
 use rhai_primaries::PrimaryReader;
 use rhai_statements::StmtReader;

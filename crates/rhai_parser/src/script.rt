@@ -7,24 +7,28 @@ ghost use Rattle.rhai_ast.specs.View.{statement_views};
 ghost use Rattle.rhai_grammar.specs.Causes.{MemoryIsNowhere, is_for_memory};
 ghost use Rattle.rhai_grammar.specs.Contexts.{Live};
 ghost use Rattle.rhai_grammar.specs.Cursors.{cursor_of};
+ghost use Rattle.rhai_grammar.specs.Delivered.{code};
 ghost use Rattle.rhai_grammar.specs.Promises.{HasRead, UnlessMemory};
 ghost use Rattle.rhai_grammar.specs.Uses.{Use};
-ghost use Rattle.rhai_parser.specs.Scripts.{ReadsScript, function_views, functions_in};
+ghost use Rattle.rhai_parser.specs.Scripts.{ReadsAst, ReadsScript, function_views, functions_in};
 ghost use Rattle.rhai_reading.specs.Reading.{Script};
 ghost use Rattle.rhai_reading.specs.Running.{Gives, result_of};
 ghost use Rattle.rhai_base.specs.Libraries.{Begins, Grows, library_of};
-ghost use Rattle.rhai_base.specs.Counts.{counts_of};
+ghost use Rattle.rhai_base.specs.Counts.{counts_of, none_yet, with_entered};
 ghost use Rattle.rhai_base.specs.States.{IsFresh};
-ghost use Rattle.rhai_parser.specs.Nesting.{StaysWithin};
+ghost use Rattle.rhai_grammar.specs.NumberedLibraries.{IsOrderly};
+ghost use Rattle.rhai_parser.specs.Optimizer.{Optimized};
+ghost use Rattle.rhai_parser.specs.Nesting.{NestsAsWritten, StaysWithin};
 ghost use Rattle.rhai_parser.specs.Engines.{script_settings};
 ghost use Rattle.rhai_language.specs.Frames.{context_of};
 ghost use Rattle.rhai_language.specs.Readers.{nesting_of};
-ghost use Rattle.rhai_parser.specs.Starts.{live_in, starts_in};
+ghost use Rattle.rhai_parser.specs.Starts.{KeepsState, live_in, starts_in};
 
 use crate::engine::Engine;
 use crate::library::take_library;
+use crate::optimizer::{OptimizationLevel, optimize_into_ast};
 use crate::readers::parse_statements;
-use rhai_ast::{ScriptFuncDef, Stmt, StmtBlockContainer};
+use rhai_ast::{AST, ScriptFuncDef, Stmt, StmtBlockContainer};
 use rhai_base::{
     FnLib, Frame, Library, ParseCounts, ParseSettingFlags, ParseSettings, ParseState, functions,
 };
@@ -119,6 +123,50 @@ impl Engine {
         Ok((statements, functions))
     }
 
+    // Reads a script up to the end mark of the stream in this outermost frame, with the functions of `lib`: its
+    // statements, and all functions that there are then. Leaves the slots and imports that are live after it in `stack`
+    // and `imports`, and the functions in `lib`.
+    fn parse_script(
+        &self,
+        input: &mut TokenStream,
+        lib: &mut FnLib,
+        counts: &mut ParseCounts,
+        frame: Frame<'_>,
+        stack: &mut Scope,
+        imports: &mut Vec<RcStr>,
+        settings: ParseSettings,
+    ) -> ParseResult<(StmtBlockContainer, Vec<Rc<ScriptFuncDef>>)>
+        requires { frame.depth ≡ 0 }
+        ensures reads { (cursor_of input.old).mode ≡ code
+            → ReadsScript (context_of self.now frame.entry settings) frame.entry.live (library_of lib.old.entries)
+            (library_of lib.new.entries) (cursor_of input.old) (cursor_of input.new) result stack.new
+            (map rc_str_bytes imports.new.items) }
+        ensures deep { (cursor_of input.old).mode ≡ code → counts_of counts.old ≡ with_entered none_yet
+            → IfOk result (λ script. NestsAsWritten (context_of self.now frame.entry settings) frame.entry.live
+            (library_of lib.old.entries) (cursor_of input.old) (counts_of counts.new)) }
+        ensures memory { UnlessMemory (HasRead (cursor_of input.old) (cursor_of input.new)) result }
+        ensures nowhere { IfErr result MemoryIsNowhere }
+        ensures grows { Begins (library_of lib.old.entries) (library_of lib.new.entries) }
+        ensures stays { UnlessMemory (λ refused. StaysWithin 1 self.now settings (counts_of counts.old)
+            (counts_of counts.new)) result }
+    {
+        let mut library = take_library(self.alloc(), lib)?;
+        let read = self.read_statements(
+            input,
+            &mut library,
+            counts,
+            frame,
+            stack,
+            imports,
+            settings,
+        );
+        *lib = library.into_functions();
+        match read {
+            Ok(statements) => self.with_functions(statements, lib),
+            Err(error) => Err(error),
+        }
+    }
+
     /// Reads a script up to the end mark of the stream: its statements, before the optimizer, and all functions of the
     /// library, in the order in which they ended. The state keeps the slots of the script's variables, its imports, and
     /// the library, to which the functions and closures of the script are added; those that had ended before an error
@@ -135,30 +183,28 @@ impl Engine {
         settings: F,
     ) -> ParseResult<(StmtBlockContainer, Vec<Rc<ScriptFuncDef>>)>
         requires { FnOnceTakesAtMut F.FnOnce settings (script_settings self.now) }
-        ensures reads { IsFresh state.old → (chosen : _)
+        ensures reads { (chosen : _)
             × FnOnceReturnsAtMut F.FnOnce settings (script_settings self.now) tt chosen
-            × ReadsScript (starts_in self.now state.old chosen) (live_in state.old)
+            × (IsFresh state.old → ReadsScript (starts_in self.now state.old chosen) (live_in state.old)
             (library_of state.old.lib.now.entries) (library_of state.new.lib.now.entries)
             (cursor_of state.old.input.now) (cursor_of state.new.input.now) result state.new.stack
-            (map rc_str_bytes state.new.imports.items) }
+            (map rc_str_bytes state.new.imports.items)
+            × IfOk result (λ script. NestsAsWritten (starts_in self.now state.old chosen) (live_in state.old)
+            (library_of state.old.lib.now.entries) (cursor_of state.old.input.now) (counts_of state.new.counts)))
+            × UnlessMemory (λ refused. StaysWithin 2 self.now chosen (counts_of state.old.counts)
+            (counts_of state.new.counts)) result }
         ensures memory { UnlessMemory (HasRead (cursor_of state.old.input.now) (cursor_of state.new.input.now)) result }
         ensures nowhere { IfErr result MemoryIsNowhere }
         ensures grows { Begins (library_of state.old.lib.now.entries) (library_of state.new.lib.now.entries) }
-        ensures nests { (chosen : _) × FnOnceReturnsAtMut F.FnOnce settings (script_settings self.now) tt chosen
-            × UnlessMemory (λ refused. StaysWithin 2 self.now chosen (counts_of state.old.counts)
-            (counts_of state.new.counts)) result }
-        ensures kept { (state.new.global_imports ≡ state.old.global_imports)
-            × (state.new.external_constants ≡ state.old.external_constants)
-            × (state.new.frame_pointer ≡ state.old.frame_pointer)
-            × (state.new.expr_filter ≡ state.old.expr_filter)
-            × (state.new.tokenizer_control ≡ state.old.tokenizer_control)
-            × (state.new.external_vars ≡ state.old.external_vars)
-            × (state.new.allow_capture ≡ state.old.allow_capture) }
+        ensures orderly { IsFresh state.old
+            → IsOrderly self.now.max_functions 0 (library_of state.old.lib.now.entries)
+            → UnlessMemory (λ refused. IsOrderly self.now.max_functions 0
+            (library_of state.new.lib.now.entries)) result }
+        ensures kept { KeepsState state.old state.new }
     {
         let mut chosen = self.script_settings();
         settings(&mut chosen);
         let alloc = self.alloc();
-        let mut library = take_library(alloc, state.lib)?;
         let stack = mem::replace(&mut state.stack, Scope::new(alloc));
         let imports = mem::replace(&mut state.imports, Vec::new(alloc));
         let around = mem::replace(&mut state.global_imports, Vec::new(alloc));
@@ -172,9 +218,9 @@ impl Engine {
             state.counts.fn_begun(),
         );
         state.counts.nest_enter();
-        let read = self.read_statements(
+        let read = self.parse_script(
             state.input,
-            &mut library,
+            state.lib,
             &mut state.counts,
             frame,
             &mut state.stack,
@@ -183,10 +229,77 @@ impl Engine {
         );
         state.counts.nest_leave();
         state.global_imports = around;
-        *state.lib = library.into_functions();
+        read
+    }
+
+    /// Reads a script up to the end mark of the stream, under the engine's settings for a script, and hands its
+    /// statements, with all functions of the library, to the optimizer with the state's external constants. The functions
+    /// and closures of the script join the library; those that had ended before an error stay there. `level` is how much
+    /// the optimizer may do.
+    ///
+    /// An error tells why and where the stream is no script; all are in docs/GRAMMAR.md, "Errors". `OutOfMemory` comes
+    /// where memory ran out, or where the stream said so, and stands at no position.
+    pub fn parse(&self, state: ParseState<'_, '_, '_>, level: OptimizationLevel) -> ParseResult<AST>
+        ensures reads { IsFresh state.entry
+            → ReadsAst (starts_in self.now state.entry (script_settings self.now)) (live_in state.entry)
+            (library_of state.entry.lib.now.entries) (library_of state.exit.1.0.now.entries)
+            (cursor_of state.entry.input.now) (cursor_of state.exit.0.now) state.entry.external_constants level
+            result }
+        ensures memory { UnlessMemory (HasRead (cursor_of state.entry.input.now) (cursor_of state.exit.0.now)) result }
+        ensures nowhere { IfErr result MemoryIsNowhere }
+        ensures grows { Begins (library_of state.entry.lib.now.entries) (library_of state.exit.1.0.now.entries) }
+        ensures orderly { IsFresh state.entry
+            → IsOrderly self.now.max_functions 0 (library_of state.entry.lib.now.entries)
+            → UnlessMemory (λ refused. IsOrderly self.now.max_functions 0
+            (library_of state.exit.1.0.now.entries)) result }
+    {
+        let ParseState {
+            input,
+            lib,
+            tokenizer_control: _,
+            expr_filter,
+            external_constants,
+            stack,
+            frame_pointer,
+            external_vars: _,
+            allow_capture: _,
+            imports,
+            global_imports,
+            mut counts,
+        } = state;
+        let known = self.known(external_constants, &global_imports);
+        let begun = counts.fn_begun();
+        let frame = Frame::new(stack, frame_pointer, imports, expr_filter, known, begun);
+        let settings = self.script_settings();
+        let (mut slots, mut modules) = (Scope::new(self.alloc()), Vec::new(self.alloc()));
+        counts.nest_enter();
+        let read = self.parse_script(
+            input,
+            lib,
+            &mut counts,
+            frame,
+            &mut slots,
+            &mut modules,
+            settings,
+        );
         match read {
-            Ok(statements) => self.with_functions(statements, state.lib),
+            Ok(read) => self.optimize(external_constants, read, level),
             Err(error) => Err(error),
         }
+    }
+
+    // What the optimizer makes of the statements and functions of a script.
+    fn optimize(
+        &self,
+        constants: Option<&Scope>,
+        read: (StmtBlockContainer, Vec<Rc<ScriptFuncDef>>),
+        level: OptimizationLevel,
+    ) -> ParseResult<AST>
+        ensures optimized { IfOk result (λ script. Optimized constants.entry read.0 read.1 level script) }
+        ensures out { IfErr result (λ e. is_for_memory e ≡ true) }
+        ensures nowhere { IfErr result MemoryIsNowhere }
+    {
+        let (statements, functions) = read;
+        Ok(optimize_into_ast(self.alloc(), constants, statements, functions, level)?)
     }
 }

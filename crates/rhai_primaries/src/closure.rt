@@ -16,7 +16,7 @@ use rhai_base::{Frame, LangOptions, ParseSettingFlags, ParseSettings, make_anony
 use rhai_grammar::role::Bars;
 use rhai_grammar::{CommaList, ParseError, ParseErrorType, ParseResult};
 use rhai_language::parameters::{declare_parameters, next_parameters};
-use rhai_language::{LentReaders, Shared};
+use rhai_language::{LentReaders, Shared, nested};
 use rhai_leaves::tokens::ends_here;
 use rhai_lower::Position;
 use std::alloc::Global;

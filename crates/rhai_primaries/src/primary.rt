@@ -11,7 +11,7 @@ use rhai_base::places::{may_be_closure, may_be_value};
 use rhai_base::words::word_node;
 use rhai_base::{Frame, ParseSettings};
 use rhai_grammar::{Beginning, DueToken, ParseResult};
-use rhai_language::{LentReaders, Shared};
+use rhai_language::{LentReaders, Shared, nested};
 use rhai_leaves::cursor::{peek, skip};
 use rhai_leaves::due::match_token;
 use rhai_leaves::refusals::no_operand;

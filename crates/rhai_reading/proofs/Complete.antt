@@ -14,8 +14,8 @@ pub mod Whole
 use Rattle.rhai_reading.proofs.Complete.Functions as Y
 use Rattle.rhai_reading.proofs.Complete.Closures as Z
 use Rattle.rhai_grammar.specs.Forms.{ClosureBody}
-use Rattle.rhai_reading.proofs.Complete.Law.{ClosureBodyRead}
-use Rattle.std.proofs.Common.{Bool, true}
+use Rattle.rhai_reading.proofs.Complete.Law.{ClosureBodyRead, FirstRead}
+use Rattle.std.proofs.Common.{Bool, true, ◌+◌, max}
 use Rattle.rhai_grammar.specs.Delivered.{Point}
 use Rattle.rhai_grammar.specs.Contexts.{Context, Live}
 use Rattle.rhai_grammar.specs.Forms as form
@@ -30,8 +30,9 @@ use Rattle.rhai_reading.proofs.Reaches.{reached_end}
 use Rattle.rhai_grammar.specs.Written as W
 use Rattle.rhai_reading.specs.Reading as R
 use Rattle.rhai_reading.specs.Reading.{body}
-use Rattle.rhai_reading.specs.Histories as H
 use Rattle.rhai_reading.specs.Histories.{Done}
+use Rattle.rhai_reading.proofs.Deep.{Deep}
+use Rattle.rhai_grammar.specs.Depths.{run_depth, statements_depth}
 use Rattle.rhai_reading.proofs.Rules.{at}
 use Rattle.rhai_reading.proofs.Complete.Law.{PrimaryRead, BaseRead, LinksRead, OperandRead, ArgumentsRead, ItemsRead}
 use Rattle.rhai_reading.proofs.Complete.Law.{ElementsRead, FieldsRead, RunRead}
@@ -83,9 +84,15 @@ mutual
 
   operand : (x : Operand) → OperandRead x
   operand (form.Linked x list) = O.linked x list (base x) (links list)
-  operand (form.Signed sign pos x) = O.signed sign pos x (operand x)
+  operand (form.Signed sign pos x) = O.signed sign pos x (first_operand x)
   operand (form.NoOperand token pos) = O.no_operand token pos
   operand (form.Jump x) = O.jump x (statement x)
+
+  first_operand : (x : Operand) → FirstRead x
+  first_operand (form.Linked x list) = O.linked_first x list (base x) (links list)
+  first_operand (form.Signed sign pos x) = O.signed_first sign pos x (first_operand x)
+  first_operand (form.NoOperand token pos) = O.no_first_operand token pos
+  first_operand (form.Jump x) = O.no_first_jump x
 
   arguments : (x : Arguments) → ArgumentsRead x
   arguments (form.EmptyPair pos) = C.empty_pair pos
@@ -113,7 +120,7 @@ mutual
   segments (form.Segment opening f text pos rest) = T.more_segments opening f text pos rest (within f) (segments rest)
 
   run : (f : Run) → RunRead f
-  run (Just x) = N.just x (operand x)
+  run (Just x) = N.just x (operand x) (first_operand x)
   run (Binary op pos l r) = N.binary op pos l r (run l) (run r)
 
   expr_statement : (x : ExprStatement) → ExprStatementRead x
@@ -202,11 +209,13 @@ mutual
   block (form.Many fs closing) = T.block (form.Many fs closing) (T.many fs closing (statements fs))
   block (form.Single x closing) = T.block (form.Single x closing) (T.single x closing (expr_statement x))
 
+-- what is written so is read so, and as deep as it is written
 pub complete : (c : Context) (w : Live) (f : Run) (s t : Point) (b : Bool) → Met (W.whole_expression f c w) s t
-    → H.Runs (body (R.Whole c w)) (at s b) (Done (tree f w) (at t true))
-complete c w f s t b m = whole c w (expression f (run f) c w _ s t b m)
+    → Deep (λ z. max (1 + run_depth f) z) (body (R.Whole c w)) (at s b) (Done (tree f w) (at t true))
+complete c w f s t b m = whole c w (run_depth f) (expression f (run f) c w _ s t b m)
 
 pub complete_script : (c : Context) (w : Live) (fs : form.Statements) (s t : Point) (b : Bool)
-    → Met (W.whole_script fs c w) s t → (looked : Bool) × H.Runs (body (R.Script c w)) (at s b)
+    → Met (W.whole_script fs c w) s t → (looked : Bool)
+    × Deep (λ z. max (statements_depth fs) z) (body (R.Script c w)) (at s b)
     (Done (statement_trees fs w, after_statements fs w) (at t looked))
 complete_script c w fs s t b m = reached_end (statements fs EndMark c w no_statements Nothing s t b m)

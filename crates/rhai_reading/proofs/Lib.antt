@@ -1,7 +1,9 @@
 pub mod Steps
 pub mod Rooms
 pub mod Heights
+pub mod Grows
 pub mod Dives
+pub mod Deep
 pub mod Joins
 pub mod Strengths
 pub mod Rules
@@ -25,6 +27,7 @@ pub mod Modes
 pub mod Dues
 pub mod Sound
 pub mod Main
+pub mod DepthMain
 pub mod Outcomes
 pub mod RunSteps
 pub mod WordSteps

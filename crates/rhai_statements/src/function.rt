@@ -19,7 +19,7 @@ use rhai_base::{Frame, ParseSettings};
 use rhai_grammar::{FnKey, ParseError, ParseErrorType, ParseResult};
 use rhai_language::blocks::parse_block;
 use rhai_language::parameters::declare_parameters;
-use rhai_language::{LentReaders, Shared};
+use rhai_language::{LentReaders, Shared, nested};
 use rhai_leaves::functions::open_body;
 use rhai_lower::Position;
 use std::alloc::{AllocError, Global};

@@ -19,7 +19,7 @@ use rhai_ast::{Expr, Stmt};
 use rhai_base::places::{test_global, test_loop};
 use rhai_base::{Frame, ParseSettingFlags, ParseSettings};
 use rhai_grammar::{Closing, DueToken, ParseResult, StatementStart};
-use rhai_language::{LentReaders, Shared};
+use rhai_language::{LentReaders, Shared, nested};
 use rhai_leaves::cursor::{peek, skip, take};
 use rhai_leaves::due::match_token;
 use rhai_leaves::statements::{

@@ -1,5 +1,5 @@
 -- Calls, and their arguments: the steps to what is written.
-use Rattle.std.proofs.Common.{◌≡◌, Bool, true, false, Option, Some, None, refl, ap, ◌∙◌}
+use Rattle.std.proofs.Common.{◌≡◌, ℕ, ◌≤◌, max, arith, Bool, true, false, Option, Some, None, refl, ap, ◌∙◌}
 use Rattle.std.specs.Prelude.{List, ◌&&◌, ◌||◌}
 use Rattle.rhai_lower.specs.Texts.{Text}
 use Rattle.rhai_grammar.specs.Causes.{Refusal}
@@ -17,6 +17,7 @@ use Rattle.rhai_grammar.specs.Forms as form
 use Rattle.rhai_grammar.specs.Forms.{Primary, Arguments, Items, Path, Run}
 use Rattle.rhai_grammar.specs.Modules.{is_qualified, is_scoped, module_fault, path_tree, qualified}
 use Rattle.rhai_grammar.specs.Trees.{argument_trees, item_trees, primary_tree, is_variable, call_tree, tree}
+use Rattle.rhai_grammar.specs.Depths.{arguments_depth}
 use Rattle.rhai_grammar.specs.Demands.{Fine, Demands, Next, Shape, ◌▸◌, verdict, Met}
 use Rattle.rhai_grammar.specs.Verdicts as V
 use Rattle.rhai_grammar.specs.Written as W
@@ -27,12 +28,12 @@ use Rattle.rhai_reading.proofs.FormKinds.{By, call_of, paths}
 use Rattle.rhai_reading.proofs.Sound.Calls.{variable_on}
 use Rattle.rhai_reading.proofs.Lists.{added, added_last}
 use Rattle.rhai_reading.proofs.Looks.{op_at, fine, no_other, no_wrong}
-use Rattle.rhai_reading.proofs.Reaches.{Reaches, next, ret, gives, look, peek, due, if_true, if_false, part}
-use Rattle.rhai_reading.proofs.Complete.Law.{IsRead, Usable, PrimaryRead, BaseRead, ArgumentsRead, ItemsRead, ExpressionRead}
+use Rattle.rhai_reading.proofs.Reaches.{Reaches, deeper, enough, next, ret, gives, look, peek, due, if_true, if_false, part}
+use Rattle.rhai_reading.proofs.Complete.Law.{IsFlat, Usable, PrimaryRead, BaseRead, ArgumentsRead, ItemsRead, ExpressionRead}
 
 -- what is given, where nothing refuses it
 pub tested_fine : {A : Type 0} {x : A} (v : Option Refusal) {k : Demands} {s t : Point} {b : Bool}
-    → Met (W.unfaulted v k) s t → Reaches (R.tested x v) s b x k t
+    → Met (W.unfaulted v k) s t → Reaches (λ z. z) (R.tested x v) s b x k t
 tested_fine None m = ret m
 tested_fine (Some e) m = let h = m.0 in absurd cc
 
@@ -52,13 +53,13 @@ free x l g h =
 
 -- x is not called
 uncalled_end : (c : Context) (w : Live) (x : Node) {s : Point} {b : Bool} {k : Demands} {t : Point}
-    → Met (Next (V.uncalled x) ▸ k) s t → Reaches (R.call_at c w x (op_at s)) s b x k t
+    → Met (Next (V.uncalled x) ▸ k) s t → Reaches (λ z. z) (R.call_at c w x (op_at s)) s b x k t
 uncalled_end c w x {s = s} m =
     if_false _ (no_other (is_variable x && calls (op_at s)) (fine (V.uncalled x) (op_at s) m.0).1).0 (ret m.1)
 
 -- the names of a path
 more_names : (w : Live) (x : Node) (colons : Position) (name : Text) (pos : Position) (rest : Path)
-    → is_variable x ≡ true → IsRead (R.Path w x) (paths w x)
+    → is_variable x ≡ true → IsFlat (R.Path w x) (paths w x)
     (record { colons = colons; name = name; at = pos; more = rest })
 more_names w x colons name pos form.NoPath v k s t b m =
     let y = qualified w.imports x name pos in
@@ -74,11 +75,11 @@ more_names w x colons name pos (form.Scoped colons_on name_on pos_on rest) v k s
     (λ a l n. ret n))))
 
 -- an operand with its path, and then what calls it or not
-postfix_on : (c : Context) (w : Live) (x : Node) (names : Path) (j : Demands) {s : Point} {b : Bool} {y : Node}
+postfix_on : (c : Context) (w : Live) (x : Node) (names : Path) (j : Demands) {D : ℕ → ℕ} {s : Point} {b : Bool} {y : Node}
     {k : Demands} {t : Point}
     → Met (W.path names w.imports x j) s t → ((u : Point) → Met j u t → is_memory (op_at u) ≡ false)
-    → ((u : Point) → Met j u t → Reaches (R.call_at c w (path_tree names w.imports x) (op_at u)) u true y k t)
-    → Reaches (body (R.Postfix c w x)) s b y k t
+    → ((u : Point) → Met j u t → Reaches D (R.call_at c w (path_tree names w.imports x) (op_at u)) u true y k t)
+    → Reaches D (body (R.Postfix c w x)) s b y k t
 postfix_on c w x form.NoPath j {s = s} m can on =
     next (V.unqualified x) m.0 (λ e. if_false _ (no_other (is_variable x && qualifies (op_at s)) e).0 (on s m.1))
 postfix_on c w x (form.Scoped colons name pos rest) j {s = s} {t = t} m can on =
@@ -87,10 +88,10 @@ postfix_on c w x (form.Scoped colons name pos rest) j {s = s} {t = t} m can on =
     (λ u l n. look (can u n) (on u n))))
 
 -- something calls it
-called_end : (c : Context) (w : Live) (x : Node) {bang : Bool} {ns : Nodes} {s : Point} {b : Bool} {k : Demands}
+called_end : (c : Context) (w : Live) (x : Node) {D : ℕ → ℕ} {bang : Bool} {ns : Nodes} {s : Point} {b : Bool} {k : Demands}
     {t : Point} → is_variable x ≡ true → calls (op_at s) ≡ true
-    → Reaches (body (R.Called c w (position_of x) (is_qualified x))) s b (bang, ns) (W.unfaulted (module_fault c w x) k) t
-    → Reaches (R.call_at c w x (op_at s)) s b (call_tree x bang ns) k t
+    → Reaches D (body (R.Called c w (position_of x) (is_qualified x))) s b (bang, ns) (W.unfaulted (module_fault c w x) k) t
+    → Reaches D (R.call_at c w x (op_at s)) s b (call_tree x bang ns) k t
 called_end c w x {s = s} named on r =
     if_true _ (and_from (is_variable x) (calls (op_at s)) named on)
     (part r (λ u l n. tested_fine (module_fault c w x) n))
@@ -113,7 +114,7 @@ call_here (Some bang) args c w name q k s t m = calling_is s m.0 refl refl
 pub called_by : (bang : Option Position) (args : Arguments) → ArgumentsRead args
     → (c : Context) (w : Live) (name : Position) (qualified : Bool) (k : Demands) (s t : Point) (b : Bool)
     → Met (call_of c w name qualified (By bang args) k) s t
-    → Reaches (body (R.Called c w name qualified)) s b (is_some bang, argument_trees args w) k t
+    → Reaches (λ z. max (arguments_depth args) z) (body (R.Called c w name qualified)) s b (is_some bang, argument_trees args w) k t
 called_by None args arguments c w name q k s t b m =
     arguments V.anything c w name k false (λ l pos. called_at c w name q pos)
     (record { pair = λ l pos. refl; list = λ l pos. refl }) s t b m
@@ -136,12 +137,12 @@ path_here (form.Scoped colons name pos rest) imports x y j s t m e = (
 )
 
 pub plain : (x : Primary) (names : Path) → PrimaryRead x → BaseRead (form.Plain x names)
-plain x form.NoPath primary c w place k j s t y rest m on =
+plain x form.NoPath primary c w place k j s t y rest E m on =
     let n = primary_tree x w false in
     part (primary c w place false _ s t true m (λ u h. free n (op_at u) h.0 h.1.0))
     (λ u l h. part (postfix_on c w n form.NoPath (Next (V.uncalled n) ▸ k) h (λ v i. (fine (V.uncalled n) (op_at v) i.0).0)
     (λ v i. uncalled_end c w n i)) on)
-plain x (form.Scoped colons name pos more) primary c w place k j s t y rest m on =
+plain x (form.Scoped colons name pos more) primary c w place k j s t y rest E m on =
     let names = form.Scoped colons name pos more in
     let n = primary_tree x w true in
     let z = path_tree names w.imports n in
@@ -169,28 +170,33 @@ call_met : (x : Primary) (names : Path) (bang : Option Position) (args : Argumen
 call_met x names None args c w place k s t m = m
 call_met x names (Some bang) args c w place k s t m = m
 
+same_height : (E : ℕ → ℕ) {y z : ℕ} → y ≡ z → E y ≤ E z
+same_height E e = omega (arith, ap E e)
+
 pub call : (x : Primary) (names : Path) (bang : Option Position) (args : Arguments) → PrimaryRead x
     → ArgumentsRead args → BaseRead (form.Call x names bang args)
-call x names bang args primary arguments c w place k j s t y rest m on =
+call x names bang args primary arguments c w place k j s t y rest E m on =
     let n = primary_tree x w true in
     let z = path_tree names w.imports n in
     let q = is_qualified z in
     let at = position_of z in
     let end = W.unfaulted (module_fault c w z) k in
-    part (primary c w place true _ s t true (call_met x names bang args c w place k s t m)
+    enough (λ z. same_height E (omega arith)) (part (primary c w place true _ s t true (call_met x names bang args c w place k s t m)
     (λ u h. let e = excluded_by names w.imports n bang args c w q (is_variable z) at end u t h in (e.0, λ a. e.1)))
     (λ u l h. part (postfix_on c w n names (Shape (is_variable z) ▸ call_of c w at q (By bang args) end) h (λ v i. (call_here bang args c w at q end v t i.1).0)
     (λ v i. called_end c w z i.0 (call_here bang args c w at q end v t i.1).1
-    (called_by bang args arguments c w at q end v t true i.1))) on)
+    (called_by bang args arguments c w at q end v t true i.1))) on))
 
 -- ---- arguments
 
 pub empty_pair : (pos : Position) → ArgumentsRead (form.EmptyPair pos)
-empty_pair pos others c w name k bang p reads s t b m = due m.0 refl (reads.pair _ _) (ret m.1)
+empty_pair pos others c w name k bang p reads s t b m =
+    enough (λ z. omega arith) (due m.0 refl (reads.pair _ _) (ret m.1))
 
 pub empty : (opening closing : Position) → ArgumentsRead (form.Empty opening closing)
 empty opening closing others c w name k bang p reads s t b m =
-    due m.0 refl (reads.list _ _) (part (due m.1.0 refl refl (ret m.1.1)) (λ u l h. ret h))
+    enough (λ z. omega arith) (due m.0 refl (reads.list _ _)
+    (part (due m.1.0 refl refl (ret m.1.1)) (λ u l h. ret h)))
 
 pub listed : (opening : Position) (list : Items) → ItemsRead list → ArgumentsRead (form.Listed opening list)
 listed opening list items others c w name k bang p reads s t b m =
@@ -202,17 +208,17 @@ listed opening list items others c w name k bang p reads s t b m =
 
 pub last : (f : Run) (closing : Position) → ExpressionRead f → ItemsRead (form.Last f closing)
 last f closing expression c w before k s t b m =
-    part (expression c w _ s t b m) (λ u l n. due n.0 refl refl (gives (added_last before (tree f w)) n.1))
+    deeper _ refl (expression c w _ s t b m) (λ u l n. due n.0 refl refl (gives (added_last before (tree f w)) n.1))
 
 pub trailing : (f : Run) (comma closing : Position) → ExpressionRead f → ItemsRead (form.Trailing f comma closing)
 trailing f comma closing expression c w before k s t b m =
-    part (expression c w _ s t b m) (λ u l n. due n.0 refl refl
+    deeper _ refl (expression c w _ s t b m) (λ u l n. due n.0 refl refl
     (due n.1.0 refl refl (gives (added_last before (tree f w)) n.1.1)))
 
 pub more : (f : Run) (comma : Position) (rest : Items) → ExpressionRead f → ItemsRead rest
     → ItemsRead (form.More f comma rest)
 more f comma rest expression items c w before k s t b m =
-    part (expression c w _ s t b m) (λ u l n. due n.0 refl refl (next V.argument_follows n.1.0 (λ on.
+    enough (λ z. omega arith) (deeper _ refl (expression c w _ s t b m) (λ u l n. due n.0 refl refl (next V.argument_follows n.1.0 (λ on.
     if_false _ (no_other (is_close (after_part lists.Arguments (op_at (past code u)))) on).0
     (part (items c w (with_node before (tree f w)) k (past code u) t true n.1.1)
-    (λ v a m. gives (added before (tree f w) (item_trees rest w)) m)))))
+    (λ v a m. gives (added before (tree f w) (item_trees rest w)) m))))))

@@ -6,12 +6,13 @@ use Rattle.rhai_grammar.specs.Functions.{parameter_place}
 use Rattle.rhai_lower.specs.declared.token.Token.TheVariants as token
 use Rattle.rhai_lower.specs.Lexemes.{Sign}
 use Rattle.rhai_reading.specs.Reading.{Prog, Ret, Take}
-use Rattle.std.proofs.Common.{◌≡◌, Bool, true, false, None, Option, Some, List, [], ◌∷◌, ◌++◌, if◌then◌else◌, refl}
+use Rattle.std.proofs.Common.{◌+◌, ◌≡◌, Bool, true, false, None, Option, Some, List, [], ◌∷◌, ◌++◌, if◌then◌else◌, refl}
 use Rattle.rhai_lower.specs.Texts.{Text}
 use Rattle.rhai_lower.specs.declared.position.Position.{Position}
 use Rattle.rhai_grammar.specs.Causes.{Refusal}
 use Rattle.rhai_grammar.specs.Contexts.{Context, Live, level_up}
 use Rattle.rhai_grammar.specs.Delivered.{code, past}
+use Rattle.rhai_grammar.specs.Depths.{body_depth}
 use Rattle.rhai_grammar.specs.Demands.{Blames, Fine}
 use Rattle.rhai_grammar.specs.DueTokens.{is_due}
 use Rattle.rhai_grammar.specs.Forms as form
@@ -20,11 +21,11 @@ use Rattle.rhai_grammar.specs.Functions.{in_function, is_type, names_function, p
 use Rattle.rhai_grammar.specs.declared.due.DueToken.TheVariants as due
 use Rattle.rhai_reading.specs.Reading as R
 use Rattle.rhai_reading.specs.Reading.{body}
-use Rattle.rhai_reading.proofs.Complete.Law.{BodyRead, IsRead, StatementRead}
+use Rattle.rhai_reading.proofs.Complete.Law.{BodyRead, IsFlat, IsRead, StatementRead}
 use Rattle.rhai_reading.proofs.FunctionKinds.{FunctionForm, HeadForm, function_of, function_statements, functions, heads}
 use Rattle.rhai_reading.proofs.FunctionKinds.{parameter_lists, parameters}
 use Rattle.rhai_reading.proofs.Looks.{no_other, op_at}
-use Rattle.rhai_reading.proofs.Reaches.{add, due as due_now, if_false, if_true, know, next, part, peek, ret, take}
+use Rattle.rhai_reading.proofs.Reaches.{deeper, add, due as due_now, if_false, if_true, know, next, part, peek, ret, take}
 use Rattle.rhai_reading.proofs.Strengths.{not_true}
 use Rattle.rhai_reading.proofs.Tokens.{readable}
 
@@ -34,10 +35,10 @@ no_blame : (b : Bool) (why : Refusal) → (if b then Fine else Blames why) ≡ F
 no_blame true why e = refl
 no_blame false why e = absurd cc
 
-pub head : (f : HeadForm) → IsRead R.FunctionHead heads f
+pub head : (f : HeadForm) → IsFlat R.FunctionHead heads f
 head f k s t b m = by f.owner f.name f.at k s t b m
   where
-    by : (x : Owner) (name : Text) (at : Position) → IsRead R.FunctionHead heads (record { owner = x; name = name; at = at })
+    by : (x : Owner) (name : Text) (at : Position) → IsFlat R.FunctionHead heads (record { owner = x; name = name; at = at })
     by form.NoOwner name at k s t b m =
         due_now m.0 refl refl (next (untyped name at) m.1.0 (λ e.
         let alone = no_other (is_due due.Period (op_at (past code s))) e in
@@ -78,7 +79,7 @@ list_goes_on lists.Parameters on end at = refl
 list_goes_on lists.ClosureParameters on end at = refl
 
 pub parameter_rest : (x : Parameters) (parts : CommaList) (function : Text) (before : List Text)
-    → IsRead (R.Parameters parts function before) (parameters parts function before) x
+    → IsFlat (R.Parameters parts function before) (parameters parts function before) x
 parameter_rest (form.NoParameter closing) parts function before k s t b m =
     due_now m.0 refl (end_taken parts function before closing) (ret m.1)
 parameter_rest (form.LastParameter name at closing) parts function before k s t b m =
@@ -90,7 +91,7 @@ parameter_rest (form.Parameter name at comma rest) parts function before k s t b
     (λ u l n. ret n))))
 
 pub parameter_list : (x : ParameterList) (function : Text)
-    → IsRead (R.ParameterList function) (parameter_lists function) x
+    → IsFlat (R.ParameterList function) (parameter_lists function) x
 parameter_list (form.EmptyParameters at) function k s t b m = due_now m.0 refl refl (ret m.1)
 parameter_list (form.ListedParameters opening list) function k s t b m =
     due_now m.0 refl refl (part (parameter_rest list lists.Parameters function [] k (past code s) t false m.1) (λ u l n. ret n))
@@ -98,20 +99,20 @@ parameter_list (form.ListedParameters opening list) function k s t b m =
 -- ---- the whole
 
 pub function : (f : FunctionForm) → BodyRead f.body → (c : Context) (at : Position) (is_private : Bool)
-    → IsRead (R.Function c at is_private) (functions c at is_private) f
+    → IsRead (1 + body_depth f.body) (R.Function c at is_private) (functions c at is_private) f
 function f reads c at is_private k s t b m =
     part (head f.head _ s t b m) (λ u l n.
     part (parameter_list f.list f.head.name _ u t l n) (λ v a i.
     due_now i.0 refl refl (if_true _ i.1.0
-    (part (reads (level_up c) (parameters_live (parameter_names f.list)) f.opening k (past code v) t false i.1.1)
+    (deeper _ refl (reads (level_up c) (parameters_live (parameter_names f.list)) f.opening k (past code v) t false i.1.1)
     (λ x d j. ret j)))))
 
 pub function_statement : (f : FunctionForm) → BodyRead f.body → (c : Context) (w : Live) (from at : Position)
     (is_private : Bool)
-    → IsRead (R.FunctionStatement c w from at is_private) (function_statements c w from at is_private) f
+    → IsRead (1 + (1 + body_depth f.body)) (R.FunctionStatement c w from at is_private) (function_statements c w from at is_private) f
 function_statement f reads c w from at is_private k s t b m =
     if_true _ m.0 (know (if_true _ m.1.0 (if_true _ m.1.1.0
-    (part (function f reads (level_up (in_function c w)) at is_private _ s t b m.1.1.1) (λ u l n.
+    (deeper _ refl (function f reads (level_up (in_function c w)) at is_private _ s t b m.1.1.1) (λ u l n.
     know (if_true _ n.0 (add (function_of is_private f) (ret n.1.1))))))))
 
 pub statement : (is_private : Option Position) (at : Position) (f : FunctionForm) → BodyRead f.body

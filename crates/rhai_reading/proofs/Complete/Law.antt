@@ -1,5 +1,5 @@
 -- What is said of the written forms: that each is read.
-use Rattle.std.proofs.Common.{◌≡◌, ℕ, Bool, true, false, refl}
+use Rattle.std.proofs.Common.{◌≡◌, ℕ, ◌≤◌, Bool, true, false, max, refl}
 use Rattle.rhai_lower.specs.Lexemes.{Lexeme}
 use Rattle.rhai_lower.specs.Nodes.{Node, Nodes, no_nodes, Properties, position_of}
 use Rattle.rhai_lower.specs.declared.position.Position.{Position}
@@ -11,32 +11,39 @@ use Rattle.rhai_grammar.specs.Beginnings.{calling, excludes_use}
 use Rattle.rhai_grammar.specs.declared.filter.ExprFilter.{ExprFilter}
 use Rattle.rhai_grammar.specs.Strengths.{Follower, follower_of, is_operator, strength}
 use Rattle.rhai_grammar.specs.Forms.{Primary, Base, Links, Operand, Arguments, Items, Elements, Fields, Run, Just}
-use Rattle.rhai_grammar.specs.Forms.{Binary, ClosureBody}
+use Rattle.rhai_grammar.specs.Forms.{Binary, ClosureBody, Body, Branch, Conditional, Construct, ExprStatement}
+use Rattle.rhai_grammar.specs.Forms.{Initializer, JumpValue, Segments, Statement, Statements, Action, Arms, CaseGuard}
+use Rattle.rhai_grammar.specs.Forms.{Cases}
 use Rattle.rhai_reading.proofs.ClosureKinds.{closure_bodies}
 use Rattle.rhai_grammar.specs.Trees.{is_variable, primary_tree, base_tree, argument_trees, tree}
+use Rattle.rhai_grammar.specs.Depths.{action_depth, arguments_depth, arms_depth, base_depth, body_depth, branch_depth}
+use Rattle.rhai_grammar.specs.Depths.{case_guard_depth, cases_depth, closure_body_depth, conditional_depth}
+use Rattle.rhai_grammar.specs.Depths.{construct_depth, elements_depth, expr_statement_depth, fields_depth}
+use Rattle.rhai_grammar.specs.Depths.{initializer_depth, items_depth, jump_value_depth, links_depth, operand_depth}
+use Rattle.rhai_grammar.specs.Depths.{primary_depth, run_depth, segments_depth, statement_depth, statements_depth}
 use Rattle.rhai_grammar.specs.Demands.{Verdict, Fine, Demands, verdict, Met}
 use Rattle.rhai_grammar.specs.Written as W
-use Rattle.rhai_grammar.specs.Spots.{LinkSpot, Height, Side, Outermost, RightOf, Spot, filter_of, height_after, place_of}
-use Rattle.rhai_grammar.specs.Verdicts.{operator_known}
+use Rattle.rhai_grammar.specs.Spots.{LinkSpot, Height, Side, Outermost, RightOf, Spot, filter_of, height_after}
 use Rattle.rhai_grammar.specs.Spots.{side_fits, left_fits}
+use Rattle.rhai_grammar.specs.Verdicts.{operator_known}
 use Rattle.rhai_reading.specs.Reading as R
 use Rattle.rhai_reading.specs.Reading.{Goal, Val, Prog, Ret, Peek, Take, Call, list_on, body}
-use Rattle.rhai_reading.specs.Histories.{Outcome, Done, Runs}
+use Rattle.rhai_reading.specs.Histories.{State, Outcome, Done}
+use Rattle.rhai_reading.proofs.Deep.{Deep}
+use Rattle.rhai_grammar.specs.Starts.{place_after}
+use Rattle.rhai_grammar.specs.declared.role.OperandPlace.TheVariants.{Elsewhere}
 use Rattle.rhai_reading.proofs.Rules.{at}
 use Rattle.rhai_reading.proofs.Shows.{Kind}
-use Rattle.rhai_reading.proofs.FormKinds.{expressions, operands, items, elements, fields, links}
-use Rattle.rhai_reading.proofs.FormKinds.{expr_statements, initializers, statements, statement_lists, blocks}
+use Rattle.rhai_reading.proofs.FormKinds.{expressions, operands, items, elements, fields, links, expr_statements}
+use Rattle.rhai_reading.proofs.FormKinds.{initializers, statements, statement_lists, blocks, InsideForm, ManyInside}
+use Rattle.rhai_reading.proofs.FormKinds.{SingleInside, insides, jump_values, segments}
 use Rattle.rhai_lower.specs.Nodes as node
 use Rattle.rhai_grammar.specs.Forms as form
-use Rattle.rhai_grammar.specs.Forms.{Body, Branch, Conditional, Construct, ExprStatement, Initializer, JumpValue}
-use Rattle.rhai_grammar.specs.Forms.{Segments, Statement, Statements}
-use Rattle.rhai_grammar.specs.Forms.{Action, Arms, CaseGuard, Cases}
 use Rattle.rhai_grammar.specs.Switches.{Collected}
 use Rattle.rhai_reading.proofs.SwitchKinds.{actions, arm_lists, case_guards, cases}
 use Rattle.rhai_grammar.specs.Constructs.{kind_of}
 use Rattle.rhai_reading.proofs.ConstructKinds.{branches, conditionals, constructs}
 use Rattle.rhai_grammar.specs.declared.role.OperandPlace.{OperandPlace}
-use Rattle.rhai_reading.proofs.FormKinds.{InsideForm, ManyInside, SingleInside, insides, jump_values, segments}
 use Rattle.rhai_grammar.specs.declared.role.Closing.{Closing}
 use Rattle.rhai_reading.proofs.Reaches.{Reaches}
 use Rattle.rhai_reading.proofs.Looks.{op_at, follower_at, climb}
@@ -80,6 +87,11 @@ Entered (RightOf op h) = has_room h.settings ≡ true
 abbrev pub begins : Spot → Node → Height
 begins q x = record { settings = q.begins; at = position_of x }
 
+-- the reader of the first operand gives this
+abbrev pub Begins : Side → Context → Live → (D : ℕ → ℕ) → State → Outcome Node → Type 0
+Begins Outermost c w D s o = Deep D (body (R.Operand c w)) s o
+Begins (RightOf op h) c w D s o = Deep D (body (R.RightOperand c w (place_after op))) s o
+
 -- The first operand is read, and from there on the reader is where it is once it has the whole run.
 pub record Reads (f : Run) (q : Spot) (k : Demands) (s : Point) (b : Bool) (t : Point) : Type 0 where
   pub first : Node
@@ -87,7 +99,11 @@ pub record Reads (f : Run) (q : Spot) (k : Demands) (s : Point) (b : Bool) (t : 
   pub end : Point
   pub met : Met k end t
   pub looked : Bool
-  pub operand : Runs (body (R.RightOperand q.first q.live (place_of q.side))) (at s b) (Done first (at rest looked))
+  -- how deep the first operand is, and how high the peak is after the others, from where it was before them
+  pub here : ℕ
+  pub others : ℕ → ℕ
+  pub deep : (z : ℕ) → max (run_depth f) z ≤ others (max here z)
+  pub operand : Begins q.side q.first q.live (λ z. max here z) (at s b) (Done first (at rest looked))
   pub known_rest : verdict (operator_known (filter_of q)) (next_at code rest).lexeme ≡ Fine
   pub known_end : verdict (operator_known (filter_of q)) (next_at code end).lexeme ≡ Fine
   pub entered : Entered q.side
@@ -96,22 +112,42 @@ pub record Reads (f : Run) (q : Spot) (k : Demands) (s : Point) (b : Bool) (t : 
       → left_fits (filter_of q) (follower_of (filter_of q) o) f ≡ true
       → Shut (filter_of q) f (follower_of (filter_of q) o)
   pub climbs : Shut (filter_of q) f (follower_at (filter_of q) end) → (p : ℕ) → Agrees (filter_of q) p q.side
-      → (o : Outcome Node)
-      → ((b : Bool) → Runs (body (climb (height_after q f) q.live p (tree f q.live))) (at end b) o) → (b : Bool)
-      → Runs (body (climb (begins q first) q.live p first)) (at rest b) o
+      → (E : ℕ → ℕ) (v : Node) (e : State)
+      → ((b : Bool) → Deep E (body (climb (height_after q f) q.live p (tree f q.live))) (at end b) (Done v e))
+      → (b : Bool)
+      → Deep (λ z. E (others z)) (body (climb (begins q first) q.live p first)) (at rest b) (Done v e)
 
 -- ---- the laws
 
 -- a form is read as what it is
-abbrev pub IsRead : {F : Type 0} → (g : Goal) → Kind F (Val g) → F → Type 0
-IsRead g K f = (k : Demands) (s t : Point) (b : Bool) → Met (K.demands f k) s t → Reaches (body g) s b (K.tree t f) k t
+abbrev pub IsReadSo : {F : Type 0} → (D : ℕ → ℕ) (g : Goal) → Kind F (Val g) → F → Type 0
+IsReadSo D g K f =
+    (k : Demands) (s t : Point) (b : Bool) → Met (K.demands f k) s t → Reaches D (body g) s b (K.tree t f) k t
+
+-- and its parts lie as deep as this
+abbrev pub IsRead : {F : Type 0} → (depth : ℕ) (g : Goal) → Kind F (Val g) → F → Type 0
+IsRead depth g K f = IsReadSo (λ z. max depth z) g K f
+
+-- or it has none
+abbrev pub IsFlat : {F : Type 0} → (g : Goal) → Kind F (Val g) → F → Type 0
+IsFlat g K f = IsReadSo (λ z. z) g K f
 
 abbrev pub ExpressionRead : Run → Type 0
-ExpressionRead f = (c : Context) (w : Live) → IsRead (R.Expression c w) (expressions c w) f
+ExpressionRead f = (c : Context) (w : Live) → IsRead (run_depth f) (R.Expression c w) (expressions c w) f
 
 abbrev pub OperandRead : Operand → Type 0
 OperandRead x =
-    (c : Context) (w : Live) (place : OperandPlace) → IsRead (R.RightOperand c w place) (operands c w place) x
+    (c : Context) (w : Live) (place : OperandPlace) → IsRead (operand_depth x) (R.RightOperand c w place) (operands c w place) x
+
+-- one that is written, wherever it stands
+abbrev pub WrittenRead : Operand → Type 0
+WrittenRead x =
+    (c : Context) (w : Live) (place : OperandPlace)
+    → IsRead (operand_depth x) (R.Operand c w) (operands c w place) x
+
+-- one that stands on the right of no operator
+abbrev pub FirstRead : Operand → Type 0
+FirstRead x = (c : Context) (w : Live) → IsRead (operand_depth x) (R.Operand c w) (operands c w Elsewhere) x
 
 -- where no token behind it is in the way
 abbrev pub PrimaryRead : Primary → Type 0
@@ -119,18 +155,18 @@ PrimaryRead x =
     (c : Context) (w : Live) (place : OperandPlace) (called : Bool) (k : Demands) (s t : Point) (b : Bool)
     → Met (W.primary x c w place k) s t
     → ((u : Point) → Met k u t → Usable (primary_tree x w called) called (op_at u))
-    → Reaches (body (R.Primary c w)) s b (primary_tree x w called) k t
+    → Reaches (λ z. max (primary_depth x) z) (body (R.Primary c w)) s b (primary_tree x w called) k t
 
 abbrev pub ClosureBodyRead : ClosureBody → Type 0
-ClosureBodyRead x = (c : Context) (w : Live) → IsRead (R.ClosureBody c w) (closure_bodies c w) x
+ClosureBodyRead x = (c : Context) (w : Live) → IsRead (closure_body_depth x) (R.ClosureBody c w) (closure_bodies c w) x
 
 -- with what comes after it
 abbrev pub BaseRead : Base → Type 0
 BaseRead x =
     (c : Context) (w : Live) (place : OperandPlace) (k j : Demands) (s t : Point) (y : Node) (rest : Node → Prog Node)
-    → Met (W.base x c w place k) s t
-    → ((u : Point) (l : Bool) → Met k u t → Reaches (rest (base_tree x w)) u l y j t)
-    → Reaches (Call (R.Primary c w) (λ n. Call (R.Postfix c w n) rest)) s true y j t
+    (E : ℕ → ℕ) → Met (W.base x c w place k) s t
+    → ((u : Point) (l : Bool) → Met k u t → Reaches E (rest (base_tree x w)) u l y j t)
+    → Reaches (λ z. E (max (base_depth x) z)) (Call (R.Primary c w) (λ n. Call (R.Postfix c w n) rest)) s true y j t
 
 -- with or without a `!` before them
 abbrev pub ArgumentsRead : Arguments → Type 0
@@ -138,28 +174,28 @@ ArgumentsRead x =
     (others : Lexeme → Verdict) (c : Context) (w : Live) (name : Position) (k : Demands) (bang : Bool)
     (p : Lexeme → Position → Calling → Prog (Bool × Nodes)) → Lists c w name bang p
     → (s t : Point) (b : Bool) → Met (W.arguments x others c w name k) s t
-    → Reaches (Peek (λ l pos. p l pos (calling l))) s b (bang, argument_trees x w) k t
+    → Reaches (λ z. max (arguments_depth x) z) (Peek (λ l pos. p l pos (calling l))) s b (bang, argument_trees x w) k t
 
 abbrev pub ItemsRead : Items → Type 0
-ItemsRead x = (c : Context) (w : Live) (before : Nodes) → IsRead (R.Items c w before) (items c w before) x
+ItemsRead x = (c : Context) (w : Live) (before : Nodes) → IsRead (items_depth x) (R.Items c w before) (items c w before) x
 
 abbrev pub ElementsRead : Elements → Type 0
 ElementsRead x =
     (c : Context) (w : Live) (opening : Position) (before : Nodes)
-    → IsRead (R.Elements c w opening before) (elements c w opening before) x
+    → IsRead (elements_depth x) (R.Elements c w opening before) (elements c w opening before) x
 
 abbrev pub FieldsRead : Fields → Type 0
 FieldsRead x =
     (c : Context) (w : Live) (opening : Position) (before : Properties)
-    → IsRead (R.Fields c w opening before) (fields c w opening before) x
+    → IsRead (fields_depth x) (R.Fields c w opening before) (fields c w opening before) x
 
 abbrev pub SegmentsRead : Segments → Type 0
 SegmentsRead x =
     (c : Context) (w : Live) (start : Position) (before : Nodes)
-    → IsRead (R.Segments c w start before) (segments c w start before) x
+    → IsRead (segments_depth x) (R.Segments c w start before) (segments c w start before) x
 
 abbrev pub JumpRead : JumpValue → Type 0
-JumpRead x = (c : Context) (w : Live) (at : Position) → IsRead (R.Jump c w at) (jump_values c w at) x
+JumpRead x = (c : Context) (w : Live) (at : Position) → IsRead (jump_value_depth x) (R.Jump c w at) (jump_values c w at) x
 
 -- a block up to its `}`, and where that stands
 abbrev pub inside_part : Body → InsideForm
@@ -171,10 +207,10 @@ closing_at (form.Many fs closing) = closing
 closing_at (form.Single x closing) = closing
 
 abbrev pub InsideRead : Body → Type 0
-InsideRead x = (c : Context) (w : Live) → IsRead (R.Inside c w) (insides c w) (inside_part x)
+InsideRead x = (c : Context) (w : Live) → IsRead (body_depth x) (R.Inside c w) (insides c w) (inside_part x)
 
 abbrev pub LinksRead : Links → Type 0
-LinksRead x = (q : LinkSpot) (w : Live) → IsRead (R.Links w q) (links w q) x
+LinksRead x = (q : LinkSpot) (w : Live) → IsRead (links_depth x) (R.Links w q) (links w q) x
 
 abbrev pub RunRead : Run → Type 0
 RunRead f =
@@ -184,41 +220,41 @@ RunRead f =
 -- ---- statements
 
 abbrev pub ExprStatementRead : ExprStatement → Type 0
-ExprStatementRead x = (c : Context) (w : Live) → IsRead (R.ExprStatement c w) (expr_statements c w) x
+ExprStatementRead x = (c : Context) (w : Live) → IsRead (expr_statement_depth x) (R.ExprStatement c w) (expr_statements c w) x
 
 abbrev pub InitializerRead : Initializer → Type 0
-InitializerRead x = (c : Context) (w : Live) (at : Position) → IsRead (R.Initializer c w at) (initializers c w at) x
+InitializerRead x = (c : Context) (w : Live) (at : Position) → IsRead (initializer_depth x) (R.Initializer c w at) (initializers c w at) x
 
 abbrev pub StatementRead : Statement → Type 0
-StatementRead x = (c : Context) (w : Live) → IsRead (R.Statement c w) (statements c w) x
+StatementRead x = (c : Context) (w : Live) → IsRead (statement_depth x) (R.Statement c w) (statements c w) x
 
 abbrev pub StatementsRead : Statements → Type 0
 StatementsRead x =
     (closing : Closing) (c : Context) (w : Live) (before : node.Statements)
-    → IsRead (R.Statements closing c w before) (statement_lists closing c w before) x
+    → IsRead (statements_depth x) (R.Statements closing c w before) (statement_lists closing c w before) x
 
 abbrev pub ConstructRead : Construct → Type 0
 ConstructRead x =
     (c : Context) (w : Live) (at : Position)
-    → IsRead (R.Construct c w at (kind_of x)) (constructs c w at (kind_of x)) (record { construct = x; is = refl })
+    → IsRead (construct_depth x) (R.Construct c w at (kind_of x)) (constructs c w at (kind_of x)) (record { construct = x; is = refl })
 
 abbrev pub ConditionalRead : Conditional → Type 0
-ConditionalRead x = (c : Context) (w : Live) (at : Position) → IsRead (R.Conditional c w at) (conditionals c w at) x
+ConditionalRead x = (c : Context) (w : Live) (at : Position) → IsRead (conditional_depth x) (R.Conditional c w at) (conditionals c w at) x
 
 abbrev pub BranchRead : Branch → Type 0
-BranchRead x = (c : Context) (w : Live) (at : Position) → IsRead (R.Branch c w at) (branches c w at) x
+BranchRead x = (c : Context) (w : Live) (at : Position) → IsRead (branch_depth x) (R.Branch c w at) (branches c w at) x
 
 abbrev pub ArmsRead : Arms → Type 0
-ArmsRead x = (c : Context) (w : Live) (before : Collected) → IsRead (R.Arms c w before) (arm_lists c w before) x
+ArmsRead x = (c : Context) (w : Live) (before : Collected) → IsRead (arms_depth x) (R.Arms c w before) (arm_lists c w before) x
 
 abbrev pub CasesRead : Cases → Type 0
-CasesRead x = (c : Context) (w : Live) (before : Nodes) → IsRead (R.Cases c w before) (cases c w before) x
+CasesRead x = (c : Context) (w : Live) (before : Nodes) → IsRead (cases_depth x) (R.Cases c w before) (cases c w before) x
 
 abbrev pub CaseGuardRead : CaseGuard → Type 0
-CaseGuardRead x = (c : Context) (w : Live) → IsRead (R.CaseGuard c w) (case_guards c w) x
+CaseGuardRead x = (c : Context) (w : Live) → IsRead (case_guard_depth x) (R.CaseGuard c w) (case_guards c w) x
 
 abbrev pub ActionRead : Action → Type 0
-ActionRead x = (c : Context) (w : Live) → IsRead (R.Action c w) (actions c w) x
+ActionRead x = (c : Context) (w : Live) → IsRead (action_depth x) (R.Action c w) (actions c w) x
 
 abbrev pub BodyRead : Body → Type 0
-BodyRead x = (c : Context) (w : Live) (at : Position) → IsRead (R.Block c w at) (blocks c w at) x
+BodyRead x = (c : Context) (w : Live) (at : Position) → IsRead (body_depth x) (R.Block c w at) (blocks c w at) x

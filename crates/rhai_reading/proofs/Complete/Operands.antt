@@ -1,8 +1,5 @@
 -- Primaries, and operands with their signs: the steps to what is written.
-use Rattle.std.proofs.Common.{◌≡◌, ℕ, suc, Bool, true, false, Some, None, refl, ap, ◌∙◌, arith, if◌then◌else◌}
-use Rattle.rhai_grammar.specs.Causes.{out_of_memory}
-use Rattle.rhai_grammar.specs.Delivered.{is_memory}
-use Rattle.rhai_reading.specs.Histories.{State, Outcome, Done, Refused, Unfinished, Runs, and_then, asked, calls, exec, looking}
+use Rattle.std.proofs.Common.{◌≡◌, ℕ, Bool, true, false, Some, None, refl, ap, ◌∙◌, arith, if◌then◌else◌}
 use Rattle.rhai_lower.specs.Texts.{Text}
 use Rattle.rhai_lower.specs.Lexemes.{Lexeme}
 use Rattle.rhai_lower.specs.Nodes.{Node}
@@ -13,7 +10,7 @@ use Rattle.rhai_grammar.specs.Delivered.{code, Item, Point, next_at, past}
 use Rattle.rhai_grammar.specs.Contexts.{Context, Live, below_global, in_block, level_up}
 use Rattle.rhai_grammar.specs.declared.role.Beginning.{Beginning}
 use Rattle.rhai_grammar.specs.declared.role.Beginning.TheVariants as begin
-use Rattle.rhai_grammar.specs.Beginnings.{beginning, excludes_use}
+use Rattle.rhai_grammar.specs.Beginnings.{beginning, excludes_use, is_begun}
 use Rattle.rhai_grammar.specs.Modules.{may_use, module_fault}
 use Rattle.rhai_reading.proofs.Complete.Calls.{tested_fine}
 use Rattle.std.specs.Prelude.{◌||◌}
@@ -27,8 +24,8 @@ use Rattle.rhai_grammar.specs.Spots.{spot_after_operand}
 use Rattle.rhai_grammar.specs.declared.role.OperandPlace.{OperandPlace}
 use Rattle.rhai_reading.specs.Reading as R
 use Rattle.rhai_reading.specs.Reading.{Prog, Ret, Fail, Call, operand_by, body}
-use Rattle.rhai_reading.proofs.Reaches.{Reaches, seen, next, next_in, ret, gives, look, peek, take, due, if_true, part}
-use Rattle.rhai_reading.proofs.Looks.{op_at, pos_at}
+use Rattle.rhai_reading.proofs.Reaches.{Reaches, deeper, enough, seen, next, next_in, ret, gives, look, peek, take, due, if_true, part}
+use Rattle.rhai_reading.proofs.Looks.{op_at, pos_at, fine}
 use Rattle.rhai_reading.proofs.Tokens.{is_primary, value_is, range_is, sign_is, value_primary, range_primary}
 use Rattle.rhai_reading.proofs.Tokens.{primary_begun, sign_begun, begun_readable, written, unwritten_readable, jump_start_is, omitted_is}
 use Rattle.rhai_reading.proofs.Tokens.{called_no_this}
@@ -40,7 +37,7 @@ use Rattle.rhai_grammar.specs.declared.role.Bars.{Bars}
 use Rattle.rhai_grammar.specs.declared.role.Bars.TheVariants as bars
 use Rattle.rhai_lower.specs.Lexemes.{Sign}
 use Rattle.rhai_reading.proofs.Reaches.{note}
-use Rattle.rhai_reading.proofs.Complete.Law.{PrimaryRead, BaseRead, LinksRead, OperandRead, ExpressionRead, StatementRead}
+use Rattle.rhai_reading.proofs.Complete.Law.{PrimaryRead, BaseRead, LinksRead, OperandRead, ExpressionRead, FirstRead, StatementRead, WrittenRead}
 use Rattle.rhai_grammar.specs.Constructs.{kind_of}
 use Rattle.rhai_grammar.specs.Starts.{jump_stands, operand_start}
 use Rattle.rhai_grammar.specs.Forms.{Statement}
@@ -84,7 +81,7 @@ word_by : (called this_word function : Bool) (x y : Node) (d e : Refusal) (k : D
     → (called ≡ true → this_word ≡ false)
     → (if called then Fine else if this_word then (if function then Fine else Blames d) else Blames e) ≡ Fine
     → Met k s t
-    → Reaches (if called then Ret x else if this_word then (if function then Ret y else Fail d) else Fail e) s b
+    → Reaches (λ z. z) (if called then Ret x else if this_word then (if function then Ret y else Fail d) else Fail e) s b
     (if this_word then y else x) k t
 word_by true true function x y d e k s t b h ok m = let a = h refl in absurd cc
 word_by true false function x y d e k s t b h ok m = ret m
@@ -97,27 +94,33 @@ abbrev links_on : Context → Live → Node → Prog Node
 links_on c w y = Call (R.Links w (spot_after_operand c y)) (λ ls. R.tested (chained y ls) (module_fault c w y))
 
 -- an operand that no sign stands before, and that is written
-opened : (c : Context) (w : Live) (place : OperandPlace) {s : Point} {b : Bool} {x : Node} {k : Demands} {t : Point}
+opened : (c : Context) (w : Live) {D : ℕ → ℕ} {s : Point} {b : Bool} {x : Node} {k : Demands} {t : Point}
     → is_primary (beginning (op_at s)) ≡ true
-    → Reaches (Call (R.Primary c w) (λ x. Call (R.Postfix c w x) (links_on c w))) s true x k t
-    → Reaches (body (R.RightOperand c w place)) s b x k t
-opened c w place {s = s} {x = x} {k = k} {t = t} e r =
-    let g = primary_begun (beginning (op_at s)) e in
-    let can = begun_readable (op_at s) g in
-    look can (seen (written place (op_at s) g) (R.right_at c w (pos_at s))
-    (part (look can (plain (beginning (op_at s)) e)) (λ u l n. ret n)))
+    → Reaches D (Call (R.Primary c w) (λ x. Call (R.Postfix c w x) (links_on c w))) s true x k t
+    → Reaches D (body (R.Operand c w)) s b x k t
+opened c w {D = D} {s = s} {x = x} {k = k} {t = t} e r =
+    look (begun_readable (op_at s) (primary_begun (beginning (op_at s)) e)) (plain (beginning (op_at s)) e)
   where
-    plain : (v : Beginning) → is_primary v ≡ true → Reaches (operand_by c w (op_at s) (pos_at s) v) s true x k t
+    plain : (v : Beginning) → is_primary v ≡ true → Reaches D (operand_by c w (op_at s) (pos_at s) v) s true x k t
     plain begin.Sign e = absurd cc
     plain begin.Nothing e = absurd cc
     plain _ e = r
+
+-- so it is also on the right of an operator
+on_right : (c : Context) (w : Live) (place : OperandPlace) {D : ℕ → ℕ} {s : Point} {b : Bool} {x : Node} {k : Demands}
+    {t : Point} → is_begun (beginning (op_at s)) ≡ true → Reaches D (body (R.Operand c w)) s true x k t
+    → Reaches D (body (R.RightOperand c w place)) s b x k t
+on_right c w place {s = s} g r =
+    look (begun_readable (op_at s) g) (seen (written place (op_at s) g) (R.right_at c w (pos_at s))
+    (part r (λ u l n. ret n)))
 
 -- ---- primaries
 
 pub value : (token : Lexeme) (pos : Position) → PrimaryRead (form.Value token pos)
 value token pos c w place called k s t b m behind =
     let can = begun_readable token (primary_begun _ (value_primary (beginning token) m.0)) in
-    peek m.1.0 can (seen (value_is (beginning token) m.0) (R.primary_at c w token pos) (take m.1.0 can (ret m.1.1)))
+    enough (λ z. omega arith) (peek m.1.0 can (seen (value_is (beginning token) m.0) (R.primary_at c w token pos)
+    (take m.1.0 can (ret m.1.1))))
 
 may_so : (b : Bool) (e : Refusal) → (if b then Fine else Blames e) ≡ Fine → b ≡ true
 may_so true e h = refl
@@ -128,79 +131,72 @@ named name pos c w place called k s t b m behind =
     let is = captures_use c w name s.library (op_at (past code s)) in
     let x : Use = record { name = name; at = pos } in
     let u = behind (capturing is x (past code s)) m.1.1 in
-    due m.0 refl refl (next_in (V.after_name c w name pos) m.1.0 (λ e.
+    enough (λ z. omega arith) (due m.0 refl refl (next_in (V.after_name c w name pos) m.1.0 (λ e.
     if_true _ (may_so (excludes_use (op_at (past code s)) || may_use c w s.library name) _ e)
-    (note is x (gives (ap (λ v. name_tree w.slots v name pos) (u.1 refl)) m.1.1))))
+    (note is x (gives (ap (λ v. name_tree w.slots v name pos) (u.1 refl)) m.1.1)))))
 
 pub word : (text : Text) (pos : Position) → PrimaryRead (form.Word text pos)
 word text pos c w place called k s t b m behind =
-    due m.0 refl refl (next (V.after_word c text pos) m.1.0
-    (λ may. word_by _ _ _ _ _ _ _ k _ t _ (called_no_this text _) may m.1.1))
+    enough (λ z. omega arith) (due m.0 refl refl (next (V.after_word c text pos) m.1.0
+    (λ may. word_by _ _ _ _ _ _ _ k _ t _ (called_no_this text _) may m.1.1)))
 
 pub group : (opening : Position) (inside : Run) (closing : Position) → ExpressionRead inside
     → PrimaryRead (form.Group opening inside closing)
 group opening inside closing expression c w place called k s t b m behind =
-    due m.0 refl refl (if_true _ m.1.0 (part (expression (level_up c) w _ (past code s) t false m.1.1)
+    due m.0 refl refl (if_true _ m.1.0 (deeper _ refl (expression (level_up c) w _ (past code s) t false m.1.1)
     (λ u l n. due n.0 refl refl (ret n.1))))
 
 pub zero : (range : Lexeme) (pos : Position) → PrimaryRead (form.Zero range pos)
 zero range pos c w place called k s t b m behind =
     let can = begun_readable range (primary_begun _ (range_primary (beginning range) m.0)) in
-    peek m.1.0 can (seen (range_is (beginning range) m.0) (R.primary_at c w range pos) (ret m.1.1))
+    enough (λ z. omega arith) (peek m.1.0 can (seen (range_is (beginning range) m.0) (R.primary_at c w range pos)
+    (ret m.1.1)))
 
 -- ---- operands
 
--- An operand that is no right side is a written one.
-only_done : (o : Outcome Node) {x : Node} {t : State} → and_then o (λ v u. Done v u) ≡ Done x t → o ≡ Done x t
-only_done (Done y u) e = e
-only_done (Refused d u) e = e
-only_done Unfinished e = e
-
-pub begins_written : {c : Context} {w : Live} {s : State} {x : Node} {t : State}
-    → Runs (body (R.RightOperand c w Elsewhere)) s (Done x t) → Runs (body (R.Operand c w)) s (Done x t)
-begins_written {c = c} {w = w} {s = s} {x = x} {t = t} r = record {
-  depth = r.depth;
-  same = λ n h. memory_of n (r.same (suc n) (omega (arith, h)));
-}
-  where
-    memory_of : (n : ℕ) → exec (calls (suc n)) (body (R.RightOperand c w Elsewhere)) s ≡ Done x t
-        → exec (calls n) (body (R.Operand c w)) s ≡ Done x t
-    memory_of n e = by (is_memory (asked s).lexeme) e
-      where
-        by : (m : Bool) → (if m then Refused out_of_memory (looking s) else and_then (if m then Refused out_of_memory (looking s)
-            else exec (calls n) (operand_by c w (asked s).lexeme (asked s).at (beginning (asked s).lexeme)) (looking s)) (λ v u. Done v u)) ≡ Done x t
-            → (if m then Refused out_of_memory (looking s)
-            else exec (calls n) (operand_by c w (asked s).lexeme (asked s).at (beginning (asked s).lexeme)) (looking s)) ≡ Done x t
-        by true e = e
-        by false e = only_done _ e
-
-written_read : {c : Context} {w : Live} {s : Point} {b : Bool} {x : Node} {k : Demands} {t : Point}
-    → Reaches (body (R.RightOperand c w Elsewhere)) s b x k t → Reaches (body (R.Operand c w)) s b x k t
-written_read r = record { end = r.end; met = r.met; looked = r.looked; runs = begins_written r.runs }
+linked_alone : (x : Base) (list : Links) → BaseRead x → LinksRead list → WrittenRead (form.Linked x list)
+linked_alone x list base links c w place k s t b m =
+    opened c w (base_begins x c w place _ s t m) (enough (λ z. omega arith) (base c w place _ k s t _ (links_on c w) _ m
+    (λ u l h. part (links (spot_after_operand c (base_tree x w)) w _ u t l h) (λ v a n.
+    tested_fine (module_fault c w (base_tree x w)) n))))
 
 pub linked : (x : Base) (list : Links) → BaseRead x → LinksRead list → OperandRead (form.Linked x list)
 linked x list base links c w place k s t b m =
-    opened c w place (base_begins x c w place _ s t m) (base c w place _ k s t _ (links_on c w) m (λ u l h.
-    part (links (spot_after_operand c (base_tree x w)) w _ u t l h) (λ v a n.
-    tested_fine (module_fault c w (base_tree x w)) n)))
+    on_right c w place (primary_begun (beginning (op_at s)) (base_begins x c w place _ s t m))
+    (linked_alone x list base links c w place k s t true m)
 
-pub signed : (sign : Lexeme) (pos : Position) (x : Operand) → OperandRead x → OperandRead (form.Signed sign pos x)
-signed sign pos x operand c w place k s t b m =
-    let can = sign_begun (beginning sign) m.0 in
-    let reads = begun_readable sign can in
-    peek m.1.0 reads (seen (written place sign can) (R.right_at c w pos)
-    (part (peek m.1.0 reads (seen (sign_is (beginning sign) m.0) (R.operand_by c w sign pos)
+pub linked_first : (x : Base) (list : Links) → BaseRead x → LinksRead list → FirstRead (form.Linked x list)
+linked_first x list base links c w = linked_alone x list base links c w Elsewhere
+
+signed_alone : (sign : Lexeme) (pos : Position) (x : Operand) → FirstRead x → WrittenRead (form.Signed sign pos x)
+signed_alone sign pos x operand c w place k s t b m =
+    let reads = begun_readable sign (sign_begun (beginning sign) m.0) in
+    peek m.1.0 reads (seen (sign_is (beginning sign) m.0) (R.operand_by c w sign pos)
     (take m.1.0 reads (if_true _ m.1.1.0
-    (part (written_read (operand (level_up c) w Elsewhere _ (past code s) t false m.1.1.1))
-    (λ u l n. if_true _ n.0 (ret n.1))))))) (λ u l n. ret n)))
+    (part (operand (level_up c) w _ (past code s) t false m.1.1.1) (λ u l n. if_true _ n.0 (ret n.1))))))
+
+pub signed : (sign : Lexeme) (pos : Position) (x : Operand) → FirstRead x → OperandRead (form.Signed sign pos x)
+signed sign pos x operand c w place k s t b m =
+    on_right c w place (looks (λ l. is_begun (beginning l)) s _ m.1.0 (sign_begun (beginning sign) m.0))
+    (signed_alone sign pos x operand c w place k s t true m)
+
+pub signed_first : (sign : Lexeme) (pos : Position) (x : Operand) → FirstRead x → FirstRead (form.Signed sign pos x)
+signed_first sign pos x operand c w = signed_alone sign pos x operand c w Elsewhere
 
 pub no_operand : (token : Lexeme) (pos : Position) → OperandRead (form.NoOperand token pos)
 no_operand token pos c w place k s t b m =
-    peek m.1.0 (unwritten_readable place token m.0)
-    (seen (omitted_is (operand_start place token) m.0) (R.right_at c w pos) (ret m.1.1))
+    enough (λ z. omega arith) (peek m.1.0 (unwritten_readable place token m.0)
+    (seen (omitted_is (operand_start place token) m.0) (R.right_at c w pos) (ret m.1.1)))
 
 pub jump : (x : Statement) → StatementRead x → OperandRead (form.Jump x)
 jump x reads c w place k s t b m =
     next (jump_stands place) m.0 (λ e.
     seen (jump_start_is (operand_start place (op_at s)) e) (R.right_at c w (pos_at s))
     (part (reads (below_global c) (in_block w) k s t true m.1) (λ u l n. ret n)))
+
+-- elsewhere than on the right of an operator an operand is written
+pub no_first_operand : (token : Lexeme) (pos : Position) → FirstRead (form.NoOperand token pos)
+no_first_operand token pos c w k s t b m = let e = m.0 in absurd cc
+
+pub no_first_jump : (x : Statement) → FirstRead (form.Jump x)
+no_first_jump x c w k s t b m = let e = (fine (jump_stands Elsewhere) (op_at s) m.0).1 in absurd cc

@@ -1,5 +1,5 @@
 -- Statements, their lists, and blocks: the steps to what is written.
-use Rattle.std.proofs.Common.{◌≡◌, Bool, true, false, refl, sym, ap, ◌∙◌, if◌then◌else◌}
+use Rattle.std.proofs.Common.{◌≡◌, ℕ, ◌+◌, max, arith, Bool, true, false, refl, sym, ap, ◌∙◌, if◌then◌else◌}
 use Rattle.rhai_lower.specs.Texts.{Text}
 use Rattle.rhai_lower.specs.Lexemes.{Lexeme, Sign}
 use Rattle.rhai_lower.specs.Nodes as node
@@ -13,6 +13,7 @@ use Rattle.rhai_lower.specs.declared.token.Token.TheVariants as token
 use Rattle.rhai_grammar.specs.Delivered.{code, item, text, Point, past}
 use Rattle.rhai_grammar.specs.Contexts.{Context, Live, below_global, allows_looping, has_room, in_block, level_up}
 use Rattle.rhai_grammar.specs.Definitions as walk
+use Rattle.rhai_grammar.specs.Depths.{body_depth, initializer_depth, statement_depth}
 use Rattle.rhai_grammar.specs.Demands.{Fine, Otherwise, Demands, Met, Next, Tok, ◌▸◌}
 use Rattle.rhai_grammar.specs.Forms as form
 use Rattle.rhai_grammar.specs.Forms.{Body, Construct, ExprStatement, Initializer, JumpValue, Run, Segments, Statement}
@@ -39,12 +40,12 @@ use Rattle.rhai_reading.specs.Reading as R
 use Rattle.rhai_reading.specs.Reading.{body}
 use Rattle.rhai_reading.proofs.Complete.Calls.{tested_fine}
 use Rattle.rhai_reading.proofs.Complete.Law.{ExpressionRead, ExprStatementRead, InitializerRead, StatementRead}
-use Rattle.rhai_reading.proofs.Complete.Law.{ConstructRead, StatementsRead, BodyRead, IsRead, PrimaryRead}
+use Rattle.rhai_reading.proofs.Complete.Law.{ConstructRead, StatementsRead, BodyRead, IsFlat, IsRead, PrimaryRead}
 use Rattle.rhai_reading.proofs.Complete.Law.{InsideRead, JumpRead, SegmentsRead, closing_at, inside_part}
 use Rattle.rhai_reading.proofs.FormKinds.{NameForm, aliases, block_ends, block_starts, definitions, inside_of, inside_statements, text_afters, text_token, var_names}
 use Rattle.rhai_reading.proofs.Lists.{first_text, kept_statement, last_kept, no_statement, segment_added, segment_last}
 use Rattle.rhai_reading.proofs.Looks.{op_at, pos_at, fine, no_other, or_wrong}
-use Rattle.rhai_reading.proofs.Reaches.{Reaches, seen, next, ret, gives, peek, take, text_taken, due, if_true, if_false, part}
+use Rattle.rhai_reading.proofs.Reaches.{Reaches, deeper, enough, seen, next, ret, gives, peek, take, text_taken, due, if_true, if_false, part}
 use Rattle.rhai_reading.proofs.Strengths.{not_true}
 use Rattle.rhai_reading.proofs.Tokens.{readable}
 
@@ -74,35 +75,35 @@ semicolon_is EndMark = refl
 
 pub evaluate : (f : Run) → ExpressionRead f → ExprStatementRead (form.Evaluate f)
 evaluate f expression c w k s t b m =
-    part (expression c w _ s t b m)
+    deeper _ refl (expression c w _ s t b m)
     (λ u l n. next V.unassigned n.0 (λ e. if_false _ (no_other (is_assignment (op_at u)) e).0 (ret n.1)))
 
 pub assign : (f : Run) (op : Lexeme) (at : Position) (value : Run) → ExpressionRead f → ExpressionRead value
     → ExprStatementRead (form.Assign f op at value)
 assign f op at value target assigned c w k s t b m =
-    part (target c w _ s t b m) (λ u l n.
+    enough (λ z. omega arith) (deeper _ refl (target c w _ s t b m) (λ u l n.
     let can = readable is_assignment (λ f. refl) op n.0 in
-    peek n.1.0 can (if_true _ n.0 (take n.1.0 can (part (assigned c w _ (past code u) t false n.1.1)
-    (λ v a i. tested_fine (target_fault (is_constant_use w.slots (tree f w)) op at (tree f w)) i)))))
+    peek n.1.0 can (if_true _ n.0 (take n.1.0 can (deeper _ refl (assigned c w _ (past code u) t false n.1.1)
+    (λ v a i. tested_fine (target_fault (is_constant_use w.slots (tree f w)) op at (tree f w)) i))))))
 
 -- ---- definitions
 
-pub var_name : (c : Context) (w : Live) (f : NameForm) → IsRead (R.VarName c w) (var_names c w) f
+pub var_name : (c : Context) (w : Live) (f : NameForm) → IsFlat (R.VarName c w) (var_names c w) f
 var_name c w f k s t b m = due m.0 refl refl (if_true _ m.1.0 (ret m.1.1))
 
 pub no_value : InitializerRead form.NoValue
 no_value c w at k s t b m =
-    next V.without_value m.0 (λ e. if_false _ (no_other (is_equals (op_at s)) e).0 (ret m.1))
+    enough (λ z. omega arith) (next V.without_value m.0 (λ e. if_false _ (no_other (is_equals (op_at s)) e).0 (ret m.1)))
 
 pub valued : (equals : Position) (f : Run) → ExpressionRead f → InitializerRead (form.Valued equals f)
 valued equals f expression c w at k s t b m =
-    due m.0 refl refl (if_true _ m.1.0 (part (expression (level_up c) w k (past code s) t false m.1.1)
+    due m.0 refl refl (if_true _ m.1.0 (deeper _ refl (expression (level_up c) w k (past code s) t false m.1.1)
     (λ u l n. ret n)))
 
 -- ---- statements
 
 pub empty_statement : (at : Position) → StatementRead (form.EmptyStatement at)
-empty_statement at c w k s t b m = due m.0 refl refl (ret m.1)
+empty_statement at c w k s t b m = enough (λ z. omega arith) (due m.0 refl refl (ret m.1))
 
 pub expression_statement : (x : ExprStatement) → ExprStatementRead x → StatementRead (form.Expression x)
 expression_statement x reads c w k s t b m =
@@ -118,7 +119,7 @@ define_is c w at false = refl
 
 definition : (c : Context) (w : Live) (at : Position) (constant exported : Bool) (name : NameForm) (value : Initializer)
     → InitializerRead value
-    → IsRead (R.Definition c w at constant exported) (definitions c w at constant exported)
+    → IsRead (initializer_depth value) (R.Definition c w at constant exported) (definitions c w at constant exported)
     (record { name = name; value = value })
 definition c w at constant exported name value reads k s t b m =
     part (var_name c w name _ s t b m) (λ u l n. part (reads c w at k u t l n) (λ v a i. ret i))
@@ -135,7 +136,7 @@ define constant at name name_at value reads c w k s t b m =
 abbrev two_up : Context → Context
 two_up c = level_up (level_up c)
 
-other_name : (x : Alias) → IsRead R.Alias aliases x
+other_name : (x : Alias) → IsFlat R.Alias aliases x
 other_name form.NoAlias k s t b m =
     next (without due.As) m.0 (λ e. if_false _ (no_other (is_due due.As (op_at s)) e).0 (ret m.1))
 other_name (form.As as_at name at) k s t b m = due m.0 refl refl (due m.1.0 refl refl (ret m.1.1))
@@ -143,16 +144,16 @@ other_name (form.As as_at name at) k s t b m = due m.0 refl refl (due m.1.0 refl
 pub import : (at : Position) (f : Run) (other : Alias) → ExpressionRead f → StatementRead (form.Import at f other)
 import at f other expression c w k s t b m =
     due m.0 refl refl (if_true _ m.1.0 (if_true _ m.1.1.0
-    (part (part (expression (two_up c) w _ (past code s) t false m.1.1.1)
+    (part (deeper _ refl (expression (two_up c) w _ (past code s) t false m.1.1.1)
     (λ u l n. part (other_name other k u t l n) (λ v a i. ret i))) (λ u l n. ret n))))
 
 pub export : (at : Position) (name : Text) (name_at : Position) (other : Alias)
     → StatementRead (form.Export at name name_at other)
 export at name name_at other c w k s t b m =
     let u = past code s in
-    due m.0 refl refl (if_true _ m.1.0 (if_true _ m.1.1.0
+    enough (λ z. omega arith) (due m.0 refl refl (if_true _ m.1.0 (if_true _ m.1.1.0
     (part (peek m.1.1.1.0 refl (due m.1.1.1.0 refl refl
-    (part (other_name other k (past code u) t false m.1.1.1.1) (λ v a i. ret i)))) (λ v a i. ret i))))
+    (part (other_name other k (past code u) t false m.1.1.1.1) (λ v a i. ret i)))) (λ v a i. ret i)))))
 
 pub export_defined : (at : Position) (constant : Bool) (keyword : Position) (name : Text) (name_at : Position)
     (value : Initializer) → InitializerRead value
@@ -187,23 +188,24 @@ break pos x reads c w k s t b m =
     (part (reads c w pos k (past code s) t false m.1.1.1) (λ u l n. ret n)))
 
 pub continue : (pos : Position) → StatementRead (form.Continue pos)
-continue pos c w k s t b m = due m.1.0 refl (continue_is c w pos m.0) (if_true _ m.1.1.0 (ret m.1.1.1))
+continue pos c w k s t b m =
+    enough (λ z. omega arith) (due m.1.0 refl (continue_is c w pos m.0) (if_true _ m.1.1.0 (ret m.1.1.1)))
 
 -- ---- lists of statements
 
 pub no_statements : StatementsRead form.NoStatement
 no_statements closing c w before k s t b m =
-    next (V.list_ends closing) m.0 (λ e.
+    enough (λ z. omega arith) (next (V.list_ends closing) m.0 (λ e.
     seen (close_is (op_at s) (V.statement_place closing (op_at s)) e) (R.statements_at closing c w before (op_at s) (pos_at s))
-    (gives (ap (λ fs. (fs, w)) (sym (no_statement before))) m.1))
+    (gives (ap (λ fs. (fs, w)) (sym (no_statement before))) m.1)))
 
 module _ (closing : Closing) (c : Context) (w : Live) (before : node.Statements) (j : Demands) {k : Demands}
-    {s t : Point} {b : Bool} {all : node.Statements × Live} (f : Statement) where
+    {s t : Point} {b : Bool} {all : node.Statements × Live} {E : ℕ → ℕ} (f : Statement) where
   -- a statement, and what comes after it
   statement_here : StatementRead f → Met (Next (V.statement_begins closing) ▸ W.statement f c w j) s t
-      → ((u : Point) (l : Bool) → Met j u t → Reaches (R.statements_on closing c (walk.after_statement f w)
+      → ((u : Point) (l : Bool) → Met j u t → Reaches E (R.statements_on closing c (walk.after_statement f w)
       (with_kept before (statement_tree f w)) (V.ends_itself (statement_tree f w))) u l all k t)
-      → Reaches (body (R.Statements closing c w before)) s b all k t
+      → Reaches (λ z. E (max (statement_depth f) z)) (body (R.Statements closing c w before)) s b all k t
   statement_here reads m on =
       next (V.statement_begins closing) m.0 (λ e.
       seen (statement_is (op_at s) (V.statement_place closing (op_at s)) e)
@@ -222,27 +224,27 @@ pub ended : (f : Statement) (semicolon : Position) (rest : Statements) → State
 ended f semicolon rest reads more closing c w before k s t b m =
     let live = walk.after_statement f w in
     let so_far = with_kept before (statement_tree f w) in
-    statement_here closing c w before _ f reads m (λ u l n.
+    enough (λ z. omega arith) (statement_here closing c w before _ f reads m (λ u l n.
     if_false _ (not_true _ n.0) (peek n.1.0 refl
     (seen (semicolon_is closing) (R.separated_at closing c live so_far (Sign token.SemiColon) semicolon)
     (take n.1.0 refl (part (more closing c live so_far k (past code u) t false n.1.1)
     (λ v a i. gives (ap (λ fs. (fs, walk.after_statements rest live))
-    (kept_statement before (statement_tree f w) (statement_trees rest live))) i))))))
+    (kept_statement before (statement_tree f w) (statement_trees rest live))) i)))))))
 
 pub standing : (f : Statement) (rest : Statements) → StatementRead f → StatementsRead rest
     → StatementsRead (form.Standing f rest)
 standing f rest reads more closing c w before k s t b m =
     let live = walk.after_statement f w in
     let so_far = with_kept before (statement_tree f w) in
-    statement_here closing c w before _ f reads m (λ u l n.
+    enough (λ z. omega arith) (statement_here closing c w before _ f reads m (λ u l n.
     if_true _ n.0 (part (more closing c live so_far k u t l n.1)
     (λ v a i. gives (ap (λ fs. (fs, walk.after_statements rest live))
-    (kept_statement before (statement_tree f w) (statement_trees rest live))) i)))
+    (kept_statement before (statement_tree f w) (statement_trees rest live))) i))))
 
 -- ---- blocks
 
 block_end : (at : Position) (fs : node.Statements) (closing : Position)
-    → IsRead (R.BlockEnd at fs) (block_ends at fs) closing
+    → IsFlat (R.BlockEnd at fs) (block_ends at fs) closing
 block_end at fs closing k s t b m = peek m.0 refl (due m.0 refl refl (ret m.1))
 
 pub many : (fs : Statements) (closing : Position) → StatementsRead fs → InsideRead (form.Many fs closing)
@@ -280,26 +282,26 @@ compound_value pos x reads c w o called k s t b m behind =
 
 -- ---- interpolated strings
 
-pub block_start : (opening : Position) → IsRead R.BlockStart block_starts opening
+pub block_start : (opening : Position) → IsFlat R.BlockStart block_starts opening
 block_start opening k s t b m = peek m.0 refl (due m.0 refl refl (ret m.1))
 
-text_read : (last : Bool) (closing : Position) (content : Text) (at : Position) → IsRead R.TextAfter text_afters
+text_read : (last : Bool) (closing : Position) (content : Text) (at : Position) → IsFlat R.TextAfter text_afters
     (record { closing = closing; content = content; last = last; at = at })
 text_read true closing content at k s t b m = text_taken m.0 m.1.0 refl (ret m.1.1)
 text_read false closing content at k s t b m = text_taken m.0 m.1.0 refl (ret m.1.1)
 
 module _ (opening : Position) (f : Body) (content : Text) (at : Position) (inside : InsideRead f) (c : Context)
-    (w : Live) (start : Position) (before : Nodes) {k : Demands} {s t : Point} {b : Bool} {all : Nodes} where
+    (w : Live) (start : Position) (before : Nodes) {k : Demands} {s t : Point} {b : Bool} {all : Nodes} {E : ℕ → ℕ} where
   -- a block and the text after it, and what comes then
   segment : (last : Bool) (j : Demands) → Met (W.due_token due.LeftBrace opening (W.raise_at c start (
       W.block f (level_up c) w (Tok text (item (text_token last content) at) text_due ▸ j)))) s t
-      → ((u : Point) (l : Bool) → Met j u t → Reaches (R.text_on c w start opening before
+      → ((u : Point) (l : Bool) → Met j u t → Reaches E (R.text_on c w start opening before
       (inside_statements w (inside_part f)) (closing_at f, content, last, at)) u l all k t)
-      → Reaches (body (R.Segments c w start before)) s b all k t
+      → Reaches (λ z. E (max (1 + body_depth f) z)) (body (R.Segments c w start before)) s b all k t
   segment last j m on =
       part (block_start opening (W.raise_at c start (W.block f (level_up c) w
       (Tok text (item (text_token last content) at) text_due ▸ j))) s t b m) (λ v a h. if_true _ h.0
-      (part (inside (level_up c) w _ v t a (body_met f (level_up c) w _ v t h.1))
+      (deeper _ refl (inside (level_up c) w _ v t a (body_met f (level_up c) w _ v t h.1))
       (λ u l n. part (text_read last (closing_at f) content at _ u t l n) on)))
 
 pub last_segment : (opening : Position) (f : Body) (content : Text) (at : Position) → InsideRead f
@@ -314,11 +316,11 @@ pub more_segments : (opening : Position) (f : Body) (content : Text) (at : Posit
     → SegmentsRead rest → SegmentsRead (form.Segment opening f content at rest)
 more_segments opening f content at rest inside more c w start before k s t b m =
     let x = node.block_value (node.braces (inside_statements w (inside_part f)) opening (closing_at f)) in
-    segment opening f content at inside c w start before false (W.segments rest c w start k) m (λ u l n.
+    enough (λ z. omega arith) (segment opening f content at inside c w start before false (W.segments rest c w start k) m (λ u l n.
     part (more c w start (added_text (with_node before x) content at) k u t l n) (λ v a i.
     gives (segment_added before x content at (segment_trees rest w)
     ∙ ap (λ y. joined before (node.one_node (node.block_value y) (with_text content at (segment_trees rest w))))
-    (body_tree opening f w)) i))
+    (body_tree opening f w)) i)))
 
 pub interpolated : (first : Text) (pos : Position) (list : Segments) → SegmentsRead list
     → PrimaryRead (form.Interpolated first pos list)
@@ -335,14 +337,14 @@ starts_so false e = absurd cc
 
 pub absent : JumpRead form.Absent
 absent c w at k s t b m =
-    next (no_value_follows c) m.0 (λ e.
-    seen (no_other (starts c (op_at s)) e).0 (R.jump_at c w at) (if_true _ m.1.0 (ret m.1.1)))
+    enough (λ z. omega arith) (next (no_value_follows c) m.0 (λ e.
+    seen (no_other (starts c (op_at s)) e).0 (R.jump_at c w at) (if_true _ m.1.0 (ret m.1.1))))
 
 pub present : (f : Run) → ExpressionRead f → JumpRead (form.Present f)
 present f expression c w at k s t b m =
     next (value_follows c) m.0 (λ e.
     seen (starts_so (starts c (op_at s)) e) (R.jump_at c w at)
-    (if_true _ m.1.0 (part (expression (level_up c) w k s t true m.1.1) (λ u l n. ret n))))
+    (if_true _ m.1.0 (deeper _ refl (expression (level_up c) w k s t true m.1.1) (λ u l n. ret n))))
 
 returns_is : (c : Context) (w : Live) (at : Position) (throws : Bool)
     → R.statement_at c w at (V.statement_start c (Sign (jump_token throws))) ≡ R.jump_on c w at throws

@@ -1,5 +1,5 @@
 -- `switch`: what is written so is read so.
-use Rattle.std.proofs.Common.{◌≡◌, Bool, true, false, Option, Some, None, refl}
+use Rattle.std.proofs.Common.{◌+◌, max, arith, ◌≡◌, Bool, true, false, Option, Some, None, refl}
 use Rattle.rhai_lower.specs.Lexemes.{Lexeme, Sign}
 use Rattle.rhai_lower.specs.Nodes.{no_nodes, with_node}
 use Rattle.rhai_lower.specs.declared.position.Position.{Position}
@@ -10,6 +10,7 @@ use Rattle.rhai_grammar.specs.CommaLists.{after_part}
 use Rattle.rhai_grammar.specs.Constructs.{absent}
 use Rattle.rhai_grammar.specs.Contexts.{Context, Live, below_global, in_block, in_case}
 use Rattle.rhai_grammar.specs.Delivered.{code, item, Point, is_end, past}
+use Rattle.rhai_grammar.specs.Depths.{action_depth, case_guard_depth, cases_depth, run_depth}
 use Rattle.rhai_grammar.specs.Demands.{Fine, Met, Next, Nothing, Tok, ◌▸◌}
 use Rattle.rhai_grammar.specs.Verdicts.{anything}
 use Rattle.rhai_grammar.specs.DueTokens.{is_due}
@@ -29,11 +30,11 @@ use Rattle.rhai_grammar.specs.declared.role.ArmPlace.{ArmPlace}
 use Rattle.rhai_grammar.specs.declared.role.ArmPlace.TheVariants as arm
 use Rattle.rhai_reading.specs.Reading as R
 use Rattle.rhai_reading.proofs.Complete.Constructs.{guard}
-use Rattle.rhai_reading.proofs.Complete.Law.{ActionRead, ArmsRead, CaseGuardRead, CasesRead, ConstructRead, ExpressionRead, IsRead}
+use Rattle.rhai_reading.proofs.Complete.Law.{ActionRead, ArmsRead, CaseGuardRead, CasesRead, ConstructRead, ExpressionRead, IsFlat, IsRead, IsReadSo}
 use Rattle.rhai_reading.proofs.Complete.Law.{StatementRead}
 use Rattle.rhai_reading.proofs.Lists.{added, added_last}
 use Rattle.rhai_reading.proofs.Looks.{no_other, no_wrong, op_at, or_wrong, pos_at}
-use Rattle.rhai_reading.proofs.Reaches.{Reaches, due as due_now, gives, if_false, if_true, next, part, part_literal, ret, seen}
+use Rattle.rhai_reading.proofs.Reaches.{Reaches, deeper, enough, due as due_now, gives, if_false, if_true, next, part, part_literal, ret, seen}
 use Rattle.rhai_reading.proofs.Strengths.{not_true}
 use Rattle.rhai_reading.proofs.SwitchKinds.{arm_ends, arms_with_cases, default_arms, default_ends, one_cases}
 
@@ -49,9 +50,9 @@ no_end _ e = refl
 
 -- ---- the parts of an arm
 
-one_case : (f : Run) → ExpressionRead f → (c : Context) (w : Live) → IsRead (R.Case c w) (one_cases c w) f
+one_case : (f : Run) → ExpressionRead f → (c : Context) (w : Live) → IsRead (1 + run_depth f) (R.Case c w) (one_cases c w) f
 one_case f expression c w k s t b m =
-    part_literal (expression (in_case c) (in_block w) Nothing s m.0 b m.1) (λ l. ret m.2)
+    part_literal _ refl (expression (in_case c) (in_block w) Nothing s m.0 b m.1) (λ l. ret m.2)
 
 pub last_case : (f : Run) → ExpressionRead f → CasesRead (form.LastCase f)
 last_case f expression c w before k s t b m =
@@ -63,13 +64,13 @@ pub more_cases : (f : Run) (pipe : Position) (rest : Cases) → ExpressionRead f
     → CasesRead (form.Case f pipe rest)
 more_cases f pipe rest expression more c w before k s t b m =
     let x = tree f (in_block w) in
-    part (one_case f expression c w (Tok code (item (Sign token.Pipe) pipe) anything ▸ W.cases rest c w k) s t b m)
+    enough (λ z. omega arith) (part (one_case f expression c w (Tok code (item (Sign token.Pipe) pipe) anything ▸ W.cases rest c w k) s t b m)
     (λ u l n. due_now n.0 refl refl (part (more c w (with_node before x) k (past code u) t false n.1) (λ v a i.
-    gives (added before x (case_trees rest w)) i)))
+    gives (added before x (case_trees rest w)) i))))
 
 pub no_guard : CaseGuardRead form.NoGuard
 no_guard c w k s t b m =
-    next (absent due.If) m.0 (λ e. if_false _ (no_other (is_due due.If (op_at s)) e).0 (ret m.1))
+    enough (λ z. omega arith) (next (absent due.If) m.0 (λ e. if_false _ (no_other (is_due due.If (op_at s)) e).0 (ret m.1)))
 
 pub case_guard : (at : Position) (f : Run) → ExpressionRead f → CaseGuardRead (form.Guard at f)
 case_guard at f expression c w k s t b m =
@@ -82,31 +83,31 @@ does f statement c w k s t b m =
 
 pub gives_value : (f : Run) → ExpressionRead f → ActionRead (form.Gives f)
 gives_value f expression c w k s t b m =
-    seen m.0 (R.action_on c w) (part (expression c w k s t b m.1) (λ u l n. ret n))
+    seen m.0 (R.action_on c w) (deeper _ refl (expression c w k s t b m.1) (λ u l n. ret n))
 
 -- ---- after an arm
 
-arm_end : (itself : Bool) (comma : Option Position) → IsRead (R.ArmEnd itself) (arm_ends itself) comma
+arm_end : (itself : Bool) (comma : Option Position) → IsFlat (R.ArmEnd itself) (arm_ends itself) comma
 arm_end itself (Some comma) k s t b m = due_now m.0 refl refl (ret m.1)
 arm_end itself None k s t b m = next (S.arm_ends itself) m.0 (λ e. by (after_part lists.Arms (op_at s)) e)
   where
     by : (v : AfterPart) → S.arm_ends_at itself (op_at s) v ≡ Fine
-        → Reaches (R.arm_end_at itself (op_at s) (pos_at s) v) s true tt k t
+        → Reaches (λ z. z) (R.arm_end_at itself (op_at s) (pos_at s) v) s true tt k t
     by after.Comma e = absurd cc
     by after.Close e = ret m.1
     by after.Nothing e = if_true _ (or_wrong itself _ e) (ret m.1)
 
-default_end : (default closing : Position) → IsRead (R.DefaultEnd default) (default_ends default) closing
+default_end : (default closing : Position) → IsFlat (R.DefaultEnd default) (default_ends default) closing
 default_end default closing k s t b m = due_now m.0 refl refl (ret m.1)
 
 -- ---- arms
 
 pub no_arm : (closing : Position) → ArmsRead (form.NoArm closing)
-no_arm closing c w before k s t b m = due_now m.0 refl refl (ret m.1)
+no_arm closing c w before k s t b m = enough (λ z. omega arith) (due_now m.0 refl refl (ret m.1))
 
 one_arm : (xs : Cases) (f : CaseGuard) (arrow : Position) (x : Action) (comma : Option Position) → CasesRead xs
     → CaseGuardRead f → ActionRead x → (c : Context) (w : Live) (before : Collected)
-    → IsRead (R.Arm c w before) (arms_with_cases c w before)
+    → IsReadSo (λ z. max (action_depth x) (max (case_guard_depth f) (max (cases_depth xs) z))) (R.Arm c w before) (arms_with_cases c w before)
     (record { cases = xs; guard = f; arrow = arrow; action = x; comma = comma })
 one_arm xs f arrow x comma read_cases read_guard read_action c w before k s t b m =
     part (read_cases c w no_nodes _ s t b m) (λ u l n.
@@ -115,7 +116,7 @@ one_arm xs f arrow x comma read_cases read_guard read_action c w before k s t b 
     fits (arm_fault before (case_trees xs w)) y d j))))
   where
     fits : (v : Option Refusal) (u : Point) (l : Bool) → Met (unfaulted v (W.separated comma (action_ends x w) k)) u t
-        → Reaches (R.arm_on (case_trees xs w) (guard_tree f w) (action_tree x w, action_ends x w) v) u l
+        → Reaches (λ z. z) (R.arm_on (case_trees xs w) (guard_tree f w) (action_tree x w, action_ends x w) v) u l
         (case_trees xs w, guard_tree f w, action_tree x w) k t
     fits None u l n = part (arm_end (action_ends x w) comma k u t l n) (λ v a i. ret i)
     fits (Some e) u l n = let h = n.0 in absurd cc
@@ -124,12 +125,12 @@ pub an_arm : (xs : Cases) (f : CaseGuard) (arrow : Position) (x : Action) (comma
     → CasesRead xs → CaseGuardRead f → ActionRead x → ArmsRead rest → ArmsRead (form.Arm xs f arrow x comma rest)
 an_arm xs f arrow x comma rest read_cases read_guard read_action more c w before k s t b m =
     let next_ = with_arm_collected before (case_trees xs w) (guard_tree f w) (action_tree x w) in
-    next arm_begins m.0 (λ e. seen (arm_is (S.arm_place (op_at s)) e) (R.arms_at c w before (op_at s) (pos_at s))
+    enough (λ z. omega arith) (next arm_begins m.0 (λ e. seen (arm_is (S.arm_place (op_at s)) e) (R.arms_at c w before (op_at s) (pos_at s))
     (part (one_arm xs f arrow x comma read_cases read_guard read_action c w before (W.arms rest next_ c w k) s t true m.1)
-    (λ u l n. part (more c w next_ k u t l n) (λ y d j. ret j))))
+    (λ u l n. part (more c w next_ k u t l n) (λ y d j. ret j)))))
 
 one_default : (pos arrow : Position) (x : Action) (comma : Option Position) (closing : Position) → ActionRead x
-    → (c : Context) (w : Live) → IsRead (R.DefaultArm c w pos) (default_arms c w pos)
+    → (c : Context) (w : Live) → IsRead (action_depth x) (R.DefaultArm c w pos) (default_arms c w pos)
     (record { arrow = arrow; action = x; comma = comma; closing = closing })
 one_default pos arrow x comma closing read_action c w k s t b m =
     next unguarded m.0 (λ e.
@@ -149,5 +150,5 @@ default_arm pos arrow x comma closing read_action c w before k s t b m =
 pub switch : (f : Run) (opening : Position) (list : Arms) → ExpressionRead f → ArmsRead list
     → ConstructRead (form.Switch f opening list)
 switch f opening list expression reads c w at k s t b m =
-    part (expression c w _ s t b m) (λ u l n.
-    due_now n.0 refl refl (part (reads c w nothing_collected k (past code u) t false n.1) (λ v a i. ret i)))
+    enough (λ z. omega arith) (deeper _ refl (expression c w _ s t b m) (λ u l n.
+    due_now n.0 refl refl (part (reads c w nothing_collected k (past code u) t false n.1) (λ v a i. ret i))))

@@ -1,5 +1,5 @@
 -- Expressions, and a whole stream: what is written so is read so.
-use Rattle.std.proofs.Common.{◌≡◌, Bool, true, false, refl, subst}
+use Rattle.std.proofs.Common.{◌≡◌, ℕ, ◌+◌, max, Bool, true, false, refl, subst}
 use Rattle.rhai_lower.specs.Nodes.{Node}
 use Rattle.rhai_grammar.specs.Delivered.{Point, is_end}
 use Rattle.rhai_grammar.specs.Contexts.{Context, Live, has_room, level_up}
@@ -16,12 +16,12 @@ use Rattle.rhai_reading.specs.Reading as R
 use Rattle.rhai_reading.specs.Reading.{Goal, Whole, Expression, NextOperator, BinaryOp, Prog, Ret, Fail, Take, Call}
 use Rattle.rhai_reading.specs.Reading.{continues, next_operator_at, operand_by, primary_at, list_on, called_at, bang_at}
 use Rattle.rhai_reading.specs.Reading.{binary_at, binary_on, binary_next, body}
-use Rattle.rhai_reading.specs.Histories.{Done, Runs}
-use Rattle.rhai_reading.proofs.Rules.{at, runs_ret, runs_look, runs_call, runs_tail, runs_then}
+use Rattle.rhai_reading.specs.Histories.{Done}
+use Rattle.rhai_reading.proofs.Rules.{at}
+use Rattle.rhai_reading.proofs.Deep.{Deep, deep_call, deep_counted, deep_enough, deep_look, deep_ret, deep_tail, deep_then}
 use Rattle.rhai_reading.proofs.Reaches.{Reaches}
 use Rattle.rhai_grammar.specs.Verdicts as V
 use Rattle.rhai_reading.proofs.Complete.Law.{ExpressionRead, RunRead, Agrees, begins}
-use Rattle.rhai_reading.proofs.Complete.Operands.{begins_written}
 use Rattle.rhai_reading.proofs.Complete.Runs.{filter_after, none_goes, shut_none, climb_stops}
 use Rattle.rhai_reading.proofs.Looks.{op_at, follower_at, climb, fine, or_wrong}
 use Rattle.rhai_reading.proofs.Strengths.{sensible, outer}
@@ -45,18 +45,18 @@ expression f run c w k s t b m =
       end = reads.end;
       met = reads.met.1;
       looked = true;
-      runs = runs_look room.0 (runs_then _ (or_wrong (has_room c) _ room.1)
-          (runs_call (R.Operand (level_up c) w) _ (begins_written reads.operand)
-          (runs_tail (climb (begins q reads.first) w 1 reads.first)
-          (reads.climbs (shut_none filter f (follower_at filter reads.end) ends) 1 agrees _
-          (λ a. climb_stops filter w (height_after q f) (filter_after q f refl) 1 (tree f w) reads.end a reads.known_end stop) reads.looked))));
+      runs = deep_enough reads.deep (deep_look room.0 (deep_then _ (or_wrong (has_room c) _ room.1)
+          (deep_call (R.Operand (level_up c) w) _ reads.operand
+          (deep_tail (climb (begins q reads.first) w 1 reads.first)
+          (reads.climbs (shut_none filter f (follower_at filter reads.end) ends) 1 agrees (λ z. z) _ _
+          (λ a. climb_stops filter w (height_after q f) (filter_after q f refl) 1 (tree f w) reads.end a reads.known_end stop) reads.looked)))));
     }
 
 -- a whole stream, from what its expression comes to
-pub whole : (c : Context) (w : Live) {x : Node} {s t : Point} {b : Bool}
-    → Reaches (body (Expression c w)) s b x (Next end_due ▸ Nothing) t
-    → Runs (body (Whole c w)) (at s b) (Done x (at t true))
-whole c w {x = x} e =
+pub whole : (c : Context) (w : Live) (d : ℕ) {x : Node} {s t : Point} {b : Bool}
+    → Reaches (λ z. max d z) (body (Expression c w)) s b x (Next end_due ▸ Nothing) t
+    → Deep (λ z. max (1 + d) z) (body (Whole c w)) (at s b) (Done x (at t true))
+whole c w d {x = x} e =
     let end = fine end_due (op_at e.end) e.met.0 in
-    runs_call (Expression c w) _ e.runs (runs_look end.0 (runs_then _ (or_wrong (is_end (op_at e.end)) _ end.1)
-    (subst (λ p. Runs (Ret x) (at e.end true) (Done x (at p true))) e.met.1 (runs_ret x (at e.end true)))))
+    deep_counted d (Expression c w) refl _ e.runs (deep_look end.0 (deep_then _ (or_wrong (is_end (op_at e.end)) _ end.1)
+    (subst (λ p. Deep (λ z. z) (Ret x) (at e.end true) (Done x (at p true))) e.met.1 (deep_ret x (at e.end true)))))

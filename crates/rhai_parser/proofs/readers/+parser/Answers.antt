@@ -8,9 +8,9 @@ use Rattle.rhai_parser.proofs.readers.+parser.Goals as goal
 falls : {need left bound measure : ℕ} → need ≡ left → left < bound → bound ≡ measure → need < measure
 falls is below same = omega (arith, is, below, same)
 
-pub parse_expr-parse_expr-read-requires : goal.parse_expr-parse_expr-read-requires
-parse_expr-parse_expr-read-requires t c =
-    let same = ap (need (expression c.args.language.now c.args.frame.now c.args.settings)) c.enter.ensures.enters ∙ c.decreases in record {
+pub parse_expr-parse_expr-requires : goal.parse_expr-parse_expr-requires
+parse_expr-parse_expr-requires t c =
+    let same = ap (need (expression c.args.language.now c.args.frame.now c.args.settings)) c.nested-enter.ensures.enters ∙ c.decreases in record {
       lent = λ m below. (
         λ language shared frame settings is. ((falls is below same, tt), λ result after told. told.1),
         λ language shared frame settings is. ((falls is below same, tt), λ result after told. told.1),
@@ -20,9 +20,9 @@ parse_expr-parse_expr-read-requires t c =
       );
     }
 
-pub parse_primary-parse_primary-read-requires : goal.parse_primary-parse_primary-read-requires
-parse_primary-parse_primary-read-requires t c =
-    let same = ap (need (primary c.args.language.now c.args.frame.now c.args.settings)) c.enter.ensures.enters ∙ c.decreases in record {
+pub parse_primary-parse_primary-requires : goal.parse_primary-parse_primary-requires
+parse_primary-parse_primary-requires t c =
+    let same = ap (need (primary c.args.language.now c.args.frame.now c.args.settings)) c.nested-enter.ensures.enters ∙ c.decreases in record {
       lent = λ m below. (
         λ language shared frame settings is. ((falls is below same, tt), λ result after told. told.1),
         λ language shared frame settings is. ((falls is below same, tt), λ result after told. told.1),
@@ -32,9 +32,9 @@ parse_primary-parse_primary-read-requires t c =
       );
     }
 
-pub parse_construct-parse_construct-read-requires : goal.parse_construct-parse_construct-read-requires
-parse_construct-parse_construct-read-requires t c =
-    let same = ap (need (construct c.args.language.now c.args.frame.now c.args.settings c.args.kind)) c.enter.ensures.enters ∙ c.decreases in record {
+pub parse_construct-parse_construct-requires : goal.parse_construct-parse_construct-requires
+parse_construct-parse_construct-requires t c =
+    let same = ap (need (construct c.args.language.now c.args.frame.now c.args.settings c.args.kind)) c.nested-enter.ensures.enters ∙ c.decreases in record {
       lent = λ m below. (
         λ language shared frame settings is. ((falls is below same, tt), λ result after told. told.1),
         λ language shared frame settings is. ((falls is below same, tt), λ result after told. told.1),
@@ -44,9 +44,9 @@ parse_construct-parse_construct-read-requires t c =
       );
     }
 
-pub parse_block_inside-parse_block_inside-read-requires : goal.parse_block_inside-parse_block_inside-read-requires
-parse_block_inside-parse_block_inside-read-requires t c =
-    let same = ap (need (inside c.args.language.now c.args.frame.now c.args.settings)) c.enter.ensures.enters ∙ c.decreases in record {
+pub parse_block_inside-parse_block_inside-requires : goal.parse_block_inside-parse_block_inside-requires
+parse_block_inside-parse_block_inside-requires t c =
+    let same = ap (need (inside c.args.language.now c.args.frame.now c.args.settings)) c.nested-enter.ensures.enters ∙ c.decreases in record {
       lent = λ m below. (
         λ language shared frame settings is. ((falls is below same, tt), λ result after told. told.1),
         λ language shared frame settings is. ((falls is below same, tt), λ result after told. told.1),
@@ -56,9 +56,9 @@ parse_block_inside-parse_block_inside-read-requires t c =
       );
     }
 
-pub parse_stmt-parse_stmt-read-requires : goal.parse_stmt-parse_stmt-read-requires
-parse_stmt-parse_stmt-read-requires t c =
-    let same = ap (need (statement c.args.language.now c.args.frame.now c.args.settings)) c.enter.ensures.enters ∙ c.decreases in record {
+pub parse_stmt-parse_stmt-requires : goal.parse_stmt-parse_stmt-requires
+parse_stmt-parse_stmt-requires t c =
+    let same = ap (need (statement c.args.language.now c.args.frame.now c.args.settings)) c.nested-enter.ensures.enters ∙ c.decreases in record {
       lent = λ m below. (
         λ language shared frame settings is. ((falls is below same, tt), λ result after told. told.1),
         λ language shared frame settings is. ((falls is below same, tt), λ result after told. told.1),

@@ -16,7 +16,7 @@ use Rattle.rhai_expressions.proofs.reader.ExprReader.+parse_binary_op.Goals.{Aft
 
 -- an operator of a run with its right side
 walked : (g : _) (t : _) (c : After-make_binary g t) → Walked (context_of c.args.self.now.language.now c.args.frame.now c.loop-lhs.settings) (live_of c.args.frame.now) c.args.parent c.in-Some.operator.strength c.in-Some.operator.right c.place_after-place.result (option_map operator_pair c.in_ok-next_operator.field-0) (lexeme c.take-op_token.result.0) c.take-op_token.result.1 (view c.in_ok-rhs.rhs) (Done (view c.in_ok-rhs-2.rhs) (state_of c.parse_binary_op.new.shared)) (context_of c.args.self.now.language.now c.args.frame.now c.in_ok-deeper.deeper.side)
-    (state_of c.loop-lhs.shared) (state_of c.next_operator.new.shared) (state_at c.next_operator.new.shared (cursor_of c.take-op_token.new.input)) (state_of c.leave.new.self) (state_of c.next_operator-in-loop-lhs.new.shared) (state_of c.parse_binary_op.new.shared)
+    (state_of c.loop-lhs.shared) (state_of c.next_operator.new.shared) (state_at c.next_operator.new.shared (cursor_of c.take-op_token.new.input)) (state_of c.nested-leave.new.self) (state_of c.next_operator-in-loop-lhs.new.shared) (state_of c.parse_binary_op.new.shared)
 walked g t c = record {
   operator = search rules;
   goes = search rules;
@@ -27,7 +27,7 @@ walked g t c = record {
   took = ap (state_at c.next_operator.new.shared) c.take-op_token.ensures.after;
   shrinks = c.take-op_token.ensures.shrinks;
   stands = search rules;
-  operand = nested_done _ _ c.enter.ensures.enters (search rules) c.leave.ensures.leaves;
+  operand = nested_done _ _ c.nested-enter.ensures.enters (search rules) c.nested-leave.ensures.leaves;
   operand_short = search rules;
   known = search rules;
   look_on = c.next_operator-in-loop-lhs.ensures.after;
@@ -44,7 +44,7 @@ returns-in_err-next_operator-clause-reads g t c =
     rw (p.1, p.2) (
       λ told.
           let h : Halted (context_of c.args.self.now.language.now c.args.frame.now c.loop-lhs.settings) (live_of c.args.frame.now) c.args.parent c.in-Some.operator.strength c.in-Some.operator.right c.place_after-place.result (lexeme c.take-op_token.result.0) c.take-op_token.result.1 (view c.in_ok-rhs.rhs) _
-          (state_of c.loop-lhs.shared) (state_of c.next_operator.new.shared) (state_at c.next_operator.new.shared (cursor_of c.take-op_token.new.input)) (state_of c.leave.new.self) (state_of c.next_operator-in-loop-lhs.new.shared) = record {
+          (state_of c.loop-lhs.shared) (state_of c.next_operator.new.shared) (state_at c.next_operator.new.shared (cursor_of c.take-op_token.new.input)) (state_of c.nested-leave.new.self) (state_of c.next_operator-in-loop-lhs.new.shared) = record {
             operator = search rules;
             goes = search rules;
             readable = search rules;
@@ -54,9 +54,9 @@ returns-in_err-next_operator-clause-reads g t c =
             took = ap (state_at c.next_operator.new.shared) c.take-op_token.ensures.after;
             shrinks = c.take-op_token.ensures.shrinks;
             stands = search rules;
-            operand = nested_done _ _ c.enter.ensures.enters (search rules) c.leave.ensures.leaves;
+            operand = nested_done _ _ c.nested-enter.ensures.enters (search rules) c.nested-leave.ensures.leaves;
             operand_short = search rules;
-            refused = ap (λ f. result_of (NextOperator f) (state_of c.leave.new.self)) (sym c.filter-in-loop-lhs.ensures) ∙ c.in_err-next_operator.ensures.reads.0 told;
+            refused = ap (λ f. result_of (NextOperator f) (state_of c.nested-leave.new.self)) (sym c.filter-in-loop-lhs.ensures) ∙ c.in_err-next_operator.ensures.reads.0 told;
           } in
           c.loop-lhs.invariant.same ∙ look_refused h _ _,
       c.in_err-next_operator.ensures.reads.1,
@@ -68,7 +68,7 @@ returns-in_err-rhs-2-clause-reads g t c =
     rw (p.1, p.2) (
       λ told.
           let h : Walked (context_of c.args.self.now.language.now c.args.frame.now c.loop-lhs.settings) (live_of c.args.frame.now) c.args.parent c.in-Some.operator.strength c.in-Some.operator.right c.place_after-place.result (option_map operator_pair c.in_ok-next_operator.field-0) (lexeme c.take-op_token.result.0) c.take-op_token.result.1 (view c.in_ok-rhs.rhs) (Refused _ (state_of c.parse_binary_op.new.shared)) (context_of c.args.self.now.language.now c.args.frame.now c.in_ok-deeper.deeper.side)
-          (state_of c.loop-lhs.shared) (state_of c.next_operator.new.shared) (state_at c.next_operator.new.shared (cursor_of c.take-op_token.new.input)) (state_of c.leave.new.self) (state_of c.next_operator-in-loop-lhs.new.shared) (state_of c.parse_binary_op.new.shared) = record {
+          (state_of c.loop-lhs.shared) (state_of c.next_operator.new.shared) (state_at c.next_operator.new.shared (cursor_of c.take-op_token.new.input)) (state_of c.nested-leave.new.self) (state_of c.next_operator-in-loop-lhs.new.shared) (state_of c.parse_binary_op.new.shared) = record {
             operator = search rules;
             goes = search rules;
             readable = search rules;
@@ -78,7 +78,7 @@ returns-in_err-rhs-2-clause-reads g t c =
             took = ap (state_at c.next_operator.new.shared) c.take-op_token.ensures.after;
             shrinks = c.take-op_token.ensures.shrinks;
             stands = search rules;
-            operand = nested_done _ _ c.enter.ensures.enters (search rules) c.leave.ensures.leaves;
+            operand = nested_done _ _ c.nested-enter.ensures.enters (search rules) c.nested-leave.ensures.leaves;
             operand_short = search rules;
             known = search rules;
             look_on = c.next_operator-in-loop-lhs.ensures.after;

@@ -15,7 +15,7 @@ use Rattle.rhai_expressions.proofs.reader.ExprReader.+parse_unary.Goals as goal
 pub returns-clause-reads : goal.returns-clause-reads
 returns-clause-reads g t c =
     let due = sign_result (lexeme c.take-sign.result.0) c.take-sign.result.1 (view c.in_ok-operand.operand) in
-    let left = state_of c.leave.new.self in
+    let left = state_of c.nested-leave.new.self in
     let same : result_of (operand c.args.self.now.language.now c.args.frame.now c.args.settings) (state_of c.args.shared.now) ≡ outcome due left = grind (arith, rule.parse_unary) in
     answer_given view due left c.make_unary.result same c.make_unary.ensures.answers c.make_unary.ensures.nowhere
 

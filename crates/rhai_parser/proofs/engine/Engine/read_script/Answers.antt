@@ -19,7 +19,7 @@ returns-in-Ok-clause-reads c = λ mode.
     let to : Entries → Progress = λ es. record { cursor = cursor_of c.read_expression-read.new.input; library = library_of es; captured = c.in-Ok.ensures.reads.0; nesting = nesting_of c.read_expression-read.new.counts } in
     let here = ap (λ (es : Entries). result_of (Whole context live) (at es)) c.in_ok-library.ensures.ok in
     let ended = ap (λ (es : Entries). Done (view c.in-Ok.expr) (to es)) (sym c.into_functions.ensures) in
-    expression_done context live (at c.args.lib.now.entries) (to c.into_functions.result.entries) (view c.in-Ok.expr) c.make_script.result (record { mode = mode; captured = refl })
+    expression_done c.args.constants c.args.level context live (at c.args.lib.now.entries) (to c.into_functions.result.entries) (view c.in-Ok.expr) c.make_script.result (record { mode = mode; captured = refl })
     (sym here ∙ c.in-Ok.ensures.reads.1 ∙ ended) c.make_script.ensures.script
 
 pub returns-in-Ok-clause-memory : goal.returns-in-Ok-clause-memory
@@ -37,7 +37,7 @@ returns-in-Err-clause-reads c = λ mode.
     let to : Entries → Progress = λ es. record { cursor = cursor_of c.read_expression-read.new.input; library = library_of es; captured = c.in-Err.ensures.reads.0; nesting = nesting_of c.read_expression-read.new.counts } in
     let here = ap (λ (es : Entries). result_of (Whole context live) (at es)) c.in_ok-library.ensures.ok in
     let ended = ap (λ (es : Entries). Refused (refusal_of c.in-Err.error) (to es)) (sym c.into_functions.ensures) in
-    expression_fails context live (at c.args.lib.now.entries) (to c.into_functions.result.entries) c.in-Err.error (record { mode = mode; captured = refl })
+    expression_fails c.args.constants c.args.level context live (at c.args.lib.now.entries) (to c.into_functions.result.entries) c.in-Err.error (record { mode = mode; captured = refl })
     (λ told. sym here ∙ c.in-Err.ensures.reads.1.0 told ∙ ended, c.in-Err.ensures.reads.1.1)
 
 pub returns-in-Err-clause-memory : goal.returns-in-Err-clause-memory

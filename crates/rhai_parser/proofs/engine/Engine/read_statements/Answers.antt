@@ -1,5 +1,4 @@
 use Rattle.std.proofs.Common.{List, [], ap, arith, rules, subst, sym, ◌-◌, ◌^◌, ◌≤◌, ◌≡◌}
-use Rattle.rhai_ast.specs.View.{statement_views}
 use Rattle.rhai_grammar.specs.Cursors.{cursor_of}
 use Rattle.rhai_grammar.specs.Promises.{UnlessMemory}
 use Rattle.rhai_grammar.specs.Uses.{Use}

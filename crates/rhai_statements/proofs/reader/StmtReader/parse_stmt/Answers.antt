@@ -21,5 +21,5 @@ returns-in_ok-match_token-in-Private-clause-reads g c =
     let read = result_of (function_statement language frame c.at.result c.at-settings.result.pos true) in
     let from = state_at c.args.shared.now (cursor_of c.match_token.new.input) in
     let same : result_of (statement language frame c.args.settings) (state_of c.args.shared.now) ≡ nested read from = grind (arith, rule.parse_stmt) in
-    let given = nested_gives (with_live statement_view frame) read from _ _ _ c.parse_fn-read-in-Private.result c.enter-in-Private.ensures.enters c.parse_fn-read-in-Private.ensures.reads c.leave-in-Private.ensures.leaves in
-    gives_so (with_live statement_view frame) c.parse_fn-read-in-Private.result (state_of c.leave-in-Private.new.self) same given
+    let given = nested_gives (with_live statement_view frame) read from _ _ _ c.parse_fn-in-Private.result c.nested-enter-in-Private.ensures.enters c.parse_fn-in-Private.ensures.reads c.nested-leave-in-Private.ensures.leaves in
+    gives_so (with_live statement_view frame) c.parse_fn-in-Private.result (state_of c.nested-leave-in-Private.new.self) same given

@@ -1,0 +1,237 @@
+-- What happens along the demands of the parts of forms: names, and what uses none.
+use Rattle.std.proofs.Common.{◌≡◌, ◌⊎◌, inl, inr, Bool, true, false, ◌&&◌, ◌||◌, not, List, [], ◌∷◌, ◌++◌, refl, ap, ◌∙◌, if◌then◌else◌}
+use Rattle.std.specs.Prelude.{Option, Some, None}
+use Rattle.rhai_lower.specs.Lexemes.{Lexeme, Sign}
+use Rattle.rhai_lower.specs.Nodes.{Node}
+use Rattle.rhai_lower.specs.Texts.{Text}
+use Rattle.rhai_lower.specs.declared.position.Position.{Position}
+use Rattle.rhai_lower.specs.declared.token.Token.TheVariants as token
+use Rattle.rhai_grammar.specs.Beginnings.{calls, excludes_use, qualifies}
+use Rattle.rhai_grammar.specs.Constructs.{guard_fault, iterated_fault}
+use Rattle.rhai_grammar.specs.Contexts.{Context, Live, level_up}
+use Rattle.rhai_grammar.specs.Delivered.{Mode, Item, Point, capturing, code, is_memory, item, next_at, past}
+use Rattle.rhai_grammar.specs.Demands.{Missed, Demands, Fine, Met, Next, Otherwise, Shape, Tok, Verdict, verdict, ◌▸◌}
+use Rattle.rhai_grammar.specs.Forms as form
+use Rattle.rhai_grammar.specs.Forms.{Action, Alias, Arguments, Arms, Base, Body, Branch, CaseGuard, Cases, CatchName}
+use Rattle.rhai_grammar.specs.Forms.{ClosureBody, ClosureHead, Conditional, Construct, Elements, ExprStatement, Fields}
+use Rattle.rhai_grammar.specs.Forms.{Initializer, Items, JumpValue, Links, LoopNames, Operand, Owner, ParameterList}
+use Rattle.rhai_grammar.specs.Forms.{Parameters, Path, Primary, Run, Segments, Statement, Statements}
+use Rattle.rhai_grammar.specs.Modules.{captures_use, is_captured, is_scoped, qualified}
+use Rattle.rhai_grammar.specs.Settings as S
+use Rattle.rhai_grammar.specs.Spots.{Outermost, RightOf, Side, outermost}
+use Rattle.rhai_grammar.specs.Trees.{is_variable}
+use Rattle.rhai_grammar.specs.Trees.{named_tree, primary_tree, tree}
+use Rattle.rhai_grammar.specs.Causes.{Refusal}
+use Rattle.rhai_grammar.specs.Uses.{Use, noted}
+use Rattle.rhai_grammar.specs.UsesOfForms.{Event}
+use Rattle.rhai_grammar.specs.UsesOfForms.{is_free}
+use Rattle.rhai_grammar.specs.UsesOfForms.{primary_events, used_at}
+use Rattle.rhai_grammar.specs.Verdicts as V
+use Rattle.rhai_grammar.specs.Written as W
+use Rattle.rhai_grammar.specs.declared.list.CommaList.{CommaList}
+use Rattle.rhai_grammar.specs.declared.list.CommaList.TheVariants as lists
+use Rattle.rhai_grammar.specs.declared.role.OperandPlace.{OperandPlace}
+use Rattle.rhai_grammar.proofs.EventSteps.{Does, Is, Reached, Scope, Stops, stop, all_of, captures, here}
+use Rattle.rhai_grammar.proofs.EventSteps.{next, on, shape, test}
+use Rattle.rhai_grammar.proofs.EventSteps.{tok, unfaulted_by}
+
+-- ---- what no names are used in
+
+pub raised : {q : Scope} (side : Side) {k : Demands} → Does q [] (W.raise_after side k) k
+raised Outermost = here
+raised (RightOf op height) = test here
+
+pub unfaulted : {q : Scope} (r : Option _) {k : Demands} → Does q [] (W.unfaulted r k) k
+unfaulted r = unfaulted_by r here
+
+-- the two ends of an expression
+pub expressed : {q : Scope} (f : Run) (c : Context) (w : Live) {es : List Event} {k : Demands}
+    → Does q es (W.run f (outermost (level_up c) w) (W.ended c k)) (W.ended c k) → Does q es (W.expression f c w k) k
+expressed f c w h = next (all_of (on h (next here)))
+
+-- a guard, and what `for` goes over
+pub guarded : {q : Scope} (f : Run) (c : Context) (w : Live) {es : List Event} {k : Demands}
+    → ((j : Demands) → Does q es (W.run f (outermost (level_up c) w) j) j)
+    → Does q es (W.as_guard (W.run f) (tree f w) c w k) k
+guarded f c w h =
+    next (all_of (on (expressed f c w (h _)) (all_of (on (unfaulted (guard_fault (tree f w))) (next here)))))
+
+pub iterated : {q : Scope} (f : Run) (c : Context) (w : Live) {es : List Event} {k : Demands}
+    → ((j : Demands) → Does q es (W.run f (outermost (level_up c) w) j) j)
+    → Does q es (W.as_iterated (W.run f) (tree f w) c w k) k
+iterated f c w h = next (all_of (on (expressed f c w (h _)) (unfaulted (iterated_fault (tree f w)))))
+
+pub path : {q : Scope} (x : Path) (imports : List Text) (y : Node) (k : Demands) → Does q [] (W.path x imports y k) k
+path form.NoPath imports y k = next here
+path (form.Scoped colons name at rest) imports y k = shape (tok (tok (path rest imports (qualified imports y name at) k)))
+
+pub banged : {q : Scope} (x : Bool) (bang : Position) {k : Demands} → Does q [] (W.banged x bang k) k
+banged false bang = here
+banged true bang = next here
+
+pub other_name : {q : Scope} (x : Alias) (k : Demands) → Does q [] (W.other_name x k) k
+other_name form.NoAlias k = next here
+other_name (form.As as_at name at) k = tok (tok here)
+
+pub named : {q : Scope} (x : LoopNames) (k : Demands) → Does q [] (W.loop_names x k) k
+named (form.Variable name at) k = tok here
+named (form.Counted opening name at comma counter counter_at closing) k = tok (tok (tok (tok (test (tok here)))))
+
+pub caught_by : {q : Scope} (x : CatchName) (k : Demands) → Does q [] (W.catch_name x k) k
+caught_by form.NoName k = next here
+caught_by (form.Caught opening name at closing) k = tok (tok (tok here))
+
+pub function_at : {q : Scope} (is_private : Option Position) (at : Position) {k : Demands}
+    → Does q [] (W.function_at is_private at k) k
+function_at None at = tok here
+function_at (Some first) at = tok (tok here)
+
+pub function_name : {q : Scope} (x : Owner) (name : Text) (at : Position) {k : Demands}
+    → Does q [] (W.function_name x name at k) k
+function_name form.NoOwner name at = tok (next here)
+function_name (form.Of type type_at dot) name at = shape (tok (tok (tok (test here))))
+
+pub parameters : {q : Scope} (x : Parameters) (parts : CommaList) (function : Text) (before : List Text) (k : Demands)
+    → Does q [] (W.parameters x parts function before k) k
+parameters (form.NoParameter closing) parts function before k = tok here
+parameters (form.LastParameter name at closing) parts function before k = tok (test (tok here))
+parameters (form.Parameter name at comma rest) parts function before k =
+    tok (test (tok (parameters rest parts function (before ++ name ∷ []) k)))
+
+pub parameter_list : {q : Scope} (x : ParameterList) (function : Text) (k : Demands)
+    → Does q [] (W.parameter_list x function k) k
+parameter_list (form.EmptyParameters at) function k = tok here
+parameter_list (form.ListedParameters opening list) function k = tok (parameters list lists.Parameters function [] k)
+
+pub closure_parameters : {q : Scope} (x : ClosureHead) (k : Demands) → Does q [] (W.closure_parameters x k) k
+closure_parameters (form.Bars at) k = here
+closure_parameters (form.Declared opening list) k = parameters list lists.ClosureParameters [] [] k
+
+pub captured_names : {q : Scope} (us : List Use) (c : Context) (w : Live) (k : Demands) → Is q c
+    → Does q (used_at w.slots us) (W.captured_names us c w k) k
+captured_names [] c w k i = here
+captured_names (u ∷ us) c w k i = captures c w u i (captured_names us c w k i)
+
+pub separated : {q : Scope} (comma : Option Position) (itself : Bool) (k : Demands)
+    → Does q [] (W.separated comma itself k) k
+separated None itself k = next here
+separated (Some at) itself k = tok here
+
+-- ---- names
+
+abbrev pub is_name : Primary → Bool
+is_name (form.Named name at) = true
+is_name _ = false
+
+-- Where demands are met, what comes next says that the name before it is used, or that it is not.
+abbrev pub Follows : Primary → (called : Bool) → Demands → Type 0
+Follows x called k = is_name x ≡ true → (s t : Point) → Met k s t → excludes_use (next_at code s).lexeme ≡ called
+
+pub name_is : (x : Primary) (w : Live) (called : Bool) → is_name x ≡ true → is_variable (primary_tree x w called) ≡ true
+name_is (form.Named name at) w called e = refl
+name_is (form.Value token at) w called e = absurd cc
+name_is (form.Word word at) w called e = absurd cc
+name_is (form.Group opening inside closing) w called e = absurd cc
+name_is (form.Array opening list) w called e = absurd cc
+name_is (form.Map opening list) w called e = absurd cc
+name_is (form.Interpolated first at list) w called e = absurd cc
+name_is (form.CompoundValue at x) w called e = absurd cc
+name_is (form.Closure head body n us) w called e = absurd cc
+name_is (form.Zero range at) w called e = absurd cc
+
+pub unexcluded : (l : Lexeme) (x y : Node) → is_variable x ≡ true → is_variable y ≡ true
+    → verdict (V.unqualified x) l ≡ Fine → verdict (V.uncalled y) l ≡ Fine → excludes_use l ≡ false
+unexcluded l x y d e f g = by (is_memory l) (calls l) (qualifies l) (is_variable x) (is_variable y) d e f g
+  where
+    by : (m a b v w : Bool) → v ≡ true → w ≡ true
+        → (if m then Otherwise else (if v && b then Otherwise else Fine)) ≡ Fine
+        → (if m then Otherwise else (if w && a then Otherwise else Fine)) ≡ Fine → (a || b) ≡ false
+    by true a b v w d e f g = absurd cc
+    by false a b false w d e f g = absurd cc
+    by false a b true false d e f g = absurd cc
+    by false true b true true d e f g = absurd cc
+    by false false true true true d e f g = absurd cc
+    by false false false true true d e f g = refl
+
+pub plain_follows : (x : Primary) (names : Path) (w : Live) (k : Demands)
+    → Follows x (is_scoped names) (W.path names w.imports (primary_tree x w (is_scoped names)) (
+    Next (V.uncalled (named_tree x names false w)) ▸ k))
+plain_follows x form.NoPath w k e s t m =
+    unexcluded (next_at code s).lexeme (primary_tree x w false) (primary_tree x w false) (name_is x w false e)
+    (name_is x w false e) m.0 m.1.0
+plain_follows x (form.Scoped colons name at rest) w k e s t m = ap (λ (i : Item). excludes_use i.lexeme) m.1.0
+
+-- Arguments begin with a token that calls the name before them.
+pub called_by : (args : Arguments) (v : Lexeme → Verdict) (c : Context) (w : Live) (at : Position) (k : Demands) (s t : Point)
+    → Met (W.arguments args v c w at k) s t → excludes_use (next_at code s).lexeme ≡ true
+called_by (form.EmptyPair at) v c w name k s t m = ap (λ (i : Item). excludes_use i.lexeme) m.0
+called_by (form.Empty opening closing) v c w name k s t m = ap (λ (i : Item). excludes_use i.lexeme) m.0
+called_by (form.Listed opening list) v c w name k s t m = ap (λ (i : Item). excludes_use i.lexeme) m.0
+
+pub call_follows : (x : Primary) (names : Path) (args : Arguments) (v : Lexeme → Verdict) (c : Context) (w : Live) (y : Node)
+    (at : Position) (b : Bool) (k : Demands)
+    → Follows x true (W.path names w.imports y (Shape b ▸ W.arguments args v c w at k))
+call_follows x form.NoPath args v c w y at b k e s t m = called_by args v c w at k s t m.1.1
+call_follows x (form.Scoped colons name at rest) args v c w y place b k e s t m =
+    ap (λ (i : Item). excludes_use i.lexeme) m.1.0
+
+pub bang_follows : (x : Primary) (names : Path) (imports : List Text) (y : Node) (bang : Position) (b : Bool) (k : Demands)
+    → Follows x true (W.path names imports y (Shape b ▸ Tok code (item (Sign token.Bang) bang) V.anything ▸ k))
+bang_follows x form.NoPath imports y bang b k e s t m = ap (λ (i : Item). excludes_use i.lexeme) m.1.1.0
+bang_follows x (form.Scoped colons name at rest) imports y bang b k e s t m =
+    ap (λ (i : Item). excludes_use i.lexeme) m.1.0
+
+-- a name that is used, and one that is not
+name_stopped : {q : Scope} (c : Context) (w : Live) (p : OperandPlace) (name : Text) (at : Position) (k : Demands)
+    (s t : Point) (e : Refusal) (n : Mode) → Missed (W.primary (form.Named name at) c w p k) s e n t
+    → Stops q s.library [] t ⊎ Reached q s.library s.library k e n t
+name_stopped {q = q} c w p name at k s t e n (inl a) = inl (stop q [] s t a.2)
+name_stopped {q = q} c w p name at k s t e n (inr (is, inl a)) = inl (stop q [] (past code s) t a.2)
+name_stopped {q = q} c w p name at k s t e n (inr (is, inr b)) = inr (record {
+  end =
+      capturing (captures_use c w name s.library (next_at code (past code s)).lexeme) (record { name = name; at = at })
+      (past code s);
+  missed = b.1;
+  library = refl;
+  orderly = λ g. g;
+})
+
+pub used : {q : Scope} (c : Context) (w : Live) (p : OperandPlace) (name : Text) (at : Position) (k : Demands) → Is q c
+    → Follows (form.Named name at) false k
+    → Does q (primary_events (form.Named name at) w false) (W.primary (form.Named name at) c w p k) k
+used {q = q} c w p name at k i f = record {
+  did = λ s t m.
+      let u : Use = record { name = name; at = at } in
+      let l = (next_at code (past code s)).lexeme in
+      let free = is_free w.slots s.library name in
+      let r = capturing (captures_use c w name s.library l) u (past code s) in
+      record {
+        end = r;
+        met = m.1.1;
+        library = refl;
+        captured =
+            ap (λ x. noted (not x && (S.in_closure c.settings && free)) u s.captured) (f refl r t m.1.1)
+            ∙ ap (λ x. noted (x && free) u s.captured) i.0;
+        orderly = λ g. g;
+      };
+  stopped = λ s t e n m. name_stopped c w p name at k s t e n m;
+}
+
+pub unused : {q : Scope} (c : Context) (w : Live) (p : OperandPlace) (name : Text) (at : Position) (k : Demands)
+    → Follows (form.Named name at) true k
+    → Does q (primary_events (form.Named name at) w true) (W.primary (form.Named name at) c w p k) k
+unused {q = q} c w p name at k f = record {
+  did = λ s t m.
+      let u : Use = record { name = name; at = at } in
+      let l = (next_at code (past code s)).lexeme in
+      let r = capturing (captures_use c w name s.library l) u (past code s) in
+      record {
+        end = r;
+        met = m.1.1;
+        library = refl;
+        captured =
+            ap (λ x. noted (not x && is_captured c w name s.library) u s.captured) (f refl r t m.1.1);
+        orderly = λ g. g;
+      };
+  stopped = λ s t e n m. name_stopped c w p name at k s t e n m;
+}

@@ -1,0 +1,57 @@
+-- Functions stay within the limit, and each key is there once.
+use Rattle.std.proofs.Common.{◌≡◌, inl, inr, ℕ, ◌+◌, true, List, refl, sym, ap, ◌∙◌, subst, arith}
+use Rattle.rhai_grammar.specs.Causes.{Refusal}
+use Rattle.rhai_grammar.specs.Closures.{closure_name, declared_names, in_closure}
+use Rattle.rhai_grammar.specs.Contexts.{Context, Live, level_up}
+use Rattle.rhai_grammar.specs.Delivered as D
+use Rattle.rhai_grammar.specs.Delivered.{Mode, Point, with_captured}
+use Rattle.rhai_grammar.specs.Demands.{Demands, Met, Missed, Nothing}
+use Rattle.rhai_grammar.specs.Forms.{ClosureBody, ClosureHead}
+use Rattle.rhai_grammar.specs.Functions.{is_new, parameters_live}
+use Rattle.rhai_grammar.specs.Libraries.{closure_count}
+use Rattle.rhai_grammar.specs.LibraryLaws.{LibrariesStayOrderly, up_to_key}
+use Rattle.rhai_grammar.specs.NumberedLibraries.{IsOrderly}
+use Rattle.rhai_grammar.specs.Trees.{closure_tree}
+use Rattle.rhai_grammar.specs.Uses.{Use}
+use Rattle.rhai_grammar.specs.UsesOfForms.{Event}
+use Rattle.rhai_grammar.proofs.CaptureLemmas.{whole_expression, whole_script}
+use Rattle.rhai_grammar.proofs.EventEffects.{library_used}
+use Rattle.rhai_grammar.proofs.EventEnds.{few_closures}
+use Rattle.rhai_grammar.proofs.EventLemmas as happens
+use Rattle.rhai_grammar.proofs.EventParts.{captured_names}
+use Rattle.rhai_grammar.proofs.EventSteps.{Does, Orderly, Scope, Within, deeper, is_closure, scope_of}
+use Rattle.rhai_grammar.proofs.LibraryLemmas.{empty, key_is_new}
+
+kept : (q : Scope) (es : List Event) (ds : Demands) (s t : Point) → Does q es ds Nothing → Orderly q s.library → Met ds s t
+    → Orderly q t.library
+kept q es ds s t h g m = let r = h.did s t m in subst (λ (p : Point). Orderly q p.library) r.met (r.orderly g)
+
+refused : (q : Scope) (es : List Event) (ds : Demands) (s t : Point) (e : Refusal) (n : Mode) → Does q es ds Nothing
+    → Orderly q s.library → Missed ds s e n t → Within q t.library
+refused q es ds s t e n h g m = elim (h.stopped s t e n m) [ inl f ↦ f.0 g | inr r ↦ absurd r.missed ]
+
+key : (c : Context) (w : Live) (head : ClosureHead) (f : ClosureBody) (n : ℕ) (us : List Use) (s t : Point)
+    → IsOrderly c.sizes.functions (c.begun + 1) s.library → Met (up_to_key head f n us c w) s t
+    → is_new (closure_tree head f n us).key t.library ≡ true
+key c w head f n us s t g m =
+    let q = scope_of c in
+    let r = (happens.closure_body {q = deeper true q} f (level_up (in_closure c w)) (parameters_live (declared_names head))
+    Nothing (is_closure {q = q} c w (refl, refl, refl))).did (D.apart s) m.0 m.1 in
+    let p = (captured_names {q = q} us c w Nothing (refl, refl, refl)).did (with_captured s.captured m.0) t m.3 in
+    let same : t.library ≡ m.0.library =
+    sym (ap (λ (x : Point). x.library) p.met) ∙ p.library ∙ library_used w.slots us m.0.library in
+    let there : r.end.library ≡ t.library = ap (λ (x : Point). x.library) r.met ∙ sym same in
+    let o : IsOrderly c.sizes.functions (c.begun + 1) t.library =
+    subst (λ l. IsOrderly c.sizes.functions (c.begun + 1) l) there (r.orderly g) in
+    key_is_new t.library (closure_tree head f n us).key o.numbered (few_closures q t.library o)
+    (ap closure_name (sym (ap closure_count same ∙ m.2.0)))
+
+pub libraries_stay_orderly : LibrariesStayOrderly
+libraries_stay_orderly = record {
+  empty = λ limit h. record { numbered = empty; keys = tt; within = omega arith; bound = h };
+  expression = λ c w f s t g m. kept (scope_of c) _ _ s t (whole_expression c w f) g m;
+  script = λ c w fs s t g m. kept (scope_of c) _ _ s t (whole_script c w fs) g m;
+  expression_refused = λ c w f s t e n g m. refused (scope_of c) _ _ s t e n (whole_expression c w f) g m;
+  script_refused = λ c w fs s t e n g m. refused (scope_of c) _ _ s t e n (whole_script c w fs) g m;
+  closure_key = key;
+}
