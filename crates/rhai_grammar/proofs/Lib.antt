@@ -27,3 +27,6 @@ pub mod FairLemmas
 pub mod SwitchLemmas
 pub mod ShapeSteps
 pub mod ShapeLemmas
+pub mod NumberSteps
+pub mod NumberWays
+pub mod NumberLemmas

@@ -53,6 +53,7 @@ pub mod Depths
 pub mod StartLaws
 pub mod ClosureLaws
 pub mod SlotLaws
+pub mod TreeNumbers
 pub mod NumberedLibraries
 pub mod LibraryLaws
 pub mod Imports

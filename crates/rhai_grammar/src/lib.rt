@@ -9,6 +9,7 @@ pub mod key;
 pub mod laws;
 pub mod list;
 pub mod role;
+pub mod tree_laws;
 
 pub use due::DueToken;
 pub use error::{InputError, ParseError, ParseErrorType, ParseResult};
