@@ -18,6 +18,7 @@ pub mod ConstructRowLemmas
 pub mod ModuleRowLemmas
 pub mod FunctionRowLemmas
 pub mod ClosureRowLemmas
+pub mod EntryRowLemmas
 pub mod BeginningLemmas
 pub mod StartLemmas
 pub mod SlotLemmas

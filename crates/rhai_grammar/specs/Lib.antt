@@ -49,6 +49,7 @@ pub mod RowsOfConstructs
 pub mod RowsOfModules
 pub mod RowsOfFunctions
 pub mod RowsOfClosures
+pub mod RowsOfEntries
 pub mod Depths
 pub mod StartLaws
 pub mod ClosureLaws

@@ -3,6 +3,7 @@
 #![tactic(auto)]
 
 pub mod due;
+pub mod entry_rows;
 pub mod error;
 pub mod filter;
 pub mod key;
