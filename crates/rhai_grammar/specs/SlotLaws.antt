@@ -94,7 +94,8 @@ AreNumbered {F} whole Right =
 
 -- In the trees of forms that fit, and of the functions and closures that end in them, every number is right at whatever
 -- depth: a variable has the number of its latest slot among those that are live there, and none exactly where it has no
--- slot or has a path. The names that a script leaves, by its tree, are those of the slots that are live after it.
+-- slot or has a path. The names that a script leaves, by its tree, are those of the slots that are live after it. Only
+-- in a form that does not fit may there be a reserved word that nothing calls, whose node has no number.
 pub record TreesAreWellNumbered : Type 0 where
   pub expression : (context : Context) (live : Live) →
       AreNumbered (expressions context live) (λ f. WellNumbered (names_in live.slots) (tree f live))

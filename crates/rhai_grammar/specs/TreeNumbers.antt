@@ -194,8 +194,36 @@ example_tree =
     one_statement (block_statement (braces example_block (place 1 12) (place 1 26))) (
     one_statement (expression (example_use (Some 1) (codes "x") 28)) no_statements))
 
+-- `fn f(x) { x }`
+abbrev example_function : Ended
+example_function = record {
+  key = record { this_type = None; name = codes "f"; params = 1 };
+  function = record {
+    this_type = None;
+    name = codes "f";
+    is_private = false;
+    parameters = codes "x" ∷ [];
+    body = braces (one_statement (expression (example_use (Some 1) (codes "x") 11)) no_statements) (place 1 9)
+        (place 1 13);
+  };
+}
+
 -- Before it, `y` has no slot; in the block it is the latest, and after the block it is gone, so that `x` has number 1.
+-- In the function `x` is the only variable. In the body of `|x| y`, which captures `y`, that has no number.
 example : WellNumberedStatements [] example_tree × (names_after_all example_tree [] ≡ codes "x" ∷ [])
-    × (number_among (codes "x") (codes "x" ∷ codes "y" ∷ []) ≡ Some 2)
+    × (number_among (codes "x") (codes "x" ∷ codes "y" ∷ []) ≡ Some 2) × WellNumberedFunction example_function
+    × WellNumbered (codes "x" ∷ []) (example_use None (codes "y") 5)
 unfolding number
-example = (((refl, tt), (((refl, tt), (refl, tt)), (refl, tt))), refl, refl)
+example = (
+  ((refl, tt), (((refl, tt), (refl, tt)), (refl, tt))),
+  refl,
+  refl,
+  record {
+    captured = [];
+    own = codes "x" ∷ [];
+    parameters_are = refl;
+    none = λ e. refl;
+    body = (refl, tt);
+  },
+  refl,
+)
