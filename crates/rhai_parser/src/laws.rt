@@ -6,5 +6,4 @@ ghost use Rattle.rhai_parser.specs.EntryLaws.{EntersAsInRows};
 #[tactic(auto, using(crate::proofs::EntryLemmas::enters_as_in_rows))]
 pub fn enters_as_in_rows()
     ensures { EntersAsInRows }
-{
-}
+{}

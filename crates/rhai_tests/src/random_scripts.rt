@@ -17,7 +17,9 @@ fn next(seed: &mut u64, limit: u64) -> u64
     requires { 0 < limit }
     ensures { result < limit }
 {
-    *seed = seed.wrapping_mul(6364136223846793005).wrapping_add(1442695040888963407);
+    *seed = seed
+        .wrapping_mul(6364136223846793005)
+        .wrapping_add(1442695040888963407);
     (*seed >> 33) % limit
 }
 
