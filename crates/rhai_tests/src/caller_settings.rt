@@ -59,8 +59,20 @@ fn options_apart_from_the_engine(rt: HostRuntime) -> Result<(), Fail> {
         test_script(&rt, alloc, &engine, no_if, row)?;
     }
     let no_closures = Change::Without(LangOptions::ANON_FN);
-    test_expr(&rt, alloc, &engine, no_closures, ("| x | x", "E2 1:1 BadInput unexpected |"))?;
+    test_expr(
+        &rt,
+        alloc,
+        &engine,
+        no_closures,
+        ("| x | x", "E2 1:1 BadInput unexpected |"),
+    )?;
     let strict = Change::With(LangOptions::STRICT_VAR);
-    test_expr(&rt, alloc, &engine, strict, ("x", "E18 1:1 VariableUndefined x"))?;
+    test_expr(
+        &rt,
+        alloc,
+        &engine,
+        strict,
+        ("x", "E18 1:1 VariableUndefined x"),
+    )?;
     Ok(())
 }

@@ -124,7 +124,13 @@ fn limits_of_one_level_and_none(rt: HostRuntime) -> Result<(), Fail> {
         test_script(&rt, alloc, &engine, one, row)?;
     }
     let line = nested(alloc, ("1 + ", "1", ""), 500)?;
-    test_expr(&rt, alloc, &engine, Change::Depth(0, 0), (&line, "accepted"))?;
+    test_expr(
+        &rt,
+        alloc,
+        &engine,
+        Change::Depth(0, 0),
+        (&line, "accepted"),
+    )?;
     Ok(())
 }
 

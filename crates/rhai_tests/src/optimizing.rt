@@ -60,8 +60,20 @@ fn parse_at_each_level(rt: HostRuntime) -> Result<(), Fail> {
         OptimizationLevel::Full,
     ] {
         test_parse(&rt, alloc, SCRIPT, level, (&tree, 2))?;
-        test_parse(&rt, alloc, "fn f () { } let", level, ("refused E13 none VariableExpected", 1))?;
-        test_parse(&rt, alloc, ") ;", level, ("refused E2 1:1 BadInput unexpected )", 0))?;
+        test_parse(
+            &rt,
+            alloc,
+            "fn f () { } let",
+            level,
+            ("refused E13 none VariableExpected", 1),
+        )?;
+        test_parse(
+            &rt,
+            alloc,
+            ") ;",
+            level,
+            ("refused E2 1:1 BadInput unexpected )", 0),
+        )?;
     }
     Ok(())
 }

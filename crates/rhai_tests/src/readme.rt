@@ -28,6 +28,11 @@ fn the_code_of_the_readme(rt: HostRuntime) -> Result<(), Fail> {
     let mut entries = Vec::new(alloc);
     add_line(alloc, &mut entries, "1 + f ( x )")?;
     assert!(rt; entries.iter().all(|entry| entry.is_deliverable()));
-    check(&rt, alloc, parse(alloc, entries, Position::NONE), "accepted")?;
+    check(
+        &rt,
+        alloc,
+        parse(alloc, entries, Position::NONE),
+        "accepted",
+    )?;
     Ok(())
 }

@@ -190,7 +190,10 @@ pub(crate) fn check<T: Drop>(
         Ok(_) => String::from_str(alloc, "accepted")?,
         Err(error) => format!(in alloc; "{}", Refused(&error))?,
     };
-    assert!(rt; printed.as_str() == wanted, "{printed} in place of {wanted}");
+    assert!(rt;
+        printed.as_str() == wanted,
+        "{printed} in place of {wanted}"
+    );
     Ok(())
 }
 

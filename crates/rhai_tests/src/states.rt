@@ -37,7 +37,13 @@ fn test_with_constant(
 fn external_constants_are_known(rt: HostRuntime) -> Result<(), Fail> {
     let alloc = rt.alloc();
     let engine = strict_engine(alloc);
-    test_expr(&rt, alloc, &engine, Change::Nothing, ("x", "E18 1:1 VariableUndefined x"))?;
+    test_expr(
+        &rt,
+        alloc,
+        &engine,
+        Change::Nothing,
+        ("x", "E18 1:1 VariableUndefined x"),
+    )?;
     test_with_constant(&rt, alloc, &engine, ("x", "accepted"))?;
     test_with_constant(&rt, alloc, &engine, ("y", "E18 1:1 VariableUndefined y"))?;
     Ok(())
