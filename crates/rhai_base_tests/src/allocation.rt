@@ -10,8 +10,7 @@ use rhai_ast::{Expr, ScriptFuncDef, Stmt, StmtBlock};
 use rhai_base::captured::add_use;
 use rhai_base::closures::{closure_function, closure_value};
 use rhai_base::{
-    FnLib, FnNames, Frame, Known, Library, add_function, functions, has_function,
-    make_anonymous_fn,
+    FnLib, FnNames, Frame, Known, Library, add_function, functions, has_function, make_anonymous_fn,
 };
 use rhai_grammar::{ExprFilter, FnKey, InputError, ParseError, ParseErrorType};
 use rhai_input::Scope;
