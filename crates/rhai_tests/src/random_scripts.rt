@@ -1,5 +1,7 @@
 //! Random scripts: however they nest, no more grammar functions are active at once than the limits allow.
 
+ghost use Rattle.std.specs.Prelude.{◌<◌};
+
 use crate::script::{add_word, stream_of};
 use rhai_parser::{Engine, Entry, FnLib, ParseState, TokenizerControl, nest_peak};
 use std::alloc::{AllocError, Global};
@@ -61,7 +63,7 @@ fn peaks_of_100_000_scripts(rt: HostRuntime) -> Result<(), Fail> {
         assert!(rt; 1 <= peak && peak <= 96, "{peak}");
         highest = highest.max(peak);
     }
-    // (some of them nest as deeply as a script may)
-    assert!(rt; highest >= 13, "{highest}");
+    // In some, more are active than one for each of these levels.
+    assert!(rt; highest > 12, "{highest}");
     Ok(())
 }
