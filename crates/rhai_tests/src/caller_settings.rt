@@ -45,34 +45,28 @@ fn flags_of_an_expression(rt: HostRuntime) -> Result<(), Fail> {
     Ok(())
 }
 
-// In a function and in a closure, the options are the engine's.
+// In a function and in a closure, the options are the engine's, but a function has strict variables where the script
+// has them.
 #[test]
 fn options_apart_from_the_engine(rt: HostRuntime) -> Result<(), Fail> {
     let alloc = rt.alloc();
     let engine = Engine::new(alloc);
     let no_if = Change::Without(LangOptions::IF_EXPR);
-    for row in [
-        ("let x = if a { } ;", "E2 1:9 BadInput unexpected if"),
-        ("fn f ( a ) { let x = if a { } ; }", "accepted"),
-        ("| a | if a { 1 }", "accepted"),
+    let strict = Change::With(LangOptions::STRICT_VAR);
+    for (change, row) in [
+        (
+            no_if,
+            ("let x = if a { } ;", "E2 1:9 BadInput unexpected if"),
+        ),
+        (no_if, ("fn f ( a ) { let x = if a { } ; }", "accepted")),
+        (no_if, ("| a | 1 + if a { 1 }", "accepted")),
+        (strict, ("x", "E18 1:1 VariableUndefined x")),
+        (strict, ("fn f () { x }", "E18 1:11 VariableUndefined x")),
     ] {
-        test_script(&rt, alloc, &engine, no_if, row)?;
+        test_script(&rt, alloc, &engine, change, row)?;
     }
     let no_closures = Change::Without(LangOptions::ANON_FN);
-    test_expr(
-        &rt,
-        alloc,
-        &engine,
-        no_closures,
-        ("| x | x", "E2 1:1 BadInput unexpected |"),
-    )?;
-    let strict = Change::With(LangOptions::STRICT_VAR);
-    test_expr(
-        &rt,
-        alloc,
-        &engine,
-        strict,
-        ("x", "E18 1:1 VariableUndefined x"),
-    )?;
+    let row = ("| x | x", "E2 1:1 BadInput unexpected |");
+    test_expr(&rt, alloc, &engine, no_closures, row)?;
     Ok(())
 }

@@ -1,5 +1,5 @@
-//! Scripts as the tests write them: tokens in one line, with one blank between two. Each stands at its column of line 1,
-//! and the end mark at no position.
+//! Scripts as the tests write them: tokens in one line, with one blank between two. Each stands at its column of line
+//! 1, and the end mark at no position.
 
 use rhai_parser::{
     AST, Engine, Entry, FnLib, LangOptions, OptimizationLevel, ParseResult, ParseSettingFlags,

@@ -2,8 +2,7 @@
 
 use crate::script::{Change, check, stream_of_line, test_expr};
 use rhai_parser::{
-    Engine, FnLib, LangOptions, OptimizationLevel, ParseCounts, ParseSettings, ParseState, Scope,
-    TokenizerControl,
+    Engine, FnLib, LangOptions, OptimizationLevel, ParseCounts, ParseState, Scope, TokenizerControl,
 };
 use std::alloc::{AllocError, Global};
 use std::process::Abort;
@@ -87,7 +86,7 @@ fn test_next(
     (line, wanted): (&str, &str),
 ) -> Result<(), AllocError> {
     *state.input = stream_of_line(rt, alloc, line)?;
-    let answer = engine.parse_global_level(state, |_settings: &mut ParseSettings| {});
+    let answer = engine.parse_global_level(state, |_settings| {});
     check(rt, alloc, answer, wanted)
 }
 
