@@ -1,7 +1,8 @@
 #!/usr/bin/env bash
 # Runs the table of cases and the examples that have an answer, or only the files named, through the program, and prints
-# each run that fails. cases/README.md describes the format of a case. The last line counts the runs; the exit status is
-# 1 if any failed.
+# each run that fails. cases/README.md describes the format of a case. Where no file is named, it also compares the code
+# that README.md shows with what a test calls, as one more run. The last line counts the runs; the exit status is 1 if
+# any failed.
 #
 # usage: tests/cases.sh [PROGRAM] [FILE.txt ..]
 #
@@ -117,6 +118,20 @@ run_example() {
     run "$words" 0
 }
 
+# Compares the code of README.md, "Use it as a library", with the function that a test calls.
+compare_readme() {
+    local shown called
+    file=README.md
+    title='its code, and that of crates/rhai_tests/src/readme.rt'
+    shown=$(sed -n '/^```rust$/,/^```$/{/^```/!p}' "$root/README.md")
+    called=$(sed -n '/^fn parse(/,/^}$/p' "$root/crates/rhai_tests/src/readme.rt")
+    if [ -n "$shown" ] && [ "$shown" = "$called" ]; then
+        passed=$((passed + 1))
+    else
+        fail "shown:"$'\n'"$shown"$'\n'"called:"$'\n'"$called"
+    fi
+}
+
 files=("$root"/tests/cases/*.txt)
 answers=("$root"/examples/*.out)
 case ${1:-} in
@@ -132,5 +147,6 @@ set -f # no globbing: the words of a run are only split at blanks
 
 for file in "${files[@]}"; do read_file; done
 for file in "${answers[@]}"; do run_example "$file"; done
+[ $# != 0 ] || compare_readme
 echo "$passed passed, $failed failed"
 [ "$failed" = 0 ]

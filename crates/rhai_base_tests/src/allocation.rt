@@ -7,8 +7,12 @@ ghost use Rattle.rhai_grammar.specs.Keys.{keys_of};
 ghost use Rattle.rhai_base.specs.Index.{Agrees};
 
 use rhai_ast::{Expr, ScriptFuncDef, Stmt, StmtBlock};
-use rhai_base::{FnLib, FnNames, add_function, functions, has_function, make_anonymous_fn};
-use rhai_grammar::{FnKey, InputError, ParseError, ParseErrorType};
+use rhai_base::captured::add_use;
+use rhai_base::closures::{closure_function, closure_value};
+use rhai_base::{
+    FnLib, FnNames, Frame, Known, Library, add_function, functions, has_function, make_anonymous_fn,
+};
+use rhai_grammar::{ExprFilter, FnKey, InputError, ParseError, ParseErrorType};
 use rhai_input::Scope;
 use rhai_lower::{LexError, Position, Token};
 use std::alloc::{AllocError, Global};
@@ -62,6 +66,14 @@ fn key(alloc: Global, name: &str) -> Result<FnKey, AllocError> {
     })
 }
 
+fn empty_block(alloc: Global) -> StmtBlock {
+    StmtBlock {
+        statements: Vec::new(alloc),
+        start: Position::NONE,
+        end: Position::NONE,
+    }
+}
+
 // A function of no parameters with an empty body.
 fn function(alloc: Global, name: &str) -> Result<Rc<ScriptFuncDef>, AllocError> {
     let function = ScriptFuncDef {
@@ -69,11 +81,7 @@ fn function(alloc: Global, name: &str) -> Result<Rc<ScriptFuncDef>, AllocError> 
         name: RcStr::from_str(alloc, name)?,
         private: false,
         params: Vec::new(alloc),
-        body: StmtBlock {
-            statements: Vec::new(alloc),
-            start: Position::NONE,
-            end: Position::NONE,
-        },
+        body: empty_block(alloc),
     };
     Ok(Rc::new(alloc, function)?)
 }
@@ -130,6 +138,77 @@ fn library_with_ample_memory(rt: HostRuntime) -> Result<(), Fail> {
 #[test]
 fn library_refused(rt: HostRuntime) {
     let _ = library(&rt, rt.alloc());
+}
+
+// The frame of a script that imports `m`, which knows as many modules. Where memory is refused, it is none.
+fn frame<'p>(rt: &impl Abort, alloc: Global) -> Result<Frame<'p>, AllocError> {
+    let mut imports = Vec::new(alloc);
+    imports.push(RcStr::from_str(alloc, "m")?)?;
+    let known = Known {
+        variables: None,
+        imports: &[],
+        modules: &[],
+    };
+    let frame = Frame::new(Scope::new(alloc), 0, imports, ExprFilter::All, known, 0);
+    let all = frame.all_imports(alloc)?;
+    assert!(rt; all.len() == 1);
+    Ok(frame)
+}
+
+// The names that a closure captures: one, used twice. Where memory is refused, none is added.
+fn captured(rt: &impl Abort, alloc: Global) -> Result<Vec<(RcStr, Position)>, AllocError> {
+    let name = RcStr::from_str(alloc, "x")?;
+    let mut captured = Vec::new(alloc);
+    for _ in 0..2 {
+        let before = captured.len();
+        if let Err(error) = add_use(&mut captured, &name, Position::NONE) {
+            assert!(rt; captured.len() == before);
+            return Err(error);
+        }
+    }
+    assert!(rt; captured.len() == 1);
+    Ok(captured)
+}
+
+// Adds a function to a library. Where memory is refused, none is added.
+fn add_ended(
+    rt: &impl Abort,
+    library: &mut Library,
+    key: FnKey,
+    function: Rc<ScriptFuncDef>,
+) -> Result<(), AllocError> {
+    let before = library.len();
+    assert!(rt; !library.has(&key));
+    let added = library.add(key, function);
+    assert!(rt; added.is_ok() || library.len() == before);
+    added
+}
+
+fn closures(rt: &impl Abort, alloc: Global) -> Result<(), AllocError> {
+    let captured = captured(rt, alloc)?;
+    let name = make_anonymous_fn(alloc, 0)?;
+    closure_value(
+        alloc,
+        &frame(rt, alloc)?,
+        name.clone()?,
+        1,
+        &captured,
+        Position::NONE,
+    )?;
+    let (key, function) = closure_function(alloc, name, &captured, &[], empty_block(alloc))?;
+    let lib = FnLib::new(alloc);
+    let names = FnNames::new(alloc, &lib)?;
+    add_ended(rt, &mut Library::new(lib, names), key, function)
+}
+
+#[test]
+fn closures_with_ample_memory(rt: HostRuntime) -> Result<(), Fail> {
+    Ok(closures(&rt, rt.alloc())?)
+}
+
+#[test]
+fn closures_refused(rt: HostRuntime) {
+    let _ = closures(&rt, rt.alloc());
 }
 
 fn texts_and_blocks(alloc: Global) -> Result<(), AllocError> {

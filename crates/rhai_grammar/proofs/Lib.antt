@@ -18,6 +18,7 @@ pub mod ConstructRowLemmas
 pub mod ModuleRowLemmas
 pub mod FunctionRowLemmas
 pub mod ClosureRowLemmas
+pub mod EntryRowLemmas
 pub mod BeginningLemmas
 pub mod StartLemmas
 pub mod SlotLemmas
@@ -27,3 +28,6 @@ pub mod FairLemmas
 pub mod SwitchLemmas
 pub mod ShapeSteps
 pub mod ShapeLemmas
+pub mod NumberSteps
+pub mod NumberWays
+pub mod NumberLemmas

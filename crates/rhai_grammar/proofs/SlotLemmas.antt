@@ -110,7 +110,7 @@ reused_from None block slots place e = absurd cc
 reused_from (Some m) block slots place e =
     let h = reusable_if block slots m place (is_reusable block slots m) refl e in (ap Some h.0, h.1)
 
-reusable : (block : ℕ) (name : Text) (slots : List SlotValue) (place : ℕ) → reused block name slots ≡ Some place
+pub reusable : (block : ℕ) (name : Text) (slots : List SlotValue) (place : ℕ) → reused block name slots ≡ Some place
     → IsReusable block name slots place
 reusable block name slots place e =
     let h = reused_from (number name slots) block slots place e in

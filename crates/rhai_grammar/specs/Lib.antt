@@ -49,10 +49,12 @@ pub mod RowsOfConstructs
 pub mod RowsOfModules
 pub mod RowsOfFunctions
 pub mod RowsOfClosures
+pub mod RowsOfEntries
 pub mod Depths
 pub mod StartLaws
 pub mod ClosureLaws
 pub mod SlotLaws
+pub mod TreeNumbers
 pub mod NumberedLibraries
 pub mod LibraryLaws
 pub mod Imports

@@ -7,13 +7,18 @@ use Rattle.rhai_lower.specs.Names.{is_identifier}
 use Rattle.rhai_lower.specs.Positions.{place}
 use Rattle.rhai_input.specs.Slots.{SlotValue, fresh_slot}
 use Rattle.rhai_lower.specs.declared.position.Position.{Position}
-use Rattle.rhai_grammar.specs.Contexts.{Live, in_block}
+use Rattle.rhai_grammar.specs.Contexts.{Context, Live, in_block}
 use Rattle.rhai_grammar.specs.Definitions.{after_statement, after_statements, catch_live, define, is_exported}
 use Rattle.rhai_grammar.specs.Definitions.{loop_live, reused}
 use Rattle.rhai_grammar.specs.Forms as form
 use Rattle.rhai_grammar.specs.Forms.{Construct, ExprStatement, Named, Statement, Statements}
 use Rattle.rhai_grammar.specs.Slots.{IsLatest, is_barrier, number, slot_from_latest}
-use Rattle.rhai_grammar.specs.Trees.{primary_tree, variable_of}
+use Rattle.rhai_grammar.specs.Delivered.{Point}
+use Rattle.rhai_grammar.specs.Demands.{Demands, Met}
+use Rattle.rhai_grammar.specs.Promises.{expressions, scripts}
+use Rattle.rhai_grammar.specs.TreeNumbers.{WellNumbered, WellNumberedLibrary, WellNumberedStatements, names_after_all}
+use Rattle.rhai_grammar.specs.TreeNumbers.{names_in, number_among, slots_of}
+use Rattle.rhai_grammar.specs.Trees.{primary_tree, statement_trees, tree, variable_of}
 
 -- A name that has a number in its tree is not called, that is not directly before what calls it or before `::`; and the
 -- slot with that number is the latest of the name.
@@ -79,6 +84,26 @@ pub record ScopesClose : Type 0 where
   pub handler : (name : Option Text) (live : Live) →
       (catch_live name live).block ≡ length live.slots
       × take (length live.slots) (catch_live name live).slots ≡ live.slots
+
+-- For each form that fits, this holds; and if all functions before it were well numbered, so are those after it, among
+-- them the functions and closures that end in it.
+abbrev AreNumbered : {F : Type 0} → (whole : F → Demands) → (Right : F → Type 0) → Type 0
+AreNumbered {F} whole Right =
+    (f : F) (s t : Point) → Met (whole f) s t
+    → Right f × (WellNumberedLibrary s.library → WellNumberedLibrary t.library)
+
+-- In the trees of forms that fit, and of the functions and closures that end in them, every number is right at whatever
+-- depth: a variable has the number of its latest slot among those that are live there, and none exactly where it has no
+-- slot or has a path. The names that a script leaves, by its tree, are those of the slots that are live after it. Only
+-- in a form that does not fit may there be a reserved word that nothing calls, whose node has no number.
+pub record TreesAreWellNumbered : Type 0 where
+  pub expression : (context : Context) (live : Live) →
+      AreNumbered (expressions context live) (λ f. WellNumbered (names_in live.slots) (tree f live))
+  pub script : (context : Context) (live : Live) →
+      AreNumbered (scripts context live) (λ fs. WellNumberedStatements (names_in live.slots) (statement_trees fs live))
+  pub after : (fs : Statements) (live : Live) →
+      names_after_all (statement_trees fs live) (names_in live.slots) ≡ names_in (after_statements fs live).slots
+  pub latest : (name : Text) (names : List Text) → IsLatest name (slots_of names) (number_among name names)
 
 -- Two variables of one name are live, the second in a block: a use refers to the second, and a definition uses its slot
 -- again.

@@ -3,12 +3,14 @@
 #![tactic(auto)]
 
 pub mod due;
+pub mod entry_rows;
 pub mod error;
 pub mod filter;
 pub mod key;
 pub mod laws;
 pub mod list;
 pub mod role;
+pub mod tree_laws;
 
 pub use due::DueToken;
 pub use error::{InputError, ParseError, ParseErrorType, ParseResult};

@@ -1,3 +1,4 @@
 pub mod PromiseLemmas
 pub mod FrameLemmas
 pub mod NestLemmas
+pub mod EntryLemmas

@@ -18,12 +18,15 @@ use Rattle.rhai_grammar.specs.Depths.{statements_depth}
 use Rattle.rhai_grammar.specs.Forms.{Statements}
 use Rattle.rhai_grammar.specs.Libraries.{Library}
 use Rattle.rhai_grammar.specs.Promises.{IsWritten, scripts}
-use Rattle.rhai_parser.specs.Nesting.{NestsAsWritten, StaysWithin}
+use Rattle.rhai_parser.specs.Nesting.{ActiveAgain, NestsAsWritten, ReturnsTo, StaysWithin}
 use Rattle.rhai_reading.specs.Nesting.{Nesting, entered}
 use Rattle.rhai_reading.proofs.DepthMain.{script_nests}
 use Rattle.rhai_reading.proofs.Main.{IsNew}
 use Rattle.rhai_reading.proofs.Rooms.{Stays, StaysSo}
 use Rattle.rhai_reading.proofs.Heights.{IsLimited, nests_within, room, script_room}
+use Rattle.std.proofs.Common.{Bool, true, false, nat_lt, refl, inl, inr}
+use Rattle.std.proofs.lemmas.Bool.{ltb-false, ltb-true}
+use Rattle.rhai_reading.proofs.Grows.{Again, AgainSo, active_again}
 
 module _ (c : Context) (w : Live) (s t : Progress) (h : IsLimited c.settings.limit c.sizes.function_depth)
     (start : c.settings.level ≡ 0) where
@@ -116,3 +119,44 @@ nests_left c w before s read left (Ok x) leaves nests =
     subst (λ p. (fs : Statements) → IsWritten (scripts c w) fs before s → (2 ^ 64 - 1 ≤ p) ⊎ (1 + statements_depth fs ≤ p))
     (sym (ap (λ (n : Counts). n.peak) leaves)) nests
 nests_left c w before s read left (Err e) leaves nests = tt
+
+-- ---- as many are active as before
+
+-- what nests, of counts
+abbrev pub seen_of : Counts → Nesting
+seen_of n = record { active = n.active; peak = n.peak }
+
+again_counts : (old new : Counts) → Again (seen_of old) (seen_of new) → ActiveAgain old new × (old.peak ≤ new.peak)
+again_counts old new again = (again.active, again.peak)
+
+-- what the code's reader of a script answers
+pub returns_read : {X : Type 0} (view : X → node.Statements × Live) (c : Context) (w : Live) (s t : Progress) (old new : Counts)
+    (r : Result X ParseError) → s.nesting ≡ seen_of old → t.nesting ≡ seen_of new → Gives view (result_of (Script c w) s) r t
+    → UnlessMemory (λ refused. ReturnsTo old new) r
+returns_read view c w s t old new (Ok x) first last gives = λ le.
+    again_counts old new (subst (λ n. Again n (seen_of new)) first (subst (Again s.nesting) last
+    (subst (AgainSo s.nesting) gives (active_again (Script c w) s (subst (λ (n : Nesting). n.active ≤ n.peak) (sym first) le)))))
+returns_read view c w s t old new (Err e) first last gives = λ told le.
+    again_counts old new (subst (λ n. Again n (seen_of new)) first (subst (Again s.nesting) last
+    (subst (AgainSo s.nesting) (gives.0 told) (active_again (Script c w) s (subst (λ (n : Nesting). n.active ≤ n.peak) (sym first) le)))))
+
+-- so it is for the entry, which is entered before and left after
+pub entry_again : (old begun read left : Counts) → begun ≡ with_entered old → left ≡ with_left read → ReturnsTo begun read
+    → ActiveAgain old left
+unfolding one_more
+entry_again old begun read left enters leaves returns =
+    let told = subst (λ (c : Counts). ReturnsTo c read) enters returns (le-max_right old.peak (min (old.active + 1) (2 ^ 64 - 1))) in
+    subst (ActiveAgain old) (sym leaves) (by (nat_lt old.active (2 ^ 64 - 1)) refl told.0 told.1)
+  where
+    by : (b : Bool) → nat_lt old.active (2 ^ 64 - 1) ≡ b
+        → ((2 ^ 64 - 1 ≤ read.peak) ⊎ (read.active ≡ min (old.active + 1) (2 ^ 64 - 1)))
+        → max old.peak (min (old.active + 1) (2 ^ 64 - 1)) ≤ read.peak
+        → (2 ^ 64 - 1 ≤ read.peak) ⊎ (read.active - 1 ≡ old.active)
+    by b e (inl top) peak = inl top
+    by true e (inr same) peak =
+        let less = ltb-true old.active (2 ^ 64 - 1) e in
+        inr (omega (arith, same, less))
+    by false e (inr same) peak =
+        let more = ltb-false old.active (2 ^ 64 - 1) e in
+        let right = le-max_right old.peak (min (old.active + 1) (2 ^ 64 - 1)) in
+        inl (omega (arith, peak, more, right))

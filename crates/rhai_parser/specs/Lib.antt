@@ -3,3 +3,4 @@ pub mod Starts
 pub mod Nesting
 pub mod Scripts
 pub mod Optimizer
+pub mod EntryLaws

@@ -18,7 +18,7 @@ ghost use Rattle.rhai_base.specs.Counts.{counts_of, none_yet, with_entered};
 ghost use Rattle.rhai_base.specs.States.{IsFresh};
 ghost use Rattle.rhai_grammar.specs.NumberedLibraries.{IsOrderly};
 ghost use Rattle.rhai_parser.specs.Optimizer.{Optimized};
-ghost use Rattle.rhai_parser.specs.Nesting.{NestsAsWritten, StaysWithin};
+ghost use Rattle.rhai_parser.specs.Nesting.{ActiveAgain, NestsAsWritten, ReturnsTo, StaysWithin};
 ghost use Rattle.rhai_parser.specs.Engines.{script_settings};
 ghost use Rattle.rhai_language.specs.Frames.{context_of};
 ghost use Rattle.rhai_language.specs.Readers.{nesting_of};
@@ -84,6 +84,7 @@ impl Engine {
             }) }
         ensures stays { UnlessMemory (λ refused. StaysWithin 1 self.now settings (counts_of counts.old)
             (counts_of counts.new)) result }
+        ensures returns { UnlessMemory (λ refused. ReturnsTo (counts_of counts.old) (counts_of counts.new)) result }
         ensures grows { Grows (library_of library.old) (library_of library.new) }
     {
         let _depth = self.max_function_expr_depth();
@@ -149,6 +150,7 @@ impl Engine {
         ensures grows { Begins (library_of lib.old.entries) (library_of lib.new.entries) }
         ensures stays { UnlessMemory (λ refused. StaysWithin 1 self.now settings (counts_of counts.old)
             (counts_of counts.new)) result }
+        ensures returns { UnlessMemory (λ refused. ReturnsTo (counts_of counts.old) (counts_of counts.new)) result }
     {
         let mut library = take_library(self.alloc(), lib)?;
         let read = self.read_statements(
@@ -200,6 +202,8 @@ impl Engine {
             → IsOrderly self.now.max_functions 0 (library_of state.old.lib.now.entries)
             → UnlessMemory (λ refused. IsOrderly self.now.max_functions 0
             (library_of state.new.lib.now.entries)) result }
+        ensures active { UnlessMemory (λ refused. ActiveAgain (counts_of state.old.counts) (counts_of state.new.counts))
+            result }
         ensures kept { KeepsState state.old state.new }
     {
         let mut chosen = self.script_settings();

@@ -1,20 +1,15 @@
 -- How readers are nested while they run: no more of them are active afterwards, and the peak does not fall.
-use Rattle.std.proofs.Common.{◌≡◌, ℕ, zero, suc, ◌+◌, ◌-◌, ◌^◌, ◌≤◌, Bool, true, false, max, min, refl, arith, nat_lt}
-use Rattle.std.proofs.Common.{if◌then◌else◌, inl, inr, []}
+use Rattle.std.proofs.Common.{◌≡◌, ℕ, suc, ◌+◌, ◌-◌, ◌^◌, ◌≤◌, Bool, true, false, max, min, refl, arith, nat_lt}
+use Rattle.std.proofs.Common.{if◌then◌else◌, inl, inr}
 use Rattle.std.proofs.lemmas.Bool.{ltb-false, ltb-true}
 use Rattle.std.specs.Prelude.{◌⊎◌}
 use Rattle.rhai_grammar.specs.Settings.{one_more}
-use Rattle.rhai_grammar.specs.Delivered.{is_memory}
-use Rattle.rhai_grammar.specs.DueTokens.{is_due}
-use Rattle.rhai_grammar.specs.Interpolations.{is_text}
-use Rattle.rhai_grammar.specs.declared.due.DueToken.TheVariants.{RightBrace}
-use Rattle.rhai_reading.specs.Reading.{Goal, Prog, Ret, Fail, Peek, Take, TakeText, Know, Add, Note, Call, CallLiteral}
-use Rattle.rhai_reading.specs.Reading.{CallApart, body}
-use Rattle.rhai_grammar.specs.Uses.{noted}
-use Rattle.rhai_reading.specs.Nesting.{Nesting, entered, is_counted, left_one}
-use Rattle.rhai_reading.specs.Running.{Caller, Done, Out, Progress, Refused, Unfinished, after_brace, and_then, asked}
-use Rattle.rhai_reading.specs.Running.{adding, entering, exec, left_so, level, looking, need, nested, only_less, recast}
-use Rattle.rhai_reading.specs.Running.{taking, with_captured}
+use Rattle.rhai_reading.specs.Reading.{Goal}
+use Rattle.rhai_reading.specs.Nesting.{Nesting, entered, left_one}
+use Rattle.rhai_reading.proofs.Kept.{AllKeep, KeptSo, call_keeps, less_keeps, level_keeps, recast_keeps}
+use Rattle.std.proofs.Math.Nat.{min-le_left}
+use Rattle.rhai_reading.specs.Running.{Caller, Done, Out, Progress, Refused, Unfinished}
+use Rattle.rhai_reading.specs.Running.{level, need, nested, only_less, recast, result_of}
 
 -- The peak is the greatest number that there is, or this many readers are active.
 abbrev pub Goes : ℕ → Nesting → Type 0
@@ -26,9 +21,7 @@ pub record Grows (a m : ℕ) (n : Nesting) : Type 0 where
   pub peak : m ≤ n.peak
 
 abbrev pub GrowsSo : {A : Type 0} → ℕ → ℕ → Out A → Type 0
-GrowsSo a m (Done x t) = Grows a m t.nesting
-GrowsSo a m (Refused e t) = Grows a m t.nesting
-GrowsSo a m Unfinished = Unit {0}
+GrowsSo a m o = KeptSo (λ b. Grows b m) a o
 
 abbrev pub AllGrow : Caller → Type 0
 AllGrow call = (g : Goal) (a m : ℕ) (s : Progress) → Grows a m s.nesting → GrowsSo a m (call g s)
@@ -60,70 +53,71 @@ left_goes : (a : ℕ) (n : Nesting) → Goes (a + 1) n → Goes a (left_one n)
 left_goes a n (inl top) = inl top
 left_goes a n (inr h) = inr (omega (arith, h.0), omega (arith, h.1))
 
-pub leaves : {A : Type 0} (a m : ℕ) (o : Out A) → GrowsSo (a + 1) m o → GrowsSo a m (left_so o)
-leaves a m (Done x t) h = record { goes = left_goes a t.nesting h.goes; peak = h.peak }
-leaves a m (Refused e t) h = record { goes = left_goes a t.nesting h.goes; peak = h.peak }
-leaves a m Unfinished h = tt
+-- ---- what a run makes of it
+
+leave : (m a : ℕ) (n : Nesting) → Grows (a + 1) m n → Grows a m (left_one n)
+leave m a n h = record { goes = left_goes a n h.goes; peak = h.peak }
+
+of : (m : ℕ) (call : Caller) → AllGrow call → AllKeep (λ a. Grows a m) call
+of m call all g a s h = all g a m s h
 
 pub call_grows : (call : Caller) → AllGrow call → (g : Goal) (count : Bool) (a m : ℕ) (s : Progress) → Grows a m s.nesting
     → GrowsSo a m (if count then nested (call g) s else call g s)
-unfolding nested
-call_grows call all g true a m s h = leaves a m (call g (entering s)) (all g (a + 1) m (entering s) (enters a m s.nesting h))
-call_grows call all g false a m s h = all g a m s h
-
-pub then_grows : {A B : Type 0} (a m : ℕ) (o : Out A) (k : A → Progress → Out B) → GrowsSo a m o
-    → ((x : A) (t : Progress) → Grows a m t.nesting → GrowsSo a m (k x t)) → GrowsSo a m (and_then o k)
-then_grows a m (Done x t) k h more = more x t h
-then_grows a m (Refused e t) k h more = h
-then_grows a m Unfinished k h more = tt
+call_grows call all g count a m s h =
+    call_keeps (λ b. Grows b m) (λ b n. enters b m n) (leave m) call (of m call all) g count a s h
 
 pub recast_grows : {A : Type 0} (a m : ℕ) (o : Out A) → GrowsSo a m o → GrowsSo a m (recast o)
-recast_grows a m (Done x t) h = h
-recast_grows a m (Refused e t) h = h
-recast_grows a m Unfinished h = tt
+recast_grows a m o h = recast_keeps (λ b. Grows b m) (λ b n. enters b m n) (leave m) a o h
 
-one_of : {A : Type 0} (a m : ℕ) (c : Bool) (o p : Out A) → GrowsSo a m o → GrowsSo a m p → GrowsSo a m (if c then o else p)
-one_of a m true o p f g = f
-one_of a m false o p f g = g
-
-pub exec_grows : {A : Type 0} (call : Caller) → AllGrow call → (a m : ℕ) (p : Prog A) (s : Progress)
-    → Grows a m s.nesting → GrowsSo a m (exec call p s)
-exec_grows call all a m (Ret x) s h = h
-exec_grows call all a m (Fail e) s h = h
-exec_grows call all a m (Peek k) s h =
-    one_of a m (is_memory (asked s).lexeme) _ _ h (exec_grows call all a m (k (asked s).lexeme (asked s).at) (looking s) h)
-exec_grows call all a m (Take p) s h =
-    one_of a m (is_memory (asked s).lexeme) _ _ h (exec_grows call all a m p (taking s) h)
-exec_grows call all a m (TakeText k) s h =
-    let u = after_brace s in
-    one_of a m (is_memory (asked s).lexeme) _ _ h
-    (one_of a m (is_due RightBrace (asked s).lexeme) _ _
-    (one_of a m (is_memory (asked u).lexeme) _ _ h (one_of a m (is_text (asked u).lexeme) _ _
-    (exec_grows call all a m (k (asked s).at (asked u).lexeme (asked u).at) (taking u) h) h)) h)
-exec_grows call all a m (Know k) s h = exec_grows call all a m (k s.library) s h
-exec_grows call all a m (Add ended p) s h = exec_grows call all a m p (adding ended s) h
-exec_grows call all a m (Note captures u p) s h =
-    exec_grows call all a m p (with_captured (noted captures u s.captured) s) h
-exec_grows call all a m (CallApart g k) s h =
-    then_grows a m _ (λ v t. exec call (k v t.captured) (with_captured s.captured t))
-    (call_grows call all g (is_counted g) a m (with_captured [] s) h)
-    (λ x t i. exec_grows call all a m (k x t.captured) (with_captured s.captured t) i)
-exec_grows call all a m (Call g k) s h =
-    then_grows a m _ (λ v t. exec call (k v) t) (call_grows call all g (is_counted g) a m s h)
-    (λ x t i. exec_grows call all a m (k x) t i)
-exec_grows call all a m (CallLiteral g k) s h =
-    then_grows a m _ (λ v t. exec call (k v) t) (recast_grows a m _ (call_grows call all g (is_counted g) a m s h))
-    (λ x t i. exec_grows call all a m (k x) t i)
-
-pub less_grows : (P : Caller) → AllGrow P → (g : Goal) (s : Progress) → AllGrow (only_less P g s)
-unfolding only_less
-less_grows P all g s h a m t i = chosen (nat_lt (need h t) (need g s)) (all h a m t i)
-  where
-    chosen : (b : Bool) → GrowsSo a m (P h t) → GrowsSo a m (if b then P h t else Unfinished)
-    chosen true f = f
-    chosen false f = tt
+pub less_grows : (call : Caller) → AllGrow call → (g : Goal) (s : Progress) → AllGrow (only_less call g s)
+less_grows call all g s h a m t i =
+    less_keeps (λ b. Grows b m) (λ b n. enters b m n) (leave m) call (of m call all) g s h a t i
 
 pub level_grows : (n : ℕ) → AllGrow (level n)
-unfolding level
-level_grows zero g a m s h = tt
-level_grows (suc n) g a m s h = exec_grows (only_less (level n) g s) (less_grows (level n) (level_grows n) g s) a m (body g) s h
+level_grows n g a m s h = level_keeps (λ b. Grows b m) (λ b n. enters b m n) (leave m) n g a s h
+
+-- ---- no more are active
+
+abbrev pub IsActive : ℕ → Nesting → Type 0
+IsActive a n = n.active ≤ a
+
+one_more_active : (a : ℕ) (n : Nesting) → IsActive a n → IsActive (a + 1) (entered n)
+unfolding one_more
+one_more_active a n h = let less = min-le_left (n.active + 1) (2 ^ 64 - 1) in omega (arith, h, less)
+
+one_less_active : (a : ℕ) (n : Nesting) → IsActive (a + 1) n → IsActive a (left_one n)
+one_less_active a n h = omega (arith, h)
+
+pub level_active : (n : ℕ) → AllKeep IsActive (level n)
+level_active n = level_keeps IsActive one_more_active one_less_active n
+
+-- ---- as many are active as before
+
+-- As many are active, unless the peak is the greatest number that there is; and the peak is no lower.
+pub record Again (before after : Nesting) : Type 0 where
+  pub active : (2 ^ 64 - 1 ≤ after.peak) ⊎ (after.active ≡ before.active)
+  pub peak : before.peak ≤ after.peak
+
+abbrev pub AgainSo : {A : Type 0} → Nesting → Out A → Type 0
+AgainSo before (Done x t) = Again before t.nesting
+AgainSo before (Refused e t) = Again before t.nesting
+AgainSo before Unfinished = Unit {0}
+
+as_before : (n m : Nesting) → IsActive n.active m → Grows n.active n.peak m → Again n m
+as_before n m less grows = record { active = either grows.goes; peak = grows.peak }
+  where
+    either : Goes n.active m → (2 ^ 64 - 1 ≤ m.peak) ⊎ (m.active ≡ n.active)
+    either (inl top) = inl top
+    either (inr h) = let more = h.0 in inr (omega (arith, less, more))
+
+again_so : {A : Type 0} (n : Nesting) (o : Out A) → KeptSo IsActive n.active o → GrowsSo n.active n.peak o → AgainSo n o
+again_so n (Done x t) less grows = as_before n t.nesting less grows
+again_so n (Refused e t) less grows = as_before n t.nesting less grows
+again_so n Unfinished less grows = tt
+
+-- from a state in which no more readers are active than ever were
+pub active_again : (g : Goal) (s : Progress) → s.nesting.active ≤ s.nesting.peak → AgainSo s.nesting (result_of g s)
+unfolding result_of
+active_again g s le =
+    again_so s.nesting _ (level_active (suc (need g s)) g s.nesting.active s (omega arith))
+    (level_grows (suc (need g s)) g s.nesting.active s.nesting.peak s (record { goes = inr (omega arith, le); peak = omega arith }))

@@ -1,6 +1,7 @@
 pub mod Steps
 pub mod Rooms
 pub mod Heights
+pub mod Kept
 pub mod Grows
 pub mod Dives
 pub mod Deep

@@ -34,7 +34,7 @@ fn tree(rt: &impl Abort, alloc: Global) -> Result<(), AllocError> {
     let line = "! f ( [ 1 , a ] , #{ b : 2 } ) . c [ 0 ] && d . g ()";
     let mut entries = Vec::new(alloc);
     add_line(alloc, &mut entries, line)?;
-    match parse(rt, alloc, entries, false) {
+    match parse(rt, alloc, entries) {
         Ok(_) => Ok(()),
         Err(error) => {
             assert!(rt; error == ParseError::from(AllocError), "{error:?}");

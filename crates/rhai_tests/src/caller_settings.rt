@@ -1,30 +1,72 @@
 //! Settings that only the caller's closure can change, so that no list of tokens shows what they do.
 
-use crate::script::{add, add_line, parse, text};
-use rhai_parser::{AST, ParseError, ParseErrorType, ParseResult, Position, Token};
-use std::alloc::{AllocError, Global};
-use std::process::Abort;
+use crate::script::{Change, test_expr, test_script};
+use rhai_parser::{Engine, LangOptions, ParseSettingFlags};
 use std::test::Fail;
 
-// What is answered to `#{ key : 1 }` where keys have to be strings.
-fn parse_map(rt: &impl Abort, alloc: Global, key: Token) -> Result<ParseResult<AST>, AllocError> {
-    let mut entries = Vec::new(alloc);
-    add(&mut entries, Token::MapStart)?;
-    add(&mut entries, key)?;
-    add_line(alloc, &mut entries, ": 1 }")?;
-    Ok(parse(rt, alloc, entries, true))
+#[test]
+fn flags_of_a_script(rt: HostRuntime) -> Result<(), Fail> {
+    let alloc = rt.alloc();
+    let engine = Engine::new(alloc);
+    let below = Change::Clear(ParseSettingFlags::GLOBAL_LEVEL);
+    let breakable = Change::Set(ParseSettingFlags::BREAKABLE);
+    let single = Change::Set(ParseSettingFlags::DISALLOW_STATEMENTS_IN_BLOCKS);
+    for (change, row) in [
+        (below, ("fn f () { }", "E23 1:1 WrongFnDefinition")),
+        (below, ("export x", "E29 1:1 WrongExport")),
+        (breakable, ("break ;", "accepted")),
+        (single, ("{ 1 ; 2 }", "E7 1:5 MissingToken }")),
+        (Change::Depth(2, 2), ("1", "E34 1:1 ExprTooDeep")),
+    ] {
+        test_script(&rt, alloc, &engine, change, row)?;
+    }
+    Ok(())
 }
 
 #[test]
-fn keys_have_to_be_strings(rt: HostRuntime) -> Result<(), Fail> {
+fn flags_of_an_expression(rt: HostRuntime) -> Result<(), Fail> {
     let alloc = rt.alloc();
-    parse_map(&rt, alloc, Token::StringConstant(text(alloc, "a")?))??;
-    match parse_map(&rt, alloc, Token::Identifier(text(alloc, "a")?))? {
-        Ok(_) => assert!(rt; false, "a name is no string"),
-        Err(error) => {
-            let wanted = ParseError(ParseErrorType::PropertyExpected, Position::NONE);
-            assert!(rt; error == wanted, "{error:?}");
-        }
+    let mut engine = Engine::new(alloc);
+    engine.set_options(engine.options() | LangOptions::STRICT_VAR);
+    let nothing = Change::Nothing;
+    let function = Change::Set(ParseSettingFlags::FN_SCOPE);
+    let closure = Change::Set(ParseSettingFlags::CLOSURE_SCOPE);
+    let quoted = Change::Set(ParseSettingFlags::DISALLOW_UNQUOTED_MAP_PROPERTIES);
+    for (change, row) in [
+        (nothing, ("this", "E5 1:1 BadInput improper this")),
+        (function, ("this", "accepted")),
+        (nothing, ("|| x", "E18 1:4 VariableUndefined x")),
+        (closure, ("|| x", "accepted")),
+        (quoted, ("#{ a : 1 }", "E12 1:4 PropertyExpected")),
+        (quoted, ("#{ \"a\" : 1 }", "accepted")),
+    ] {
+        test_expr(&rt, alloc, &engine, change, row)?;
     }
+    Ok(())
+}
+
+// In a function and in a closure, the options are the engine's, but a function has strict variables where the script
+// has them.
+#[test]
+fn options_apart_from_the_engine(rt: HostRuntime) -> Result<(), Fail> {
+    let alloc = rt.alloc();
+    let engine = Engine::new(alloc);
+    let no_if = Change::Without(LangOptions::IF_EXPR);
+    let strict = Change::With(LangOptions::STRICT_VAR);
+    for (change, row) in [
+        (
+            no_if,
+            ("let x = if a { } ;", "E2 1:9 BadInput unexpected if"),
+        ),
+        (no_if, ("fn f ( a ) { let x = if a { } ; }", "accepted")),
+        (no_if, ("| a | 1 + if a { 1 }", "accepted")),
+        (strict, ("x", "E18 1:1 VariableUndefined x")),
+        (strict, ("fn f () { x }", "E18 1:11 VariableUndefined x")),
+    ] {
+        test_script(&rt, alloc, &engine, change, row)?;
+    }
+    let no_closures = Change::Without(LangOptions::ANON_FN);
+    let row = ("| x | x", "E2 1:1 BadInput unexpected |");
+    test_expr(&rt, alloc, &engine, no_closures, row)?;
     Ok(())
 }

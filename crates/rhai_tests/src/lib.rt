@@ -10,4 +10,14 @@ mod long_scripts;
 #[cfg(test)]
 mod modules;
 #[cfg(test)]
+mod nesting;
+#[cfg(test)]
+mod optimizing;
+#[cfg(test)]
+mod random_scripts;
+#[cfg(test)]
+mod readme;
+#[cfg(test)]
 mod script;
+#[cfg(test)]
+mod states;

@@ -19,7 +19,7 @@ fn parse_repeated(
     for _ in 0..times {
         add_line(alloc, &mut entries, more)?;
     }
-    parse(rt, alloc, entries, false)?;
+    parse(rt, alloc, entries)?;
     Ok(())
 }
 

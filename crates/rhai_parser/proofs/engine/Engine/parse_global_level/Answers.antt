@@ -13,7 +13,7 @@ use Rattle.rhai_parser.specs.Nesting.{NestsAsWritten}
 use Rattle.rhai_parser.specs.Scripts.{ReadsScript}
 use Rattle.rhai_parser.specs.Starts.{live_in, starts_in}
 use Rattle.rhai_parser.proofs.FrameLemmas.{frame_is}
-use Rattle.rhai_parser.proofs.NestLemmas.{entry_stays, nests_left}
+use Rattle.rhai_parser.proofs.NestLemmas.{entry_again, entry_stays, nests_left}
 use Rattle.rhai_parser.proofs.PromiseLemmas.{script_orderly, unless_on}
 use Rattle.rhai_parser.proofs.engine.Engine.parse_global_level.Goals as goal
 
@@ -44,3 +44,8 @@ returns-clause-orderly g c = λ fresh orderly.
     let told = returns-clause-reads g c in
     script_orderly (starts_in c.args.self.now c.args.state.now told.0) (live_in c.args.state.now) _ _ _ _ _ _ c.parse_script-read.result
     (ap (λ (n : Counts). n.begun) fresh.counts) (told.2 fresh).0 orderly
+
+pub returns-clause-active : goal.returns-clause-active
+returns-clause-active g c =
+    unless_on c.parse_script-read.result (entry_again (counts_of c.args.state.now.counts) (counts_of c.nest_enter.new.self)
+    (counts_of c.parse_script-read.new.counts) (counts_of c.nest_leave.new.self) c.nest_enter.ensures c.nest_leave.ensures) c.parse_script-read.ensures.returns

@@ -1,4 +1,4 @@
-use Rattle.std.proofs.Common.{List, [], ap, arith, rules, subst, sym, ◌-◌, ◌^◌, ◌≤◌, ◌≡◌}
+use Rattle.std.proofs.Common.{List, [], ap, arith, refl, rules, subst, sym, ◌-◌, ◌^◌, ◌≤◌, ◌≡◌}
 use Rattle.rhai_grammar.specs.Cursors.{cursor_of}
 use Rattle.rhai_grammar.specs.Promises.{UnlessMemory}
 use Rattle.rhai_grammar.specs.Uses.{Use}
@@ -11,7 +11,7 @@ use Rattle.rhai_language.specs.Frames.{context_of}
 use Rattle.rhai_language.specs.Languages.{LanguageValue}
 use Rattle.rhai_language.specs.Readers.{nesting_of, state_of, statements_of, with_live}
 use Rattle.rhai_parser.specs.Nesting.{StaysWithin}
-use Rattle.rhai_parser.proofs.NestLemmas.{stays_read}
+use Rattle.rhai_parser.proofs.NestLemmas.{returns_read, stays_read}
 use Rattle.rhai_parser.proofs.engine.Engine.read_statements.Goals as goal
 
 pub returns-clause-reads : goal.returns-clause-reads
@@ -42,3 +42,10 @@ returns-clause-stays c =
     (stays_read (with_live statements_of c.parse_statements-statements.new.frame) (context_of c.language.result.now c.args.frame c.args.settings) c.args.frame.live
     (record { cursor = cursor_of c.args.input.now; library = library_of c.args.library.now; captured = uses_of c.new-captured.result.items; nesting = nesting_of c.args.counts.now }) (state_of left)
     c.parse_statements-statements.result depth function c.parse_statements-statements.ensures.reads)
+
+pub returns-clause-returns : goal.returns-clause-returns
+returns-clause-returns c =
+    let left = c.parse_statements-statements.new.shared in
+    returns_read (with_live statements_of c.parse_statements-statements.new.frame) (context_of c.language.result.now c.args.frame c.args.settings) c.args.frame.live
+    (record { cursor = cursor_of c.args.input.now; library = library_of c.args.library.now; captured = uses_of c.new-captured.result.items; nesting = nesting_of c.args.counts.now }) (state_of left)
+    (counts_of c.args.counts.now) (counts_of left.counts) c.parse_statements-statements.result refl refl c.parse_statements-statements.ensures.reads

@@ -1,0 +1,69 @@
+//! Random scripts: however they nest, no more grammar functions are active at once than the limits allow.
+
+ghost use Rattle.std.specs.Prelude.{◌<◌};
+
+use crate::script::{add_word, stream_of};
+use rhai_parser::{Engine, Entry, FnLib, ParseState, TokenizerControl, nest_peak};
+use std::alloc::{AllocError, Global};
+use std::process::Abort;
+use std::test::Fail;
+
+// What a script is made of. Words that begin something stand here twice, so that scripts nest.
+const WORDS: [&str; 32] = [
+    "(", "(", "[", "[", "{", "{", "#{", "|", "||", "!", "!", "if", "while", "switch", "fn", "fn",
+    "f", "()", "a", "a", "1", "1", "=", "+", "**", ".", ",", ":", "=>", ";", "}", ")",
+];
+
+// The next of some random numbers below `limit`.
+fn next(seed: &mut u64, limit: u64) -> u64
+    requires { 0 < limit }
+    ensures { result < limit }
+{
+    *seed = seed
+        .wrapping_mul(6364136223846793005)
+        .wrapping_add(1442695040888963407);
+    (*seed >> 33) % limit
+}
+
+// Up to 30 words.
+fn random_words(alloc: Global, seed: &mut u64) -> Result<Vec<Entry>, AllocError> {
+    let mut entries = Vec::new(alloc);
+    for _ in 0..next(seed, 31) {
+        let word = WORDS[next(seed, 32) as usize];
+        add_word(alloc, &mut entries, word, 1)?;
+    }
+    Ok(entries)
+}
+
+// Reads a random script, under these limits. The result is how many grammar functions were active at once.
+fn peak_of_next(
+    rt: &impl Abort,
+    alloc: Global,
+    engine: &Engine,
+    seed: &mut u64,
+) -> Result<usize, AllocError> {
+    let mut input = stream_of(rt, random_words(alloc, seed)?);
+    let mut lib = FnLib::new(alloc);
+    let mut state = ParseState::new(alloc, None, &mut input, TokenizerControl, &mut lib);
+    let _answer = engine.parse_global_level(&mut state, |_settings| {});
+    Ok(nest_peak(&state))
+}
+
+// At most eight for each level that a script and a function may have, and for two more: 8 * (6 + 4 + 2).
+#[test]
+fn peaks_of_100_000_scripts(rt: HostRuntime) -> Result<(), Fail> {
+    let alloc = rt.alloc();
+    let mut engine = Engine::new(alloc);
+    engine.set_max_expr_depth(6);
+    engine.set_max_function_expr_depth(4);
+    let mut seed = 1;
+    let mut highest = 0;
+    for _ in 0..100_000 {
+        let peak = peak_of_next(&rt, alloc, &engine, &mut seed)?;
+        assert!(rt; 1 <= peak && peak <= 96, "{peak}");
+        highest = highest.max(peak);
+    }
+    // In some, more are active than one for each of these levels.
+    assert!(rt; highest > 12, "{highest}");
+    Ok(())
+}

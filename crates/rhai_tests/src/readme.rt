@@ -1,0 +1,38 @@
+//! The code of README.md, "Use it as a library", word for word (tests/cases.sh compares them).
+
+ghost use Rattle.std.specs.Prelude.{All, IsTrue};
+ghost use Rattle.rhai_input.specs.Entries.{may_be_delivered};
+
+use crate::script::{add_line, check};
+use rhai_parser::{
+    AST, Engine, Entry, FnLib, OptimizationLevel, ParseResult, ParseState, Position, TokenStream,
+    TokenizerControl,
+};
+use std::alloc::Global;
+use std::test::Fail;
+
+fn parse(alloc: Global, entries: Vec<Entry>, end: Position) -> ParseResult<AST>
+    requires { All (λ e. IsTrue (may_be_delivered e)) entries.items }
+{
+    let mut engine = Engine::new(alloc);
+    engine.set_max_expr_depth(32);
+    let mut input = TokenStream::new(entries, end);
+    let mut lib = FnLib::new(alloc);
+    let state = ParseState::new(alloc, None, &mut input, TokenizerControl, &mut lib);
+    engine.parse_global_expr(state, |_settings| {}, OptimizationLevel::None)
+}
+
+#[test]
+fn the_code_of_the_readme(rt: HostRuntime) -> Result<(), Fail> {
+    let alloc = rt.alloc();
+    let mut entries = Vec::new(alloc);
+    add_line(alloc, &mut entries, "1 + f ( x )")?;
+    assert!(rt; entries.iter().all(|entry| entry.is_deliverable()));
+    check(
+        &rt,
+        alloc,
+        parse(alloc, entries, Position::NONE),
+        "accepted",
+    )?;
+    Ok(())
+}
