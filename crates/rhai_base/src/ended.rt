@@ -86,8 +86,8 @@ impl Library {
         self.functions.len()
     }
 
-    /// Refuses one more function where there are `limit` already, with those that have begun around it. The result is how
-    /// many have begun around what is in it. The error is `TooManyFunctions` at `pos`. Does not allocate, and takes
+    /// Refuses one more function where there are `limit` already, with those that have begun around it. The result is
+    /// how many have begun around what is in it. The error is `TooManyFunctions` at `pos`. Does not allocate, and takes
     /// constant time.
     pub fn test_room(&self, limit: usize, begun: usize, pos: Position) -> ParseResult<usize>
         ensures passes { IfOk result (λ inside. (nat_lt (length (library_of self.now) + begun) limit ≡ true)

@@ -162,8 +162,8 @@ impl<'p> Frame<'p> {
     }
 
     /// The frame of a function or closure that stands in this one, in which nothing is live: it knows the same as this
-    /// one, and of modules the `imports`, which the caller takes from `all_imports`. `begun` functions and closures have
-    /// begun around it, itself included. Its expressions may contain every token. Does not allocate.
+    /// one, and of modules the `imports`, which the caller takes from `all_imports`. `begun` functions and closures
+    /// have begun around it, itself included. Its expressions may contain every token. Does not allocate.
     pub fn in_function<'f>(&'f self, alloc: Global, imports: &'f [RcStr], begun: usize) -> Frame<'f>
         ensures { result ≡ record {
           live = nothing_live;
@@ -362,8 +362,8 @@ impl<'p> Frame<'p> {
             || self.known.declares(name)
     }
 
-    /// Whether the variable `name`, used in a closure or not, as `closure` says, is one that the closure captures: no slot
-    /// has the name, and no function of the library. Does not allocate.
+    /// Whether the variable `name`, used in a closure or not, as `closure` says, is one that the closure captures: no
+    /// slot has the name, and no function of the library. Does not allocate.
     pub fn is_captured(&self, closure: bool, library: &Library, name: &str) -> bool
         ensures { result ≡ (closure && not (is_some (number name.now self.now.live.slots)
             || is_function (library_of library.now) name.now)) }

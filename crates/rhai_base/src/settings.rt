@@ -124,9 +124,9 @@ impl ParseSettings {
         }
     }
 
-    /// The settings in a closure, at the old position: the level and its limit stay. The parts of the language are those
-    /// of `options`, without strict variables. Of the flags stay that blocks hold a single statement and that keys of
-    /// object maps have to be strings. Does not allocate.
+    /// The settings in a closure, at the old position: the level and its limit stay. The parts of the language are
+    /// those of `options`, without strict variables. Of the flags stay that blocks hold a single statement and that
+    /// keys of object maps have to be strings. Does not allocate.
     pub fn in_closure(&self, options: LangOptions) -> Self
         ensures settings { settings_of result ≡ closure_settings (settings_of self.now) options.0 }
         ensures position { result.pos ≡ self.now.pos }

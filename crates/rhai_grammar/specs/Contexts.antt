@@ -29,7 +29,8 @@ abbrev pub nothing_known : Known
 nothing_known = record { variables = []; imports = []; modules = [] }
 
 -- What a form passes on to its parts, with little but the level changed: the settings, the engine's options (as bits)
--- and limits, which tokens an expression may have, what is known, and how many functions and closures have begun around.
+-- and limits, which tokens an expression may have, what is known, and how many functions and closures have begun
+-- around.
 pub record Context : Type 0 where
   pub settings : Settings
   pub options : ℕ

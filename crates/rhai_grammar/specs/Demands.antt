@@ -29,8 +29,8 @@ mutual
     Ahead : Item → (others : Lexeme → Verdict) → Demand
     -- a test of the next token, which is not taken
     Next : (Lexeme → Verdict) → Demand
-    -- Such a test, which knows the functions that have ended. After it the closure around captures a name, if the second
-    -- test says so.
+    -- Such a test, which knows the functions that have ended. After it the closure around captures a name, if the
+    -- second test says so.
     Uses : (Library → Lexeme → Verdict) → (captures : Library → Lexeme → Bool) → Use → Demand
     -- a test of what was parsed, and the error if it fails
     Test : Bool → Refusal → Demand
@@ -45,9 +45,9 @@ mutual
     -- These demands are met, one after the other. Where one of them is missed, the error is that a literal is expected,
     -- at the same position.
     Literally : Demands → Demand
-    -- These demands are those of a closure's body: they are met from a point where nothing is captured yet. At their end so
-    -- many closures have ended, and these names are captured; no error belongs to this. What the closure around had
-    -- captured before is captured still.
+    -- These demands are those of a closure's body: they are met from a point where nothing is captured yet. At their
+    -- end so many closures have ended, and these names are captured; no error belongs to this. What the closure around
+    -- had captured before is captured still.
     Apart : Demands → (number : ℕ) → (captured : List Use) → Demand
 
   -- demands in written order

@@ -207,7 +207,8 @@ fn parameter_place(list: CommaList, token: &Token) -> ItemPlace
     }
 }
 
-/// Takes a parameter of a function or of a closure, with its position, or the token that closes the list; none for that.
+/// Takes a parameter of a function or of a closure, with its position, or the token that closes the list; none for
+/// that.
 ///
 /// A reserved token there is `Reserved`, a keyword is `VariableExpected`, an error of the tokenizer is that error, and
 /// any other token is `MissingToken`; if memory runs out, the error is `OutOfMemory`.

@@ -237,9 +237,9 @@ impl Engine {
     }
 
     /// Reads a script up to the end mark of the stream, under the engine's settings for a script, and hands its
-    /// statements, with all functions of the library, to the optimizer with the state's external constants. The functions
-    /// and closures of the script join the library; those that had ended before an error stay there. `level` is how much
-    /// the optimizer may do.
+    /// statements, with all functions of the library, to the optimizer with the state's external constants. The
+    /// functions and closures of the script join the library; those that had ended before an error stay there. `level`
+    /// is how much the optimizer may do.
     ///
     /// An error tells why and where the stream is no script; all are in docs/GRAMMAR.md, "Errors". `OutOfMemory` comes
     /// where memory ran out, or where the stream said so, and stands at no position.

@@ -25,8 +25,8 @@ use Rattle.rhai_reading.specs.Reading.{RightOperand}
 use Rattle.rhai_reading.specs.Reading.{Closure, ClosureBody, Function, FunctionHead, FunctionStatement, ParameterList, Parameters}
 use Rattle.rhai_reading.specs.Reading.{Prog, body}
 
--- What is left of a stream, the functions that have ended, the names that the closure around has captured, and how deeply
--- readers are nested.
+-- What is left of a stream, the functions that have ended, the names that the closure around has captured, and how
+-- deeply readers are nested.
 pub record Progress : Type 0 where
   pub cursor : Cursor
   pub library : Library
