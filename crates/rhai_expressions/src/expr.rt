@@ -8,6 +8,7 @@ ghost use Rattle.rhai_reading.specs.Running.{asked};
 ghost use Rattle.rhai_language.specs.Readers.{Covers, GoesOn, Reads, arguments, binary_op, expression, items};
 ghost use Rattle.rhai_language.specs.Readers.{operand, postfix};
 ghost use Rattle.rhai_language.specs.Readers.{right_operand, state_of, views_of};
+ghost use Rattle.rhai_language.specs.Rooms.{Stays};
 
 use crate::asks::{end_operand, next_operator};
 use crate::paths::{NamedOperand, named_operand};
@@ -39,6 +40,7 @@ impl<R: LentReaders> ExprReader<'_, R> {
         requires lent { Covers (R.lent self.now.readers) (postfix self.now.language.now frame.now settings
             (view operand)) shared.old }
         ensures goes_on { GoesOn shared.old shared.new }
+        ensures stays { Stays self.now.language.now frame.now settings 2 shared.old shared.new }
         ensures reads { Reads (postfix self.now.language.now frame.now settings (view operand)) view shared.old result
             shared.new }
     {
@@ -74,6 +76,7 @@ impl<R: LentReaders> ExprReader<'_, R> {
         requires lent { Covers (R.lent self.now.readers) (arguments self.now.language.now frame.now settings)
             shared.old }
         ensures goes_on { GoesOn shared.old shared.new }
+        ensures stays { Stays self.now.language.now frame.now settings 0 shared.old shared.new }
         ensures reads { Reads (arguments self.now.language.now frame.now settings) views_of shared.old result
             shared.new }
     {
@@ -101,6 +104,7 @@ impl<R: LentReaders> ExprReader<'_, R> {
         requires lent { Covers (R.lent self.now.readers) (items self.now.language.now frame.now settings no_nodes)
             shared.old }
         ensures goes_on { GoesOn shared.old shared.new }
+        ensures stays { Stays self.now.language.now frame.now settings 1 shared.old shared.new }
         ensures reads { Reads (items self.now.language.now frame.now settings no_nodes) views_of shared.old result
             shared.new }
     {
@@ -134,6 +138,7 @@ impl<R: LentReaders> ExprReader<'_, R> {
         requires lent { Covers (R.lent self.now.readers) (right_operand self.now.language.now frame.now settings
             place) shared.old }
         ensures goes_on { GoesOn shared.old shared.new }
+        ensures stays { Stays self.now.language.now frame.now settings 4 shared.old shared.new }
         ensures reads { Reads (right_operand self.now.language.now frame.now settings place) view shared.old result
             shared.new }
     {
@@ -165,6 +170,7 @@ impl<R: LentReaders> ExprReader<'_, R> {
         requires lent { Covers (R.lent self.now.readers) (operand self.now.language.now frame.now settings)
             shared.old }
         ensures goes_on { GoesOn shared.old shared.new }
+        ensures stays { Stays self.now.language.now frame.now settings 3 shared.old shared.new }
         ensures reads { Reads (operand self.now.language.now frame.now settings) view shared.old result shared.new }
     {
         let (token, _) = peek(shared.input)?;
@@ -190,6 +196,7 @@ impl<R: LentReaders> ExprReader<'_, R> {
         requires lent { Covers (R.lent self.now.readers) (operand self.now.language.now frame.now settings)
             shared.old }
         ensures goes_on { GoesOn shared.old shared.new }
+        ensures stays { Stays self.now.language.now frame.now settings 3 shared.old shared.new }
         ensures reads { Reads (operand self.now.language.now frame.now settings) view shared.old result shared.new }
     {
         peek(shared.input)?;
@@ -217,6 +224,7 @@ impl<R: LentReaders> ExprReader<'_, R> {
         requires lent { Covers (R.lent self.now.readers) (binary_op self.now.language.now frame.now settings
             (position_of (view lhs)) parent (view lhs)) shared.old }
         ensures goes_on { GoesOn shared.old shared.new }
+        ensures stays { Stays self.now.language.now frame.now settings 5 shared.old shared.new }
         ensures reads { Reads (binary_op self.now.language.now frame.now settings (position_of (view lhs)) parent
             (view lhs)) view
             shared.old result shared.new }
@@ -260,6 +268,7 @@ impl<R: LentReaders> ExprReader<'_, R> {
         requires lent { Covers (R.lent self.now.readers) (expression self.now.language.now frame.now settings)
             shared.old }
         ensures goes_on { GoesOn shared.old shared.new }
+        ensures stays { Stays self.now.language.now frame.now settings 0 shared.old shared.new }
         ensures reads { Reads (expression self.now.language.now frame.now settings) view shared.old result shared.new }
     {
         let (_, pos) = peek(shared.input)?;

@@ -1,12 +1,13 @@
 //! The readers of expressions, of primaries, of constructs and of statements, each lent to the others.
 
-ghost use Rattle.std.specs.Prelude.{◌≡◌};
+ghost use Rattle.std.specs.Prelude.{◌≡◌, ◌+◌};
 ghost use Rattle.rhai_lower.specs.Nodes.{no_statements};
 ghost use Rattle.rhai_ast.specs.View.{statement_view, view};
 ghost use Rattle.rhai_base.specs.Frames.{SamePlace};
 ghost use Rattle.rhai_reading.specs.Running.{need};
 ghost use Rattle.rhai_language.specs.Readers.{GoesOn, Nests, Reads, construct, expression, inside, primary, state_of};
 ghost use Rattle.rhai_language.specs.Readers.{statement, statements, statements_of, whole, with_live};
+ghost use Rattle.rhai_language.specs.Rooms.{Stays, function_room};
 
 use rhai_ast::{Expr, Stmt};
 use rhai_base::{Frame, ParseSettings};
@@ -131,6 +132,7 @@ pub(crate) fn parse_expr(
     settings: ParseSettings,
 ) -> ParseResult<Expr>
     ensures goes_on { GoesOn shared.old shared.new }
+    ensures stays { Stays language.now frame.now settings 1 shared.old shared.new }
     ensures reads { Nests (expression language.now frame.now settings) view shared.old result shared.new }
 {
     let readers = Lent {
@@ -154,6 +156,7 @@ fn parse_primary(
     settings: ParseSettings,
 ) -> ParseResult<Expr>
     ensures goes_on { GoesOn shared.old shared.new }
+    ensures stays { Stays language.now frame.now settings 2 shared.old shared.new }
     ensures reads { Nests (primary language.now frame.now settings) view shared.old result shared.new }
 {
     let readers = Lent {
@@ -178,6 +181,7 @@ fn parse_construct(
     kind: Construct,
 ) -> ParseResult<Stmt>
     ensures goes_on { GoesOn shared.old shared.new }
+    ensures stays { Stays language.now frame.now settings 5 shared.old shared.new }
     ensures reads { Nests (construct language.now frame.now settings kind) statement_view shared.old result shared.new }
 {
     let readers = Lent {
@@ -204,6 +208,7 @@ fn parse_block_inside(
     settings: ParseSettings,
 ) -> ParseResult<Vec<Stmt>>
     ensures goes_on { GoesOn shared.old shared.new }
+    ensures stays { Stays language.now frame.now settings 3 shared.old shared.new }
     ensures reads { Nests (inside language.now frame.now settings) statements_of shared.old result shared.new }
 {
     let readers = Lent {
@@ -227,6 +232,7 @@ fn parse_stmt(
     settings: ParseSettings,
 ) -> ParseResult<Stmt>
     ensures goes_on { GoesOn shared.old shared.new }
+    ensures stays { Stays language.now frame.old settings (2 + function_room language.now settings) shared.old shared.new }
     ensures reads { Nests (statement language.now frame.old settings) (with_live statement_view frame.new) shared.old
         result shared.new }
 {
@@ -250,6 +256,7 @@ pub(crate) fn parse_whole_expr(
     settings: ParseSettings,
 ) -> ParseResult<Expr>
     ensures goes_on { GoesOn shared.old shared.new }
+    ensures stays { Stays language.now frame.now settings 1 shared.old shared.new }
     ensures reads { Reads (whole language.now frame.now settings) view shared.old result shared.new }
 {
     let expr = parse_expr(language, shared, frame, settings)?;
@@ -267,6 +274,7 @@ pub(crate) fn parse_statements(
     closing: Closing,
 ) -> ParseResult<Vec<Stmt>>
     ensures goes_on { GoesOn shared.old shared.new }
+    ensures stays { Stays language.now frame.old settings (2 + function_room language.now settings) shared.old shared.new }
     ensures place { SamePlace frame.old frame.new }
     ensures reads { Reads (statements language.now frame.old settings closing no_statements)
         (with_live statements_of frame.new) shared.old result shared.new }

@@ -102,4 +102,7 @@ loop-lhs-preserved g t c =
     record {
       same = c.loop-lhs.invariant.same ∙ walked_on h _ _ c.in-Ok.ensures.answers (same_context c.args.self.now.language.now c.args.frame.now c.in_ok-deeper.deeper.next c.in_ok-deeper.deeper.side (search rules)) (search rules);
       goes_on = record { same = search rules; shorter = let less = walked_short h in omega (arith, less, c.loop-lhs.invariant.goes_on.shorter); grows = search rules };
+      stays = grind arith;
+      limit = grind arith;
+      less = grind arith;
     }
