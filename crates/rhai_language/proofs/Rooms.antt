@@ -1,5 +1,5 @@
 -- Where functions may stand, and what is kept of a library as functions begin and end.
-use Rattle.std.proofs.Common.{◌≡◌, ℕ, ◌+◌, ◌<◌, ◌^◌, false, true, ap, arith, length, nat_lt, ◌*◌, if◌then◌else◌, ◌∷◌, []}
+use Rattle.std.proofs.Common.{◌≡◌, ℕ, ◌+◌, ◌<◌, ◌≤◌, ◌^◌, false, true, ap, arith, length, nat_lt, ◌*◌, if◌then◌else◌, ◌∷◌, []}
 use Rattle.std.proofs.lemmas.Bool.{ltb-true}
 use Rattle.std.proofs.lemmas.List.{length-map}
 use Rattle.std.proofs.lemmas.List.Sums.{count_by-le-length}
@@ -12,7 +12,7 @@ use Rattle.rhai_grammar.specs.Keys.{is_closure}
 use Rattle.rhai_grammar.specs.Libraries.{Ended, Library, closure_count, keys_in, with_ended}
 use Rattle.rhai_grammar.specs.NumberedLibraries.{IsNumbered, IsOrderly}
 use Rattle.rhai_grammar.specs.Settings.{at_global_level}
-use Rattle.rhai_base.specs.Settings.{settings_of}
+use Rattle.rhai_base.specs.Settings.{gap, settings_of}
 use Rattle.rhai_base.specs.declared.settings.ParseSettings.{ParseSettings}
 use Rattle.rhai_language.specs.Languages.{LanguageValue}
 use Rattle.rhai_language.specs.Rooms.{Holds, function_room}
@@ -22,6 +22,17 @@ pub no_function : (language : LanguageValue) (settings : ParseSettings) → at_g
     → function_room language settings ≡ 0
 unfolding function_room
 no_function language settings e = ap (λ b. if b then 8 * language.max_function_expr_depth else 0) e
+
+-- at it one may
+pub one_function : (language : LanguageValue) (settings : ParseSettings) → at_global_level (settings_of settings) ≡ true
+    → function_room language settings ≡ 8 * language.max_function_expr_depth
+unfolding function_room
+one_function language settings e = ap (λ b. if b then 8 * language.max_function_expr_depth else 0) e
+
+-- no more levels are left than there are
+pub gap_most : (limit level : ℕ) → gap limit level ≤ limit
+unfolding gap
+gap_most limit level = omega arith
 
 -- one more begins where there is room for it
 pub one_begun : (limit begun : ℕ) (l : Library) → nat_lt (length l + begun) limit ≡ true → Holds limit begun l

@@ -1,6 +1,6 @@
 -- How many readers may be active below a reader, and what each reader leaves of that and of the library, whatever it
 -- answers.
-use Rattle.std.specs.Prelude.{ℕ, ◌+◌, ◌-◌, ◌*◌, ◌≤◌, if◌then◌else◌}
+use Rattle.std.specs.Prelude.{◌≡◌, ℕ, ◌+◌, ◌-◌, ◌*◌, ◌≤◌, if◌then◌else◌}
 use Rattle.rhai_grammar.specs.NumberedLibraries.{IsOrderly}
 use Rattle.rhai_grammar.specs.Libraries.{Library}
 use Rattle.rhai_grammar.specs.Settings.{at_global_level}
@@ -36,27 +36,24 @@ pub record Stays (language : LanguageValue) (frame : FrameValue) (settings : Par
   pub library : Holds language.max_functions frame.begun (library_of old.library.now)
       → Holds language.max_functions frame.begun (library_of new.library.now)
 
--- No reader is entered or left, and an orderly library stays so.
+-- No reader is entered or left, and no function ends.
 pub record Steady (old new : Shared) : Type 0 where
-  pub nesting : (most top : ℕ) → IsWithin most top old.counts → IsWithin most top new.counts
-  pub library : (limit begun : ℕ) → Holds limit begun (library_of old.library.now)
-      → Holds limit begun (library_of new.library.now)
+  pub counts : new.counts ≡ old.counts
+  pub library : library_of new.library.now ≡ library_of old.library.now
 
 -- A reader is entered.
 pub record Enters (old new : Shared) : Type 0 where
   pub nesting : (most top : ℕ) → 1 ≤ most → most ≤ top → IsWithin (most - 1) top old.counts → IsWithin most top new.counts
-  pub library : (limit begun : ℕ) → Holds limit begun (library_of old.library.now)
-      → Holds limit begun (library_of new.library.now)
+  pub library : library_of new.library.now ≡ library_of old.library.now
 
 -- A reader is left.
 pub record Leaves (old new : Shared) : Type 0 where
   pub nesting : (most top : ℕ) → IsWithin (most + 1) top old.counts → IsWithin most top new.counts
-  pub library : (limit begun : ℕ) → Holds limit begun (library_of old.library.now)
-      → Holds limit begun (library_of new.library.now)
+  pub library : library_of new.library.now ≡ library_of old.library.now
 
--- A function or closure that had begun ends: no reader is entered or left, and a library that is orderly while it has
--- begun is so after it.
+-- A function or closure that had begun ends, or is refused: no reader is entered or left, and a library that is orderly
+-- while it has begun is so afterwards.
 pub record Ends (old new : Shared) : Type 0 where
-  pub nesting : (most top : ℕ) → IsWithin most top old.counts → IsWithin most top new.counts
+  pub counts : new.counts ≡ old.counts
   pub library : (limit begun : ℕ) → Holds limit (begun + 1) (library_of old.library.now)
       → Holds limit begun (library_of new.library.now)

@@ -127,6 +127,7 @@ fn use_captured(
 
 // Adds the function of a closure, with these parameters of its own, this body and these captured names, to the library.
 // The result is the value that stands for the closure.
+#[tactic(auto, using(crate::proofs::Readers::end_closure))]
 fn end_closure(
     alloc: Global,
     shared: &mut Shared<'_>,

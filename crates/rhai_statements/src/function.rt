@@ -101,6 +101,7 @@ impl<R: LentReaders> StmtReader<'_, R> {
 }
 
 // A function of these parts with its key: its type, its name, and the number of its parameters.
+#[tactic(auto, using(crate::proofs::Readers::make_function))]
 fn make_function(
     alloc: Global,
     private: bool,
@@ -131,6 +132,7 @@ fn make_function(
 
 // Adds a function whose `fn` is at `pos` to the library. Where a function has its key, the error is
 // `FnDuplicatedDefinition` at `pos`.
+#[tactic(auto, using(crate::proofs::Readers::end_function))]
 fn end_function(
     shared: &mut Shared<'_>,
     key: FnKey,
