@@ -1,5 +1,5 @@
 -- Where functions may stand, and what is kept of a library as functions begin and end.
-use Rattle.std.proofs.Common.{◌≡◌, ℕ, ◌+◌, ◌<◌, ◌≤◌, ◌^◌, false, true, ap, arith, length, nat_lt, ◌*◌, if◌then◌else◌, ◌∷◌, []}
+use Rattle.std.proofs.Common.{◌≡◌, ℕ, Bool, ◌+◌, ◌<◌, ◌≤◌, ◌^◌, false, true, ap, arith, length, nat_lt, ◌*◌, if◌then◌else◌, ◌∷◌, []}
 use Rattle.std.proofs.lemmas.Bool.{ltb-true}
 use Rattle.std.proofs.lemmas.List.{length-map}
 use Rattle.std.proofs.lemmas.List.Sums.{count_by-le-length}
@@ -11,7 +11,7 @@ use Rattle.rhai_grammar.specs.Functions.{is_new}
 use Rattle.rhai_grammar.specs.Keys.{is_closure}
 use Rattle.rhai_grammar.specs.Libraries.{Ended, Library, closure_count, keys_in, with_ended}
 use Rattle.rhai_grammar.specs.NumberedLibraries.{IsNumbered, IsOrderly}
-use Rattle.rhai_grammar.specs.Settings.{at_global_level}
+use Rattle.rhai_grammar.specs.Settings.{Settings, at_global_level}
 use Rattle.rhai_base.specs.Settings.{gap, settings_of}
 use Rattle.rhai_base.specs.declared.settings.ParseSettings.{ParseSettings}
 use Rattle.rhai_language.specs.Languages.{LanguageValue}
@@ -28,6 +28,23 @@ pub one_function : (language : LanguageValue) (settings : ParseSettings) → at_
     → function_room language settings ≡ 8 * language.max_function_expr_depth
 unfolding function_room
 one_function language settings e = ap (λ b. if b then 8 * language.max_function_expr_depth else 0) e
+
+-- under the same settings as many readers may be active in it
+pub room_same : (language : LanguageValue) (a b : ParseSettings) → settings_of a ≡ settings_of b
+    → function_room language a ≡ function_room language b
+unfolding function_room
+room_same language a b e =
+    ap (λ (s : Settings). if at_global_level s then 8 * language.max_function_expr_depth else 0) e
+
+-- no more than eight for each of its levels
+pub function_room_most : (language : LanguageValue) (settings : ParseSettings)
+    → function_room language settings ≤ 8 * language.max_function_expr_depth
+unfolding function_room
+function_room_most language settings = by (at_global_level (settings_of settings))
+  where
+    by : (b : Bool) → (if b then 8 * language.max_function_expr_depth else 0) ≤ 8 * language.max_function_expr_depth
+    by true = omega arith
+    by false = omega arith
 
 -- no more levels are left than there are
 pub gap_most : (limit level : ℕ) → gap limit level ≤ limit

@@ -1,6 +1,4 @@
 pub mod Steps
-pub mod Rooms
-pub mod Heights
 pub mod Kept
 pub mod Grows
 pub mod Dives

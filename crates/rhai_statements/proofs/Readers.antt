@@ -3,7 +3,6 @@ use Rattle.rhai_ast.proofs.Views.{view_noop, view_unit}
 use Rattle.rhai_reading.proofs.Steps.{nested_so, step_definition, step_export, step_expr_statement, step_function, step_function_statement, step_import, step_initializer, step_inside, step_jump, step_parameter_list, step_statement, step_statements}
 use Rattle.rhai_language.proofs.Readers.{calls_of_readers, readers}
 use Rattle.rhai_language.proofs.Rooms.{function_ends, gap_most, given_up, no_function, one_function}
-use Rattle.rhai_grammar.proofs.EventEnds.{no_closure}
 
 pub ruleset parse_statements = (readers, nested_so, step_statements)
 
@@ -26,8 +25,6 @@ pub ruleset parse_jump = (readers, nested_so, step_jump)
 pub ruleset parse_fn = (readers, nested_so, step_function_statement)
 
 pub ruleset end_function = (given_up, function_ends)
-
-pub ruleset make_function = (no_closure)
 
 pub ruleset rooms = (no_function, one_function, gap_most)
 

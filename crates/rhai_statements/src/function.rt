@@ -101,7 +101,6 @@ impl<R: LentReaders> StmtReader<'_, R> {
 }
 
 // A function of these parts with its key: its type, its name, and the number of its parameters.
-#[tactic(auto, using(crate::proofs::Readers::make_function))]
 fn make_function(
     alloc: Global,
     private: bool,
