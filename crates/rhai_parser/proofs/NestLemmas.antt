@@ -48,16 +48,7 @@ stays_read language engine frame settings old new is h =
     let function = function_room_most language settings in
     (h.nesting a top positive more (omega (arith, right, levels, function)) (le_refl a, le-max_left _ _)).1)
 
--- so a library stays orderly
-pub orderly_read : (language engine : LanguageValue) (frame : FrameValue) (settings : ParseSettings) (height : ℕ)
-    (old new : Shared) → language ≡ engine → Stays language frame settings height old new
-    → Holds engine.max_functions frame.begun (library_of old.library.now)
-    → Holds engine.max_functions frame.begun (library_of new.library.now)
-orderly_read language engine frame settings height old new is h =
-    subst (λ (e : LanguageValue). Holds e.max_functions frame.begun (library_of old.library.now)
-    → Holds e.max_functions frame.begun (library_of new.library.now)) is h.library
-
--- and so it does in the state of an entry, from which its frame has how many have begun
+-- a library stays orderly in the state of an entry, from which its frame has how many have begun
 pub orderly_so : (engine : LanguageValue) (begun here : ℕ) (old new : Library) → here ≡ begun
     → (Holds engine.max_functions here old → Holds engine.max_functions here new)
     → IsOrderly engine.max_functions begun old → IsOrderly engine.max_functions begun new

@@ -43,37 +43,37 @@ where
         → E.pre s.expr language shared frame settings
         × ((result : _) (after : _) → E.post s.expr language shared frame settings result after
         → GoesOn shared.now after.now
-        × Stays language.now frame.now settings 1 shared.now after.now
-        × Nests (expression language.now frame.now settings) view shared.now result after.now))
+        × (Stays language.now frame.now settings 1 shared.now after.now
+        × Nests (expression language.now frame.now settings) view shared.now result after.now)))
         × ((language : _) (shared : _) (frame : _) (settings : _)
         → need (primary language.now frame.now settings) (state_of shared.now) ≡ n
         → P.pre s.primary language shared frame settings
         × ((result : _) (after : _) → P.post s.primary language shared frame settings result after
         → GoesOn shared.now after.now
-        × Stays language.now frame.now settings 2 shared.now after.now
-        × Nests (primary language.now frame.now settings) view shared.now result after.now))
+        × (Stays language.now frame.now settings 2 shared.now after.now
+        × Nests (primary language.now frame.now settings) view shared.now result after.now)))
         × ((language : _) (shared : _) (frame : _) (settings : _) (kind : _)
         → need (construct language.now frame.now settings kind) (state_of shared.now) ≡ n
         → C.pre s.construct language shared frame settings kind
         × ((result : _) (after : _) → C.post s.construct language shared frame settings kind result after
         → GoesOn shared.now after.now
-        × Stays language.now frame.now settings 5 shared.now after.now
-        × Nests (construct language.now frame.now settings kind) statement_view shared.now result after.now))
+        × (Stays language.now frame.now settings 5 shared.now after.now
+        × Nests (construct language.now frame.now settings kind) statement_view shared.now result after.now)))
         × ((language : _) (shared : _) (frame : _) (settings : _)
         → need (inside language.now frame.now settings) (state_of shared.now) ≡ n
         → I.pre s.inside language shared frame settings
         × ((result : _) (after : _) → I.post s.inside language shared frame settings result after
         → GoesOn shared.now after.now
-        × Stays language.now frame.now settings 3 shared.now after.now
-        × Nests (inside language.now frame.now settings) statements_of shared.now result after.now))
+        × (Stays language.now frame.now settings 3 shared.now after.now
+        × Nests (inside language.now frame.now settings) statements_of shared.now result after.now)))
         × ((language : _) (shared : _) (frame : _) (settings : _)
         → need (statement language.now frame.now settings) (state_of shared.now) ≡ n
         → S.pre s.stmt language shared frame settings
         × ((result : _) (after : _) (left : _) → S.post s.stmt language shared frame settings result after left
         → GoesOn shared.now after.now
-        × Stays language.now frame.now settings (2 + function_room language.now settings) shared.now after.now
+        × (Stays language.now frame.now settings (2 + function_room language.now settings) shared.now after.now
         × Nests (statement language.now frame.now settings) (with_live statement_view left.now) shared.now result
-        after.now)) };
+        after.now))) };
 
     fn parse_expr(
         &self,

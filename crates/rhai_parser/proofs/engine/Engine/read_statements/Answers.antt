@@ -11,7 +11,7 @@ use Rattle.rhai_language.specs.Frames.{context_of}
 use Rattle.rhai_language.specs.Languages.{LanguageValue}
 use Rattle.rhai_language.specs.Readers.{nesting_of, state_of, statements_of, with_live}
 use Rattle.rhai_parser.specs.Nesting.{StaysWithin}
-use Rattle.rhai_parser.proofs.NestLemmas.{orderly_read, returns_read, stays_read}
+use Rattle.rhai_parser.proofs.NestLemmas.{returns_read, stays_read}
 use Rattle.rhai_parser.proofs.engine.Engine.read_statements.Goals as goal
 
 pub returns-clause-reads : goal.returns-clause-reads
@@ -33,11 +33,6 @@ returns-clause-reads c =
 pub returns-clause-stays : goal.returns-clause-stays
 returns-clause-stays c =
     stays_read c.language.result.now c.args.self.now c.args.frame c.args.settings _ c.parse_statements-statements.new.shared c.language.ensures
-    c.parse_statements-statements.ensures.stays
-
-pub returns-clause-orderly : goal.returns-clause-orderly
-returns-clause-orderly c =
-    orderly_read c.language.result.now c.args.self.now c.args.frame c.args.settings _ _ c.parse_statements-statements.new.shared c.language.ensures
     c.parse_statements-statements.ensures.stays
 
 pub returns-clause-returns : goal.returns-clause-returns
