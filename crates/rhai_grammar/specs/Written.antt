@@ -257,8 +257,8 @@ abbrev mutual
   jump_value (form.Present f) context live at more =
       Next (value_follows context) ▸ raise_at context at (as_expression (run f) (level_up context) live more)
 
-  -- A statement raises the level at its first token, but for `;` and `continue`; a construct and `import` raise it once
-  -- more, and so does `export` before a definition.
+  -- A statement raises the level at its first token, but for `;`, `continue` and a function, which begins at a level of
+  -- its own. A construct and `import` raise it once more, and so does `export` before a definition.
   pub statement : Statement → Context → Live → Demands → Demands
   statement (form.EmptyStatement at) context live more = Tok code (item (Sign SemiColon) at) anything ▸ more
   statement (form.Expression x) context live more =
