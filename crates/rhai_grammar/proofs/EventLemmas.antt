@@ -291,7 +291,7 @@ mutual
       → Does q (script_events xs w) (W.statements xs closing c w k) k
   statements form.NoStatement closing c w k i = next here
   statements (form.LastStatement f) closing c w k i = next (all_of (on (statement f c w _ i) (shape (next here))))
-  statements (form.Ended f semicolon rest) closing c w k i =
+  statements (form.WithSemicolon f semicolon rest) closing c w k i =
       next (on (statement f c w _ i) (shape (tok (statements rest closing c (after_statement f w) k i))))
   statements (form.Standing f rest) closing c w k i =
       next (on (statement f c w _ i) (shape (statements rest closing c (after_statement f w) k i)))

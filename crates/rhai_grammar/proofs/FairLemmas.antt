@@ -390,7 +390,7 @@ mutual
   statements : (xs : Statements) (closing : Closing) (c : Context) (w : Live) (k : Demands) → IsFair k → IsFair (W.statements xs closing c w k)
   statements form.NoStatement closing c w k h = h
   statements (form.LastStatement f) closing c w k h = statement f c w _ (λ d. h)
-  statements (form.Ended f semicolon rest) closing c w k h =
+  statements (form.WithSemicolon f semicolon rest) closing c w k h =
       statement f c w _ (λ d. (semicolon_due closing, statements rest closing c (after_statement f w) k h))
   statements (form.Standing f rest) closing c w k h = statement f c w _ (λ d. statements rest closing c (after_statement f w) k h)
 

@@ -397,7 +397,7 @@ mutual
       → Leads code code (script_spelling xs) (W.statements xs closing c w k) k
   statements form.NoStatement closing c w k = next here
   statements (form.LastStatement f) closing c w k = next (all_of (on (statement f c w _) (shape (λ e. next here))))
-  statements (form.Ended f semicolon rest) closing c w k =
+  statements (form.WithSemicolon f semicolon rest) closing c w k =
       next (on (statement f c w _) (shape (λ e. tok (statements rest closing c (after_statement f w) k))))
   statements (form.Standing f rest) closing c w k =
       next (on (statement f c w _) (shape (λ e. statements rest closing c (after_statement f w) k)))

@@ -316,7 +316,7 @@ mutual
   statements (form.LastStatement f) closing c w k =
       gets (λ h. N.kept (names w) (T.statement_tree f w) node.no_statements h tt)
       (next (up_to (statement f c w _) (shape (λ e. next here))))
-  statements (form.Ended f semicolon rest) closing c w k =
+  statements (form.WithSemicolon f semicolon rest) closing c w k =
       gets (λ h. N.in_front f rest w h.0 h.1)
       (next (on (statement f c w _) (shape (λ e. tok (statements rest closing c (after_statement f w) k)))))
   statements (form.Standing f rest) closing c w k =

@@ -85,9 +85,9 @@ sign_after EndMark token.EOF = after.Close
 sign_after EndMark _ = after.Nothing
 
 -- what a token is after a statement that does not end by itself
-abbrev pub after_statement : Closing → Lexeme → AfterStatement
-after_statement closing (Sign t) = sign_after closing t
-after_statement closing _ = after.Nothing
+abbrev pub token_after_statement : Closing → Lexeme → AfterStatement
+token_after_statement closing (Sign t) = sign_after closing t
+token_after_statement closing _ = after.Nothing
 
 -- An empty statement and a construct end by themselves: no `;` has to follow them. Only `do` ends with its guard.
 abbrev pub ends_itself : node.Statement → Bool
@@ -149,7 +149,7 @@ separated_at token after.Nothing = Wrong (missing (codes ";") token)
 separated_at token _ = Otherwise
 
 abbrev pub semicolon_due : Closing → Lexeme → Verdict
-semicolon_due closing token = separated_at token (after_statement closing token)
+semicolon_due closing token = separated_at token (token_after_statement closing token)
 
 -- after such a statement without a `;`: what closes the list
 abbrev pub last_at : Lexeme → AfterStatement → Verdict
@@ -158,7 +158,7 @@ last_at token after.SemiColon = Otherwise
 last_at token after.Nothing = Wrong (missing (codes ";") token)
 
 abbrev pub closed_due : Closing → Lexeme → Verdict
-closed_due closing token = last_at token (after_statement closing token)
+closed_due closing token = last_at token (token_after_statement closing token)
 
 -- an expression begins a statement, and no other form of statement does
 abbrev pub expression_at : StatementStart → Verdict

@@ -315,7 +315,7 @@ abbrev mutual
   pub statement_trees : Statements → Live → node.Statements
   statement_trees form.NoStatement live = no_statements
   statement_trees (form.LastStatement f) live = kept (statement_tree f live) no_statements
-  statement_trees (form.Ended f semicolon rest) live =
+  statement_trees (form.WithSemicolon f semicolon rest) live =
       kept (statement_tree f live) (statement_trees rest (after_statement f live))
   statement_trees (form.Standing f rest) live =
       kept (statement_tree f live) (statement_trees rest (after_statement f live))

@@ -379,7 +379,7 @@ abbrev mutual
   statements (form.LastStatement f) closing context live more =
       Next (statement_begins closing) ▸ statement f context live (
       Shape (not (ends_itself (statement_tree f live))) ▸ Next (closed_due closing) ▸ more)
-  statements (form.Ended f semicolon rest) closing context live more =
+  statements (form.WithSemicolon f semicolon rest) closing context live more =
       Next (statement_begins closing) ▸ statement f context live (
       Shape (not (ends_itself (statement_tree f live))) ▸
       Tok code (item (Sign SemiColon) semicolon) (semicolon_due closing) ▸

@@ -56,7 +56,7 @@ use Rattle.rhai_grammar.specs.Functions.{in_function, is_type, names_function, p
 use Rattle.rhai_grammar.specs.Libraries.{Ended}
 use Rattle.rhai_grammar.specs.Literals.{item_place}
 use Rattle.rhai_grammar.specs.Starts.{operand_start}
-use Rattle.rhai_grammar.specs.Statements.{defines, ends_itself, statement_place, statement_start, after_statement}
+use Rattle.rhai_grammar.specs.Statements.{defines, ends_itself, statement_place, statement_start, token_after_statement}
 use Rattle.rhai_grammar.specs.Strengths.{follower_of}
 use Rattle.rhai_grammar.specs.Switches.{Collected, arm_fault, arm_place}
 use Rattle.rhai_grammar.specs.Trees.{node_count}
@@ -522,7 +522,7 @@ statements_by : (closing : Closing) (c : Context) (w : Live) → Limited c → (
 statements_by closing c w h before l at stands.Close = ret
 statements_by closing c w h before l at stands.Statement =
     call h (omega arith) (λ f. either (ends_itself f.0) (call h (omega arith) (λ fs. ret))
-    (look (λ m pos. separated_by c f.1 h closing (with_kept before f.0) m pos (after_statement closing m))))
+    (look (λ m pos. separated_by c f.1 h closing (with_kept before f.0) m pos (token_after_statement closing m))))
 statements_by closing c w h before l at stands.Nothing = fail
 
 module _ (c : Context) (w : Live) (h : Limited c) where

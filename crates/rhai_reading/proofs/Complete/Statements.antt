@@ -67,7 +67,7 @@ last_is : (l : Lexeme) (v : AfterStatement) → V.last_at l v ≡ Fine → v ≡
 last_is l after.Close e = refl
 last_is l _ e = absurd cc
 
-semicolon_is : (closing : Closing) → V.after_statement closing (Sign token.SemiColon) ≡ after.SemiColon
+semicolon_is : (closing : Closing) → V.token_after_statement closing (Sign token.SemiColon) ≡ after.SemiColon
 semicolon_is Brace = refl
 semicolon_is EndMark = refl
 
@@ -215,13 +215,13 @@ pub last_statement : (f : Statement) → StatementRead f → StatementsRead (for
 last_statement f reads closing c w before k s t b m =
     statement_here closing c w before _ f reads m (λ u l n.
     if_false _ (not_true _ n.0) (next (V.closed_due closing) n.1.0 (λ e.
-    seen (last_is (op_at u) (V.after_statement closing (op_at u)) e)
+    seen (last_is (op_at u) (V.token_after_statement closing (op_at u)) e)
     (R.separated_at closing c (walk.after_statement f w) (with_kept before (statement_tree f w)) (op_at u) (pos_at u))
     (gives (ap (λ fs. (fs, walk.after_statement f w)) (sym (last_kept before (statement_tree f w)))) n.1.1))))
 
-pub ended : (f : Statement) (semicolon : Position) (rest : Statements) → StatementRead f → StatementsRead rest
-    → StatementsRead (form.Ended f semicolon rest)
-ended f semicolon rest reads more closing c w before k s t b m =
+pub with_semicolon : (f : Statement) (semicolon : Position) (rest : Statements) → StatementRead f → StatementsRead rest
+    → StatementsRead (form.WithSemicolon f semicolon rest)
+with_semicolon f semicolon rest reads more closing c w before k s t b m =
     let live = walk.after_statement f w in
     let so_far = with_kept before (statement_tree f w) in
     enough (λ z. omega arith) (statement_here closing c w before _ f reads m (λ u l n.

@@ -275,14 +275,15 @@ module _ {call : Histories} (ih : AllSound call) (closing : Closing) (c : Contex
     (before : node.Statements) (s : Point) where
   -- after a statement that does not end by itself
   separated_by : (f : Statement) (t : Point) → Fits (V.statement_begins closing) s → Passed (statements c w) f s t
-      → V.ends_itself (statement_tree f w) ≡ false → (v : AfterStatement) → V.after_statement closing (op_at t) ≡ v
+      → V.ends_itself (statement_tree f w) ≡ false → (v : AfterStatement)
+      → V.token_after_statement closing (op_at t) ≡ v
       → is_memory (op_at t) ≡ false
       → Goes call (statement_lists closing c w before) s
       (R.separated_at closing c (walk.after_statement f w) (with_kept before (statement_tree f w)) (op_at t) (pos_at t) v)
       t true
   separated_by f t begins G open_ after.SemiColon e m =
       take (ends (ih.of (R.Statements closing c (walk.after_statement f w) (with_kept before (statement_tree f w)))
-      (past code t) false) (form.Ended f (pos_at t))
+      (past code t) false) (form.WithSemicolon f (pos_at t))
       (λ v l. ap (λ fs. (fs, walk.after_statements l (walk.after_statement f w))) (sym (kept_statement before
       (statement_tree f w) (statement_trees l (walk.after_statement f w)))))
       (λ l k o r. begins ▹ G.on (ap not open_ ▹ separated closing t e ▹ r)))
@@ -306,7 +307,7 @@ module _ {call : Histories} (ih : AllSound call) (closing : Closing) (c : Contex
       (λ v l. ap (λ fs. (fs, walk.after_statements l (walk.after_statement f w))) (sym (kept_statement before
       (statement_tree f w) (statement_trees l (walk.after_statement f w)))))
       (λ l k o r. begins ▹ G.on (itself ▹ r)))
-      (λ open_. look (λ n. separated_by f t begins G open_ (V.after_statement closing (op_at t)) refl n)))
+      (λ open_. look (λ n. separated_by f t begins G open_ (V.token_after_statement closing (op_at t)) refl n)))
   list_by place.Nothing e m = refuse form.NoStatement (λ k. ill m (rw e))
 
   pub list_of : (b : Bool) → Goes call (statement_lists closing c w before) s (body (R.Statements closing c w before)) s b
