@@ -15,7 +15,7 @@ use Rattle.rhai_grammar.specs.Demands.{Fine, Wrong}
 use Rattle.rhai_grammar.specs.DueTokens.{is_due}
 use Rattle.rhai_grammar.specs.Forms as form
 use Rattle.rhai_grammar.specs.Forms.{Action, CaseGuard, Cases}
-use Rattle.rhai_grammar.specs.Kinds.{is_literal_value}
+use Rattle.rhai_grammar.specs.CaseValues.{is_literal_value}
 use Rattle.rhai_grammar.specs.Switches as S
 use Rattle.rhai_grammar.specs.Switches.{Collected, action_due, arm_begins, arm_fault, arm_place, case_fault, ends_arm, fault_from}
 use Rattle.rhai_grammar.specs.Switches.{has_ranges, is_integer, unguarded, with_arm_collected, with_case, with_default_collected}
