@@ -77,7 +77,7 @@ abbrev pub action_due : Lexeme → Verdict
 action_due (Sign token.EOF) = Wrong cause.UnexpectedEOF
 action_due _ = Fine
 
--- A statement after which an arm needs no comma: one that ends by itself, but not an empty one.
+-- The tree of a statement after which an arm needs no comma (`statement_ends_arm` of the form).
 abbrev pub ends_arm : node.Statement → Bool
 ends_arm (node.noop p) = false
 ends_arm f = ends_itself f
