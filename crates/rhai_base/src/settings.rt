@@ -3,7 +3,7 @@
 ghost use Rattle.std.specs.Prelude.{◌≡◌, ◌==◌, IfOk, false};
 ghost use Rattle.std.specs.Int.RustNames.{bit_and};
 ghost use Rattle.rhai_grammar.specs.Settings.{at_global_level, below_global_level, closure_settings};
-ghost use Rattle.rhai_grammar.specs.Settings.{function_settings, loop_body};
+ghost use Rattle.rhai_grammar.specs.Settings.{function_settings, loop_settings};
 ghost use Rattle.rhai_base.specs.Settings.{settings_of, IsDeeper, Raises, RaisesInRun};
 
 use crate::flags::{LangOptions, ParseSettingFlags};
@@ -91,7 +91,7 @@ impl ParseSettings {
 
     /// The settings in the body of a loop, which `break` and `continue` can leave. Does not allocate.
     pub fn loop_body(&self) -> Self
-        ensures settings { settings_of result ≡ loop_body (settings_of self.now) }
+        ensures settings { settings_of result ≡ loop_settings (settings_of self.now) }
         ensures position { result.pos ≡ self.now.pos }
     {
         ParseSettings {
