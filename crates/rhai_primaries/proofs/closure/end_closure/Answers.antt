@@ -60,9 +60,11 @@ returns-then-has-clause-gives c = λ language call.
     let copy : rc_str_bytes c.in_ok-key.key.name ≡ rc_str_bytes c.in_ok-clone-2.field-0 = search rules in
     let k = Know (closure_added at e x) in
     let uses : exec call (captured_on us context w k) s ≡ exec call k t =
-    ap (λ xs. exec call (captured_on (uses_of xs) context w k) s) (sym c.deref.ensures.value) ∙ c.in_ok-use_captured.ensures.uses language call k in
-    (λ told. uses ∙ not_added call at e x t there ∙ ap (λ (f : Ended). Refused (duplicate_of f.key at) t) (sym is)
-    ∙ ap (λ n. Refused (refusal (cause.FnDuplicatedDefinition n c.in_ok-key.key.params) at) t) copy, search rules)
+    ap (λ xs. exec call (captured_on (uses_of xs) context w k) s) (sym c.deref.ensures.value) ∙ c.in_ok-use_captured.ensures.uses language call k in (
+      λ told. uses ∙ not_added call at e x t there ∙ ap (λ (f : Ended). Refused (duplicate_of f.key at) t) (sym is)
+          ∙ ap (λ n. Refused (refusal (cause.FnDuplicatedDefinition n c.in_ok-key.key.params) at) t) copy,
+      search rules,
+    )
 
 pub returns-clause-ends : goal.returns-clause-ends
 returns-clause-ends c =
