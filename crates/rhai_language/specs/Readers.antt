@@ -201,6 +201,9 @@ abbrev pub cases : LanguageValue → FrameValue → ParseSettings → (before : 
 cases language frame settings before =
     reading.Cases (context_of language frame settings) (live_of frame) before
 
+abbrev pub case : LanguageValue → FrameValue → ParseSettings → Goal
+case language frame settings = reading.Case (context_of language frame settings) (live_of frame)
+
 -- the guard of an arm, if it has one
 abbrev pub case_guard : LanguageValue → FrameValue → ParseSettings → Goal
 case_guard language frame settings = reading.CaseGuard (context_of language frame settings) (live_of frame)
