@@ -27,8 +27,8 @@ function_room language settings =
     if at_global_level (settings_of settings) then 8 * language.max_function_expr_depth else 0
 
 -- What a reader leaves, whatever it answers. Where both depth limits are positive, at most eight readers for each level
--- that is left are active below it, and those that may stand on its own level, which are height; afterwards as many are
--- active as before. And a library that is orderly stays so.
+-- that is left are active below it, and those that may stand on its own level, which are height; afterwards no more are
+-- active than before. And a library that is orderly stays so.
 pub record Stays (language : LanguageValue) (frame : FrameValue) (settings : ParseSettings) (height : ℕ)
     (old new : Shared) : Type 0 where
   pub nesting : (most top : ℕ) → 1 ≤ settings.max_expr_depth → 1 ≤ language.max_function_expr_depth
