@@ -22,7 +22,11 @@ pub ruleset parse_items = (readers, step_items, views_push)
 
 pub ruleset parse_right_operand = (readers, nested_so, step_right_operand, view_unit, no_function)
 
-pub ruleset parse_binary_op = (readers, nested_so, step_binary_op)
+pub ruleset next_in_run = (calls_of_readers, step_binary_op)
+
+pub ruleset parse_right_side = (readers, nested_so)
+
+pub ruleset parse_binary_op = (readers)
 
 pub ruleset parse_call = (readers, nested_so, step_called, bang_refused)
 
