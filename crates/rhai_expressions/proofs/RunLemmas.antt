@@ -54,9 +54,9 @@ side_first call c w at parent lhs n s =
     let pos = (asked s).at in
     let behind = behind_side call c w parent lhs n in
     let raise : (x : Node) (u : Progress) → exec call (raised c at (λ d. Call (BinaryOp d w (position_of x) n x) (binary_next d w parent lhs op pos))) u ≡ R.and_then (exec call (raised c at (λ d. Ret (op, pos, x))) u) behind =
-        λ x u. where_room call (has_room c) (Call (BinaryOp (level_up c) w (position_of x) n x) (binary_next (level_up c) w parent lhs op pos)) (Ret (op, pos, x)) (refusal ExprTooDeep at) u behind refl in
+    λ x u. where_room call (has_room c) (Call (BinaryOp (level_up c) w (position_of x) n x) (binary_next (level_up c) w parent lhs op pos)) (Ret (op, pos, x)) (refusal ExprTooDeep at) u behind refl in
     let look : (x : Node) (t : Progress) → exec call (binary_right c w at parent lhs n op pos x) t ≡ R.and_then (exec call (Call (NextOperator c.filter) (λ next. raised c at (λ d. Ret (op, pos, x)))) t) behind =
-        λ x t. regrouped (call (NextOperator c.filter) t) _ (λ next u. exec call (raised c at (λ d. Ret (op, pos, x))) u) behind (λ next u. raise x u) in
+    λ x t. regrouped (call (NextOperator c.filter) t) _ (λ next u. exec call (raised c at (λ d. Ret (op, pos, x))) u) behind (λ next u. raise x u) in
     unless_out (is_memory op) (looking s) (looking s) _ _ behind
     (regrouped (nested (call (RightOperand c w (place_after op))) (taking s)) _ (λ x t. exec call (Call (NextOperator c.filter) (λ next. raised c at (λ d. Ret (op, pos, x)))) t) behind look)
 
@@ -91,14 +91,17 @@ module _ (language : LanguageValue) (frame : FrameValue) (start : ParseSettings)
   unfolding Waits
   fewer n m [] around inside less waits = waits
   fewer n m (p ∷ ps) around inside less waits =
-      let h = waits.1 in
-      (waits.0, record {
-        limit = h.limit;
-        less = h.less;
-        refused = h.refused;
-        joined = λ y z t short is. h.joined y z t (omega (arith, short, less)) is;
-        missed = h.missed;
-      }, fewer n m ps waits.0 inside less waits.2)
+      let h = waits.1 in (
+        waits.0,
+        record {
+          limit = h.limit;
+          less = h.less;
+          refused = h.refused;
+          joined = λ y z t short is. h.joined y z t (omega (arith, short, less)) is;
+          missed = h.missed;
+        },
+        fewer n m ps waits.0 inside less waits.2,
+      )
 
   one_more : (n : ℕ) (ps : List Pending) (p : Pending) (around inside new : R.Out Node → R.Out Node) → Waits n ps around inside → Stands language frame start n p inside new → Waits n (ps ++ p ∷ []) around new
   unfolding Waits

@@ -154,9 +154,20 @@ impl<R: LentReaders> ExprReader<'_, R> {
             let operator = next_in_run(alloc, frame.filter(), shared, parent)?;
             if let Some(operator) = operator {
                 let right = self.parse_right_side(shared, frame, settings)?;
-                let RightSide { op_token, pos, operand, deeper } = right;
+                let RightSide {
+                    op_token,
+                    pos,
+                    operand,
+                    deeper,
+                } = right;
                 let next = deeper.next;
-                pending.push(Pending { lhs, op_token, pos, parent, next })?;
+                pending.push(Pending {
+                    lhs,
+                    op_token,
+                    pos,
+                    parent,
+                    next,
+                })?;
                 settings = deeper.side.at(operand.position());
                 parent = operator.strength;
                 lhs = operand;

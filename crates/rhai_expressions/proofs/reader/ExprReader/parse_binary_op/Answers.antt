@@ -90,8 +90,7 @@ returns-in_default-pop-clause-reads g c =
 
 pub returns-in-Err-clause-reads : goal.returns-in-Err-clause-reads
 returns-in-Err-clause-reads g c =
-    let last : c.loop-pending.pending.items ≡ c.pop.new.self.items ++ c.in-Some-pop.around ∷ [] = c.in-Some-pop.ensures.items in
-    (
+    let last : c.loop-pending.pending.items ≡ c.pop.new.self.items ++ c.in-Some-pop.around ∷ [] = c.in-Some-pop.ensures.items in (
       λ told. popped_refused c.loop-pending.invariant.awaits _ _ _ _ last (ended g (goal.at.returns-in-Err-clause-reads g c).In_default) (c.in-Err.ensures.answers told),
       c.in-Err.ensures.nowhere,
     )
