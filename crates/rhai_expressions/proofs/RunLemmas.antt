@@ -14,7 +14,7 @@ use Rattle.rhai_grammar.specs.Starts.{place_after}
 use Rattle.rhai_base.specs.Frames.{FrameValue}
 use Rattle.rhai_base.specs.Settings.{levels_left, settings_of}
 use Rattle.rhai_base.specs.declared.settings.ParseSettings.{ParseSettings}
-use Rattle.rhai_reading.specs.Reading.{BinaryOp, Call, Fail, NextOperator, Peek, Prog, Ret, RightOperand, Take, binary_next, binary_on, binary_right, raised}
+use Rattle.rhai_reading.specs.Reading.{BinaryOp, Call, Fail, NextOperator, Peek, Prog, Ret, RightOperand, binary_next, binary_on, binary_right, raised}
 use Rattle.rhai_reading.specs.Running as R
 use Rattle.rhai_reading.specs.Running.{Caller, Progress, asked, exec, guarded, looking, nested, result_of, taking}
 use Rattle.rhai_reading.proofs.Outcomes.{binary_done, binary_refused}

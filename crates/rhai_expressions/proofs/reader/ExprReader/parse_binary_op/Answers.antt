@@ -1,4 +1,4 @@
-use Rattle.std.proofs.Common.{rules, ap, arith, refl, sym, ◌∙◌, ◌≡◌, ◌++◌, ◌∷◌, [], None, Some}
+use Rattle.std.proofs.Common.{rules, ap, arith, sym, ◌∙◌, ◌≡◌, ◌++◌, ◌∷◌, [], None}
 use Rattle.std.proofs.lemmas.Result.{err_from_is_err_and}
 use Rattle.rhai_ast.specs.View.{view}
 use Rattle.rhai_reading.specs.Reading.{BinaryOp, Peek, binary_on}
