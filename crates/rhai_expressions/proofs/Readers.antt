@@ -24,7 +24,7 @@ pub ruleset parse_right_operand = (readers, nested_so, step_right_operand, view_
 
 pub ruleset next_in_run = (calls_of_readers, step_binary_op)
 
-pub ruleset parse_right_side = (readers, nested_so)
+pub ruleset parse_operator = (readers, nested_so)
 
 pub ruleset parse_binary_op = (readers)
 

@@ -14,7 +14,7 @@ use Rattle.rhai_grammar.specs.Starts.{place_after}
 use Rattle.rhai_base.specs.Frames.{FrameValue}
 use Rattle.rhai_base.specs.Settings.{levels_left, settings_of}
 use Rattle.rhai_base.specs.declared.settings.ParseSettings.{ParseSettings}
-use Rattle.rhai_reading.specs.Reading.{BinaryOp, Call, Fail, NextOperator, Peek, Prog, Ret, RightOperand, Take, binary_next, binary_on, binary_right, raised}
+use Rattle.rhai_reading.specs.Reading.{BinaryOp, Call, Fail, NextOperator, Peek, Prog, Ret, RightOperand, binary_next, binary_on, binary_right, raised}
 use Rattle.rhai_reading.specs.Running as R
 use Rattle.rhai_reading.specs.Running.{Caller, Progress, asked, exec, guarded, looking, nested, result_of, taking}
 use Rattle.rhai_reading.proofs.Outcomes.{binary_done, binary_refused}
@@ -72,12 +72,12 @@ right_refused c w at parent lhs n s s1 t e found reads =
 -- What the reading program makes of what the run on the right of an operator gives, where that leaves no more than a
 -- bound: the operator joins it, and the run around goes on.
 pub record Stands (language : LanguageValue) (frame : FrameValue) (start : ParseSettings) (bound : ℕ) (p : Pending) (around inside : R.Out Node → R.Out Node) : Type 0 where
-  pub limit : p.next.max_expr_depth ≡ start.max_expr_depth
-  pub less : 1 ≤ start.max_expr_depth → levels_left p.next ≤ levels_left start
+  pub limit : p.around.settings.max_expr_depth ≡ start.max_expr_depth
+  pub less : 1 ≤ start.max_expr_depth → levels_left p.around.settings ≤ levels_left start
   pub refused : (e : Refusal) (t : Progress) → inside (R.Refused e t) ≡ around (R.Refused e t)
-  pub joined : (y z : Node) (t : Progress) → left t.cursor.tokens ≤ bound → operator_result (lexeme p.op_token) p.pos (view p.lhs) y ≡ Ok z
-      → inside (R.Done y t) ≡ around (result_of (binary_op language frame p.next p.next.pos p.parent z) t)
-  pub missed : (y : Node) (e : Refusal) (t : Progress) → operator_result (lexeme p.op_token) p.pos (view p.lhs) y ≡ Err e
+  pub joined : (y z : Node) (t : Progress) → left t.cursor.tokens ≤ bound → operator_result (lexeme p.op_token) p.pos (view p.around.lhs) y ≡ Ok z
+      → inside (R.Done y t) ≡ around (result_of (binary_op language frame p.around.settings p.around.settings.pos p.around.parent z) t)
+  pub missed : (y : Node) (e : Refusal) (t : Progress) → operator_result (lexeme p.op_token) p.pos (view p.around.lhs) y ≡ Err e
       → inside (R.Done y t) ≡ around (R.Refused e t)
 
 module _ (language : LanguageValue) (frame : FrameValue) (start : ParseSettings) where
@@ -138,21 +138,22 @@ nothing_waits {language} {frame} {start} {c} {bound} {ps} {at} parent lhs s none
 
 -- From s the operator of p comes next, and x is the operand after it; t is left, and the run that x begins has these
 -- settings.
-pub record Pushes (language : LanguageValue) (frame : FrameValue) (start settings side : ParseSettings) (parent n : ℕ) (x : Node) (p : Pending) (s s1 t : Progress) : Type 0 where
-  pub found : result_of (binary_op language frame settings settings.pos parent (view p.lhs)) s
-      ≡ exec (guarded (binary_op language frame settings settings.pos parent (view p.lhs)) s) (Peek (binary_on (context_of language frame settings) (live_of frame) settings.pos parent (view p.lhs) n)) s1
-  pub reads : exec (guarded (binary_op language frame settings settings.pos parent (view p.lhs)) s) (right_side (context_of language frame settings) (live_of frame) settings.pos) s1
+pub record Pushes (language : LanguageValue) (frame : FrameValue) (start settings side : ParseSettings) (parent : ℕ) (lhs : Node) (n : ℕ) (x : Node) (p : Pending) (s s1 t : Progress) : Type 0 where
+  pub found : result_of (binary_op language frame settings settings.pos parent lhs) s
+      ≡ exec (guarded (binary_op language frame settings settings.pos parent lhs) s) (Peek (binary_on (context_of language frame settings) (live_of frame) settings.pos parent lhs n)) s1
+  pub reads : exec (guarded (binary_op language frame settings settings.pos parent lhs) s) (right_side (context_of language frame settings) (live_of frame) settings.pos) s1
       ≡ R.Done (lexeme p.op_token, p.pos, x) t
   pub short : left t.cursor.tokens + 1 ≤ left s.cursor.tokens
-  pub outer : p.parent ≡ parent
+  pub left_side : view p.around.lhs ≡ lhs
+  pub outer : p.around.parent ≡ parent
   pub side_raised : settings_of side ≡ level_up_settings (settings_of settings)
   pub side_at : side.pos ≡ position_of x
-  pub next_raised : settings_of p.next ≡ level_up_settings (settings_of settings)
-  pub next_at : p.next.pos ≡ p.pos
-  pub limit : p.next.max_expr_depth ≡ start.max_expr_depth
-  pub less : 1 ≤ start.max_expr_depth → levels_left p.next ≤ levels_left start
+  pub next_raised : settings_of p.around.settings ≡ level_up_settings (settings_of settings)
+  pub next_at : p.around.settings.pos ≡ p.pos
+  pub limit : p.around.settings.max_expr_depth ≡ start.max_expr_depth
+  pub less : 1 ≤ start.max_expr_depth → levels_left p.around.settings ≤ levels_left start
 
-module _ {language : LanguageValue} {frame : FrameValue} {start settings side : ParseSettings} {parent n : ℕ} {x : Node} {p : Pending} {s s1 t : Progress} (h : Pushes language frame start settings side parent n x p s s1 t) where
+module _ {language : LanguageValue} {frame : FrameValue} {start settings side : ParseSettings} {parent : ℕ} {lhs : Node} {n : ℕ} {x : Node} {p : Pending} {s s1 t : Progress} (h : Pushes language frame start settings side parent lhs n x p s s1 t) where
   c : Context
   c = context_of language frame settings
 
@@ -160,36 +161,36 @@ module _ {language : LanguageValue} {frame : FrameValue} {start settings side : 
   w = live_of frame
 
   call : Caller
-  call = guarded (BinaryOp c w settings.pos parent (view p.lhs)) s
+  call = guarded (BinaryOp c w settings.pos parent lhs) s
 
   -- what the run around makes of what the run on the right gives
   behind : R.Out Node → R.Out Node
-  behind o = R.and_then o (λ v u. exec call (binary_next (level_up c) w parent (view p.lhs) (lexeme p.op_token) p.pos v) u)
+  behind o = R.and_then o (λ v u. exec call (binary_next (level_up c) w parent lhs (lexeme p.op_token) p.pos v) u)
 
-  side_read : result_of (binary_op language frame settings settings.pos parent (view p.lhs)) s ≡ behind (result_of (binary_op language frame side side.pos n x) t)
+  side_read : result_of (binary_op language frame settings settings.pos parent lhs) s ≡ behind (result_of (binary_op language frame side side.pos n x) t)
   unfolding c w call behind
   side_read =
       let same : context_of language frame side ≡ level_up c = ap (under language frame) h.side_raised in
       h.found
-      ∙ side_first call c w settings.pos parent (view p.lhs) n s1
-      ∙ ap (λ o. R.and_then o (behind_side call c w parent (view p.lhs) n)) h.reads
-      ∙ ap behind (guarded_is (BinaryOp c w settings.pos parent (view p.lhs)) s (BinaryOp (level_up c) w (position_of x) n x) t (let short = h.short in omega (arith, short)))
+      ∙ side_first call c w settings.pos parent lhs n s1
+      ∙ ap (λ o. R.and_then o (behind_side call c w parent lhs n)) h.reads
+      ∙ ap behind (guarded_is (BinaryOp c w settings.pos parent lhs) s (BinaryOp (level_up c) w (position_of x) n x) t (let short = h.short in omega (arith, short)))
       ∙ ap (λ (q : Position). behind (result_of (BinaryOp (level_up c) w q n x) t)) (sym h.side_at)
       ∙ ap (λ (d : Context). behind (result_of (BinaryOp d w side.pos n x) t)) (sym same)
 
-  joined_so : (y z : Node) (u : Progress) → left u.cursor.tokens ≤ left t.cursor.tokens → operator_result (lexeme p.op_token) p.pos (view p.lhs) y ≡ Ok z
-      → behind (R.Done y u) ≡ result_of (binary_op language frame p.next p.next.pos p.parent z) u
+  joined_so : (y z : Node) (u : Progress) → left u.cursor.tokens ≤ left t.cursor.tokens → operator_result (lexeme p.op_token) p.pos (view p.around.lhs) y ≡ Ok z
+      → behind (R.Done y u) ≡ result_of (binary_op language frame p.around.settings p.around.settings.pos p.around.parent z) u
   unfolding c w call behind
   joined_so y z u less is =
-      let same : context_of language frame p.next ≡ level_up c = ap (under language frame) h.next_raised in
-      let g = BinaryOp c w settings.pos parent (view p.lhs) in
+      let same : context_of language frame p.around.settings ≡ level_up c = ap (under language frame) h.next_raised in
+      let g = BinaryOp c w settings.pos parent lhs in
       let on = BinaryOp (level_up c) w p.pos parent z in
-      binary_done call (level_up c) w parent (view p.lhs) (lexeme p.op_token) p.pos y z u is
+      binary_done call (level_up c) w parent lhs (lexeme p.op_token) p.pos y z u (ap (λ m. operator_result (lexeme p.op_token) p.pos m y) (sym h.left_side) ∙ is)
       ∙ and_then_done (call on u)
       ∙ guarded_is g s on u (let short = h.short in omega (arith, short, less))
       ∙ ap (λ (q : Position). result_of (BinaryOp (level_up c) w q parent z) u) (sym h.next_at)
-      ∙ ap (λ (m : ℕ). result_of (BinaryOp (level_up c) w p.next.pos m z) u) (sym h.outer)
-      ∙ ap (λ (d : Context). result_of (BinaryOp d w p.next.pos p.parent z) u) (sym same)
+      ∙ ap (λ (m : ℕ). result_of (BinaryOp (level_up c) w p.around.settings.pos m z) u) (sym h.outer)
+      ∙ ap (λ (d : Context). result_of (BinaryOp d w p.around.settings.pos p.around.parent z) u) (sym same)
 
   stands : (inside : R.Out Node → R.Out Node) → Stands language frame start (left t.cursor.tokens) p inside (λ o. inside (behind o))
   unfolding c w call behind
@@ -198,10 +199,10 @@ module _ {language : LanguageValue} {frame : FrameValue} {start settings side : 
     less = h.less;
     refused = λ e u. refl;
     joined = λ y z u less is. ap inside (joined_so y z u less is);
-    missed = λ y e u is. ap inside (binary_refused call (level_up c) w parent (view p.lhs) (lexeme p.op_token) p.pos y e u is);
+    missed = λ y e u is. ap inside (binary_refused call (level_up c) w parent lhs (lexeme p.op_token) p.pos y e u (ap (λ m. operator_result (lexeme p.op_token) p.pos m y) (sym h.left_side) ∙ is));
   }
 
-  pub pushed : {ps qs : List Pending} {whole : R.Out Node} → Awaits language frame start (left s.cursor.tokens) ps whole (result_of (binary_op language frame settings settings.pos parent (view p.lhs)) s) → qs ≡ ps ++ p ∷ []
+  pushed : {ps qs : List Pending} {whole : R.Out Node} → Awaits language frame start (left s.cursor.tokens) ps whole (result_of (binary_op language frame settings settings.pos parent lhs) s) → qs ≡ ps ++ p ∷ []
       → Awaits language frame start (left t.cursor.tokens) qs whole (result_of (binary_op language frame side side.pos n x) t)
   pushed {ps} {qs} {whole} a e =
       let inside : R.Out Node → R.Out Node = λ o. a.inside (behind o) in
@@ -212,6 +213,11 @@ module _ {language : LanguageValue} {frame : FrameValue} {start settings side : 
         waits = subst (λ rs. Waits language frame start (left t.cursor.tokens) rs (λ o. o) inside) (sym e) more;
         same = a.same ∙ ap a.inside side_read;
       }
+
+  pub pushed_as : {ps qs : List Pending} {whole : R.Out Node} {m : ℕ} → m ≡ n → Awaits language frame start (left s.cursor.tokens) ps whole (result_of (binary_op language frame settings settings.pos parent lhs) s) → qs ≡ ps ++ p ∷ []
+      → Awaits language frame start (left t.cursor.tokens) qs whole (result_of (binary_op language frame side side.pos m x) t)
+  pushed_as {ps} {qs} {whole} same a e =
+      subst (λ k. Awaits language frame start (left t.cursor.tokens) qs whole (result_of (binary_op language frame side side.pos k x) t)) (sym same) (pushed a e)
 
 module _ {language : LanguageValue} {frame : FrameValue} {start : ParseSettings} {bound : ℕ} {ps : List Pending} {whole now : R.Out Node} (a : Awaits language frame start bound ps whole now) where
   pub awaits_refused : {e : Refusal} {t : Progress} → now ≡ R.Refused e t → whole ≡ R.Refused e t
@@ -227,19 +233,25 @@ module _ {language : LanguageValue} {frame : FrameValue} {start : ParseSettings}
     last : (inside : R.Out Node → R.Out Node) × Waits language frame start bound qs (λ o. o) inside × Stands language frame start bound p inside a.inside
     last = one_less language frame start bound qs p (λ o. o) a.inside (subst (λ rs. Waits language frame start bound rs (λ o. o) a.inside) e a.waits)
 
-    pub popped : {z : Node} → left t.cursor.tokens ≤ bound → operator_result (lexeme p.op_token) p.pos (view p.lhs) y ≡ Ok z
-        → Awaits language frame start (left t.cursor.tokens) qs whole (result_of (binary_op language frame p.next p.next.pos p.parent z) t)
+    popped : {z : Node} → left t.cursor.tokens ≤ bound → operator_result (lexeme p.op_token) p.pos (view p.around.lhs) y ≡ Ok z
+        → Awaits language frame start (left t.cursor.tokens) qs whole (result_of (binary_op language frame p.around.settings p.around.settings.pos p.around.parent z) t)
     popped {z} less joined = record {
       inside = last.0;
       waits = fewer language frame start bound (left t.cursor.tokens) qs (λ o. o) last.0 less last.1;
       same = a.same ∙ ap a.inside is ∙ last.2.joined y z t less joined;
     }
 
-    pub popped_refused : {r : Refusal} → operator_result (lexeme p.op_token) p.pos (view p.lhs) y ≡ Err r → whole ≡ R.Refused r t
+    pub popped_as : {z : Node} {d : ParseSettings} {m : ℕ} → d ≡ p.around.settings → m ≡ p.around.parent → left t.cursor.tokens ≤ bound → operator_result (lexeme p.op_token) p.pos (view p.around.lhs) y ≡ Ok z
+        → Awaits language frame start (left t.cursor.tokens) qs whole (result_of (binary_op language frame d d.pos m z) t)
+    popped_as {z} {d} {m} settings parent less joined =
+        subst (λ k. Awaits language frame start (left t.cursor.tokens) qs whole (result_of (binary_op language frame d d.pos k z) t)) (sym parent)
+        (subst (λ (f : ParseSettings). Awaits language frame start (left t.cursor.tokens) qs whole (result_of (binary_op language frame f f.pos p.around.parent z) t)) (sym settings) (popped less joined))
+
+    pub popped_refused : {r : Refusal} → operator_result (lexeme p.op_token) p.pos (view p.around.lhs) y ≡ Err r → whole ≡ R.Refused r t
     popped_refused {r} refused = a.same ∙ ap a.inside is ∙ last.2.missed y r t refused ∙ all_refused language frame start bound qs (λ o. o) last.0 last.1 r t
 
-    pub popped_limit : p.next.max_expr_depth ≡ start.max_expr_depth
+    pub popped_limit : p.around.settings.max_expr_depth ≡ start.max_expr_depth
     popped_limit = last.2.limit
 
-    pub popped_less : 1 ≤ start.max_expr_depth → levels_left p.next ≤ levels_left start
+    pub popped_less : 1 ≤ start.max_expr_depth → levels_left p.around.settings ≤ levels_left start
     popped_less = last.2.less

@@ -8,7 +8,8 @@ use Rattle.rhai_grammar.specs.Contexts.{Context, Live}
 use Rattle.rhai_grammar.specs.Starts.{place_after}
 use Rattle.rhai_reading.specs.Reading.{Call, NextOperator, Peek, Prog, Ret, RightOperand, Take, binary_on, raised}
 use Rattle.rhai_leaves.specs.declared.operators.Operator.{Operator}
-use Rattle.rhai_expressions.specs.declared.runs.RightSide.{RightSide}
+use Rattle.rhai_expressions.specs.declared.runs.Pending.{Pending}
+use Rattle.rhai_expressions.specs.declared.runs.Run.{Run}
 
 -- how a run goes on, by the operator of it that comes next, if one does
 abbrev pub run_at : Context → Live → Position → ℕ → Node → Option Operator → Prog Node
@@ -22,5 +23,5 @@ right_side context live at =
     Peek (λ op pos. Take (Call (RightOperand context live (place_after op)) (λ rhs.
     Call (NextOperator context.filter) (λ next. raised context at (λ deeper. Ret (op, pos, rhs))))))
 
-abbrev pub side_view : RightSide → Lexeme × Position × Node
-side_view side = (lexeme side.op_token, side.pos, view side.operand)
+abbrev pub side_view : Pending × Run → Lexeme × Position × Node
+side_view r = (lexeme r.0.op_token, r.0.pos, view r.1.lhs)
