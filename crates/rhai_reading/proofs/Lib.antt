@@ -28,7 +28,6 @@ pub mod Sound
 pub mod Main
 pub mod DepthMain
 pub mod Outcomes
-pub mod RunSteps
 pub mod WordSteps
 pub mod PathSteps
 pub mod TextSteps
