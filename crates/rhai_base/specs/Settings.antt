@@ -1,5 +1,5 @@
 -- The settings of the code as the definitions see them, what a raise of the level makes of them, and what they refuse.
-use Rattle.std.specs.Prelude.{◌≡◌, ℕ, true, false, Result, Ok, Err, refl}
+use Rattle.std.specs.Prelude.{◌≡◌, ◌+◌, ◌-◌, ◌≤◌, ℕ, true, false, Result, Ok, Err, refl}
 use Rattle.rhai_lower.specs.Positions.{place}
 use Rattle.rhai_lower.specs.declared.position.Position.{Position}
 use Rattle.rhai_grammar.specs.declared.error.ParseErrorType.TheVariants as error
@@ -43,6 +43,20 @@ Raises c at (Err e) = (has_room (settings_of c) ≡ false) × (e ≡ too_deep c.
 abbrev pub RaisesInRun : ParseSettings → Position → Result RunSettings ParseError → Type 0
 RaisesInRun c at (Ok d) = Raises c c.pos (Ok d.side) × Raises c at (Ok d.next)
 RaisesInRun c at (Err e) = Raises c c.pos (Err e)
+
+-- the levels that are left under a limit
+unfoldable pub gap : (limit level : ℕ) → ℕ
+gap limit level = limit - level
+
+abbrev pub levels_left : ParseSettings → ℕ
+levels_left c = gap c.max_expr_depth c.level
+
+-- These settings are one level deeper than those: the limit and the flags are the same, and under a limit fewer levels
+-- are left.
+pub record IsDeeper (c d : ParseSettings) : Type 0 where
+  pub limit : d.max_expr_depth ≡ c.max_expr_depth
+  pub flags : d.flags ≡ c.flags
+  pub less : 1 ≤ c.max_expr_depth → levels_left d + 1 ≤ levels_left c
 
 -- no flags and no options
 abbrev bare : (level limit : ℕ) → Position → ParseSettings

@@ -11,7 +11,7 @@ use Rattle.rhai_grammar.specs.Beginnings.{is_this, may_be_called}
 use Rattle.rhai_grammar.specs.Causes as cause
 use Rattle.rhai_grammar.specs.Causes.{Refusal, refusal}
 use Rattle.rhai_grammar.specs.Contexts.{Known}
-use Rattle.rhai_grammar.specs.Settings.{Settings, in_function}
+use Rattle.rhai_grammar.specs.Settings.{Settings, is_in_function}
 use Rattle.rhai_grammar.specs.Libraries.{Library, is_function}
 use Rattle.rhai_grammar.specs.Slots.{number}
 use Rattle.rhai_grammar.specs.Trees.{name_tree, variable_of}
@@ -23,7 +23,7 @@ no_this word at = refusal (cause.BadInput (cause.ImproperSymbol word)) at
 abbrev pub word_result : Settings → Text → (called : Bool) → Position → Result Node Refusal
 word_result c word called at =
     if may_be_called word && called then Ok (variable_of None word at) else
-    if is_this word then (if in_function c then Ok (this at) else Err (no_this word at)) else
+    if is_this word then (if is_in_function c then Ok (this at) else Err (no_this word at)) else
     Err (refusal (cause.Reserved word) at)
 
 -- A name: under strict variables it has to be known, if it is used as a variable. `excluded` says that it is no use of

@@ -1,9 +1,10 @@
 //! The settings under which a construct is parsed.
 
-ghost use Rattle.std.specs.Prelude.{◌≡◌, ◌==◌};
+ghost use Rattle.std.specs.Prelude.{◌≡◌, ◌==◌, IfOk, false};
 ghost use Rattle.std.specs.Int.RustNames.{bit_and};
-ghost use Rattle.rhai_grammar.specs.Settings.{below_global_level, closure_settings, function_settings, loop_body};
-ghost use Rattle.rhai_base.specs.Settings.{settings_of, Raises, RaisesInRun};
+ghost use Rattle.rhai_grammar.specs.Settings.{at_global_level, below_global_level, closure_settings};
+ghost use Rattle.rhai_grammar.specs.Settings.{function_settings, loop_settings};
+ghost use Rattle.rhai_base.specs.Settings.{settings_of, IsDeeper, Raises, RaisesInRun};
 
 use crate::flags::{LangOptions, ParseSettingFlags};
 use bitflags::Flags;
@@ -52,16 +53,18 @@ impl ParseSettings {
     /// The settings one level deeper; the level saturates at the greatest `usize`. If there is a limit and the level
     /// has reached it, the error is `ExprTooDeep` at the settings' position. Does not allocate.
     pub fn level_up(&self) -> ParseResult<Self>
-        ensures { Raises self.now self.now.pos result }
+        ensures raises { Raises self.now self.now.pos result }
+        ensures deeper { IfOk result (λ d. IsDeeper self.now d) }
     {
         self.level_up_with_position(self.pos)
     }
 
     /// The settings one level deeper, as from `level_up`, at position `pos`. An error has the old position. Does not
     /// allocate.
-    #[tactic(auto, unfolding(rhai_grammar::specs::Settings::one_more))]
+    #[tactic(auto, unfolding(rhai_grammar::specs::Settings::one_more, crate::specs::Settings::gap))]
     pub fn level_up_with_position(&self, pos: Position) -> ParseResult<Self>
-        ensures { Raises self.now pos result }
+        ensures raises { Raises self.now pos result }
+        ensures deeper { IfOk result (λ d. IsDeeper self.now d) }
     {
         if self.max_expr_depth > 0 && self.level >= self.max_expr_depth {
             return Err(ParseError(ParseErrorType::ExprTooDeep, self.pos));
@@ -76,7 +79,8 @@ impl ParseSettings {
     /// The settings after an operator at `pos`: those of its right side are one level deeper, at the old position, and
     /// those of the operators that follow it are as deep, at `pos`. An error is that of `level_up`. Does not allocate.
     pub fn level_up_in_run(&self, pos: Position) -> ParseResult<RunSettings>
-        ensures { RaisesInRun self.now pos result }
+        ensures raises { RaisesInRun self.now pos result }
+        ensures deeper { IfOk result (λ d. IsDeeper self.now d.side × IsDeeper self.now d.next) }
     {
         let side = self.level_up()?;
         Ok(RunSettings {
@@ -87,7 +91,7 @@ impl ParseSettings {
 
     /// The settings in the body of a loop, which `break` and `continue` can leave. Does not allocate.
     pub fn loop_body(&self) -> Self
-        ensures settings { settings_of result ≡ loop_body (settings_of self.now) }
+        ensures settings { settings_of result ≡ loop_settings (settings_of self.now) }
         ensures position { result.pos ≡ self.now.pos }
     {
         ParseSettings {
@@ -99,6 +103,7 @@ impl ParseSettings {
     /// The settings below the global level of a script, where nothing is exported. Does not allocate.
     pub fn below_global_level(&self) -> Self
         ensures settings { settings_of result ≡ below_global_level (settings_of self.now) }
+        ensures below { at_global_level (settings_of result) ≡ false }
         ensures position { result.pos ≡ self.now.pos }
     {
         ParseSettings {
@@ -129,6 +134,7 @@ impl ParseSettings {
     /// keys of object maps have to be strings. Does not allocate.
     pub fn in_closure(&self, options: LangOptions) -> Self
         ensures settings { settings_of result ≡ closure_settings (settings_of self.now) options.0 }
+        ensures below { at_global_level (settings_of result) ≡ false }
         ensures position { result.pos ≡ self.now.pos }
     {
         let kept = ParseSettingFlags::DISALLOW_STATEMENTS_IN_BLOCKS

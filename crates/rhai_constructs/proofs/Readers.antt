@@ -2,6 +2,7 @@
 use Rattle.rhai_ast.proofs.Views.{view_unit, views_push}
 use Rattle.rhai_reading.proofs.Steps.{nested_so, step_action, step_arm, step_arms, step_braced, step_branch, step_case, step_case_guard, step_cases, step_conditional, step_construct, step_default_arm, step_guard, step_iterated}
 use Rattle.rhai_language.proofs.Readers.{readers}
+use Rattle.rhai_language.proofs.Rooms.{no_function}
 
 pub ruleset parse_construct = (readers, nested_so, step_construct)
 
@@ -39,4 +40,4 @@ pub ruleset parse_case = (readers, nested_so, step_case)
 
 pub ruleset parse_case_guard = (readers, nested_so, step_case_guard)
 
-pub ruleset parse_action = (readers, nested_so, step_action)
+pub ruleset parse_action = (readers, nested_so, step_action, no_function)

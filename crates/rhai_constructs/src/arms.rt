@@ -12,6 +12,7 @@ ghost use Rattle.rhai_reading.specs.Running.{Caller, Done, Gives, Out, Progress,
 ghost use Rattle.rhai_language.specs.Readers.{GoesOn, Reads, state_of, views_of};
 ghost use Rattle.rhai_constructs.specs.Switches.{action_view, arm_view};
 ghost use Rattle.rhai_statement_trees.specs.Switches.{collected_view};
+ghost use Rattle.rhai_language.specs.Rooms.{Steady};
 
 use rhai_ast::ast::SwitchCasesCollection;
 use rhai_ast::{Expr, Stmt};
@@ -71,6 +72,7 @@ pub(crate) fn end_statement_action(alloc: Global, statement: Stmt) -> ParseResul
 #[tactic(auto, using(rhai_reading::proofs::Steps::step_arm_end))]
 pub(crate) fn next_arm_end(alloc: Global, shared: &mut Shared<'_>, ends: bool) -> ParseResult<()>
     ensures goes_on { GoesOn shared.old shared.new }
+    ensures steady { Steady shared.old shared.new }
     ensures reads { Reads (ArmEnd ends) (λ u. tt) shared.old result shared.new }
 {
     arm_continues(alloc, shared.input, ends)
@@ -84,6 +86,7 @@ pub(crate) fn next_default_end(
     default: Position,
 ) -> ParseResult<()>
     ensures goes_on { GoesOn shared.old shared.new }
+    ensures steady { Steady shared.old shared.new }
     ensures reads { Reads (DefaultEnd default) (λ u. tt) shared.old result shared.new }
 {
     default_ends(alloc, shared.input, default)
@@ -99,6 +102,7 @@ pub(crate) fn end_arm(
     does: Action,
 ) -> ParseResult<Arm>
     ensures goes_on { GoesOn shared.old shared.new }
+    ensures steady { Steady shared.old shared.new }
     ensures gives { (call : Caller) → call (ArmEnd does.ends) (state_of shared.old)
         ≡ result_of (ArmEnd does.ends) (state_of shared.old)
         → Gives arm_view (exec call (arm_on (views_of cases) (view guard) (action_view does)
@@ -122,6 +126,7 @@ pub(crate) fn end_default(
     default: Position,
 ) -> ParseResult<Expr>
     ensures goes_on { GoesOn shared.old shared.new }
+    ensures steady { Steady shared.old shared.new }
     ensures gives { (call : Caller) → call (ArmEnd does.ends) (state_of shared.old)
         ≡ result_of (ArmEnd does.ends) (state_of shared.old)
         → ((t : Progress) → left t.cursor.tokens ≤ left (state_of shared.old).cursor.tokens

@@ -4,6 +4,7 @@ ghost use Rattle.rhai_ast.specs.View.{block_view, statement_view, view};
 ghost use Rattle.rhai_grammar.specs.declared.role.Construct.TheVariants.{Do, For, Loop, Try, While};
 ghost use Rattle.rhai_language.specs.Readers.{Covers, GoesOn, Reads, braced, branch, conditional, construct};
 ghost use Rattle.rhai_language.specs.Readers.{guard, iterated};
+ghost use Rattle.rhai_language.specs.Rooms.{Stays};
 
 use crate::control::{
     catch_frame, end_guard, end_iterated, loop_frame, next_catch, next_do_end, next_loop_names,
@@ -35,6 +36,7 @@ impl<R: LentReaders> ConstructReader<'_, R> {
         requires lent { Covers (R.lent self.now.readers) (construct self.now.language.now frame.now settings kind)
             shared.old }
         ensures goes_on { GoesOn shared.old shared.new }
+        ensures stays { Stays self.now.language.now frame.now settings 4 shared.old shared.new }
         ensures reads { Reads (construct self.now.language.now frame.now settings kind) statement_view shared.old
             result
             shared.new }
@@ -69,6 +71,7 @@ impl<R: LentReaders> ConstructReader<'_, R> {
         requires lent { Covers (R.lent self.now.readers) (conditional self.now.language.now frame.now settings)
             shared.old }
         ensures goes_on { GoesOn shared.old shared.new }
+        ensures stays { Stays self.now.language.now frame.now settings 2 shared.old shared.new }
         ensures reads { Reads (conditional self.now.language.now frame.now settings) statement_view shared.old result
             shared.new }
     {
@@ -91,6 +94,7 @@ impl<R: LentReaders> ConstructReader<'_, R> {
         requires lent { Covers (R.lent self.now.readers) (branch self.now.language.now frame.now settings)
             shared.old }
         ensures goes_on { GoesOn shared.old shared.new }
+        ensures stays { Stays self.now.language.now frame.now settings 1 shared.old shared.new }
         ensures reads { Reads (branch self.now.language.now frame.now settings) block_view shared.old result
             shared.new }
     {
@@ -118,6 +122,7 @@ impl<R: LentReaders> ConstructReader<'_, R> {
         requires lent { Covers (R.lent self.now.readers) (guard self.now.language.now frame.now settings)
             shared.old }
         ensures goes_on { GoesOn shared.old shared.new }
+        ensures stays { Stays self.now.language.now frame.now settings 1 shared.old shared.new }
         ensures reads { Reads (guard self.now.language.now frame.now settings) view shared.old result shared.new }
     {
         guard_begins(self.language.alloc(), shared.input)?;
@@ -138,6 +143,7 @@ impl<R: LentReaders> ConstructReader<'_, R> {
         requires lent { Covers (R.lent self.now.readers) (iterated self.now.language.now frame.now settings)
             shared.old }
         ensures goes_on { GoesOn shared.old shared.new }
+        ensures stays { Stays self.now.language.now frame.now settings 1 shared.old shared.new }
         ensures reads { Reads (iterated self.now.language.now frame.now settings) view shared.old result shared.new }
     {
         guard_begins(self.language.alloc(), shared.input)?;
@@ -159,6 +165,7 @@ impl<R: LentReaders> ConstructReader<'_, R> {
         requires lent { Covers (R.lent self.now.readers) (braced self.now.language.now frame.now settings)
             shared.old }
         ensures goes_on { GoesOn shared.old shared.new }
+        ensures stays { Stays self.now.language.now frame.now settings 0 shared.old shared.new }
         ensures reads { Reads (braced self.now.language.now frame.now settings) block_view shared.old result
             shared.new }
     {
@@ -181,6 +188,7 @@ impl<R: LentReaders> ConstructReader<'_, R> {
         requires lent { Covers (R.lent self.now.readers) (construct self.now.language.now frame.now settings
             While) shared.old }
         ensures goes_on { GoesOn shared.old shared.new }
+        ensures stays { Stays self.now.language.now frame.now settings 4 shared.old shared.new }
         ensures reads { Reads (construct self.now.language.now frame.now settings While) statement_view shared.old
             result
             shared.new }
@@ -204,6 +212,7 @@ impl<R: LentReaders> ConstructReader<'_, R> {
         requires lent { Covers (R.lent self.now.readers) (construct self.now.language.now frame.now settings Loop)
             shared.old }
         ensures goes_on { GoesOn shared.old shared.new }
+        ensures stays { Stays self.now.language.now frame.now settings 4 shared.old shared.new }
         ensures reads { Reads (construct self.now.language.now frame.now settings Loop) statement_view shared.old
             result
             shared.new }
@@ -231,6 +240,7 @@ impl<R: LentReaders> ConstructReader<'_, R> {
         requires lent { Covers (R.lent self.now.readers) (construct self.now.language.now frame.now settings Do)
             shared.old }
         ensures goes_on { GoesOn shared.old shared.new }
+        ensures stays { Stays self.now.language.now frame.now settings 4 shared.old shared.new }
         ensures reads { Reads (construct self.now.language.now frame.now settings Do) statement_view shared.old result
             shared.new }
     {
@@ -254,6 +264,7 @@ impl<R: LentReaders> ConstructReader<'_, R> {
         requires lent { Covers (R.lent self.now.readers) (construct self.now.language.now frame.now settings For)
             shared.old }
         ensures goes_on { GoesOn shared.old shared.new }
+        ensures stays { Stays self.now.language.now frame.now settings 4 shared.old shared.new }
         ensures reads { Reads (construct self.now.language.now frame.now settings For) statement_view shared.old
             result
             shared.new }
@@ -287,6 +298,7 @@ impl<R: LentReaders> ConstructReader<'_, R> {
         requires lent { Covers (R.lent self.now.readers) (construct self.now.language.now frame.now settings Try)
             shared.old }
         ensures goes_on { GoesOn shared.old shared.new }
+        ensures stays { Stays self.now.language.now frame.now settings 4 shared.old shared.new }
         ensures reads { Reads (construct self.now.language.now frame.now settings Try) statement_view shared.old
             result
             shared.new }

@@ -12,6 +12,7 @@ ghost use Rattle.rhai_reading.specs.Reading.{Catch, DoEnd, counted_on, first_of_
 ghost use Rattle.rhai_reading.specs.Running.{Caller, Gives, Progress, exec};
 ghost use Rattle.rhai_constructs.specs.Loops.{loop_names, loop_view};
 ghost use Rattle.rhai_language.specs.Readers.{GoesOn, Reads, name_view, state_of};
+ghost use Rattle.rhai_language.specs.Rooms.{Steady};
 
 use rhai_ast::Expr;
 use rhai_base::Frame;
@@ -44,6 +45,7 @@ fn end_counter(
     pos: Position,
 ) -> ParseResult<LoopNames>
     ensures goes_on { GoesOn shared.old shared.new }
+    ensures steady { Steady shared.old shared.new }
     ensures gives { (call : Caller) → Gives loop_view (exec call (counted_on (rc_str_bytes name)
         (rc_str_bytes counter) pos) (state_of shared.old)) result (state_of shared.new) }
 {
@@ -60,6 +62,7 @@ fn end_counter(
 // The variables of a `for` loop after their `(`.
 fn two_names(alloc: Global, shared: &mut Shared<'_>) -> ParseResult<LoopNames>
     ensures goes_on { GoesOn shared.old shared.new }
+    ensures steady { Steady shared.old shared.new }
     ensures gives { (call : Caller) → Gives loop_view (exec call (match_name first_of_two) (state_of shared.old))
         result (state_of shared.new) }
 {
@@ -74,6 +77,7 @@ fn two_names(alloc: Global, shared: &mut Shared<'_>) -> ParseResult<LoopNames>
 #[tactic(auto, using(rhai_reading::proofs::Steps::step_loop_names))]
 pub(crate) fn next_loop_names(alloc: Global, shared: &mut Shared<'_>) -> ParseResult<LoopNames>
     ensures goes_on { GoesOn shared.old shared.new }
+    ensures steady { Steady shared.old shared.new }
     ensures reads { Reads loop_names loop_view shared.old result shared.new }
 {
     if pass_token(shared.input, DueToken::LeftParen)? {
@@ -92,6 +96,7 @@ pub(crate) fn next_loop_names(alloc: Global, shared: &mut Shared<'_>) -> ParseRe
 #[tactic(auto, using(rhai_reading::proofs::Steps::step_do_end))]
 pub(crate) fn next_do_end(alloc: Global, shared: &mut Shared<'_>) -> ParseResult<bool>
     ensures goes_on { GoesOn shared.old shared.new }
+    ensures steady { Steady shared.old shared.new }
     ensures reads { Reads DoEnd (λ negated. negated) shared.old result shared.new }
     ensures shrinks { OnOk result (left (state_of shared.new).cursor.tokens + 1
         ≤ left (state_of shared.old).cursor.tokens) }
@@ -106,6 +111,7 @@ pub(crate) fn next_catch(
     shared: &mut Shared<'_>,
 ) -> ParseResult<Option<(RcStr, Position)>>
     ensures goes_on { GoesOn shared.old shared.new }
+    ensures steady { Steady shared.old shared.new }
     ensures reads { Reads Catch (option_map name_view) shared.old result shared.new }
 {
     match_token(
@@ -169,6 +175,7 @@ pub(crate) fn catch_frame<'f>(
 /// A guard, which is tested, with a look at what follows it: no `=`.
 pub(crate) fn end_guard(alloc: Global, shared: &mut Shared<'_>, guard: Expr) -> ParseResult<Expr>
     ensures goes_on { GoesOn shared.old shared.new }
+    ensures steady { Steady shared.old shared.new }
     ensures gives { (call : Caller) → Gives view (exec call (guard_on (view guard) (guard_fault (view guard)))
         (state_of shared.old)) result (state_of shared.new) }
 {

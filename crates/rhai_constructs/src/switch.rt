@@ -11,6 +11,7 @@ ghost use Rattle.rhai_language.specs.Readers.{construct};
 ghost use Rattle.rhai_language.specs.Readers.{default_arm, state_of, views_of};
 ghost use Rattle.rhai_constructs.specs.Switches.{action_view, arm_view};
 ghost use Rattle.rhai_statement_trees.specs.Switches.{collected_view};
+ghost use Rattle.rhai_language.specs.Rooms.{Stays};
 
 use crate::arms::{Action, Arm, as_case, end_arm, end_default, end_statement_action};
 use crate::reader::ConstructReader;
@@ -36,6 +37,7 @@ impl<R: LentReaders> ConstructReader<'_, R> {
         requires lent { Covers (R.lent self.now.readers) (construct self.now.language.now frame.now settings
             Switch) shared.old }
         ensures goes_on { GoesOn shared.old shared.new }
+        ensures stays { Stays self.now.language.now frame.now settings 4 shared.old shared.new }
         ensures reads { Reads (construct self.now.language.now frame.now settings Switch) statement_view shared.old
             result
             shared.new }
@@ -65,6 +67,7 @@ impl<R: LentReaders> ConstructReader<'_, R> {
         requires lent { Covers (R.lent self.now.readers) (arms self.now.language.now frame.now settings
             nothing_collected) shared.old }
         ensures goes_on { GoesOn shared.old shared.new }
+        ensures stays { Stays self.now.language.now frame.now settings 4 shared.old shared.new }
         ensures reads { Reads (arms self.now.language.now frame.now settings nothing_collected) collected_view
             shared.old result
             shared.new }
@@ -106,6 +109,7 @@ impl<R: LentReaders> ConstructReader<'_, R> {
         requires lent { Covers (R.lent self.now.readers) (arm self.now.language.now frame.now settings
             (collected_view before.now)) shared.old }
         ensures goes_on { GoesOn shared.old shared.new }
+        ensures stays { Stays self.now.language.now frame.now settings 3 shared.old shared.new }
         ensures reads { Reads (arm self.now.language.now frame.now settings (collected_view before.now)) arm_view
             shared.old result
             shared.new }
@@ -136,6 +140,7 @@ impl<R: LentReaders> ConstructReader<'_, R> {
         requires lent { Covers (R.lent self.now.readers) (default_arm self.now.language.now frame.now settings
             default) shared.old }
         ensures goes_on { GoesOn shared.old shared.new }
+        ensures stays { Stays self.now.language.now frame.now settings 3 shared.old shared.new }
         ensures reads { Reads (default_arm self.now.language.now frame.now settings default) view shared.old result
             shared.new }
     {
@@ -161,6 +166,7 @@ impl<R: LentReaders> ConstructReader<'_, R> {
         requires lent { Covers (R.lent self.now.readers) (cases self.now.language.now frame.now settings no_nodes)
             shared.old }
         ensures goes_on { GoesOn shared.old shared.new }
+        ensures stays { Stays self.now.language.now frame.now settings 2 shared.old shared.new }
         ensures reads { Reads (cases self.now.language.now frame.now settings no_nodes) views_of shared.old result
             shared.new }
     {
@@ -186,6 +192,7 @@ impl<R: LentReaders> ConstructReader<'_, R> {
         requires lent { Covers (R.lent self.now.readers) (case self.now.language.now frame.now settings)
             shared.old }
         ensures goes_on { GoesOn shared.old shared.new }
+        ensures stays { Stays self.now.language.now frame.now settings 1 shared.old shared.new }
         ensures reads { Reads (case self.now.language.now frame.now settings) view shared.old result shared.new }
     {
         let inner = frame.in_case(self.language.alloc());
@@ -206,6 +213,7 @@ impl<R: LentReaders> ConstructReader<'_, R> {
         requires lent { Covers (R.lent self.now.readers) (case_guard self.now.language.now frame.now settings)
             shared.old }
         ensures goes_on { GoesOn shared.old shared.new }
+        ensures stays { Stays self.now.language.now frame.now settings 2 shared.old shared.new }
         ensures reads { Reads (case_guard self.now.language.now frame.now settings) view shared.old result shared.new }
     {
         if !pass_token(shared.input, DueToken::If)? {
@@ -226,6 +234,7 @@ impl<R: LentReaders> ConstructReader<'_, R> {
         requires lent { Covers (R.lent self.now.readers) (action self.now.language.now frame.now settings)
             shared.old }
         ensures goes_on { GoesOn shared.old shared.new }
+        ensures stays { Stays self.now.language.now frame.now settings 2 shared.old shared.new }
         ensures reads { Reads (action self.now.language.now frame.now settings) action_view shared.old result
             shared.new }
     {

@@ -58,7 +58,7 @@ next_given f s t (Err e) found refused nowhere look readable = (
 
 -- ---- what a form stands in
 
-abbrev under : LanguageValue → FrameValue → Settings → Context
+abbrev pub under : LanguageValue → FrameValue → Settings → Context
 under language frame c = record {
   settings = c;
   options = language.options;

@@ -4,6 +4,7 @@ use Rattle.rhai_reading.proofs.Outcomes.{bang_refused, operand_other, operand_si
 use Rattle.rhai_reading.proofs.Steps.{nested_so, step_arguments, step_binary_op, step_called, step_expression, step_index, step_items, step_links, step_member, step_operand, step_path, step_postfix, step_right_operand}
 use Rattle.rhai_trees.proofs.ChainLemmas.{indexed_after, links_push}
 use Rattle.rhai_language.proofs.Readers.{calls_of_readers, readers}
+use Rattle.rhai_language.proofs.Rooms.{no_function}
 
 pub ruleset paths = (calls_of_readers, step_path)
 
@@ -19,9 +20,13 @@ pub ruleset parse_fn_call_args = (readers, step_arguments)
 
 pub ruleset parse_items = (readers, step_items, views_push)
 
-pub ruleset parse_right_operand = (readers, nested_so, step_right_operand, view_unit)
+pub ruleset parse_right_operand = (readers, nested_so, step_right_operand, view_unit, no_function)
 
-pub ruleset parse_binary_op = (readers, nested_so, step_binary_op)
+pub ruleset next_in_run = (calls_of_readers, step_binary_op)
+
+pub ruleset parse_operator = (readers, nested_so)
+
+pub ruleset parse_binary_op = (readers)
 
 pub ruleset parse_call = (readers, nested_so, step_called, bang_refused)
 

@@ -15,6 +15,7 @@ ghost use Rattle.rhai_reading.specs.Running.{Caller, Gives, Progress, asked, exe
 ghost use Rattle.rhai_language.specs.Readers.{GoesOn, Reads, state_of};
 ghost use Rattle.rhai_expressions.specs.Asks.{operator_pair};
 ghost use Rattle.rhai_expressions.specs.Views.{linked};
+ghost use Rattle.rhai_language.specs.Rooms.{Steady};
 
 use rhai_ast::Expr;
 use rhai_base::modules::test_module;
@@ -34,6 +35,7 @@ pub(crate) fn next_operator(
     shared: &mut Shared<'_>,
 ) -> ParseResult<Option<Operator>>
     ensures goes_on { GoesOn shared.old shared.new }
+    ensures steady { Steady shared.old shared.new }
     ensures reads { Reads (NextOperator filter) (option_map operator_pair) shared.old result shared.new }
     ensures after { state_of shared.new ≡ looking (state_of shared.old) }
     ensures some { IfOk result (λ o. IsSome o → is_end (asked (state_of shared.old)).lexeme ≡ false) }
@@ -50,6 +52,7 @@ pub(crate) fn end_index(
     index: Expr,
 ) -> ParseResult<Expr>
     ensures goes_on { GoesOn shared.old shared.new }
+    ensures steady { Steady shared.old shared.new }
     ensures gives { (call : Caller) → Gives view (exec call (index_on (view index)
         (index_refusal (option_map (λ x. view x.now) indexed.entry) (view index))) (state_of shared.old)) result
         (state_of shared.new) }

@@ -6,6 +6,7 @@ ghost use Rattle.rhai_grammar.specs.Delivered.{is_end};
 ghost use Rattle.rhai_reading.specs.Running.{asked};
 ghost use Rattle.rhai_language.specs.Readers.{Covers, GoesOn, Reads, called, index, links, member, state_of};
 ghost use Rattle.rhai_expressions.specs.Views.{call_view, linked};
+ghost use Rattle.rhai_language.specs.Rooms.{Stays};
 
 use crate::asks::end_index;
 use crate::reader::ExprReader;
@@ -36,6 +37,7 @@ impl<R: LentReaders> ExprReader<'_, R> {
         requires lent { Covers (R.lent self.now.readers) (called self.now.language.now frame.now settings
             qualified) shared.old }
         ensures goes_on { GoesOn shared.old shared.new }
+        ensures stays { Stays self.now.language.now frame.now settings 1 shared.old shared.new }
         ensures reads { Reads (called self.now.language.now frame.now settings qualified) call_view shared.old result
             shared.new }
     {
@@ -85,6 +87,7 @@ impl<R: LentReaders> ExprReader<'_, R> {
         requires lent { Covers (R.lent self.now.readers) (links self.now.language.now frame.now settings
             (view lhs.now)) shared.old }
         ensures goes_on { GoesOn shared.old shared.new }
+        ensures stays { Stays self.now.language.now frame.now settings 0 shared.old shared.new }
         ensures reads { Reads (links self.now.language.now frame.now settings (view lhs.now)) linked shared.old result
             shared.new }
     {
@@ -145,6 +148,7 @@ impl<R: LentReaders> ExprReader<'_, R> {
         requires lent { Covers (R.lent self.now.readers) (index self.now.language.now frame.now settings
             (option_map (λ x. view x.now) indexed)) shared.old }
         ensures goes_on { GoesOn shared.old shared.new }
+        ensures stays { Stays self.now.language.now frame.now settings 1 shared.old shared.new }
         ensures reads { Reads (index self.now.language.now frame.now settings (option_map (λ x.
             view x.now) indexed.entry)) view shared.old result shared.new }
     {
@@ -166,6 +170,7 @@ impl<R: LentReaders> ExprReader<'_, R> {
         requires lent { Covers (R.lent self.now.readers) (member self.now.language.now frame.now settings)
             shared.old }
         ensures goes_on { GoesOn shared.old shared.new }
+        ensures stays { Stays self.now.language.now frame.now settings 2 shared.old shared.new }
         ensures reads { Reads (member self.now.language.now frame.now settings) view shared.old result shared.new }
     {
         let (token, pos) = peek(shared.input)?;

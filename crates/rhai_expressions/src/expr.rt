@@ -1,15 +1,16 @@
-//! Expressions: operands with their signs and calls, joined by binary operators.
+//! Expressions: operands with their signs and calls.
 
 ghost use Rattle.std.specs.Prelude.{◌≡◌, false};
-ghost use Rattle.rhai_lower.specs.Nodes.{no_nodes, position_of};
+ghost use Rattle.rhai_lower.specs.Nodes.{no_nodes};
 ghost use Rattle.rhai_ast.specs.View.{view};
 ghost use Rattle.rhai_grammar.specs.Beginnings.{beginning, is_sign};
 ghost use Rattle.rhai_reading.specs.Running.{asked};
-ghost use Rattle.rhai_language.specs.Readers.{Covers, GoesOn, Reads, arguments, binary_op, expression, items};
+ghost use Rattle.rhai_language.specs.Readers.{Covers, GoesOn, Reads, arguments, expression, items};
 ghost use Rattle.rhai_language.specs.Readers.{operand, postfix};
 ghost use Rattle.rhai_language.specs.Readers.{right_operand, state_of, views_of};
+ghost use Rattle.rhai_language.specs.Rooms.{Stays};
 
-use crate::asks::{end_operand, next_operator};
+use crate::asks::end_operand;
 use crate::paths::{NamedOperand, named_operand};
 use crate::reader::ExprReader;
 use rhai_ast::Expr;
@@ -21,9 +22,9 @@ use rhai_language::{LentReaders, Shared, nested};
 use rhai_leaves::cursor::{peek, skip, take};
 use rhai_leaves::lists::{closes_list, list_continues};
 use rhai_leaves::refusals::missing;
-use rhai_leaves::tokens::{is_no_argument, is_sign, place_after, what_operand};
+use rhai_leaves::tokens::{is_no_argument, is_sign, what_operand};
 use rhai_statement_trees::make_statement_value;
-use rhai_trees::{make_binary, make_unary};
+use rhai_trees::make_unary;
 
 impl<R: LentReaders> ExprReader<'_, R> {
     /// Reads the path and what calls an operand, if it is a name. The module that the path begins at is tested after
@@ -39,6 +40,7 @@ impl<R: LentReaders> ExprReader<'_, R> {
         requires lent { Covers (R.lent self.now.readers) (postfix self.now.language.now frame.now settings
             (view operand)) shared.old }
         ensures goes_on { GoesOn shared.old shared.new }
+        ensures stays { Stays self.now.language.now frame.now settings 2 shared.old shared.new }
         ensures reads { Reads (postfix self.now.language.now frame.now settings (view operand)) view shared.old result
             shared.new }
     {
@@ -74,6 +76,7 @@ impl<R: LentReaders> ExprReader<'_, R> {
         requires lent { Covers (R.lent self.now.readers) (arguments self.now.language.now frame.now settings)
             shared.old }
         ensures goes_on { GoesOn shared.old shared.new }
+        ensures stays { Stays self.now.language.now frame.now settings 0 shared.old shared.new }
         ensures reads { Reads (arguments self.now.language.now frame.now settings) views_of shared.old result
             shared.new }
     {
@@ -101,6 +104,7 @@ impl<R: LentReaders> ExprReader<'_, R> {
         requires lent { Covers (R.lent self.now.readers) (items self.now.language.now frame.now settings no_nodes)
             shared.old }
         ensures goes_on { GoesOn shared.old shared.new }
+        ensures stays { Stays self.now.language.now frame.now settings 1 shared.old shared.new }
         ensures reads { Reads (items self.now.language.now frame.now settings no_nodes) views_of shared.old result
             shared.new }
     {
@@ -124,7 +128,7 @@ impl<R: LentReaders> ExprReader<'_, R> {
     /// Reads an operand after an operator. What it may be depends on its place: after a range operator it may be
     /// missing, and after `??` a jump may stand.
     #[tactic(auto, using(crate::proofs::Readers::parse_right_operand))]
-    fn parse_right_operand(
+    pub(crate) fn parse_right_operand(
         &self,
         shared: &mut Shared<'_>,
         frame: &Frame<'_>,
@@ -134,6 +138,7 @@ impl<R: LentReaders> ExprReader<'_, R> {
         requires lent { Covers (R.lent self.now.readers) (right_operand self.now.language.now frame.now settings
             place) shared.old }
         ensures goes_on { GoesOn shared.old shared.new }
+        ensures stays { Stays self.now.language.now frame.now settings 4 shared.old shared.new }
         ensures reads { Reads (right_operand self.now.language.now frame.now settings place) view shared.old result
             shared.new }
     {
@@ -165,6 +170,7 @@ impl<R: LentReaders> ExprReader<'_, R> {
         requires lent { Covers (R.lent self.now.readers) (operand self.now.language.now frame.now settings)
             shared.old }
         ensures goes_on { GoesOn shared.old shared.new }
+        ensures stays { Stays self.now.language.now frame.now settings 3 shared.old shared.new }
         ensures reads { Reads (operand self.now.language.now frame.now settings) view shared.old result shared.new }
     {
         let (token, _) = peek(shared.input)?;
@@ -190,6 +196,7 @@ impl<R: LentReaders> ExprReader<'_, R> {
         requires lent { Covers (R.lent self.now.readers) (operand self.now.language.now frame.now settings)
             shared.old }
         ensures goes_on { GoesOn shared.old shared.new }
+        ensures stays { Stays self.now.language.now frame.now settings 3 shared.old shared.new }
         ensures reads { Reads (operand self.now.language.now frame.now settings) view shared.old result shared.new }
     {
         peek(shared.input)?;
@@ -200,52 +207,6 @@ impl<R: LentReaders> ExprReader<'_, R> {
         match self.parse_links(shared, frame, settings, &operand) {
             Ok(links) => end_operand(self.language.alloc(), frame, settings, operand, links),
             Err(error) => Err(error),
-        }
-    }
-
-    /// Reads the operators and operands after `lhs` that go on with a run on the right of an operator of strength
-    /// `parent`. A raise of the level is refused at `lhs`, and from the first operator on at the one before.
-    #[tactic(auto, using(crate::proofs::Readers::parse_binary_op))]
-    fn parse_binary_op(
-        &self,
-        shared: &mut Shared<'_>,
-        frame: &Frame<'_>,
-        settings: ParseSettings,
-        parent: u8,
-        lhs: Expr,
-    ) -> ParseResult<Expr>
-        requires lent { Covers (R.lent self.now.readers) (binary_op self.now.language.now frame.now settings
-            (position_of (view lhs)) parent (view lhs)) shared.old }
-        ensures goes_on { GoesOn shared.old shared.new }
-        ensures reads { Reads (binary_op self.now.language.now frame.now settings (position_of (view lhs)) parent
-            (view lhs)) view
-            shared.old result shared.new }
-    {
-        let mut settings = settings.at(lhs.position());
-        let mut lhs = lhs;
-        loop {
-            let Some(operator) = next_operator(self.language.alloc(), frame.filter(), shared)?
-            else {
-                return Ok(lhs);
-            };
-            if !operator.continues(parent) {
-                return Ok(lhs);
-            }
-            let (op_token, pos) = take(shared.input);
-            let place = place_after(&op_token);
-            let rhs = nested!(
-                shared,
-                self.parse_right_operand(shared, frame, settings, place)
-            )?;
-            // A reserved symbol after the operand is refused before the level is raised.
-            next_operator(self.language.alloc(), frame.filter(), shared)?;
-            let deeper = settings.level_up_in_run(pos)?;
-            let rhs = self.parse_binary_op(shared, frame, deeper.side, operator.strength, rhs)?;
-            lhs = match make_binary(self.language.alloc(), op_token, pos, lhs, rhs) {
-                Ok(joined) => joined,
-                Err(error) => return Err(error),
-            };
-            settings = deeper.next;
         }
     }
 
@@ -260,6 +221,7 @@ impl<R: LentReaders> ExprReader<'_, R> {
         requires lent { Covers (R.lent self.now.readers) (expression self.now.language.now frame.now settings)
             shared.old }
         ensures goes_on { GoesOn shared.old shared.new }
+        ensures stays { Stays self.now.language.now frame.now settings 0 shared.old shared.new }
         ensures reads { Reads (expression self.now.language.now frame.now settings) view shared.old result shared.new }
     {
         let (_, pos) = peek(shared.input)?;

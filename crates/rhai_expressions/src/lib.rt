@@ -6,5 +6,6 @@ mod chain;
 mod expr;
 mod paths;
 pub mod reader;
+mod runs;
 
 pub use reader::ExprReader;

@@ -9,6 +9,7 @@ ghost use Rattle.rhai_reading.specs.Reading.{Path, Postfix, call_on};
 ghost use Rattle.rhai_reading.specs.Running.{Fails, asked, exec, guarded, result_of};
 ghost use Rattle.rhai_language.specs.Readers.{GoesOn, Reads, state_of};
 ghost use Rattle.rhai_expressions.specs.Views.{variable_view};
+ghost use Rattle.rhai_language.specs.Rooms.{Steady};
 
 use rhai_ast::VariableExpr;
 use rhai_base::Frame;
@@ -33,6 +34,7 @@ pub(crate) fn next_path(
 ) -> ParseResult<(Box<VariableExpr>, Position)>
     requires { qualifies (asked (state_of shared.old)).lexeme ≡ true }
     ensures goes_on { GoesOn shared.old shared.new }
+    ensures steady { Steady shared.old shared.new }
     ensures reads { Reads (Path frame.now.live (variable (named name.value) pos)) variable_view shared.old result
         shared.new }
 {
@@ -67,6 +69,7 @@ pub(crate) fn named_operand(
     pos: Position,
 ) -> ParseResult<NamedOperand>
     ensures goes_on { GoesOn shared.old shared.new }
+    ensures steady { Steady shared.old shared.new }
     ensures found { (c : Context) → IfOk result (λ n.
         result_of (Postfix c frame.now.live (variable (named name.value) pos)) (state_of shared.old)
         ≡ exec (guarded (Postfix c frame.now.live (variable (named name.value) pos)) (state_of shared.old))

@@ -36,7 +36,7 @@ use Rattle.rhai_grammar.proofs.LibraryLemmas.{closure_added, function_added}
 
 -- ---- libraries with one more function
 
-new_last : (before library : Library) (x : Ended) → AreNew before library → is_new x.key (before ++ library) ≡ true
+pub new_last : (before library : Library) (x : Ended) → AreNew before library → is_new x.key (before ++ library) ≡ true
     → AreNew before (library ++ x ∷ [])
 new_last before [] x h e = (ap (is_new x.key) (sym (append-nil before)) ∙ e, tt)
 new_last before (y ∷ library) x h e =

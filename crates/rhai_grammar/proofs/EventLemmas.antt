@@ -20,9 +20,10 @@ use Rattle.rhai_grammar.specs.Functions.{in_function, names_function, owner_of, 
 use Rattle.rhai_grammar.specs.Modules.{is_qualified, is_scoped, module_fault}
 use Rattle.rhai_grammar.specs.Spots.{LinkSpot, Spot, height_after, place_of}
 use Rattle.rhai_grammar.specs.Spots.{right_side, spot_after_bracket, spot_after_dot, spot_after_operand}
+use Rattle.rhai_grammar.specs.Ends.{action_ends}
 use Rattle.rhai_grammar.specs.Switches.{Collected, arm_fault, nothing_collected, with_arm_collected}
 use Rattle.rhai_grammar.specs.Targets.{is_constant_use, target_fault}
-use Rattle.rhai_grammar.specs.Trees.{action_ends, action_tree, argument_trees, base_tree, bracket_link, case_trees, caught}
+use Rattle.rhai_grammar.specs.Trees.{action_tree, argument_trees, base_tree, bracket_link, case_trees, caught}
 use Rattle.rhai_grammar.specs.Trees.{caught_name, counter_of, guard_tree, loop_name, member_link}
 use Rattle.rhai_grammar.specs.Trees.{function_tree, method_tree, named_tree, primary_tree, tree}
 use Rattle.rhai_grammar.specs.UsesOfForms.{action_events, argument_events, arm_events, base_events}
@@ -266,9 +267,9 @@ mutual
       let next_arm = with_arm_collected b (case_trees xs w) (guard_tree guard w) (action_tree does w) in
       next (on (cases xs c w _ i) (on (case_guard guard c w _ i) (tok (on (action does c w _ i)
       (on (unfaulted (arm_fault b (case_trees xs w)))
-      (on (separated comma (action_ends does w) _) (arms rest next_arm c w k i)))))))
+      (on (separated comma (action_ends does) _) (arms rest next_arm c w k i)))))))
   arms (form.DefaultArm at arrow does comma closing) b c w k i =
-      tok (next (tok (all_of (on (action does c w _ i) (on (separated comma (action_ends does w) _) (tok here))))))
+      tok (next (tok (all_of (on (action does c w _ i) (on (separated comma (action_ends does) _) (tok here))))))
 
   pub cases : {q : Scope} (x : Cases) (c : Context) (w : Live) (k : Demands) → Is q c
       → Does q (case_events x w) (W.cases x c w k) k
@@ -291,7 +292,7 @@ mutual
       → Does q (script_events xs w) (W.statements xs closing c w k) k
   statements form.NoStatement closing c w k i = next here
   statements (form.LastStatement f) closing c w k i = next (all_of (on (statement f c w _ i) (shape (next here))))
-  statements (form.Ended f semicolon rest) closing c w k i =
+  statements (form.WithSemicolon f semicolon rest) closing c w k i =
       next (on (statement f c w _ i) (shape (tok (statements rest closing c (after_statement f w) k i))))
   statements (form.Standing f rest) closing c w k i =
       next (on (statement f c w _ i) (shape (statements rest closing c (after_statement f w) k i)))

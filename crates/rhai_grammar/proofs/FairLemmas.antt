@@ -42,8 +42,9 @@ use Rattle.rhai_lower.specs.Nodes.{Node}
 use Rattle.rhai_lower.specs.Texts.{Text}
 use Rattle.std.specs.Prelude.{List}
 use Rattle.rhai_grammar.specs.Forms.{Action, Arms, CaseGuard, Cases}
+use Rattle.rhai_grammar.specs.Ends.{action_ends}
 use Rattle.rhai_grammar.specs.Switches.{Collected, arm_fault, nothing_collected, with_arm_collected}
-use Rattle.rhai_grammar.specs.Trees.{action_ends, action_tree, case_trees, guard_tree}
+use Rattle.rhai_grammar.specs.Trees.{action_tree, case_trees, guard_tree}
 use Rattle.rhai_grammar.specs.Verdicts as V
 use Rattle.rhai_grammar.specs.Written as W
 use Rattle.rhai_grammar.specs.Written.{operands_fit}
@@ -369,10 +370,10 @@ mutual
       cases xs c w _ (case_guard guard c w _ (
         refl,
         action does c w _ (
-            unfaulted (arm_fault b (case_trees xs w)) _ (separated comma (action_ends does w) _ (arms rest next c w k h))),
+            unfaulted (arm_fault b (case_trees xs w)) _ (separated comma (action_ends does) _ (arms rest next c w k h))),
       ))
   arms (form.DefaultArm at arrow does comma closing) b c w k h =
-      (refl, (refl, action does c w _ (separated comma (action_ends does w) _ (refl, h))))
+      (refl, (refl, action does c w _ (separated comma (action_ends does) _ (refl, h))))
 
   cases : (x : Cases) (c : Context) (w : Live) (k : Demands) → IsFair k → IsFair (W.cases x c w k)
   cases (form.LastCase f) c w k h = (run f (outermost (level_up (in_case c)) (in_block w)) _ tt, h)
@@ -390,7 +391,7 @@ mutual
   statements : (xs : Statements) (closing : Closing) (c : Context) (w : Live) (k : Demands) → IsFair k → IsFair (W.statements xs closing c w k)
   statements form.NoStatement closing c w k h = h
   statements (form.LastStatement f) closing c w k h = statement f c w _ (λ d. h)
-  statements (form.Ended f semicolon rest) closing c w k h =
+  statements (form.WithSemicolon f semicolon rest) closing c w k h =
       statement f c w _ (λ d. (semicolon_due closing, statements rest closing c (after_statement f w) k h))
   statements (form.Standing f rest) closing c w k h = statement f c w _ (λ d. statements rest closing c (after_statement f w) k h)
 

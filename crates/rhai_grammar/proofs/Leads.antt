@@ -49,8 +49,9 @@ use Rattle.rhai_grammar.specs.Uses.{Use}
 use Rattle.rhai_grammar.specs.declared.list.CommaList.{CommaList}
 use Rattle.rhai_grammar.specs.declared.list.CommaList.TheVariants as lists
 use Rattle.rhai_grammar.specs.Spelling.{action_spelling, arm_spelling, case_spelling, comma_spelling, guard_spelling}
+use Rattle.rhai_grammar.specs.Ends.{action_ends}
 use Rattle.rhai_grammar.specs.Switches.{Collected, arm_fault, nothing_collected, with_arm_collected}
-use Rattle.rhai_grammar.specs.Trees.{action_ends, action_tree, case_trees, guard_tree}
+use Rattle.rhai_grammar.specs.Trees.{action_tree, case_trees, guard_tree}
 use Rattle.rhai_grammar.specs.Verdicts as V
 use Rattle.rhai_grammar.specs.Written as W
 use Rattle.rhai_grammar.specs.declared.role.Closing.{Closing}
@@ -374,9 +375,9 @@ mutual
       let next_arm = with_arm_collected b (case_trees xs w) (guard_tree guard w) (action_tree does w) in
       next (on (cases xs c w _) (on (case_guard guard c w _) (tok (on (action does c w _)
       (unfaulted (arm_fault b (case_trees xs w))
-      (on (separated comma (action_ends does w) _) (arms rest next_arm c w k)))))))
+      (on (separated comma (action_ends does) _) (arms rest next_arm c w k)))))))
   arms (form.DefaultArm at arrow does comma closing) b c w k =
-      tok (next (tok (on (action does c w _) (on (separated comma (action_ends does w) _) (tok here)))))
+      tok (next (tok (on (action does c w _) (on (separated comma (action_ends does) _) (tok here)))))
 
   pub cases : (x : Cases) (c : Context) (w : Live) (k : Demands)
       → Leads code code (case_spelling x) (W.cases x c w k) k
@@ -397,7 +398,7 @@ mutual
       → Leads code code (script_spelling xs) (W.statements xs closing c w k) k
   statements form.NoStatement closing c w k = next here
   statements (form.LastStatement f) closing c w k = next (all_of (on (statement f c w _) (shape (λ e. next here))))
-  statements (form.Ended f semicolon rest) closing c w k =
+  statements (form.WithSemicolon f semicolon rest) closing c w k =
       next (on (statement f c w _) (shape (λ e. tok (statements rest closing c (after_statement f w) k))))
   statements (form.Standing f rest) closing c w k =
       next (on (statement f c w _) (shape (λ e. statements rest closing c (after_statement f w) k)))

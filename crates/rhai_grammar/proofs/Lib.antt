@@ -26,6 +26,7 @@ pub mod LibraryLemmas
 pub mod ChainLemmas
 pub mod FairLemmas
 pub mod SwitchLemmas
+pub mod EndLemmas
 pub mod ShapeSteps
 pub mod ShapeLemmas
 pub mod NumberSteps

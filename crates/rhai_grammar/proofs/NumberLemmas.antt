@@ -20,11 +20,12 @@ use Rattle.rhai_grammar.specs.Operators.{joining}
 use Rattle.rhai_grammar.specs.Signs.{effect, plain_sign}
 use Rattle.rhai_grammar.specs.SlotLaws.{TreesAreWellNumbered}
 use Rattle.rhai_grammar.specs.Spots.{LinkSpot, Spot, height_after, place_of, right_side, spot_after_bracket, spot_after_dot, spot_after_operand}
+use Rattle.rhai_grammar.specs.Ends.{action_ends}
 use Rattle.rhai_grammar.specs.Switches.{Collected, arm_fault, nothing_collected, with_arm_collected}
 use Rattle.rhai_grammar.specs.Targets.{is_constant_use, target_fault}
 use Rattle.rhai_grammar.specs.TreeNumbers.{AllWellNumbered, WellNumbered, WellNumberedBlock, WellNumberedFunction, WellNumberedOptional, WellNumberedProperties, WellNumberedStatement, WellNumberedStatements, WellNumberedLibrary, names_in, slots_of}
 use Rattle.rhai_grammar.specs.Trees as T
-use Rattle.rhai_grammar.specs.Trees.{action_ends, action_tree, argument_trees, base_tree, bracket_link, case_trees, caught, caught_name, closure_tree, counter_of, function_tree, guard_tree, loop_name, member_link, method_tree, named_tree, primary_tree, tree}
+use Rattle.rhai_grammar.specs.Trees.{action_tree, argument_trees, base_tree, bracket_link, case_trees, caught, caught_name, closure_tree, counter_of, function_tree, guard_tree, loop_name, member_link, method_tree, named_tree, primary_tree, tree}
 use Rattle.rhai_grammar.specs.Uses.{Use, names_of}
 use Rattle.rhai_grammar.specs.Verdicts as V
 use Rattle.rhai_grammar.specs.Written as W
@@ -289,10 +290,10 @@ mutual
       gets (λ h g. h.1.1.1 (N.arm (names w) b (case_trees xs w) (guard_tree guard w) (action_tree does w) h.0 h.1.0 h.1.1.0 g))
       (next (on (cases xs c w _) (on (case_guard guard c w _) (tok (on (action does c w _)
       (past_it (unfaulted (arm_fault b (case_trees xs w)))
-      (past_it (separated comma (action_ends does w) _) (arms rest next_arm c w k))))))))
+      (past_it (separated comma (action_ends does) _) (arms rest next_arm c w k))))))))
   arms (form.DefaultArm at arrow does comma closing) b c w k =
       gets (λ h g. N.default_arm (names w) b (action_tree does w) h g)
-      (tok (next (tok (up_to (action does c w _) (past_it (separated comma (action_ends does w) _) (tok here))))))
+      (tok (next (tok (up_to (action does c w _) (past_it (separated comma (action_ends does) _) (tok here))))))
 
   pub cases : (x : Cases) (c : Context) (w : Live) (k : Demands)
       → Gives (AllWellNumbered (names w) (case_trees x w)) (W.cases x c w k) k
@@ -316,7 +317,7 @@ mutual
   statements (form.LastStatement f) closing c w k =
       gets (λ h. N.kept (names w) (T.statement_tree f w) node.no_statements h tt)
       (next (up_to (statement f c w _) (shape (λ e. next here))))
-  statements (form.Ended f semicolon rest) closing c w k =
+  statements (form.WithSemicolon f semicolon rest) closing c w k =
       gets (λ h. N.in_front f rest w h.0 h.1)
       (next (on (statement f c w _) (shape (λ e. tok (statements rest closing c (after_statement f w) k)))))
   statements (form.Standing f rest) closing c w k =

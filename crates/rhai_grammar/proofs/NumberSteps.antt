@@ -22,7 +22,7 @@ use Rattle.rhai_grammar.specs.Interpolations.{with_text}
 use Rattle.rhai_grammar.specs.Modules.{path_tree, qualified}
 use Rattle.rhai_grammar.specs.Operators as O
 use Rattle.rhai_grammar.specs.Operators.{Part, joined, joined_tree, list_of_parts, part}
-use Rattle.rhai_grammar.specs.Settings.{in_function}
+use Rattle.rhai_grammar.specs.Settings.{is_in_function}
 use Rattle.rhai_grammar.specs.Signs.{affected}
 use Rattle.rhai_grammar.specs.Slots.{number}
 use Rattle.rhai_grammar.specs.Switches.{Collected, with_arm_collected, with_case, with_cases, with_default_collected, with_value}
@@ -142,7 +142,7 @@ pub all_after : (fs : Statements) (w : Live)
     → names_after_all (T.statement_trees fs w) (names_in w.slots) ≡ names_in (after_statements fs w).slots
 all_after form.NoStatement w = refl
 all_after (form.LastStatement f) w = kept_after (T.statement_tree f w) node.no_statements _ ∙ after f w
-all_after (form.Ended f semicolon rest) w =
+all_after (form.WithSemicolon f semicolon rest) w =
     kept_after (T.statement_tree f w) (T.statement_trees rest (after_statement f w)) _
     ∙ ap (names_after_all (T.statement_trees rest (after_statement f w))) (after f w) ∙ all_after rest (after_statement f w)
 all_after (form.Standing f rest) w =
@@ -171,7 +171,7 @@ value ns _ at = tt
 -- A reserved word after which nothing calls it is `this`.
 pub word : (ns : List Text) (c : Context) (t : Text) (at : Position) (l : Lexeme) → verdict (V.after_word c t at) l ≡ Fine
     → verdict (V.uncalled (T.word_tree t at)) l ≡ Fine → WellNumbered ns (T.word_tree t at)
-word ns c t at l e f = by (is_memory l) (is_this t) (may_be_called t) (calls l) (in_function c.settings) _ _ e f
+word ns c t at l e f = by (is_memory l) (is_this t) (may_be_called t) (calls l) (is_in_function c.settings) _ _ e f
   where
     by : (m i b a g : Bool) (x y : Refusal)
         → (if m then Otherwise else (if b && a then Fine else (if i then (if g then Fine else Blames x) else Blames y))) ≡ Fine

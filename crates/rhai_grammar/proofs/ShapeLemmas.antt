@@ -294,7 +294,7 @@ mutual
   statements (form.LastStatement f) w =
       let e = statement f w in
       kept (T.statement_tree f w) node.no_statements ∙ (cc)
-  statements (form.Ended f semicolon rest) w =
+  statements (form.WithSemicolon f semicolon rest) w =
       let e = statement f w in
       let g = statements rest (after_statement f w) in
       let h = live_after f w in

@@ -275,7 +275,7 @@ start_of (form.Function is_private at owner name name_at list opening body) live
 starts : (fs : Statements) (live : Live) → (after_statements fs live).block ≡ live.block
 starts form.NoStatement live = refl
 starts (form.LastStatement f) live = start_of f live
-starts (form.Ended f semicolon rest) live = starts rest (after_statement f live) ∙ start_of f live
+starts (form.WithSemicolon f semicolon rest) live = starts rest (after_statement f live) ∙ start_of f live
 starts (form.Standing f rest) live = starts rest (after_statement f live) ∙ start_of f live
 
 keeps : (f : Statement) (live : Live) → live.block ≤ length live.slots
@@ -313,7 +313,7 @@ imports_after (form.Function is_private at owner name name_at list opening body)
 all_imports : (fs : Statements) (live : Live) → Extends live.imports (after_statements fs live).imports
 all_imports form.NoStatement live = unextended live.imports
 all_imports (form.LastStatement f) live = imports_after f live
-all_imports (form.Ended f semicolon rest) live =
+all_imports (form.WithSemicolon f semicolon rest) live =
     let w = after_statement f live in
     extends_on live.imports w.imports _ (imports_after f live) (all_imports rest w)
 all_imports (form.Standing f rest) live =
@@ -336,7 +336,7 @@ followed live rest w e f g =
 all_keep : (fs : Statements) (live : Live) → StatementsKeep fs live
 all_keep form.NoStatement live l = (refl, l)
 all_keep (form.LastStatement f) live l = keeps f live l
-all_keep (form.Ended f semicolon rest) live l =
+all_keep (form.WithSemicolon f semicolon rest) live l =
     let w = after_statement f live in
     followed live rest w (start_of f live) (keeps f live l) (all_keep rest w)
 all_keep (form.Standing f rest) live l =

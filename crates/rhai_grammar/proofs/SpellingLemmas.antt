@@ -158,7 +158,7 @@ script_end_follows c w (form.LastStatement f) s t m =
     let l = (next_at M.code g.end).lexeme in
     subst (λ (p : Point). is_end (next_at M.code p).lexeme ≡ true) g.met.1.1
     (last_end l (fits (S.closed_due EndMark) l g.met.1.0))
-script_end_follows c w (form.Ended f semicolon rest) s t m =
+script_end_follows c w (form.WithSemicolon f semicolon rest) s t m =
     let g = spelled (L.statement f c w _) s t m.1 in
     script_end_follows c (after_statement f w) rest (past M.code g.end) t g.met.1.1
 script_end_follows c w (form.Standing f rest) s t m =

@@ -1,6 +1,8 @@
--- The values of the cases of a `switch`: which ranges they are, and when two are equal. Positions make no difference.
+-- The values of the cases of a `switch`: which nodes they are, which ranges, and when two are equal. Positions make no
+-- difference.
 use Rattle.std.specs.Prelude.{◌≡◌, ◌-◌, ◌^◌, ◌==◌, ℤ, pos, int_lt, Bool, true, false, ◌&&◌, not, Option, Some, None}
 use Rattle.std.specs.Prelude.{option_map, if◌then◌else◌, refl}
+use Rattle.std.specs.Option.{is_some}
 use Rattle.std.specs.Ordering.{int_eq}
 use Rattle.rhai_lower.specs.Texts.{Text, same_text}
 use Rattle.rhai_lower.specs.Positions.{nowhere, place}
@@ -12,6 +14,8 @@ use Rattle.rhai_lower.specs.declared.token.Token.{Token}
 use Rattle.rhai_lower.specs.declared.token.Token.TheVariants.{ExclusiveRange, InclusiveRange}
 use Rattle.rhai_grammar.specs.Literals.{has_key, property_count}
 use Rattle.rhai_grammar.specs.Operators.{operator_call}
+
+-- ---- ranges
 
 -- a range of integers, and whether its last one belongs to it
 pub record IntegerRange : Type 0 where
@@ -29,6 +33,7 @@ inclusion (Some (Sign ExclusiveRange)) = Some false
 inclusion (Some (Sign InclusiveRange)) = Some true
 inclusion _ = None
 
+-- The start of a range is an integer. So is its end, which may also be unit, for an open range.
 abbrev pub range_start : Node → Option ℤ
 range_start (integer n p) = Some n
 range_start _ = None
@@ -56,6 +61,31 @@ range_of _ = None
 -- A range is empty if it ends before it begins, or without its last integer where it begins.
 abbrev pub is_empty_range : IntegerRange → Bool
 is_empty_range r = if r.is_inclusive then int_lt r.last r.first else not (int_lt r.first r.last)
+
+-- ---- literal values
+
+-- A value of a `switch` case: a literal without parts, a range of integers, whose end may be open, or an array or
+-- object map of such values.
+abbrev mutual
+  pub is_literal_value : Node → Bool
+  is_literal_value (unit p) = true
+  is_literal_value (boolean b p) = true
+  is_literal_value (integer n p) = true
+  is_literal_value (character c p) = true
+  is_literal_value (string t p) = true
+  is_literal_value (pointer name parameters p) = true
+  is_literal_value (array ns p) = are_literal_values ns
+  is_literal_value (object_map ps p) = have_literal_values ps
+  is_literal_value (call c ns p) = is_some (range_over (inclusion c.op_token) ns)
+  is_literal_value _ = false
+
+  pub are_literal_values : Nodes → Bool
+  are_literal_values no_nodes = true
+  are_literal_values (one_node n ns) = is_literal_value n && are_literal_values ns
+
+  pub have_literal_values : Properties → Bool
+  have_literal_values no_properties = true
+  have_literal_values (one_property t p n ps) = is_literal_value n && have_literal_values ps
 
 -- ---- equal values
 
@@ -100,7 +130,8 @@ abbrev mutual
   same_properties (one_property name at value ps) others =
       (has_key name others && same_value value (property_value name others)) && same_properties ps others
 
--- `5..` and `5..9223372036854775807` are one value, `0..5` and `0..=5` are two, and `0..0` is empty.
+-- `5..` and `5..9223372036854775807` are one value, `0..5` and `0..=5` are two, and `0..0` is empty. `5..` is a literal
+-- value, and `()..5` is none.
 abbrev pub example_range : (op : Token) (first : ℤ) (last : Node) → Node
 example_range op first last =
     operator_call (Sign op) (place 1 2) (integer first (place 1 1)) last
@@ -114,4 +145,7 @@ example : (same_value (example_range ExclusiveRange (pos 5) (unit (place 1 4)))
     (example_range InclusiveRange (pos 0) (example_number (pos 5))) ≡ false)
     × (option_map is_empty_range (range_of (example_range ExclusiveRange (pos 0) (example_number (pos 0)))) ≡ Some true)
     × (same_value (example_number (pos 3)) (integer (pos 3) (place 2 1)) ≡ true)
-example = (refl, refl, refl, refl)
+    × (is_literal_value (example_range ExclusiveRange (pos 5) (unit (place 1 4))) ≡ true)
+    × (is_literal_value (operator_call (Sign ExclusiveRange) (place 1 2) (unit (place 1 1)) (example_number (pos 5)))
+    ≡ false)
+example = (refl, refl, refl, refl, refl, refl)

@@ -70,11 +70,11 @@ abbrev pub refused_there : DueToken → Cause → Lexeme → Verdict
 refused_there unwanted why token = if is_due unwanted token then Wrong why else Fine
 
 -- A guard does not begin with `{`; nor does what `for` goes over.
-abbrev pub no_block : Cause
-no_block = cause.ExprExpected (codes "a boolean")
+abbrev pub guard_expected : Cause
+guard_expected = cause.ExprExpected (codes "a boolean")
 
 abbrev pub guard_begins : Lexeme → Verdict
-guard_begins token = refused_there due.LeftBrace no_block token
+guard_begins token = refused_there due.LeftBrace guard_expected token
 
 -- A guard is not assigned to.
 abbrev pub no_assignment : Cause
@@ -84,17 +84,17 @@ abbrev pub guard_ends : Lexeme → Verdict
 guard_ends token = refused_there due.Equals no_assignment token
 
 -- the error for a node that is of the wrong kind, if it is of one
-abbrev pub kind_fault : (due : Text) → Node → Option Text → Option Refusal
-kind_fault due x None = None
-kind_fault due x (Some found) = Some (refusal (cause.MismatchedType due found) (start_of x))
+abbrev pub type_fault : (due : Text) → Node → Option Text → Option Refusal
+type_fault due x None = None
+type_fault due x (Some found) = Some (refusal (cause.MismatchedType due found) (start_of x))
 
 -- A guard may not be what is never a boolean.
 abbrev pub guard_fault : Node → Option Refusal
-guard_fault x = kind_fault (codes "a boolean expression") x (not_boolean x)
+guard_fault x = type_fault (codes "a boolean expression") x (not_boolean x)
 
 -- What `for` goes over may not be what is never iterable.
 abbrev pub iterated_fault : Node → Option Refusal
-iterated_fault x = kind_fault (codes "an iterable value") x (not_iterable x)
+iterated_fault x = type_fault (codes "an iterable value") x (not_iterable x)
 
 -- ---- the end of `do`
 
@@ -124,5 +124,5 @@ example : (guard_fault (integer (pos 1) (place 1 4))
     ≡ Some (refusal (cause.MismatchedType (codes "a boolean expression") (codes "a number")) (place 1 4)))
     × (do_end_due (Sign token.Until) ≡ Otherwise)
     × (do_end_due (Sign token.LeftBrace) ≡ Wrong (cause.MissingToken (codes "while")))
-    × (guard_begins (Sign token.LeftBrace) ≡ Wrong no_block)
+    × (guard_begins (Sign token.LeftBrace) ≡ Wrong guard_expected)
 example = (refl, refl, refl, refl)

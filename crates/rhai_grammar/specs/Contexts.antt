@@ -106,7 +106,7 @@ abbrev pub is_in_loop : Context → Bool
 is_in_loop context = settings.in_loop context.settings
 
 abbrev pub loop_body : Context → Context
-loop_body context = record context { settings = settings.loop_body context.settings }
+loop_body context = record context { settings = settings.loop_settings context.settings }
 
 -- in a case of a `switch`, and in all that stands in it
 abbrev pub in_case : Context → Context

@@ -105,7 +105,7 @@ after_statement _ live = live
 abbrev pub after_statements : Statements → Live → Live
 after_statements form.NoStatement live = live
 after_statements (form.LastStatement f) live = after_statement f live
-after_statements (form.Ended f semicolon rest) live = after_statements rest (after_statement f live)
+after_statements (form.WithSemicolon f semicolon rest) live = after_statements rest (after_statement f live)
 after_statements (form.Standing f rest) live = after_statements rest (after_statement f live)
 
 -- `let x = 1; const x = 2;` has one slot, which is constant in the end. In a block of its own, the second definition

@@ -144,7 +144,7 @@ abbrev mutual
   pub statements_depth : Statements → ℕ
   statements_depth form.NoStatement = 0
   statements_depth (form.LastStatement f) = statement_depth f
-  statements_depth (form.Ended f semicolon rest) = max (statement_depth f) (statements_depth rest)
+  statements_depth (form.WithSemicolon f semicolon rest) = max (statement_depth f) (statements_depth rest)
   statements_depth (form.Standing f rest) = max (statement_depth f) (statements_depth rest)
 
   -- of what is in a block

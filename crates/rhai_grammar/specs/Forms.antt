@@ -241,7 +241,7 @@ mutual
     -- the last one, without a `;`
     LastStatement : Statement → Statements
     -- one with its `;`
-    Ended : Statement → (semicolon : Position) → Statements → Statements
+    WithSemicolon : Statement → (semicolon : Position) → Statements → Statements
     -- one that ends by itself
     Standing : Statement → Statements → Statements
 

@@ -2,11 +2,9 @@
 use Rattle.std.specs.Prelude.{◌≡◌, pos, Bool, true, false, ◌&&◌, ◌++◌, Option, Some, None, codes, refl}
 use Rattle.rhai_lower.specs.Texts.{Text}
 use Rattle.rhai_lower.specs.Positions.{place}
-use Rattle.rhai_lower.specs.Lexemes.{Lexeme, Sign}
 use Rattle.rhai_lower.specs.Nodes.{Node, Nodes, Properties, unit, boolean, integer, character, string, interpolated}
-use Rattle.rhai_lower.specs.Nodes.{array, object_map, pointer, call, conjunction, disjunction, no_nodes, one_node}
+use Rattle.rhai_lower.specs.Nodes.{array, object_map, pointer, conjunction, disjunction, no_nodes, one_node}
 use Rattle.rhai_lower.specs.Nodes.{no_properties, one_property}
-use Rattle.rhai_lower.specs.declared.token.Token.TheVariants.{ExclusiveRange, InclusiveRange}
 
 -- The kind of a node that cannot be a boolean.
 abbrev pub not_boolean : Node → Option Text
@@ -104,49 +102,6 @@ abbrev mutual
   pub have_constants : Properties → Bool
   have_constants no_properties = true
   have_constants (one_property t p n ps) = is_constant n && have_constants ps
-
--- an operator that makes a range
-abbrev pub makes_range : Option Lexeme → Bool
-makes_range (Some (Sign ExclusiveRange)) = true
-makes_range (Some (Sign InclusiveRange)) = true
-makes_range _ = false
-
--- The start of a range is an integer. So is its end, which may also be unit, for an open range.
-abbrev pub is_range_start : Node → Bool
-is_range_start (integer n p) = true
-is_range_start _ = false
-
-abbrev pub is_range_end : Node → Bool
-is_range_end (integer n p) = true
-is_range_end (unit p) = true
-is_range_end _ = false
-
-abbrev pub are_bounds : Nodes → Bool
-are_bounds (one_node first (one_node last no_nodes)) = is_range_start first && is_range_end last
-are_bounds _ = false
-
--- A value of a `switch` case: a literal without parts, a range of integers, whose end may be open, or an array or
--- object map of such values.
-abbrev mutual
-  pub is_literal_value : Node → Bool
-  is_literal_value (unit p) = true
-  is_literal_value (boolean b p) = true
-  is_literal_value (integer n p) = true
-  is_literal_value (character c p) = true
-  is_literal_value (string t p) = true
-  is_literal_value (pointer name parameters p) = true
-  is_literal_value (array ns p) = are_literal_values ns
-  is_literal_value (object_map ps p) = have_literal_values ps
-  is_literal_value (call c ns p) = makes_range c.op_token && are_bounds ns
-  is_literal_value _ = false
-
-  pub are_literal_values : Nodes → Bool
-  are_literal_values no_nodes = true
-  are_literal_values (one_node n ns) = is_literal_value n && are_literal_values ns
-
-  pub have_literal_values : Properties → Bool
-  have_literal_values no_properties = true
-  have_literal_values (one_property t p n ps) = is_literal_value n && have_literal_values ps
 
 -- `5`, and `['a']`, an array of one string
 abbrev example_five : Node

@@ -8,6 +8,7 @@ pub mod Cursors
 pub mod Seen
 pub mod Strengths
 pub mod Forms
+pub mod Ends
 pub mod Beginnings
 pub mod Kinds
 pub mod CaseValues

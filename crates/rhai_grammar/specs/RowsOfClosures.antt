@@ -19,7 +19,7 @@ use Rattle.rhai_grammar.specs.Rows.{between, depth, number, plain, unread}
 use Rattle.rhai_grammar.specs.RowsOfConstructs.{arm_of, switch_alone}
 use Rattle.rhai_grammar.specs.RowsOfFunctions.{holding, one_function}
 use Rattle.rhai_grammar.specs.RowsOfModules.{on_global_level}
-use Rattle.rhai_grammar.specs.RowsOfStatements.{ended, evaluates, integer, let_tokens, named}
+use Rattle.rhai_grammar.specs.RowsOfStatements.{evaluates, integer, let_tokens, named, with_semicolon}
 use Rattle.rhai_grammar.specs.Operators.{operator_call}
 use Rattle.rhai_grammar.specs.Trees.{body_tree, statement_trees, tree, variable_of}
 use Rattle.rhai_grammar.specs.Uses.{Use}
@@ -127,7 +127,7 @@ slot_closure = closure (bars 12) (evaluating (named (codes "x") 15)) 0 ((codes "
 
 abbrev pub slot_form : Statements
 slot_form =
-    ended (form.Define false (place 1 1) (codes "x") (place 1 5) (form.Valued (place 1 7) (number 1 9))) 10 (
+    with_semicolon (form.Define false (place 1 1) (codes "x") (place 1 5) (form.Valued (place 1 7) (number 1 9))) 10 (
     form.LastStatement (evaluates slot_closure))
 
 pub record SlotRow : Type 0 where

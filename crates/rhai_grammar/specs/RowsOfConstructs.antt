@@ -17,7 +17,8 @@ use Rattle.rhai_grammar.specs.Forms as form
 use Rattle.rhai_grammar.specs.Forms.{Binary, Run, Statements}
 use Rattle.rhai_grammar.specs.Operators.{operator_call}
 use Rattle.rhai_grammar.specs.Rows.{between, depth, number, plain, unread}
-use Rattle.rhai_grammar.specs.RowsOfStatements.{FitsAsScript, begins, defines, definition, ended, evaluates, integer}
+use Rattle.rhai_grammar.specs.RowsOfStatements.{FitsAsScript, begins, defines, definition, evaluates, integer}
+use Rattle.rhai_grammar.specs.RowsOfStatements.{with_semicolon}
 use Rattle.rhai_grammar.specs.RowsOfStatements.{let_tokens, named, variable}
 use Rattle.rhai_grammar.specs.Trees.{statement_trees}
 use Rattle.rhai_grammar.specs.Written.{whole_script}
@@ -46,8 +47,8 @@ loop_form =
     form.Standing (form.Compound (place 1 1) (form.For loop_names (place 1 12) loop_range (place 1 20) (
     form.Many (form.LastStatement (evaluates loop_sum)) (place 1 28)))) form.NoStatement
 
-abbrev pub loop_body : node.Block
-loop_body =
+abbrev pub looped_block : node.Block
+looped_block =
     node.braces (node.one_statement (node.expression (
     operator_call (Sign token.Plus) (place 1 24) (variable 1 (codes "a") 22) (variable 2 (codes "i") 26)))
     node.no_statements) (place 1 20) (place 1 28)
@@ -55,7 +56,7 @@ loop_body =
 abbrev pub loop_tree : node.Statements
 loop_tree =
     node.one_statement (node.for_statement (codes "a") (Some (codes "i")) (
-    operator_call (Sign token.ExclusiveRange) (place 1 16) (integer 0 15) (integer 3 18)) loop_body (place 1 1))
+    operator_call (Sign token.ExclusiveRange) (place 1 16) (integer 0 15) (integer 3 18)) looped_block (place 1 1))
     node.no_statements
 
 -- In the body the variable is the latest slot and the counter the one before it; after the loop nothing is left live.
@@ -77,7 +78,7 @@ abbrev pub break_tokens : List (Lexeme × ℕ)
 break_tokens = break_begun ++ break_rest
 
 abbrev pub break_form : Statements
-break_form = ended (form.Break (place 1 1) form.Absent) 6 form.NoStatement
+break_form = with_semicolon (form.Break (place 1 1) form.Absent) 6 form.NoStatement
 
 -- under the flag that says that a loop's body is parsed
 abbrev pub in_loop : Context
@@ -116,7 +117,7 @@ arm_tokens = arm_begun ++ arm_rest
 
 abbrev pub arm_form : Statements
 arm_form =
-    ended (defines false 1 (codes "x") 5 7 (number 1 9)) 10 (
+    with_semicolon (defines false 1 (codes "x") 5 7 (number 1 9)) 10 (
     form.Standing (form.Compound (place 1 12) (form.Switch (number 1 19) (place 1 21) (
     arm_of (number 1 23) 25 (defines false 28 (codes "y") 32 34 (number 2 36)) None (form.NoArm (place 1 38))))) (
     form.LastStatement (evaluates (named (codes "x") 40))))

@@ -12,7 +12,7 @@ use Rattle.rhai_grammar.specs.Demands.{Met}
 use Rattle.rhai_grammar.specs.Forms as form
 use Rattle.rhai_grammar.specs.Forms.{Run, Statements}
 use Rattle.rhai_grammar.specs.Rows.{between, depth, unread}
-use Rattle.rhai_grammar.specs.RowsOfStatements.{FitsAsScript, ended, evaluates}
+use Rattle.rhai_grammar.specs.RowsOfStatements.{FitsAsScript, evaluates, with_semicolon}
 use Rattle.rhai_grammar.specs.Trees.{statement_trees}
 use Rattle.rhai_grammar.specs.Written.{whole_script}
 
@@ -45,8 +45,8 @@ twice_call =
 
 abbrev pub twice_form : Statements
 twice_form =
-    ended (imports 1 (codes "a") 8 12 (codes "m") 15) 16 (
-    ended (imports 18 (codes "b") 25 29 (codes "m") 32) 33 (
+    with_semicolon (imports 1 (codes "a") 8 12 (codes "m") 15) 16 (
+    with_semicolon (imports 18 (codes "b") 25 29 (codes "m") 32) 33 (
     form.LastStatement (evaluates twice_call)))
 
 abbrev pub imported : (at : ℕ) → Text → (source : ℕ) → Text → node.Statement
@@ -93,9 +93,9 @@ exported_tokens =
 
 abbrev pub exported_form : Statements
 exported_form =
-    ended (declares 1 (codes "x") 5) 6 (
-    ended (declares 8 (codes "y") 12) 13 (
-    ended (form.ExportDefined (place 1 15) false (place 1 22) (codes "x") (place 1 26) form.NoValue) 27 (
+    with_semicolon (declares 1 (codes "x") 5) 6 (
+    with_semicolon (declares 8 (codes "y") 12) 13 (
+    with_semicolon (form.ExportDefined (place 1 15) false (place 1 22) (codes "x") (place 1 26) form.NoValue) 27 (
     form.LastStatement (declares 29 (codes "x") 33))))
 
 abbrev pub exported_tree : node.Statements

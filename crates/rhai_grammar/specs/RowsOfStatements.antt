@@ -13,7 +13,7 @@ use Rattle.rhai_grammar.specs.Contexts.{Context, nothing_live}
 use Rattle.rhai_grammar.specs.Definitions.{after_statements}
 use Rattle.rhai_grammar.specs.Forms.{Run, Just, Named, CompoundValue, Evaluate, Assign, Single, Valued}
 use Rattle.rhai_grammar.specs.Forms.{Statement, Expression, Define, Block, Compound}
-use Rattle.rhai_grammar.specs.Forms.{Statements, NoStatement, LastStatement, Ended, Standing, Many}
+use Rattle.rhai_grammar.specs.Forms.{Statements, NoStatement, LastStatement, WithSemicolon, Standing, Many}
 use Rattle.rhai_grammar.specs.Statements.{keyword_of}
 use Rattle.rhai_grammar.specs.Trees.{variable_of, statement_trees, tree}
 use Rattle.rhai_grammar.specs.Delivered.{code}
@@ -32,8 +32,8 @@ defines constant at name name_at equals value =
     Define constant (place 1 at) name (place 1 name_at) (Valued (place 1 equals) value)
 
 -- a statement with its `;`
-abbrev pub ended : Statement → (semicolon : ℕ) → Statements → Statements
-ended f semicolon rest = Ended f (place 1 semicolon) rest
+abbrev pub with_semicolon : Statement → (semicolon : ℕ) → Statements → Statements
+with_semicolon f semicolon rest = WithSemicolon f (place 1 semicolon) rest
 
 -- a statement that is one expression
 abbrev pub evaluates : Run → Statement
@@ -76,13 +76,13 @@ scopes_tokens =
 
 abbrev pub scopes_inner : Statements
 scopes_inner =
-    ended (defines false 25 (codes "x") 29 31 (named (codes "x") 33)) 34 (
+    with_semicolon (defines false 25 (codes "x") 29 31 (named (codes "x") 33)) 34 (
     LastStatement (evaluates (named (codes "x") 36)))
 
 abbrev pub scopes_form : Statements
 scopes_form =
-    ended (defines false 1 (codes "x") 5 7 (number 1 9)) 10 (
-    ended (defines false 12 (codes "y") 16 18 (number 2 20)) 21 (
+    with_semicolon (defines false 1 (codes "x") 5 7 (number 1 9)) 10 (
+    with_semicolon (defines false 12 (codes "y") 16 18 (number 2 20)) 21 (
     Standing (Compound (place 1 23) (Block (Many scopes_inner (place 1 38)))) NoStatement))
 
 abbrev pub scopes_inner_tree : node.Statements
@@ -113,8 +113,8 @@ again_tokens = let_tokens 1 (codes "x") 5 7 1 9 10 ++ let_tokens 12 (codes "x") 
 
 abbrev pub again_form : Statements
 again_form =
-    ended (defines false 1 (codes "x") 5 7 (number 1 9)) 10 (
-    ended (defines false 12 (codes "x") 16 18 (number 2 20)) 21 NoStatement)
+    with_semicolon (defines false 1 (codes "x") 5 7 (number 1 9)) 10 (
+    with_semicolon (defines false 12 (codes "x") 16 18 (number 2 20)) 21 NoStatement)
 
 abbrev pub again_tree : node.Statements
 again_tree =
@@ -143,8 +143,9 @@ constant_tokens = constant_begun ++ constant_rest
 
 abbrev pub constant_form : Statements
 constant_form =
-    ended (defines true 1 (codes "x") 7 9 (number 1 11)) 12 (
-    ended (Expression (Assign (named (codes "x") 14) (Sign token.Equals) (place 1 16) (number 2 18))) 19 NoStatement)
+    with_semicolon (defines true 1 (codes "x") 7 9 (number 1 11)) 12 (
+    with_semicolon (Expression (Assign (named (codes "x") 14) (Sign token.Equals) (place 1 16) (number 2 18))) 19
+    NoStatement)
 
 abbrev pub constant_refused : Refusal
 constant_refused = refusal (cause.AssignmentToConstant (codes "x")) (place 1 14)
@@ -168,7 +169,7 @@ abbrev pub open_form : Statements
 open_form = block_alone (LastStatement (evaluates (number 1 3))) 4
 
 abbrev pub ended_form : Statements
-ended_form = block_alone (ended (evaluates (number 1 3)) 4 NoStatement) 5
+ended_form = block_alone (with_semicolon (evaluates (number 1 3)) 4 NoStatement) 5
 
 pub record OpenBlockRow : Type 0 where
   pub missed : Missed (whole_script open_form (depth 64) nothing_live) (unread open_tokens 4)
@@ -223,7 +224,7 @@ abbrev pub let_rest : List (Lexeme × ℕ)
 let_rest = (Integer (pos 1), 9) ∷ (Sign token.SemiColon, 10) ∷ []
 
 abbrev pub let_form : Statements
-let_form = ended (defines false 1 (codes "x") 5 7 (number 1 9)) 10 NoStatement
+let_form = with_semicolon (defines false 1 (codes "x") 5 7 (number 1 9)) 10 NoStatement
 
 abbrev pub let_whole : List (Lexeme × ℕ)
 let_whole = let_begun ++ let_rest

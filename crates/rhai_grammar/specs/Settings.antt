@@ -18,16 +18,16 @@ abbrev pub below_global_level : Settings → Settings
 below_global_level settings = record settings { flags = bit_and settings.flags 254 }
 
 -- the bit of the flags that says that a function's body is parsed
-abbrev pub in_function : Settings → Bool
-in_function settings = bit_and settings.flags 2 == 2
+abbrev pub is_in_function : Settings → Bool
+is_in_function settings = bit_and settings.flags 2 == 2
 
 -- the bit of the flags that says that a loop's body is parsed
 abbrev pub in_loop : Settings → Bool
 in_loop settings = bit_and settings.flags 8 == 8
 
 -- the settings in a loop's body
-abbrev pub loop_body : Settings → Settings
-loop_body settings = record settings { flags = bit_or settings.flags 8 }
+abbrev pub loop_settings : Settings → Settings
+loop_settings settings = record settings { flags = bit_or settings.flags 8 }
 
 -- the bit of the flags that makes a block one expression or assignment
 abbrev pub single_blocks : Settings → Bool

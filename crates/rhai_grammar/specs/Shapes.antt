@@ -287,7 +287,7 @@ abbrev mutual
   pub script_shape : form.Statements → form.Statements
   script_shape form.NoStatement = form.NoStatement
   script_shape (form.LastStatement f) = form.LastStatement (written_shape f)
-  script_shape (form.Ended f semicolon rest) = form.Ended (written_shape f) nowhere (script_shape rest)
+  script_shape (form.WithSemicolon f semicolon rest) = form.WithSemicolon (written_shape f) nowhere (script_shape rest)
   script_shape (form.Standing f rest) = form.Standing (written_shape f) (script_shape rest)
 
   pub body_shape : Body → Body

@@ -253,7 +253,7 @@ abbrev mutual
   pub script_spelling : Statements → List Taken
   script_spelling form.NoStatement = []
   script_spelling (form.LastStatement f) = statement_spelling f
-  script_spelling (form.Ended f semicolon rest) =
+  script_spelling (form.WithSemicolon f semicolon rest) =
       statement_spelling f ++ (in_code (Sign SemiColon) semicolon ∷ script_spelling rest)
   script_spelling (form.Standing f rest) = statement_spelling f ++ script_spelling rest
 

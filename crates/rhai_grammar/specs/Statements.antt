@@ -85,11 +85,12 @@ sign_after EndMark token.EOF = after.Close
 sign_after EndMark _ = after.Nothing
 
 -- what a token is after a statement that does not end by itself
-abbrev pub after_statement : Closing → Lexeme → AfterStatement
-after_statement closing (Sign t) = sign_after closing t
-after_statement closing _ = after.Nothing
+abbrev pub token_after_statement : Closing → Lexeme → AfterStatement
+token_after_statement closing (Sign t) = sign_after closing t
+token_after_statement closing _ = after.Nothing
 
--- An empty statement and a construct end by themselves: no `;` has to follow them. Only `do` ends with its guard.
+-- The tree of a statement that ends by itself (`needs_no_semicolon` of the form): an empty statement, which is also the
+-- tree of a function, and a construct but for `do`.
 abbrev pub ends_itself : node.Statement → Bool
 ends_itself (node.noop p) = true
 ends_itself (node.block_statement b) = true
@@ -149,7 +150,7 @@ separated_at token after.Nothing = Wrong (missing (codes ";") token)
 separated_at token _ = Otherwise
 
 abbrev pub semicolon_due : Closing → Lexeme → Verdict
-semicolon_due closing token = separated_at token (after_statement closing token)
+semicolon_due closing token = separated_at token (token_after_statement closing token)
 
 -- after such a statement without a `;`: what closes the list
 abbrev pub last_at : Lexeme → AfterStatement → Verdict
@@ -158,7 +159,7 @@ last_at token after.SemiColon = Otherwise
 last_at token after.Nothing = Wrong (missing (codes ";") token)
 
 abbrev pub closed_due : Closing → Lexeme → Verdict
-closed_due closing token = last_at token (after_statement closing token)
+closed_due closing token = last_at token (token_after_statement closing token)
 
 -- an expression begins a statement, and no other form of statement does
 abbrev pub expression_at : StatementStart → Verdict

@@ -14,13 +14,12 @@ use Rattle.rhai_lower.specs.declared.token.Token.{Token}
 use Rattle.rhai_lower.specs.declared.token.Token.TheVariants as token
 use Rattle.rhai_grammar.specs.Beginnings.{missing}
 use Rattle.rhai_grammar.specs.CaseValues.{IntegerRange, example_number, example_range, is_empty_range, range_of}
-use Rattle.rhai_grammar.specs.CaseValues.{same_value}
+use Rattle.rhai_grammar.specs.CaseValues.{is_literal_value, same_value}
 use Rattle.rhai_grammar.specs.Causes as cause
 use Rattle.rhai_grammar.specs.Causes.{Refusal, refusal}
 use Rattle.rhai_grammar.specs.CommaLists.{after_part, not_after}
 use Rattle.rhai_grammar.specs.Constructs.{refused_there}
 use Rattle.rhai_grammar.specs.Demands.{Verdict, Fine, Wrong, Blames, Otherwise}
-use Rattle.rhai_grammar.specs.Kinds.{is_literal_value}
 use Rattle.rhai_grammar.specs.Statements.{ends_itself}
 use Rattle.rhai_grammar.specs.declared.due.DueToken.TheVariants as due
 use Rattle.rhai_grammar.specs.declared.list.AfterPart.{AfterPart}
@@ -78,7 +77,7 @@ abbrev pub action_due : Lexeme → Verdict
 action_due (Sign token.EOF) = Wrong cause.UnexpectedEOF
 action_due _ = Fine
 
--- A statement after which an arm needs no comma: one that ends by itself, but not an empty one.
+-- The tree of a statement after which an arm needs no comma (`statement_ends_arm` of the form).
 abbrev pub ends_arm : node.Statement → Bool
 ends_arm (node.noop p) = false
 ends_arm f = ends_itself f

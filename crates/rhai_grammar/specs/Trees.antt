@@ -29,7 +29,7 @@ use Rattle.rhai_grammar.specs.Contexts.{Live, in_block, nothing_live}
 use Rattle.rhai_grammar.specs.Definitions.{after_statement, alias_of, catch_live, loop_live, reused}
 use Rattle.rhai_grammar.specs.Interpolations.{with_text}
 use Rattle.rhai_grammar.specs.Modules.{is_scoped, path_tree}
-use Rattle.rhai_grammar.specs.Switches.{Collected, ends_arm, no_guard, nothing_collected, switch_tree}
+use Rattle.rhai_grammar.specs.Switches.{Collected, no_guard, nothing_collected, switch_tree}
 use Rattle.rhai_grammar.specs.Switches.{with_arm_collected, with_default_collected}
 use Rattle.rhai_grammar.specs.Targets.{update_of}
 use Rattle.rhai_grammar.specs.Forms as form
@@ -315,7 +315,7 @@ abbrev mutual
   pub statement_trees : Statements → Live → node.Statements
   statement_trees form.NoStatement live = no_statements
   statement_trees (form.LastStatement f) live = kept (statement_tree f live) no_statements
-  statement_trees (form.Ended f semicolon rest) live =
+  statement_trees (form.WithSemicolon f semicolon rest) live =
       kept (statement_tree f live) (statement_trees rest (after_statement f live))
   statement_trees (form.Standing f rest) live =
       kept (statement_tree f live) (statement_trees rest (after_statement f live))
@@ -347,11 +347,6 @@ abbrev pub closure_tree : ClosureHead → ClosureBody → (number : ℕ) → (ca
 closure_tree head body number captured =
     let names = declared_names head in
     ended_closure number captured names (made_block (body_tree body (parameters_live names)))
-
--- An arm that does this needs no comma after it.
-abbrev pub action_ends : Action → Live → Bool
-action_ends (form.Does f) live = ends_arm (statement_tree f (in_block live))
-action_ends (form.Gives f) live = false
 
 abbrev example_one : (column : ℕ) → Run
 example_one column =

@@ -194,7 +194,7 @@ abbrev mutual
   pub script_events : Statements → Live → List Event
   script_events form.NoStatement live = []
   script_events (form.LastStatement f) live = statement_events f live
-  script_events (form.Ended f semicolon rest) live =
+  script_events (form.WithSemicolon f semicolon rest) live =
       statement_events f live ++ script_events rest (after_statement f live)
   script_events (form.Standing f rest) live = statement_events f live ++ script_events rest (after_statement f live)
 

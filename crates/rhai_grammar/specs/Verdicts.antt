@@ -8,7 +8,7 @@ use Rattle.rhai_lower.specs.declared.position.Position.{Position}
 use Rattle.rhai_grammar.specs.Causes as cause
 use Rattle.rhai_grammar.specs.Causes.{Cause, Refusal, refusal}
 use Rattle.rhai_grammar.specs.Delivered.{is_end}
-use Rattle.rhai_grammar.specs.Settings.{Settings, in_function, quoted_keys}
+use Rattle.rhai_grammar.specs.Settings.{Settings, is_in_function, quoted_keys}
 use Rattle.rhai_grammar.specs.DueTokens.{is_due, not_due}
 use Rattle.rhai_grammar.specs.Libraries.{Library}
 use Rattle.rhai_grammar.specs.declared.due.DueToken.{DueToken}
@@ -66,7 +66,7 @@ abbrev pub word_use : Context → Text → Position → (called : Bool) → Verd
 word_use context word at called =
     if may_be_called word && called then Fine else
     if is_this word then
-    (if in_function context.settings then Fine else
+    (if is_in_function context.settings then Fine else
     Blames (refusal (cause.BadInput (cause.ImproperSymbol word)) at)) else
     Blames (refusal (cause.Reserved word) at)
 

@@ -18,18 +18,19 @@ use Rattle.rhai_grammar.specs.Beginnings.{linking, is_bracket, is_dot}
 use Rattle.rhai_grammar.specs.declared.list.CommaList.TheVariants as lists
 use Rattle.rhai_grammar.specs.Signs.{sign_holds, malformed}
 use Rattle.rhai_grammar.specs.Strengths.{is_operator}
+use Rattle.rhai_grammar.specs.Ends.{action_ends, needs_no_semicolon}
 use Rattle.rhai_grammar.specs.Forms as form
 use Rattle.rhai_grammar.specs.Forms.{Primary, Base, Links, Operand, Arguments, Items, Elements, Fields, Run}
 use Rattle.rhai_grammar.specs.Forms.{Body, ExprStatement, Initializer, JumpValue, Path, Segments, Statement, Statements}
 use Rattle.rhai_grammar.specs.Definitions.{after_statement}
 use Rattle.rhai_grammar.specs.Targets.{is_assignment, is_constant_use, target_fault}
-use Rattle.rhai_grammar.specs.Statements.{closed_due, ends_itself, expression_begins, keyword_of, list_ends}
+use Rattle.rhai_grammar.specs.Statements.{closed_due, expression_begins, keyword_of, list_ends}
 use Rattle.rhai_grammar.specs.Statements.{exported_due, exports_definition, semicolon_due, statement_begins, unassigned}
 use Rattle.rhai_grammar.specs.Statements.{without_value}
 use Rattle.rhai_grammar.specs.declared.role.Closing.{Closing}
 use Rattle.rhai_grammar.specs.declared.role.Closing.TheVariants.{Brace, EndMark}
 use Rattle.rhai_grammar.specs.Trees.{is_variable, bracket_link, member_link, method_tree, primary_tree, base_tree}
-use Rattle.rhai_grammar.specs.Trees.{argument_trees, named_tree, operand_tree, statement_tree, tree}
+use Rattle.rhai_grammar.specs.Trees.{argument_trees, named_tree, operand_tree, tree}
 use Rattle.rhai_grammar.specs.Modules.{is_qualified, is_scoped, module_fault}
 use Rattle.rhai_grammar.specs.Chains.{index_refusal, last_fault}
 use Rattle.rhai_grammar.specs.Demands.{Verdict, Demands, Nothing, Tok, Ahead, Next}
@@ -48,7 +49,7 @@ use Rattle.rhai_grammar.specs.Forms.{Action, Arms, Branch, CaseGuard, Cases, Con
 use Rattle.rhai_grammar.specs.Starts.{jump_stands}
 use Rattle.rhai_grammar.specs.Switches.{Collected, action_due, arm_begins, arm_fault, arms_end, default_ends}
 use Rattle.rhai_grammar.specs.Switches.{unguarded, nothing_collected, with_arm_collected}
-use Rattle.rhai_grammar.specs.Trees.{action_ends, action_tree, case_trees, caught, caught_name, counter_of, guard_tree}
+use Rattle.rhai_grammar.specs.Trees.{action_tree, case_trees, caught, caught_name, counter_of, guard_tree}
 use Rattle.rhai_grammar.specs.Trees.{loop_name}
 use Rattle.rhai_lower.specs.declared.token.Token.TheVariants as token
 pub use Rattle.rhai_grammar.specs.Parts.{due_token, comma_at, closed_at, raise, raise_at, raise_after, begun, ended}
@@ -257,8 +258,8 @@ abbrev mutual
   jump_value (form.Present f) context live at more =
       Next (value_follows context) ▸ raise_at context at (as_expression (run f) (level_up context) live more)
 
-  -- A statement raises the level at its first token, but for `;` and `continue`; a construct and `import` raise it once
-  -- more, and so does `export` before a definition.
+  -- A statement raises the level at its first token, but for `;`, `continue` and a function, which begins at a level of
+  -- its own. A construct and `import` raise it once more, and so does `export` before a definition.
   pub statement : Statement → Context → Live → Demands → Demands
   statement (form.EmptyStatement at) context live more = Tok code (item (Sign SemiColon) at) anything ▸ more
   statement (form.Expression x) context live more =
@@ -346,13 +347,13 @@ abbrev mutual
   arms (form.Arm xs guard arrow does comma rest) before context live more =
       Next arm_begins ▸ cases xs context live (case_guard guard context live (
       due_token due.DoubleArrow arrow (action does context live (
-      unfaulted (arm_fault before (case_trees xs live)) (separated comma (action_ends does live) (
+      unfaulted (arm_fault before (case_trees xs live)) (separated comma (action_ends does) (
       arms rest (with_arm_collected before (case_trees xs live) (guard_tree guard live) (action_tree does live)) context
       live more))))))
   arms (form.DefaultArm at arrow does comma closing) before context live more =
       Tok code (item (Sign token.Underscore) at) anything ▸ Next unguarded ▸
       due_token due.DoubleArrow arrow (action does context live (
-      separated comma (action_ends does live) (
+      separated comma (action_ends does) (
       Tok code (item (Sign RightBrace) closing) (default_ends at) ▸ more)))
 
   pub cases : Cases → Context → Live → Demands → Demands
@@ -378,15 +379,15 @@ abbrev mutual
   statements form.NoStatement closing context live more = Next (list_ends closing) ▸ more
   statements (form.LastStatement f) closing context live more =
       Next (statement_begins closing) ▸ statement f context live (
-      Shape (not (ends_itself (statement_tree f live))) ▸ Next (closed_due closing) ▸ more)
-  statements (form.Ended f semicolon rest) closing context live more =
+      Shape (not (needs_no_semicolon f)) ▸ Next (closed_due closing) ▸ more)
+  statements (form.WithSemicolon f semicolon rest) closing context live more =
       Next (statement_begins closing) ▸ statement f context live (
-      Shape (not (ends_itself (statement_tree f live))) ▸
+      Shape (not (needs_no_semicolon f)) ▸
       Tok code (item (Sign SemiColon) semicolon) (semicolon_due closing) ▸
       statements rest closing context (after_statement f live) more)
   statements (form.Standing f rest) closing context live more =
       Next (statement_begins closing) ▸ statement f context live (
-      Shape (ends_itself (statement_tree f live)) ▸
+      Shape (needs_no_semicolon f) ▸
       statements rest closing context (after_statement f live) more)
 
   -- The statements of a block are below the global level.

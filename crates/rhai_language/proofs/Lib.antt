@@ -2,3 +2,4 @@ pub mod Bounds
 pub mod Given
 pub mod ParameterLemmas
 pub mod Readers
+pub mod Rooms

@@ -2,3 +2,4 @@ pub mod Bounds
 pub mod Frames
 pub mod Languages
 pub mod Readers
+pub mod Rooms

@@ -5,6 +5,7 @@ ghost use Rattle.rhai_ast.specs.View.{block_view};
 ghost use Rattle.rhai_grammar.specs.Cursors.{left};
 ghost use Rattle.rhai_language.specs.Readers.{Covers, GoesOn, Reads, block, state_of, statements_of};
 ghost use Rattle.rhai_reading.specs.Reading.{BlockEnd, BlockStart};
+ghost use Rattle.rhai_language.specs.Rooms.{Stays, Steady};
 
 use crate::language::Language;
 use crate::lent::LentReaders;
@@ -22,6 +23,7 @@ use std::alloc::Global;
 #[tactic(auto, using(rhai_reading::proofs::Steps::step_block_start))]
 pub fn begin_block(alloc: Global, shared: &mut Shared<'_>, note: &str) -> ParseResult<Position>
     ensures goes_on { GoesOn shared.old shared.new }
+    ensures steady { Steady shared.old shared.new }
     ensures reads { Reads BlockStart (λ p. p) shared.old result shared.new }
     ensures shrinks { OnOk result (left (state_of shared.new).cursor.tokens + 1
         ≤ left (state_of shared.old).cursor.tokens) }
@@ -41,6 +43,7 @@ pub fn end_block(
     start: Position,
 ) -> ParseResult<StmtBlock>
     ensures goes_on { GoesOn shared.old shared.new }
+    ensures steady { Steady shared.old shared.new }
     ensures reads { Reads (BlockEnd start (statements_of statements)) block_view shared.old result shared.new }
 {
     let (_, end) = peek(shared.input)?;
@@ -66,6 +69,7 @@ pub fn parse_block<R: LentReaders>(
 ) -> ParseResult<StmtBlock>
     requires lent { Covers (R.lent readers.now) (block language.now frame.now settings) shared.old }
     ensures goes_on { GoesOn shared.old shared.new }
+    ensures stays { Stays language.now frame.now settings 3 shared.old shared.new }
     ensures reads { Reads (block language.now frame.now settings) block_view shared.old result shared.new }
 {
     let statements = readers.parse_block_inside(language, shared, frame, settings)?;

@@ -1,10 +1,11 @@
 //! What the readers of a script read for each other.
 
-ghost use Rattle.std.specs.Prelude.{ℕ};
+ghost use Rattle.std.specs.Prelude.{ℕ, ◌+◌};
 ghost use Rattle.rhai_ast.specs.View.{statement_view, view};
 ghost use Rattle.rhai_language.specs.Readers.{GoesOn, Nests, construct, expression, inside, primary, state_of};
 ghost use Rattle.rhai_language.specs.Readers.{statement, statements_of, with_live};
 ghost use Rattle.rhai_reading.specs.Running.{need};
+ghost use Rattle.rhai_language.specs.Rooms.{Stays, function_room};
 
 use crate::language::Language;
 use crate::shared::Shared;
@@ -27,6 +28,7 @@ pub trait LentReaders {
     ) -> ParseResult<Expr>
         requires covered { lent self.now (need (expression language.now frame.now settings) (state_of shared.old)) }
         ensures goes_on { GoesOn shared.old shared.new }
+        ensures stays { Stays language.now frame.now settings 1 shared.old shared.new }
         ensures reads { Nests (expression language.now frame.now settings) view shared.old result shared.new };
 
     /// Reads what an operand begins with, without its sign, what calls it and its links.
@@ -39,6 +41,7 @@ pub trait LentReaders {
     ) -> ParseResult<Expr>
         requires covered { lent self.now (need (primary language.now frame.now settings) (state_of shared.old)) }
         ensures goes_on { GoesOn shared.old shared.new }
+        ensures stays { Stays language.now frame.now settings 2 shared.old shared.new }
         ensures reads { Nests (primary language.now frame.now settings) view shared.old result shared.new };
 
     /// Reads a construct of this kind after its first token, where the settings stand.
@@ -52,6 +55,7 @@ pub trait LentReaders {
     ) -> ParseResult<Stmt>
         requires covered { lent self.now (need (construct language.now frame.now settings kind) (state_of shared.old)) }
         ensures goes_on { GoesOn shared.old shared.new }
+        ensures stays { Stays language.now frame.now settings 5 shared.old shared.new }
         ensures reads { Nests (construct language.now frame.now settings kind) statement_view shared.old result
             shared.new };
 
@@ -65,6 +69,7 @@ pub trait LentReaders {
     ) -> ParseResult<Vec<Stmt>>
         requires covered { lent self.now (need (inside language.now frame.now settings) (state_of shared.old)) }
         ensures goes_on { GoesOn shared.old shared.new }
+        ensures stays { Stays language.now frame.now settings 3 shared.old shared.new }
         ensures reads { Nests (inside language.now frame.now settings) statements_of shared.old result shared.new };
 
     /// Reads a statement. The level is raised at its first token.
@@ -77,6 +82,7 @@ pub trait LentReaders {
     ) -> ParseResult<Stmt>
         requires covered { lent self.now (need (statement language.now frame.old settings) (state_of shared.old)) }
         ensures goes_on { GoesOn shared.old shared.new }
+        ensures stays { Stays language.now frame.old settings (2 + function_room language.now settings) shared.old shared.new }
         ensures reads { Nests (statement language.now frame.old settings) (with_live statement_view frame.new)
             shared.old result shared.new };
 }

@@ -9,6 +9,7 @@ ghost use Rattle.rhai_grammar.specs.Imports.{is_among};
 ghost use Rattle.rhai_base.specs.Frames.{SamePlace};
 ghost use Rattle.rhai_reading.specs.Reading.{Parameters};
 ghost use Rattle.rhai_language.specs.Readers.{GoesOn, Reads, names_of};
+ghost use Rattle.rhai_language.specs.Rooms.{Steady};
 
 use crate::shared::Shared;
 use rhai_base::Frame;
@@ -30,6 +31,7 @@ pub fn next_parameters(
     function: &RcStr,
 ) -> ParseResult<Vec<RcStr>>
     ensures goes_on { GoesOn shared.old shared.new }
+    ensures steady { Steady shared.old shared.new }
     ensures reads { Reads (Parameters list (rc_str_bytes function.now) []) names_of shared.old result shared.new }
 {
     let mut names = Vec::new(alloc);

@@ -6,6 +6,7 @@ ghost use Rattle.rhai_grammar.specs.Uses.{noted};
 ghost use Rattle.rhai_base.specs.Uses.{uses_of};
 ghost use Rattle.rhai_reading.specs.Running.{entering, leaving, with_captured};
 ghost use Rattle.rhai_language.specs.Readers.{GoesOn, state_of};
+ghost use Rattle.rhai_language.specs.Rooms.{Enters, Leaves, Steady};
 
 use rhai_base::captured::add_use;
 use rhai_base::{Library, ParseCounts};
@@ -30,16 +31,20 @@ pub struct Shared<'s> {
 
 impl Shared<'_> {
     /// A reader begins.
+    #[tactic(auto, unfolding(crate::specs::Rooms::IsWithin, rhai_grammar::specs::Settings::one_more))]
     pub fn enter(&mut self)
         ensures goes_on { GoesOn self.old self.new }
+        ensures stays { Enters self.old self.new }
         ensures enters { state_of self.new ≡ entering (state_of self.old) }
     {
         self.counts.nest_enter();
     }
 
     /// It returns.
+    #[tactic(auto, unfolding(crate::specs::Rooms::IsWithin))]
     pub fn leave(&mut self)
         ensures goes_on { GoesOn self.old self.new }
+        ensures stays { Leaves self.old self.new }
         ensures leaves { state_of self.new ≡ leaving (state_of self.old) }
     {
         self.counts.nest_leave();
@@ -49,6 +54,7 @@ impl Shared<'_> {
     /// memory for it.
     pub fn note(&mut self, captures: bool, name: &RcStr, pos: Position) -> Result<(), AllocError>
         ensures goes_on { GoesOn self.old self.new }
+        ensures steady { Steady self.old self.new }
         ensures notes { OnOk result (state_of self.new ≡ with_captured (noted captures
             (record { name = rc_str_bytes name.now; at = pos }) (state_of self.old).captured) (state_of self.old)) }
     {
@@ -62,6 +68,7 @@ impl Shared<'_> {
     /// allocate.
     pub fn begin_apart(&mut self, alloc: Global) -> Vec<(RcStr, Position)>
         ensures goes_on { GoesOn self.old self.new }
+        ensures steady { Steady self.old self.new }
         ensures outer { uses_of result.items ≡ (state_of self.old).captured }
         ensures apart { state_of self.new ≡ with_captured [] (state_of self.old) }
     {
@@ -72,6 +79,7 @@ impl Shared<'_> {
     /// allocate.
     pub fn end_apart(&mut self, outer: Vec<(RcStr, Position)>) -> Vec<(RcStr, Position)>
         ensures goes_on { GoesOn self.old self.new }
+        ensures steady { Steady self.old self.new }
         ensures captured { uses_of result.items ≡ (state_of self.old).captured }
         ensures back { state_of self.new ≡ with_captured (uses_of outer.items) (state_of self.old) }
     {

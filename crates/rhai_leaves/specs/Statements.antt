@@ -9,7 +9,7 @@ use Rattle.rhai_grammar.specs.Beginnings.{is_name, missing}
 use Rattle.rhai_grammar.specs.Causes.{is_for_memory, refusal, refusal_of}
 use Rattle.rhai_grammar.specs.Cursors.{Cursor, asked, looking, taking}
 use Rattle.rhai_grammar.specs.Delivered.{is_memory}
-use Rattle.rhai_grammar.specs.Statements.{after_statement, no_variable}
+use Rattle.rhai_grammar.specs.Statements.{no_variable, token_after_statement}
 use Rattle.rhai_grammar.specs.declared.error.ParseError.{ParseError}
 use Rattle.rhai_grammar.specs.declared.role.AfterStatement.TheVariants as after
 use Rattle.rhai_grammar.specs.declared.role.Closing.{Closing}
@@ -32,11 +32,11 @@ place_found false = place.Statement
 -- another token is refused and stays, unless memory ran out.
 abbrev pub Separates : Closing → Cursor → Result Bool ParseError → Cursor → Type 0
 Separates closing s (Ok semicolon) t =
-    (IsTrue semicolon → (after_statement closing (asked s).lexeme ≡ after.SemiColon) × (t ≡ taking s))
-    × (semicolon ≡ false → (after_statement closing (asked s).lexeme ≡ after.Close) × (t ≡ looking s))
+    (IsTrue semicolon → (token_after_statement closing (asked s).lexeme ≡ after.SemiColon) × (t ≡ taking s))
+    × (semicolon ≡ false → (token_after_statement closing (asked s).lexeme ≡ after.Close) × (t ≡ looking s))
     × (is_memory (asked s).lexeme ≡ false)
 Separates closing s (Err e) t =
-    is_for_memory e ≡ false → (after_statement closing (asked s).lexeme ≡ after.Nothing)
+    is_for_memory e ≡ false → (token_after_statement closing (asked s).lexeme ≡ after.Nothing)
     × (is_memory (asked s).lexeme ≡ false)
     × (refusal_of e ≡ refusal (missing (codes ";") (asked s).lexeme) (asked s).at) × (t ≡ looking s)
 

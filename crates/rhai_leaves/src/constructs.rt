@@ -5,7 +5,7 @@ ghost use Rattle.std.specs.Rc.{rc_str_bytes};
 ghost use Rattle.rhai_lower.specs.Lexemes.{lexeme};
 ghost use Rattle.rhai_lower.specs.Texts.{same_text};
 ghost use Rattle.rhai_grammar.specs.Causes.{DuplicatedVariable, MemoryIsNowhere, is_for_memory, refusal, refusal_of};
-ghost use Rattle.rhai_grammar.specs.Constructs.{do_end, may_stand, no_assignment, no_block};
+ghost use Rattle.rhai_grammar.specs.Constructs.{do_end, guard_expected, may_stand, no_assignment};
 ghost use Rattle.rhai_grammar.specs.Contexts.{Context, allows_looping};
 ghost use Rattle.rhai_grammar.specs.Cursors.{asked, cursor_of, left, looking};
 ghost use Rattle.rhai_grammar.specs.Delivered.{is_end, is_memory};
@@ -41,7 +41,7 @@ pub fn guard_begins(alloc: Global, input: &mut TokenStream) -> ParseResult<()>
     ensures refused { IfErr result (λ e. is_for_memory e ≡ false
         → (is_due LeftBrace (asked (cursor_of input.old)).lexeme ≡ true)
         × (is_memory (asked (cursor_of input.old)).lexeme ≡ false)
-        × (refusal_of e ≡ refusal no_block (asked (cursor_of input.old)).at)) }
+        × (refusal_of e ≡ refusal guard_expected (asked (cursor_of input.old)).at)) }
     ensures nowhere { IfErr result MemoryIsNowhere }
     ensures after { cursor_of input.new ≡ looking (cursor_of input.old) }
 {

@@ -8,8 +8,8 @@ ghost use Rattle.rhai_grammar.specs.Causes.{MemoryIsNowhere, cause_of, is_for_me
 ghost use Rattle.rhai_grammar.specs.Contexts.{Context, allows_looping};
 ghost use Rattle.rhai_grammar.specs.Cursors.{asked, cursor_of, left, looking};
 ghost use Rattle.rhai_grammar.specs.Delivered.{is_end, is_memory};
-ghost use Rattle.rhai_grammar.specs.Statements.{after_statement, allowed_start, any_start, defines};
-ghost use Rattle.rhai_grammar.specs.Statements.{no_variable, statement_place, statement_start};
+ghost use Rattle.rhai_grammar.specs.Statements.{allowed_start, any_start, defines};
+ghost use Rattle.rhai_grammar.specs.Statements.{no_variable, statement_place, statement_start, token_after_statement};
 ghost use Rattle.rhai_grammar.specs.Targets.{is_assignment, is_equals};
 ghost use Rattle.rhai_grammar.specs.declared.role.AfterStatement.TheVariants.{SemiColon};
 ghost use Rattle.rhai_grammar.specs.declared.role.StatementPlace.TheVariants.{Nothing, Statement};
@@ -125,8 +125,8 @@ pub fn list_ends(alloc: Global, input: &mut TokenStream, closing: Closing) -> Pa
 }
 
 // What a token is after a statement that does not end by itself.
-fn after_statement(closing: Closing, token: &Token) -> AfterStatement
-    ensures after { result ≡ after_statement closing (lexeme token.now) }
+fn token_after_statement(closing: Closing, token: &Token) -> AfterStatement
+    ensures after { result ≡ token_after_statement closing (lexeme token.now) }
     ensures more { result ≡ SemiColon → is_end (lexeme token.now) ≡ false }
 {
     match closing {
@@ -160,7 +160,7 @@ pub fn statement_continues(
         → left (cursor_of input.new).tokens + 1 ≤ left (cursor_of input.old).tokens) }
 {
     let (token, pos) = peek(input)?;
-    match after_statement(closing, token) {
+    match token_after_statement(closing, token) {
         AfterStatement::SemiColon => {
             skip(input);
             Ok(true)

@@ -17,37 +17,44 @@ use Rattle.rhai_grammar.specs.Cursors.{Cursor}
 use Rattle.rhai_grammar.specs.Depths.{statements_depth}
 use Rattle.rhai_grammar.specs.Forms.{Statements}
 use Rattle.rhai_grammar.specs.Libraries.{Library}
+use Rattle.rhai_grammar.specs.NumberedLibraries.{IsOrderly}
 use Rattle.rhai_grammar.specs.Promises.{IsWritten, scripts}
 use Rattle.rhai_parser.specs.Nesting.{ActiveAgain, NestsAsWritten, ReturnsTo, StaysWithin}
 use Rattle.rhai_reading.specs.Nesting.{Nesting, entered}
 use Rattle.rhai_reading.proofs.DepthMain.{script_nests}
 use Rattle.rhai_reading.proofs.Main.{IsNew}
-use Rattle.rhai_reading.proofs.Rooms.{Stays, StaysSo}
-use Rattle.rhai_reading.proofs.Heights.{IsLimited, nests_within, room, script_room}
+use Rattle.std.proofs.Math.Nat.{le_refl}
+use Rattle.rhai_base.specs.Counts.{counts_of}
+use Rattle.rhai_base.specs.Frames.{FrameValue}
+use Rattle.rhai_base.specs.Libraries.{library_of}
+use Rattle.rhai_language.specs.Rooms.{Holds, IsWithin, Stays, function_room}
+use Rattle.rhai_language.specs.declared.shared.Shared.{Shared}
+use Rattle.rhai_language.proofs.Rooms.{function_room_most, gap_most}
 use Rattle.std.proofs.Common.{Bool, true, false, nat_lt, refl, inl, inr}
 use Rattle.std.proofs.lemmas.Bool.{ltb-false, ltb-true}
 use Rattle.rhai_reading.proofs.Grows.{Again, AgainSo, active_again}
 
-module _ (c : Context) (w : Live) (s t : Progress) (h : IsLimited c.settings.limit c.sizes.function_depth)
-    (start : c.settings.level ≡ 0) where
-  abbrev most : ℕ
-  most = max s.nesting.peak (s.nesting.active + 8 * (c.settings.limit + c.sizes.function_depth + 1))
+-- what the code's reader of a script leaves
+pub stays_read : (language engine : LanguageValue) (frame : FrameValue) (settings : ParseSettings) (old new : Shared)
+    → language ≡ engine → Stays language frame settings (2 + function_room language settings) old new
+    → StaysWithin 1 engine settings (counts_of old.counts) (counts_of new.counts)
+unfolding IsWithin
+stays_read language engine frame settings old new is h =
+    subst (λ e. StaysWithin 1 e settings (counts_of old.counts) (counts_of new.counts)) is (λ positive more.
+    let a = old.counts.active in
+    let top = max old.counts.peak (a + 8 * (settings.max_expr_depth + language.max_function_expr_depth + 1)) in
+    let right = le-max_right old.counts.peak (a + 8 * (settings.max_expr_depth + language.max_function_expr_depth + 1)) in
+    let levels = gap_most settings.max_expr_depth settings.level in
+    let function = function_room_most language settings in
+    (h.nesting a top positive more (omega (arith, right, levels, function)) (le_refl a, le-max_left _ _)).1)
 
-  so : Stays s.nesting.active (max s.nesting.peak (s.nesting.active + room (Script c w))) t.nesting → t.nesting.peak ≤ most
-  so stays =
-      let left = le-max_left s.nesting.peak (s.nesting.active + 8 * (c.settings.limit + c.sizes.function_depth + 1)) in
-      let right = le-max_right s.nesting.peak (s.nesting.active + 8 * (c.settings.limit + c.sizes.function_depth + 1)) in
-      let whole = script_room c w start in
-      let both : max s.nesting.peak (s.nesting.active + room (Script c w)) ≤ most = max-le left (omega (arith, whole, right)) in
-      omega (arith, stays.peak, both)
-
-  pub within_done : {x : node.Statements × Live} → result_of (Script c w) s ≡ Done x t → t.nesting.peak ≤ most
-  within_done e =
-      so (subst (StaysSo s.nesting.active (max s.nesting.peak (s.nesting.active + room (Script c w)))) e (nests_within (Script c w) h s))
-
-  pub within_refused : {r : Refusal} → result_of (Script c w) s ≡ Refused r t → t.nesting.peak ≤ most
-  within_refused e =
-      so (subst (StaysSo s.nesting.active (max s.nesting.peak (s.nesting.active + room (Script c w)))) e (nests_within (Script c w) h s))
+-- a library stays orderly in the state of an entry, from which its frame has how many have begun
+pub orderly_so : (engine : LanguageValue) (begun here : ℕ) (old new : Library) → here ≡ begun
+    → (Holds engine.max_functions here old → Holds engine.max_functions here new)
+    → IsOrderly engine.max_functions begun old → IsOrderly engine.max_functions begun new
+unfolding Holds
+orderly_so engine begun here old new is h =
+    subst (λ n. IsOrderly engine.max_functions n old → IsOrderly engine.max_functions n new) is h
 
 -- the entry itself is one more
 pub with_entry : (p a peak n : ℕ) → peak ≤ max (max p (one_more a)) (one_more a + 8 * (n + 1))
@@ -61,27 +68,14 @@ with_entry p a peak n h =
     let both : max (max p (min (a + 1) (2 ^ 64 - 1))) (min (a + 1) (2 ^ 64 - 1) + 8 * (n + 1)) ≤ max p (a + 8 * (n + 2)) = max-le first (omega (arith, less, right)) in
     omega (arith, h, both)
 
--- what the code's reader of a script answers
-pub stays_read : {X : Type 0} (view : X → node.Statements × Live) (c : Context) (w : Live) (s t : Progress)
-    (r : Result X ParseError) → c.settings.limit ≤ 2 ^ 64 - 1 → c.sizes.function_depth ≤ 2 ^ 64 - 1
-    → Gives view (result_of (Script c w) s) r t
-    → UnlessMemory (λ refused. 1 ≤ c.settings.limit → 1 ≤ c.sizes.function_depth → c.settings.level ≡ 0
-    → t.nesting.peak ≤ max s.nesting.peak (s.nesting.active + 8 * (c.settings.limit + c.sizes.function_depth + 1))) r
-stays_read view c w s t (Ok x) depth function gives = λ positive more start.
-    within_done c w s t (record { positive = positive; bounded = depth; function_positive = more; function_bounded = function })
-    start gives
-stays_read view c w s t (Err e) depth function gives = λ told positive more start.
-    within_refused c w s t (record { positive = positive; bounded = depth; function_positive = more; function_bounded = function })
-    start (gives.0 told)
-
 -- so it is for the entry, which is entered before and left after
 pub entry_stays : (engine : LanguageValue) (settings : ParseSettings) (old begun read left : Counts)
     → begun ≡ with_entered old → left ≡ with_left read → StaysWithin 1 engine settings begun read
     → StaysWithin 2 engine settings old left
-entry_stays engine settings old begun read left enters leaves stays = λ positive more start.
+entry_stays engine settings old begun read left enters leaves stays = λ positive more.
     let n = settings.max_expr_depth + engine.max_function_expr_depth in
     let h : read.peak ≤ max begun.peak (begun.active + 8 * (settings.max_expr_depth + engine.max_function_expr_depth + 1))
-    = stays positive more start in
+    = stays positive more in
     let i : left.peak ≡ read.peak = ap (λ (c : Counts). c.peak) leaves in
     let j : read.peak ≤ max (max old.peak (one_more old.active)) (one_more old.active + 8 * (settings.max_expr_depth + engine.max_function_expr_depth + 1))
     = subst (λ (c : Counts). read.peak ≤ max c.peak (c.active + 8 * (settings.max_expr_depth + engine.max_function_expr_depth + 1))) enters h in

@@ -21,7 +21,6 @@ use Rattle.rhai_grammar.specs.Libraries.{Library}
 use Rattle.rhai_grammar.specs.Trees.{statement_trees, tree}
 use Rattle.rhai_grammar.specs.Definitions.{after_statements}
 use Rattle.rhai_grammar.specs.NumberedLibraries.{IsOrderly}
-use Rattle.rhai_grammar.proofs.OrderLemmas.{libraries_stay_orderly}
 use Rattle.rhai_grammar.specs.Promises.{HasRead, ReadsWhole, Returns, UnlessMemory, expressions, scripts, start_of}
 use Rattle.rhai_grammar.specs.declared.key.FnKey.{FnKey}
 use Rattle.rhai_base.specs.Libraries.{Begins, Grows, library_of}
@@ -196,52 +195,6 @@ pub script_fails : (c : Context) (live : Live) (s left : Progress) (e : ParseErr
 script_fails c live s left e slots modules mode fails =
     reads_fails (script_entry c live) (λ fs script. IsScript fs live left.library script slots modules) s left e mode fails
 
--- ---- what the library holds
-
-module _ {F X : Type 0} (whole : F → Demands) (Is : F → X → Type 0) (limit : ℕ) (before after : Library) (s left : Cursor)
-    (fits : (f : F) (a b : Point) → IsOrderly limit 0 a.library → Met (whole f) a b → IsOrderly limit 0 b.library)
-    (misses : (f : F) (a b : Point) (e : Refusal) (m : Mode) → IsOrderly limit 0 a.library → Missed (whole f) a e m b → IsOrderly limit 0 b.library)
-  where
-    orderly_so : (result : Result X ParseError) → ReadsWhole whole Is before after s left result → IsOrderly limit 0 before
-        → UnlessMemory (λ refused. IsOrderly limit 0 after) result
-    orderly_so (Ok x) reads orderly =
-        let w = reads.accepted in
-        subst (IsOrderly limit 0) w.1.2 (fits w.0 (start_of before s) w.1.0 orderly w.1.1)
-    orderly_so (Err e) reads orderly = λ other.
-        let named = (reads.refused other).1.named in
-        misses named.form (start_of before s) _ _ _ orderly named.missed
-
-script_fits_orderly : (c : Context) (live : Live) → c.begun ≡ 0 → (fs : form.Statements) (a b : Point)
-    → IsOrderly c.sizes.functions 0 a.library → Met (scripts c live fs) a b → IsOrderly c.sizes.functions 0 b.library
-script_fits_orderly c live none fs a b o met =
-    subst (λ n. IsOrderly c.sizes.functions n b.library) none
-    (libraries_stay_orderly.script c live fs a b (subst (λ n. IsOrderly c.sizes.functions n a.library) (sym none) o) met)
-
-script_misses_orderly : (c : Context) (live : Live) → c.begun ≡ 0 → (fs : form.Statements) (a b : Point) (e : Refusal) (m : Mode)
-    → IsOrderly c.sizes.functions 0 a.library → Missed (scripts c live fs) a e m b → IsOrderly c.sizes.functions 0 b.library
-script_misses_orderly c live none fs a b e m o missed =
-    libraries_stay_orderly.script_refused c live fs a b e m (subst (λ n. IsOrderly c.sizes.functions n a.library) (sym none) o) missed
-
-pub script_orderly : (c : Context) (live : Live) (before after : Library) (s left : Cursor) (slots : List SlotValue)
-    (modules : List Text) (result : Result Read ParseError) → c.begun ≡ 0
-    → ReadsScript c live before after s left result slots modules → IsOrderly c.sizes.functions 0 before
-    → UnlessMemory (λ refused. IsOrderly c.sizes.functions 0 after) result
-script_orderly c live before after s left slots modules result none reads =
-    orderly_so (scripts c live) (λ fs script. IsScript fs live after script slots modules) c.sizes.functions before after s left
-    (script_fits_orderly c live none) (script_misses_orderly c live none)
-    result reads
-
-pub expression_orderly : (c : Context) (live : Live) (before after : Library) (s left : Cursor) (constants : Constants)
-    (level : OptimizationLevel) (result : Result AST ParseError) → c.begun ≡ 0
-    → ReadsExpression c live before after s left constants level result → IsOrderly c.sizes.functions 0 before
-    → UnlessMemory (λ refused. IsOrderly c.sizes.functions 0 after) result
-expression_orderly c live before after s left constants level result none reads =
-    orderly_so (expressions c live) (λ f script. IsScriptOf constants level (tree f live) after script) c.sizes.functions before after s left
-    (λ f a b o met. subst (λ n. IsOrderly c.sizes.functions n b.library) none
-    (libraries_stay_orderly.expression c live f a b (subst (λ n. IsOrderly c.sizes.functions n a.library) (sym none) o) met))
-    (λ f a b e m o missed. libraries_stay_orderly.expression_refused c live f a b e m (subst (λ n. IsOrderly c.sizes.functions n a.library) (sym none) o) missed)
-    result reads
-
 -- ---- what the optimizer makes of a script
 
 module _ (c : Context) (live : Live) (before after : Library) (s left : Cursor) (slots : List SlotValue) (modules : List Text)
@@ -272,14 +225,6 @@ module _ (c : Context) (live : Live) (before after : Library) (s left : Cursor) 
   pub ast_fails : (e : ParseError) → ReadsScript c live before after s left (Err e) slots modules
       → ReadsAst c live before after s left constants level (Err e)
   ast_fails e reads = record { accepted = tt; only = reads.only; refused = reads.refused }
-
-pub ast_orderly : (c : Context) (live : Live) (before after : Library) (s left : Cursor) (constants : Constants)
-    (level : OptimizationLevel) (result : Result AST ParseError) → c.begun ≡ 0
-    → ReadsAst c live before after s left constants level result → IsOrderly c.sizes.functions 0 before
-    → UnlessMemory (λ refused. IsOrderly c.sizes.functions 0 after) result
-ast_orderly c live before after s left constants level result none reads =
-    orderly_so (scripts c live) (λ fs script. IsMadeOf constants level (statement_trees fs live) after script) c.sizes.functions before after s left
-    (script_fits_orderly c live none) (script_misses_orderly c live none) result reads
 
 -- What holds unless memory ran out holds of a result that is made of another one.
 pub unless_on : {X : Type 0} {P Q : Type 0} (r : Result X ParseError) → (P → Q) → UnlessMemory (λ refused. P) r

@@ -6,7 +6,9 @@ use Rattle.std.specs.declared.rc.RcStr.{RcStr}
 use Rattle.rhai_input.specs.Slots.{SlotValue}
 use Rattle.rhai_lower.specs.declared.position.Position.{Position}
 use Rattle.rhai_grammar.specs.Contexts.{Context, Known, Live}
-use Rattle.rhai_base.specs.Counts.{counts_of}
+use Rattle.rhai_grammar.specs.Libraries.{Library}
+use Rattle.rhai_grammar.specs.NumberedLibraries.{IsOrderly}
+use Rattle.rhai_base.specs.Counts.{Counts, counts_of}
 use Rattle.rhai_base.specs.Frames.{FrameValue, known_variables}
 use Rattle.rhai_base.specs.declared.settings.ParseSettings.{ParseSettings}
 use Rattle.rhai_base.specs.declared.state.ParseState.{ParseState}
@@ -46,6 +48,11 @@ frame_in engine state = record {
 -- what goes down into the whole form, under the settings that the caller chose
 abbrev pub starts_in : LanguageValue → StateValue → ParseSettings → Context
 starts_in engine state settings = context_of engine (frame_in engine state) settings
+
+-- A library that is orderly, with the functions and closures that have begun, is so afterwards.
+abbrev pub KeepsOrder : LanguageValue → Counts → (before after : Library) → Type 0
+KeepsOrder engine counts before after =
+    IsOrderly engine.max_functions counts.begun before → IsOrderly engine.max_functions counts.begun after
 
 -- A state after a script was read in it: the stream and the library are those that were lent to it, and what the script
 -- does not change is as it was.

@@ -7,7 +7,6 @@ ghost use Rattle.rhai_ast.specs.View.{view};
 ghost use Rattle.rhai_grammar.specs.Causes.{MemoryIsNowhere};
 ghost use Rattle.rhai_grammar.specs.Cursors.{cursor_of};
 ghost use Rattle.rhai_grammar.specs.Delivered.{code};
-ghost use Rattle.rhai_grammar.specs.NumberedLibraries.{IsOrderly};
 ghost use Rattle.rhai_grammar.specs.Promises.{HasRead, UnlessMemory};
 ghost use Rattle.rhai_grammar.specs.Uses.{Use};
 ghost use Rattle.rhai_reading.specs.Reading.{Whole};
@@ -15,9 +14,11 @@ ghost use Rattle.rhai_reading.specs.Running.{Gives, result_of};
 ghost use Rattle.rhai_parser.specs.Scripts.{Accepts, ReadsExpression};
 ghost use Rattle.rhai_base.specs.Libraries.{Begins, Grows, library_of};
 ghost use Rattle.rhai_base.specs.States.{IsFresh};
+ghost use Rattle.rhai_base.specs.Counts.{counts_of};
 ghost use Rattle.rhai_language.specs.Readers.{nesting_of};
+ghost use Rattle.rhai_language.specs.Rooms.{Holds};
 ghost use Rattle.rhai_language.specs.Frames.{context_of, live_of};
-ghost use Rattle.rhai_parser.specs.Starts.{live_in, starts_in};
+ghost use Rattle.rhai_parser.specs.Starts.{KeepsOrder, live_in, starts_in};
 ghost use Rattle.rhai_base.specs.Frames.{known_of, known_variables};
 ghost use Rattle.std.specs.Rc.{rc_str_bytes};
 ghost use Rattle.rhai_grammar.specs.Imports.{is_among};
@@ -300,6 +301,8 @@ impl Engine {
               nesting = nesting_of counts.new;
             }) }
         ensures grows { Grows (library_of library.old) (library_of library.new) }
+        ensures orderly { Holds self.now.max_functions frame.now.begun (library_of library.old)
+            → Holds self.now.max_functions frame.now.begun (library_of library.new) }
     {
         let mut captured = Vec::new(self.language.alloc);
         let mut shared = Shared {
@@ -331,6 +334,8 @@ impl Engine {
         ensures memory { UnlessMemory (HasRead (cursor_of input.old) (cursor_of input.new)) result }
         ensures nowhere { IfErr result MemoryIsNowhere }
         ensures grows { Begins (library_of lib.old.entries) (library_of lib.new.entries) }
+        ensures orderly { Holds self.now.max_functions frame.now.begun (library_of lib.old.entries)
+            → Holds self.now.max_functions frame.now.begun (library_of lib.new.entries) }
     {
         let mut library = take_library(self.language.alloc, lib)?;
         let read = self.read_expression(input, &mut library, counts, frame, settings);
@@ -367,10 +372,8 @@ impl Engine {
         ensures memory { UnlessMemory (HasRead (cursor_of state.entry.input.now) (cursor_of state.exit.0.now)) result }
         ensures nowhere { IfErr result MemoryIsNowhere }
         ensures grows { Begins (library_of state.entry.lib.now.entries) (library_of state.exit.1.0.now.entries) }
-        ensures orderly { IsFresh state.entry
-            → IsOrderly self.now.max_functions 0 (library_of state.entry.lib.now.entries)
-            → UnlessMemory (λ refused. IsOrderly self.now.max_functions 0
-            (library_of state.exit.1.0.now.entries)) result }
+        ensures orderly { KeepsOrder self.now (counts_of state.entry.counts)
+            (library_of state.entry.lib.now.entries) (library_of state.exit.1.0.now.entries) }
     {
         let mut chosen = self.expr_settings();
         settings(&mut chosen);

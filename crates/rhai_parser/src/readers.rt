@@ -1,12 +1,13 @@
 //! The readers of expressions, of primaries, of constructs and of statements, each lent to the others.
 
-ghost use Rattle.std.specs.Prelude.{◌≡◌};
+ghost use Rattle.std.specs.Prelude.{◌≡◌, ◌+◌};
 ghost use Rattle.rhai_lower.specs.Nodes.{no_statements};
 ghost use Rattle.rhai_ast.specs.View.{statement_view, view};
 ghost use Rattle.rhai_base.specs.Frames.{SamePlace};
 ghost use Rattle.rhai_reading.specs.Running.{need};
 ghost use Rattle.rhai_language.specs.Readers.{GoesOn, Nests, Reads, construct, expression, inside, primary, state_of};
 ghost use Rattle.rhai_language.specs.Readers.{statement, statements, statements_of, whole, with_live};
+ghost use Rattle.rhai_language.specs.Rooms.{Stays, function_room};
 
 use rhai_ast::{Expr, Stmt};
 use rhai_base::{Frame, ParseSettings};
@@ -42,32 +43,37 @@ where
         → E.pre s.expr language shared frame settings
         × ((result : _) (after : _) → E.post s.expr language shared frame settings result after
         → GoesOn shared.now after.now
-        × Nests (expression language.now frame.now settings) view shared.now result after.now))
+        × (Stays language.now frame.now settings 1 shared.now after.now
+        × Nests (expression language.now frame.now settings) view shared.now result after.now)))
         × ((language : _) (shared : _) (frame : _) (settings : _)
         → need (primary language.now frame.now settings) (state_of shared.now) ≡ n
         → P.pre s.primary language shared frame settings
         × ((result : _) (after : _) → P.post s.primary language shared frame settings result after
         → GoesOn shared.now after.now
-        × Nests (primary language.now frame.now settings) view shared.now result after.now))
+        × (Stays language.now frame.now settings 2 shared.now after.now
+        × Nests (primary language.now frame.now settings) view shared.now result after.now)))
         × ((language : _) (shared : _) (frame : _) (settings : _) (kind : _)
         → need (construct language.now frame.now settings kind) (state_of shared.now) ≡ n
         → C.pre s.construct language shared frame settings kind
         × ((result : _) (after : _) → C.post s.construct language shared frame settings kind result after
         → GoesOn shared.now after.now
-        × Nests (construct language.now frame.now settings kind) statement_view shared.now result after.now))
+        × (Stays language.now frame.now settings 5 shared.now after.now
+        × Nests (construct language.now frame.now settings kind) statement_view shared.now result after.now)))
         × ((language : _) (shared : _) (frame : _) (settings : _)
         → need (inside language.now frame.now settings) (state_of shared.now) ≡ n
         → I.pre s.inside language shared frame settings
         × ((result : _) (after : _) → I.post s.inside language shared frame settings result after
         → GoesOn shared.now after.now
-        × Nests (inside language.now frame.now settings) statements_of shared.now result after.now))
+        × (Stays language.now frame.now settings 3 shared.now after.now
+        × Nests (inside language.now frame.now settings) statements_of shared.now result after.now)))
         × ((language : _) (shared : _) (frame : _) (settings : _)
         → need (statement language.now frame.now settings) (state_of shared.now) ≡ n
         → S.pre s.stmt language shared frame settings
         × ((result : _) (after : _) (left : _) → S.post s.stmt language shared frame settings result after left
         → GoesOn shared.now after.now
+        × (Stays language.now frame.now settings (2 + function_room language.now settings) shared.now after.now
         × Nests (statement language.now frame.now settings) (with_live statement_view left.now) shared.now result
-        after.now)) };
+        after.now))) };
 
     fn parse_expr(
         &self,
@@ -131,6 +137,7 @@ pub(crate) fn parse_expr(
     settings: ParseSettings,
 ) -> ParseResult<Expr>
     ensures goes_on { GoesOn shared.old shared.new }
+    ensures stays { Stays language.now frame.now settings 1 shared.old shared.new }
     ensures reads { Nests (expression language.now frame.now settings) view shared.old result shared.new }
 {
     let readers = Lent {
@@ -154,6 +161,7 @@ fn parse_primary(
     settings: ParseSettings,
 ) -> ParseResult<Expr>
     ensures goes_on { GoesOn shared.old shared.new }
+    ensures stays { Stays language.now frame.now settings 2 shared.old shared.new }
     ensures reads { Nests (primary language.now frame.now settings) view shared.old result shared.new }
 {
     let readers = Lent {
@@ -178,6 +186,7 @@ fn parse_construct(
     kind: Construct,
 ) -> ParseResult<Stmt>
     ensures goes_on { GoesOn shared.old shared.new }
+    ensures stays { Stays language.now frame.now settings 5 shared.old shared.new }
     ensures reads { Nests (construct language.now frame.now settings kind) statement_view shared.old result shared.new }
 {
     let readers = Lent {
@@ -204,6 +213,7 @@ fn parse_block_inside(
     settings: ParseSettings,
 ) -> ParseResult<Vec<Stmt>>
     ensures goes_on { GoesOn shared.old shared.new }
+    ensures stays { Stays language.now frame.now settings 3 shared.old shared.new }
     ensures reads { Nests (inside language.now frame.now settings) statements_of shared.old result shared.new }
 {
     let readers = Lent {
@@ -227,6 +237,7 @@ fn parse_stmt(
     settings: ParseSettings,
 ) -> ParseResult<Stmt>
     ensures goes_on { GoesOn shared.old shared.new }
+    ensures stays { Stays language.now frame.old settings (2 + function_room language.now settings) shared.old shared.new }
     ensures reads { Nests (statement language.now frame.old settings) (with_live statement_view frame.new) shared.old
         result shared.new }
 {
@@ -250,6 +261,7 @@ pub(crate) fn parse_whole_expr(
     settings: ParseSettings,
 ) -> ParseResult<Expr>
     ensures goes_on { GoesOn shared.old shared.new }
+    ensures stays { Stays language.now frame.now settings 1 shared.old shared.new }
     ensures reads { Reads (whole language.now frame.now settings) view shared.old result shared.new }
 {
     let expr = parse_expr(language, shared, frame, settings)?;
@@ -267,6 +279,7 @@ pub(crate) fn parse_statements(
     closing: Closing,
 ) -> ParseResult<Vec<Stmt>>
     ensures goes_on { GoesOn shared.old shared.new }
+    ensures stays { Stays language.now frame.old settings (2 + function_room language.now settings) shared.old shared.new }
     ensures place { SamePlace frame.old frame.new }
     ensures reads { Reads (statements language.now frame.old settings closing no_statements)
         (with_live statements_of frame.new) shared.old result shared.new }

@@ -16,13 +16,13 @@ ghost use Rattle.rhai_reading.specs.Running.{Gives, result_of};
 ghost use Rattle.rhai_base.specs.Libraries.{Begins, Grows, library_of};
 ghost use Rattle.rhai_base.specs.Counts.{counts_of, none_yet, with_entered};
 ghost use Rattle.rhai_base.specs.States.{IsFresh};
-ghost use Rattle.rhai_grammar.specs.NumberedLibraries.{IsOrderly};
 ghost use Rattle.rhai_parser.specs.Optimizer.{Optimized};
 ghost use Rattle.rhai_parser.specs.Nesting.{ActiveAgain, NestsAsWritten, ReturnsTo, StaysWithin};
 ghost use Rattle.rhai_parser.specs.Engines.{script_settings};
 ghost use Rattle.rhai_language.specs.Frames.{context_of};
 ghost use Rattle.rhai_language.specs.Readers.{nesting_of};
-ghost use Rattle.rhai_parser.specs.Starts.{KeepsState, live_in, starts_in};
+ghost use Rattle.rhai_language.specs.Rooms.{Holds};
+ghost use Rattle.rhai_parser.specs.Starts.{KeepsOrder, KeepsState, live_in, starts_in};
 
 use crate::engine::Engine;
 use crate::library::take_library;
@@ -82,12 +82,12 @@ impl Engine {
               captured = used;
               nesting = nesting_of counts.new;
             }) }
-        ensures stays { UnlessMemory (λ refused. StaysWithin 1 self.now settings (counts_of counts.old)
-            (counts_of counts.new)) result }
+        ensures stays { StaysWithin 1 self.now settings (counts_of counts.old) (counts_of counts.new) }
         ensures returns { UnlessMemory (λ refused. ReturnsTo (counts_of counts.old) (counts_of counts.new)) result }
         ensures grows { Grows (library_of library.old) (library_of library.new) }
+        ensures orderly { Holds self.now.max_functions frame.entry.begun (library_of library.old)
+            → Holds self.now.max_functions frame.entry.begun (library_of library.new) }
     {
-        let _depth = self.max_function_expr_depth();
         let mut frame = frame;
         let mut captured = Vec::new(self.alloc());
         let mut shared = Shared {
@@ -148,8 +148,9 @@ impl Engine {
         ensures memory { UnlessMemory (HasRead (cursor_of input.old) (cursor_of input.new)) result }
         ensures nowhere { IfErr result MemoryIsNowhere }
         ensures grows { Begins (library_of lib.old.entries) (library_of lib.new.entries) }
-        ensures stays { UnlessMemory (λ refused. StaysWithin 1 self.now settings (counts_of counts.old)
-            (counts_of counts.new)) result }
+        ensures orderly { Holds self.now.max_functions frame.entry.begun (library_of lib.old.entries)
+            → Holds self.now.max_functions frame.entry.begun (library_of lib.new.entries) }
+        ensures stays { StaysWithin 1 self.now settings (counts_of counts.old) (counts_of counts.new) }
         ensures returns { UnlessMemory (λ refused. ReturnsTo (counts_of counts.old) (counts_of counts.new)) result }
     {
         let mut library = take_library(self.alloc(), lib)?;
@@ -193,15 +194,12 @@ impl Engine {
             (map rc_str_bytes state.new.imports.items)
             × IfOk result (λ script. NestsAsWritten (starts_in self.now state.old chosen) (live_in state.old)
             (library_of state.old.lib.now.entries) (cursor_of state.old.input.now) (counts_of state.new.counts)))
-            × UnlessMemory (λ refused. StaysWithin 2 self.now chosen (counts_of state.old.counts)
-            (counts_of state.new.counts)) result }
+            × StaysWithin 2 self.now chosen (counts_of state.old.counts) (counts_of state.new.counts) }
         ensures memory { UnlessMemory (HasRead (cursor_of state.old.input.now) (cursor_of state.new.input.now)) result }
         ensures nowhere { IfErr result MemoryIsNowhere }
         ensures grows { Begins (library_of state.old.lib.now.entries) (library_of state.new.lib.now.entries) }
-        ensures orderly { IsFresh state.old
-            → IsOrderly self.now.max_functions 0 (library_of state.old.lib.now.entries)
-            → UnlessMemory (λ refused. IsOrderly self.now.max_functions 0
-            (library_of state.new.lib.now.entries)) result }
+        ensures orderly { KeepsOrder self.now (counts_of state.old.counts)
+            (library_of state.old.lib.now.entries) (library_of state.new.lib.now.entries) }
         ensures active { UnlessMemory (λ refused. ActiveAgain (counts_of state.old.counts) (counts_of state.new.counts))
             result }
         ensures kept { KeepsState state.old state.new }
@@ -252,10 +250,8 @@ impl Engine {
         ensures memory { UnlessMemory (HasRead (cursor_of state.entry.input.now) (cursor_of state.exit.0.now)) result }
         ensures nowhere { IfErr result MemoryIsNowhere }
         ensures grows { Begins (library_of state.entry.lib.now.entries) (library_of state.exit.1.0.now.entries) }
-        ensures orderly { IsFresh state.entry
-            → IsOrderly self.now.max_functions 0 (library_of state.entry.lib.now.entries)
-            → UnlessMemory (λ refused. IsOrderly self.now.max_functions 0
-            (library_of state.exit.1.0.now.entries)) result }
+        ensures orderly { KeepsOrder self.now (counts_of state.entry.counts)
+            (library_of state.entry.lib.now.entries) (library_of state.exit.1.0.now.entries) }
     {
         let ParseState {
             input,

@@ -10,7 +10,7 @@ use Rattle.rhai_grammar.specs.Delivered.{is_memory}
 use Rattle.rhai_grammar.specs.Contexts.{Context, Live}
 use Rattle.rhai_grammar.specs.Beginnings.{calls, excludes_use, is_this, may_be_called}
 use Rattle.rhai_grammar.specs.Modules.{may_use}
-use Rattle.rhai_grammar.specs.Settings.{in_function, strict_names}
+use Rattle.rhai_grammar.specs.Settings.{is_in_function, strict_names}
 use Rattle.rhai_grammar.specs.Trees.{name_tree}
 use Rattle.rhai_grammar.specs.declared.role.Beginning.TheVariants as begin
 use Rattle.rhai_grammar.specs.Uses.{Use, noted}
@@ -36,7 +36,8 @@ word_chosen false true false x y e f = refl
 word_chosen false false d x y e f = refl
 
 word_answers : (c : Context) (word : Text) (at : Position) (l : Lexeme) (p : Position) → word_at c word at l p ≡ answered (word_result c.settings word (calls l) at)
-word_answers c word at l p = word_chosen (may_be_called word && calls l) (is_this word) (in_function c.settings) _ _ _ _
+word_answers c word at l p =
+    word_chosen (may_be_called word && calls l) (is_this word) (is_in_function c.settings) _ _ _ _
 
 pub word_outcome : (call : Caller) (c : Context) (word : Text) (at : Position) (l : Lexeme) (p : Position) (t : Progress) → exec call (word_at c word at l p) t ≡ outcome (word_result c.settings word (calls l) at) t
 word_outcome call c word at l p t = ap (λ q. exec call q t) (word_answers c word at l p) ∙ exec_answered call (word_result c.settings word (calls l) at) t

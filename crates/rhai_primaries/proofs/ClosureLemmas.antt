@@ -169,3 +169,8 @@ ends_gives view c w at by names s t f u us x r v captured back gives =
 pub added : (call : Caller) (at : Position) (e : Ended) (x : Node) (t : Progress) → is_new e.key t.library ≡ true
     → exec call (Know (closure_added at e x)) t ≡ Done x (adding e t)
 added call at e x t new = ap (λ b. exec call (if b then Add e (Ret x) else Fail (duplicate_of e.key at)) t) new
+
+-- another function has its key
+pub not_added : (call : Caller) (at : Position) (e : Ended) (x : Node) (t : Progress) → is_new e.key t.library ≡ false
+    → exec call (Know (closure_added at e x)) t ≡ R.Refused (duplicate_of e.key at) t
+not_added call at e x t there = ap (λ b. exec call (if b then Add e (Ret x) else Fail (duplicate_of e.key at)) t) there

@@ -4,6 +4,7 @@ use Rattle.rhai_ast.proofs.Views.{property_views_push, view_array, view_integer,
 use Rattle.rhai_reading.proofs.FieldSteps.{step_fields_key}
 use Rattle.rhai_reading.proofs.Steps.{nested_so, step_closure, step_closure_body, step_elements, step_primary, step_segments}
 use Rattle.rhai_language.proofs.Readers.{readers}
+use Rattle.rhai_language.proofs.Rooms.{given_up, no_function}
 
 pub ruleset parse_primary = (readers, nested_so, step_primary, view_integer, view_array, view_map, view_interpolated)
 
@@ -16,3 +17,5 @@ pub ruleset parse_interpolated_string = (readers, step_segments)
 pub ruleset parse_closure = (readers, nested_so, step_closure)
 
 pub ruleset parse_closure_body = (readers, nested_so, step_closure_body, view_noop)
+
+pub ruleset end_closure = (given_up)

@@ -15,6 +15,7 @@ ghost use Rattle.rhai_language.specs.Frames.{context_of, live_of};
 ghost use Rattle.rhai_language.specs.Languages.{LanguageValue};
 ghost use Rattle.rhai_language.specs.Readers.{GoesOn, Reads, state_of};
 ghost use Rattle.rhai_primaries.specs.Views.{text_view};
+ghost use Rattle.rhai_language.specs.Rooms.{Steady};
 
 use crate::keys;
 use rhai_ast::{Expr, Ident};
@@ -39,6 +40,7 @@ pub(crate) fn next_key(
     properties: &[(Ident, Expr)],
 ) -> ParseResult<Option<Ident>>
     ensures goes_on { GoesOn shared.old shared.new }
+    ensures steady { Steady shared.old shared.new }
     ensures reads { (frame : FrameValue) → Reads (NextKey (context_of language.now frame settings)
         (property_views properties.now)) (option_map written) shared.old result shared.new }
 {
@@ -80,6 +82,7 @@ pub(crate) fn used_name(
     pos: Position,
 ) -> ParseResult<Expr>
     ensures goes_on { GoesOn shared.old shared.new }
+    ensures steady { Steady shared.old shared.new }
     ensures gives { (language : LanguageValue) (call : Caller) (token : Lexeme) → excluded ≡ excludes_use token
         → Gives view (exec call (name_at (context_of language frame.now settings) (live_of frame.now)
         (rc_str_bytes name) pos token (state_of shared.old).library) (state_of shared.old)) result
@@ -96,6 +99,7 @@ pub(crate) fn used_name(
 /// The `}` of a block in an interpolated string, and the text after it; both are taken.
 pub(crate) fn next_text(alloc: Global, shared: &mut Shared<'_>) -> ParseResult<TextPart>
     ensures goes_on { GoesOn shared.old shared.new }
+    ensures steady { Steady shared.old shared.new }
     ensures reads { Reads TextAfter text_view shared.old result shared.new }
     ensures shrinks { OnOk result (left (state_of shared.new).cursor.tokens + 1
         ≤ left (state_of shared.old).cursor.tokens) }

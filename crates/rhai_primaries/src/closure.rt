@@ -1,5 +1,6 @@
 //! The reader of closures.
 
+ghost use Rattle.std.specs.Prelude.{◌+◌};
 ghost use Rattle.rhai_ast.specs.View.{statement_view, view};
 ghost use Rattle.rhai_base.specs.Uses.{uses_of};
 ghost use Rattle.rhai_reading.specs.Reading.{closure_end};
@@ -8,6 +9,7 @@ ghost use Rattle.rhai_language.specs.Frames.{context_of, live_of};
 ghost use Rattle.rhai_language.specs.Languages.{LanguageValue};
 ghost use Rattle.rhai_language.specs.Readers.{Covers, GoesOn, Reads, names_of, state_of};
 ghost use Rattle.rhai_primaries.specs.Closures.{UsesAll, closure, closure_body, closure_parameters};
+ghost use Rattle.rhai_language.specs.Rooms.{Ends, Stays, Steady, function_room};
 
 use crate::reader::PrimaryReader;
 use rhai_ast::{Expr, Stmt, StmtBlock};
@@ -35,6 +37,7 @@ impl<R: LentReaders> PrimaryReader<'_, R> {
         requires lent { Covers (R.lent self.now.readers) (closure self.now.language.now frame.now settings bars)
             shared.old }
         ensures goes_on { GoesOn shared.old shared.new }
+        ensures stays { Stays self.now.language.now frame.now settings 0 shared.old shared.new }
         ensures reads { Reads (closure self.now.language.now frame.now settings bars) view shared.old result
             shared.new }
     {
@@ -65,6 +68,7 @@ impl<R: LentReaders> PrimaryReader<'_, R> {
         requires lent { Covers (R.lent self.now.readers) (closure_body self.now.language.now frame.old settings)
             shared.old }
         ensures goes_on { GoesOn shared.old shared.new }
+        ensures stays { Stays self.now.language.now frame.old settings (2 + function_room self.now.language.now settings) shared.old shared.new }
         ensures reads { Reads (closure_body self.now.language.now frame.old settings) statement_view shared.old
             result shared.new }
     {
@@ -83,6 +87,7 @@ fn next_closure_parameters(
     bars: Bars,
 ) -> ParseResult<Vec<RcStr>>
     ensures goes_on { GoesOn shared.old shared.new }
+    ensures steady { Steady shared.old shared.new }
     ensures gives { Gives names_of (closure_parameters bars (state_of shared.old)) result (state_of shared.new) }
 {
     match bars {
@@ -103,6 +108,7 @@ fn use_captured(
     captured: &[(RcStr, Position)],
 ) -> ParseResult<()>
     ensures goes_on { GoesOn shared.old shared.new }
+    ensures steady { Steady shared.old shared.new }
     ensures uses { (language : LanguageValue) → UsesAll (uses_of captured.now)
         (context_of language frame.now settings) (live_of frame.now) (state_of shared.old) result
         (state_of shared.new) }
@@ -121,6 +127,7 @@ fn use_captured(
 
 // Adds the function of a closure, with these parameters of its own, this body and these captured names, to the library.
 // The result is the value that stands for the closure.
+#[tactic(auto, using(crate::proofs::Readers::end_closure))]
 fn end_closure(
     alloc: Global,
     shared: &mut Shared<'_>,
@@ -131,6 +138,7 @@ fn end_closure(
     captured: Vec<(RcStr, Position)>,
 ) -> ParseResult<Expr>
     ensures goes_on { GoesOn shared.old shared.new }
+    ensures ends { Ends shared.old shared.new }
     ensures gives { (language : LanguageValue) (call : Caller) → Gives view (exec call (closure_end
         (context_of language frame.now settings) (live_of frame.now) settings.pos (names_of names)
         (statement_view body) (uses_of captured.items) (state_of shared.old).library) (state_of shared.old)) result

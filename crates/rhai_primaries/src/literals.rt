@@ -5,6 +5,7 @@ ghost use Rattle.rhai_language.specs.Readers.{Covers, GoesOn, Reads, elements, f
 ghost use Rattle.rhai_language.specs.Readers.{views_of};
 ghost use Rattle.rhai_grammar.specs.Interpolations.{added_text};
 ghost use Rattle.std.specs.Rc.{rc_str_bytes};
+ghost use Rattle.rhai_language.specs.Rooms.{Stays};
 
 use crate::asks::{next_key, next_text};
 use crate::reader::PrimaryReader;
@@ -33,6 +34,7 @@ impl<R: LentReaders> PrimaryReader<'_, R> {
         requires lent { Covers (R.lent self.now.readers) (elements self.now.language.now frame.now settings
             no_nodes) shared.old }
         ensures goes_on { GoesOn shared.old shared.new }
+        ensures stays { Stays self.now.language.now frame.now settings 0 shared.old shared.new }
         ensures reads { Reads (elements self.now.language.now frame.now settings no_nodes) views_of shared.old result
             shared.new }
     {
@@ -76,6 +78,7 @@ impl<R: LentReaders> PrimaryReader<'_, R> {
         requires lent { Covers (R.lent self.now.readers) (fields self.now.language.now frame.now settings
             no_properties) shared.old }
         ensures goes_on { GoesOn shared.old shared.new }
+        ensures stays { Stays self.now.language.now frame.now settings 0 shared.old shared.new }
         ensures reads { Reads (fields self.now.language.now frame.now settings no_properties) properties_of shared.old
             result
             shared.new }
@@ -110,6 +113,7 @@ impl<R: LentReaders> PrimaryReader<'_, R> {
         requires lent { Covers (R.lent self.now.readers) (segments self.now.language.now frame.now settings
             (added_text no_nodes (rc_str_bytes first) settings.pos)) shared.old }
         ensures goes_on { GoesOn shared.old shared.new }
+        ensures stays { Stays self.now.language.now frame.now settings 0 shared.old shared.new }
         ensures reads { Reads (segments self.now.language.now frame.now settings
             (added_text no_nodes (rc_str_bytes first)
             settings.pos)) views_of shared.old result shared.new }

@@ -2,6 +2,7 @@
 
 ghost use Rattle.rhai_ast.specs.View.{view};
 ghost use Rattle.rhai_language.specs.Readers.{Covers, GoesOn, Reads, primary};
+ghost use Rattle.rhai_language.specs.Rooms.{Stays};
 
 use crate::asks::used_name;
 use crate::reader::PrimaryReader;
@@ -30,6 +31,7 @@ impl<R: LentReaders> PrimaryReader<'_, R> {
         requires lent { Covers (R.lent self.now.readers) (primary self.now.language.now frame.now settings)
             shared.old }
         ensures goes_on { GoesOn shared.old shared.new }
+        ensures stays { Stays self.now.language.now frame.now settings 1 shared.old shared.new }
         ensures reads { Reads (primary self.now.language.now frame.now settings) view shared.old result shared.new }
     {
         let (token, pos) = peek(shared.input)?;

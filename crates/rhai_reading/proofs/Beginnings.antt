@@ -23,7 +23,8 @@ use Rattle.rhai_grammar.specs.Beginnings.{beginning, calling, is_name, member_pl
 use Rattle.rhai_grammar.specs.Literals.{item_place, KeyPlace, FieldsEnd, AKey, key_place}
 use Rattle.rhai_grammar.specs.Verdicts.{no_method}
 use Rattle.rhai_grammar.specs.Targets.{is_equals}
-use Rattle.rhai_grammar.specs.Statements.{after_statement, allowed_start, any_start, defines, keyword_of, name_due, no_variable}
+use Rattle.rhai_grammar.specs.Statements.{allowed_start, any_start, defines, keyword_of, name_due, no_variable}
+use Rattle.rhai_grammar.specs.Statements.{token_after_statement}
 use Rattle.rhai_grammar.specs.Statements.{statement_start}
 use Rattle.rhai_grammar.specs.Constructs.{construct_token, do_end, do_token, may_be_value, may_stand}
 use Rattle.rhai_grammar.specs.Contexts.{Context, allows_looping}
@@ -240,7 +241,7 @@ abbrev pub Separates : AfterStatement → Item → Type 0
 Separates after.SemiColon i = i ≡ item (Sign token.SemiColon) i.at
 Separates _ i = Unit {0}
 
-separates : (closing : Closing) (l : Lexeme) (p : Position) → Separates (after_statement closing l) (item l p)
+separates : (closing : Closing) (l : Lexeme) (p : Position) → Separates (token_after_statement closing l) (item l p)
 separates Brace (Sign token.SemiColon) p = refl
 separates Brace (Sign token.RightBrace) p = tt
 separates Brace _ p = tt
@@ -248,7 +249,7 @@ separates EndMark (Sign token.SemiColon) p = refl
 separates EndMark (Sign token.EOF) p = tt
 separates EndMark _ p = tt
 
-pub separated : {v : AfterStatement} (closing : Closing) (s : Point) → after_statement closing (op_at s) ≡ v
+pub separated : {v : AfterStatement} (closing : Closing) (s : Point) → token_after_statement closing (op_at s) ≡ v
     → Separates v (next_at code s)
 separated closing s e = subst (λ v. Separates v (next_at code s)) e (separates closing (op_at s) (pos_at s))
 

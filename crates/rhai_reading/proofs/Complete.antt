@@ -198,7 +198,7 @@ mutual
   statements : (x : form.Statements) → StatementsRead x
   statements form.NoStatement = T.no_statements
   statements (form.LastStatement f) = T.last_statement f (statement f)
-  statements (form.Ended f semicolon rest) = T.ended f semicolon rest (statement f) (statements rest)
+  statements (form.WithSemicolon f semicolon rest) = T.with_semicolon f semicolon rest (statement f) (statements rest)
   statements (form.Standing f rest) = T.standing f rest (statement f) (statements rest)
 
   within : (x : Body) → InsideRead x

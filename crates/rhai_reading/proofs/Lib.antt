@@ -1,6 +1,4 @@
 pub mod Steps
-pub mod Rooms
-pub mod Heights
 pub mod Kept
 pub mod Grows
 pub mod Dives
@@ -30,7 +28,6 @@ pub mod Sound
 pub mod Main
 pub mod DepthMain
 pub mod Outcomes
-pub mod RunSteps
 pub mod WordSteps
 pub mod PathSteps
 pub mod TextSteps

@@ -10,8 +10,9 @@ use Rattle.rhai_grammar.specs.Demands.{◌▸◌, Demands, Next, Tok}
 use Rattle.rhai_grammar.specs.Forms.{Action, Arms, CaseGuard, Cases, Run}
 use Rattle.rhai_grammar.specs.Operators.{joined}
 use Rattle.rhai_grammar.specs.Switches as S
+use Rattle.rhai_grammar.specs.Ends.{action_ends}
 use Rattle.rhai_grammar.specs.Switches.{Collected, arm_fault}
-use Rattle.rhai_grammar.specs.Trees.{action_ends, action_tree, case_trees, collected, guard_tree, tree}
+use Rattle.rhai_grammar.specs.Trees.{action_tree, case_trees, collected, guard_tree, tree}
 use Rattle.rhai_grammar.specs.Written as W
 use Rattle.rhai_grammar.specs.declared.due.DueToken.TheVariants as due
 use Rattle.rhai_reading.proofs.Shows.{Kind}
@@ -29,7 +30,7 @@ abbrev pub case_guards : Context → Live → Kind CaseGuard Node
 case_guards c w = record { tree = λ t f. guard_tree f w; demands = λ f k. W.case_guard f c w k }
 
 abbrev pub actions : Context → Live → Kind Action (Node × Bool)
-actions c w = record { tree = λ t f. (action_tree f w, action_ends f w); demands = λ f k. W.action f c w k }
+actions c w = record { tree = λ t f. (action_tree f w, action_ends f); demands = λ f k. W.action f c w k }
 
 -- the comma after an arm, if there is one
 abbrev pub arm_ends : (itself : Bool) → Kind (Option Position) (Unit {0})
@@ -53,7 +54,7 @@ pub record ArmForm : Type 0 where
 abbrev pub arm_of : Context → Live → (before : Collected) → ArmForm → Demands → Demands
 arm_of c w before f k =
     W.cases f.cases c w (W.case_guard f.guard c w (W.due_token due.DoubleArrow f.arrow (W.action f.action c w (
-    W.unfaulted (arm_fault before (case_trees f.cases w)) (W.separated f.comma (action_ends f.action w) k)))))
+    W.unfaulted (arm_fault before (case_trees f.cases w)) (W.separated f.comma (action_ends f.action) k)))))
 
 abbrev pub arms_with_cases : Context → Live → (before : Collected) → Kind ArmForm (Nodes × Node × Node)
 arms_with_cases c w before = record {
@@ -71,7 +72,7 @@ pub record DefaultForm : Type 0 where
 abbrev pub default_of : Context → Live → (default : Position) → DefaultForm → Demands → Demands
 default_of c w default f k =
     Next S.unguarded ▸ W.due_token due.DoubleArrow f.arrow (W.action f.action c w (
-    W.separated f.comma (action_ends f.action w) (
+    W.separated f.comma (action_ends f.action) (
     Tok code (item (Sign token.RightBrace) f.closing) (S.default_ends default) ▸ k)))
 
 abbrev pub default_arms : Context → Live → (default : Position) → Kind DefaultForm Node

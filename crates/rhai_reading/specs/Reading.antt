@@ -15,7 +15,7 @@ use Rattle.rhai_lower.specs.declared.position.Position.{Position}
 use Rattle.rhai_grammar.specs.Causes as cause
 use Rattle.rhai_grammar.specs.Causes.{Refusal, refusal}
 use Rattle.rhai_grammar.specs.Delivered.{is_end}
-use Rattle.rhai_grammar.specs.Settings.{in_function}
+use Rattle.rhai_grammar.specs.Settings.{is_in_function}
 use Rattle.rhai_grammar.specs.declared.due.DueToken.TheVariants as due
 use Rattle.rhai_grammar.specs.Contexts.{Context, Live, below_global, full, has_single_blocks, in_block}
 use Rattle.rhai_grammar.specs.Contexts.{in_case}
@@ -98,7 +98,7 @@ name_at context live name at lexeme library =
 abbrev pub word_at : Context → Text → Position → Lexeme → Position → Prog Node
 word_at context word at lexeme pos =
     if may_be_called word && calls lexeme then Ret (variable_of None word at) else
-    if is_this word then (if in_function context.settings then Ret (this at)
+    if is_this word then (if is_in_function context.settings then Ret (this at)
     else Fail (refusal (cause.BadInput (cause.ImproperSymbol word)) at)) else
     Fail (refusal (cause.Reserved word) at)
 

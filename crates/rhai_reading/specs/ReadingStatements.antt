@@ -15,13 +15,13 @@ use Rattle.rhai_grammar.specs.Causes as cause
 use Rattle.rhai_grammar.specs.Causes.{Refusal, refusal}
 use Rattle.rhai_grammar.specs.declared.due.DueToken.TheVariants as due
 use Rattle.rhai_grammar.specs.Contexts.{Context, Live, below_global, in_block, is_global, is_in_loop, loop_body}
-use Rattle.rhai_grammar.specs.Constructs.{no_assignment, no_block}
+use Rattle.rhai_grammar.specs.Constructs.{guard_expected, no_assignment}
 use Rattle.rhai_grammar.specs.Definitions.{catch_live, exported, imported, loop_live, may_define}
 use Rattle.rhai_grammar.specs.DueTokens.{is_due}
 use Rattle.rhai_grammar.specs.declared.role.Construct.{Construct as Kind}
 use Rattle.rhai_grammar.specs.declared.role.Construct.TheVariants as kind
 use Rattle.rhai_grammar.specs.Targets.{is_assignment, is_constant_use, is_equals, target_fault, update_of}
-use Rattle.rhai_grammar.specs.Statements.{after_statement, ends_itself, no_variable}
+use Rattle.rhai_grammar.specs.Statements.{ends_itself, no_variable, token_after_statement}
 use Rattle.rhai_grammar.specs.declared.role.AfterStatement.{AfterStatement}
 use Rattle.rhai_grammar.specs.declared.role.AfterStatement.TheVariants as ends
 use Rattle.rhai_grammar.specs.declared.role.Closing.{Closing}
@@ -32,7 +32,7 @@ use Rattle.rhai_grammar.specs.declared.role.StatementStart.{StatementStart}
 use Rattle.rhai_grammar.specs.declared.role.StatementStart.TheVariants as start
 use Rattle.rhai_grammar.specs.Beginnings.{missing}
 use Rattle.rhai_grammar.specs.Beginnings.{is_name}
-use Rattle.rhai_grammar.specs.Trees.{caught_name, catch_node, no_block as absent_block}
+use Rattle.rhai_grammar.specs.Trees.{caught_name, catch_node, no_block}
 use Rattle.rhai_grammar.specs.Trees.{export_tree, import_tree, with_kept}
 use Rattle.rhai_grammar.specs.Switches.{nothing_collected, switch_tree}
 use Rattle.rhai_reading.specs.Goals.{construct_on, Expression}
@@ -134,7 +134,7 @@ abbrev pub statements_on : Closing → Context → Live → node.Statements → 
     → Prog (node.Statements × Live)
 statements_on closing context live before ends =
     if ends then Call (Statements closing context live before) Ret
-    else Peek (λ lexeme at. separated_at closing context live before lexeme at (after_statement closing lexeme))
+    else Peek (λ lexeme at. separated_at closing context live before lexeme at (token_after_statement closing lexeme))
 
 -- where a statement of a list may begin
 abbrev pub statements_at : Closing → Context → Live → node.Statements → Lexeme → Position → StatementPlace
@@ -180,7 +180,7 @@ guard_on x (Some why) = Fail why
 
 -- where no `{` may stand
 abbrev pub no_brace : {A : Type 0} → Prog A → Prog A
-no_brace rest = Peek (λ lexeme at. if is_due due.LeftBrace lexeme then Fail (refusal no_block at) else rest)
+no_brace rest = Peek (λ lexeme at. if is_due due.LeftBrace lexeme then Fail (refusal guard_expected at) else rest)
 
 -- after `else`
 abbrev pub else_at : Context → Live → (at : Position) → Lexeme → Position → Prog node.Block
@@ -192,7 +192,7 @@ else_at context live at lexeme pos =
 -- after the block of an `if`
 abbrev pub branch_at : Context → Live → (at : Position) → Lexeme → Prog node.Block
 branch_at context live at lexeme =
-    if is_due due.Else lexeme then Take (Peek (else_at context live at)) else Ret absent_block
+    if is_due due.Else lexeme then Take (Peek (else_at context live at)) else Ret no_block
 
 -- after the names of two variables of `for`
 abbrev pub counted_on : (name counter : Text) → Position → Prog (Text × Option Text)

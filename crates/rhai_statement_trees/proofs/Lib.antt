@@ -1,4 +1,3 @@
-pub mod LiteralLemmas
 pub mod StatementLemmas
 pub mod StringLemmas
 pub mod SwitchLemmas

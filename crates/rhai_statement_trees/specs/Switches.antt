@@ -10,10 +10,9 @@ use Rattle.rhai_lower.specs.Nodes.{one_property, start_of, with_arm}
 use Rattle.rhai_ast.specs.View.{arm_views, case_views}
 use Rattle.rhai_ast.specs.declared.ast.SwitchCasesCollection.{SwitchCasesCollection, out-SwitchCasesCollection}
 use Rattle.rhai_grammar.specs.CaseValues as value
-use Rattle.rhai_grammar.specs.CaseValues.{is_empty_range, range_of, same_value}
+use Rattle.rhai_grammar.specs.CaseValues.{is_empty_range, is_literal_value, range_of, same_value}
 use Rattle.rhai_grammar.specs.Causes as cause
 use Rattle.rhai_grammar.specs.Causes.{Refusal, refusal}
-use Rattle.rhai_grammar.specs.Kinds.{is_literal_value}
 use Rattle.rhai_grammar.specs.Switches.{Collected, is_integer}
 use Rattle.rhai_statement_trees.specs.declared.case_value.IntegerRange.{IntegerRange}
 

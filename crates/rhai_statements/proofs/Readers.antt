@@ -2,6 +2,7 @@
 use Rattle.rhai_ast.proofs.Views.{view_noop, view_unit}
 use Rattle.rhai_reading.proofs.Steps.{nested_so, step_definition, step_export, step_expr_statement, step_function, step_function_statement, step_import, step_initializer, step_inside, step_jump, step_parameter_list, step_statement, step_statements}
 use Rattle.rhai_language.proofs.Readers.{calls_of_readers, readers}
+use Rattle.rhai_language.proofs.Rooms.{function_ends, gap_most, given_up, no_function, one_function}
 
 pub ruleset parse_statements = (readers, nested_so, step_statements)
 
@@ -17,11 +18,15 @@ pub ruleset parse_initializer = (readers, nested_so, step_initializer, view_unit
 
 pub ruleset parse_expr_stmt = (readers, nested_so, step_expr_statement)
 
-pub ruleset parse_block_inside = (readers, nested_so, step_inside)
+pub ruleset parse_block_inside = (readers, nested_so, step_inside, no_function)
 
 pub ruleset parse_jump = (readers, nested_so, step_jump)
 
 pub ruleset parse_fn = (readers, nested_so, step_function_statement)
+
+pub ruleset end_function = (given_up, function_ends)
+
+pub ruleset rooms = (no_function, one_function, gap_most)
 
 pub ruleset parse_function = (readers, nested_so, step_function)
 

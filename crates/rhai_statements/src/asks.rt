@@ -13,6 +13,7 @@ ghost use Rattle.rhai_base.specs.Settings.{settings_of};
 ghost use Rattle.rhai_reading.specs.Reading.{tested};
 ghost use Rattle.rhai_reading.specs.Running.{Caller, Gives, Progress, exec};
 ghost use Rattle.rhai_language.specs.Readers.{GoesOn, Reads, name_view, var_name};
+ghost use Rattle.rhai_language.specs.Rooms.{Steady};
 
 use rhai_ast::{Expr, Stmt};
 use rhai_base::places::{may_be_closure, may_be_value};
@@ -36,6 +37,7 @@ pub(crate) fn next_var_name(
     settings: ParseSettings,
 ) -> ParseResult<(RcStr, Position)>
     ensures goes_on { GoesOn shared.old shared.new }
+    ensures steady { Steady shared.old shared.new }
     ensures reads { Reads (var_name language.now frame.now settings) name_view shared.old result shared.new }
 {
     let (name, pos) = parse_var_name(shared.input)?;

@@ -1,15 +1,17 @@
 //! Functions: where they may stand, what they are read under, and what they give.
 
-ghost use Rattle.std.specs.Prelude.{◌≡◌, IfOk, OnOk, map};
+ghost use Rattle.std.specs.Prelude.{◌≡◌, IfOk, OnOk, false, map, true};
 ghost use Rattle.std.specs.Rc.{rc_str_bytes};
 ghost use Rattle.rhai_ast.specs.View.{block_view, statement_view};
 ghost use Rattle.rhai_grammar.specs.Contexts.{nothing_live};
-ghost use Rattle.rhai_grammar.specs.Functions.{ended_function, parameters_live};
+ghost use Rattle.rhai_grammar.specs.Functions.{ended_function, names_function, parameters_live};
+ghost use Rattle.rhai_grammar.specs.Keys.{is_closure, key_of};
 ghost use Rattle.rhai_base.specs.Frames.{SamePlace};
 ghost use Rattle.rhai_language.specs.Readers.{Covers, GoesOn, Reads, ended_view, function, function_statement};
 ghost use Rattle.rhai_language.specs.Readers.{head_view, names_of, state_of, with_live};
 ghost use Rattle.rhai_reading.specs.Reading.{function_end};
 ghost use Rattle.rhai_reading.specs.Running.{Caller, Gives, exec};
+ghost use Rattle.rhai_language.specs.Rooms.{Ends, Stays, function_room};
 
 use crate::functions::{next_head, next_parameter_list};
 use crate::reader::StmtReader;
@@ -43,6 +45,8 @@ impl<R: LentReaders> StmtReader<'_, R> {
         requires lent { Covers (R.lent self.now.readers) (function_statement self.now.language.now frame.now settings
             first private) shared.old }
         ensures goes_on { GoesOn shared.old shared.new }
+        ensures stays { Stays self.now.language.now frame.now settings
+            (function_room self.now.language.now settings) shared.old shared.new }
         ensures reads { Reads (function_statement self.now.language.now frame.now settings first private)
             (with_live statement_view frame.now) shared.old result shared.new }
     {
@@ -78,8 +82,10 @@ impl<R: LentReaders> StmtReader<'_, R> {
         requires lent { Covers (R.lent self.now.readers) (function self.now.language.now frame.old settings
             private) shared.old }
         ensures goes_on { GoesOn shared.old shared.new }
+        ensures stays { Stays self.now.language.now frame.old settings 0 shared.old shared.new }
         ensures reads { Reads (function self.now.language.now frame.old settings private) ended_view shared.old
             result shared.new }
+        ensures named { IfOk result (λ e. is_closure (key_of e.0) ≡ false) }
     {
         let head = next_head(self.language.alloc(), shared)?;
         let names = next_parameter_list(self.language.alloc(), shared, &head.1)?;
@@ -102,8 +108,10 @@ fn make_function(
     params: Vec<RcStr>,
     body: StmtBlock,
 ) -> Result<EndedFn, AllocError>
-    ensures { IfOk result (λ e. ended_view e
+    ensures ended { IfOk result (λ e. ended_view e
         ≡ ended_function private (head_view head).0 (head_view head).1 (names_of params) (block_view body)) }
+    ensures named { names_function (rc_str_bytes head.1) ≡ true
+        → IfOk result (λ e. is_closure (key_of e.0) ≡ false) }
 {
     let (this_type, name) = head;
     let key = FnKey {
@@ -123,6 +131,7 @@ fn make_function(
 
 // Adds a function whose `fn` is at `pos` to the library. Where a function has its key, the error is
 // `FnDuplicatedDefinition` at `pos`.
+#[tactic(auto, using(crate::proofs::Readers::end_function))]
 fn end_function(
     shared: &mut Shared<'_>,
     key: FnKey,
@@ -130,6 +139,7 @@ fn end_function(
     pos: Position,
 ) -> ParseResult<Stmt>
     ensures goes_on { GoesOn shared.old shared.new }
+    ensures ends { is_closure (key_of key) ≡ false → Ends shared.old shared.new }
     ensures gives { (call : Caller) (live : _) → Gives (λ s. (statement_view s, live))
         (exec call (function_end live pos (ended_view (key, function)) (state_of shared.old).library)
         (state_of shared.old)) result (state_of shared.new) }

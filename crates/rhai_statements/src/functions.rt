@@ -1,9 +1,12 @@
 //! What the reader of functions asks for by leaves: the name of a function with the type of its objects, and its
 //! parameters.
 
+ghost use Rattle.std.specs.Prelude.{◌≡◌, IfOk, true};
 ghost use Rattle.std.specs.Rc.{rc_str_bytes};
+ghost use Rattle.rhai_grammar.specs.Functions.{names_function};
 ghost use Rattle.rhai_reading.specs.Reading.{FunctionHead, ParameterList};
 ghost use Rattle.rhai_language.specs.Readers.{GoesOn, Reads, head_view, names_of};
+ghost use Rattle.rhai_language.specs.Rooms.{Steady};
 
 use rhai_grammar::{CommaList, DueToken, ParseResult};
 use rhai_language::Shared;
@@ -22,7 +25,9 @@ pub(crate) fn next_head(
     shared: &mut Shared<'_>,
 ) -> ParseResult<(Option<RcStr>, RcStr)>
     ensures goes_on { GoesOn shared.old shared.new }
+    ensures steady { Steady shared.old shared.new }
     ensures reads { Reads FunctionHead head_view shared.old result shared.new }
+    ensures named { IfOk result (λ head. names_function (rc_str_bytes head.1) ≡ true) }
 {
     let (text, named, pos) = take_type(shared.input)?;
     if !named {
@@ -46,6 +51,7 @@ pub(crate) fn next_parameter_list(
     function: &RcStr,
 ) -> ParseResult<Vec<RcStr>>
     ensures goes_on { GoesOn shared.old shared.new }
+    ensures steady { Steady shared.old shared.new }
     ensures reads { Reads (ParameterList (rc_str_bytes function.now)) names_of shared.old result shared.new }
 {
     if !open_parameters(shared.input, function)? {

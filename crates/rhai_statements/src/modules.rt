@@ -10,6 +10,7 @@ ghost use Rattle.rhai_grammar.specs.Trees.{export_tree};
 ghost use Rattle.rhai_reading.specs.Reading.{Alias};
 ghost use Rattle.rhai_language.specs.Readers.{GoesOn, Reads};
 ghost use Rattle.rhai_base.specs.Frames.{SamePlace};
+ghost use Rattle.rhai_language.specs.Rooms.{Steady};
 
 use rhai_ast::Stmt;
 use rhai_base::Frame;
@@ -27,6 +28,7 @@ use std::rc::RcStr;
 #[tactic(auto, using(rhai_reading::proofs::Steps::step_alias))]
 pub(crate) fn next_alias(shared: &mut Shared<'_>) -> ParseResult<Option<RcStr>>
     ensures goes_on { GoesOn shared.old shared.new }
+    ensures steady { Steady shared.old shared.new }
     ensures reads { Reads Alias (option_map rc_str_bytes) shared.old result shared.new }
 {
     if !pass_token(shared.input, DueToken::As)? {

@@ -11,6 +11,7 @@ ghost use Rattle.rhai_grammar.specs.Statements.{ends_itself};
 ghost use Rattle.rhai_base.specs.Frames.{SamePlace};
 ghost use Rattle.rhai_language.specs.Readers.{inside, jump, state_of, statements, statements_of, with_live};
 ghost use Rattle.rhai_statement_trees.specs.Statements.{optional_view};
+ghost use Rattle.rhai_language.specs.Rooms.{Stays, function_room};
 
 use crate::asks::{end_assignment, next_var_name, starts_expression};
 use crate::modules::{define_as, export_name, next_alias};
@@ -46,6 +47,7 @@ impl<R: LentReaders> StmtReader<'_, R> {
         requires lent { Covers (R.lent self.now.readers) (statements self.now.language.now frame.old settings
             closing no_statements) shared.old }
         ensures goes_on { GoesOn shared.old shared.new }
+        ensures stays { Stays self.now.language.now frame.old settings (2 + function_room self.now.language.now settings) shared.old shared.new }
         ensures place { SamePlace frame.old frame.new }
         ensures reads { Reads (statements self.now.language.now frame.old settings closing no_statements)
             (with_live statements_of frame.new) shared.old result shared.new }
@@ -79,6 +81,7 @@ impl<R: LentReaders> StmtReader<'_, R> {
         requires lent { Covers (R.lent self.now.readers) (statement self.now.language.now frame.old settings)
             shared.old }
         ensures goes_on { GoesOn shared.old shared.new }
+        ensures stays { Stays self.now.language.now frame.old settings (1 + function_room self.now.language.now settings) shared.old shared.new }
         ensures place { SamePlace frame.old frame.new }
         ensures reads { Reads (statement self.now.language.now frame.old settings)
             (with_live statement_view frame.new) shared.old
@@ -177,6 +180,7 @@ impl<R: LentReaders> StmtReader<'_, R> {
         requires lent { Covers (R.lent self.now.readers) (imported self.now.language.now frame.old settings)
             shared.old }
         ensures goes_on { GoesOn shared.old shared.new }
+        ensures stays { Stays self.now.language.now frame.old settings 1 shared.old shared.new }
         ensures place { SamePlace frame.old frame.new }
         ensures reads { Reads (imported self.now.language.now frame.old settings) (with_live statement_view frame.new)
             shared.old
@@ -202,6 +206,7 @@ impl<R: LentReaders> StmtReader<'_, R> {
         requires lent { Covers (R.lent self.now.readers) (exported self.now.language.now frame.old settings)
             shared.old }
         ensures goes_on { GoesOn shared.old shared.new }
+        ensures stays { Stays self.now.language.now frame.old settings 0 shared.old shared.new }
         ensures place { SamePlace frame.old frame.new }
         ensures reads { Reads (exported self.now.language.now frame.old settings) (with_live statement_view frame.new)
             shared.old
@@ -234,6 +239,7 @@ impl<R: LentReaders> StmtReader<'_, R> {
         requires lent { Covers (R.lent self.now.readers) (definition self.now.language.now frame.old settings
             constant exported) shared.old }
         ensures goes_on { GoesOn shared.old shared.new }
+        ensures stays { Stays self.now.language.now frame.old settings 1 shared.old shared.new }
         ensures place { SamePlace frame.old frame.new }
         ensures reads { Reads (definition self.now.language.now frame.old settings constant exported)
             (with_live statement_view frame.new) shared.old result shared.new }
@@ -265,6 +271,7 @@ impl<R: LentReaders> StmtReader<'_, R> {
         requires lent { Covers (R.lent self.now.readers) (initializer self.now.language.now frame.now settings)
             shared.old }
         ensures goes_on { GoesOn shared.old shared.new }
+        ensures stays { Stays self.now.language.now frame.now settings 0 shared.old shared.new }
         ensures reads { Reads (initializer self.now.language.now frame.now settings) view shared.old result shared.new }
     {
         if !has_value(shared.input)? {
@@ -287,6 +294,7 @@ impl<R: LentReaders> StmtReader<'_, R> {
         requires lent { Covers (R.lent self.now.readers) (expr_statement self.now.language.now frame.now settings)
             shared.old }
         ensures goes_on { GoesOn shared.old shared.new }
+        ensures stays { Stays self.now.language.now frame.now settings 1 shared.old shared.new }
         ensures reads { Reads (expr_statement self.now.language.now frame.now settings) statement_view shared.old
             result shared.new }
         ensures open { IfOk result (λ s. ends_itself (statement_view s) ≡ false) }
@@ -315,6 +323,7 @@ impl<R: LentReaders> StmtReader<'_, R> {
         requires lent { Covers (R.lent self.now.readers) (inside self.now.language.now frame.now settings)
             shared.old }
         ensures goes_on { GoesOn shared.old shared.new }
+        ensures stays { Stays self.now.language.now frame.now settings 2 shared.old shared.new }
         ensures reads { Reads (inside self.now.language.now frame.now settings) statements_of shared.old result
             shared.new }
     {
@@ -339,6 +348,7 @@ impl<R: LentReaders> StmtReader<'_, R> {
         requires lent { Covers (R.lent self.now.readers) (jump self.now.language.now frame.now settings)
             shared.old }
         ensures goes_on { GoesOn shared.old shared.new }
+        ensures stays { Stays self.now.language.now frame.now settings 0 shared.old shared.new }
         ensures reads { Reads (jump self.now.language.now frame.now settings) optional_view shared.old result
             shared.new }
     {

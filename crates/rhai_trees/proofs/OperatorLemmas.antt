@@ -10,7 +10,7 @@ use Rattle.rhai_lower.specs.declared.position.Position.{Position}
 use Rattle.rhai_grammar.specs.Causes.{MismatchedType, Refusal, is_for_memory, no_memory, refusal, refusal_of}
 use Rattle.rhai_grammar.specs.declared.error.ParseError.{ParseError}
 use Rattle.rhai_grammar.specs.Answers.{Answers}
-use Rattle.rhai_grammar.specs.Constructs.{guard_fault, kind_fault}
+use Rattle.rhai_grammar.specs.Constructs.{guard_fault, type_fault}
 use Rattle.rhai_grammar.specs.Kinds.{not_boolean}
 use Rattle.rhai_grammar.specs.declared.role.ListKind.TheVariants as lists_of
 use Rattle.rhai_grammar.specs.declared.role.Joining.TheVariants as joins
@@ -41,15 +41,18 @@ holds_others l n e = ap (λ b. if b then is_none (not_boolean n) else true) e
 abbrev mismatched_as : Option Text → Node → Refusal
 mismatched_as found n = refusal (MismatchedType (codes "a boolean expression") (unwrap_or found [])) (start_of n)
 
-fits : (found : Option Text) (n : Node) → kind_fault (codes "a boolean expression") n found ≡ None → is_none found ≡ true
+fits : (found : Option Text) (n : Node) → type_fault (codes "a boolean expression") n found ≡ None
+    → is_none found ≡ true
 fits None n e = refl
 fits (Some kind) n e = absurd cc
 
-misses : (found : Option Text) (n : Node) (r : Refusal) → kind_fault (codes "a boolean expression") n found ≡ Some r → is_none found ≡ false
+misses : (found : Option Text) (n : Node) (r : Refusal) → type_fault (codes "a boolean expression") n found ≡ Some r
+    → is_none found ≡ false
 misses None n r e = absurd cc
 misses (Some kind) n r e = refl
 
-refused_so : (found : Option Text) (n : Node) (r : Refusal) → kind_fault (codes "a boolean expression") n found ≡ Some r → r ≡ mismatched_as found n
+refused_so : (found : Option Text) (n : Node) (r : Refusal)
+    → type_fault (codes "a boolean expression") n found ≡ Some r → r ≡ mismatched_as found n
 refused_so None n r e = absurd cc
 refused_so (Some kind) n r e = cc
 

@@ -4,7 +4,7 @@ use Rattle.rhai_lower.specs.Lexemes.{Sign}
 use Rattle.rhai_lower.specs.declared.position.Position.{Position}
 use Rattle.rhai_grammar.specs.Causes.{Refusal}
 use Rattle.rhai_grammar.specs.Constructs.{absent, do_token, guard_begins, guard_ends, guard_fault, iterated_fault, no_assignment}
-use Rattle.rhai_grammar.specs.Constructs.{no_block}
+use Rattle.rhai_grammar.specs.Constructs.{guard_expected}
 use Rattle.rhai_grammar.specs.Contexts.{Context, Live, level_up, loop_body}
 use Rattle.rhai_grammar.specs.Definitions.{catch_live, loop_live}
 use Rattle.rhai_grammar.specs.Delivered.{code, Point, past}
@@ -33,7 +33,7 @@ use Rattle.rhai_reading.proofs.Strengths.{not_true}
 
 pub guard : (f : Run) → ExpressionRead f → (c : Context) (w : Live) → IsRead (1 + run_depth f) (R.Guard c w) (guards c w) f
 guard f reads c w k s t b m =
-    next guard_begins m.0 (λ e. if_false _ (no_wrong (is_due due.LeftBrace (op_at s)) no_block e).0
+    next guard_begins m.0 (λ e. if_false _ (no_wrong (is_due due.LeftBrace (op_at s)) guard_expected e).0
     (deeper _ refl (reads c w _ s t true m.1) (λ u l n. ends (guard_fault (tree f w)) u l n)))
   where
     ends : (v : Option Refusal) (u : Point) (l : Bool) → Met (unfaulted v (Next guard_ends ▸ k)) u t
@@ -44,7 +44,7 @@ guard f reads c w k s t b m =
 
 pub iterated : (f : Run) → ExpressionRead f → (c : Context) (w : Live) → IsRead (1 + run_depth f) (R.Iterated c w) (iterated_values c w) f
 iterated f reads c w k s t b m =
-    next guard_begins m.0 (λ e. if_false _ (no_wrong (is_due due.LeftBrace (op_at s)) no_block e).0
+    next guard_begins m.0 (λ e. if_false _ (no_wrong (is_due due.LeftBrace (op_at s)) guard_expected e).0
     (deeper _ refl (reads c w _ s t true m.1) (λ u l n. tested_fine (iterated_fault (tree f w)) n)))
 
 -- ---- blocks of constructs

@@ -20,6 +20,7 @@ use Rattle.rhai_grammar.specs.Forms.{Body, Construct, ExprStatement, Initializer
 use Rattle.rhai_grammar.specs.Forms.{Alias, Statements}
 use Rattle.rhai_grammar.specs.Constructs.{absent as without}
 use Rattle.rhai_grammar.specs.DueTokens.{is_due}
+use Rattle.rhai_grammar.proofs.EndLemmas.{tree_ends}
 use Rattle.rhai_reading.proofs.Beginnings.{keyword_defines}
 use Rattle.rhai_grammar.specs.Constructs.{construct_token, kind_of}
 use Rattle.rhai_reading.proofs.Beginnings.{construct_readable, starts_construct, starts_value}
@@ -67,7 +68,7 @@ last_is : (l : Lexeme) (v : AfterStatement) → V.last_at l v ≡ Fine → v ≡
 last_is l after.Close e = refl
 last_is l _ e = absurd cc
 
-semicolon_is : (closing : Closing) → V.after_statement closing (Sign token.SemiColon) ≡ after.SemiColon
+semicolon_is : (closing : Closing) → V.token_after_statement closing (Sign token.SemiColon) ≡ after.SemiColon
 semicolon_is Brace = refl
 semicolon_is EndMark = refl
 
@@ -214,18 +215,18 @@ module _ (closing : Closing) (c : Context) (w : Live) (before : node.Statements)
 pub last_statement : (f : Statement) → StatementRead f → StatementsRead (form.LastStatement f)
 last_statement f reads closing c w before k s t b m =
     statement_here closing c w before _ f reads m (λ u l n.
-    if_false _ (not_true _ n.0) (next (V.closed_due closing) n.1.0 (λ e.
-    seen (last_is (op_at u) (V.after_statement closing (op_at u)) e)
+    if_false _ (tree_ends f w ∙ not_true _ n.0) (next (V.closed_due closing) n.1.0 (λ e.
+    seen (last_is (op_at u) (V.token_after_statement closing (op_at u)) e)
     (R.separated_at closing c (walk.after_statement f w) (with_kept before (statement_tree f w)) (op_at u) (pos_at u))
     (gives (ap (λ fs. (fs, walk.after_statement f w)) (sym (last_kept before (statement_tree f w)))) n.1.1))))
 
-pub ended : (f : Statement) (semicolon : Position) (rest : Statements) → StatementRead f → StatementsRead rest
-    → StatementsRead (form.Ended f semicolon rest)
-ended f semicolon rest reads more closing c w before k s t b m =
+pub with_semicolon : (f : Statement) (semicolon : Position) (rest : Statements) → StatementRead f → StatementsRead rest
+    → StatementsRead (form.WithSemicolon f semicolon rest)
+with_semicolon f semicolon rest reads more closing c w before k s t b m =
     let live = walk.after_statement f w in
     let so_far = with_kept before (statement_tree f w) in
     enough (λ z. omega arith) (statement_here closing c w before _ f reads m (λ u l n.
-    if_false _ (not_true _ n.0) (peek n.1.0 refl
+    if_false _ (tree_ends f w ∙ not_true _ n.0) (peek n.1.0 refl
     (seen (semicolon_is closing) (R.separated_at closing c live so_far (Sign token.SemiColon) semicolon)
     (take n.1.0 refl (part (more closing c live so_far k (past code u) t false n.1.1)
     (λ v a i. gives (ap (λ fs. (fs, walk.after_statements rest live))
@@ -237,7 +238,7 @@ standing f rest reads more closing c w before k s t b m =
     let live = walk.after_statement f w in
     let so_far = with_kept before (statement_tree f w) in
     enough (λ z. omega arith) (statement_here closing c w before _ f reads m (λ u l n.
-    if_true _ n.0 (part (more closing c live so_far k u t l n.1)
+    if_true _ (tree_ends f w ∙ n.0) (part (more closing c live so_far k u t l n.1)
     (λ v a i. gives (ap (λ fs. (fs, walk.after_statements rest live))
     (kept_statement before (statement_tree f w) (statement_trees rest live))) i))))
 

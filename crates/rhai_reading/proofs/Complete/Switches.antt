@@ -1,5 +1,5 @@
 -- `switch`: what is written so is read so.
-use Rattle.std.proofs.Common.{◌+◌, max, arith, ◌≡◌, Bool, true, false, Option, Some, None, refl}
+use Rattle.std.proofs.Common.{◌+◌, max, arith, ◌≡◌, Bool, true, false, Option, Some, None, refl, ap}
 use Rattle.rhai_lower.specs.Lexemes.{Lexeme, Sign}
 use Rattle.rhai_lower.specs.Nodes.{no_nodes, with_node}
 use Rattle.rhai_lower.specs.declared.position.Position.{Position}
@@ -17,9 +17,10 @@ use Rattle.rhai_grammar.specs.DueTokens.{is_due}
 use Rattle.rhai_grammar.specs.Forms as form
 use Rattle.rhai_grammar.specs.Forms.{Action, Arms, CaseGuard, Cases, Run, Statement}
 use Rattle.rhai_grammar.specs.Switches as S
+use Rattle.rhai_grammar.specs.Ends.{action_ends}
 use Rattle.rhai_grammar.specs.Switches.{Collected, action_due, arm_begins, arm_fault, unguarded, with_arm_collected}
 use Rattle.rhai_grammar.specs.Switches.{nothing_collected}
-use Rattle.rhai_grammar.specs.Trees.{action_ends, action_tree, case_trees, guard_tree, tree}
+use Rattle.rhai_grammar.specs.Trees.{action_tree, case_trees, guard_tree, tree}
 use Rattle.rhai_grammar.specs.Written as W
 use Rattle.rhai_grammar.specs.Written.{unfaulted}
 use Rattle.rhai_grammar.specs.declared.due.DueToken.TheVariants as due
@@ -28,6 +29,7 @@ use Rattle.rhai_grammar.specs.declared.list.AfterPart.TheVariants as after
 use Rattle.rhai_grammar.specs.declared.list.CommaList.TheVariants as lists
 use Rattle.rhai_grammar.specs.declared.role.ArmPlace.{ArmPlace}
 use Rattle.rhai_grammar.specs.declared.role.ArmPlace.TheVariants as arm
+use Rattle.rhai_grammar.proofs.EndLemmas.{tree_ends_arm}
 use Rattle.rhai_reading.specs.Reading as R
 use Rattle.rhai_reading.proofs.Complete.Constructs.{guard}
 use Rattle.rhai_reading.proofs.Complete.Law.{ActionRead, ArmsRead, CaseGuardRead, CasesRead, ConstructRead, ExpressionRead, IsFlat, IsRead, IsReadSo}
@@ -79,7 +81,8 @@ case_guard at f expression c w k s t b m =
 pub does : (f : Statement) → StatementRead f → ActionRead (form.Does f)
 does f statement c w k s t b m =
     seen (not_true _ m.0) (R.action_on c w) (next action_due m.1.0 (λ e. if_false _ (no_end (op_at s) e)
-    (part (statement (below_global c) (in_block w) k s t true m.1.1) (λ u l n. ret n))))
+    (part (statement (below_global c) (in_block w) k s t true m.1.1) (λ u l n.
+    gives (ap (λ itself. (action_tree (form.Does f) w, itself)) (tree_ends_arm f (in_block w))) n))))
 
 pub gives_value : (f : Run) → ExpressionRead f → ActionRead (form.Gives f)
 gives_value f expression c w k s t b m =
@@ -115,10 +118,10 @@ one_arm xs f arrow x comma read_cases read_guard read_action c w before k s t b 
     due_now i.0 refl refl (part (read_action c w _ (past code v) t false i.1) (λ y d j.
     fits (arm_fault before (case_trees xs w)) y d j))))
   where
-    fits : (v : Option Refusal) (u : Point) (l : Bool) → Met (unfaulted v (W.separated comma (action_ends x w) k)) u t
-        → Reaches (λ z. z) (R.arm_on (case_trees xs w) (guard_tree f w) (action_tree x w, action_ends x w) v) u l
+    fits : (v : Option Refusal) (u : Point) (l : Bool) → Met (unfaulted v (W.separated comma (action_ends x) k)) u t
+        → Reaches (λ z. z) (R.arm_on (case_trees xs w) (guard_tree f w) (action_tree x w, action_ends x) v) u l
         (case_trees xs w, guard_tree f w, action_tree x w) k t
-    fits None u l n = part (arm_end (action_ends x w) comma k u t l n) (λ v a i. ret i)
+    fits None u l n = part (arm_end (action_ends x) comma k u t l n) (λ v a i. ret i)
     fits (Some e) u l n = let h = n.0 in absurd cc
 
 pub an_arm : (xs : Cases) (f : CaseGuard) (arrow : Position) (x : Action) (comma : Option Position) (rest : Arms)
@@ -136,7 +139,7 @@ one_default pos arrow x comma closing read_action c w k s t b m =
     next unguarded m.0 (λ e.
     if_false _ (no_wrong (is_due due.If (op_at s)) cause.WrongSwitchCaseCondition e).0
     (due_now m.1.0 refl refl (part (read_action c w _ (past code s) t false m.1.1) (λ u l n.
-    part (arm_end (action_ends x w) comma _ u t l n) (λ v a i.
+    part (arm_end (action_ends x) comma _ u t l n) (λ v a i.
     part (default_end pos closing k v t a i) (λ y d j. ret j))))))
 
 pub default_arm : (pos arrow : Position) (x : Action) (comma : Option Position) (closing : Position) → ActionRead x

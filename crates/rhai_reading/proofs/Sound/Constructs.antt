@@ -7,7 +7,7 @@ use Rattle.rhai_lower.specs.Nodes.{Node}
 use Rattle.rhai_lower.specs.Positions.{nowhere}
 use Rattle.rhai_lower.specs.declared.position.Position.{Position}
 use Rattle.rhai_grammar.specs.Causes.{Refusal}
-use Rattle.rhai_grammar.specs.Constructs.{do_end, guard_begins, guard_fault, iterated_fault, kind_fault}
+use Rattle.rhai_grammar.specs.Constructs.{do_end, guard_begins, guard_fault, iterated_fault, type_fault}
 use Rattle.rhai_grammar.specs.Contexts.{Context, Live, level_up, loop_body}
 use Rattle.rhai_grammar.specs.Definitions.{catch_live, loop_live}
 use Rattle.rhai_grammar.specs.Delivered.{code, Point, past, is_memory}
@@ -38,7 +38,7 @@ use Rattle.rhai_reading.proofs.Sound.Law.{any_run}
 
 -- ---- guards
 
-kind_early : (t : Text) (x : Node) (v : Option Text) → Early (kind_fault t x v)
+kind_early : (t : Text) (x : Node) (v : Option Text) → Early (type_fault t x v)
 kind_early t x None = tt
 kind_early t x (Some found) = refl
 

@@ -47,9 +47,9 @@ use Rattle.rhai_reading.proofs.Shows.{Histories, Ensures, Tells, Halts, Answers,
 -- ---- runs
 
 -- the operator at the top doesn't go on with what stands there
-abbrev pub Ended : ExprFilter → Run → Follower → Type 0
-Ended filter (Just x) v = Unit {0}
-Ended filter (Binary op pos l r) v = next_continues (strength (follower_of filter op)) v ≡ false
+abbrev pub TopEnds : ExprFilter → Run → Follower → Type 0
+TopEnds filter (Just x) v = Unit {0}
+TopEnds filter (Binary op pos l r) v = next_continues (strength (follower_of filter op)) v ≡ false
 
 -- what goes on with p fits on this side
 abbrev pub Suits : ExprFilter → ℕ → Side → Type 0
@@ -111,7 +111,8 @@ Sound (R.NextOperator filter) s o =
 Sound (R.BinaryOp c w pos p lhs) s o =
     (q : Spot) (from : Point) (L : Run) → q.live ≡ w → tree L q.live ≡ lhs
     → height_after q L ≡ record { settings = c; at = pos } → filter_of q ≡ c.filter → Suits (filter_of q) p q.side
-    → Ended (filter_of q) L (follower_at (filter_of q) s) → Stands q from L s → Tells (RunRead q p from) (Halts (runs q) from) o
+    → TopEnds (filter_of q) L (follower_at (filter_of q) s) → Stands q from L s
+    → Tells (RunRead q p from) (Halts (runs q) from) o
 Sound (R.ExprStatement c w) s o = Answers (expr_statements c w) s o
 Sound (R.VarName c w) s o = Answers (var_names c w) s o
 Sound (R.Initializer c w pos) s o = Answers (initializers c w pos) s o

@@ -11,7 +11,7 @@ use Rattle.rhai_lower.specs.Positions.{nowhere}
 use Rattle.rhai_lower.specs.Nodes.{no_nodes, no_properties}
 use Rattle.rhai_grammar.specs.declared.due.DueToken.TheVariants as due
 use Rattle.rhai_grammar.specs.Delivered.{code, Point, past, is_memory}
-use Rattle.rhai_grammar.specs.Settings.{in_function}
+use Rattle.rhai_grammar.specs.Settings.{is_in_function}
 use Rattle.rhai_grammar.specs.Constructs.{construct_token, kind_of, may_be_value}
 use Rattle.rhai_grammar.specs.Contexts.{Context, Live, below_global, in_block, level_up}
 use Rattle.rhai_grammar.specs.declared.role.Beginning.{Beginning}
@@ -97,7 +97,7 @@ module _ {call : Histories} (ih : AllSound call) (c : Context) (w : Live) (place
       either (may_be_called word && calls next) (λ may. gives x (rw (called_no_this word (calls next) may))
       (λ k o r. here ▹ fine n (rw may) ▹ r)) (λ none.
       either (is_this word)
-      (λ this. either (in_function c.settings) (λ inside. gives x (rw this)
+      (λ this. either (is_in_function c.settings) (λ inside. gives x (rw this)
       (λ k o r. here ▹ fine n (rw (none, this, inside)) ▹ r))
       (λ outside. halt x refl (λ k. here ▹ blamed n (rw (none, this, outside)))))
       (λ other. halt x refl (λ k. here ▹ blamed n (rw (none, other)))))))

@@ -1,6 +1,8 @@
 -- Statements, their lists, and blocks.
+use Rattle.rhai_grammar.specs.Ends.{needs_no_semicolon}
+use Rattle.rhai_grammar.proofs.EndLemmas.{tree_ends}
 use Rattle.rhai_reading.proofs.FunctionKinds.{any_function, function_form}
-use Rattle.std.proofs.Common.{◌≡◌, Bool, true, false, Option, Some, None, List, [], ◌∷◌, refl, sym, ap}
+use Rattle.std.proofs.Common.{◌≡◌, Bool, true, false, Option, Some, None, List, [], ◌∷◌, refl, sym, ap, ◌∙◌}
 use Rattle.std.specs.Prelude.{not}
 use Rattle.rhai_lower.specs.Lexemes.{Lexeme, Sign, text_of}
 use Rattle.rhai_lower.specs.Nodes.{Node, position_of}
@@ -275,14 +277,15 @@ module _ {call : Histories} (ih : AllSound call) (closing : Closing) (c : Contex
     (before : node.Statements) (s : Point) where
   -- after a statement that does not end by itself
   separated_by : (f : Statement) (t : Point) → Fits (V.statement_begins closing) s → Passed (statements c w) f s t
-      → V.ends_itself (statement_tree f w) ≡ false → (v : AfterStatement) → V.after_statement closing (op_at t) ≡ v
+      → needs_no_semicolon f ≡ false → (v : AfterStatement)
+      → V.token_after_statement closing (op_at t) ≡ v
       → is_memory (op_at t) ≡ false
       → Goes call (statement_lists closing c w before) s
       (R.separated_at closing c (walk.after_statement f w) (with_kept before (statement_tree f w)) (op_at t) (pos_at t) v)
       t true
   separated_by f t begins G open_ after.SemiColon e m =
       take (ends (ih.of (R.Statements closing c (walk.after_statement f w) (with_kept before (statement_tree f w)))
-      (past code t) false) (form.Ended f (pos_at t))
+      (past code t) false) (form.WithSemicolon f (pos_at t))
       (λ v l. ap (λ fs. (fs, walk.after_statements l (walk.after_statement f w))) (sym (kept_statement before
       (statement_tree f w) (statement_trees l (walk.after_statement f w)))))
       (λ l k o r. begins ▹ G.on (ap not open_ ▹ separated closing t e ▹ r)))
@@ -305,8 +308,9 @@ module _ {call : Histories} (ih : AllSound call) (closing : Closing) (c : Contex
       (form.Standing f)
       (λ v l. ap (λ fs. (fs, walk.after_statements l (walk.after_statement f w))) (sym (kept_statement before
       (statement_tree f w) (statement_trees l (walk.after_statement f w)))))
-      (λ l k o r. begins ▹ G.on (itself ▹ r)))
-      (λ open_. look (λ n. separated_by f t begins G open_ (V.after_statement closing (op_at t)) refl n)))
+      (λ l k o r. begins ▹ G.on ((sym (tree_ends f w) ∙ itself) ▹ r)))
+      (λ open_. look (λ n. separated_by f t begins G (sym (tree_ends f w) ∙ open_)
+      (V.token_after_statement closing (op_at t)) refl n)))
   list_by place.Nothing e m = refuse form.NoStatement (λ k. ill m (rw e))
 
   pub list_of : (b : Bool) → Goes call (statement_lists closing c w before) s (body (R.Statements closing c w before)) s b

@@ -15,11 +15,12 @@ use Rattle.rhai_grammar.specs.Demands.{Fine, Wrong}
 use Rattle.rhai_grammar.specs.DueTokens.{is_due}
 use Rattle.rhai_grammar.specs.Forms as form
 use Rattle.rhai_grammar.specs.Forms.{Action, CaseGuard, Cases}
-use Rattle.rhai_grammar.specs.Kinds.{is_literal_value}
+use Rattle.rhai_grammar.specs.CaseValues.{is_literal_value}
 use Rattle.rhai_grammar.specs.Switches as S
+use Rattle.rhai_grammar.specs.Ends.{action_ends}
 use Rattle.rhai_grammar.specs.Switches.{Collected, action_due, arm_begins, arm_fault, arm_place, case_fault, ends_arm, fault_from}
 use Rattle.rhai_grammar.specs.Switches.{has_ranges, is_integer, unguarded, with_arm_collected, with_case, with_default_collected}
-use Rattle.rhai_grammar.specs.Trees.{action_ends, action_tree, case_trees, guard_tree, tree}
+use Rattle.rhai_grammar.specs.Trees.{action_tree, case_trees, guard_tree, tree}
 use Rattle.rhai_grammar.specs.Written as W
 use Rattle.rhai_grammar.specs.declared.due.DueToken.TheVariants as due
 use Rattle.rhai_grammar.specs.declared.list.AfterPart.{AfterPart}
@@ -27,6 +28,7 @@ use Rattle.rhai_grammar.specs.declared.list.AfterPart.TheVariants as after
 use Rattle.rhai_grammar.specs.declared.list.CommaList.TheVariants as lists
 use Rattle.rhai_grammar.specs.declared.role.ArmPlace.{ArmPlace}
 use Rattle.rhai_grammar.specs.declared.role.ArmPlace.TheVariants as arm
+use Rattle.rhai_grammar.proofs.EndLemmas.{tree_ends_arm}
 use Rattle.rhai_reading.specs.Reading as R
 use Rattle.rhai_reading.specs.Reading.{body}
 use Rattle.rhai_reading.proofs.Beginnings.{armed}
@@ -96,7 +98,8 @@ module _ {call : Histories} (ih : AllSound call) (c : Context) (w : Live) (s : P
       look (λ m. either (is_end (op_at s))
       (λ end. refuse any_action (λ k. ap not e ▹ ill m (no_action (op_at s) end)))
       (λ more. ends {v = λ f. (node.block_value (node.made_block f.0), ends_arm f.0)}
-      (ih.of (R.Statement (below_global c) (in_block w)) s true) form.Does (λ v f. refl)
+      (ih.of (R.Statement (below_global c) (in_block w)) s true) form.Does
+      (λ v f. ap (λ itself. (action_tree (form.Does f) w, itself)) (sym (tree_ends_arm f (in_block w))))
       (λ f k o r. ap not e ▹ fine m (some_action (op_at s) more) ▹ r)))
 
   pub action : (b : Bool) → Goes call (actions c w) s (body (R.Action c w)) s b
@@ -147,16 +150,16 @@ module _ {call : Histories} (ih : AllSound call) (c : Context) (w : Live) (befor
   abbrev left : (xs : Cases) (guard : CaseGuard) (does : Action) → Kind (Option Position) (Nodes × Node × Node)
   left xs guard does = record {
     tree = λ t comma. (case_trees xs w, guard_tree guard w, action_tree does w);
-    demands = λ comma k. W.unfaulted (arm_fault before (case_trees xs w)) (W.separated comma (action_ends does w) k);
+    demands = λ comma k. W.unfaulted (arm_fault before (case_trees xs w)) (W.separated comma (action_ends does) k);
   }
 
   arm_by : (xs : Cases) (guard : CaseGuard) (does : Action) (t : Point) (b : Bool) (v : Option Refusal)
       → arm_fault before (case_trees xs w) ≡ v
       → Goes call (left xs guard does) t (R.arm_on (case_trees xs w) (guard_tree guard w)
-      (action_tree does w, action_ends does w) v) t b
+      (action_tree does w, action_ends does) v) t b
   arm_by xs guard does t b None e =
       ends {v = λ end. (case_trees xs w, guard_tree guard w, action_tree does w)}
-      (ih.of (R.ArmEnd (action_ends does w)) t b) (λ comma. comma) (λ v comma. refl) (λ comma k o r. unfaulted e r)
+      (ih.of (R.ArmEnd (action_ends does)) t b) (λ comma. comma) (λ v comma. refl) (λ comma k o r. unfaulted e r)
   arm_by xs guard does t b (Some d) e =
       halt None (early _ d (fault_early (S.arm_count before.arms) before (case_trees xs w)) e) (λ k. faulted _ e)
 
@@ -202,7 +205,7 @@ module _ {call : Histories} (ih : AllSound call) (c : Context) (w : Live) (defau
       first (ih.of (R.Action c w) (past code s) false)
       (λ does (h : Option Position × Position). default_form (pos_at s) does h.0 h.1) (None, nowhere)
       (λ does h k o r. open_ ▹ arrow ▹ r) (λ does u a.
-      first (ih.of (R.ArmEnd (action_ends does w)) u a) (λ comma closing. (comma, closing)) nowhere
+      first (ih.of (R.ArmEnd (action_ends does)) u a) (λ comma closing. (comma, closing)) nowhere
       (λ comma closing k o r. r) (λ comma v d.
       ends {v = λ x. action_tree does w} (ih.of (R.DefaultEnd default) v d)
       (λ closing. closing) (λ x closing. refl) (λ closing k o r. r))))))

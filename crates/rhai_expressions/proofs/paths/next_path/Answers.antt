@@ -48,4 +48,5 @@ loop-next-preserved c =
       same = c.loop-next.invariant.same ∙ path_goes_on _ _ _ h (c.in_ok-name.ensures c.in_ok-next.next_pos) (search rules) short;
       colons = search rules;
       goes_on = record { same = search rules; shorter = omega (arith, short, c.loop-next.invariant.goes_on.shorter); grows = search rules };
+      steady = grind arith;
     }

@@ -6,6 +6,7 @@ use Rattle.rhai_grammar.specs.Cursors.{left}
 use Rattle.rhai_reading.specs.Reading.{Path}
 use Rattle.rhai_reading.specs.Running.{asked, result_of}
 use Rattle.rhai_language.specs.Readers.{GoesOn, state_of}
+use Rattle.rhai_language.specs.Rooms.{Steady}
 use Rattle.rhai_expressions.proofs.paths.next_path.Given as goal
 
 abbrev pub invariant-loop-next : goal.invariant-loop-next
@@ -14,6 +15,7 @@ invariant-loop-next l = record {
       ≡ result_of (Path l.frame.live (variable (named l.name.value) l.pos)) (state_of l.shared);
   colons : qualifies (asked (state_of l.shared)).lexeme ≡ true;
   goes_on : GoesOn l.fn.shared l.shared;
+  steady : Steady l.fn.shared l.shared;
 }
 
 abbrev pub decreases-loop-next : goal.decreases-loop-next

@@ -5,6 +5,7 @@ use Rattle.rhai_base.specs.Uses.{uses_of}
 use Rattle.rhai_language.specs.Frames.{context_of, live_of}
 use Rattle.rhai_language.specs.Languages.{LanguageValue}
 use Rattle.rhai_language.specs.Readers.{GoesOn, state_of}
+use Rattle.rhai_language.specs.Rooms.{Steady}
 use Rattle.rhai_reading.specs.Reading.{Prog, captured_on}
 use Rattle.rhai_reading.specs.Running.{Caller, exec}
 use Rattle.rhai_primaries.proofs.closure.use_captured.Given as goal
@@ -15,4 +16,5 @@ invariant-loop-used l = record {
       → exec call (captured_on (uses_of l.captured) (context_of language l.frame l.fn.settings) (live_of l.frame) p) (state_of l.fn.shared)
       ≡ exec call (captured_on (uses_of (drop l.used-index l.captured)) (context_of language l.frame l.fn.settings) (live_of l.frame) p) (state_of l.shared);
   goes_on : GoesOn l.fn.shared l.shared;
+  steady : Steady l.fn.shared l.shared;
 }

@@ -1,7 +1,7 @@
 -- The result depends on the items from the index on.
 use Rattle.std.proofs.Common.{◌≡◌, drop}
 use Rattle.rhai_ast.specs.View.{property_views, views}
-use Rattle.rhai_grammar.specs.Kinds.{are_literal_values, have_literal_values}
+use Rattle.rhai_grammar.specs.CaseValues.{are_literal_values, have_literal_values}
 use Rattle.rhai_statement_trees.proofs.literal.+literals.Given as goal
 
 abbrev pub invariant-are_literal_values-loop-item : goal.invariant-are_literal_values-loop-item

@@ -36,6 +36,11 @@ loop-links-preserved g c =
     record {
       same = c.loop-links.invariant.same ∙ dot_goes_on taken;
       goes_on = record { same = search rules; shorter = let less = (dot_short taken).1 in omega (arith, less, c.loop-links.invariant.goes_on.shorter); grows = search rules };
+      stays = grind arith;
+      limit = grind arith;
+      less = grind arith;
+      brackets_limit = grind arith;
+      brackets_less = grind arith;
     }
 
 pub loop-links-preserved-in-Bracket : goal.loop-links-preserved-in-Bracket
@@ -62,4 +67,9 @@ loop-links-preserved-in-Bracket g c =
     record {
       same = c.loop-links.invariant.same ∙ bracket_goes_on taken;
       goes_on = record { same = search rules; shorter = let less = (bracket_short taken).1 in omega (arith, less, c.loop-links.invariant.goes_on.shorter); grows = search rules };
+      stays = grind arith;
+      limit = grind arith;
+      less = grind arith;
+      brackets_limit = grind arith;
+      brackets_less = grind arith;
     }

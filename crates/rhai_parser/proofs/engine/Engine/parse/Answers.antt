@@ -3,7 +3,7 @@ use Rattle.std.specs.Prelude.{Ok, Err, map}
 use Rattle.std.specs.Rc.{rc_str_bytes}
 use Rattle.rhai_grammar.specs.Cursors.{cursor_of, mode_by}
 use Rattle.rhai_grammar.specs.Promises.{HasRead}
-use Rattle.rhai_base.specs.Counts.{Counts}
+use Rattle.rhai_base.specs.Counts.{counts_of}
 use Rattle.rhai_base.specs.Frames.{FrameValue}
 use Rattle.rhai_base.specs.Libraries.{library_of}
 use Rattle.rhai_base.specs.declared.settings.ParseSettings.{ParseSettings}
@@ -12,7 +12,8 @@ use Rattle.rhai_parser.specs.Engines.{script_settings}
 use Rattle.rhai_parser.specs.Scripts.{ReadsScript}
 use Rattle.rhai_parser.specs.Starts.{live_in, starts_in}
 use Rattle.rhai_parser.proofs.FrameLemmas.{frame_is}
-use Rattle.rhai_parser.proofs.PromiseLemmas.{ast_done, ast_fails, ast_orderly, read_on, read_so}
+use Rattle.rhai_parser.proofs.NestLemmas.{orderly_so}
+use Rattle.rhai_parser.proofs.PromiseLemmas.{ast_done, ast_fails, read_on, read_so}
 use Rattle.rhai_parser.proofs.engine.Engine.parse.Goals as goal
 
 pub returns-in-Ok-clause-reads : goal.returns-in-Ok-clause-reads
@@ -35,9 +36,9 @@ returns-in-Ok-clause-memory c =
     (read_so _ _) c.in-Ok.ensures.memory
 
 pub returns-in-Ok-clause-orderly : goal.returns-in-Ok-clause-orderly
-returns-in-Ok-clause-orderly c = λ fresh orderly.
-    ast_orderly (starts_in c.args.self.now c.args.state (script_settings c.args.self.now)) (live_in c.args.state) _ _ _ _ c.args.state.external_constants c.args.level
-    c.optimize.result (ap (λ (n : Counts). n.begun) fresh.counts) (returns-in-Ok-clause-reads c fresh) orderly
+returns-in-Ok-clause-orderly c =
+    let framed = frame_is c.args.self.now c.args.state c.new-frame.result _ _ _ _ _ c.new-frame.ensures c.known-known.ensures refl refl c.deref.ensures.value c.fn_begun-begun.ensures in
+    orderly_so c.args.self.now (counts_of c.args.state.counts).begun c.new-frame.result.begun _ _ (ap (λ (f : FrameValue). f.begun) framed) c.parse_script-read.ensures.orderly
 
 pub returns-clause-reads : goal.returns-clause-reads
 returns-clause-reads c = λ fresh.
@@ -53,6 +54,6 @@ returns-clause-reads c = λ fresh.
     ast_fails (starts_in engine c.args.state (script_settings engine)) (live_in c.args.state) _ _ _ _ _ _ c.args.state.external_constants c.args.level c.in-Err.error reads
 
 pub returns-clause-orderly : goal.returns-clause-orderly
-returns-clause-orderly c = λ fresh orderly.
-    ast_orderly (starts_in c.args.self.now c.args.state (script_settings c.args.self.now)) (live_in c.args.state) _ _ _ _ c.args.state.external_constants c.args.level
-    _ (ap (λ (n : Counts). n.begun) fresh.counts) (returns-clause-reads c fresh) orderly
+returns-clause-orderly c =
+    let framed = frame_is c.args.self.now c.args.state c.new-frame.result _ _ _ _ _ c.new-frame.ensures c.known-known.ensures refl refl c.deref.ensures.value c.fn_begun-begun.ensures in
+    orderly_so c.args.self.now (counts_of c.args.state.counts).begun c.new-frame.result.begun _ _ (ap (λ (f : FrameValue). f.begun) framed) c.parse_script-read.ensures.orderly

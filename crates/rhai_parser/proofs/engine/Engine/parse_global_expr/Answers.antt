@@ -1,11 +1,11 @@
 use Rattle.std.proofs.Common.{ap, refl, rules, subst}
-use Rattle.rhai_base.specs.Counts.{Counts}
+use Rattle.rhai_base.specs.Counts.{counts_of}
 use Rattle.rhai_base.specs.Frames.{FrameValue}
 use Rattle.rhai_base.specs.Libraries.{library_of}
 use Rattle.rhai_grammar.specs.Cursors.{cursor_of, mode_by}
 use Rattle.rhai_parser.specs.Scripts.{ReadsExpression}
 use Rattle.rhai_parser.specs.Starts.{live_in, starts_in}
-use Rattle.rhai_parser.proofs.PromiseLemmas.{expression_orderly}
+use Rattle.rhai_parser.proofs.NestLemmas.{orderly_so}
 use Rattle.rhai_language.specs.Frames.{context_of, live_of}
 use Rattle.rhai_parser.proofs.FrameLemmas.{frame_is}
 use Rattle.rhai_parser.proofs.engine.Engine.parse_global_expr.Goals as goal
@@ -21,7 +21,6 @@ returns-clause-reads g c = λ fresh.
     )
 
 pub returns-clause-orderly : goal.returns-clause-orderly
-returns-clause-orderly g c = λ fresh orderly.
-    let told = returns-clause-reads g c fresh in
-    expression_orderly (starts_in c.args.self.now c.args.state told.0) (live_in c.args.state) _ _ _ _ c.args.state.external_constants c.args.level c.read_script.result
-    (ap (λ (n : Counts). n.begun) fresh.counts) told.2 orderly
+returns-clause-orderly g c =
+    let framed = frame_is c.args.self.now c.args.state c.new-frame.result _ _ _ _ _ c.new-frame.ensures c.known-known.ensures refl refl c.deref.ensures.value c.fn_begun-begun.ensures in
+    orderly_so c.args.self.now (counts_of c.args.state.counts).begun c.new-frame.result.begun _ _ (ap (λ (f : FrameValue). f.begun) framed) c.read_script.ensures.orderly

@@ -13,8 +13,8 @@ use Rattle.rhai_parser.specs.Nesting.{NestsAsWritten}
 use Rattle.rhai_parser.specs.Scripts.{ReadsScript}
 use Rattle.rhai_parser.specs.Starts.{live_in, starts_in}
 use Rattle.rhai_parser.proofs.FrameLemmas.{frame_is}
-use Rattle.rhai_parser.proofs.NestLemmas.{entry_again, entry_stays, nests_left}
-use Rattle.rhai_parser.proofs.PromiseLemmas.{script_orderly, unless_on}
+use Rattle.rhai_parser.proofs.NestLemmas.{entry_again, entry_stays, nests_left, orderly_so}
+use Rattle.rhai_parser.proofs.PromiseLemmas.{unless_on}
 use Rattle.rhai_parser.proofs.engine.Engine.parse_global_level.Goals as goal
 
 pub returns-clause-reads : goal.returns-clause-reads
@@ -35,15 +35,15 @@ returns-clause-reads g c =
             (library_of c.args.state.now.lib.now.entries) (cursor_of c.args.state.now.input.now) (counts_of read.new.counts))) framed
             (read.ensures.deep (ap mode_by fresh.mode) (c.nest_enter.ensures ∙ ap with_entered fresh.counts))),
       ),
-      unless_on read.result (entry_stays engine chosen (counts_of c.args.state.now.counts) (counts_of c.nest_enter.new.self)
-          (counts_of read.new.counts) (counts_of c.nest_leave.new.self) c.nest_enter.ensures c.nest_leave.ensures) read.ensures.stays,
+      entry_stays engine chosen (counts_of c.args.state.now.counts) (counts_of c.nest_enter.new.self)
+          (counts_of read.new.counts) (counts_of c.nest_leave.new.self) c.nest_enter.ensures c.nest_leave.ensures read.ensures.stays,
     )
 
 pub returns-clause-orderly : goal.returns-clause-orderly
-returns-clause-orderly g c = λ fresh orderly.
-    let told = returns-clause-reads g c in
-    script_orderly (starts_in c.args.self.now c.args.state.now told.0) (live_in c.args.state.now) _ _ _ _ _ _ c.parse_script-read.result
-    (ap (λ (n : Counts). n.begun) fresh.counts) (told.2 fresh).0 orderly
+returns-clause-orderly g c =
+    let framed = frame_is c.args.self.now c.args.state.now c.new-frame.result _ _ _ _ _ c.new-frame.ensures c.known-known.ensures c.replace-stack.ensures.value
+    c.replace-imports.ensures.value (c.deref.ensures.value ∙ ap (λ (v : Vec (RcStr Global) Global). v.items) c.replace-around.ensures.value) c.fn_begun.ensures in
+    orderly_so c.args.self.now (counts_of c.args.state.now.counts).begun c.new-frame.result.begun _ _ (ap (λ (f : FrameValue). f.begun) framed) c.parse_script-read.ensures.orderly
 
 pub returns-clause-active : goal.returns-clause-active
 returns-clause-active g c =

@@ -75,10 +75,7 @@ returns-in-Err-clause-memory c =
     c.in-Err.error (λ told. read.4.0 told, read.4.1)
 
 pub returns-in_err-library-clause-stays : goal.returns-in_err-library-clause-stays
-returns-in_err-library-clause-stays c = always c.from_residual.result (λ positive more start. le-max_left _ _)
-
-pub returns-in-Ok-clause-stays : goal.returns-in-Ok-clause-stays
-returns-in-Ok-clause-stays c = always c.with_functions.result c.in-Ok.ensures.stays
+returns-in_err-library-clause-stays c = λ positive more. le-max_left _ _
 
 pub returns-in_err-library-clause-grows : goal.returns-in_err-library-clause-grows
 returns-in_err-library-clause-grows c = begins_same c.args.lib.now.entries c.take_library.new.lib.entries (search rules)

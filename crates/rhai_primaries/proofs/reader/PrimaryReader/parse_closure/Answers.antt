@@ -1,8 +1,10 @@
-use Rattle.std.proofs.Common.{◌∙◌, Err, ap, rules}
+use Rattle.std.proofs.Common.{◌∙◌, Err, ap, arith, rules}
 use Rattle.std.proofs.lemmas.Result.{err_from_is_err_and}
 use Rattle.rhai_ast.specs.View.{statement_view, view}
 use Rattle.rhai_base.specs.Uses.{uses_of}
+use Rattle.rhai_base.specs.Libraries.{library_of}
 use Rattle.rhai_language.specs.Frames.{context_of, live_of}
+use Rattle.rhai_language.proofs.Rooms.{given_up, no_function, one_begun}
 use Rattle.rhai_language.specs.Readers.{names_of, state_of}
 use Rattle.rhai_reading.specs.Reading.{Closure}
 use Rattle.rhai_reading.specs.Running.{entering, guarded, with_captured}
@@ -62,3 +64,25 @@ returns-clause-reads g c =
     (uses_of c.end_apart-captured.result.items) (state_of c.end_apart-captured.new.self) c.end_closure.result (state_of c.end_closure.new.shared)
     c.end_apart-captured.ensures.captured (c.end_apart-captured.ensures.back ∙ ap (λ us. with_captured us u) c.begin_apart-outer.ensures.outer)
     (c.end_closure.ensures.gives language (guarded (Closure context w c.args.settings.pos c.args.bars) s)))
+
+pub returns-in_err-body-clause-stays : goal.returns-in_err-body-clause-stays
+returns-in_err-body-clause-stays g c =
+    let limit = c.args.self.now.language.now.max_functions in
+    let begun = c.args.frame.now.begun in
+    record {
+      nesting = grind (arith, no_function);
+      library = λ h.
+          let held = one_begun limit begun (library_of c.args.shared.now.library.now) (search rules) h in
+          given_up limit begun _ (grind arith);
+    }
+
+pub returns-clause-stays : goal.returns-clause-stays
+returns-clause-stays g c =
+    let limit = c.args.self.now.language.now.max_functions in
+    let begun = c.args.frame.now.begun in
+    record {
+      nesting = grind (arith, no_function);
+      library = λ h.
+          let held = one_begun limit begun (library_of c.args.shared.now.library.now) (search rules) h in
+          c.end_closure.ensures.ends.library limit begun (grind arith);
+    }

@@ -27,4 +27,5 @@ loop-properties-preserved g c =
     record {
       same = c.loop-properties.invariant.same ∙ field_goes_on _ taken;
       goes_on = record { same = search rules; shorter = let less = field_short taken in omega (arith, less, c.loop-properties.invariant.goes_on.shorter); grows = search rules };
+      stays = grind arith;
     }

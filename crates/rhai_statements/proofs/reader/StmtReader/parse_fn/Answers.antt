@@ -1,4 +1,4 @@
-use Rattle.std.proofs.Common.{◌∙◌, Err, ap, refl, rules}
+use Rattle.std.proofs.Common.{◌∙◌, Err, ap, arith, refl, rules}
 use Rattle.std.proofs.lemmas.Result.{err_from_is_err_and}
 use Rattle.rhai_ast.specs.View.{statement_view}
 use Rattle.rhai_base.specs.Frames.{FrameValue}
@@ -7,6 +7,9 @@ use Rattle.rhai_language.specs.Readers.{ended_view, state_of, with_live}
 use Rattle.rhai_reading.specs.Reading.{FunctionStatement}
 use Rattle.rhai_reading.specs.Running.{guarded}
 use Rattle.rhai_reading.proofs.Steps.{nested_done, nested_gives}
+use Rattle.rhai_base.specs.Libraries.{library_of}
+use Rattle.rhai_language.proofs.Rooms.{given_up, one_begun}
+use Rattle.rhai_statements.proofs.Readers as rule
 use Rattle.rhai_statements.proofs.FunctionLemmas.{Begun, context_inside, function_fails, function_gives}
 use Rattle.rhai_statements.proofs.reader.StmtReader.parse_fn.Goals as goal
 
@@ -40,3 +43,26 @@ returns-clause-reads g c =
     function_gives (with_live statement_view c.args.frame.now) context (live_of c.args.frame.now) c.args.first c.args.settings.pos c.args.private inside c.in_ok-deeper.deeper.pos (state_of c.args.shared.now) begun
     (ended_view (c.in_ok-key.key, c.in_ok-key.function)) (state_of c.nested-leave.new.self) (nested_done _ _ c.nested-enter.ensures.enters c.in_ok-key.ensures.reads c.nested-leave.ensures.leaves)
     c.end_function.result (state_of c.end_function.new.shared) (c.end_function.ensures.gives call (live_of c.args.frame.now))
+
+pub returns-in_err-key-clause-stays : goal.returns-in_err-key-clause-stays
+returns-in_err-key-clause-stays g c =
+    let limit = c.args.self.now.language.now.max_functions in
+    let begun = c.args.frame.now.begun in
+    record {
+      nesting = grind (arith, rule.rooms);
+      library = λ h.
+          let held = one_begun limit begun (library_of c.args.shared.now.library.now) (search rules) h in
+          given_up limit begun _ (grind arith);
+    }
+
+pub returns-clause-stays : goal.returns-clause-stays
+returns-clause-stays g c =
+    let limit = c.args.self.now.language.now.max_functions in
+    let begun = c.args.frame.now.begun in
+    let ends = c.end_function.ensures.ends c.in_ok-key.ensures.named in
+    record {
+      nesting = grind (arith, rule.rooms);
+      library = λ h.
+          let held = one_begun limit begun (library_of c.args.shared.now.library.now) (search rules) h in
+          ends.library limit begun (grind arith);
+    }
