@@ -1,29 +1,21 @@
 -- No token is both required and refused at one place.
-use Rattle.std.proofs.Common.{◌≡◌, ℕ, ◌+◌, Bool, true, false, refl, sym, ◌∙◌, ap, subst, inl, inr, if◌then◌else◌}
-use Rattle.std.specs.Prelude.{Option, Some, None}
+use Rattle.std.proofs.Common.{◌≡◌, ℕ, ◌+◌, true, false, refl}
+use Rattle.std.specs.Prelude.{Some, None}
 use Rattle.rhai_lower.specs.Nodes.{Properties, no_properties, position_of, property, with_property}
-use Rattle.rhai_lower.specs.Lexemes.{Lexeme, Interpolated, Name, Reserved, Sign, text_of, String}
+use Rattle.rhai_lower.specs.Lexemes.{Lexeme, Interpolated, Name, Reserved, Sign, text_of}
 use Rattle.rhai_lower.specs.declared.position.Position.{Position}
 use Rattle.rhai_lower.specs.declared.token.Token.TheVariants as token
-use Rattle.rhai_lower.specs.Texts.{Text}
-use Rattle.std.proofs.Common.{[], ◌∷◌, ◌++◌}
 use Rattle.rhai_grammar.specs.Forms.{Owner, ParameterList, Parameters}
-use Rattle.rhai_grammar.specs.Functions.{after_type, in_function, is_type, no_function_name, parameter_names, parameters_live, type_or_name_due}
-use Rattle.rhai_grammar.specs.Beginnings.{beginning, no_operand}
-use Rattle.rhai_grammar.specs.Constructs.{construct_token, do_end_due, do_token, guard_fault, iterated_fault, kind_of}
-use Rattle.rhai_grammar.specs.Starts.{begins, is_omitted, jump_token, operand_start}
+use Rattle.rhai_grammar.specs.Functions.{in_function, parameter_names, parameters_live}
+use Rattle.rhai_grammar.specs.Beginnings.{beginning}
+use Rattle.rhai_grammar.specs.Constructs.{construct_token, iterated_fault, kind_of}
+use Rattle.rhai_grammar.specs.Starts.{jump_token, operand_start}
 use Rattle.rhai_grammar.specs.declared.role.OperandPlace.{OperandPlace}
 use Rattle.rhai_grammar.specs.declared.role.OperandPlace.TheVariants as place
-use Rattle.rhai_grammar.specs.declared.role.OperandStart.{OperandStart}
-use Rattle.rhai_grammar.specs.declared.role.OperandStart.TheVariants as start
-use Rattle.rhai_grammar.specs.Causes.{Refusal}
 use Rattle.rhai_grammar.specs.Chains.{index_refusal, last_fault}
 use Rattle.rhai_grammar.specs.Contexts.{Context, Live, in_block, level_up, loop_body}
-use Rattle.rhai_grammar.specs.Delivered as M
-use Rattle.rhai_grammar.specs.Delivered.{Item, Mode, Point, adding, apart, capturing, with_captured, is_memory, next_at, past}
-use Rattle.rhai_grammar.specs.CommaLists.{closing_of}
-use Rattle.rhai_grammar.specs.Functions.{parameter_due}
-use Rattle.rhai_grammar.specs.Demands.{◌▸◌, Apart, Captures, Uses, Ahead, Blames, Adds, Demands, TestIn, Fine, Literally, Met, Missed, Next, Nothing, Otherwise, Refused, Refuses, Shape, Test, Tok, Verdict, Wrong, verdict}
+use Rattle.rhai_grammar.specs.Delivered.{is_memory}
+use Rattle.rhai_grammar.specs.Demands.{Demands, Nothing, Verdict, verdict}
 use Rattle.rhai_grammar.specs.Forms as form
 use Rattle.rhai_grammar.specs.Forms.{Arguments, Base, Body, Branch, CatchName, Conditional, Construct, Elements, ExprStatement, Fields, Initializer, Items, JumpValue, Links, LoopNames, Operand, Primary, Run, Segments, Statement, Statements}
 use Rattle.rhai_grammar.specs.Definitions.{after_statement, catch_live, loop_live}
@@ -32,15 +24,11 @@ use Rattle.rhai_grammar.specs.Targets.{is_constant_use, target_fault}
 use Rattle.rhai_grammar.specs.declared.role.Closing.{Closing}
 use Rattle.rhai_grammar.specs.declared.role.Closing.TheVariants.{Brace, EndMark}
 use Rattle.rhai_grammar.specs.Laws.{FormsAreFair, IsFair, is_refused}
-use Rattle.rhai_grammar.specs.Literals.{KeyPlace, NoKey, is_key}
 use Rattle.rhai_grammar.specs.Trees.{argument_trees, base_tree, bracket_link, caught, caught_name, counter_of, loop_name, member_link, method_tree, primary_tree, tree}
 use Rattle.rhai_grammar.specs.Contexts.{below_global, in_case}
 use Rattle.rhai_grammar.specs.Forms.{Alias, Path}
-use Rattle.rhai_grammar.specs.Modules.{is_qualified, is_scoped, module_fault, qualified}
+use Rattle.rhai_grammar.specs.Modules.{is_qualified, is_scoped, module_fault}
 use Rattle.rhai_grammar.specs.Trees.{named_tree}
-use Rattle.rhai_lower.specs.Nodes.{Node}
-use Rattle.rhai_lower.specs.Texts.{Text}
-use Rattle.std.specs.Prelude.{List}
 use Rattle.rhai_grammar.specs.Forms.{Action, Arms, CaseGuard, Cases}
 use Rattle.rhai_grammar.specs.Ends.{action_ends}
 use Rattle.rhai_grammar.specs.Switches.{Collected, arm_fault, nothing_collected, with_arm_collected}
@@ -48,154 +36,13 @@ use Rattle.rhai_grammar.specs.Trees.{action_tree, case_trees, guard_tree}
 use Rattle.rhai_grammar.specs.Verdicts as V
 use Rattle.rhai_grammar.specs.Written as W
 use Rattle.rhai_grammar.specs.Written.{operands_fit}
-use Rattle.rhai_grammar.specs.Spots.{LinkSpot, Outermost, RightOf, Side, Spot, spot_after_bracket, spot_after_dot}
+use Rattle.rhai_grammar.specs.Spots.{LinkSpot, Spot, spot_after_bracket, spot_after_dot}
 use Rattle.rhai_grammar.specs.Spots.{filter_of, spot_after_operand, height_after, outermost, place_of, right_side}
 use Rattle.rhai_grammar.proofs.BeginningLemmas.{closure_begins, value_begins, sign_begins, construct_begins, range_begins}
 use Rattle.rhai_grammar.specs.Forms.{ClosureBody, ClosureHead}
 use Rattle.rhai_grammar.specs.Closures.{bars_of, bars_token, declared_names, in_closure}
-use Rattle.rhai_grammar.specs.Uses.{Use}
-use Rattle.rhai_grammar.specs.declared.list.CommaList.{CommaList}
-use Rattle.rhai_grammar.specs.declared.list.CommaList.TheVariants as lists
-
--- ---- one token
-
-unless : (b : Bool) (v : Verdict) → is_refused v ≡ false → is_refused (if b then Otherwise else v) ≡ false
-unless true v e = refl
-unless false v e = e
-
-anything : (l : Lexeme) → is_refused (verdict V.anything l) ≡ false
-anything l = unless (is_memory l) Otherwise refl
-
--- a token that begins an operand
-operand_due : (c : Context) (p : OperandPlace) (l : Lexeme) → begins c (beginning l) ≡ true → is_refused (verdict (V.operand_due c p) l) ≡ false
-operand_due c p l e = unless (is_memory l) (V.operand_due c p l) (by (operand_start p l))
-  where
-    by : (v : OperandStart) → is_refused (V.beginning_due c l v) ≡ false
-    by start.Written = ap (λ b. is_refused (if b then Otherwise else Wrong (no_operand l))) e
-    by start.Omitted = refl
-    by start.Jump = refl
-
--- where none is written
-omitted_due : (c : Context) (l : Lexeme) (v : OperandStart) → is_omitted v ≡ true → is_refused (V.beginning_due c l v) ≡ false
-omitted_due c l start.Omitted e = refl
-omitted_due c l _ e = absurd cc
-
-key_due : (k : KeyPlace) → is_key k ≡ true → is_refused (V.key_at k) ≡ false
-key_due (NoKey why) e = absurd cc
-key_due _ e = refl
-
-semicolon_due : (closing : Closing) → is_refused (verdict (S.semicolon_due closing) (Sign token.SemiColon)) ≡ false
-semicolon_due Brace = refl
-semicolon_due EndMark = refl
-
--- ---- all forms
-
-unfaulted : (r : Option Refusal) (k : Demands) → IsFair k → IsFair (W.unfaulted r k)
-unfaulted None k h = h
-unfaulted (Some e) k h = h
-
-raised : (side : Side) (k : Demands) → IsFair k → IsFair (W.raise_after side k)
-raised Outermost k h = h
-raised (RightOf op height) k h = h
-
--- a guard
-guarded : (f : Run) (c : Context) (w : Live) (k : Demands)
-    → ((j : Demands) → IsFair j → IsFair (W.run f (outermost (level_up c) w) j)) → IsFair k
-    → IsFair (W.as_guard (W.run f) (tree f w) c w k)
-guarded f c w k fair h = fair _ (unfaulted (guard_fault (tree f w)) _ h)
-
-do_ends : (negated : Bool) → is_refused (verdict do_end_due (Sign (do_token negated))) ≡ false
-do_ends true = refl
-do_ends false = refl
-
-path : (x : Path) (imports : List Text) (y : Node) (k : Demands) → IsFair k → IsFair (W.path x imports y k)
-path form.NoPath imports y k h = h
-path (form.Scoped colons name at rest) imports y k h = λ e.
-    (refl, (refl, path rest imports (qualified imports y name at) k h))
-
-banged : (q : Bool) (bang : Position) (k : Demands) → IsFair k → IsFair (W.banged q bang k)
-banged false bang k h = h
-banged true bang k h = h
-
-other_name : (x : Alias) (k : Demands) → IsFair k → IsFair (W.other_name x k)
-other_name form.NoAlias k h = h
-other_name (form.As as_at name at) k h = (refl, (refl, h))
-
-named : (x : LoopNames) (k : Demands) → IsFair k → IsFair (W.loop_names x k)
-named (form.Variable name at) k h = (refl, h)
-named (form.Counted opening name at comma counter counter_at closing) k h = (refl, (refl, (refl, (refl, (refl, h)))))
-
-caught_by : (x : CatchName) (k : Demands) → IsFair k → IsFair (W.catch_name x k)
-caught_by form.NoName k h = h
-caught_by (form.Caught opening name at closing) k h = (refl, (refl, (refl, h)))
-
-function_at : (is_private : Option Position) (at : Position) (k : Demands) → IsFair k
-    → IsFair (W.function_at is_private at k)
-function_at None at k h = (refl, h)
-function_at (Some first) at k h = (refl, (refl, h))
-
--- a type
-type_due : (l : Lexeme) → is_type l ≡ true → is_refused (verdict type_or_name_due l) ≡ false
-type_due l e = unless (is_memory l) (type_or_name_due l)
-    (ap (λ b. is_refused (if b then Otherwise else Wrong (no_function_name l))) e)
-
-dot_due : (type : Lexeme) → is_refused (verdict (after_type type) (Sign token.Period)) ≡ false
-dot_due (String t) = refl
-dot_due _ = refl
-
-function_name : (x : Owner) (name : Text) (at : Position) (k : Demands) → IsFair k
-    → IsFair (W.function_name x name at k)
-function_name form.NoOwner name at k h = (refl, h)
-function_name (form.Of type type_at dot) name at k h = λ e. (type_due type e, (dot_due type, (refl, h)))
-
-parameters_end : (parts : CommaList) → is_refused (verdict (parameter_due parts) (Sign (closing_of parts))) ≡ false
-parameters_end lists.Arguments = refl
-parameters_end lists.Array = refl
-parameters_end lists.Map = refl
-parameters_end lists.Arms = refl
-parameters_end lists.Parameters = refl
-parameters_end lists.ClosureParameters = refl
-
-list_end : (parts : CommaList) → is_refused (verdict (V.following_due parts) (Sign (closing_of parts))) ≡ false
-list_end lists.Arguments = refl
-list_end lists.Array = refl
-list_end lists.Map = refl
-list_end lists.Arms = refl
-list_end lists.Parameters = refl
-list_end lists.ClosureParameters = refl
-
-list_goes_on : (parts : CommaList) → is_refused (verdict (V.following_due parts) (Sign token.Comma)) ≡ false
-list_goes_on lists.Arguments = refl
-list_goes_on lists.Array = refl
-list_goes_on lists.Map = refl
-list_goes_on lists.Arms = refl
-list_goes_on lists.Parameters = refl
-list_goes_on lists.ClosureParameters = refl
-
-parameters : (x : Parameters) (parts : CommaList) (function : Text) (before : List Text) (k : Demands) → IsFair k
-    → IsFair (W.parameters x parts function before k)
-parameters (form.NoParameter closing) parts function before k h = (parameters_end parts, h)
-parameters (form.LastParameter name at closing) parts function before k h = (refl, (list_end parts, h))
-parameters (form.Parameter name at comma rest) parts function before k h =
-    (refl, (list_goes_on parts, parameters rest parts function (before ++ name ∷ []) k h))
-
-parameter_list : (x : ParameterList) (function : Text) (k : Demands) → IsFair k
-    → IsFair (W.parameter_list x function k)
-parameter_list (form.EmptyParameters at) function k h = (refl, h)
-parameter_list (form.ListedParameters opening list) function k h =
-    (refl, parameters list lists.Parameters function [] k h)
-
-closure_parameters : (x : ClosureHead) (k : Demands) → IsFair k → IsFair (W.closure_parameters x k)
-closure_parameters (form.Bars at) k h = h
-closure_parameters (form.Declared opening list) k h = parameters list lists.ClosureParameters [] [] k h
-
-captured_names : (us : List Use) (c : Context) (w : Live) (k : Demands) → IsFair k → IsFair (W.captured_names us c w k)
-captured_names [] c w k h = h
-captured_names (u ∷ us) c w k h = captured_names us c w k h
-
-separated : (comma : Option Position) (itself : Bool) (k : Demands) → IsFair k → IsFair (W.separated comma itself k)
-separated None itself k h = h
-separated (Some at) itself k h = (refl, h)
+use Rattle.rhai_grammar.proofs.FairDemands.{met_or_missed}
+use Rattle.rhai_grammar.proofs.FairParts.{unless, anything, operand_due, omitted_due, key_due, semicolon_due, unfaulted, raised, guarded, do_ends, path, banged, other_name, named, caught_by, function_at, function_name, parameter_list, closure_parameters, captured_names, separated}
 
 mutual
   primary : (x : Primary) (c : Context) (w : Live) (p : OperandPlace) (k : Demands) → IsFair k → IsFair (W.primary x c w p k)
@@ -401,72 +248,6 @@ mutual
 
 whole : (c : Context) (w : Live) (f : Run) → IsFair (W.whole_expression f c w)
 whole c w f = run f (outermost (level_up c) w) _ tt
-
--- ---- a form that fits is not refused
-
-unrefused : (v : Verdict) (at : Position) (e : Refusal) → is_refused v ≡ false → Refuses v at e → ⊥
-unrefused (Wrong cause) at e h r = absurd cc
-unrefused (Blames d) at e h r = absurd cc
-unrefused Fine at e h r = r
-unrefused Otherwise at e h r = r
-
--- a required token is not refused
-stands : (others : Lexeme → Verdict) (i due : Item) (e : Refusal) → is_refused (verdict others due.lexeme) ≡ false → i ≡ due → Refused others i e → ⊥
-stands others i due e h same r = unrefused (verdict others due.lexeme) due.at e h (subst (λ x. Refused others x e) same r)
-
--- demands that are met from one point on are met up to one other
-one_end : (ds : Demands) (s t u : Point) → Met ds s t → Met ds s u → t ≡ u
-one_end Nothing s t u m n = sym m ∙ n
-one_end (Tok mode i others ▸ ds) s t u m n = one_end ds (past mode s) t u m.1 n.1
-one_end (Ahead i others ▸ ds) s t u m n = one_end ds s t u m.1 n.1
-one_end (Next v ▸ ds) s t u m n = one_end ds s t u m.1 n.1
-one_end (Test holds d ▸ ds) s t u m n = one_end ds s t u m.1 n.1
-one_end (TestIn holds d ▸ ds) s t u m n = one_end ds s t u m.1 n.1
-one_end (Adds x ▸ ds) s t u m n = one_end ds (adding x s) t u m.1 n.1
-one_end (Uses v b x ▸ ds) s t u m n =
-    one_end ds (capturing (b s.library (next_at M.code s).lexeme) x s) t u m.1 n.1
-one_end (Captures holds d b x ▸ ds) s t u m n = one_end ds (capturing (b s.library) x s) t u m.1 n.1
-one_end (Shape holds ▸ ds) s t u m n = one_end ds s t u m.1 n.1
-one_end (Literally ds ▸ more) s t u m n =
-    let same = one_end ds s n.0 m.0 n.1 m.1 in
-    one_end more m.0 t u m.2 (subst (λ p. Met more p u) same n.2)
-one_end (Apart ds number us ▸ more) s t u m n =
-    let same = one_end ds (apart s) n.0 m.0 n.1 m.1 in
-    one_end more (with_captured s.captured m.0) t u m.3 (subst (λ p. Met more (with_captured s.captured p) u) same n.3)
-
-met_or_missed : (ds : Demands) (s t u : Point) (e : Refusal) (n : Mode) → IsFair ds → Met ds s t → Missed ds s e n u → ⊥
-met_or_missed Nothing s t u e o h m n = n
-met_or_missed (Tok mode i others ▸ ds) s t u e o h m (inl r) = stands others (next_at mode s) i e h.0 m.0 r.0
-met_or_missed (Tok mode i others ▸ ds) s t u e o h m (inr n) = met_or_missed ds (past mode s) t u e o h.1 m.1 n.1
-met_or_missed (Ahead i others ▸ ds) s t u e o h m (inl r) = stands others (next_at M.code s) i e h.0 m.0 r.0
-met_or_missed (Ahead i others ▸ ds) s t u e o h m (inr n) = met_or_missed ds s t u e o h.1 m.1 n.1
-met_or_missed (Next v ▸ ds) s t u e o h m (inl r) =
-    let i = next_at M.code s in
-    unrefused (verdict v i.lexeme) i.at e (ap is_refused m.0) r.0
-met_or_missed (Next v ▸ ds) s t u e o h m (inr n) = met_or_missed ds s t u e o h m.1 n.1
-met_or_missed (Uses v b x ▸ ds) s t u e o h m (inl r) =
-    let i = next_at M.code s in
-    unrefused (verdict (v s.library) i.lexeme) i.at e (ap is_refused m.0) r.0
-met_or_missed (Uses v b x ▸ ds) s t u e o h m (inr n) =
-    met_or_missed ds (capturing (b s.library (next_at M.code s).lexeme) x s) t u e o h m.1 n.1
-met_or_missed (TestIn holds d ▸ ds) s t u e o h m (inl r) = let a = m.0 in let b = r.0 in absurd cc
-met_or_missed (TestIn holds d ▸ ds) s t u e o h m (inr n) = met_or_missed ds s t u e o h m.1 n.1
-met_or_missed (Adds x ▸ ds) s t u e o h m n = met_or_missed ds (adding x s) t u e o h m.1 n.1
-met_or_missed (Test holds d ▸ ds) s t u e o h m (inl r) = let a = m.0 in let b = r.0 in absurd cc
-met_or_missed (Test holds d ▸ ds) s t u e o h m (inr n) = met_or_missed ds s t u e o h m.1 n.1
-met_or_missed (Captures holds d b x ▸ ds) s t u e o h m (inl r) = let a = m.0 in let b = r.0 in absurd cc
-met_or_missed (Captures holds d b x ▸ ds) s t u e o h m (inr n) =
-    met_or_missed ds (capturing (b s.library) x s) t u e o h m.1 n.1
-met_or_missed (Shape holds ▸ ds) s t u e o h m n = met_or_missed ds s t u e o (h m.0) m.1 n.1
-met_or_missed (Literally ds ▸ more) s t u e o h m (inl r) = met_or_missed ds s m.0 u r.0 o h.0 m.1 r.1
-met_or_missed (Literally ds ▸ more) s t u e o h m (inr n) =
-    let same = one_end ds s n.0 m.0 n.1 m.1 in
-    met_or_missed more m.0 t u e o h.1 m.2 (subst (λ p. Missed more p e o u) same n.2)
-met_or_missed (Apart ds number us ▸ more) s t u e o h m (inl r) = met_or_missed ds (apart s) m.0 u e o h.0 m.1 r
-met_or_missed (Apart ds number us ▸ more) s t u e o h m (inr n) =
-    let same = one_end ds (apart s) n.0 m.0 n.1 m.1 in
-    met_or_missed more (with_captured s.captured m.0) t u e o h.1 m.3
-    (subst (λ p. Missed more (with_captured s.captured p) e o u) same n.3)
 
 pub forms_are_fair : FormsAreFair
 forms_are_fair = record {

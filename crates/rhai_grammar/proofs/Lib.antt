@@ -24,6 +24,8 @@ pub mod StartLemmas
 pub mod SlotLemmas
 pub mod LibraryLemmas
 pub mod ChainLemmas
+pub mod FairParts
+pub mod FairDemands
 pub mod FairLemmas
 pub mod SwitchLemmas
 pub mod EndLemmas

@@ -50,8 +50,8 @@ abbrev example_guard : Run
 example_guard =
     form.Just (form.Linked (form.Plain (form.Named (codes "a") (place 1 13)) form.NoPath) form.NoLink)
 
--- `loop {}` and `fn f() {}` need no `;` after them; `do {} while a` and `continue` do. A lone `;` needs no other, but an
--- arm that consists of it needs its comma.
+-- `loop {}` and `fn f() {}` need no `;` after them; `do {} while a` and `continue` do. A lone `;` needs no other, but
+-- an arm that consists of it needs its comma.
 example : (needs_no_semicolon (form.Compound (place 1 1) (form.Loop (place 1 6) (example_block 7))) ≡ true)
     × (needs_no_semicolon (form.Function None (place 1 1) form.NoOwner (codes "f") (place 1 4)
     (form.EmptyParameters (place 1 5)) (place 1 8) (example_block 9)) ≡ true)

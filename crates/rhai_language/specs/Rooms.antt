@@ -43,7 +43,8 @@ pub record Steady (old new : Shared) : Type 0 where
 
 -- A reader is entered.
 pub record Enters (old new : Shared) : Type 0 where
-  pub nesting : (most top : ℕ) → 1 ≤ most → most ≤ top → IsWithin (most - 1) top old.counts → IsWithin most top new.counts
+  pub nesting : (most top : ℕ) → 1 ≤ most → most ≤ top → IsWithin (most - 1) top old.counts
+      → IsWithin most top new.counts
   pub library : library_of new.library.now ≡ library_of old.library.now
 
 -- A reader is left.

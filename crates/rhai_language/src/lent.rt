@@ -82,7 +82,8 @@ pub trait LentReaders {
     ) -> ParseResult<Stmt>
         requires covered { lent self.now (need (statement language.now frame.old settings) (state_of shared.old)) }
         ensures goes_on { GoesOn shared.old shared.new }
-        ensures stays { Stays language.now frame.old settings (2 + function_room language.now settings) shared.old shared.new }
+        ensures stays { Stays language.now frame.old settings
+            (2 + function_room language.now settings) shared.old shared.new }
         ensures reads { Nests (statement language.now frame.old settings) (with_live statement_view frame.new)
             shared.old result shared.new };
 }

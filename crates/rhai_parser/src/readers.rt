@@ -237,7 +237,8 @@ fn parse_stmt(
     settings: ParseSettings,
 ) -> ParseResult<Stmt>
     ensures goes_on { GoesOn shared.old shared.new }
-    ensures stays { Stays language.now frame.old settings (2 + function_room language.now settings) shared.old shared.new }
+    ensures stays { Stays language.now frame.old settings
+        (2 + function_room language.now settings) shared.old shared.new }
     ensures reads { Nests (statement language.now frame.old settings) (with_live statement_view frame.new) shared.old
         result shared.new }
 {
@@ -279,7 +280,8 @@ pub(crate) fn parse_statements(
     closing: Closing,
 ) -> ParseResult<Vec<Stmt>>
     ensures goes_on { GoesOn shared.old shared.new }
-    ensures stays { Stays language.now frame.old settings (2 + function_room language.now settings) shared.old shared.new }
+    ensures stays { Stays language.now frame.old settings
+        (2 + function_room language.now settings) shared.old shared.new }
     ensures place { SamePlace frame.old frame.new }
     ensures reads { Reads (statements language.now frame.old settings closing no_statements)
         (with_live statements_of frame.new) shared.old result shared.new }

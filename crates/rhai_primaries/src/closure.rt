@@ -68,7 +68,8 @@ impl<R: LentReaders> PrimaryReader<'_, R> {
         requires lent { Covers (R.lent self.now.readers) (closure_body self.now.language.now frame.old settings)
             shared.old }
         ensures goes_on { GoesOn shared.old shared.new }
-        ensures stays { Stays self.now.language.now frame.old settings (2 + function_room self.now.language.now settings) shared.old shared.new }
+        ensures stays { Stays self.now.language.now frame.old settings
+            (2 + function_room self.now.language.now settings) shared.old shared.new }
         ensures reads { Reads (closure_body self.now.language.now frame.old settings) statement_view shared.old
             result shared.new }
     {

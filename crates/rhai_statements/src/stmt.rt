@@ -47,7 +47,8 @@ impl<R: LentReaders> StmtReader<'_, R> {
         requires lent { Covers (R.lent self.now.readers) (statements self.now.language.now frame.old settings
             closing no_statements) shared.old }
         ensures goes_on { GoesOn shared.old shared.new }
-        ensures stays { Stays self.now.language.now frame.old settings (2 + function_room self.now.language.now settings) shared.old shared.new }
+        ensures stays { Stays self.now.language.now frame.old settings
+            (2 + function_room self.now.language.now settings) shared.old shared.new }
         ensures place { SamePlace frame.old frame.new }
         ensures reads { Reads (statements self.now.language.now frame.old settings closing no_statements)
             (with_live statements_of frame.new) shared.old result shared.new }
@@ -81,7 +82,8 @@ impl<R: LentReaders> StmtReader<'_, R> {
         requires lent { Covers (R.lent self.now.readers) (statement self.now.language.now frame.old settings)
             shared.old }
         ensures goes_on { GoesOn shared.old shared.new }
-        ensures stays { Stays self.now.language.now frame.old settings (1 + function_room self.now.language.now settings) shared.old shared.new }
+        ensures stays { Stays self.now.language.now frame.old settings
+            (1 + function_room self.now.language.now settings) shared.old shared.new }
         ensures place { SamePlace frame.old frame.new }
         ensures reads { Reads (statement self.now.language.now frame.old settings)
             (with_live statement_view frame.new) shared.old
