@@ -8,7 +8,7 @@ use Rattle.rhai_language.proofs.Rooms.{no_function}
 
 pub ruleset paths = (calls_of_readers, step_path)
 
-pub ruleset parse_expr = (readers, nested_so, step_expression)
+pub ruleset parse_chain = (readers, nested_so, step_expression)
 
 pub ruleset parse_unary = (readers, nested_so, step_operand, operand_sign, sign_outcome)
 

@@ -41,6 +41,7 @@ returns-clause-gives c = λ language call.
     ap (λ xs. exec call (captured_on (uses_of xs) context w k) s) (sym c.deref.ensures.value) ∙ c.in_ok-use_captured.ensures.uses language call k in
     uses ∙ added call at e x t new ∙ ap (λ y. Done y (adding e t)) (sym value)
     ∙ ap (λ l. Done (view c.in_ok-value.value) (record t { library = l })) (ap (with_ended t.library) (sym is) ∙ sym c.in_ok-add.ensures.ok)
+    ∙ ap (λ n. Done n (state_of c.in_ok-add.new.shared)) (sym c.from_value.ensures)
 
 pub returns-then-has-clause-gives : goal.returns-then-has-clause-gives
 returns-then-has-clause-gives c = λ language call.
