@@ -33,7 +33,7 @@ def failing_streams(program, list_file):
     yield "a directory as input", in_shell(program, "</"), unreadable(1)
     yield "closed output", in_shell(program, f"<{list_file} >&-"), (b"", 2)
     yield "full output", in_shell(program, f"<{list_file} >/dev/full"), (b"", 2)
-    unread = f"{{ sleep 1; \"$0\" expr <{list_file}; echo $? >&3; }} 3>&1 | true"
+    unread = f'{{ {{ sleep 1; "$0" expr <{list_file}; echo $? >&3; }} | true; }} 3>&1'
     yield "output that nobody reads", ran(["sh", "-c", unread, program]), (b"2\n", 0)
 
 
