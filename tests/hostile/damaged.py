@@ -11,6 +11,7 @@ ERRORS = ("memory", "unterminated", "toolong 7", "number 1x", "improper =>", "un
 NO_MEMORY = "refused E36 none OutOfMemory"
 MARKED = {"str": "tstr", "istr": "tistr", "tstr": "str", "tistr": "istr"}
 STRICT_VAR = 64
+FEWEST_AT_DEFAULT_DEPTH = 16  # tokens that reach it: a function may be 32 levels deep, and a `(` takes two
 
 
 class Damage(NamedTuple):
@@ -74,7 +75,7 @@ def may_fail_before(first, damage, words):
     if kind in ("E18", "E19"):
         return options & STRICT_VAR and ["id", payload[1]] in [token[1:] for token in there]
     if kind == "E34":
-        return there and (any("depth=" in it for it in words) or len(damage.lines) > 60)
+        return there and (any("depth=" in it for it in words) or len(before) > FEWEST_AT_DEFAULT_DEPTH)
     if payload == ["ExprExpected", "literal"]:
         return there and ["sym", "switch"] in [token[1:] for token in before]
     return there and kind in ("E4", "E5", "E8", "E9", "E10", "E11", "E22", "E28", "E30", "E31")
@@ -108,8 +109,8 @@ def check_place(run, read, found, counts):
             fail_before.add((damage.what, answer.first))
         else:
             counts.wrong.append(f"{run.name}: {damage.what} at {damage.place}: {answer.first}, wanted {wanted}")
-    kinds = {what for what, _ in fail_before} & set(ERRORS)
-    if kinds and kinds != set(ERRORS[1:]) or len({first for _, first in fail_before}) > 1:
+    errors = {what for what, _ in fail_before} & set(ERRORS)
+    if fail_before and errors != set(ERRORS[1:]) or len({first for _, first in fail_before}) > 1:
         counts.wrong.append(f"{run.name}: the errors at {found[0][0].place} differ: {fail_before}")
 
 

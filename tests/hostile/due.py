@@ -1,8 +1,8 @@
 """What is due at each place of a list whose tokens before that place are right.
 
-A list is read up to its *end*, which is the end mark or an error of the tokenizer, and the answer says what is due there.
-All other tokens are taken as they stand: nothing is tested, and there are no levels, slots or trees. So this says
-nothing of refusals that stand before the end; tests/hostile/README.md says how these come in.
+A list is read up to its *end*, which is the end mark or an error of the tokenizer, and the answer says what is due
+there. All other tokens are taken as they stand: nothing is tested, and there are no levels, slots or trees. So this
+says nothing of refusals that stand before the end; tests/hostile/README.md says how these come in.
 """
 
 from typing import NamedTuple
@@ -152,23 +152,19 @@ class Reader:
             variable = self.expression()
             self.due(")")
             return variable
-        if token == "istr":
-            self.interpolation()
-        elif token == "[":
-            self.array()
-        elif token == "#{":
-            self.map()
-        elif token == "{":
-            self.at -= 1
-            self.block()
-        elif token in ("|", "||"):
+        if token in ("|", "||"):
             self.closure(token)
-        elif token in CONSTRUCTS:
+        elif token in CONSTRUCTS or token == "{":
             self.at -= 1
             self.statement()
+        elif token in self.literals():
+            self.literals()[token]()
         elif token not in CONSTANTS:
             raise Unforeseen(f"{token} as operand")
         return ""
+
+    def literals(self):
+        return {"istr": self.interpolation, "[": self.array, "#{": self.map}
 
     def reserved(self):
         word = self.tokens[self.at - 1][2]

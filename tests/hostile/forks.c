@@ -1,8 +1,8 @@
 /* Loaded before a program, this runs its `main` many times in one process: each time in a child of its own, as the
    program would run alone. Standard input is a batch of inputs, each after a line with its length; each child reads one
    of them. With REFUSE in the environment an input is given again and again: the first request for memory is refused,
-   then the second, and so on, until no request of a child was. After what a child printed comes a line `= STATUS`, which
-   ends in ` refused` if a request was. A child that a signal ended has the status 128 and the signal.
+   then the second, and so on, until no request of a child was. After what a child printed comes a line `= STATUS`,
+   which ends in ` refused` if a request was. A child that a signal ended has the status 128 and the signal.
 
    cc -shared -fPIC -O2 -o forks.so forks.c */
 

@@ -9,11 +9,12 @@ use std::alloc::{AllocError, Global};
 use std::process::Abort;
 use std::test::Fail;
 
-// Where memory is refused, the module is not added.
+// Where memory is refused, the module is not added, and the engine keeps those that it has.
 fn module(rt: &impl Abort, alloc: Global) -> Result<(), AllocError> {
     let mut engine = Engine::new(alloc);
+    engine.add_sub_module("k")?;
     if let Err(error) = engine.add_sub_module("m") {
-        assert!(rt; !engine.has_sub_module("m"));
+        assert!(rt; engine.has_sub_module("k") && !engine.has_sub_module("m"));
         return Err(error);
     }
     Ok(())

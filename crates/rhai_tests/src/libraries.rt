@@ -2,7 +2,8 @@
 
 use crate::script::{add_line, stream_of, stream_of_line};
 use rhai_parser::{
-    Engine, FnLib, LexError, ParseError, ParseResult, ParseState, Token, TokenizerControl,
+    Engine, FnLib, LexError, OptimizationLevel, ParseError, ParseResult, ParseState, Token,
+    TokenizerControl,
 };
 use std::alloc::{AllocError, Global};
 use std::process::Abort;
@@ -119,11 +120,24 @@ fn read_after_first(
     Ok(())
 }
 
+// Reads a script for the optimizer.
+fn read_to_optimize(rt: &impl Abort, alloc: Global) -> Result<(), AllocError> {
+    let engine = Engine::new(alloc);
+    let mut input = stream_of_line(rt, alloc, FOUR)?;
+    let mut lib = FnLib::new(alloc);
+    let state = ParseState::new(alloc, None, &mut input, TokenizerControl, &mut lib);
+    let answer = engine.parse(state, OptimizationLevel::Full);
+    assert!(rt; are_first(&lib, FUNCTIONS_OF_FOUR));
+    unless_memory(rt, answer)?;
+    assert!(rt; lib.len() == 4);
+    Ok(())
+}
+
 fn libraries(rt: &impl Abort, alloc: Global) -> Result<(), AllocError> {
     for script in SCRIPTS {
         read_after_first(rt, alloc, script)?;
     }
-    Ok(())
+    read_to_optimize(rt, alloc)
 }
 
 #[test]
