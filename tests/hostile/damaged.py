@@ -95,23 +95,31 @@ class Counts:
         self.wrong += other.wrong
 
 
+def differ(run, place, fail_before):
+    """Whether a test fails before this place, and not for each error, nor with one refusal. Only the end of a list can
+    make a closure's body empty."""
+    errors = {what for what in fail_before if what in ERRORS}
+    may_be_empty = place > 0 and run.lines[place - 1].split(" ")[-1] in ("|", "||")
+    if not fail_before or (not errors and may_be_empty):
+        return False
+    return errors != set(ERRORS[1:]) or len(set(fail_before.values())) > 1
+
+
 def check_place(run, read, found, counts):
-    """Checks all damaged forms of one place: where a test fails before, it does so whichever error stands there."""
-    fail_before = set()
+    """Checks all damaged forms of one place."""
+    fail_before, place = {}, found[0][0].place
     for damage, answer in found:
         wanted = derived(run, damage, read)
-        is_own = damage.place >= read or (damage.what == "mark" and wanted == run.first)
+        is_own = place >= read or (damage.what == "mark" and wanted == run.first)
         if (answer.printed == run.answer) if is_own else (answer.first == wanted or wanted is None):
             counts.derived += 1
             continue
         counts.fail_before += 1
-        if damage.what != "memory" and answer.status == 1 and may_fail_before(answer.first, damage, run.words):
-            fail_before.add((damage.what, answer.first))
-        else:
-            counts.wrong.append(f"{run.name}: {damage.what} at {damage.place}: {answer.first}, wanted {wanted}")
-    errors = {what for what, _ in fail_before} & set(ERRORS)
-    if fail_before and errors != set(ERRORS[1:]) or len({first for _, first in fail_before}) > 1:
-        counts.wrong.append(f"{run.name}: the errors at {found[0][0].place} differ: {fail_before}")
+        fail_before[damage.what] = answer.first
+        if damage.what == "memory" or answer.status != 1 or not may_fail_before(answer.first, damage, run.words):
+            counts.wrong.append(f"{run.name}: {damage.what} at {place}: {answer.first}, wanted {wanted}")
+    if differ(run, place, fail_before):
+        counts.wrong.append(f"{run.name}: not one refusal at {place}: {fail_before}")
 
 
 def check(run, found):
