@@ -7,6 +7,7 @@ pub mod DueTokens
 pub mod Cursors
 pub mod Seen
 pub mod Strengths
+pub mod Comments
 pub mod Forms
 pub mod Ends
 pub mod Beginnings
