@@ -1,6 +1,7 @@
 -- Doc comments: which of those written before a function it keeps, and how they read there.
-use Rattle.std.specs.Prelude.{◌≡◌, ℕ, ◌-◌, min, Bool, ◌==◌, if◌then◌else◌, List, [], ◌∷◌, ◌++◌, codes, drop, fold, map, refl}
-use Rattle.std.specs.List.{join_with_byte, list_any, prefix_len}
+use Rattle.std.specs.Prelude.{◌≡◌, ℕ, ◌-◌, min, Bool, ◌==◌, if◌then◌else◌, codes, refl}
+use Rattle.std.specs.Prelude.{List, [], ◌∷◌, ◌++◌, drop, fold, map}
+use Rattle.std.specs.List.{join_by, list_any, prefix_len}
 use Rattle.std.specs.Str.Lines.{lines}
 use Rattle.rhai_lower.specs.Texts.{Text}
 use Rattle.rhai_lower.specs.Positions.{place}
@@ -24,13 +25,18 @@ leading_spaces line = prefix_len (λ b. b == 32) line
 unfoldable pub indent : List Text → Position → ℕ
 indent later at = fold (λ n line. min n (leading_spaces line)) (at.column - 1) later
 
+-- lines joined by line feeds
+abbrev pub joined_lines : List Text → Text
+joined_lines ls = join_by (λ line. line) (10 ∷ []) ls
+
 -- A comment of these lines, where each after the first loses its indent. Without one its text stays, to the byte.
 unfoldable pub shifted : Comment → List Text → Text
 shifted c [] = c.text
 shifted c (first ∷ later) =
-    if indent later c.at == 0 then c.text else join_with_byte 10 (first ∷ map (drop (indent later c.at)) later)
+    if indent later c.at == 0 then c.text else joined_lines (first ∷ map (drop (indent later c.at)) later)
 
--- a comment with a line feed, as it reads at the start of a line
+-- A comment with a line feed, as it reads at the start of a line. A line feed ends a line, with a carriage return right
+-- before it; behind the last line feed there is no empty line.
 abbrev pub unindented : Comment → Text
 unindented c = shifted c (lines c.text)
 
