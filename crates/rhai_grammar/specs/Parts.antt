@@ -198,13 +198,15 @@ other_name (form.As as_at name at) more =
 
 -- ---- functions
 
--- The doc comments of a function stand at the global level; it follows directly after them.
+-- doc comments that follow others, of which the first one is at a position
 abbrev pub further_comments : List Comment → (first : Position) → Context → Demands → Demands
 further_comments [] first context more = more
 further_comments (c ∷ rest) first context more =
     Tok code (item (lexeme.Comment c.text) c.at) (after_comment context first) ▸
     further_comments rest first context more
 
+-- The doc comments of a function stand at the global level. After the first one only further ones and the function may
+-- follow.
 abbrev pub comments_at : List Comment → Context → Demands → Demands
 comments_at [] context more = more
 comments_at (first ∷ rest) context more =
@@ -212,14 +214,14 @@ comments_at (first ∷ rest) context more =
     Test (is_global context) (refusal cause.WrongDocComment first.at) ▸
     further_comments rest first.at context more
 
--- after these comments
+-- after these comments: the function, if there are any
 abbrev pub after_comments : List Comment → Context → Lexeme → Verdict
 after_comments [] context token = Otherwise
 after_comments (first ∷ rest) context token = after_comment context first.at token
 
 -- `fn`, with or without `private` before it
-abbrev pub function_at : (others : Lexeme → Verdict) → (is_private : Option Position) → (at : Position) → Demands
-    → Demands
+abbrev pub function_at : (others : Lexeme → Verdict) → (is_private : Option Position) → (at : Position)
+    → Demands → Demands
 function_at others None at more = Tok code (item (Sign token.Fn) at) others ▸ more
 function_at others (Some first) at more =
     Tok code (item (Sign token.Private) first) others ▸ due_token due.Fn at more

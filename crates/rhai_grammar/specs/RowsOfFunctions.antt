@@ -123,5 +123,6 @@ pub record CommentRow : Type 0 where
       (unread (comment_token 1 ∷ []) 9) (refusal cause.WrongDocComment (place 1 1)) code
       (between (comment_token 1 ∷ []) [] 9)
   pub below : Missed (whole_script commented_below on_global_level nothing_live)
-      (unread ((Sign token.LeftBrace, 1) ∷ comment_token 3 ∷ []) 11) (refusal cause.WrongDocComment (place 1 3)) code
+      (unread ((Sign token.LeftBrace, 1) ∷ comment_token 3 ∷ []) 11)
+      (refusal cause.WrongDocComment (place 1 3)) code
       (between ((Sign token.LeftBrace, 1) ∷ comment_token 3 ∷ []) [] 11)

@@ -50,6 +50,7 @@ sign_start token.Fn = start.Function
 sign_start token.Private = start.Private
 sign_start _ = start.Expression
 
+-- a doc comment
 abbrev pub is_comment : Lexeme → Bool
 is_comment (Comment t) = true
 is_comment _ = false
