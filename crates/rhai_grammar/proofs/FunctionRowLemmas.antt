@@ -1,13 +1,13 @@
 -- The worked rows of functions, by evaluation.
 use Rattle.std.proofs.Common.{refl, inl, inr}
-use Rattle.rhai_grammar.specs.Comments.{kept_comments}
+use Rattle.rhai_grammar.specs.Comments.{kept_after, kept_comments}
 use Rattle.rhai_grammar.specs.Functions.{names_function}
 use Rattle.rhai_grammar.specs.Settings.{one_more}
 use Rattle.rhai_grammar.specs.Slots.{number}
 use Rattle.rhai_grammar.specs.RowsOfFunctions.{CommentRow, FunctionRow}
 
 pub function_row : FunctionRow
-unfolding one_more number names_function kept_comments
+unfolding one_more number names_function kept_after kept_comments
 function_row = record {
   tree_is = refl;
   fits = (refl, (refl, (refl, (refl, (refl, (refl, (refl, (refl, (refl, (refl, (refl, (refl, (refl, (refl, (refl, (refl, (refl, (refl, (refl, (refl, (refl, (refl, (refl, (refl, (refl, (refl, (refl, (refl, (refl, (refl, (tt, (refl, (refl, refl)))))))))))))))))))))))))))))))));
@@ -16,7 +16,7 @@ function_row = record {
 }
 
 pub comment_row : CommentRow
-unfolding one_more number names_function kept_comments
+unfolding one_more number names_function kept_after kept_comments
 comment_row = record {
   tree_is = refl;
   fits = (refl, (refl, (refl, (refl, (refl, (refl, (refl, (refl, (refl, (refl, (refl, (refl, (refl, (refl, (refl, (refl, (tt, (refl, (refl, refl)))))))))))))))))));

@@ -1,13 +1,13 @@
 pub mod Causes
 pub mod Settings
 pub mod Keys
+pub mod Comments
 pub mod Libraries
 pub mod Delivered
 pub mod DueTokens
 pub mod Cursors
 pub mod Seen
 pub mod Strengths
-pub mod Comments
 pub mod Forms
 pub mod Ends
 pub mod Beginnings

@@ -63,7 +63,7 @@ pub enum ParseErrorType {
     WrongSwitchIntegerCase,
     /// A function below the global level.
     WrongFnDefinition,
-    /// A doc comment that is followed by no function at the global level.
+    /// A doc comment before anything but a function at global level.
     WrongDocComment,
     /// A function without a name.
     FnMissingName,

@@ -128,7 +128,6 @@ pub record Function : Type 0 where
   pub name : Text
   pub is_private : Bool
   pub parameters : List Text
-  -- its doc comments
   pub comments : List Text
   pub body : Block
 
