@@ -206,6 +206,7 @@ ended_function is_private owner name parameters body = record {
     name = name;
     is_private = is_private;
     parameters = parameters;
+    comments = [];
     body = body;
   };
 }

@@ -66,6 +66,7 @@ giving number parameters x = record {
     name = closure_name number;
     is_private = false;
     parameters = parameters;
+    comments = [];
     body = node.made_block (node.expression x);
   };
 }
@@ -193,6 +194,7 @@ dot_function = record {
     name = closure_name 0;
     is_private = false;
     parameters = [];
+    comments = [];
     body = node.braces (node.one_statement (node.expression (node.integer (pos 1) (place 1 5))) node.no_statements)
         (place 1 4) (place 1 6);
   };

@@ -211,6 +211,7 @@ first_function = record {
     name = codes "f";
     is_private = false;
     parameters = [];
+    comments = [];
     body = node.braces node.no_statements (place 1 8) (place 1 9);
   };
 }

@@ -45,6 +45,7 @@ one_function = record {
     name = codes "f";
     is_private = false;
     parameters = codes "a" ∷ [];
+    comments = [];
     body = node.braces (node.one_statement (node.expression (variable 1 (codes "a") 11)) node.no_statements)
         (place 1 9) (place 1 13);
   };
