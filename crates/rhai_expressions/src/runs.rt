@@ -55,6 +55,7 @@ pub(crate) struct Pending {
 
 impl Pending {
     // Joins the operands, of which the right one is read now. The result is the run that the operator stands in.
+    #[tactic(auto, using(rhai_trees::proofs::LinkedLemmas::operator_value))]
     fn join(self, alloc: Global, rhs: Chain) -> ParseResult<Run>
         ensures answers { Answers (λ r. chain_view r.lhs) (operator_result (lexeme self.op_token) self.pos
             (chain_view self.around.lhs) (chain_view rhs)) result }
