@@ -125,6 +125,7 @@ fn make_function(
         private,
         params,
         body,
+        comments: Vec::new(alloc),
     };
     Ok((key, Rc::new(alloc, function)?))
 }
