@@ -94,7 +94,11 @@ pub(crate) fn as_variable(
 
 /// Refuses an operand that is a name with a path, if the module that this begins with is not known.
 #[tactic(auto, using(rhai_trees::proofs::LinkedLemmas::linked_known))]
-pub(crate) fn test_module(frame: &Frame<'_>, settings: ParseSettings, operand: &Chain) -> ParseResult<()>
+pub(crate) fn test_module(
+    frame: &Frame<'_>,
+    settings: ParseSettings,
+    operand: &Chain,
+) -> ParseResult<()>
     ensures passes { (context : Context) → context.settings ≡ settings_of settings
         → context.known ≡ frame.now.known
         → OnOk result (module_fault context frame.now.live (chain_view operand.now) ≡ None) }

@@ -17,6 +17,7 @@ abbrev example_flags : LinkFlags
 example_flags = record { negated = false; terminating = false }
 
 -- `a`, and `a.a`
-example : (is_linked example_name ≡ false) × (is_linked (dot example_name example_name example_flags (place 1 2)) ≡ true)
+example : (is_linked example_name ≡ false)
+    × (is_linked (dot example_name example_name example_flags (place 1 2)) ≡ true)
 unfolding is_linked
 example = (refl, refl)
