@@ -6,6 +6,8 @@ mod allocation;
 #[cfg(test)]
 mod caller_settings;
 #[cfg(test)]
+mod libraries;
+#[cfg(test)]
 mod long_scripts;
 #[cfg(test)]
 mod modules;
