@@ -1,6 +1,5 @@
 -- Functions: what the reading program does where a leaf has decided.
 use Rattle.std.proofs.Common.{◌≡◌, ◌∙◌, ◌+◌, ℕ, Bool, true, false, List, [], ◌∷◌, ◌++◌, Result, ap, arith, if◌then◌else◌, map, refl, sym}
-use Rattle.std.proofs.lemmas.List.{map_push}
 use Rattle.std.specs.Rc.{rc_str_bytes}
 use Rattle.std.specs.declared.alloc.Global.{Global}
 use Rattle.std.specs.declared.rc.RcStr.{RcStr}
@@ -30,17 +29,12 @@ use Rattle.rhai_reading.specs.Running as R
 use Rattle.rhai_reading.specs.Running.{Done, Fails, Gives, Out, Progress, and_then, asked, exec, guarded, looking, nested, result_of}
 use Rattle.rhai_reading.proofs.Steps.{nested_is, step_function_statement, step_parameter_list}
 use Rattle.rhai_lower.specs.Nodes as node
-use Rattle.rhai_base.specs.Comments.{comment_of, comments_of}
 use Rattle.rhai_base.specs.Frames.{FrameValue}
 use Rattle.rhai_base.specs.Settings.{settings_of}
 use Rattle.rhai_base.specs.declared.settings.ParseSettings.{ParseSettings}
 use Rattle.rhai_language.proofs.Given.{gives_so}
 use Rattle.rhai_language.specs.Frames.{context_of, live_of}
 use Rattle.rhai_language.specs.Languages.{LanguageValue}
-
--- one more doc comment
-pub comments_push : (cs : List (RcStr Global × Position)) (c : RcStr Global × Position) → comments_of (cs ++ c ∷ []) ≡ comments_of cs ++ comment_of c ∷ []
-comments_push cs c = map_push comment_of cs c
 
 no_list : (function : Text) (l : Lexeme) (at : Position) (k : Calling) → is_list k ≡ false
     → parameters_at function l at k ≡ Fail (refusal (no_parameters function l) at)
@@ -98,7 +92,7 @@ pub begun_runs : (c : Context) (w : Live) (cs : List Comment) (first at : Positi
 begun_runs c w cs first at p d here s h =
     let call = guarded (FunctionStatement c w cs first at p) s in
     let inside = Call (Function (level_up (in_function c w)) cs at p) (λ ended. Know (function_end w at ended)) in
-    step_function_statement c w first at p s
+    step_function_statement c w cs first at p s
     ∙ ap (λ b. exec call (if b then Know (function_on c w cs at p) else Fail (refusal cause.WrongFnDefinition first)) s) h.global
     ∙ ap (λ b. exec call (if b then raised (in_function c w) at (λ deeper. Call (Function deeper cs at p) (λ ended. Know (function_end w at ended))) else Fail (refusal cause.TooManyFunctions at)) s) h.fits
     ∙ ap (λ b. exec call (if b then inside else Fail (refusal cause.ExprTooDeep at)) s) h.room

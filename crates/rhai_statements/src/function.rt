@@ -5,7 +5,7 @@ ghost use Rattle.std.specs.Rc.{rc_str_bytes};
 ghost use Rattle.rhai_ast.specs.View.{block_view, statement_view};
 ghost use Rattle.rhai_grammar.specs.Contexts.{nothing_live};
 ghost use Rattle.rhai_grammar.specs.Cursors.{left};
-ghost use Rattle.rhai_grammar.specs.Delivered.{is_end};
+ghost use Rattle.rhai_grammar.specs.Delivered.{is_end, is_memory};
 ghost use Rattle.rhai_grammar.specs.Functions.{ended_function, names_function, parameters_live};
 ghost use Rattle.rhai_grammar.specs.Keys.{is_closure, key_of};
 ghost use Rattle.rhai_grammar.specs.declared.role.StatementStart.TheVariants.{Comment};
@@ -87,6 +87,7 @@ impl<R: LentReaders> StmtReader<'_, R> {
         settings: ParseSettings,
         comments: &[(RcStr, Position)],
     ) -> ParseResult<Stmt>
+        requires readable { is_memory (asked (state_of shared.old)).lexeme ≡ false }
         requires more { is_end (asked (state_of shared.old)).lexeme ≡ false }
         requires lent { Covers (R.lent self.now.readers) (statement self.now.language.now frame.now settings)
             shared.old }
@@ -116,6 +117,7 @@ impl<R: LentReaders> StmtReader<'_, R> {
         settings: ParseSettings,
         comments: &[(RcStr, Position)],
     ) -> ParseResult<Stmt>
+        requires readable { is_memory (asked (state_of shared.old)).lexeme ≡ false }
         requires more { is_end (asked (state_of shared.old)).lexeme ≡ false }
         requires lent { Covers (R.lent self.now.readers) (statement self.now.language.now frame.now settings)
             shared.old }
