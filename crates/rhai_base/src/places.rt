@@ -83,7 +83,8 @@ pub fn test_function(settings: ParseSettings, pos: Position) -> ParseResult<()>
 /// allocate.
 pub fn test_comment(settings: ParseSettings, pos: Position) -> ParseResult<()>
     ensures passes { OnOk result (at_global_level (settings_of settings) ≡ true) }
-    ensures refused { IfErr result (λ e. (at_global_level (settings_of settings) ≡ false) × (e ≡ no_comment pos)) }
+    ensures refused { IfErr result (λ e.
+        (at_global_level (settings_of settings) ≡ false) × (e ≡ no_comment pos)) }
 {
     if settings.has_flag(ParseSettingFlags::GLOBAL_LEVEL) {
         return Ok(());

@@ -210,8 +210,8 @@ case language frame settings = reading.Case (context_of language frame settings)
 abbrev pub case_guard : LanguageValue → FrameValue → ParseSettings → Goal
 case_guard language frame settings = reading.CaseGuard (context_of language frame settings) (live_of frame)
 
--- a function with these doc comments, as a statement, after its `fn`, where the settings stand; its `private` or `fn` is
--- at a position
+-- a function with these doc comments, as a statement, after its `fn`, where the settings stand; its `private` or `fn`
+-- is at a position
 abbrev pub function_statement : LanguageValue → FrameValue → ParseSettings → List Comment → (first : Position)
     (is_private : Bool) → Goal
 function_statement language frame settings comments first is_private =

@@ -1,7 +1,8 @@
-//! Statements: what begins one, what follows it in a list, doc comments, the name of a definition, what is exported, and
-//! the signs of assignments.
+//! Statements: what begins one, what follows it in a list, doc comments, the name of a definition, what is exported,
+//! and the signs of assignments.
 
-ghost use Rattle.std.specs.Prelude.{◌≡◌, ◌+◌, ◌≤◌, IfErr, IfOk, IfSome, IsSome, IsTrue, OnOk, codes, false};
+ghost use Rattle.std.specs.Prelude.{◌≡◌, ◌+◌, ◌≤◌, IfErr, IfOk, IfSome, IsSome, IsTrue, OnOk, codes};
+ghost use Rattle.std.specs.Prelude.{false};
 ghost use Rattle.rhai_lower.specs.Lexemes.{lexeme};
 ghost use Rattle.rhai_grammar.specs.Beginnings.{missing};
 ghost use Rattle.rhai_grammar.specs.Causes.{MemoryIsNowhere, cause_of, is_for_memory, refusal, refusal_of};

@@ -1,5 +1,5 @@
-//! What the reader of functions asks for by leaves: doc comments, the name of a function with the type of its objects, and
-//! its parameters.
+//! What the reader of functions asks for by leaves: doc comments, the name of a function with the type of its objects,
+//! and its parameters.
 
 ghost use Rattle.std.specs.Prelude.{◌≡◌, ◌∷◌, [], IfOk, true};
 ghost use Rattle.std.specs.Rc.{rc_str_bytes};
