@@ -1,6 +1,5 @@
-use Rattle.std.proofs.Common.{◌≡◌, ◌∙◌, rules, ap, sym, Ok, Some}
+use Rattle.std.proofs.Common.{◌∙◌, rules, ap, sym}
 use Rattle.rhai_grammar.specs.Cursors.{cursor_of}
-use Rattle.rhai_leaves.specs.Statements.{TakesComment}
 use Rattle.rhai_base.specs.Comments.{comment_of}
 use Rattle.rhai_reading.specs.Reading.{Comments}
 use Rattle.rhai_reading.specs.Running.{result_of}

@@ -1,11 +1,10 @@
-use Rattle.std.proofs.Common.{◌≡◌, ◌∙◌, arith, rules, ap, sym}
+use Rattle.std.proofs.Common.{◌≡◌, arith, rules, ap, sym}
 use Rattle.rhai_ast.specs.View.{statement_view}
-use Rattle.rhai_grammar.specs.Contexts.{Context}
 use Rattle.rhai_grammar.specs.Cursors.{cursor_of}
 use Rattle.rhai_grammar.specs.Settings.{Settings}
 use Rattle.rhai_base.specs.Comments.{comment_of, comments_of}
 use Rattle.rhai_language.specs.Frames.{context_of, live_of}
-use Rattle.rhai_language.specs.Readers.{comments_view, state_at, state_of, with_live}
+use Rattle.rhai_language.specs.Readers.{state_at, state_of, with_live}
 use Rattle.rhai_language.proofs.Given.{gives_so}
 use Rattle.rhai_language.proofs.Rooms.{room_same}
 use Rattle.rhai_statements.proofs.CommentLemmas.{Documented, function_follows}

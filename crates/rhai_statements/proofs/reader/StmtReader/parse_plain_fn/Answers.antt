@@ -1,4 +1,4 @@
-use Rattle.std.proofs.Common.{rules, false, ap}
+use Rattle.std.proofs.Common.{false, ap}
 use Rattle.rhai_ast.specs.View.{statement_view}
 use Rattle.rhai_grammar.specs.Cursors.{cursor_of}
 use Rattle.rhai_base.specs.Comments.{comments_of}

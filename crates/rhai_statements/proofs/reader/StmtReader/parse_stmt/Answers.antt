@@ -1,4 +1,4 @@
-use Rattle.std.proofs.Common.{◌≡◌, [], arith, rules, ap, sym}
+use Rattle.std.proofs.Common.{◌≡◌, arith, rules, ap, sym}
 use Rattle.rhai_ast.specs.View.{statement_view}
 use Rattle.rhai_grammar.specs.Cursors.{cursor_of}
 use Rattle.rhai_grammar.specs.Settings.{Settings}
