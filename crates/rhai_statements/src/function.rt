@@ -40,8 +40,8 @@ use std::rc::{Rc, RcStr};
 type EndedFn = (FnKey, Rc<ScriptFuncDef>);
 
 impl<R: LentReaders> StmtReader<'_, R> {
-    /// Reads a function with its doc comments, of which the first comes next, as the caller has seen. Below the global
-    /// level, and where no function follows them, the error is `WrongDocComment` at the first.
+    /// Reads a function with its doc comments, of which the first comes next, as the caller has seen. Where that is
+    /// below the global level, or no function follows the comments, the error is `WrongDocComment` at the first.
     #[tactic(auto, using(crate::proofs::Readers::parse_documented_fn))]
     pub(crate) fn parse_documented_fn(
         &self,
@@ -77,8 +77,8 @@ impl<R: LentReaders> StmtReader<'_, R> {
         }
     }
 
-    /// Reads a function after its doc comments, of which the `fn` comes next, where the settings stand, as the caller
-    /// has seen.
+    /// Reads a function that is not private and has these doc comments, from its `fn` on, which comes next, as the
+    /// caller has seen; the settings stand there.
     #[tactic(auto, using(crate::proofs::Readers::parse_plain_fn))]
     pub(crate) fn parse_plain_fn(
         &self,
@@ -108,7 +108,8 @@ impl<R: LentReaders> StmtReader<'_, R> {
         )
     }
 
-    /// The same of a function whose `private` comes next.
+    /// Reads a private function that has these doc comments, from its `private` on, which comes next, as the caller has
+    /// seen; the settings stand there. Where no `fn` follows it, the error is `MissingToken` there.
     #[tactic(auto, using(crate::proofs::Readers::parse_private_fn))]
     pub(crate) fn parse_private_fn(
         &self,
