@@ -6,8 +6,6 @@ mod allocation;
 #[cfg(test)]
 mod caller_settings;
 #[cfg(test)]
-mod libraries;
-#[cfg(test)]
 mod long_scripts;
 #[cfg(test)]
 mod modules;
