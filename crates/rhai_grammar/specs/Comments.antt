@@ -76,13 +76,13 @@ block_comment column =
 -- column none. A comment with a line feed stands alone, between those before it and those after it.
 example :
     (kept_comments (line_comment (codes "/// a") ∷ line_comment (codes "/// b") ∷ [])
-        ≡ (codes "/// a" ++ (10 ∷ codes "/// b")) ∷ [])
+    ≡ (codes "/// a" ++ (10 ∷ codes "/// b")) ∷ [])
     × (kept_comments (line_comment [] ∷ line_comment [] ∷ []) ≡ [])
     × (unindented (block_comment 3) ≡ codes "/**" ++ (10 ∷ (codes "   x" ++ (10 ∷ codes " */"))))
     × (unindented (block_comment 1) ≡ (block_comment 1).text)
     × (unindented (block_comment 9) ≡ codes "/**" ++ (10 ∷ (codes "  x" ++ (10 ∷ codes "*/"))))
     × (unindented (block_comment 0) ≡ (block_comment 0).text)
     × (kept_comments (line_comment (codes "/// a") ∷ block_comment 3 ∷ line_comment (codes "/// b") ∷ [])
-        ≡ codes "/// a" ∷ unindented (block_comment 3) ∷ codes "/// b" ∷ [])
+    ≡ codes "/// a" ∷ unindented (block_comment 3) ∷ codes "/// b" ∷ [])
 unfolding kept_comments kept_after shifted indent
 example = (refl, refl, refl, refl, refl, refl, refl)
