@@ -74,6 +74,7 @@ pub(crate) fn end_index(
 }
 
 /// The parts of a variable, or any other operand as it is.
+#[tactic(auto, using(rhai_trees::proofs::LinkedLemmas::linked_no_variable))]
 pub(crate) fn as_variable(
     alloc: Global,
     operand: Chain,
@@ -92,7 +93,12 @@ pub(crate) fn as_variable(
 }
 
 /// Refuses an operand that is a name with a path, if the module that this begins with is not known.
-pub(crate) fn test_module(frame: &Frame<'_>, settings: ParseSettings, operand: &Chain) -> ParseResult<()>
+#[tactic(auto, using(rhai_trees::proofs::LinkedLemmas::linked_known))]
+pub(crate) fn test_module(
+    frame: &Frame<'_>,
+    settings: ParseSettings,
+    operand: &Chain,
+) -> ParseResult<()>
     ensures passes { (context : Context) → context.settings ≡ settings_of settings
         → context.known ≡ frame.now.known
         → OnOk result (module_fault context frame.now.live (chain_view operand.now) ≡ None) }
@@ -124,6 +130,7 @@ pub(crate) fn end_operand(
 }
 
 /// What a sign makes of its operand, whose chain ends here.
+#[tactic(auto, using(rhai_trees::proofs::LinkedLemmas::sign_value))]
 pub(crate) fn sign_operand(
     alloc: Global,
     sign: Token,

@@ -90,8 +90,8 @@ impl<R: LentReaders> ExprReader<'_, R> {
             (chain_view lhs.now)) shared.old }
         ensures goes_on { GoesOn shared.old shared.new }
         ensures stays { Stays self.now.language.now frame.now settings 0 shared.old shared.new }
-        ensures reads { Reads (links self.now.language.now frame.now settings (chain_view lhs.now)) linked shared.old result
-            shared.new }
+        ensures reads { Reads (links self.now.language.now frame.now settings (chain_view lhs.now)) linked shared.old
+            result shared.new }
     {
         let mut settings = settings;
         let mut brackets = settings;

@@ -142,8 +142,8 @@ impl<R: LentReaders> ExprReader<'_, R> {
             place) shared.old }
         ensures goes_on { GoesOn shared.old shared.new }
         ensures stays { Stays self.now.language.now frame.now settings 4 shared.old shared.new }
-        ensures reads { Reads (right_operand self.now.language.now frame.now settings place) chain_view shared.old result
-            shared.new }
+        ensures reads { Reads (right_operand self.now.language.now frame.now settings place) chain_view shared.old
+            result shared.new }
     {
         let alloc = self.language.alloc();
         let (token, pos) = peek(shared.input)?;
@@ -176,7 +176,8 @@ impl<R: LentReaders> ExprReader<'_, R> {
             shared.old }
         ensures goes_on { GoesOn shared.old shared.new }
         ensures stays { Stays self.now.language.now frame.now settings 3 shared.old shared.new }
-        ensures reads { Reads (operand self.now.language.now frame.now settings) chain_view shared.old result shared.new }
+        ensures reads { Reads (operand self.now.language.now frame.now settings) chain_view shared.old result
+            shared.new }
     {
         let (token, _) = peek(shared.input)?;
         if !is_sign(token) {
@@ -202,7 +203,8 @@ impl<R: LentReaders> ExprReader<'_, R> {
             shared.old }
         ensures goes_on { GoesOn shared.old shared.new }
         ensures stays { Stays self.now.language.now frame.now settings 3 shared.old shared.new }
-        ensures reads { Reads (operand self.now.language.now frame.now settings) chain_view shared.old result shared.new }
+        ensures reads { Reads (operand self.now.language.now frame.now settings) chain_view shared.old result
+            shared.new }
     {
         peek(shared.input)?;
         let primary = self
@@ -227,7 +229,8 @@ impl<R: LentReaders> ExprReader<'_, R> {
             shared.old }
         ensures goes_on { GoesOn shared.old shared.new }
         ensures stays { Stays self.now.language.now frame.now settings 0 shared.old shared.new }
-        ensures reads { Reads (expression self.now.language.now frame.now settings) chain_view shared.old result shared.new }
+        ensures reads { Reads (expression self.now.language.now frame.now settings) chain_view shared.old result
+            shared.new }
     {
         let (_, pos) = peek(shared.input)?;
         let settings = settings.at(*pos).level_up()?;

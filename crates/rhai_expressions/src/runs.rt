@@ -55,6 +55,7 @@ pub(crate) struct Pending {
 
 impl Pending {
     // Joins the operands, of which the right one is read now. The result is the run that the operator stands in.
+    #[tactic(auto, using(rhai_trees::proofs::LinkedLemmas::operator_value))]
     fn join(self, alloc: Global, rhs: Chain) -> ParseResult<Run>
         ensures answers { Answers (λ r. chain_view r.lhs) (operator_result (lexeme self.op_token) self.pos
             (chain_view self.around.lhs) (chain_view rhs)) result }
@@ -87,7 +88,8 @@ pub(crate) fn next_in_run(
         result_of (BinaryOp c w at parent lhs) (state_of shared.old)
         ≡ exec (guarded (BinaryOp c w at parent lhs) (state_of shared.old)) (run_at c w at parent lhs o)
         (state_of shared.new)) }
-    ensures refused { (c : Context) (w : Live) (at : Position) (lhs : Node) → c.filter ≡ filter → IfErr result (λ e.
+    ensures refused { (c : Context) (w : Live) (at : Position) (lhs : Node) → c.filter ≡ filter
+        → IfErr result (λ e.
         Fails (result_of (BinaryOp c w at parent lhs) (state_of shared.old)) e (state_of shared.new)) }
 {
     let Some(operator) = next_operator(alloc, filter, shared)? else {
@@ -121,11 +123,13 @@ impl<R: LentReaders> ExprReader<'_, R> {
         ensures around { IfOk result (λ r. (r.0.around.lhs ≡ run.lhs) × (r.0.around.parent ≡ run.parent)
             × IsDeeper run.settings r.0.around.settings × Raises run.settings r.0.pos (Ok r.0.around.settings)) }
         ensures side { IfOk result (λ r. (r.1.parent ≡ strength)
-            × IsDeeper run.settings r.1.settings × Raises run.settings (position_of (chain_view r.1.lhs)) (Ok r.1.settings)) }
+            × IsDeeper run.settings r.1.settings
+            × Raises run.settings (position_of (chain_view r.1.lhs)) (Ok r.1.settings)) }
         ensures reads { (g : Goal) (s : Progress)
             → left (state_of shared.old).cursor.tokens ≤ left s.cursor.tokens
-            → Gives side_view (exec (guarded g s) (right_side (context_of self.now.language.now frame.now run.settings)
-            (live_of frame.now) run.settings.pos) (state_of shared.old)) result (state_of shared.new) }
+            → Gives side_view (exec (guarded g s) (right_side
+            (context_of self.now.language.now frame.now run.settings) (live_of frame.now) run.settings.pos)
+            (state_of shared.old)) result (state_of shared.new) }
     {
         let settings = run.settings;
         let (op_token, pos) = take(shared.input);

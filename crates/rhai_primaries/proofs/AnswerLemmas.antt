@@ -14,7 +14,7 @@ use Rattle.rhai_grammar.specs.Settings.{Settings, is_in_function, strict_names}
 use Rattle.rhai_grammar.specs.Libraries.{Library}
 use Rattle.rhai_grammar.specs.Trees.{name_tree, variable_of}
 use Rattle.rhai_input.specs.Slots.{SlotValue}
-use Rattle.rhai_trees.proofs.LinkedLemmas.{given_where}
+use Rattle.rhai_trees.proofs.LinkedLemmas.{given_where, this_value, variable_value}
 use Rattle.rhai_trees.specs.Linked.{is_linked}
 use Rattle.rhai_grammar.specs.declared.role.Beginning.TheVariants as begin
 use Rattle.rhai_grammar.specs.Uses.{Use, noted}
@@ -84,14 +84,14 @@ refused_name call false captures u x e f s is =
 -- a name and a word are no chains
 pub name_value : (known : Known) (slots : List SlotValue) (l : Library) (strict excluded : Bool) (name : Text) (at : Position) (z : Node) → name_result known slots l strict excluded name at ≡ Ok z → is_linked z ≡ false
 name_value known slots l strict excluded name at z is =
-    ap is_linked (sym (given_where _ (name_tree slots excluded name at) z (refusal (VariableUndefined name) at) is))
+    ap is_linked (sym (given_where _ (name_tree slots excluded name at) z (refusal (VariableUndefined name) at) is)) ∙ variable_value _ at
 
 pub word_value : (c : Settings) (word : Text) (called : Bool) (at : Position) (z : Node) → word_result c word called at ≡ Ok z → is_linked z ≡ false
 word_value c word called at z is = by_choice (may_be_called word && called) (is_this word) (is_in_function c) is
   where
     by_choice : (a b d : Bool) → (if a then Ok (variable_of None word at) else if b then (if d then Ok (this at) else Err (no_this word at)) else Err (refusal (Reserved word) at)) ≡ Ok z → is_linked z ≡ false
-    by_choice true b d h = ap is_linked (sym (given_where true (variable_of None word at) z (refusal (Reserved word) at) h))
-    by_choice false true d h = ap is_linked (sym (given_where d (this at) z (no_this word at) h))
+    by_choice true b d h = ap is_linked (sym (given_where true (variable_of None word at) z (refusal (Reserved word) at) h)) ∙ variable_value _ at
+    by_choice false true d h = ap is_linked (sym (given_where d (this at) z (no_this word at) h)) ∙ this_value at
     by_choice false false d h = absurd cc
 
 -- what follows the look after a name

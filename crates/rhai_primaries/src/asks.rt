@@ -106,7 +106,6 @@ pub(crate) fn used_name(
 /// What a reserved word or symbol is: the name of a call, or `this` in a function.
 ///
 /// `this` elsewhere is `ImproperSymbol`, anything else is `Reserved`; if memory runs out, the error is `OutOfMemory`.
-#[tactic(auto, using(crate::proofs::AnswerLemmas::word_value))]
 pub(crate) fn used_word(
     alloc: Global,
     settings: ParseSettings,

@@ -32,7 +32,8 @@ impl<R: LentReaders> PrimaryReader<'_, R> {
             shared.old }
         ensures goes_on { GoesOn shared.old shared.new }
         ensures stays { Stays self.now.language.now frame.now settings 1 shared.old shared.new }
-        ensures reads { Reads (primary self.now.language.now frame.now settings) chain_view shared.old result shared.new }
+        ensures reads { Reads (primary self.now.language.now frame.now settings) chain_view shared.old result
+            shared.new }
     {
         let alloc = self.language.alloc();
         let (token, pos) = peek(shared.input)?;

@@ -24,6 +24,7 @@ views_append (l ∷ a) b = ap (λ rest. link_view l ∷ rest) (views_append a b)
 -- ---- which trees are chains
 
 alone : (x : Node) → is_linked x ≡ false → chain_of x ≡ record { root = x; links = [] }
+unfolding is_linked
 alone (node.dot l r m p) value = absurd cc
 alone (node.index l r m p) value = absurd cc
 alone _ value = refl
@@ -32,6 +33,7 @@ alone _ value = refl
 
 -- The tree of links is that of a chain, and its position is that of the first link.
 linked_by : (k : chain.LinkKind) (m : Bool) (p : Position) (i x y : Node) (last : Bool) → (is_linked (link_node (record { kind = k; negated = m; at = p; item = i }) last x y) ≡ true) × (position_of (link_node (record { kind = k; negated = m; at = p; item = i }) last x y) ≡ p)
+unfolding is_linked
 linked_by chain.Bracket m p i x y last = (refl, refl)
 linked_by chain.Dotted m p i x y last = (refl, refl)
 
@@ -83,6 +85,7 @@ pub ruleset joins = (joined)
 -- ---- what takes an index
 
 pub linked_unknown : (x key : Node) → is_linked x ≡ true → index_refusal (Some x) key ≡ None
+unfolding is_linked
 linked_unknown (node.dot l r m p) key is = refl
 linked_unknown (node.index l r m p) key is = refl
 linked_unknown _ key is = absurd cc

@@ -5,7 +5,7 @@ use Rattle.rhai_lower.specs.Nodes.{Node, dot, index, property}
 use Rattle.rhai_lower.specs.declared.node.LinkFlags.{LinkFlags}
 
 -- a dot or a bracket, with what is before it and behind it
-abbrev pub is_linked : Node → Bool
+unfoldable pub is_linked : Node → Bool
 is_linked (dot x y m p) = true
 is_linked (index x y m p) = true
 is_linked _ = false
@@ -17,5 +17,7 @@ abbrev example_flags : LinkFlags
 example_flags = record { negated = false; terminating = false }
 
 -- `a`, and `a.a`
-example : (is_linked example_name ≡ false) × (is_linked (dot example_name example_name example_flags (place 1 2)) ≡ true)
+example : (is_linked example_name ≡ false)
+    × (is_linked (dot example_name example_name example_flags (place 1 2)) ≡ true)
+unfolding is_linked
 example = (refl, refl)

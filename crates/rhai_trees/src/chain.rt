@@ -1,6 +1,7 @@
 //! Chains: an operand followed by brackets and dots.
 
-ghost use Rattle.std.specs.Prelude.{◌≡◌, None, Some, true, false, IfErr, IfNone, IfOk, IfSome, IsOk, OnOk, option_map};
+ghost use Rattle.std.specs.Prelude.{◌≡◌, None, Some, true, false, IfErr, IfNone, IfOk, IfSome, IsOk, OnOk};
+ghost use Rattle.std.specs.Prelude.{option_map};
 ghost use Rattle.rhai_lower.specs.Nodes.{position_of};
 ghost use Rattle.rhai_ast.specs.View.{called, view, views};
 ghost use Rattle.rhai_ast.specs.declared.ast.FnCallExpr.{out-FnCallExpr};
@@ -45,7 +46,8 @@ impl Chain {
     pub fn into_value(self) -> Result<Expr, Chain>
         ensures value { IfOk result (λ e. view e ≡ chain_view self) }
         ensures alone { IfOk result (λ e. is_linked (view e) ≡ false) }
-        ensures chain { IfErr result (λ c. (chain_view c ≡ chain_view self) × (is_linked (chain_view self) ≡ true)) }
+        ensures chain { IfErr result (λ c. (chain_view c ≡ chain_view self)
+            × (is_linked (chain_view self) ≡ true)) }
     {
         if self.links.is_empty() {
             Ok(self.root)
@@ -203,7 +205,8 @@ pub fn test_index(alloc: Global, indexed: Option<&Chain>, index: &Expr) -> Parse
     ensures passes { OnOk result (index_refusal (option_map (λ x. chain_view x.now) indexed.entry) (view index.now)
         ≡ None) }
     ensures refused { IfErr result (λ e. is_for_memory e ≡ false
-        → index_refusal (option_map (λ x. chain_view x.now) indexed.entry) (view index.now) ≡ Some (refusal_of e)) }
+        → index_refusal (option_map (λ x. chain_view x.now) indexed.entry) (view index.now)
+        ≡ Some (refusal_of e)) }
     ensures nowhere { IfErr result MemoryIsNowhere }
 {
     let Some(operand) = indexed else {
