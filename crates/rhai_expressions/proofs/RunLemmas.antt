@@ -3,7 +3,7 @@ use Rattle.std.proofs.Common.{◌≡◌, ℕ, ◌+◌, ◌≤◌, Bool, true, fa
 use Rattle.rhai_lower.specs.Lexemes.{Lexeme, lexeme}
 use Rattle.rhai_lower.specs.Nodes.{Node, position_of}
 use Rattle.rhai_lower.specs.declared.position.Position.{Position}
-use Rattle.rhai_ast.specs.View.{view}
+use Rattle.rhai_trees.specs.Chains.{chain_view}
 use Rattle.rhai_grammar.specs.Causes.{Refusal, refusal, ExprTooDeep, out_of_memory}
 use Rattle.rhai_grammar.specs.Contexts.{Context, Live, has_room, level_up}
 use Rattle.rhai_grammar.specs.Cursors.{left}
@@ -75,9 +75,9 @@ pub record Stands (language : LanguageValue) (frame : FrameValue) (start : Parse
   pub limit : p.around.settings.max_expr_depth ≡ start.max_expr_depth
   pub less : 1 ≤ start.max_expr_depth → levels_left p.around.settings ≤ levels_left start
   pub refused : (e : Refusal) (t : Progress) → inside (R.Refused e t) ≡ around (R.Refused e t)
-  pub joined : (y z : Node) (t : Progress) → left t.cursor.tokens ≤ bound → operator_result (lexeme p.op_token) p.pos (view p.around.lhs) y ≡ Ok z
+  pub joined : (y z : Node) (t : Progress) → left t.cursor.tokens ≤ bound → operator_result (lexeme p.op_token) p.pos (chain_view p.around.lhs) y ≡ Ok z
       → inside (R.Done y t) ≡ around (result_of (binary_op language frame p.around.settings p.around.settings.pos p.around.parent z) t)
-  pub missed : (y : Node) (e : Refusal) (t : Progress) → operator_result (lexeme p.op_token) p.pos (view p.around.lhs) y ≡ Err e
+  pub missed : (y : Node) (e : Refusal) (t : Progress) → operator_result (lexeme p.op_token) p.pos (chain_view p.around.lhs) y ≡ Err e
       → inside (R.Done y t) ≡ around (R.Refused e t)
 
 module _ (language : LanguageValue) (frame : FrameValue) (start : ParseSettings) where
@@ -144,7 +144,7 @@ pub record Pushes (language : LanguageValue) (frame : FrameValue) (start setting
   pub reads : exec (guarded (binary_op language frame settings settings.pos parent lhs) s) (right_side (context_of language frame settings) (live_of frame) settings.pos) s1
       ≡ R.Done (lexeme p.op_token, p.pos, x) t
   pub short : left t.cursor.tokens + 1 ≤ left s.cursor.tokens
-  pub left_side : view p.around.lhs ≡ lhs
+  pub left_side : chain_view p.around.lhs ≡ lhs
   pub outer : p.around.parent ≡ parent
   pub side_raised : settings_of side ≡ level_up_settings (settings_of settings)
   pub side_at : side.pos ≡ position_of x
@@ -178,7 +178,7 @@ module _ {language : LanguageValue} {frame : FrameValue} {start settings side : 
       ∙ ap (λ (q : Position). behind (result_of (BinaryOp (level_up c) w q n x) t)) (sym h.side_at)
       ∙ ap (λ (d : Context). behind (result_of (BinaryOp d w side.pos n x) t)) (sym same)
 
-  joined_so : (y z : Node) (u : Progress) → left u.cursor.tokens ≤ left t.cursor.tokens → operator_result (lexeme p.op_token) p.pos (view p.around.lhs) y ≡ Ok z
+  joined_so : (y z : Node) (u : Progress) → left u.cursor.tokens ≤ left t.cursor.tokens → operator_result (lexeme p.op_token) p.pos (chain_view p.around.lhs) y ≡ Ok z
       → behind (R.Done y u) ≡ result_of (binary_op language frame p.around.settings p.around.settings.pos p.around.parent z) u
   unfolding c w call behind
   joined_so y z u less is =
@@ -233,7 +233,7 @@ module _ {language : LanguageValue} {frame : FrameValue} {start : ParseSettings}
     last : (inside : R.Out Node → R.Out Node) × Waits language frame start bound qs (λ o. o) inside × Stands language frame start bound p inside a.inside
     last = one_less language frame start bound qs p (λ o. o) a.inside (subst (λ rs. Waits language frame start bound rs (λ o. o) a.inside) e a.waits)
 
-    popped : {z : Node} → left t.cursor.tokens ≤ bound → operator_result (lexeme p.op_token) p.pos (view p.around.lhs) y ≡ Ok z
+    popped : {z : Node} → left t.cursor.tokens ≤ bound → operator_result (lexeme p.op_token) p.pos (chain_view p.around.lhs) y ≡ Ok z
         → Awaits language frame start (left t.cursor.tokens) qs whole (result_of (binary_op language frame p.around.settings p.around.settings.pos p.around.parent z) t)
     popped {z} less joined = record {
       inside = last.0;
@@ -241,13 +241,13 @@ module _ {language : LanguageValue} {frame : FrameValue} {start : ParseSettings}
       same = a.same ∙ ap a.inside is ∙ last.2.joined y z t less joined;
     }
 
-    pub popped_as : {z : Node} {d : ParseSettings} {m : ℕ} → d ≡ p.around.settings → m ≡ p.around.parent → left t.cursor.tokens ≤ bound → operator_result (lexeme p.op_token) p.pos (view p.around.lhs) y ≡ Ok z
+    pub popped_as : {z : Node} {d : ParseSettings} {m : ℕ} → d ≡ p.around.settings → m ≡ p.around.parent → left t.cursor.tokens ≤ bound → operator_result (lexeme p.op_token) p.pos (chain_view p.around.lhs) y ≡ Ok z
         → Awaits language frame start (left t.cursor.tokens) qs whole (result_of (binary_op language frame d d.pos m z) t)
     popped_as {z} {d} {m} settings parent less joined =
         subst (λ k. Awaits language frame start (left t.cursor.tokens) qs whole (result_of (binary_op language frame d d.pos k z) t)) (sym parent)
         (subst (λ (f : ParseSettings). Awaits language frame start (left t.cursor.tokens) qs whole (result_of (binary_op language frame f f.pos p.around.parent z) t)) (sym settings) (popped less joined))
 
-    pub popped_refused : {r : Refusal} → operator_result (lexeme p.op_token) p.pos (view p.around.lhs) y ≡ Err r → whole ≡ R.Refused r t
+    pub popped_refused : {r : Refusal} → operator_result (lexeme p.op_token) p.pos (chain_view p.around.lhs) y ≡ Err r → whole ≡ R.Refused r t
     popped_refused {r} refused = a.same ∙ ap a.inside is ∙ last.2.missed y r t refused ∙ all_refused language frame start bound qs (λ o. o) last.0 last.1 r t
 
     pub popped_limit : p.around.settings.max_expr_depth ≡ start.max_expr_depth

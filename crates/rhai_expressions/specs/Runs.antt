@@ -3,7 +3,7 @@ use Rattle.std.specs.Prelude.{ℕ, Option, Some, None}
 use Rattle.rhai_lower.specs.Lexemes.{Lexeme, lexeme}
 use Rattle.rhai_lower.specs.Nodes.{Node}
 use Rattle.rhai_lower.specs.declared.position.Position.{Position}
-use Rattle.rhai_ast.specs.View.{view}
+use Rattle.rhai_trees.specs.Chains.{chain_view}
 use Rattle.rhai_grammar.specs.Contexts.{Context, Live}
 use Rattle.rhai_grammar.specs.Starts.{place_after}
 use Rattle.rhai_reading.specs.Reading.{Call, NextOperator, Peek, Prog, Ret, RightOperand, Take, binary_on, raised}
@@ -24,4 +24,4 @@ right_side context live at =
     Call (NextOperator context.filter) (λ next. raised context at (λ deeper. Ret (op, pos, rhs))))))
 
 abbrev pub side_view : Pending × Run → Lexeme × Position × Node
-side_view r = (lexeme r.0.op_token, r.0.pos, view r.1.lhs)
+side_view r = (lexeme r.0.op_token, r.0.pos, chain_view r.1.lhs)

@@ -8,7 +8,7 @@ use Rattle.std.specs.declared.boxed.Box.{Box}
 use Rattle.rhai_lower.specs.declared.position.Position.{Position}
 use Rattle.rhai_grammar.specs.Chains as chain
 use Rattle.rhai_trees.specs.Chains.{link_views}
-use Rattle.rhai_trees.specs.declared.chain.Link.{Link}
+use Rattle.rhai_trees.specs.declared.link.Link.{Link}
 use Rattle.rhai_base.specs.declared.words.Call.{Call}
 use Rattle.rhai_language.specs.Readers.{views_of}
 

@@ -1,10 +1,12 @@
 //! Chains: the brackets and dots after an operand, and calls.
 
-ghost use Rattle.std.specs.Prelude.{◌≡◌, false, option_map};
+ghost use Rattle.std.specs.Prelude.{◌≡◌, IfOk, false, option_map};
 ghost use Rattle.rhai_ast.specs.View.{view};
 ghost use Rattle.rhai_grammar.specs.Delivered.{is_end};
 ghost use Rattle.rhai_reading.specs.Running.{asked};
 ghost use Rattle.rhai_language.specs.Readers.{Covers, GoesOn, Reads, called, index, links, member, state_of};
+ghost use Rattle.rhai_trees.specs.Chains.{chain_view};
+ghost use Rattle.rhai_trees.specs.Linked.{is_linked};
 ghost use Rattle.rhai_expressions.specs.Views.{call_view, linked};
 ghost use Rattle.rhai_language.specs.Rooms.{Stays};
 
@@ -20,7 +22,7 @@ use rhai_leaves::due::{arguments_due, no_bang};
 use rhai_leaves::links::{is_name, is_negated, member_due, unscoped, what_links};
 use rhai_leaves::refusals::reserved;
 use rhai_leaves::tokens::{is_called, what_calls};
-use rhai_trees::{Link, LinkKind, indexed_operand, test_links};
+use rhai_trees::{Chain, Link, LinkKind, indexed_operand, test_links};
 
 impl<R: LentReaders> ExprReader<'_, R> {
     /// Reads what calls the name before it; without that, there is no `!` and no argument. A name with a path, which
@@ -82,14 +84,14 @@ impl<R: LentReaders> ExprReader<'_, R> {
         shared: &mut Shared<'_>,
         frame: &Frame<'_>,
         settings: ParseSettings,
-        lhs: &Expr,
+        lhs: &Chain,
     ) -> ParseResult<Vec<Link>>
         requires lent { Covers (R.lent self.now.readers) (links self.now.language.now frame.now settings
-            (view lhs.now)) shared.old }
+            (chain_view lhs.now)) shared.old }
         ensures goes_on { GoesOn shared.old shared.new }
         ensures stays { Stays self.now.language.now frame.now settings 0 shared.old shared.new }
-        ensures reads { Reads (links self.now.language.now frame.now settings (view lhs.now)) linked shared.old result
-            shared.new }
+        ensures reads { Reads (links self.now.language.now frame.now settings (chain_view lhs.now)) linked shared.old
+            result shared.new }
     {
         let mut settings = settings;
         let mut brackets = settings;
@@ -143,14 +145,14 @@ impl<R: LentReaders> ExprReader<'_, R> {
         shared: &mut Shared<'_>,
         frame: &Frame<'_>,
         settings: ParseSettings,
-        indexed: Option<&Expr>,
+        indexed: Option<&Chain>,
     ) -> ParseResult<Expr>
         requires lent { Covers (R.lent self.now.readers) (index self.now.language.now frame.now settings
-            (option_map (λ x. view x.now) indexed)) shared.old }
+            (option_map (λ x. chain_view x.now) indexed)) shared.old }
         ensures goes_on { GoesOn shared.old shared.new }
         ensures stays { Stays self.now.language.now frame.now settings 1 shared.old shared.new }
-        ensures reads { Reads (index self.now.language.now frame.now settings (option_map (λ x.
-            view x.now) indexed.entry)) view shared.old result shared.new }
+        ensures reads { Reads (index self.now.language.now frame.now settings
+            (option_map (λ x. chain_view x.now) indexed.entry)) view shared.old result shared.new }
     {
         let index = self
             .readers
@@ -172,6 +174,7 @@ impl<R: LentReaders> ExprReader<'_, R> {
         ensures goes_on { GoesOn shared.old shared.new }
         ensures stays { Stays self.now.language.now frame.now settings 2 shared.old shared.new }
         ensures reads { Reads (member self.now.language.now frame.now settings) view shared.old result shared.new }
+        ensures value { IfOk result (λ x. is_linked (view x) ≡ false) }
     {
         let (token, pos) = peek(shared.input)?;
         let pos = *pos;

@@ -9,13 +9,14 @@ ghost use Rattle.rhai_language.specs.Readers.{Covers, GoesOn, Reads, arguments, 
 ghost use Rattle.rhai_language.specs.Readers.{operand, postfix};
 ghost use Rattle.rhai_language.specs.Readers.{right_operand, state_of, views_of};
 ghost use Rattle.rhai_language.specs.Rooms.{Stays};
+ghost use Rattle.rhai_trees.specs.Chains.{chain_view};
 
-use crate::asks::end_operand;
+use crate::asks::{as_variable, end_operand, sign_operand};
 use crate::paths::{NamedOperand, named_operand};
 use crate::reader::ExprReader;
 use rhai_ast::Expr;
 use rhai_base::modules::test_path;
-use rhai_base::words::{as_variable, is_qualified_name, make_call};
+use rhai_base::words::{is_qualified_name, make_call};
 use rhai_base::{Frame, ParseSettings};
 use rhai_grammar::{CommaList, DueToken, OperandPlace, OperandStart, ParseResult};
 use rhai_language::{LentReaders, Shared, nested};
@@ -24,7 +25,7 @@ use rhai_leaves::lists::{closes_list, list_continues};
 use rhai_leaves::refusals::missing;
 use rhai_leaves::tokens::{is_no_argument, is_sign, what_operand};
 use rhai_statement_trees::make_statement_value;
-use rhai_trees::make_unary;
+use rhai_trees::Chain;
 
 impl<R: LentReaders> ExprReader<'_, R> {
     /// Reads the path and what calls an operand, if it is a name. The module that the path begins at is tested after
@@ -35,26 +36,27 @@ impl<R: LentReaders> ExprReader<'_, R> {
         shared: &mut Shared<'_>,
         frame: &Frame<'_>,
         settings: ParseSettings,
-        operand: Expr,
-    ) -> ParseResult<Expr>
+        operand: Chain,
+    ) -> ParseResult<Chain>
         requires lent { Covers (R.lent self.now.readers) (postfix self.now.language.now frame.now settings
-            (view operand)) shared.old }
+            (chain_view operand)) shared.old }
         ensures goes_on { GoesOn shared.old shared.new }
         ensures stays { Stays self.now.language.now frame.now settings 2 shared.old shared.new }
-        ensures reads { Reads (postfix self.now.language.now frame.now settings (view operand)) view shared.old result
-            shared.new }
+        ensures reads { Reads (postfix self.now.language.now frame.now settings (chain_view operand)) chain_view
+            shared.old result shared.new }
     {
-        let (name, pos) = match as_variable(operand) {
+        let alloc = self.language.alloc();
+        let (name, pos) = match as_variable(alloc, operand) {
             Ok(variable) => variable,
             Err(other) => {
                 peek(shared.input)?;
                 return Ok(other);
             }
         };
-        let named = named_operand(self.language.alloc(), shared, frame, name, pos)?;
+        let named = named_operand(alloc, shared, frame, name, pos)?;
         let NamedOperand { name, pos, called } = named;
         if !called {
-            return Ok(Expr::Variable(name, pos));
+            return Ok(Chain::from_value(alloc, Expr::Variable(name, pos)));
         }
         let qualified = is_qualified_name(&name);
         let call = nested!(
@@ -62,7 +64,8 @@ impl<R: LentReaders> ExprReader<'_, R> {
             self.parse_call(shared, frame, settings.at(pos), qualified)
         )?;
         test_path(frame, settings, &name, pos)?;
-        Ok(make_call(self.language.alloc(), name, pos, call)?)
+        let call = make_call(alloc, name, pos, call)?;
+        Ok(Chain::from_value(alloc, call))
     }
 
     /// Reads the arguments after the `(` of a call. A raise of their level is refused where the settings stand.
@@ -134,26 +137,28 @@ impl<R: LentReaders> ExprReader<'_, R> {
         frame: &Frame<'_>,
         settings: ParseSettings,
         place: OperandPlace,
-    ) -> ParseResult<Expr>
+    ) -> ParseResult<Chain>
         requires lent { Covers (R.lent self.now.readers) (right_operand self.now.language.now frame.now settings
             place) shared.old }
         ensures goes_on { GoesOn shared.old shared.new }
         ensures stays { Stays self.now.language.now frame.now settings 4 shared.old shared.new }
-        ensures reads { Reads (right_operand self.now.language.now frame.now settings place) view shared.old result
-            shared.new }
+        ensures reads { Reads (right_operand self.now.language.now frame.now settings place) chain_view shared.old
+            result shared.new }
     {
+        let alloc = self.language.alloc();
         let (token, pos) = peek(shared.input)?;
         match what_operand(place, token) {
-            OperandStart::Omitted => Ok(Expr::Unit(*pos)),
+            OperandStart::Omitted => Ok(Chain::from_value(alloc, Expr::Unit(*pos))),
             OperandStart::Jump => {
-                let mut inner = frame.inner(self.language.alloc());
+                let mut inner = frame.inner(alloc);
                 let jump = self.readers.parse_stmt(
                     self.language,
                     shared,
                     &mut inner,
                     settings.below_global_level(),
                 )?;
-                Ok(make_statement_value(self.language.alloc(), jump)?)
+                let value = make_statement_value(alloc, jump)?;
+                Ok(Chain::from_value(alloc, value))
             }
             OperandStart::Written => nested!(shared, self.parse_unary(shared, frame, settings)),
         }
@@ -166,12 +171,13 @@ impl<R: LentReaders> ExprReader<'_, R> {
         shared: &mut Shared<'_>,
         frame: &Frame<'_>,
         settings: ParseSettings,
-    ) -> ParseResult<Expr>
+    ) -> ParseResult<Chain>
         requires lent { Covers (R.lent self.now.readers) (operand self.now.language.now frame.now settings)
             shared.old }
         ensures goes_on { GoesOn shared.old shared.new }
         ensures stays { Stays self.now.language.now frame.now settings 3 shared.old shared.new }
-        ensures reads { Reads (operand self.now.language.now frame.now settings) view shared.old result shared.new }
+        ensures reads { Reads (operand self.now.language.now frame.now settings) chain_view shared.old result
+            shared.new }
     {
         let (token, _) = peek(shared.input)?;
         if !is_sign(token) {
@@ -180,7 +186,7 @@ impl<R: LentReaders> ExprReader<'_, R> {
         let (sign, pos) = take(shared.input);
         let settings = settings.at(pos).level_up()?;
         let operand = nested!(shared, self.parse_unary(shared, frame, settings))?;
-        make_unary(self.language.alloc(), sign, pos, operand)
+        sign_operand(self.language.alloc(), sign, pos, operand)
     }
 
     /// Reads a written operand without a sign, with its call and its links. The caller has seen that no sign comes
@@ -191,13 +197,14 @@ impl<R: LentReaders> ExprReader<'_, R> {
         shared: &mut Shared<'_>,
         frame: &Frame<'_>,
         settings: ParseSettings,
-    ) -> ParseResult<Expr>
+    ) -> ParseResult<Chain>
         requires unsigned { is_sign (beginning (asked (state_of shared.old)).lexeme) ≡ false }
         requires lent { Covers (R.lent self.now.readers) (operand self.now.language.now frame.now settings)
             shared.old }
         ensures goes_on { GoesOn shared.old shared.new }
         ensures stays { Stays self.now.language.now frame.now settings 3 shared.old shared.new }
-        ensures reads { Reads (operand self.now.language.now frame.now settings) view shared.old result shared.new }
+        ensures reads { Reads (operand self.now.language.now frame.now settings) chain_view shared.old result
+            shared.new }
     {
         peek(shared.input)?;
         let primary = self
@@ -205,24 +212,25 @@ impl<R: LentReaders> ExprReader<'_, R> {
             .parse_primary(self.language, shared, frame, settings)?;
         let operand = nested!(shared, self.parse_postfix(shared, frame, settings, primary))?;
         match self.parse_links(shared, frame, settings, &operand) {
-            Ok(links) => end_operand(self.language.alloc(), frame, settings, operand, links),
+            Ok(links) => end_operand(frame, settings, operand, links),
             Err(error) => Err(error),
         }
     }
 
-    /// Reads an expression. The level is raised at its first token.
-    #[tactic(auto, using(crate::proofs::Readers::parse_expr))]
-    pub fn parse_expr(
+    /// Reads an expression, as a chain that may go on. The level is raised at its first token.
+    #[tactic(auto, using(crate::proofs::Readers::parse_chain))]
+    pub fn parse_chain(
         &self,
         shared: &mut Shared<'_>,
         frame: &Frame<'_>,
         settings: ParseSettings,
-    ) -> ParseResult<Expr>
+    ) -> ParseResult<Chain>
         requires lent { Covers (R.lent self.now.readers) (expression self.now.language.now frame.now settings)
             shared.old }
         ensures goes_on { GoesOn shared.old shared.new }
         ensures stays { Stays self.now.language.now frame.now settings 0 shared.old shared.new }
-        ensures reads { Reads (expression self.now.language.now frame.now settings) view shared.old result shared.new }
+        ensures reads { Reads (expression self.now.language.now frame.now settings) chain_view shared.old result
+            shared.new }
     {
         let (_, pos) = peek(shared.input)?;
         let settings = settings.at(*pos).level_up()?;

@@ -2,7 +2,7 @@
 //! nests no readers.
 
 ghost use Rattle.std.specs.Prelude.{◌≡◌, ◌+◌, ◌≤◌, IfErr, IfOk, IsSome, OnOk, false};
-ghost use Rattle.rhai_ast.specs.View.{view};
+ghost use Rattle.rhai_trees.specs.Chains.{chain_view};
 ghost use Rattle.rhai_lower.specs.Lexemes.{lexeme};
 ghost use Rattle.rhai_lower.specs.Nodes.{Node, position_of};
 ghost use Rattle.rhai_grammar.specs.Answers.{Answers};
@@ -21,7 +21,6 @@ ghost use Rattle.rhai_expressions.specs.Runs.{right_side, run_at, side_view};
 
 use crate::asks::next_operator;
 use crate::reader::ExprReader;
-use rhai_ast::Expr;
 use rhai_base::{Frame, ParseSettings};
 use rhai_grammar::{ExprFilter, ParseResult};
 use rhai_language::{LentReaders, Shared, nested};
@@ -29,14 +28,14 @@ use rhai_leaves::cursor::take;
 use rhai_leaves::operators::Operator;
 use rhai_leaves::tokens::place_after;
 use rhai_lower::{Position, Token};
-use rhai_trees::make_binary;
+use rhai_trees::{Chain, make_binary};
 use std::alloc::Global;
 
 /// A run of operators as far as it is read.
 #[derive(Drop)]
 pub(crate) struct Run {
     /// What is read, the left operand of the operator that may follow.
-    pub lhs: Expr,
+    pub lhs: Chain,
     /// The strength of the operator on whose right the run stands.
     pub parent: u8,
     /// The settings of the operators that follow. A raise of their level is refused where these stand.
@@ -56,17 +55,19 @@ pub(crate) struct Pending {
 
 impl Pending {
     // Joins the operands, of which the right one is read now. The result is the run that the operator stands in.
-    fn join(self, alloc: Global, rhs: Expr) -> ParseResult<Run>
-        ensures answers { Answers (λ r. view r.lhs) (operator_result (lexeme self.op_token) self.pos
-            (view self.around.lhs) (view rhs)) result }
+    #[tactic(auto, using(rhai_trees::proofs::LinkedLemmas::operator_value))]
+    fn join(self, alloc: Global, rhs: Chain) -> ParseResult<Run>
+        ensures answers { Answers (λ r. chain_view r.lhs) (operator_result (lexeme self.op_token) self.pos
+            (chain_view self.around.lhs) (chain_view rhs)) result }
         ensures rest { IfOk result (λ r. (r.parent ≡ self.around.parent) × (r.settings ≡ self.around.settings)) }
         ensures nowhere { IfErr result MemoryIsNowhere }
     {
         let around = self.around;
-        match make_binary(alloc, self.op_token, self.pos, around.lhs, rhs) {
-            Ok(lhs) => Ok(Run { lhs, ..around }),
-            Err(error) => Err(error),
-        }
+        let lhs = around.lhs.nest(alloc)?;
+        let rhs = rhs.nest(alloc)?;
+        let tree = make_binary(alloc, self.op_token, self.pos, lhs, rhs)?;
+        let lhs = Chain::from_value(alloc, tree);
+        Ok(Run { lhs, ..around })
     }
 }
 
@@ -87,7 +88,8 @@ pub(crate) fn next_in_run(
         result_of (BinaryOp c w at parent lhs) (state_of shared.old)
         ≡ exec (guarded (BinaryOp c w at parent lhs) (state_of shared.old)) (run_at c w at parent lhs o)
         (state_of shared.new)) }
-    ensures refused { (c : Context) (w : Live) (at : Position) (lhs : Node) → c.filter ≡ filter → IfErr result (λ e.
+    ensures refused { (c : Context) (w : Live) (at : Position) (lhs : Node) → c.filter ≡ filter
+        → IfErr result (λ e.
         Fails (result_of (BinaryOp c w at parent lhs) (state_of shared.old)) e (state_of shared.new)) }
 {
     let Some(operator) = next_operator(alloc, filter, shared)? else {
@@ -121,11 +123,13 @@ impl<R: LentReaders> ExprReader<'_, R> {
         ensures around { IfOk result (λ r. (r.0.around.lhs ≡ run.lhs) × (r.0.around.parent ≡ run.parent)
             × IsDeeper run.settings r.0.around.settings × Raises run.settings r.0.pos (Ok r.0.around.settings)) }
         ensures side { IfOk result (λ r. (r.1.parent ≡ strength)
-            × IsDeeper run.settings r.1.settings × Raises run.settings (position_of (view r.1.lhs)) (Ok r.1.settings)) }
+            × IsDeeper run.settings r.1.settings
+            × Raises run.settings (position_of (chain_view r.1.lhs)) (Ok r.1.settings)) }
         ensures reads { (g : Goal) (s : Progress)
             → left (state_of shared.old).cursor.tokens ≤ left s.cursor.tokens
-            → Gives side_view (exec (guarded g s) (right_side (context_of self.now.language.now frame.now run.settings)
-            (live_of frame.now) run.settings.pos) (state_of shared.old)) result (state_of shared.new) }
+            → Gives side_view (exec (guarded g s) (right_side
+            (context_of self.now.language.now frame.now run.settings) (live_of frame.now) run.settings.pos)
+            (state_of shared.old)) result (state_of shared.new) }
     {
         let settings = run.settings;
         let (op_token, pos) = take(shared.input);
@@ -164,15 +168,14 @@ impl<R: LentReaders> ExprReader<'_, R> {
         frame: &Frame<'_>,
         settings: ParseSettings,
         parent: u8,
-        lhs: Expr,
-    ) -> ParseResult<Expr>
+        lhs: Chain,
+    ) -> ParseResult<Chain>
         requires lent { Covers (R.lent self.now.readers) (binary_op self.now.language.now frame.now settings
-            (position_of (view lhs)) parent (view lhs)) shared.old }
+            (position_of (chain_view lhs)) parent (chain_view lhs)) shared.old }
         ensures goes_on { GoesOn shared.old shared.new }
         ensures stays { Stays self.now.language.now frame.now settings 5 shared.old shared.new }
-        ensures reads { Reads (binary_op self.now.language.now frame.now settings (position_of (view lhs)) parent
-            (view lhs)) view
-            shared.old result shared.new }
+        ensures reads { Reads (binary_op self.now.language.now frame.now settings (position_of (chain_view lhs)) parent
+            (chain_view lhs)) chain_view shared.old result shared.new }
     {
         let alloc = self.language.alloc();
         let mut run = Run {

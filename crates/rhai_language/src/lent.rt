@@ -6,17 +6,32 @@ ghost use Rattle.rhai_language.specs.Readers.{GoesOn, Nests, construct, expressi
 ghost use Rattle.rhai_language.specs.Readers.{statement, statements_of, with_live};
 ghost use Rattle.rhai_reading.specs.Running.{need};
 ghost use Rattle.rhai_language.specs.Rooms.{Stays, function_room};
+ghost use Rattle.rhai_trees.specs.Chains.{chain_view};
 
 use crate::language::Language;
 use crate::shared::Shared;
 use rhai_ast::{Expr, Stmt};
 use rhai_base::{Frame, ParseSettings};
 use rhai_grammar::{Construct, ParseResult};
+use rhai_trees::Chain;
 
 /// Readers that are lent to a reader, for the parts of a script that it does not read itself.
 pub trait LentReaders {
     /// Whether calls may be made where this much is left to do.
     ghost lent: { Self → ℕ → Type 0 };
+
+    /// Reads an expression, as a chain that may go on. The level is raised at its first token.
+    fn parse_chain(
+        &self,
+        language: &Language,
+        shared: &mut Shared<'_>,
+        frame: &Frame<'_>,
+        settings: ParseSettings,
+    ) -> ParseResult<Chain>
+        requires covered { lent self.now (need (expression language.now frame.now settings) (state_of shared.old)) }
+        ensures goes_on { GoesOn shared.old shared.new }
+        ensures stays { Stays language.now frame.now settings 1 shared.old shared.new }
+        ensures reads { Nests (expression language.now frame.now settings) chain_view shared.old result shared.new };
 
     /// Reads an expression. The level is raised at its first token.
     fn parse_expr(
@@ -29,20 +44,26 @@ pub trait LentReaders {
         requires covered { lent self.now (need (expression language.now frame.now settings) (state_of shared.old)) }
         ensures goes_on { GoesOn shared.old shared.new }
         ensures stays { Stays language.now frame.now settings 1 shared.old shared.new }
-        ensures reads { Nests (expression language.now frame.now settings) view shared.old result shared.new };
+        ensures reads { Nests (expression language.now frame.now settings) view shared.old result shared.new }
+    {
+        match self.parse_chain(language, shared, frame, settings) {
+            Ok(chain) => Ok(chain.nest(language.alloc())?),
+            Err(error) => Err(error),
+        }
+    }
 
-    /// Reads what an operand begins with, without its sign, what calls it and its links.
+    /// Reads what an operand begins with, without its sign, what calls it and its links: a chain where it is a group.
     fn parse_primary(
         &self,
         language: &Language,
         shared: &mut Shared<'_>,
         frame: &Frame<'_>,
         settings: ParseSettings,
-    ) -> ParseResult<Expr>
+    ) -> ParseResult<Chain>
         requires covered { lent self.now (need (primary language.now frame.now settings) (state_of shared.old)) }
         ensures goes_on { GoesOn shared.old shared.new }
         ensures stays { Stays language.now frame.now settings 2 shared.old shared.new }
-        ensures reads { Nests (primary language.now frame.now settings) view shared.old result shared.new };
+        ensures reads { Nests (primary language.now frame.now settings) chain_view shared.old result shared.new };
 
     /// Reads a construct of this kind after its first token, where the settings stand.
     fn parse_construct(

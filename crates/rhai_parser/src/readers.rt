@@ -8,6 +8,7 @@ ghost use Rattle.rhai_reading.specs.Running.{need};
 ghost use Rattle.rhai_language.specs.Readers.{GoesOn, Nests, Reads, construct, expression, inside, primary, state_of};
 ghost use Rattle.rhai_language.specs.Readers.{statement, statements, statements_of, whole, with_live};
 ghost use Rattle.rhai_language.specs.Rooms.{Stays, function_room};
+ghost use Rattle.rhai_trees.specs.Chains.{chain_view};
 
 use rhai_ast::{Expr, Stmt};
 use rhai_base::{Frame, ParseSettings};
@@ -18,11 +19,12 @@ use rhai_language::{Language, LentReaders, Shared, nested};
 use rhai_leaves::due::end_due;
 use rhai_primaries::PrimaryReader;
 use rhai_statements::StmtReader;
+use rhai_trees::Chain;
 
 // Readers, each a function that is lent.
 #[derive(Drop)]
 struct Lent<E, P, C, I, S> {
-    expr: E,
+    chain: E,
     primary: P,
     construct: C,
     inside: I,
@@ -31,8 +33,8 @@ struct Lent<E, P, C, I, S> {
 
 impl<E, P, C, I, S> LentReaders for Lent<E, P, C, I, S>
 where
-    E: Fn(&Language, &mut Shared<'_>, &Frame<'_>, ParseSettings) -> ParseResult<Expr>,
-    P: Fn(&Language, &mut Shared<'_>, &Frame<'_>, ParseSettings) -> ParseResult<Expr>,
+    E: Fn(&Language, &mut Shared<'_>, &Frame<'_>, ParseSettings) -> ParseResult<Chain>,
+    P: Fn(&Language, &mut Shared<'_>, &Frame<'_>, ParseSettings) -> ParseResult<Chain>,
     C: Fn(&Language, &mut Shared<'_>, &Frame<'_>, ParseSettings, Construct) -> ParseResult<Stmt>,
     I: Fn(&Language, &mut Shared<'_>, &Frame<'_>, ParseSettings) -> ParseResult<Vec<Stmt>>,
     S: Fn(&Language, &mut Shared<'_>, &mut Frame<'_>, ParseSettings) -> ParseResult<Stmt>,
@@ -40,18 +42,18 @@ where
     ghost lent = { λ s n.
         ((language : _) (shared : _) (frame : _) (settings : _)
         → need (expression language.now frame.now settings) (state_of shared.now) ≡ n
-        → E.pre s.expr language shared frame settings
-        × ((result : _) (after : _) → E.post s.expr language shared frame settings result after
+        → E.pre s.chain language shared frame settings
+        × ((result : _) (after : _) → E.post s.chain language shared frame settings result after
         → GoesOn shared.now after.now
         × (Stays language.now frame.now settings 1 shared.now after.now
-        × Nests (expression language.now frame.now settings) view shared.now result after.now)))
+        × Nests (expression language.now frame.now settings) chain_view shared.now result after.now)))
         × ((language : _) (shared : _) (frame : _) (settings : _)
         → need (primary language.now frame.now settings) (state_of shared.now) ≡ n
         → P.pre s.primary language shared frame settings
         × ((result : _) (after : _) → P.post s.primary language shared frame settings result after
         → GoesOn shared.now after.now
         × (Stays language.now frame.now settings 2 shared.now after.now
-        × Nests (primary language.now frame.now settings) view shared.now result after.now)))
+        × Nests (primary language.now frame.now settings) chain_view shared.now result after.now)))
         × ((language : _) (shared : _) (frame : _) (settings : _) (kind : _)
         → need (construct language.now frame.now settings kind) (state_of shared.now) ≡ n
         → C.pre s.construct language shared frame settings kind
@@ -75,14 +77,14 @@ where
         × Nests (statement language.now frame.now settings) (with_live statement_view left.now) shared.now result
         after.now))) };
 
-    fn parse_expr(
+    fn parse_chain(
         &self,
         language: &Language,
         shared: &mut Shared<'_>,
         frame: &Frame<'_>,
         settings: ParseSettings,
-    ) -> ParseResult<Expr> {
-        (self.expr)(language, shared, frame, settings)
+    ) -> ParseResult<Chain> {
+        (self.chain)(language, shared, frame, settings)
     }
 
     fn parse_primary(
@@ -91,7 +93,7 @@ where
         shared: &mut Shared<'_>,
         frame: &Frame<'_>,
         settings: ParseSettings,
-    ) -> ParseResult<Expr> {
+    ) -> ParseResult<Chain> {
         (self.primary)(language, shared, frame, settings)
     }
 
@@ -127,31 +129,31 @@ where
     }
 }
 
-/// Reads an expression. The level is raised at its first token.
+/// Reads an expression, as a chain that may go on. The level is raised at its first token.
 #[tactic(auto, using(rhai_reading::proofs::Steps::nested_so))]
 #[cycle(parser)]
-pub(crate) fn parse_expr(
+fn parse_chain(
     language: &Language,
     shared: &mut Shared<'_>,
     frame: &Frame<'_>,
     settings: ParseSettings,
-) -> ParseResult<Expr>
+) -> ParseResult<Chain>
     ensures goes_on { GoesOn shared.old shared.new }
     ensures stays { Stays language.now frame.now settings 1 shared.old shared.new }
-    ensures reads { Nests (expression language.now frame.now settings) view shared.old result shared.new }
+    ensures reads { Nests (expression language.now frame.now settings) chain_view shared.old result shared.new }
 {
     let readers = Lent {
-        expr: parse_expr,
+        chain: parse_chain,
         primary: parse_primary,
         construct: parse_construct,
         inside: parse_block_inside,
         stmt: parse_stmt,
     };
     let reader = ExprReader { language, readers };
-    nested!(shared, reader.parse_expr(shared, frame, settings))
+    nested!(shared, reader.parse_chain(shared, frame, settings))
 }
 
-/// Reads what an operand begins with, without its sign, what calls it and its links.
+/// Reads what an operand begins with, without its sign, what calls it and its links: a chain where it is a group.
 #[tactic(auto, using(rhai_reading::proofs::Steps::nested_so))]
 #[cycle(parser)]
 fn parse_primary(
@@ -159,13 +161,13 @@ fn parse_primary(
     shared: &mut Shared<'_>,
     frame: &Frame<'_>,
     settings: ParseSettings,
-) -> ParseResult<Expr>
+) -> ParseResult<Chain>
     ensures goes_on { GoesOn shared.old shared.new }
     ensures stays { Stays language.now frame.now settings 2 shared.old shared.new }
-    ensures reads { Nests (primary language.now frame.now settings) view shared.old result shared.new }
+    ensures reads { Nests (primary language.now frame.now settings) chain_view shared.old result shared.new }
 {
     let readers = Lent {
-        expr: parse_expr,
+        chain: parse_chain,
         primary: parse_primary,
         construct: parse_construct,
         inside: parse_block_inside,
@@ -190,7 +192,7 @@ fn parse_construct(
     ensures reads { Nests (construct language.now frame.now settings kind) statement_view shared.old result shared.new }
 {
     let readers = Lent {
-        expr: parse_expr,
+        chain: parse_chain,
         primary: parse_primary,
         construct: parse_construct,
         inside: parse_block_inside,
@@ -217,7 +219,7 @@ fn parse_block_inside(
     ensures reads { Nests (inside language.now frame.now settings) statements_of shared.old result shared.new }
 {
     let readers = Lent {
-        expr: parse_expr,
+        chain: parse_chain,
         primary: parse_primary,
         construct: parse_construct,
         inside: parse_block_inside,
@@ -243,7 +245,7 @@ fn parse_stmt(
         result shared.new }
 {
     let readers = Lent {
-        expr: parse_expr,
+        chain: parse_chain,
         primary: parse_primary,
         construct: parse_construct,
         inside: parse_block_inside,
@@ -265,7 +267,8 @@ pub(crate) fn parse_whole_expr(
     ensures stays { Stays language.now frame.now settings 1 shared.old shared.new }
     ensures reads { Reads (whole language.now frame.now settings) view shared.old result shared.new }
 {
-    let expr = parse_expr(language, shared, frame, settings)?;
+    let chain = parse_chain(language, shared, frame, settings)?;
+    let expr = chain.nest(language.alloc())?;
     end_due(language.alloc(), shared.input)?;
     Ok(expr)
 }
@@ -287,7 +290,7 @@ pub(crate) fn parse_statements(
         (with_live statements_of frame.new) shared.old result shared.new }
 {
     let readers = Lent {
-        expr: parse_expr,
+        chain: parse_chain,
         primary: parse_primary,
         construct: parse_construct,
         inside: parse_block_inside,

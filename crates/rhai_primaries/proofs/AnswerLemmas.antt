@@ -1,24 +1,28 @@
 -- What the reading program does where the code asks a function outside of the readers.
-use Rattle.std.proofs.Common.{◌≡◌, Bool, Result, true, false, ◌&&◌, ◌||◌, Ok, Err, refl, sym, ap, ◌∙◌, if◌then◌else◌}
+use Rattle.std.proofs.Common.{◌≡◌, Bool, List, None, Result, true, false, ◌&&◌, ◌||◌, Ok, Err, refl, sym, ap, ◌∙◌, if◌then◌else◌}
 use Rattle.rhai_lower.specs.Texts.{Text}
 use Rattle.rhai_lower.specs.Lexemes.{Lexeme}
-use Rattle.rhai_lower.specs.Nodes.{Node, Properties}
+use Rattle.rhai_lower.specs.Nodes.{Node, Properties, this}
 use Rattle.rhai_lower.specs.declared.position.Position.{Position}
-use Rattle.rhai_grammar.specs.Causes.{Refusal, VariableUndefined, out_of_memory, refusal, DuplicatedProperty}
+use Rattle.rhai_grammar.specs.Causes.{Refusal, Reserved, VariableUndefined, out_of_memory, refusal, DuplicatedProperty}
 use Rattle.rhai_grammar.specs.Cursors.{Cursor}
 use Rattle.rhai_grammar.specs.Delivered.{is_memory}
-use Rattle.rhai_grammar.specs.Contexts.{Context, Live}
+use Rattle.rhai_grammar.specs.Contexts.{Context, Known, Live}
 use Rattle.rhai_grammar.specs.Beginnings.{calls, excludes_use, is_this, may_be_called}
 use Rattle.rhai_grammar.specs.Modules.{may_use}
-use Rattle.rhai_grammar.specs.Settings.{is_in_function, strict_names}
-use Rattle.rhai_grammar.specs.Trees.{name_tree}
+use Rattle.rhai_grammar.specs.Settings.{Settings, is_in_function, strict_names}
+use Rattle.rhai_grammar.specs.Libraries.{Library}
+use Rattle.rhai_grammar.specs.Trees.{name_tree, variable_of}
+use Rattle.rhai_input.specs.Slots.{SlotValue}
+use Rattle.rhai_trees.proofs.LinkedLemmas.{given_where, this_value, variable_value}
+use Rattle.rhai_trees.specs.Linked.{is_linked}
 use Rattle.rhai_grammar.specs.declared.role.Beginning.TheVariants as begin
 use Rattle.rhai_grammar.specs.Uses.{Use, noted}
 use Rattle.rhai_reading.specs.Reading.{Ret, Fail, Know, Note, Primary, name_at, word_at, Peek, NextKey, match_token, key_on, room_at}
 use Rattle.rhai_reading.specs.Running as R
 use Rattle.rhai_reading.specs.Running.{Caller, Progress, asked, exec, guarded, looking, result_of, taking, with_captured}
 use Rattle.rhai_reading.proofs.Steps.{step_next_key}
-use Rattle.rhai_base.specs.Words.{name_result, word_result}
+use Rattle.rhai_base.specs.Words.{name_result, no_this, word_result}
 use Rattle.rhai_grammar.specs.declared.due.DueToken.TheVariants as due
 use Rattle.rhai_grammar.specs.Literals.{KeyPlace, FieldsEnd, AKey, NoKey, has_key}
 use Rattle.rhai_grammar.specs.Verdicts.{next_key}
@@ -76,6 +80,19 @@ refused_name call true captures u x e f s is =
 refused_name call false captures u x e f s is =
     let h : answer false x e ≡ Err f = is in
     let same : e ≡ f = cc in ap (λ r. R.Refused r s) same
+
+-- a name and a word are no chains
+pub name_value : (known : Known) (slots : List SlotValue) (l : Library) (strict excluded : Bool) (name : Text) (at : Position) (z : Node) → name_result known slots l strict excluded name at ≡ Ok z → is_linked z ≡ false
+name_value known slots l strict excluded name at z is =
+    ap is_linked (sym (given_where _ (name_tree slots excluded name at) z (refusal (VariableUndefined name) at) is)) ∙ variable_value _ at
+
+pub word_value : (c : Settings) (word : Text) (called : Bool) (at : Position) (z : Node) → word_result c word called at ≡ Ok z → is_linked z ≡ false
+word_value c word called at z is = by_choice (may_be_called word && called) (is_this word) (is_in_function c) is
+  where
+    by_choice : (a b d : Bool) → (if a then Ok (variable_of None word at) else if b then (if d then Ok (this at) else Err (no_this word at)) else Err (refusal (Reserved word) at)) ≡ Ok z → is_linked z ≡ false
+    by_choice true b d h = ap is_linked (sym (given_where true (variable_of None word at) z (refusal (Reserved word) at) h)) ∙ variable_value _ at
+    by_choice false true d h = ap is_linked (sym (given_where d (this at) z (no_this word at) h)) ∙ this_value at
+    by_choice false false d h = absurd cc
 
 -- what follows the look after a name
 pub named : (c : Context) (w : Live) {name : Text} {at : Position} {excluded : Bool} {s s1 s2 t : Progress}

@@ -1,10 +1,15 @@
 //! What the readers of literals ask for by leaves, as the reading program gives it: the next key, and the text after a
 //! block.
 
-ghost use Rattle.std.specs.Prelude.{◌≡◌, ◌+◌, ◌≤◌, OnOk, option_map};
-ghost use Rattle.rhai_ast.specs.View.{property_views, view, written};
+ghost use Rattle.std.specs.Prelude.{◌≡◌, ◌+◌, ◌≤◌, IfErr, OnOk, option_map};
+ghost use Rattle.rhai_ast.specs.View.{property_views, written};
+ghost use Rattle.rhai_grammar.specs.Answers.{Answers};
+ghost use Rattle.rhai_grammar.specs.Causes.{MemoryIsNowhere};
 ghost use Rattle.rhai_grammar.specs.Cursors.{left};
 ghost use Rattle.rhai_base.specs.Frames.{FrameValue};
+ghost use Rattle.rhai_base.specs.Settings.{settings_of};
+ghost use Rattle.rhai_base.specs.Words.{word_result};
+ghost use Rattle.rhai_trees.specs.Chains.{chain_view};
 ghost use Rattle.rhai_reading.specs.Reading.{NextKey, TextAfter};
 ghost use Rattle.std.specs.Rc.{rc_str_bytes};
 ghost use Rattle.rhai_lower.specs.Lexemes.{Lexeme};
@@ -19,7 +24,7 @@ ghost use Rattle.rhai_language.specs.Rooms.{Steady};
 
 use crate::keys;
 use rhai_ast::{Expr, Ident};
-use rhai_base::words::name_node;
+use rhai_base::words::{name_node, word_node};
 use rhai_base::{Frame, ParseSettingFlags, ParseSettings};
 use rhai_grammar::{DueToken, ParseResult};
 use rhai_language::{Language, Shared};
@@ -27,6 +32,7 @@ use rhai_leaves::due::match_token;
 use rhai_leaves::items::room_for_value;
 use rhai_leaves::strings::{TextPart, end_interpolation};
 use rhai_lower::Position;
+use rhai_trees::Chain;
 use std::alloc::Global;
 use std::rc::RcStr;
 
@@ -72,6 +78,7 @@ pub(crate) fn next_key(
 ///
 /// Under strict variables a variable that is not known is `VariableUndefined`; if memory runs out, the error is
 /// `OutOfMemory`.
+#[tactic(auto, using(crate::proofs::AnswerLemmas::name_value))]
 pub(crate) fn used_name(
     alloc: Global,
     shared: &mut Shared<'_>,
@@ -80,11 +87,11 @@ pub(crate) fn used_name(
     name: RcStr,
     excluded: bool,
     pos: Position,
-) -> ParseResult<Expr>
+) -> ParseResult<Chain>
     ensures goes_on { GoesOn shared.old shared.new }
     ensures steady { Steady shared.old shared.new }
     ensures gives { (language : LanguageValue) (call : Caller) (token : Lexeme) → excluded ≡ excludes_use token
-        → Gives view (exec call (name_at (context_of language frame.now settings) (live_of frame.now)
+        → Gives chain_view (exec call (name_at (context_of language frame.now settings) (live_of frame.now)
         (rc_str_bytes name) pos token (state_of shared.old).library) (state_of shared.old)) result
         (state_of shared.new) }
 {
@@ -93,7 +100,24 @@ pub(crate) fn used_name(
     let used = name.clone()?;
     let node = name_node(alloc, frame, shared.library, settings, name, excluded, pos)?;
     shared.note(captures, &used, pos)?;
-    Ok(node)
+    Ok(Chain::from_value(alloc, node))
+}
+
+/// What a reserved word or symbol is: the name of a call, or `this` in a function.
+///
+/// `this` elsewhere is `ImproperSymbol`, anything else is `Reserved`; if memory runs out, the error is `OutOfMemory`.
+pub(crate) fn used_word(
+    alloc: Global,
+    settings: ParseSettings,
+    word: RcStr,
+    called: bool,
+    pos: Position,
+) -> ParseResult<Chain>
+    ensures answers { Answers chain_view (word_result (settings_of settings) (rc_str_bytes word) called pos) result }
+    ensures nowhere { IfErr result MemoryIsNowhere }
+{
+    let node = word_node(alloc, settings, word, called, pos)?;
+    Ok(Chain::from_value(alloc, node))
 }
 
 /// The `}` of a block in an interpolated string, and the text after it; both are taken.

@@ -1,7 +1,8 @@
 //! The reader of closures.
 
 ghost use Rattle.std.specs.Prelude.{◌+◌};
-ghost use Rattle.rhai_ast.specs.View.{statement_view, view};
+ghost use Rattle.rhai_ast.specs.View.{statement_view};
+ghost use Rattle.rhai_trees.specs.Chains.{chain_view};
 ghost use Rattle.rhai_base.specs.Uses.{uses_of};
 ghost use Rattle.rhai_reading.specs.Reading.{closure_end};
 ghost use Rattle.rhai_reading.specs.Running.{Caller, Gives, exec};
@@ -12,7 +13,7 @@ ghost use Rattle.rhai_primaries.specs.Closures.{UsesAll, closure, closure_body, 
 ghost use Rattle.rhai_language.specs.Rooms.{Ends, Stays, Steady, function_room};
 
 use crate::reader::PrimaryReader;
-use rhai_ast::{Expr, Stmt, StmtBlock};
+use rhai_ast::{Stmt, StmtBlock};
 use rhai_base::closures::{closure_function, closure_value};
 use rhai_base::{Frame, LangOptions, ParseSettingFlags, ParseSettings, make_anonymous_fn};
 use rhai_grammar::role::Bars;
@@ -21,6 +22,7 @@ use rhai_language::parameters::{declare_parameters, next_parameters};
 use rhai_language::{LentReaders, Shared, nested};
 use rhai_leaves::tokens::ends_here;
 use rhai_lower::Position;
+use rhai_trees::Chain;
 use std::alloc::Global;
 use std::rc::RcStr;
 
@@ -33,12 +35,12 @@ impl<R: LentReaders> PrimaryReader<'_, R> {
         frame: &Frame<'_>,
         settings: ParseSettings,
         bars: Bars,
-    ) -> ParseResult<Expr>
+    ) -> ParseResult<Chain>
         requires lent { Covers (R.lent self.now.readers) (closure self.now.language.now frame.now settings bars)
             shared.old }
         ensures goes_on { GoesOn shared.old shared.new }
         ensures stays { Stays self.now.language.now frame.now settings 0 shared.old shared.new }
-        ensures reads { Reads (closure self.now.language.now frame.now settings bars) view shared.old result
+        ensures reads { Reads (closure self.now.language.now frame.now settings bars) chain_view shared.old result
             shared.new }
     {
         let alloc = self.language.alloc();
@@ -137,10 +139,10 @@ fn end_closure(
     names: Vec<RcStr>,
     body: Stmt,
     captured: Vec<(RcStr, Position)>,
-) -> ParseResult<Expr>
+) -> ParseResult<Chain>
     ensures goes_on { GoesOn shared.old shared.new }
     ensures ends { Ends shared.old shared.new }
-    ensures gives { (language : LanguageValue) (call : Caller) → Gives view (exec call (closure_end
+    ensures gives { (language : LanguageValue) (call : Caller) → Gives chain_view (exec call (closure_end
         (context_of language frame.now settings) (live_of frame.now) settings.pos (names_of names)
         (statement_view body) (uses_of captured.items) (state_of shared.old).library) (state_of shared.old)) result
         (state_of shared.new) }
@@ -156,5 +158,5 @@ fn end_closure(
     }
     let value = closure_value(alloc, frame, name, key.params, &captured, settings.pos)?;
     shared.library.add(key, function)?;
-    Ok(value)
+    Ok(Chain::from_value(alloc, value))
 }

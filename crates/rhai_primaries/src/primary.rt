@@ -1,15 +1,14 @@
 //! What an operand begins with: a value, a name, a group, an array, an object map, a string, a construct, or a closure.
 
-ghost use Rattle.rhai_ast.specs.View.{view};
 ghost use Rattle.rhai_language.specs.Readers.{Covers, GoesOn, Reads, primary};
 ghost use Rattle.rhai_language.specs.Rooms.{Stays};
+ghost use Rattle.rhai_trees.specs.Chains.{chain_view};
 
-use crate::asks::used_name;
+use crate::asks::{used_name, used_word};
 use crate::reader::PrimaryReader;
 use rhai_ast::Expr;
 use rhai_base::literals::value_of;
 use rhai_base::places::{may_be_closure, may_be_value};
-use rhai_base::words::word_node;
 use rhai_base::{Frame, ParseSettings};
 use rhai_grammar::{Beginning, DueToken, ParseResult};
 use rhai_language::{LentReaders, Shared, nested};
@@ -18,109 +17,97 @@ use rhai_leaves::due::match_token;
 use rhai_leaves::refusals::no_operand;
 use rhai_leaves::tokens::{excludes_use, is_called, what_begins};
 use rhai_statement_trees::make_statement_value;
+use rhai_trees::Chain;
 
 impl<R: LentReaders> PrimaryReader<'_, R> {
-    /// Reads an operand without its sign, and without what calls it.
+    /// Reads an operand without its sign, and without what calls it: a chain where it is a group.
     #[tactic(auto, using(crate::proofs::Readers::parse_primary))]
     pub fn parse_primary(
         &self,
         shared: &mut Shared<'_>,
         frame: &Frame<'_>,
         settings: ParseSettings,
-    ) -> ParseResult<Expr>
+    ) -> ParseResult<Chain>
         requires lent { Covers (R.lent self.now.readers) (primary self.now.language.now frame.now settings)
             shared.old }
         ensures goes_on { GoesOn shared.old shared.new }
         ensures stays { Stays self.now.language.now frame.now settings 1 shared.old shared.new }
-        ensures reads { Reads (primary self.now.language.now frame.now settings) view shared.old result shared.new }
+        ensures reads { Reads (primary self.now.language.now frame.now settings) chain_view shared.old result
+            shared.new }
     {
+        let alloc = self.language.alloc();
         let (token, pos) = peek(shared.input)?;
         let pos = *pos;
         match what_begins(token) {
             Beginning::Value => {
                 let value = value_of(token, pos)?;
                 skip(shared.input);
-                Ok(value)
+                Ok(Chain::from_value(alloc, value))
             }
             Beginning::Name => {
-                let name = token.text(self.language.alloc())?;
+                let name = token.text(alloc)?;
                 skip(shared.input);
                 let excluded = excludes_use(shared.input)?;
-                used_name(
-                    self.language.alloc(),
-                    shared,
-                    frame,
-                    settings,
-                    name,
-                    excluded,
-                    pos,
-                )
+                used_name(alloc, shared, frame, settings, name, excluded, pos)
             }
             Beginning::Word => {
-                let word = token.text(self.language.alloc())?;
+                let word = token.text(alloc)?;
                 skip(shared.input);
                 let called = is_called(shared.input)?;
-                word_node(self.language.alloc(), settings, word, called, pos)
+                used_word(alloc, settings, word, called, pos)
             }
             Beginning::Group => {
                 skip(shared.input);
                 let deeper = settings.at(pos).level_up()?;
                 let inside = self
                     .readers
-                    .parse_expr(self.language, shared, frame, deeper)?;
+                    .parse_chain(self.language, shared, frame, deeper)?;
                 let note = "to close the parentheses";
-                match_token(
-                    self.language.alloc(),
-                    shared.input,
-                    DueToken::RightParen,
-                    note,
-                )?;
+                match_token(alloc, shared.input, DueToken::RightParen, note)?;
                 Ok(inside)
             }
             Beginning::Array => {
                 skip(shared.input);
                 let deeper = settings.at(pos).level_up()?;
                 let items = self.parse_array_literal(shared, frame, deeper)?;
-                Ok(Expr::Array(items, pos))
+                Ok(Chain::from_value(alloc, Expr::Array(items, pos)))
             }
             Beginning::Map => {
                 skip(shared.input);
                 let deeper = settings.at(pos).level_up()?;
                 let properties = self.parse_map_literal(shared, frame, deeper)?;
-                Ok(Expr::Map(properties, pos))
+                Ok(Chain::from_value(alloc, Expr::Map(properties, pos)))
             }
             Beginning::Interpolated => {
-                let first = token.text(self.language.alloc())?;
+                let first = token.text(alloc)?;
                 skip(shared.input);
                 let deeper = settings.at(pos).level_up()?;
                 let segments = self.parse_interpolated_string(shared, frame, deeper, first)?;
-                Ok(Expr::InterpolatedString(segments, pos))
+                let value = Expr::InterpolatedString(segments, pos);
+                Ok(Chain::from_value(alloc, value))
             }
             Beginning::Construct(kind) => {
                 if !may_be_value(settings, self.language.allow_looping(), kind) {
-                    return Err(no_operand(self.language.alloc(), token, pos));
+                    return Err(no_operand(alloc, token, pos));
                 }
                 skip(shared.input);
                 let deeper = settings.at(pos).level_up()?.level_up()?;
                 let statement = self
                     .readers
                     .parse_construct(self.language, shared, frame, deeper, kind)?;
-                Ok(make_statement_value(self.language.alloc(), statement)?)
+                let value = make_statement_value(alloc, statement)?;
+                Ok(Chain::from_value(alloc, value))
             }
             Beginning::Closure(bars) => {
                 if !may_be_closure(settings, frame.filter(), bars) {
-                    return Err(no_operand(self.language.alloc(), token, pos));
+                    return Err(no_operand(alloc, token, pos));
                 }
                 skip(shared.input);
                 let here = settings.at(pos);
                 nested!(shared, self.parse_closure(shared, frame, here, bars))
             }
-            Beginning::Range => Ok(Expr::IntegerConstant(0, pos)),
-            Beginning::Sign | Beginning::Nothing => Err(no_operand(
-                self.language.alloc(),
-                token,
-                pos,
-            )),
+            Beginning::Range => Ok(Chain::from_value(alloc, Expr::IntegerConstant(0, pos))),
+            Beginning::Sign | Beginning::Nothing => Err(no_operand(alloc, token, pos)),
         }
     }
 }

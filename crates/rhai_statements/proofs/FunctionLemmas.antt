@@ -1,9 +1,5 @@
 -- Functions: what the reading program does where a leaf has decided.
-use Rattle.std.proofs.Common.{◌≡◌, ◌∙◌, ◌+◌, ℕ, Bool, true, false, List, [], ◌∷◌, ◌++◌, Result, ap, arith, if◌then◌else◌, map, refl, sym}
-use Rattle.std.proofs.lemmas.List.{map_push}
-use Rattle.std.specs.Rc.{rc_str_bytes}
-use Rattle.std.specs.declared.alloc.Global.{Global}
-use Rattle.std.specs.declared.rc.RcStr.{RcStr}
+use Rattle.std.proofs.Common.{◌≡◌, ◌∙◌, ◌+◌, ℕ, Bool, true, false, ◌++◌, Result, ap, arith, if◌then◌else◌, refl, sym}
 use Rattle.rhai_lower.specs.Texts.{Text}
 use Rattle.rhai_lower.specs.Lexemes.{Lexeme}
 use Rattle.rhai_lower.specs.declared.position.Position.{Position}

@@ -29,7 +29,7 @@ fn module_refused(rt: HostRuntime) {
     let _ = module(&rt, rt.alloc());
 }
 
-// Its tree has what `make_unary`, `make_binary` and `make_chain` make, and `test_links` lets its chains pass.
+// Its tree has what signs, operators and links make, and `test_links` lets its chains pass.
 fn tree(rt: &impl Abort, alloc: Global) -> Result<(), AllocError> {
     let line = "! f ( [ 1 , a ] , #{ b : 2 } ) . c [ 0 ] && d . g ()";
     let mut entries = Vec::new(alloc);

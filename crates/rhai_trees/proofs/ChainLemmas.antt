@@ -1,37 +1,94 @@
 -- Links, as the code handles them step by step.
-use Rattle.std.proofs.Common.{◌≡◌, ◌<◌, Bool, true, false, List, [], ◌∷◌, ◌++◌, Option, Some, None, length, append_assoc, refl, ap, ◌∙◌, sym, arith}
+use Rattle.std.proofs.Common.{◌≡◌, ◌<◌, Bool, true, false, List, [], ◌∷◌, ◌++◌, Option, Some, None, length, append_assoc, append-nil, refl, ap, ◌∙◌, sym, arith}
 use Rattle.std.specs.Option.{option_or}
-use Rattle.rhai_lower.specs.Nodes.{Node}
-use Rattle.rhai_ast.specs.View.{views}
+use Rattle.rhai_lower.specs.Nodes as node
+use Rattle.rhai_lower.specs.Nodes.{Node, position_of}
+use Rattle.rhai_lower.specs.declared.position.Position.{Position}
+use Rattle.rhai_ast.specs.View.{view, views}
 use Rattle.rhai_ast.specs.declared.ast.Expr.{Expr}
 use Rattle.rhai_grammar.specs.Causes.{Refusal}
+use Rattle.rhai_grammar.proofs.ChainLemmas.{chain_of-nest}
 use Rattle.rhai_grammar.specs.Chains as chain
-use Rattle.rhai_grammar.specs.Chains.{chain_of, chained, last_fault, link_fault, link_node, nest}
-use Rattle.rhai_trees.specs.Chains.{are_none, indexed_by, link_view, link_views, nest_until, open_links, with_next}
-use Rattle.rhai_trees.specs.declared.chain.Link.{Link}
-use Rattle.rhai_trees.specs.declared.chain.OpenLink.{OpenLink}
+use Rattle.rhai_grammar.specs.Chains.{chain_of, chained, index_refusal, is_last, last_fault, link_fault, link_node, nest}
+use Rattle.rhai_trees.specs.Chains.{are_none, indexed_by, link_kind_view, link_view, link_views, nest_until, nested_view, with_next}
+use Rattle.rhai_trees.specs.Linked.{is_linked}
+use Rattle.rhai_trees.specs.declared.chain.NestedLink.{NestedLink}
+use Rattle.rhai_trees.specs.declared.link.Link.{Link}
+use Rattle.rhai_trees.specs.declared.link.LinkKind.{LinkKind}
+use Rattle.rhai_trees.specs.declared.link.LinkKind.TheVariants as link_kind
 
 pub views_append : (a b : List Link) → link_views (a ++ b) ≡ link_views a ++ link_views b
 views_append [] b = refl
 views_append (l ∷ a) b = ap (λ rest. link_view l ∷ rest) (views_append a b)
 
--- ---- making a chain
+-- ---- which trees are chains
 
-pub chained_none : (x : Node) (ls : List Link) → length ls ≡ 0 → chained x (link_views ls) ≡ x
-chained_none x [] e = refl
-chained_none x (l ∷ ls) e = absurd (omega arith)
+alone : (x : Node) → is_linked x ≡ false → chain_of x ≡ record { root = x; links = [] }
+unfolding is_linked
+alone (node.dot l r m p) value = absurd cc
+alone (node.index l r m p) value = absurd cc
+alone _ value = refl
 
-pub chained_some : (x : Node) (ls : List Link) → 0 < length ls → chained x (link_views ls) ≡ nest (chain_of x).root ((chain_of x).links ++ link_views ls)
-chained_some x [] few = absurd (omega arith)
-chained_some x (l ∷ ls) few = refl
+-- ---- chains of the code
 
--- ---- taking a tree apart
+-- The tree of links is that of a chain, and its position is that of the first link.
+linked_by : (k : chain.LinkKind) (m : Bool) (p : Position) (i x y : Node) (last : Bool) → (is_linked (link_node (record { kind = k; negated = m; at = p; item = i }) last x y) ≡ true) × (position_of (link_node (record { kind = k; negated = m; at = p; item = i }) last x y) ≡ p)
+unfolding is_linked
+linked_by chain.Bracket m p i x y last = (refl, refl)
+linked_by chain.Dotted m p i x y last = (refl, refl)
 
-pub link_taken : (ls : List Link) (l : Link) (o : OpenLink) (rest : List chain.Link) → open_links o ≡ link_view l ∷ rest → link_views (ls ++ l ∷ []) ++ rest ≡ link_views ls ++ open_links o
-link_taken ls l o rest e =
-    ap (λ front. front ++ rest) (views_append ls (l ∷ []))
-    ∙ append_assoc (link_views ls) (link_view l ∷ []) rest
-    ∙ ap (λ back. link_views ls ++ back) (sym e)
+nested_linked : (x : Node) (l : chain.Link) (ls : List chain.Link) → (is_linked (nest x (l ∷ ls)) ≡ true) × (position_of (nest x (l ∷ ls)) ≡ l.at)
+nested_linked x l ls = linked_by l.kind l.negated l.at l.item x (nest l.item ls) (is_last ls)
+
+-- A member is no chain, so any link may be the last.
+may_end : (k : LinkKind) (l : Link) → l.kind ≡ k → link_kind_view k ≡ chain.Dotted → (chain_of (view l.item)).links ≡ []
+may_end link_kind.Index l is dotted = absurd cc
+may_end link_kind.Dot l is dotted = ap (λ (c : chain.Chain). c.links) (alone (view l.item) (l.member is))
+
+last_of : (l : Link) (ls : List Link) → (front : List Link) × (end : Link) × (l ∷ ls ≡ front ++ end ∷ [])
+last_of l [] = ([], l, refl)
+last_of l (m ∷ ls) = let r = last_of m ls in (l ∷ r.0, r.1, ap (λ rest. l ∷ rest) r.2)
+
+-- A tree that links make is the chain of these links.
+flat : (x : Node) (ls : List Link) → (length ls ≡ 0 → is_linked x ≡ false) → chain_of (nest x (link_views ls)) ≡ record { root = x; links = link_views ls }
+flat x [] value = alone x (value refl)
+flat x (l ∷ ls) value =
+    let r = last_of l ls in
+    let views = ap link_views r.2 ∙ views_append r.0 (r.1 ∷ []) in
+    ap (λ v. chain_of (nest x v)) views
+    ∙ chain_of-nest x (link_views r.0) (link_view r.1) (may_end r.1.kind r.1 refl)
+    ∙ ap (λ v. record { root = x; links = v }) (sym views)
+
+pub joined : (x : Node) (ls ms : List Link) → (length ls ≡ 0 → is_linked x ≡ false) → nest x (link_views (ls ++ ms)) ≡ chained (nest x (link_views ls)) (link_views ms)
+joined x ls [] value = ap (λ all. nest x (link_views all)) (append-nil ls)
+joined x ls (m ∷ ms) value =
+    ap (nest x) (views_append ls (m ∷ ms))
+    ∙ sym (ap (λ (c : chain.Chain). nest c.root (c.links ++ link_views (m ∷ ms))) (flat x ls value))
+
+pub no_links : (x : Node) (ls : List Link) → length ls ≡ 0 → nest x (link_views ls) ≡ x
+no_links x [] none = refl
+no_links x (l ∷ ls) none = absurd (omega arith)
+
+pub some_links : (x : Node) (ls : List Link) → 0 < length ls → is_linked (nest x (link_views ls)) ≡ true
+some_links x [] some = absurd (omega arith)
+some_links x (l ∷ ls) some = (nested_linked x (link_view l) (link_views ls)).0
+
+pub first_position : (x : Node) (l : Link) (ls rest : List Link) → ls ≡ l ∷ rest → position_of (nest x (link_views ls)) ≡ l.pos
+first_position x l ls rest is = rw is ((nested_linked x (link_view l) (link_views rest)).1)
+
+pub ruleset views_of_chains = (no_links, some_links)
+
+pub ruleset positions = (no_links, first_position)
+
+pub ruleset joins = (joined)
+
+-- ---- what takes an index
+
+pub linked_unknown : (x key : Node) → is_linked x ≡ true → index_refusal (Some x) key ≡ None
+unfolding is_linked
+linked_unknown (node.dot l r m p) key is = refl
+linked_unknown (node.index l r m p) key is = refl
+linked_unknown _ key is = absurd cc
 
 -- ---- nesting
 
@@ -45,12 +102,15 @@ nest_pair last x [] l m = refl
 nest_pair last x (k ∷ []) l m = ap (link_node k false x) (nest_pair last k.item [] l m)
 nest_pair last x (k ∷ j ∷ ls) l m = ap (link_node k false x) (nest_pair last k.item (j ∷ ls) l m)
 
-pub nest_step : (x : Node) (all ls : List Link) (l m k : Link) (last : Bool) → all ≡ ls ++ l ∷ [] → link_view k ≡ with_next (link_view l) (link_view m) last → nest_until false x (link_views (ls ++ k ∷ [])) ≡ nest_until last x (link_views (all ++ m ∷ []))
+pub nest_step : (x : Node) (all ls : List Link) (l : Link) (m k : NestedLink) (last : Bool) → all ≡ ls ++ l ∷ [] → nested_view k ≡ with_next (link_view l) (nested_view m) last → nest_until false x (link_views ls ++ nested_view k ∷ []) ≡ nest_until last x (link_views all ++ nested_view m ∷ [])
 nest_step x all ls l m k last e j =
-    ap (nest_until false x) (views_append ls (k ∷ []) ∙ ap (λ v. link_views ls ++ v ∷ []) j)
-    ∙ nest_pair last x (link_views ls) (link_view l) (link_view m)
-    ∙ ap (nest_until last x) (sym (views_append ls (l ∷ m ∷ [])))
-    ∙ ap (λ all. nest_until last x (link_views all)) (sym (append_assoc ls (l ∷ []) (m ∷ [])) ∙ ap (λ all. all ++ m ∷ []) (sym e))
+    ap (λ v. nest_until false x (link_views ls ++ v ∷ [])) j
+    ∙ nest_pair last x (link_views ls) (link_view l) (nested_view m)
+    ∙ ap (λ v. nest_until last x v) (sym (append_assoc (link_views ls) (link_view l ∷ []) (nested_view m ∷ [])))
+    ∙ ap (λ front. nest_until last x (front ++ nested_view m ∷ [])) (sym (views_append ls (l ∷ [])))
+    ∙ ap (λ all. nest_until last x (link_views all ++ nested_view m ∷ [])) (sym e)
+
+pub ruleset nests = (nest_all, nest_step, views_append)
 
 -- ---- refusals
 
@@ -75,8 +135,6 @@ last_fault_push (k ∷ ls) l =
     or_or : (a b c : Option Refusal) → option_or (option_or a b) c ≡ option_or a (option_or b c)
     or_or None b c = refl
     or_or (Some r) b c = refl
-
-pub ruleset joins = (chained_none, chained_some, views_append)
 
 -- ---- one more link
 

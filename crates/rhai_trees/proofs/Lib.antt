@@ -1,3 +1,4 @@
 pub mod SignLemmas
 pub mod OperatorLemmas
 pub mod ChainLemmas
+pub mod LinkedLemmas

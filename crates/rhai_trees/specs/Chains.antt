@@ -1,6 +1,5 @@
--- What the links of the code represent, and what is left of a chain while it is taken apart.
+-- What the links and chains of the code represent, and what is left of a chain while its tree is made.
 use Rattle.std.specs.Prelude.{◌≡◌, Bool, true, false, ◌&&◌, ◌||◌, [], ◌∷◌, List, Option, None, Some}
-use Rattle.std.specs.Prelude.{if◌then◌else◌}
 use Rattle.std.specs.Prelude.{codes, map, refl}
 use Rattle.rhai_lower.specs.Texts.{same_text}
 use Rattle.rhai_lower.specs.Positions.{place}
@@ -9,10 +8,11 @@ use Rattle.rhai_ast.specs.View.{view}
 use Rattle.rhai_lower.specs.declared.position.Position.{Position}
 use Rattle.rhai_grammar.specs.Causes.{Refusal}
 use Rattle.rhai_grammar.specs.Chains as chain
-use Rattle.rhai_trees.specs.declared.chain.Link.{Link}
-use Rattle.rhai_trees.specs.declared.chain.LinkKind.{LinkKind}
-use Rattle.rhai_trees.specs.declared.chain.LinkKind.TheVariants as link_kind
-use Rattle.rhai_trees.specs.declared.chain.OpenLink.{OpenLink}
+use Rattle.rhai_trees.specs.declared.chain.NestedLink.{NestedLink}
+use Rattle.rhai_trees.specs.declared.link.Chain.{Chain}
+use Rattle.rhai_trees.specs.declared.link.Link.{Link}
+use Rattle.rhai_trees.specs.declared.link.LinkKind.{LinkKind}
+use Rattle.rhai_trees.specs.declared.link.LinkKind.TheVariants as link_kind
 
 abbrev pub link_kind_view : LinkKind → chain.LinkKind
 link_kind_view link_kind.Index = chain.Bracket
@@ -25,24 +25,13 @@ link_view l = record { kind = link_kind_view l.kind; negated = l.negated; at = l
 abbrev pub link_views : List Link → List chain.Link
 link_views ls = map link_view ls
 
-abbrev alone : Node → chain.Chain
-alone x = record { root = x; links = [] }
+-- the tree of a chain as it is read
+abbrev pub chain_view : Chain → Node
+chain_view c = chain.nest (view c.root) (link_views c.links.items)
 
--- the chain after a bracket or dot, depending on whether that bracket ends its chain
-abbrev pub chain_after : (ends : Bool) → Node → chain.Chain
-chain_after ends x = if ends then alone x else chain.chain_of x
-
-abbrev followed : chain.Link → chain.Chain → List chain.Link
-followed l rest = record { kind = l.kind; negated = l.negated; at = l.at; item = rest.root } ∷ rest.links
-
--- an open link and the links after it
-abbrev pub open_links : OpenLink → List chain.Link
-open_links o = followed (link_view o.link) (chain_after o.ends (view o.link.item))
-
--- the links from an optional one on
-abbrev pub links_left : Option OpenLink → List chain.Link
-links_left None = []
-links_left (Some o) = open_links o
+-- a link with all later ones in its item, as if that were all its own
+abbrev pub nested_view : NestedLink → chain.Link
+nested_view l = record { kind = link_kind_view l.kind; negated = l.negated; at = l.pos; item = view l.item }
 
 -- a link with the next one in its item
 abbrev pub with_next : chain.Link → chain.Link → (last : Bool) → chain.Link
@@ -77,7 +66,6 @@ method_fault c args p =
 abbrev example_dot : chain.Link
 example_dot = record { kind = chain.Dotted; negated = false; at = place 1 2; item = property (codes "b") (place 1 3) }
 
-example : (nest_until true (property (codes "a") (place 1 1)) (example_dot ∷ [])
-    ≡ chain.nest (property (codes "a") (place 1 1)) (example_dot ∷ [])) × (chain_after true example_dot.item
-    ≡ alone example_dot.item)
-example = (refl, refl)
+example : nest_until true (property (codes "a") (place 1 1)) (example_dot ∷ [])
+    ≡ chain.nest (property (codes "a") (place 1 1)) (example_dot ∷ [])
+example = refl

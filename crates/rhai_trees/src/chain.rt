@@ -1,161 +1,169 @@
 //! Chains: an operand followed by brackets and dots.
 
-ghost use Rattle.std.specs.Prelude.{◌≡◌, ◌∷◌, None, Some, false, IfErr, IfOk, IsOk, OnOk, option_map};
+ghost use Rattle.std.specs.Prelude.{◌≡◌, None, Some, true, false, IfErr, IfNone, IfOk, IfSome, IsOk, OnOk};
+ghost use Rattle.std.specs.Prelude.{option_map};
+ghost use Rattle.rhai_lower.specs.Nodes.{position_of};
 ghost use Rattle.rhai_ast.specs.View.{called, view, views};
 ghost use Rattle.rhai_ast.specs.declared.ast.FnCallExpr.{out-FnCallExpr};
 ghost use Rattle.rhai_grammar.specs.Causes.{MemoryIsNowhere, is_for_memory, refusal_of};
-ghost use Rattle.rhai_grammar.specs.Chains.{chain_of, chained, index_refusal, last_fault, link_fault, link_node, nest};
-ghost use Rattle.rhai_trees.specs.Chains.{indexed_by, is_no_method, link_view, link_views, links_left, method_fault};
-ghost use Rattle.rhai_trees.specs.Chains.{open_links, with_next};
+ghost use Rattle.rhai_grammar.specs.Chains.{chained, index_refusal, last_fault, link_fault, link_node};
+ghost use Rattle.rhai_trees.specs.Chains.{chain_view, indexed_by, is_no_method, link_view, link_views, method_fault};
+ghost use Rattle.rhai_trees.specs.Chains.{nested_view, with_next};
+ghost use Rattle.rhai_trees.specs.Linked.{is_linked};
 
 use crate::kind::index_fault;
+use crate::link::{Chain, Link, LinkKind};
 use rhai_ast::{BinaryExpr, Expr, FnCallExpr};
 use rhai_grammar::{InputError, ParseError, ParseErrorType, ParseResult};
 use rhai_lower::{LinkFlags, Position};
 use std::alloc::{AllocError, Global};
 use std::rc::RcStr;
 
-/// The kind of a link.
-#[derive(Clone, Copy, PartialEq, Eq, Debug)]
-pub enum LinkKind {
-    /// `[..]` or `?[..]`
-    Index,
-    /// `.` or `?.`
-    Dot,
-}
-
-/// A link of a chain.
-#[derive(PartialEq, Debug, Drop)]
-pub struct Link {
+/// A link with all later ones in its item.
+#[derive(Drop)]
+pub(crate) struct NestedLink {
     pub kind: LinkKind,
     /// Whether it begins with a question mark.
     pub negated: bool,
     /// The position of its bracket or dot.
     pub pos: Position,
-    /// The index, or the member after the dot.
+    /// What comes after the bracket or dot.
     pub item: Expr,
 }
 
-/// A link of a tree that is taken apart; its item is all that comes after its bracket or dot.
-#[derive(Drop)]
-pub(crate) struct OpenLink {
-    pub link: Link,
-    /// Whether it is a bracket that ends its chain, so that the whole item is the index.
-    pub ends: bool,
-}
-
-/// The chain of an operand and the links after it (docs/GRAMMAR.md, "Chains"). Without links it is the operand itself.
-/// If the operand is a chain, as one in parentheses is, the links extend it: the tree is as if there were no
-/// parentheses. The tree nests to the right: each link has what is before it on its left, and its item with all later
-/// links on its right. Only a bracket that is the last link ends its chain.
-///
-/// `root` is the operand, `links` are the links in written order. Returns `AllocError` if memory runs out.
-#[tactic(auto, using(crate::proofs::ChainLemmas::joins))]
-pub fn make_chain(alloc: Global, root: Expr, mut links: Vec<Link>) -> Result<Expr, AllocError>
-    ensures { IfOk result (λ e. view e ≡ chained (view root) (link_views links.items)) }
-{
-    if links.is_empty() {
-        return Ok(root);
+impl Chain {
+    /// A chain without links, which stands for `root`. That is no chain itself. Does not allocate.
+    pub fn from_value(alloc: Global, root: Expr) -> Chain
+        requires value { is_linked (view root) ≡ false }
+        ensures { chain_view result ≡ view root }
+    {
+        let links = Vec::new(alloc);
+        Chain { root, links }
     }
-    let (first, mut all) = take_apart(alloc, root)?;
-    all.append(&mut links)?;
-    nest(alloc, first, all)
-}
 
-// The operand that a tree's chain begins with, and the chain's links.
-#[tactic(auto, using(crate::proofs::ChainLemmas::link_taken))]
-fn take_apart(alloc: Global, tree: Expr) -> Result<(Expr, Vec<Link>), AllocError>
-    ensures { IfOk result (λ c. (view c.0 ≡ (chain_of (view tree)).root)
-        × (link_views c.1.items ≡ (chain_of (view tree)).links)) }
-{
-    let mut links = Vec::new(alloc);
-    let (root, mut next) = split(tree);
-    while let Some(first) = next {
-        let (link, behind) = split_link(first);
-        links.push(link)?;
-        next = behind;
-    }
-    Ok((root, links))
-}
-
-// What is before the first link of a tree, and that link, if there is one.
-#[tactic(auto, using(rhai_ast::proofs::Views::view_dot, rhai_ast::proofs::Views::view_index))]
-fn split(tree: Expr) -> (Expr, Option<OpenLink>)
-    ensures root { view result.0 ≡ (chain_of (view tree)).root }
-    ensures links { links_left result.1 ≡ (chain_of (view tree)).links }
-{
-    match tree {
-        Expr::Dot(sides, flags, pos) => {
-            let (lhs, rhs) = Box::into_inner(sides).into_parts();
-            let link = open_link(LinkKind::Dot, flags.negated, false, pos, rhs);
-            (lhs, Some(link))
+    /// The operand that the chain stands for, if it has no links, and otherwise the chain. Does not allocate.
+    #[tactic(auto, using(crate::proofs::ChainLemmas::views_of_chains))]
+    pub fn into_value(self) -> Result<Expr, Chain>
+        ensures value { IfOk result (λ e. view e ≡ chain_view self) }
+        ensures alone { IfOk result (λ e. is_linked (view e) ≡ false) }
+        ensures chain { IfErr result (λ c. (chain_view c ≡ chain_view self)
+            × (is_linked (chain_view self) ≡ true)) }
+    {
+        if self.links.is_empty() {
+            Ok(self.root)
+        } else {
+            Err(self)
         }
-        Expr::Index(sides, flags, pos) => {
-            let (lhs, rhs) = Box::into_inner(sides).into_parts();
-            let ends = flags.terminating;
-            let link = open_link(LinkKind::Index, flags.negated, ends, pos, rhs);
-            (lhs, Some(link))
+    }
+
+    /// The operand that the chain stands for, if it has no links. Does not allocate.
+    #[tactic(auto, using(crate::proofs::ChainLemmas::views_of_chains))]
+    pub fn value(&self) -> Option<&Expr>
+        ensures value { IfSome result (λ e. view e.now ≡ chain_view self.now) }
+        ensures chain { IfNone result (is_linked (chain_view self.now) ≡ true) }
+    {
+        if self.links.is_empty() {
+            Some(&self.root)
+        } else {
+            None
         }
-        other => (other, None),
+    }
+
+    /// The position of the first bracket or dot, or without links that of the operand. Does not allocate.
+    #[tactic(auto, using(crate::proofs::ChainLemmas::positions))]
+    pub fn position(&self) -> Position
+        ensures { result ≡ position_of (chain_view self.now) }
+    {
+        match self.links.first() {
+            Some(link) => link.pos,
+            None => self.root.position(),
+        }
+    }
+
+    /// The chain with these links after its own (docs/GRAMMAR.md, "Chains"): the tree is as if there were no
+    /// parentheses around what was read before.
+    ///
+    /// `links` are in written order. Returns `AllocError` if memory runs out.
+    #[tactic(auto, using(crate::proofs::ChainLemmas::joins))]
+    pub fn join(self, mut links: Vec<Link>) -> Result<Chain, AllocError>
+        ensures { IfOk result (λ c. chain_view c ≡ chained (chain_view self) (link_views links.items)) }
+    {
+        let Chain {
+            root,
+            links: mut all,
+        } = self;
+        all.append(&mut links)?;
+        Ok(Chain { root, links: all })
+    }
+
+    /// The tree of the chain, which has ended. It nests to the right: each link has what is before it on its left, and
+    /// its item with all later links on its right. Only a bracket that is the last link ends its chain.
+    ///
+    /// Returns `AllocError` if memory runs out.
+    #[tactic(auto, using(crate::proofs::ChainLemmas::nests))]
+    pub fn nest(self, alloc: Global) -> Result<Expr, AllocError>
+        ensures { IfOk result (λ e. view e ≡ chain_view self) }
+    {
+        let Chain { root, mut links } = self;
+        let Some(end) = links.pop() else {
+            return Ok(root);
+        };
+        let mut next = ended(end);
+        let mut last = true;
+        while let Some(link) = links.pop() {
+            next = with_next(alloc, link, next, last)?;
+            last = false;
+        }
+        link_node(alloc, next, last, root)
     }
 }
 
-// A link whose item is all that comes after its bracket or dot; `ends` is whether it ends its chain.
-fn open_link(kind: LinkKind, negated: bool, ends: bool, pos: Position, item: Expr) -> OpenLink
-    ensures { result ≡ record {
-      link = record { kind = kind; negated = negated; pos = pos; item = item };
-      ends = ends;
-    } }
+// The last link of a chain.
+fn ended(link: Link) -> NestedLink
+    ensures { nested_view result ≡ link_view link }
 {
-    let link = Link {
+    let Link {
         kind,
         negated,
         pos,
         item,
-    };
-    OpenLink { link, ends }
-}
-
-// A link with its own item, and the next link, if there is one.
-fn split_link(first: OpenLink) -> (Link, Option<OpenLink>)
-    ensures { open_links first ≡ link_view result.0 ∷ links_left result.1 }
-{
-    let OpenLink { link, ends } = first;
-    if ends {
-        return (link, None);
+    } = link;
+    NestedLink {
+        kind,
+        negated,
+        pos,
+        item,
     }
-    let (item, next) = split(link.item);
-    (Link { item, ..link }, next)
-}
-
-// Nests links after an operand, to the right.
-#[tactic(auto, using(crate::proofs::ChainLemmas::nest_all, crate::proofs::ChainLemmas::nest_step))]
-fn nest(alloc: Global, root: Expr, mut links: Vec<Link>) -> Result<Expr, AllocError>
-    ensures { IfOk result (λ e. view e ≡ nest (view root) (link_views links.items)) }
-{
-    let Some(mut next) = links.pop() else {
-        return Ok(root);
-    };
-    let mut last = true;
-    while let Some(link) = links.pop() {
-        next = with_next(alloc, link, next, last)?;
-        last = false;
-    }
-    link_node(alloc, next, last, root)
 }
 
 // A link with the next one, and so with all later ones, in its item.
-fn with_next(alloc: Global, link: Link, next: Link, last: bool) -> Result<Link, AllocError>
-    ensures { IfOk result (λ l. link_view l ≡ with_next (link_view link) (link_view next) last) }
+fn with_next(
+    alloc: Global,
+    link: Link,
+    next: NestedLink,
+    last: bool,
+) -> Result<NestedLink, AllocError>
+    ensures { IfOk result (λ l. nested_view l ≡ with_next (link_view link) (nested_view next) last) }
 {
-    let item = link_node(alloc, next, last, link.item)?;
-    Ok(Link { item, ..link })
+    let Link {
+        kind,
+        negated,
+        pos,
+        item,
+    } = link;
+    let item = link_node(alloc, next, last, item)?;
+    Ok(NestedLink {
+        kind,
+        negated,
+        pos,
+        item,
+    })
 }
 
 // The node of a link, with what is before it on its left and its item on its right.
 #[tactic(auto, using(rhai_ast::proofs::Views::view_dot, rhai_ast::proofs::Views::view_index))]
-fn link_node(alloc: Global, link: Link, last: bool, before: Expr) -> Result<Expr, AllocError>
-    ensures { IfOk result (λ e. view e ≡ link_node (link_view link) last (view before) (view link.item)) }
+fn link_node(alloc: Global, link: NestedLink, last: bool, before: Expr) -> Result<Expr, AllocError>
+    ensures { IfOk result (λ e. view e ≡ link_node (nested_view link) last (view before) (view link.item)) }
 {
     let rhs = link.item;
     let sides = Box::new(alloc, BinaryExpr { lhs: before, rhs })?;
@@ -179,8 +187,8 @@ fn link_node(alloc: Global, link: Link, last: bool, before: Expr) -> Result<Expr
 
 /// The operand for which the index in a bracket is tested, if the bracket stands after the operand `root` and the links
 /// `before`: only where it stands directly after the operand. Does not allocate.
-pub fn indexed_operand<'a>(root: &'a Expr, before: &[Link]) -> Option<&'a Expr>
-    ensures { option_map (λ x. view x.now) result ≡ indexed_by (view root.now) (link_views before.now) }
+pub fn indexed_operand<'a>(root: &'a Chain, before: &[Link]) -> Option<&'a Chain>
+    ensures { option_map (λ x. chain_view x.now) result ≡ indexed_by (chain_view root.now) (link_views before.now) }
 {
     match before {
         [] => Some(root),
@@ -192,13 +200,19 @@ pub fn indexed_operand<'a>(root: &'a Expr, before: &[Link]) -> Option<&'a Expr>
 /// link, where no index is tested.
 ///
 /// The error is `MalformedIndexExpr` at the start of the index, or `OutOfMemory`.
-pub fn test_index(alloc: Global, indexed: Option<&Expr>, index: &Expr) -> ParseResult<()>
-    ensures passes { OnOk result (index_refusal (option_map (λ x. view x.now) indexed.entry) (view index.now) ≡ None) }
+#[tactic(auto, using(crate::proofs::ChainLemmas::linked_unknown))]
+pub fn test_index(alloc: Global, indexed: Option<&Chain>, index: &Expr) -> ParseResult<()>
+    ensures passes { OnOk result (index_refusal (option_map (λ x. chain_view x.now) indexed.entry) (view index.now)
+        ≡ None) }
     ensures refused { IfErr result (λ e. is_for_memory e ≡ false
-        → index_refusal (option_map (λ x. view x.now) indexed.entry) (view index.now) ≡ Some (refusal_of e)) }
+        → index_refusal (option_map (λ x. chain_view x.now) indexed.entry) (view index.now)
+        ≡ Some (refusal_of e)) }
     ensures nowhere { IfErr result MemoryIsNowhere }
 {
-    let Some(root) = indexed else {
+    let Some(operand) = indexed else {
+        return Ok(());
+    };
+    let Some(root) = operand.value() else {
         return Ok(());
     };
     let Some(fault) = index_fault(root, index) else {

@@ -6,13 +6,15 @@ mod call;
 pub mod chain;
 pub mod guard;
 pub mod kind;
+pub mod link;
 pub mod operator;
 pub mod sign;
 pub mod target;
 
-pub use chain::{Link, LinkKind, indexed_operand, make_chain, test_index, test_links};
+pub use chain::{indexed_operand, test_index, test_links};
 pub use guard::{test_guard, test_iterated};
 pub use kind::{index_fault, is_constant, not_boolean, not_iterable};
+pub use link::{Chain, Link, LinkKind};
 pub use operator::make_binary;
 pub use sign::make_unary;
 pub use target::{slot_of, test_target};

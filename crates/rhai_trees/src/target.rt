@@ -13,8 +13,8 @@ ghost use Rattle.rhai_grammar.specs.Targets.{chain_fault, invalid, is_equals, it
 ghost use Rattle.rhai_grammar.specs.Targets.{root_fault, slot_of, target_fault, value_fault, variable_fault};
 ghost use Rattle.rhai_trees.specs.Chains.{link_kind_view};
 
-use crate::chain::LinkKind;
 use crate::kind::is_constant;
+use crate::link::LinkKind;
 use rhai_ast::{Expr, VariableExpr};
 use rhai_grammar::{InputError, ParseError, ParseErrorType, ParseResult};
 use rhai_lower::{Position, Token};

@@ -8,8 +8,8 @@ use Rattle.rhai_parser.proofs.readers.+parser.Goals as goal
 falls : {need left bound measure : ℕ} → need ≡ left → left < bound → bound ≡ measure → need < measure
 falls is below same = omega (arith, is, below, same)
 
-pub parse_expr-parse_expr-requires : goal.parse_expr-parse_expr-requires
-parse_expr-parse_expr-requires t c =
+pub parse_chain-parse_chain-requires : goal.parse_chain-parse_chain-requires
+parse_chain-parse_chain-requires t c =
     let same = ap (need (expression c.args.language.now c.args.frame.now c.args.settings)) c.nested-enter.ensures.enters ∙ c.decreases in record {
       lent = λ m below. (
         λ language shared frame settings is. ((falls is below same, tt), λ result after told. told.1),

@@ -2,8 +2,8 @@ use Rattle.rhai_reading.specs.Running.{need}
 use Rattle.rhai_language.specs.Readers.{construct, expression, inside, primary, state_of, statement}
 use Rattle.rhai_parser.proofs.readers.+parser.Given as goal
 
-abbrev pub decreases-parse_expr : goal.decreases-parse_expr
-decreases-parse_expr l = need (expression l.language.now l.frame.now l.settings) (state_of l.shared.now)
+abbrev pub decreases-parse_chain : goal.decreases-parse_chain
+decreases-parse_chain l = need (expression l.language.now l.frame.now l.settings) (state_of l.shared.now)
 
 abbrev pub decreases-parse_primary : goal.decreases-parse_primary
 decreases-parse_primary l = need (primary l.language.now l.frame.now l.settings) (state_of l.shared.now)

@@ -2,6 +2,7 @@ use Rattle.std.proofs.Common.{◌≡◌, ◌∙◌, ◌+◌, ap, false, length, 
 use Rattle.std.specs.Rc.{rc_str_bytes}
 use Rattle.rhai_lower.specs.Nodes.{made_block}
 use Rattle.rhai_ast.specs.View.{statement_view, view}
+use Rattle.rhai_trees.specs.Chains.{chain_view}
 use Rattle.rhai_grammar.specs.Causes as cause
 use Rattle.rhai_grammar.specs.Causes.{refusal}
 use Rattle.rhai_grammar.specs.Closures.{all_names, closure_name, closure_node, ended_closure}
@@ -39,8 +40,8 @@ returns-clause-gives c = λ language call.
     let k = Know (closure_added at e x) in
     let uses : exec call (captured_on us context w k) s ≡ exec call k t =
     ap (λ xs. exec call (captured_on (uses_of xs) context w k) s) (sym c.deref.ensures.value) ∙ c.in_ok-use_captured.ensures.uses language call k in
-    uses ∙ added call at e x t new ∙ ap (λ y. Done y (adding e t)) (sym value)
-    ∙ ap (λ l. Done (view c.in_ok-value.value) (record t { library = l })) (ap (with_ended t.library) (sym is) ∙ sym c.in_ok-add.ensures.ok)
+    uses ∙ added call at e x t new ∙ ap (λ y. Done y (adding e t)) (sym value ∙ sym c.from_value.ensures)
+    ∙ ap (λ l. Done (chain_view c.from_value.result) (record t { library = l })) (ap (with_ended t.library) (sym is) ∙ sym c.in_ok-add.ensures.ok)
 
 pub returns-then-has-clause-gives : goal.returns-then-has-clause-gives
 returns-then-has-clause-gives c = λ language call.

@@ -1,7 +1,7 @@
 use Rattle.std.proofs.Common.{◌≡◌, ◌+◌, ◌*◌, ◌≤◌, length}
 use Rattle.rhai_base.specs.Settings.{levels_left}
 use Rattle.rhai_lower.specs.Nodes.{position_of}
-use Rattle.rhai_ast.specs.View.{view}
+use Rattle.rhai_trees.specs.Chains.{chain_view}
 use Rattle.rhai_grammar.specs.Cursors.{left}
 use Rattle.rhai_reading.specs.Running.{result_of}
 use Rattle.rhai_language.specs.Readers.{GoesOn, binary_op, state_of}
@@ -12,8 +12,8 @@ use Rattle.rhai_expressions.proofs.reader.ExprReader.parse_binary_op.Given as go
 abbrev pub invariant-loop-pending : goal.invariant-loop-pending
 invariant-loop-pending g l = record {
   awaits : Awaits l.self.language.now l.frame l.fn.settings (left (state_of l.shared).cursor.tokens) l.pending.items
-      (result_of (binary_op l.fn.self.language.now l.fn.frame l.fn.settings (position_of (view l.fn.lhs)) l.fn.parent (view l.fn.lhs)) (state_of l.fn.shared))
-      (result_of (binary_op l.self.language.now l.frame l.run.settings l.run.settings.pos l.run.parent (view l.run.lhs)) (state_of l.shared));
+      (result_of (binary_op l.fn.self.language.now l.fn.frame l.fn.settings (position_of (chain_view l.fn.lhs)) l.fn.parent (chain_view l.fn.lhs)) (state_of l.fn.shared))
+      (result_of (binary_op l.self.language.now l.frame l.run.settings l.run.settings.pos l.run.parent (chain_view l.run.lhs)) (state_of l.shared));
   goes_on : GoesOn l.fn.shared l.shared;
   stays : Stays l.self.language.now l.frame l.fn.settings 5 l.fn.shared l.shared;
   limit : l.run.settings.max_expr_depth ≡ l.fn.settings.max_expr_depth;

@@ -26,7 +26,7 @@ returns-then-not-called-clause-reads g c =
     let x = variable (named c.in-Ok.variable.0.value) c.in-Ok.variable.1 in
     let y = variable (named c.in_ok-named.named.name.value) c.in_ok-named.named.pos in
     rw (c.in-Ok.ensures.variable) (name_plain context live x y c.in_ok-named.named.called (state_of c.args.shared.now) (state_of c.named_operand.new.shared) (search rules)
-    (c.in_ok-named.ensures.found context) ∙ ap (λ n. Done n (state_of c.named_operand.new.shared)) (sym (view_variable c.in_ok-named.named.name c.in_ok-named.named.pos)))
+    (c.in_ok-named.ensures.found context) ∙ ap (λ n. Done n (state_of c.named_operand.new.shared)) (sym (c.from_value.ensures ∙ view_variable c.in_ok-named.named.name c.in_ok-named.named.pos)))
 
 pub returns-in_err-call-clause-reads : goal.returns-in_err-call-clause-reads
 returns-in_err-call-clause-reads g c =
@@ -67,4 +67,4 @@ returns-clause-reads g c =
     let there = same_called c.args.self.now.language.now c.args.frame.now c.at.result c.args.settings c.in_ok-named.named.pos c.is_qualified_name-qualified.result (is_qualified y) (state_of c.named_operand.new.shared) c.at.ensures.settings c.at.ensures.position (c.is_qualified_name-qualified.ensures c.in_ok-named.named.pos ∙ ap (λ (v : VariableExpr). is_qualified (variable (named v) c.in_ok-named.named.pos)) c.deref.ensures) in
     rw (c.in-Ok.ensures.variable)
     (call_given context live x y c.in_ok-named.named.called (state_of c.args.shared.now) (state_of c.named_operand.new.shared) (state_of c.nested-leave.new.self) (search rules) (c.in_ok-named.ensures.found context) c.in_ok-named.ensures.goes_on.shorter _
-    (sym there ∙ nested_done _ _ c.nested-enter.ensures.enters c.in_ok-call.ensures.reads c.nested-leave.ensures.leaves) (sym (ap (λ (v : VariableExpr). module_fault context live (variable (named v) c.in_ok-named.named.pos)) c.deref-2.ensures) ∙ c.in_ok-test_path.ensures.passes context refl refl) ∙ ap (λ n. Done n (state_of c.nested-leave.new.self)) (sym c.in_ok-make_call.ensures))
+    (sym there ∙ nested_done _ _ c.nested-enter.ensures.enters c.in_ok-call.ensures.reads c.nested-leave.ensures.leaves) (sym (ap (λ (v : VariableExpr). module_fault context live (variable (named v) c.in_ok-named.named.pos)) c.deref-2.ensures) ∙ c.in_ok-test_path.ensures.passes context refl refl) ∙ ap (λ n. Done n (state_of c.nested-leave.new.self)) (sym (c.from_value-2.ensures ∙ c.in_ok-call-2.ensures)))

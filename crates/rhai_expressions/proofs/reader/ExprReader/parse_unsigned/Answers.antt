@@ -1,5 +1,5 @@
 use Rattle.std.proofs.Common.{arith, refl}
-use Rattle.rhai_ast.specs.View.{view}
+use Rattle.rhai_trees.specs.Chains.{chain_view}
 use Rattle.rhai_reading.specs.Running.{guarded}
 use Rattle.rhai_language.proofs.Given.{gives_so}
 use Rattle.rhai_language.specs.Frames.{context_of}
@@ -11,4 +11,4 @@ pub returns-in-Ok-clause-reads : goal.returns-in-Ok-clause-reads
 returns-in-Ok-clause-reads g c =
     let context = context_of c.args.self.now.language.now c.args.frame.now c.args.settings in
     let call = guarded (operand c.args.self.now.language.now c.args.frame.now c.args.settings) (state_of c.args.shared.now) in
-    gives_so view c.end_operand.result (state_of c.parse_links.new.shared) (grind (arith, rule.parse_unsigned)) (c.end_operand.ensures.gives call _ context refl refl)
+    gives_so chain_view c.end_operand.result (state_of c.parse_links.new.shared) (grind (arith, rule.parse_unsigned)) (c.end_operand.ensures.gives call _ context refl refl)

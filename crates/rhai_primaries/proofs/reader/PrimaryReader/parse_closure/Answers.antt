@@ -1,6 +1,7 @@
 use Rattle.std.proofs.Common.{◌∙◌, Err, ap, arith, rules}
 use Rattle.std.proofs.lemmas.Result.{err_from_is_err_and}
-use Rattle.rhai_ast.specs.View.{statement_view, view}
+use Rattle.rhai_ast.specs.View.{statement_view}
+use Rattle.rhai_trees.specs.Chains.{chain_view}
 use Rattle.rhai_base.specs.Uses.{uses_of}
 use Rattle.rhai_base.specs.Libraries.{library_of}
 use Rattle.rhai_language.specs.Frames.{context_of, live_of}
@@ -57,10 +58,10 @@ returns-clause-reads g c =
       live = search rules;
       shorter = c.in_ok-names.ensures.goes_on.shorter;
     } in
-    body_gives view context w c.args.settings.pos c.args.bars inside (live_of frame) names s t begun
+    body_gives chain_view context w c.args.settings.pos c.args.bars inside (live_of frame) names s t begun
     (statement_view c.in_ok-body.body) u (nested_done _ _ (c.nested-enter.ensures.enters ∙ ap entering c.begin_apart-outer.ensures.apart) c.in_ok-body.ensures.reads c.nested-leave.ensures.leaves)
     c.end_closure.result (state_of c.end_closure.new.shared)
-    (ends_gives view context w c.args.settings.pos c.args.bars names s t (statement_view c.in_ok-body.body) u
+    (ends_gives chain_view context w c.args.settings.pos c.args.bars names s t (statement_view c.in_ok-body.body) u
     (uses_of c.end_apart-captured.result.items) (state_of c.end_apart-captured.new.self) c.end_closure.result (state_of c.end_closure.new.shared)
     c.end_apart-captured.ensures.captured (c.end_apart-captured.ensures.back ∙ ap (λ us. with_captured us u) c.begin_apart-outer.ensures.outer)
     (c.end_closure.ensures.gives language (guarded (Closure context w c.args.settings.pos c.args.bars) s)))

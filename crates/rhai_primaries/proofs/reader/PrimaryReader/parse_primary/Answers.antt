@@ -1,6 +1,6 @@
 use Rattle.std.proofs.Common.{ap, rules}
 use Rattle.std.specs.Rc.{rc_str_bytes}
-use Rattle.rhai_ast.specs.View.{view}
+use Rattle.rhai_trees.specs.Chains.{chain_view}
 use Rattle.rhai_grammar.specs.Cursors.{cursor_of}
 use Rattle.rhai_language.proofs.Given.{gives_so}
 use Rattle.rhai_language.specs.Frames.{context_of, live_of}
@@ -29,7 +29,7 @@ returns-in_ok-excluded-in-Name-clause-reads g c =
     } in
     let context = context_of c.args.self.now.language.now c.args.frame.now c.args.settings in
     let live = live_of c.args.frame.now in
-    gives_so view c.used_name.result (state_of c.used_name.new.shared) (named context live h)
+    gives_so chain_view c.used_name.result (state_of c.used_name.new.shared) (named context live h)
     (c.used_name.ensures.gives c.args.self.now.language.now (guarded (Primary context live) (state_of c.args.shared.now)) _ h.is_so)
 
 pub returns-in_ok-called-in-Word-clause-reads : goal.returns-in_ok-called-in-Word-clause-reads
@@ -45,4 +45,4 @@ returns-in_ok-called-in-Word-clause-reads g c =
       readable_on = search rules;
       look_on = search rules;
     } in
-    answer_given view _ _ c.word_node.result (worded_outcome _ _ h) c.word_node.ensures.answers c.word_node.ensures.nowhere
+    answer_given chain_view _ _ c.used_word.result (worded_outcome _ _ h) c.used_word.ensures.answers c.used_word.ensures.nowhere

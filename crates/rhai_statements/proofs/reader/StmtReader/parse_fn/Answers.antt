@@ -1,7 +1,6 @@
-use Rattle.std.proofs.Common.{◌∙◌, Err, ap, arith, refl, rules}
+use Rattle.std.proofs.Common.{Err, arith, rules}
 use Rattle.std.proofs.lemmas.Result.{err_from_is_err_and}
 use Rattle.rhai_ast.specs.View.{statement_view}
-use Rattle.rhai_base.specs.Frames.{FrameValue}
 use Rattle.rhai_language.specs.Frames.{context_of, live_of}
 use Rattle.rhai_language.specs.Readers.{ended_view, state_of, with_live}
 use Rattle.rhai_reading.specs.Reading.{FunctionStatement}

@@ -1,0 +1,42 @@
+//! Links, and chains as they are read: an operand and a list of links. Their tree is made when the chain has ended.
+
+ghost use Rattle.std.specs.Prelude.{◌≡◌, false, length};
+ghost use Rattle.rhai_ast.specs.View.{view};
+ghost use Rattle.rhai_trees.specs.Linked.{is_linked};
+ghost use Rattle.rhai_trees.specs.declared.link.LinkKind.TheVariants.{Dot};
+
+use rhai_ast::Expr;
+use rhai_lower::Position;
+
+/// The kind of a link.
+#[derive(Clone, Copy, PartialEq, Eq, Debug)]
+pub enum LinkKind {
+    /// `[..]` or `?[..]`
+    Index,
+    /// `.` or `?.`
+    Dot,
+}
+
+/// A link of a chain.
+#[derive(PartialEq, Debug, Drop)]
+pub struct Link {
+    pub kind: LinkKind,
+    /// Whether it begins with a question mark.
+    pub negated: bool,
+    /// The position of its bracket or dot.
+    pub pos: Position,
+    /// The index, or the member after the dot, which is no chain.
+    pub item: Expr,
+    pub ghost member: { kind ≡ Dot → is_linked (view item) ≡ false },
+}
+
+/// A chain whose tree is not made yet, so that links may follow: what it begins with, and its links in written order.
+/// Without links it stands for its root.
+#[derive(PartialEq, Debug, Drop)]
+pub struct Chain {
+    /// The operand that the links follow.
+    pub(crate) root: Expr,
+    /// The links in written order.
+    pub(crate) links: Vec<Link>,
+    pub ghost value: { length links.items ≡ 0 → is_linked (view root) ≡ false },
+}

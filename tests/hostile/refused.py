@@ -1,0 +1,28 @@
+"""Each request for memory refused in turn."""
+
+from batch import answers
+
+NO_MEMORY = b"refused E36 none OutOfMemory\n"
+
+
+def wrong(run, found):
+    """What is wrong with the answers to the list of a run; the last is the one without a refused request."""
+    *refused, last = found
+    if (last.printed, last.status) != (run.answer, run.status):
+        return f"{run.name}: with ample memory status {last.status}: {last.first}"
+    for number, answer in enumerate(refused, 1):
+        if (answer.printed, answer.status) != (NO_MEMORY, 1):
+            return f"{run.name}: request {number} refused, and status {answer.status}: {answer.first}"
+    return None if refused else f"{run.name}: it requests no memory"
+
+
+def check_runs(library, program, runs):
+    """Checks runs with the same words. The result is what is wrong with each, and how many requests were refused."""
+    found = answers(library, [program, *runs[0].words], [run.list for run in runs], refuse=True)
+    refused = sum(answer.was_refused for answer in found)
+    complaints = []
+    for run in runs:
+        last = next(at for at, answer in enumerate(found) if not answer.was_refused)
+        complaints.append(wrong(run, found[: last + 1]))
+        found = found[last + 1 :]
+    return complaints, refused
