@@ -7,7 +7,8 @@
 # usage: tests/cases.sh [PROGRAM] [FILE.txt ..]
 #
 # Without PROGRAM it runs the one in crates/rhai_parse/out, which `rt ci` at the top of the repository or `rt run` in
-# crates/rhai_parse built last. It stops if a source file has changed since.
+# crates/rhai_parse built last. It stops if a source file has changed since. Without any argument it also runs the cases
+# of cases/names through the program in crates/rhai_names_cli/out.
 set -u
 export LC_ALL=C
 ulimit -t 60 # CPU seconds for each run
@@ -24,12 +25,13 @@ stop() {
     exit 1
 }
 
+# Takes the program that was built last in the crate $1.
 take_built_program() {
     local changed
-    program=$root/crates/rhai_parse/out/rhai_parse
-    [ -x "$program" ] || stop "no program is built: run \`rt run\` in crates/rhai_parse, or name one"
+    program=$root/crates/$1/out/$1
+    [ -x "$program" ] || stop "no program is built: run \`rt run\` in crates/$1, or name one"
     changed=$(find "$root"/crates/*/src -name '*.rt' ! -path '*/crates/*_tests/src/*' -newer "$program" -print -quit)
-    [ -z "$changed" ] || stop "the program is older than $changed: run \`rt run\` in crates/rhai_parse, or name one"
+    [ -z "$changed" ] || stop "the program is older than $changed: run \`rt run\` in crates/$1, or name one"
 }
 
 fail() {
@@ -65,7 +67,7 @@ end_answer() {
     accepted*) status=0 ;;
     refused*) status=1 ;;
     unreadable*) status=2 ;;
-    *) status= ;;
+    *) status=$other_status ;;
     esac
     if [ -z "$status" ] || [ "${#runs[@]}" = 0 ]; then
         fail "a run and its answer are missing"
@@ -134,8 +136,14 @@ compare_readme() {
 
 files=("$root"/tests/cases/*.txt)
 answers=("$root"/examples/*.out)
+names=() names_program=
+if [ $# = 0 ]; then
+    names=("$root"/tests/cases/names/*.txt)
+    take_built_program rhai_names_cli
+    names_program=$program
+fi
 case ${1:-} in
-'' | *.txt) take_built_program ;;
+'' | *.txt) take_built_program rhai_parse ;;
 *)
     program=$(realpath "$1")
     [ -x "$program" ] || stop "$1 is no program"
@@ -145,8 +153,12 @@ esac
 [ $# = 0 ] || files=("$@") answers=()
 set -f # no globbing: the words of a run are only split at blanks
 
+other_status= # of an answer with another first word
 for file in "${files[@]}"; do read_file; done
 for file in "${answers[@]}"; do run_example "$file"; done
 [ $# != 0 ] || compare_readme
+other_status=0
+program=$names_program
+for file in "${names[@]}"; do read_file; done
 echo "$passed passed, $failed failed"
 [ "$failed" = 0 ]

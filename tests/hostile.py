@@ -6,7 +6,8 @@ if any failed.
 usage: tests/hostile.py [PROGRAM]
 
 Without PROGRAM it runs the one in crates/rhai_parse/out, which `rt ci` at the top of the repository or `rt run` in
-crates/rhai_parse built last.
+crates/rhai_parse built last, and then the program in crates/rhai_names_cli/out and the tests of the library, which
+`rt ci` built too.
 """
 
 import multiprocessing
@@ -21,6 +22,7 @@ sys.dont_write_bytecode = True
 sys.path.insert(0, str(ROOT / "tests" / "hostile"))
 
 import batch
+import calls
 import damaged
 import refused
 import streams
@@ -45,6 +47,12 @@ def refused_requests(library, program, runs):
     return wrong, {"requests for memory refused in the table": requests}
 
 
+def refused_in_a_call(library, program, name):
+    """Refuses each request for memory of a test of the library in turn."""
+    wrong, requests = calls.check(library, program, name)
+    return [wrong], {"requests for memory refused in tests of the library": requests}
+
+
 def refused_in_a_long_list(library, program):
     wrong, requests = streams.refused_in_a_long_list(library, program)
     return [wrong], {"requests for memory refused over 1,000 tokens": requests}
@@ -64,13 +72,26 @@ def chunks(runs):
             yield same[first : first + RUNS_OF_A_TASK]
 
 
+def built(crate, name):
+    """A program that was built in a crate."""
+    return os.path.realpath(ROOT / "crates" / crate / "out" / name)
+
+
 def tasks(program):
-    """All that is to do, as functions with what they are called with."""
+    """What is to do with the program, as functions with what they are called with."""
     runs = table.all_runs()
     found = [(refused_in_a_long_list, program), (failing_streams, program)]
     found += [(damaged_lists, program, same) for same in chunks(run for run in runs if run.status != 2)]
     found += [(refused_requests, program, same) for same in chunks(runs)]
     return found
+
+
+def tasks_of_others():
+    """What is to do with the program that prints names, and with the tests of the library."""
+    names = built("rhai_names_cli", "rhai_names_cli")
+    tests = [built(crate, f"{crate}_tests") for crate in ("rhai_base_tests", "rhai_tests")]
+    found = [(refused_requests, names, same) for same in chunks(table.all_runs(table.CASES / "names"))]
+    return found + [(refused_in_a_call, test, name) for test in tests for name in calls.names(test)]
 
 
 def run_task(library, task):
@@ -83,11 +104,13 @@ def run_task(library, task):
 
 def main():
     begin = time.monotonic()
-    program = sys.argv[1] if len(sys.argv) > 1 else str(ROOT / "crates/rhai_parse/out/rhai_parse")
+    found = tasks(os.path.realpath(sys.argv[1])) if sys.argv[1:] else tasks(built("rhai_parse", "rhai_parse"))
+    if not sys.argv[1:]:
+        found += tasks_of_others()
     passed, failed, totals = 0, 0, {}
     with tempfile.TemporaryDirectory() as folder, multiprocessing.Pool() as pool:
         library = batch.compile_forks(folder)
-        work = [(library, task) for task in tasks(os.path.realpath(program))]
+        work = [(library, task) for task in found]
         for name, wrong, counts in pool.starmap(run_task, work, chunksize=1):
             for complaint in filter(None, wrong):
                 print(f"failed: {name}: {complaint}")

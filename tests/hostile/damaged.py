@@ -51,6 +51,15 @@ def reads_the_right_number(run, read):
     return run.first.split(" ")[2] in [line.split(" ")[0] for line in last[: 2 if len(last) == 2 else 1]]
 
 
+def refuses_the_right_comment(run, read):
+    """Whether a doc comment that is refused is the one that is due, and what decides it the last token or end mark that
+    the run reads."""
+    if not run.first.startswith("refused E37 "):
+        return True
+    met = due(run.lines, run.words)
+    return met.answer == run.first and read == min(met.place + 1, len(run.lines) - 1)
+
+
 def derived(run, damage, read):
     """The first line of the answer to a damaged list, if no test fails before; nothing where no rule gives it."""
     if damage.place >= read:
@@ -129,6 +138,8 @@ def check(run, found):
     read = tokens_read(run, found)
     if not reads_the_right_number(run, read):
         counts.wrong.append(f"{run.name}: it reads {read} tokens")
+    if not refuses_the_right_comment(run, read):
+        counts.wrong.append(f"{run.name}: another comment is due, or it reads {read} tokens")
     for place in range(len(run.lines) - 1):
         check_place(run, read, [it for it in found if it[0].place == place], counts)
     return counts

@@ -1,8 +1,9 @@
 """What is due at each place of a list whose tokens before that place are right.
 
 A list is read up to its *end*, which is the end mark or an error of the tokenizer, and the answer says what is due
-there. All other tokens are taken as they stand: nothing is tested, and there are no levels, slots or trees. So this
-says nothing of refusals that stand before the end; tests/hostile/README.md says how these come in.
+there. Doc comments that no function keeps are refused; all other tokens are taken as they stand: nothing is tested, and
+there are no levels, slots or trees. So this says nothing of other refusals that stand before the end;
+tests/hostile/README.md says how these come in.
 """
 
 from typing import NamedTuple
@@ -231,37 +232,32 @@ class Reader:
             if self.next() in ("str", "tstr"):
                 return
 
-    def test_size(self, items, limit, text):
-        """Refuses a literal that has as many items as it may have."""
-        if 0 < self.limits.get(limit, 0) <= items:
-            limit = self.limits[limit]
-            self.refuse_at(self.at, "E33", f"LiteralTooLarge {text} {limit}")
-
     def array(self):
-        items = 0
-        while not self.takes("]"):
-            if self.peek() == "eof":
-                self.refuse("E7 MissingToken ]")
-            self.test_size(items, "array", "Size\\sof\\sarray\\sliteral")
-            self.expression()
-            items += 1
-            if not self.takes(","):
-                self.due("]")
-                return
+        self.items("]", lambda: None, "array", "Size\\sof\\sarray\\sliteral")
 
     def map(self):
-        properties = 0
-        while not self.takes("}"):
-            if self.peek() not in ("id", "str", "res"):
-                self.refuse("E7 MissingToken }")
-            self.next()
-            self.due(":")
-            self.test_size(properties, "map", "Number\\sof\\sproperties\\sin\\sobject\\smap\\sliteral")
+        self.items("}", self.key, "map", "Number\\sof\\sproperties\\sin\\sobject\\smap\\sliteral")
+
+    def items(self, closing, read_key, limit, size):
+        """The items of a literal: each is what `read_key` reads and an expression. `limit` bounds their number."""
+        count, most = 0, self.limits.get(limit, 0)
+        while not self.takes(closing):
+            if self.peek() == "eof":
+                self.refuse(f"E7 MissingToken {closing}")
+            read_key()
+            if 0 < most <= count:
+                self.refuse_at(self.at, "E33", f"LiteralTooLarge {size} {most}")
             self.expression()
-            properties += 1
+            count += 1
             if not self.takes(","):
-                self.due("}")
+                self.due(closing)
                 return
+
+    def key(self):
+        if self.peek() not in ("id", "str", "res"):
+            self.refuse("E7 MissingToken }")
+        self.next()
+        self.due(":")
 
     # Functions.
 
@@ -317,6 +313,7 @@ class Reader:
 
     def script(self):
         while self.peek() != "eof":
+            self.comments()
             self.statement()
             if self.peek() == "eof":
                 return
@@ -336,8 +333,21 @@ class Reader:
             if self.peek() != "}" and not self.takes(";") and not self.ends:
                 self.refuse("E7 MissingToken ;")
 
+    def comments(self):
+        """Doc comments at the global level: what follows them has to begin a function."""
+        first = self.at
+        while self.takes("doc"):
+            pass
+        if self.at > first and self.peek() not in ("fn", "private"):
+            self.refuse_comment(first)
+
+    def refuse_comment(self, place):
+        self.refuse_at(place, "E37", "WrongDocComment")
+
     def statement(self):
         token = self.peek()
+        if token == "doc":
+            self.refuse_comment(self.at)
         ends = token in {";", "{", "fn", "private", "if", "switch", "while", "loop", "for", "try"}
         self.statements().get(token, self.assignment)()
         self.ends = ends
@@ -492,12 +502,13 @@ class Due(NamedTuple):
     """What is due at the end of a list."""
 
     answer: str  # the first line of the answer
-    in_text: bool  # whether the end is asked for in text mode
+    place: int  # of the token asked for last
+    in_text: bool  # whether it is asked for in text mode
 
 
 def due(lines, words):
     """What is due at the end of a list, which is its first error of the tokenizer or its end mark."""
-    reader = Reader(lines, words)
+    reader, answer = Reader(lines, words), "accepted"
     try:
         if reader.is_expr:
             reader.expression()
@@ -506,5 +517,5 @@ def due(lines, words):
         else:
             reader.script()
     except Answer as refused:
-        return Due(str(refused), reader.at in reader.in_text)
-    return Due("accepted", reader.at in reader.in_text)
+        answer = str(refused)
+    return Due(answer, reader.at, reader.at in reader.in_text)

@@ -27,7 +27,7 @@ class Run(NamedTuple):
 
     @property
     def status(self):
-        return {"accepted": 0, "refused": 1, "unreadable": 2}[self.first.split(" ")[0]]
+        return {"refused": 1, "unreadable": 2}.get(self.first.split(" ")[0], 0)
 
     @property
     def lines(self):
@@ -65,10 +65,10 @@ def runs_of_case(file, text):
     return runs
 
 
-def all_runs():
-    """All runs of the table, in its order."""
+def all_runs(folder=CASES):
+    """All runs of the table, or of another folder of cases, in its order."""
     runs = []
-    for path in sorted(CASES.glob("*.txt")):
+    for path in sorted(folder.glob("*.txt")):
         for case in (b"\n" + path.read_bytes()).split(b"\n== ")[1:]:
             runs += runs_of_case(path.name, case)
     return runs

@@ -222,5 +222,6 @@ function_view f = record {
   name = rc_str_bytes f.name;
   is_private = f.private;
   parameters = map rc_str_bytes f.params.items;
+  comments = map rc_str_bytes f.comments.items;
   body = block_view f.body;
 }

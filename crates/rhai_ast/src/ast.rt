@@ -269,6 +269,8 @@ pub struct ScriptFuncDef {
     /// The names of its parameters; a closure's begin with the names that it captures.
     pub params: Vec<RcStr>,
     pub body: StmtBlock,
+    /// The doc comments before it, joined and unindented; empty for closures.
+    pub comments: Vec<RcStr>,
 }
 
 /// A parsed script.
@@ -342,6 +344,7 @@ impl Drop for ScriptFuncDef {
             private: _,
             params: _,
             body: _,
+            comments: _,
         } = self;
     }
 }

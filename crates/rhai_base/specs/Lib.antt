@@ -1,4 +1,5 @@
 pub mod ClosureNames
+pub mod Comments
 pub mod Counts
 pub mod FlagNames
 pub mod Frames

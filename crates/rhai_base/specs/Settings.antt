@@ -28,6 +28,10 @@ no_export at = record { 0 = error.WrongExport; 1 = at }
 abbrev pub no_function : Position → ParseError
 no_function at = record { 0 = error.WrongFnDefinition; 1 = at }
 
+-- the error of a doc comment below the global level
+abbrev pub no_comment : Position → ParseError
+no_comment at = record { 0 = error.WrongDocComment; 1 = at }
+
 -- the error of a function that is one too many
 abbrev pub too_many_functions : Position → ParseError
 too_many_functions at = record { 0 = error.TooManyFunctions; 1 = at }

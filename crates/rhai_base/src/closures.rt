@@ -171,6 +171,7 @@ pub fn closure_function(
         private: false,
         params,
         body,
+        comments: Vec::new(alloc),
     };
     Ok((key, Rc::new(alloc, function)?))
 }

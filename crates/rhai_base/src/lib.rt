@@ -5,6 +5,7 @@
 pub mod captured;
 pub mod closure_name;
 pub mod closures;
+pub mod comments;
 pub mod counts;
 pub mod ended;
 pub mod flags;
@@ -22,6 +23,7 @@ pub mod state;
 pub mod words;
 
 pub use closure_name::make_anonymous_fn;
+pub use comments::kept_comments;
 pub use counts::ParseCounts;
 pub use ended::Library;
 pub use flags::{LangOptions, ParseSettingFlags};

@@ -1,11 +1,11 @@
-//! Where settings let constructs, `break`, `continue`, `export` and functions stand.
+//! Where settings let constructs, `break`, `continue`, `export`, functions and doc comments stand.
 
 ghost use Rattle.std.specs.Prelude.{◌≡◌, IfErr, OnOk, false, true};
 ghost use Rattle.rhai_grammar.specs.Constructs.{may_be_value};
 ghost use Rattle.rhai_grammar.specs.Contexts.{Context, allows_looping};
 ghost use Rattle.rhai_grammar.specs.Settings.{at_global_level, in_loop};
 ghost use Rattle.rhai_grammar.specs.Starts.{may_be_closure};
-ghost use Rattle.rhai_base.specs.Settings.{no_export, no_function, no_loop, settings_of};
+ghost use Rattle.rhai_base.specs.Settings.{no_comment, no_export, no_function, no_loop, settings_of};
 
 use crate::flags::{LangOptions, ParseSettingFlags};
 use crate::settings::ParseSettings;
@@ -77,4 +77,17 @@ pub fn test_function(settings: ParseSettings, pos: Position) -> ParseResult<()>
         return Ok(());
     }
     Err(ParseError(ParseErrorType::WrongFnDefinition, pos))
+}
+
+/// Refuses a doc comment that is not at the global level of a script. The error is `WrongDocComment` at `pos`. Does not
+/// allocate.
+pub fn test_comment(settings: ParseSettings, pos: Position) -> ParseResult<()>
+    ensures passes { OnOk result (at_global_level (settings_of settings) ≡ true) }
+    ensures refused { IfErr result (λ e.
+        (at_global_level (settings_of settings) ≡ false) × (e ≡ no_comment pos)) }
+{
+    if settings.has_flag(ParseSettingFlags::GLOBAL_LEVEL) {
+        return Ok(());
+    }
+    Err(ParseError(ParseErrorType::WrongDocComment, pos))
 }

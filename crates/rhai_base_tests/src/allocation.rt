@@ -1,6 +1,6 @@
 //! Calls that allocate, each once: no contract says that memory is left. Each is made by a function that ends with
 //! `AllocError` where memory is refused, and two tests run it: one wants it to come to its end, with ample memory. The
-//! other, `.._refused`, lets it end early, and holds however memory is refused (tests/fail_alloc_tests.sh): what was
+//! other, `.._refused`, lets it end early, and holds however memory is refused (tests/hostile/calls.py): what was
 //! asserted on the way has to hold all the same.
 
 ghost use Rattle.rhai_grammar.specs.Keys.{keys_of};
@@ -10,7 +10,8 @@ use rhai_ast::{Expr, ScriptFuncDef, Stmt, StmtBlock};
 use rhai_base::captured::add_use;
 use rhai_base::closures::{closure_function, closure_value};
 use rhai_base::{
-    FnLib, FnNames, Frame, Known, Library, add_function, functions, has_function, make_anonymous_fn,
+    FnLib, FnNames, Frame, Known, Library, add_function, functions, has_function, kept_comments,
+    make_anonymous_fn,
 };
 use rhai_grammar::{ExprFilter, FnKey, InputError, ParseError, ParseErrorType};
 use rhai_input::Scope;
@@ -82,6 +83,7 @@ fn function(alloc: Global, name: &str) -> Result<Rc<ScriptFuncDef>, AllocError> 
         private: false,
         params: Vec::new(alloc),
         body: empty_block(alloc),
+        comments: Vec::new(alloc),
     };
     Ok(Rc::new(alloc, function)?)
 }
@@ -209,6 +211,30 @@ fn closures_with_ample_memory(rt: HostRuntime) -> Result<(), Fail> {
 #[test]
 fn closures_refused(rt: HostRuntime) {
     let _ = closures(&rt, rt.alloc());
+}
+
+// Two comments of one line, and one of two lines that stands two columns from the margin.
+fn comments(rt: &impl Abort, alloc: Global) -> Result<(), AllocError> {
+    let pos = Position::new(3, 3).unwrap_or(Position::NONE);
+    let mut written = Vec::new(alloc);
+    for text in ["/// a", "/// b", "/**\n   c */"] {
+        written.push((RcStr::from_str(alloc, text)?, pos))?;
+    }
+    let kept = kept_comments(alloc, &written)?;
+    assert!(rt; kept.len() == 2);
+    assert!(rt; kept[0].as_str() == "/// a\n/// b");
+    assert!(rt; kept[1].as_str() == "/**\n c */");
+    Ok(())
+}
+
+#[test]
+fn comments_with_ample_memory(rt: HostRuntime) -> Result<(), Fail> {
+    Ok(comments(&rt, rt.alloc())?)
+}
+
+#[test]
+fn comments_refused(rt: HostRuntime) {
+    let _ = comments(&rt, rt.alloc());
 }
 
 fn texts_and_blocks(alloc: Global) -> Result<(), AllocError> {

@@ -31,7 +31,7 @@ tree_ends (form.Continue at) w = refl
 tree_ends (form.Import at source other) w = refl
 tree_ends (form.Export at name name_at other) w = refl
 tree_ends (form.ExportDefined at constant keyword name name_at value) w = refl
-tree_ends (form.Function is_private at owner name name_at list opening body) w = refl
+tree_ends (form.Function comments is_private at owner name name_at list opening body) w = refl
 
 construct_ends_arm : (x : Construct) (w : Live) (at : Position) → ends_arm (construct_tree x w at) ≡ ends_with_brace x
 construct_ends_arm (form.Block body) w at = refl
@@ -55,4 +55,4 @@ tree_ends_arm (form.Continue at) w = refl
 tree_ends_arm (form.Import at source other) w = refl
 tree_ends_arm (form.Export at name name_at other) w = refl
 tree_ends_arm (form.ExportDefined at constant keyword name name_at value) w = refl
-tree_ends_arm (form.Function is_private at owner name name_at list opening body) w = refl
+tree_ends_arm (form.Function comments is_private at owner name name_at list opening body) w = refl

@@ -1,5 +1,5 @@
 -- What happens along the demands of each form.
-use Rattle.std.proofs.Common.{◌≡◌, ℕ, ◌+◌, Bool, true, false, Option, length, refl}
+use Rattle.std.proofs.Common.{◌≡◌, ℕ, ◌+◌, Bool, true, false, List, Option, length, refl}
 use Rattle.std.specs.Prelude.{Some, None}
 use Rattle.rhai_lower.specs.Lexemes.{Lexeme, text_of}
 use Rattle.rhai_lower.specs.Nodes.{Properties, no_properties, position_of, property, with_property}
@@ -10,6 +10,7 @@ use Rattle.rhai_grammar.specs.Closures.{declared_names, in_closure}
 use Rattle.rhai_grammar.specs.Contexts.{Context, Live, below_global, in_block, in_case, level_up, loop_body}
 use Rattle.rhai_grammar.specs.Definitions.{after_statement, catch_live, loop_live}
 use Rattle.rhai_grammar.specs.Delivered.{item}
+use Rattle.rhai_grammar.specs.Comments.{Comment}
 use Rattle.rhai_grammar.specs.Demands.{Demands, Nothing, Verdict}
 use Rattle.rhai_grammar.specs.Forms as form
 use Rattle.rhai_grammar.specs.Forms.{Action, Alias, Arguments, Arms, Base, Body, Branch, CaseGuard, Cases, CatchName}
@@ -42,7 +43,7 @@ use Rattle.rhai_grammar.proofs.EventEnds.{closure_runs, dead_name, ended, functi
 use Rattle.rhai_grammar.proofs.EventSteps.{Does, Is, Scope, ahead, all_of, called, deeper, here, is_below, is_closure, is_in_loop}
 use Rattle.rhai_grammar.proofs.EventSteps.{is_no_closure, literally, next, on, regrouped, shape, test, test_in, tok}
 use Rattle.rhai_grammar.proofs.EventParts.{Follows, bang_follows, banged, call_follows, captured_names, caught_by}
-use Rattle.rhai_grammar.proofs.EventParts.{closure_parameters, expressed, function_at, function_name, guarded}
+use Rattle.rhai_grammar.proofs.EventParts.{closure_parameters, comments_at, expressed, function_at, function_name, guarded}
 use Rattle.rhai_grammar.proofs.EventParts.{iterated, named, other_name, parameter_list, path, plain_follows, raised}
 use Rattle.rhai_grammar.proofs.EventParts.{separated, unfaulted, unused, used}
 
@@ -53,26 +54,26 @@ height (form.Just x) p i = i
 height (form.Binary op at l r) p i = height l p i
 
 -- a function around its body
-function_does : {q : Scope} (is_private : Option Position) (at : Position) (owner : Owner) (name : Text)
+function_does : {q : Scope} (comments : List Comment) (is_private : Option Position) (at : Position) (owner : Owner) (name : Text)
     (name_at : Position) (list : ParameterList) (opening : Position) (body : Body) (c : Context) (w : Live) (k : Demands)
     → Is q c
     → Does (deeper false q) (body_events body (parameters_live (parameter_names list)))
     (W.block body (level_up (level_up (in_function c w))) (parameters_live (parameter_names list))
-    (W.function_ends (function_tree is_private owner name list opening body) at k))
-    (W.function_ends (function_tree is_private owner name list opening body) at k)
-    → Does q (statement_events (form.Function is_private at owner name name_at list opening body) w)
-    (W.statement (form.Function is_private at owner name name_at list opening body) c w k) k
-function_does {q = q} is_private at owner name name_at list opening body c w k i h = by (names_function name) refl
+    (W.function_ends (function_tree comments is_private owner name list opening body) at k))
+    (W.function_ends (function_tree comments is_private owner name list opening body) at k)
+    → Does q (statement_events (form.Function comments is_private at owner name name_at list opening body) w)
+    (W.statement (form.Function comments is_private at owner name name_at list opening body) c w k) k
+function_does {q = q} comments is_private at owner name name_at list opening body c w k i h = by (names_function name) refl
   where
     by : (b : Bool) → names_function name ≡ b
-        → Does q (statement_events (form.Function is_private at owner name name_at list opening body) w)
-        (W.statement (form.Function is_private at owner name name_at list opening body) c w k) k
+        → Does q (statement_events (form.Function comments is_private at owner name name_at list opening body) w)
+        (W.statement (form.Function comments is_private at owner name name_at list opening body) c w k) k
     by true e =
-        on (function_at is_private at) (test (ended c i (test (on (function_name owner name name_at)
+        on (comments_at comments c) (on (function_at _ is_private at) (test (ended c i (test (on (function_name owner name name_at)
         (on (parameter_list list name _) (tok (test here)))))
-        (function_runs (no_closure (owner_of owner) name (length (parameter_names list)) e) h)))
+        (function_runs (no_closure (owner_of owner) name (length (parameter_names list)) e) h))))
     by false e =
-        on (function_at is_private at) (test (test_in (test (dead_name owner name name_at _ e))))
+        on (comments_at comments c) (on (function_at _ is_private at) (test (test_in (test (dead_name owner name name_at _ e)))))
 
 mutual
   pub primary : {q : Scope} (x : Primary) (called : Bool) (c : Context) (w : Live) (p : OperandPlace) (k : Demands) → Is q c
@@ -225,9 +226,9 @@ mutual
   statement (form.Export at name name_at other) c w k i = tok (test (test (tok (other_name other k))))
   statement (form.ExportDefined at constant keyword name name_at value) c w k i =
       tok (test (test (next (test (tok (tok (test (initializer value (level_up (level_up c)) w keyword k i))))))))
-  statement (form.Function is_private at owner name name_at list opening body) c w k i =
+  statement (form.Function comments is_private at owner name name_at list opening body) c w k i =
       let inner = level_up (level_up (in_function c w)) in
-      function_does is_private at owner name name_at list opening body c w k i
+      function_does comments is_private at owner name name_at list opening body c w k i
       (block body inner (parameters_live (parameter_names list)) _ (is_no_closure c w i))
 
   pub construct : {q : Scope} (x : Construct) (c : Context) (w : Live) (at : Position) (k : Demands) → Is q c

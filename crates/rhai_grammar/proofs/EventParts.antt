@@ -10,6 +10,7 @@ use Rattle.rhai_grammar.specs.Beginnings.{calls, excludes_use, qualifies}
 use Rattle.rhai_grammar.specs.Constructs.{guard_fault, iterated_fault}
 use Rattle.rhai_grammar.specs.Contexts.{Context, Live, level_up}
 use Rattle.rhai_grammar.specs.Delivered.{Mode, Item, Point, capturing, code, is_memory, item, next_at, past}
+use Rattle.rhai_grammar.specs.Comments.{Comment}
 use Rattle.rhai_grammar.specs.Demands.{Missed, Demands, Fine, Met, Next, Otherwise, Shape, Tok, Verdict, verdict, ◌▸◌}
 use Rattle.rhai_grammar.specs.Forms as form
 use Rattle.rhai_grammar.specs.Forms.{Action, Alias, Arguments, Arms, Base, Body, Branch, CaseGuard, Cases, CatchName}
@@ -81,10 +82,19 @@ pub caught_by : {q : Scope} (x : CatchName) (k : Demands) → Does q [] (W.catch
 caught_by form.NoName k = next here
 caught_by (form.Caught opening name at closing) k = tok (tok (tok here))
 
-pub function_at : {q : Scope} (is_private : Option Position) (at : Position) {k : Demands}
-    → Does q [] (W.function_at is_private at k) k
-function_at None at = tok here
-function_at (Some first) at = tok (tok here)
+further_comments : {q : Scope} (xs : List Comment) (first : Position) (c : Context) {k : Demands}
+    → Does q [] (W.further_comments xs first c k) k
+further_comments [] first c = here
+further_comments (x ∷ xs) first c = tok (further_comments xs first c)
+
+pub comments_at : {q : Scope} (xs : List Comment) (c : Context) {k : Demands} → Does q [] (W.comments_at xs c k) k
+comments_at [] c = here
+comments_at (x ∷ xs) c = tok (test (further_comments xs x.at c))
+
+pub function_at : {q : Scope} (others : Lexeme → Verdict) (is_private : Option Position) (at : Position) {k : Demands}
+    → Does q [] (W.function_at others is_private at k) k
+function_at others None at = tok here
+function_at others (Some first) at = tok (tok here)
 
 pub function_name : {q : Scope} (x : Owner) (name : Text) (at : Position) {k : Demands}
     → Does q [] (W.function_name x name at k) k

@@ -42,7 +42,7 @@ use Rattle.rhai_grammar.proofs.BeginningLemmas.{closure_begins, value_begins, si
 use Rattle.rhai_grammar.specs.Forms.{ClosureBody, ClosureHead}
 use Rattle.rhai_grammar.specs.Closures.{bars_of, bars_token, declared_names, in_closure}
 use Rattle.rhai_grammar.proofs.FairDemands.{met_or_missed}
-use Rattle.rhai_grammar.proofs.FairParts.{unless, anything, operand_due, omitted_due, key_due, semicolon_due, unfaulted, raised, guarded, do_ends, path, banged, other_name, named, caught_by, function_at, function_name, parameter_list, closure_parameters, captured_names, separated}
+use Rattle.rhai_grammar.proofs.FairParts.{unless, anything, operand_due, omitted_due, key_due, semicolon_due, unfaulted, raised, guarded, do_ends, path, banged, other_name, named, caught_by, comments_at, function_at, function_name, parameter_list, closure_parameters, captured_names, separated}
 
 mutual
   primary : (x : Primary) (c : Context) (w : Live) (p : OperandPlace) (k : Demands) → IsFair k → IsFair (W.primary x c w p k)
@@ -174,10 +174,10 @@ mutual
   statement (form.Export at name name_at other) c w k h = (refl, (refl, other_name other k h))
   statement (form.ExportDefined at constant keyword name name_at x) c w k h =
       (refl, (anything (Sign (S.keyword_of constant)), (refl, initializer x (level_up (level_up c)) w keyword k h)))
-  statement (form.Function is_private at owner name name_at list opening body) c w k h =
+  statement (form.Function comments is_private at owner name name_at list opening body) c w k h =
       let inner = level_up (level_up (in_function c w)) in
-      function_at is_private at _ (function_name owner name name_at _ (parameter_list list name _
-      (refl, block body inner (parameters_live (parameter_names list)) _ h)))
+      comments_at comments c _ (function_at comments c is_private at _ (function_name owner name name_at _
+      (parameter_list list name _ (refl, block body inner (parameters_live (parameter_names list)) _ h))))
   statement (form.Compound at x) c w k h = λ e.
       (anything (Sign (construct_token (kind_of x))), construct x (level_up (level_up c)) w at k h)
   statement (form.Return throws at x) c w k h = (anything (Sign (jump_token throws)), jump_value x c w at k h)

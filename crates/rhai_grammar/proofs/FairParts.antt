@@ -19,6 +19,7 @@ use Rattle.rhai_grammar.specs.Contexts.{Context, Live, level_up}
 use Rattle.rhai_grammar.specs.Delivered.{is_memory}
 use Rattle.rhai_grammar.specs.CommaLists.{closing_of}
 use Rattle.rhai_grammar.specs.Functions.{parameter_due}
+use Rattle.rhai_grammar.specs.Comments.{Comment}
 use Rattle.rhai_grammar.specs.Demands.{Demands, Otherwise, Verdict, Wrong, verdict}
 use Rattle.rhai_grammar.specs.Forms as form
 use Rattle.rhai_grammar.specs.Forms.{Arguments, Base, Body, Branch, CatchName, Conditional, Construct, Elements, ExprStatement, Fields, Initializer, Items, JumpValue, Links, LoopNames, Operand, Primary, Run, Segments, Statement, Statements}
@@ -116,10 +117,22 @@ pub caught_by : (x : CatchName) (k : Demands) → IsFair k → IsFair (W.catch_n
 caught_by form.NoName k h = h
 caught_by (form.Caught opening name at closing) k h = (refl, (refl, (refl, h)))
 
-pub function_at : (is_private : Option Position) (at : Position) (k : Demands) → IsFair k
-    → IsFair (W.function_at is_private at k)
-function_at None at k h = (refl, h)
-function_at (Some first) at k h = (refl, (refl, h))
+further_comments : (xs : List Comment) (first : Position) (c : Context) (k : Demands) → IsFair k
+    → IsFair (W.further_comments xs first c k)
+further_comments [] first c k h = h
+further_comments (x ∷ xs) first c k h = (refl, further_comments xs first c k h)
+
+pub comments_at : (xs : List Comment) (c : Context) (k : Demands) → IsFair k → IsFair (W.comments_at xs c k)
+comments_at [] c k h = h
+comments_at (x ∷ xs) c k h = (refl, further_comments xs x.at c k h)
+
+-- after these comments
+pub function_at : (xs : List Comment) (c : Context) (is_private : Option Position) (at : Position) (k : Demands) → IsFair k
+    → IsFair (W.function_at (W.after_comments xs c) is_private at k)
+function_at [] c None at k h = (refl, h)
+function_at [] c (Some first) at k h = (refl, (refl, h))
+function_at (x ∷ xs) c None at k h = (refl, h)
+function_at (x ∷ xs) c (Some first) at k h = (refl, (refl, h))
 
 -- a type
 type_due : (l : Lexeme) → is_type l ≡ true → is_refused (verdict type_or_name_due l) ≡ false

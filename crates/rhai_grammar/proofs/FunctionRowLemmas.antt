@@ -1,15 +1,26 @@
--- The worked row of functions, by evaluation.
+-- The worked rows of functions, by evaluation.
 use Rattle.std.proofs.Common.{refl, inl, inr}
+use Rattle.rhai_grammar.specs.Comments.{kept_after, kept_comments}
 use Rattle.rhai_grammar.specs.Functions.{names_function}
 use Rattle.rhai_grammar.specs.Settings.{one_more}
 use Rattle.rhai_grammar.specs.Slots.{number}
-use Rattle.rhai_grammar.specs.RowsOfFunctions.{FunctionRow}
+use Rattle.rhai_grammar.specs.RowsOfFunctions.{CommentRow, FunctionRow}
 
 pub function_row : FunctionRow
-unfolding one_more number names_function
+unfolding one_more number names_function kept_after kept_comments
 function_row = record {
   tree_is = refl;
   fits = (refl, (refl, (refl, (refl, (refl, (refl, (refl, (refl, (refl, (refl, (refl, (refl, (refl, (refl, (refl, (refl, (refl, (refl, (refl, (refl, (refl, (refl, (refl, (refl, (refl, (refl, (refl, (refl, (refl, (refl, (tt, (refl, (refl, refl)))))))))))))))))))))))))))))))));
   again = inr (refl, inr (refl, inr (refl, inr (refl, inr (refl, inr (refl, inr (refl, inr (refl, inr (refl, inr (refl, inr (refl, inr (refl, inr (refl, (refl, inr (refl, inr (refl, inr (refl, inr (refl, inr (refl, inr (refl, inr (refl, inr (refl, inr (refl, inr (refl, inr (refl, inr (refl, (refl, inr (refl, inr (refl, inl (refl, refl, refl, refl))))))))))))))))))))))))))))));
   deep = inr (refl, inr (refl, inr (refl, inr (refl, inr (refl, inr (refl, inr (refl, inr (refl, inr (refl, inr (refl, inr (refl, inr (refl, inr (refl, (refl, inr (refl, inr (refl, inr (refl, inl (refl, refl, refl))))))))))))))))));
+}
+
+pub comment_row : CommentRow
+unfolding one_more number names_function kept_after kept_comments
+comment_row = record {
+  tree_is = refl;
+  fits = (refl, (refl, (refl, (refl, (refl, (refl, (refl, (refl, (refl, (refl, (refl, (refl, (refl, (refl, (refl, (refl, (tt, (refl, (refl, refl)))))))))))))))))));
+  before_other = inr (refl, inr (refl, inr (refl, inl (refl, refl, refl))));
+  before_end = inr (refl, inr (refl, inr (refl, inl (refl, refl, refl))));
+  below = inr (refl, (refl, inr (refl, inr (refl, inr (refl, (refl, inr (refl, inr (refl, inl (refl, refl, refl, refl)))))))));
 }

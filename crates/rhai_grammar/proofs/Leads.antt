@@ -9,7 +9,8 @@ use Rattle.rhai_lower.specs.Texts.{Text}
 use Rattle.rhai_lower.specs.declared.token.Token.TheVariants as token
 use Rattle.rhai_grammar.specs.Forms.{Owner, ParameterList, Parameters}
 use Rattle.rhai_grammar.specs.Functions.{in_function, parameter_names, parameters_live}
-use Rattle.rhai_grammar.specs.Spelling.{in_code, owner_spelling, parameter_list_spelling, parameter_spelling, private_spelling}
+use Rattle.rhai_grammar.specs.Comments.{Comment}
+use Rattle.rhai_grammar.specs.Spelling.{comment_spelling, in_code, owner_spelling, parameter_list_spelling, parameter_spelling, private_spelling}
 use Rattle.rhai_grammar.specs.declared.role.OperandPlace.{OperandPlace}
 use Rattle.rhai_grammar.specs.declared.role.OperandPlace.TheVariants as place
 use Rattle.rhai_grammar.specs.Causes.{Refusal}
@@ -156,11 +157,21 @@ caught_by : (x : CatchName) (k : Demands) → Leads code code (catch_spelling x)
 caught_by form.NoName k = next here
 caught_by (form.Caught opening name at closing) k = tok (tok (tok here))
 
-function_at : (is_private : Option Position) (at : Position) {ts : List Taken} {more k : Demands}
+further_comments : (xs : List Comment) (first : Position) (c : Context) {ts : List Taken} {more k : Demands}
+    → Leads code code ts more k → Leads code code (comment_spelling xs ++ ts) (W.further_comments xs first c more) k
+further_comments [] first c h = h
+further_comments (x ∷ xs) first c h = tok (further_comments xs first c h)
+
+comments_at : (xs : List Comment) (c : Context) {ts : List Taken} {more k : Demands} → Leads code code ts more k
+    → Leads code code (comment_spelling xs ++ ts) (W.comments_at xs c more) k
+comments_at [] c h = h
+comments_at (x ∷ xs) c h = tok (test (further_comments xs x.at c h))
+
+function_at : (others : Lexeme → Verdict) (is_private : Option Position) (at : Position) {ts : List Taken} {more k : Demands}
     → Leads code code ts more k
-    → Leads code code (private_spelling is_private ++ (in_code (Sign token.Fn) at ∷ ts)) (W.function_at is_private at more) k
-function_at None at h = tok h
-function_at (Some first) at h = tok (tok h)
+    → Leads code code (private_spelling is_private ++ (in_code (Sign token.Fn) at ∷ ts)) (W.function_at others is_private at more) k
+function_at others None at h = tok h
+function_at others (Some first) at h = tok (tok h)
 
 function_name : (x : Owner) (name : Text) (at : Position) {ts : List Taken} {more k : Demands} → Leads code code ts more k
     → Leads code code (owner_spelling x ++ (in_code (Name name) at ∷ ts)) (W.function_name x name at more) k
@@ -333,11 +344,11 @@ mutual
   statement (form.Export at name name_at other) c w k = tok (test (test (tok (other_name other k))))
   statement (form.ExportDefined at constant keyword name name_at value) c w k =
       tok (test (test (next (test (tok (tok (test (initializer value (level_up (level_up c)) w keyword k))))))))
-  statement (form.Function is_private at owner name name_at list opening body) c w k =
+  statement (form.Function comments is_private at owner name name_at list opening body) c w k =
       let inner = level_up (level_up (in_function c w)) in
-      function_at is_private at (test (test_in (test (function_name owner name name_at (
+      comments_at comments c (function_at _ is_private at (test (test_in (test (function_name owner name name_at (
       on (parameter_list list name _) (tok (test (
-      all_of (on (block body inner (parameters_live (parameter_names list)) _) (test_in (adds here)))))))))))
+      all_of (on (block body inner (parameters_live (parameter_names list)) _) (test_in (adds here))))))))))))
 
   pub construct : (x : Construct) (c : Context) (w : Live) (at : Position) (k : Demands)
       → Leads code code (construct_spelling x) (W.construct x c w at k) k

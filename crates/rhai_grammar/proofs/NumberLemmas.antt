@@ -11,6 +11,7 @@ use Rattle.rhai_grammar.specs.Closures.{bars_at, declared_names, in_closure}
 use Rattle.rhai_grammar.specs.Contexts.{Context, Live, below_global, in_block, in_case, level_up, loop_body}
 use Rattle.rhai_grammar.specs.Definitions.{after_statement, catch_live, loop_live, reused}
 use Rattle.rhai_grammar.specs.Delivered.{Point, code, next_at, past}
+use Rattle.rhai_grammar.specs.Comments.{Comment}
 use Rattle.rhai_grammar.specs.Demands.{Demands, Fine, Met, Nothing, Verdict, verdict}
 use Rattle.rhai_grammar.specs.Forms as form
 use Rattle.rhai_grammar.specs.Forms.{Action, Arguments, Arms, Base, Body, Branch, CaseGuard, Cases, ClosureBody, ClosureHead, Conditional, Construct, Elements, ExprStatement, Fields, Initializer, Items, JumpValue, Links, Operand, Owner, ParameterList, Primary, Run, Segments, Statement, Statements}
@@ -36,7 +37,7 @@ use Rattle.rhai_grammar.specs.declared.role.OperandPlace.TheVariants as place
 use Rattle.rhai_grammar.proofs.NumberSteps as N
 use Rattle.rhai_grammar.proofs.NumberSteps.{AllLinks, IsCollected}
 use Rattle.rhai_grammar.proofs.SlotLemmas.{latest_number}
-use Rattle.rhai_grammar.proofs.NumberWays.{Gives, adds, ahead, apart_from, banged, captured_names, caught_by, closure_parameters, expressed, function_at, function_name, gets, guarded, here, iterated, literally, named, next, on, other_name, parameter_list, past_it, path, raised, separated, shape, test, test_in, then, tok, unfaulted, up_to, uses}
+use Rattle.rhai_grammar.proofs.NumberWays.{Gives, adds, ahead, apart_from, banged, captured_names, caught_by, closure_parameters, comments_at, expressed, function_at, function_name, gets, guarded, here, iterated, literally, named, next, on, other_name, parameter_list, past_it, path, raised, separated, shape, test, test_in, then, tok, unfaulted, up_to, uses}
 
 -- the names that are live
 abbrev names : Live → List Text
@@ -49,10 +50,10 @@ Uncalled x w called k = called ≡ false → (s t : Point) → Met k s t
 
 -- ---- functions
 
-function : (is_private : Option Position) (owner : Owner) (name : Text) (list : ParameterList) (opening : Position) (f : Body)
+function : (comments : List Comment) (is_private : Option Position) (owner : Owner) (name : Text) (list : ParameterList) (opening : Position) (f : Body)
     → WellNumberedBlock (names (parameters_live (parameter_names list))) (T.block_tree opening f (parameters_live (parameter_names list)))
-    → WellNumberedFunction (function_tree is_private owner name list opening f)
-function is_private owner name list opening f h = record {
+    → WellNumberedFunction (function_tree comments is_private owner name list opening f)
+function comments is_private owner name list opening f h = record {
   captured = [];
   own = parameter_names list;
   parameters_are = refl;
@@ -239,12 +240,12 @@ mutual
   statement (form.ExportDefined at constant keyword name name_at value) c w k =
       gets (λ h. (h, N.again w.block name w.slots (reused w.block name w.slots) refl))
       (tok (test (test (next (test (tok (tok (test (initializer value (level_up (level_up c)) w keyword k)))))))))
-  statement (form.Function is_private at owner name name_at list opening body) c w k =
+  statement (form.Function comments is_private at owner name name_at list opening body) c w k =
       let inner = level_up (level_up (in_function c w)) in
-      past_it (function_at is_private at) (test (test_in (test (past_it (function_name owner name name_at)
+      past_it (comments_at comments c) (past_it (function_at _ is_private at) (test (test_in (test (past_it (function_name owner name name_at)
       (past_it (parameter_list list name _) (tok (test (gets (λ h. h.1)
       (then (block body opening inner (parameters_live (parameter_names list)) _)
-      (λ h. test_in (adds (function is_private owner name list opening body h))))))))))))
+      (λ h. test_in (adds (function comments is_private owner name list opening body h)))))))))))))
 
   pub construct : (x : Construct) (c : Context) (w : Live) (at : Position) (k : Demands)
       → Gives (WellNumberedStatement (names w) (T.construct_tree x w at)) (W.construct x c w at k) k

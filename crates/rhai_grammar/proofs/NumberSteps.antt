@@ -131,7 +131,7 @@ after (form.ExportDefined at constant keyword name name_at x) w =
     let slots = define_at (reused w.block name w.slots) name constant w.slots in
     defined name (T.value_tree x w) constant true keyword w.slots (reused w.block name w.slots)
     ∙ sym (exported w.block name slots (number name slots))
-after (form.Function is_private at owner name name_at list opening body) w = refl
+after (form.Function comments is_private at owner name name_at list opening body) w = refl
 
 kept_after : (f : node.Statement) (rest : node.Statements) (names : List Text)
     → names_after_all (T.kept f rest) names ≡ names_after_all rest (names_after f names)

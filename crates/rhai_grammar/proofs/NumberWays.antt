@@ -8,6 +8,7 @@ use Rattle.rhai_grammar.specs.Causes.{Refusal}
 use Rattle.rhai_grammar.specs.Constructs.{guard_fault, iterated_fault}
 use Rattle.rhai_grammar.specs.Contexts.{Context, Live, level_up}
 use Rattle.rhai_grammar.specs.Delivered.{Item, Mode, Point, adding, apart, capturing, code, next_at, past, with_captured}
+use Rattle.rhai_grammar.specs.Comments.{Comment}
 use Rattle.rhai_grammar.specs.Demands.{Adds, Ahead, Apart, Captures, Demands, Literally, Met, Next, Nothing, Shape, Test, TestIn, Tok, Uses, Verdict, ◌▸◌}
 use Rattle.rhai_grammar.specs.Forms as form
 use Rattle.rhai_grammar.specs.Forms.{Alias, CatchName, ClosureHead, LoopNames, Owner, ParameterList, Parameters, Path, Run}
@@ -154,9 +155,19 @@ pub caught_by : (x : CatchName) (k : Demands) → Gives (Unit {0}) (W.catch_name
 caught_by form.NoName k = next here
 caught_by (form.Caught opening name at closing) k = tok (tok (tok here))
 
-pub function_at : (is_private : Option Position) (at : Position) {k : Demands} → Gives (Unit {0}) (W.function_at is_private at k) k
-function_at None at = tok here
-function_at (Some first) at = tok (tok here)
+further_comments : (xs : List Comment) (first : Position) (c : Context) {k : Demands}
+    → Gives (Unit {0}) (W.further_comments xs first c k) k
+further_comments [] first c = here
+further_comments (x ∷ xs) first c = tok (further_comments xs first c)
+
+pub comments_at : (xs : List Comment) (c : Context) {k : Demands} → Gives (Unit {0}) (W.comments_at xs c k) k
+comments_at [] c = here
+comments_at (x ∷ xs) c = tok (test (further_comments xs x.at c))
+
+pub function_at : (others : Lexeme → Verdict) (is_private : Option Position) (at : Position) {k : Demands}
+    → Gives (Unit {0}) (W.function_at others is_private at k) k
+function_at others None at = tok here
+function_at others (Some first) at = tok (tok here)
 
 pub function_name : (x : Owner) (name : Text) (at : Position) {k : Demands} → Gives (Unit {0}) (W.function_name x name at k) k
 function_name form.NoOwner name at = tok (next here)

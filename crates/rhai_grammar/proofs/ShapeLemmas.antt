@@ -56,7 +56,7 @@ live_after (form.Continue at) w = refl
 live_after (form.Import at f x) w = ap (λ o. imported o w) (another x)
 live_after (form.Export at t t_at x) w = ap (λ o. exported t (unwrap_or o t) w) (another x)
 live_after (form.ExportDefined at constant keyword t t_at x) w = refl
-live_after (form.Function is_private at owner t t_at list opening f) w = refl
+live_after (form.Function comments is_private at owner t t_at list opening f) w = refl
 
 named : (x : form.LoopNames) → T.loop_name (shape.names_shape x) ≡ T.loop_name x
 named (form.Variable t at) = refl
@@ -229,7 +229,7 @@ mutual
   statement (form.Import at f x) w = let e = run f w in let g = another x in cc
   statement (form.Export at t t_at x) w = let g = another x in cc
   statement (form.ExportDefined at constant keyword text text_at x) w = let e = initializer x w in cc
-  statement (form.Function is_private at owner text text_at list opening f) w = refl
+  statement (form.Function comments is_private at owner text text_at list opening f) w = refl
 
   construct : (x : Construct) (w : Live) (at : Position) → shape.statement_shape (T.construct_tree x w at) ≡ T.construct_tree (shape.construct_shape x) w nowhere
   construct (form.Block f) w at = let e = body at f w in cc

@@ -270,7 +270,7 @@ start_of (form.Continue at) live = refl
 start_of (form.Import at source other) live = refl
 start_of (form.Export at name name_at other) live = refl
 start_of (form.ExportDefined at constant keyword name name_at value) live = refl
-start_of (form.Function is_private at owner name name_at list opening body) live = refl
+start_of (form.Function comments is_private at owner name name_at list opening body) live = refl
 
 starts : (fs : Statements) (live : Live) → (after_statements fs live).block ≡ live.block
 starts form.NoStatement live = refl
@@ -290,7 +290,7 @@ keeps (form.Break at x) live l = (refl, l)
 keeps (form.Continue at) live l = (refl, l)
 keeps (form.Import at source other) live l = (refl, l)
 keeps (form.Export at name name_at other) live l = exported_keeps live.block (unwrap_or (alias_of other) name) live.slots (number name live.slots) l
-keeps (form.Function is_private at owner name name_at list opening body) live l = (refl, l)
+keeps (form.Function comments is_private at owner name name_at list opening body) live l = (refl, l)
 keeps (form.ExportDefined at constant keyword name name_at value) live l =
     let slots = define live.block name constant live.slots in
     let first = defined_keeps live.block name constant live.slots (reused live.block name live.slots) refl l in
@@ -308,7 +308,7 @@ imports_after (form.Break at x) live = unextended live.imports
 imports_after (form.Continue at) live = unextended live.imports
 imports_after (form.Export at name name_at other) live = unextended live.imports
 imports_after (form.ExportDefined at constant keyword name name_at value) live = unextended live.imports
-imports_after (form.Function is_private at owner name name_at list opening body) live = unextended live.imports
+imports_after (form.Function comments is_private at owner name name_at list opening body) live = unextended live.imports
 
 all_imports : (fs : Statements) (live : Live) → Extends live.imports (after_statements fs live).imports
 all_imports form.NoStatement live = unextended live.imports

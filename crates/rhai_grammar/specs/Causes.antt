@@ -40,6 +40,7 @@ pub data Cause : Type 0 where
   WrongSwitchCaseCondition : Cause
   WrongSwitchIntegerCase : Cause
   WrongFnDefinition : Cause
+  WrongDocComment : Cause
   FnMissingName : Cause
   FnMissingParams : Text → Cause
   FnMissingBody : Text → Cause
@@ -82,6 +83,7 @@ cause_of error.WrongSwitchDefaultCase = WrongSwitchDefaultCase
 cause_of error.WrongSwitchCaseCondition = WrongSwitchCaseCondition
 cause_of error.WrongSwitchIntegerCase = WrongSwitchIntegerCase
 cause_of error.WrongFnDefinition = WrongFnDefinition
+cause_of error.WrongDocComment = WrongDocComment
 cause_of error.FnMissingName = FnMissingName
 cause_of (error.FnMissingParams t) = FnMissingParams (rc_str_bytes t)
 cause_of (error.FnMissingBody t) = FnMissingBody (rc_str_bytes t)

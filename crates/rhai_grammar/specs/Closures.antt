@@ -121,6 +121,7 @@ ended_closure number captured declared body = record {
     name = closure_name number;
     is_private = false;
     parameters = all_names captured declared;
+    comments = [];
     body = body;
   };
 }

@@ -1,6 +1,6 @@
 -- How deep a form is: the greatest number of its expressions, blocks, functions and closures, counted together, that
 -- lie one in another.
-use Rattle.std.specs.Prelude.{◌≡◌, ℕ, ◌+◌, None, codes, max, refl}
+use Rattle.std.specs.Prelude.{◌≡◌, ℕ, ◌+◌, None, [], codes, max, refl}
 use Rattle.rhai_lower.specs.Positions.{place}
 use Rattle.rhai_grammar.specs.Forms as form
 use Rattle.rhai_grammar.specs.Forms.{Action, Arguments, Arms, Base, Body, Branch, CaseGuard, Cases, ClosureBody}
@@ -100,7 +100,8 @@ abbrev mutual
   statement_depth (form.Import at f other) = 1 + run_depth f
   statement_depth (form.Export at name name_at other) = 0
   statement_depth (form.ExportDefined at constant keyword name name_at value) = initializer_depth value
-  statement_depth (form.Function is_private at owner name name_at list opening body) = 1 + (1 + body_depth body)
+  statement_depth (form.Function comments is_private at owner name name_at list opening body) =
+      1 + (1 + body_depth body)
 
   pub construct_depth : Construct → ℕ
   construct_depth (form.Block body) = 1 + body_depth body
@@ -155,7 +156,7 @@ abbrev mutual
 -- the script `fn f() { [1] }`
 abbrev pub array_in_function : Statements
 array_in_function =
-    form.Standing (form.Function None (place 1 1) form.NoOwner (codes "f") (place 1 4)
+    form.Standing (form.Function [] None (place 1 1) form.NoOwner (codes "f") (place 1 4)
     (form.EmptyParameters (place 1 5)) (place 1 8) (form.Many (form.LastStatement (evaluates (
     form.Just (plain (form.Array (place 1 10) (form.LastElement (number 1 11) (place 1 12))))))) (place 1 14)))
     form.NoStatement

@@ -1,5 +1,5 @@
 -- Which statements end by themselves, and after which actions an arm of a `switch` needs no comma.
-use Rattle.std.specs.Prelude.{◌≡◌, ℕ, Bool, true, false, None, codes, refl}
+use Rattle.std.specs.Prelude.{◌≡◌, ℕ, Bool, true, false, None, [], codes, refl}
 use Rattle.rhai_lower.specs.Positions.{place}
 use Rattle.rhai_grammar.specs.Forms as form
 use Rattle.rhai_grammar.specs.Forms.{Action, Body, Construct, Run, Statement}
@@ -28,13 +28,13 @@ needs_no_semicolon (form.Continue at) = false
 needs_no_semicolon (form.Import at source other) = false
 needs_no_semicolon (form.Export at name name_at other) = false
 needs_no_semicolon (form.ExportDefined at constant keyword name name_at value) = false
-needs_no_semicolon (form.Function is_private at owner name name_at list opening body) = true
+needs_no_semicolon (form.Function comments is_private at owner name name_at list opening body) = true
 
 -- An arm needs no comma after this statement: after one that ends by itself, but for a lone `;`. A function is no
 -- action.
 abbrev pub statement_ends_arm : Statement → Bool
 statement_ends_arm (form.EmptyStatement at) = false
-statement_ends_arm (form.Function is_private at owner name name_at list opening body) = false
+statement_ends_arm (form.Function comments is_private at owner name name_at list opening body) = false
 statement_ends_arm f = needs_no_semicolon f
 
 -- An arm that does this needs no comma after it.
@@ -53,7 +53,7 @@ example_guard =
 -- `loop {}` and `fn f() {}` need no `;` after them; `do {} while a` and `continue` do. A lone `;` needs no other, but
 -- an arm that consists of it needs its comma.
 example : (needs_no_semicolon (form.Compound (place 1 1) (form.Loop (place 1 6) (example_block 7))) ≡ true)
-    × (needs_no_semicolon (form.Function None (place 1 1) form.NoOwner (codes "f") (place 1 4)
+    × (needs_no_semicolon (form.Function [] None (place 1 1) form.NoOwner (codes "f") (place 1 4)
     (form.EmptyParameters (place 1 5)) (place 1 8) (example_block 9)) ≡ true)
     × (needs_no_semicolon (form.Compound (place 1 1)
     (form.Do (place 1 4) (example_block 5) false (place 1 7) example_guard)) ≡ false)

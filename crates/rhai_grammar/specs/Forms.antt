@@ -3,6 +3,7 @@ use Rattle.std.specs.Prelude.{Bool, Option}
 use Rattle.rhai_lower.specs.Texts.{Text}
 use Rattle.rhai_lower.specs.Lexemes.{Lexeme}
 use Rattle.rhai_lower.specs.declared.position.Position.{Position}
+use Rattle.rhai_grammar.specs.Comments.{Comment}
 use Rattle.rhai_grammar.specs.Uses.{Use}
 use Rattle.std.specs.Prelude.{ℕ, List}
 
@@ -182,9 +183,9 @@ mutual
     -- `export` of a definition, whose `let` or `const` is at `keyword`
     ExportDefined : (at : Position) (constant : Bool) (keyword : Position) (name : Text) (name_at : Position)
         → Initializer → Statement
-    -- a function, with its `private`, if it has one, and its `fn` at a position
-    Function : (is_private : Option Position) (at : Position) → Owner → (name : Text) (name_at : Position)
-        → ParameterList → (opening : Position) → Body → Statement
+    -- a function after its doc comments, with its `private`, if it has one, and its `fn` at a position
+    Function : List Comment → (is_private : Option Position) (at : Position) → Owner → (name : Text)
+        (name_at : Position) → ParameterList → (opening : Position) → Body → Statement
 
   -- a construct after its first token
   pub data Construct : Type 0 where

@@ -16,6 +16,7 @@ use Rattle.rhai_grammar.specs.declared.role.Calling.{Calling}
 use Rattle.rhai_grammar.specs.declared.role.Calling.TheVariants as calls_by
 use Rattle.rhai_grammar.specs.Contexts.{Context, Live}
 use Rattle.rhai_grammar.specs.CommaLists.{after_part, closing_text}
+use Rattle.rhai_grammar.specs.Comments.{Comment, kept_comments}
 use Rattle.rhai_grammar.specs.declared.list.AfterPart.{AfterPart}
 use Rattle.rhai_grammar.specs.declared.list.AfterPart.TheVariants as after
 use Rattle.rhai_grammar.specs.declared.list.CommaList.{CommaList}
@@ -196,16 +197,17 @@ no_body function l = cause.FnMissingBody function
 abbrev pub body_due : (function : Text) → Lexeme → Verdict
 body_due function l = if is_due due.LeftBrace l then Otherwise else Wrong (no_body function l)
 
--- a function with its key: the type, the name and the number of parameters
-abbrev pub ended_function : (is_private : Bool) → (owner : Option Text) → (name : Text) → (parameters : List Text)
-    → (body : Block) → Ended
-ended_function is_private owner name parameters body = record {
+-- a function after these doc comments, with its key: the type, the name and the number of parameters
+abbrev pub ended_function : List Comment → (is_private : Bool) → (owner : Option Text) → (name : Text)
+    → (parameters : List Text) → (body : Block) → Ended
+ended_function comments is_private owner name parameters body = record {
   key = record { this_type = owner; name = name; params = length parameters };
   function = record {
     this_type = owner;
     name = name;
     is_private = is_private;
     parameters = parameters;
+    comments = kept_comments comments;
     body = body;
   };
 }

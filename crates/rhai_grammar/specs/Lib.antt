@@ -1,6 +1,7 @@
 pub mod Causes
 pub mod Settings
 pub mod Keys
+pub mod Comments
 pub mod Libraries
 pub mod Delivered
 pub mod DueTokens

@@ -37,6 +37,7 @@ example_ended = record {
     name = codes "f";
     is_private = false;
     parameters = [];
+    comments = [];
     body = braces no_statements nowhere nowhere;
   };
 }

@@ -40,6 +40,7 @@ example_closure number = record {
     name = closure_name number;
     is_private = false;
     parameters = [];
+    comments = [];
     body = braces no_statements nowhere nowhere;
   };
 }

@@ -1,6 +1,7 @@
 -- Demands that several forms have.
 use Rattle.std.specs.Prelude.{Bool, true, false, not, Option, Some, None, List}
 use Rattle.rhai_lower.specs.Texts.{Text}
+use Rattle.rhai_lower.specs.Lexemes as lexeme
 use Rattle.rhai_lower.specs.Lexemes.{Lexeme, Name, Sign, text_of}
 use Rattle.rhai_lower.specs.Nodes.{Node, Properties}
 use Rattle.rhai_lower.specs.declared.position.Position.{Position}
@@ -23,6 +24,7 @@ use Rattle.rhai_grammar.specs.Uses.{Use}
 use Rattle.std.specs.Prelude.{ℕ}
 use Rattle.std.specs.Prelude.{◌++◌, [], ◌∷◌, unwrap_or}
 use Rattle.rhai_grammar.specs.Causes as cause
+use Rattle.rhai_grammar.specs.Comments.{Comment}
 use Rattle.rhai_grammar.specs.Causes.{Refusal, refusal}
 use Rattle.rhai_grammar.specs.Delivered.{code, item}
 use Rattle.rhai_grammar.specs.DueTokens.{token_of}
@@ -38,9 +40,9 @@ use Rattle.rhai_grammar.specs.Literals.{property_count}
 use Rattle.rhai_grammar.specs.Operators.{boolean_holds, mismatched}
 use Rattle.rhai_grammar.specs.Forms as form
 use Rattle.rhai_grammar.specs.Definitions.{may_define}
-use Rattle.rhai_grammar.specs.Statements.{name_due}
+use Rattle.rhai_grammar.specs.Statements.{after_comment, name_due}
 use Rattle.rhai_grammar.specs.Demands.{Demands, Nothing, Tok, Next, Literally}
-use Rattle.rhai_grammar.specs.Demands.{Test, Shape, ◌▸◌}
+use Rattle.rhai_grammar.specs.Demands.{Test, Shape, Verdict, Otherwise, ◌▸◌}
 use Rattle.rhai_grammar.specs.Verdicts.{unless_due, anything, member_due, no_bang, unqualified}
 use Rattle.rhai_grammar.specs.Verdicts.{after_method}
 use Rattle.rhai_grammar.specs.Verdicts.{following_due, next_key, key_due}
@@ -196,17 +198,41 @@ other_name (form.As as_at name at) more =
 
 -- ---- functions
 
+-- doc comments that follow others, of which the first one is at a position
+abbrev pub further_comments : List Comment → (first : Position) → Context → Demands → Demands
+further_comments [] first context more = more
+further_comments (c ∷ rest) first context more =
+    Tok code (item (lexeme.Comment c.text) c.at) (after_comment context first) ▸
+    further_comments rest first context more
+
+-- The doc comments of a function stand at the global level. After the first one only further ones and the function may
+-- follow.
+abbrev pub comments_at : List Comment → Context → Demands → Demands
+comments_at [] context more = more
+comments_at (first ∷ rest) context more =
+    Tok code (item (lexeme.Comment first.text) first.at) anything ▸
+    Test (is_global context) (refusal cause.WrongDocComment first.at) ▸
+    further_comments rest first.at context more
+
+-- after these comments: the function, if there are any
+abbrev pub after_comments : List Comment → Context → Lexeme → Verdict
+after_comments [] context token = Otherwise
+after_comments (first ∷ rest) context token = after_comment context first.at token
+
 -- `fn`, with or without `private` before it
-abbrev pub function_at : (is_private : Option Position) → (at : Position) → Demands → Demands
-function_at None at more = Tok code (item (Sign token.Fn) at) anything ▸ more
-function_at (Some first) at more = Tok code (item (Sign token.Private) first) anything ▸ due_token due.Fn at more
+abbrev pub function_at : (others : Lexeme → Verdict) → (is_private : Option Position) → (at : Position)
+    → Demands → Demands
+function_at others None at more = Tok code (item (Sign token.Fn) at) others ▸ more
+function_at others (Some first) at more =
+    Tok code (item (Sign token.Private) first) others ▸ due_token due.Fn at more
 
 -- A function stands at the global level, and one more is within the limit. Its level is raised at its `fn`.
-abbrev pub function_begins : (is_private : Option Position) → (at : Position) → Context → Live → Demands → Demands
-function_begins is_private at context live more =
-    function_at is_private at (
+abbrev pub function_begins : List Comment → (is_private : Option Position) → (at : Position) → Context → Live
+    → Demands → Demands
+function_begins comments is_private at context live more =
+    comments_at comments context (function_at (after_comments comments context) is_private at (
     Test (is_global context) (refusal cause.WrongFnDefinition (unwrap_or is_private at)) ▸
-    TestIn (may_begin context) (refusal cause.TooManyFunctions at) ▸ raise_at (in_function context live) at more)
+    TestIn (may_begin context) (refusal cause.TooManyFunctions at) ▸ raise_at (in_function context live) at more))
 
 -- the name of a function, with the type of its objects, if it has one
 abbrev pub function_name : Owner → (name : Text) → (at : Position) → Demands → Demands

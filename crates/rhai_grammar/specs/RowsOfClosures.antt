@@ -66,6 +66,7 @@ giving number parameters x = record {
     name = closure_name number;
     is_private = false;
     parameters = parameters;
+    comments = [];
     body = node.made_block (node.expression x);
   };
 }
@@ -193,6 +194,7 @@ dot_function = record {
     name = closure_name 0;
     is_private = false;
     parameters = [];
+    comments = [];
     body = node.braces (node.one_statement (node.expression (node.integer (pos 1) (place 1 5))) node.no_statements)
         (place 1 4) (place 1 6);
   };
@@ -273,8 +275,8 @@ second_body =
 
 abbrev pub second_function : form.Statement
 second_function =
-    form.Function None (place 1 1) form.NoOwner (codes "f") (place 1 4) (form.EmptyParameters (place 1 5)) (place 1 8)
-    second_body
+    form.Function [] None (place 1 1) form.NoOwner (codes "f") (place 1 4) (form.EmptyParameters (place 1 5))
+    (place 1 8) second_body
 
 abbrev pub second_form : Statements
 second_form = form.Standing second_function form.NoStatement

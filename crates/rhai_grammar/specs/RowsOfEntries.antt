@@ -200,7 +200,7 @@ empty_tokens at name_at parameters opening closing =
 
 abbrev pub empty_function : (at name_at parameters opening closing : ℕ) → form.Statement
 empty_function at name_at parameters opening closing =
-    form.Function None (place 1 at) form.NoOwner (codes "f") (place 1 name_at)
+    form.Function [] None (place 1 at) form.NoOwner (codes "f") (place 1 name_at)
     (form.EmptyParameters (place 1 parameters)) (place 1 opening) (form.Many form.NoStatement (place 1 closing))
 
 abbrev pub first_function : Ended
@@ -211,6 +211,7 @@ first_function = record {
     name = codes "f";
     is_private = false;
     parameters = [];
+    comments = [];
     body = node.braces node.no_statements (place 1 8) (place 1 9);
   };
 }

@@ -1,7 +1,7 @@
--- A worked row of functions: a script, its written form, and what the definitions say about it.
-use Rattle.std.specs.Prelude.{◌≡◌, ℕ, codes, false, None, List, [], ◌∷◌, ◌++◌}
+-- Worked rows of functions: scripts, their written forms, and what the definitions say about them.
+use Rattle.std.specs.Prelude.{◌≡◌, ℕ, ◌+◌, codes, false, None, List, [], ◌∷◌, ◌++◌}
 use Rattle.rhai_lower.specs.Positions.{place}
-use Rattle.rhai_lower.specs.Lexemes.{Lexeme, Name, Sign}
+use Rattle.rhai_lower.specs.Lexemes.{Lexeme, Comment, Name, Sign}
 use Rattle.rhai_lower.specs.Nodes as node
 use Rattle.rhai_lower.specs.declared.token.Token.TheVariants as token
 use Rattle.rhai_grammar.specs.Causes as cause
@@ -32,7 +32,7 @@ function_tokens = function_begun ++ function_rest
 
 abbrev pub function_form : Statements
 function_form =
-    form.Standing (form.Function None (place 1 1) form.NoOwner (codes "f") (place 1 4)
+    form.Standing (form.Function [] None (place 1 1) form.NoOwner (codes "f") (place 1 4)
     (form.ListedParameters (place 1 5) (form.LastParameter (codes "a") (place 1 6) (place 1 7))) (place 1 9)
     (form.Many (form.LastStatement (evaluates (named (codes "a") 11))) (place 1 13))) form.NoStatement
 
@@ -45,6 +45,7 @@ one_function = record {
     name = codes "f";
     is_private = false;
     parameters = codes "a" ∷ [];
+    comments = [];
     body = node.braces (node.one_statement (node.expression (variable 1 (codes "a") 11)) node.no_statements)
         (place 1 9) (place 1 13);
   };
@@ -73,3 +74,55 @@ pub record FunctionRow : Type 0 where
       (holding (one_function ∷ []) (between function_tokens [] 14))
   pub deep : Missed (whole_script function_form (depth_of_functions 3) nothing_live) (unread function_tokens 14)
       (refusal cause.ExprTooDeep (place 1 11)) code (between function_begun function_rest 14)
+
+-- ---- a doc comment before `fn f() {}`
+
+abbrev pub comment_token : (column : ℕ) → Lexeme × ℕ
+comment_token column = (Comment (codes "/** a */"), column)
+
+abbrev pub commented_rest : List (Lexeme × ℕ)
+commented_rest =
+    (Sign token.Fn, 10) ∷ (Name (codes "f"), 13) ∷ (Sign token.Unit, 14) ∷ (Sign token.LeftBrace, 17)
+    ∷ (Sign token.RightBrace, 18) ∷ []
+
+abbrev pub commented_form : (column : ℕ) → Statements
+commented_form n =
+    form.Standing (form.Function (record { text = codes "/** a */"; at = place 1 n } ∷ []) None (place 1 (n + 9))
+    form.NoOwner (codes "f") (place 1 (n + 12)) (form.EmptyParameters (place 1 (n + 13))) (place 1 (n + 16))
+    (form.Many form.NoStatement (place 1 (n + 17)))) form.NoStatement
+
+abbrev pub commented_function : Ended
+commented_function = record {
+  key = record { this_type = None; name = codes "f"; params = 0 };
+  function = record {
+    this_type = None;
+    name = codes "f";
+    is_private = false;
+    parameters = [];
+    comments = codes "/** a */" ∷ [];
+    body = node.braces node.no_statements (place 1 17) (place 1 18);
+  };
+}
+
+-- the same in a block
+abbrev pub commented_below : Statements
+commented_below =
+    form.Standing (form.Compound (place 1 1) (form.Block (form.Many (commented_form 3) (place 1 22)))) form.NoStatement
+
+-- The function has the comment. Before another statement or the end mark that is refused, and at once where a block's
+-- statement begins.
+pub record CommentRow : Type 0 where
+  pub tree_is : statement_trees (commented_form 1) nothing_live ≡ node.no_statements
+  pub fits : Met (whole_script (commented_form 1) on_global_level nothing_live)
+      (unread (comment_token 1 ∷ commented_rest) 19)
+      (holding (commented_function ∷ []) (between (comment_token 1 ∷ commented_rest) [] 19))
+  pub before_other : Missed (whole_script (commented_form 1) on_global_level nothing_live)
+      (unread (comment_token 1 ∷ (Sign token.Let, 10) ∷ []) 13) (refusal cause.WrongDocComment (place 1 1)) code
+      (between (comment_token 1 ∷ []) ((Sign token.Let, 10) ∷ []) 13)
+  pub before_end : Missed (whole_script (commented_form 1) on_global_level nothing_live)
+      (unread (comment_token 1 ∷ []) 9) (refusal cause.WrongDocComment (place 1 1)) code
+      (between (comment_token 1 ∷ []) [] 9)
+  pub below : Missed (whole_script commented_below on_global_level nothing_live)
+      (unread ((Sign token.LeftBrace, 1) ∷ comment_token 3 ∷ []) 11)
+      (refusal cause.WrongDocComment (place 1 3)) code
+      (between ((Sign token.LeftBrace, 1) ∷ comment_token 3 ∷ []) [] 11)

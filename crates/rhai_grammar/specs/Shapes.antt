@@ -6,6 +6,7 @@ use Rattle.rhai_lower.specs.Nodes as node
 use Rattle.rhai_lower.specs.Nodes.{Arms, Block, Called, Cases, Named, Node, Nodes, Optional, Properties, Statement}
 use Rattle.rhai_lower.specs.Nodes.{Statements}
 use Rattle.rhai_lower.specs.declared.position.Position.{Position}
+use Rattle.rhai_grammar.specs.Comments.{Comment}
 use Rattle.rhai_grammar.specs.Forms.{Owner, ParameterList, Parameters}
 use Rattle.rhai_grammar.specs.Contexts.{nothing_live}
 use Rattle.rhai_grammar.specs.Slots.{number}
@@ -103,6 +104,11 @@ abbrev mutual
   cases_shape (node.one_case v arms cases) = node.one_case (node_shape v) arms (cases_shape cases)
 
 -- ---- forms
+
+-- doc comments
+abbrev pub comments_shape : List Comment → List Comment
+comments_shape [] = []
+comments_shape (c ∷ rest) = record c { at = nowhere } ∷ comments_shape rest
 
 -- a token that may be absent, as the `!` of a call and the `private` of a function
 abbrev pub bang_shape : Option Position → Option Position
@@ -238,9 +244,9 @@ abbrev mutual
   written_shape (form.Export at name name_at other) = form.Export nowhere name nowhere (alias_shape other)
   written_shape (form.ExportDefined at constant keyword name name_at value) =
       form.ExportDefined nowhere constant nowhere name nowhere (initializer_shape value)
-  written_shape (form.Function is_private at owner name name_at list opening body) =
-      form.Function (bang_shape is_private) nowhere (owner_shape owner) name nowhere (parameter_list_shape list) nowhere
-      (body_shape body)
+  written_shape (form.Function comments is_private at owner name name_at list opening body) =
+      form.Function (comments_shape comments) (bang_shape is_private) nowhere (owner_shape owner) name nowhere
+      (parameter_list_shape list) nowhere (body_shape body)
 
   pub construct_shape : Construct → Construct
   construct_shape (form.Block body) = form.Block (body_shape body)

@@ -2,6 +2,7 @@
 use Rattle.std.specs.Prelude.{◌≡◌, Bool, true, false, Option, Some, None, List, [], ◌∷◌, ◌++◌, pos, codes, refl}
 use Rattle.rhai_lower.specs.Names.{is_identifier}
 use Rattle.rhai_lower.specs.Positions.{place}
+use Rattle.rhai_lower.specs.Lexemes as lexeme
 use Rattle.rhai_lower.specs.Lexemes.{Lexeme, Integer, Interpolated, Name, Reserved, Sign, String}
 use Rattle.rhai_lower.specs.declared.position.Position.{Position}
 use Rattle.rhai_lower.specs.declared.token.Token.TheVariants.{EOF, LeftParen, RightParen, LeftBracket, RightBracket}
@@ -18,6 +19,7 @@ use Rattle.rhai_grammar.specs.Forms.{Action, Arms, CaseGuard, Cases}
 use Rattle.rhai_grammar.specs.Forms.{ClosureBody, ClosureHead}
 use Rattle.rhai_grammar.specs.Closures.{bars_at, bars_of, bars_token}
 use Rattle.rhai_grammar.specs.CommaLists.{closing_of}
+use Rattle.rhai_grammar.specs.Comments.{Comment}
 use Rattle.rhai_grammar.specs.declared.list.CommaList.{CommaList}
 use Rattle.rhai_grammar.specs.declared.list.CommaList.TheVariants as lists
 use Rattle.rhai_grammar.specs.Constructs.{construct_token, do_token, kind_of}
@@ -52,6 +54,11 @@ path_spelling (form.Scoped colons name at rest) =
 abbrev pub alias_spelling : Alias → List Taken
 alias_spelling form.NoAlias = []
 alias_spelling (form.As as_at name at) = in_code (Sign token.As) as_at ∷ in_code (Name name) at ∷ []
+
+-- the doc comments of a function
+abbrev pub comment_spelling : List Comment → List Taken
+comment_spelling [] = []
+comment_spelling (c ∷ rest) = in_code (lexeme.Comment c.text) c.at ∷ comment_spelling rest
 
 -- the `private` of a function, if it has one
 abbrev pub private_spelling : Option Position → List Taken
@@ -195,10 +202,10 @@ abbrev mutual
   statement_spelling (form.ExportDefined at constant keyword name name_at value) =
       in_code (Sign token.Export) at ∷ in_code (Sign (keyword_of constant)) keyword ∷ in_code (Name name) name_at
       ∷ initializer_spelling value
-  statement_spelling (form.Function is_private at owner name name_at list opening body) =
-      private_spelling is_private ++ (in_code (Sign token.Fn) at ∷ (owner_spelling owner
+  statement_spelling (form.Function comments is_private at owner name name_at list opening body) =
+      comment_spelling comments ++ (private_spelling is_private ++ (in_code (Sign token.Fn) at ∷ (owner_spelling owner
       ++ (in_code (Name name) name_at ∷ (parameter_list_spelling list
-      ++ (in_code (Sign LeftBrace) opening ∷ body_spelling body)))))
+      ++ (in_code (Sign LeftBrace) opening ∷ body_spelling body))))))
 
   pub construct_spelling : Construct → List Taken
   construct_spelling (form.Block body) = body_spelling body

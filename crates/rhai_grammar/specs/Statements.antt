@@ -6,14 +6,16 @@ use Rattle.rhai_grammar.specs.Constructs.{may_stand}
 use Rattle.rhai_grammar.specs.Contexts.{Context, allows_looping}
 use Rattle.rhai_grammar.specs.declared.role.Construct.TheVariants as construct
 use Rattle.rhai_lower.specs.Names.{is_identifier}
-use Rattle.rhai_lower.specs.Lexemes.{Lexeme, Faulty, Name, Reserved, Sign}
+use Rattle.rhai_lower.specs.Positions.{place}
+use Rattle.rhai_lower.specs.Lexemes.{Lexeme, Comment, Faulty, Name, Reserved, Sign}
 use Rattle.rhai_lower.specs.Nodes as node
+use Rattle.rhai_lower.specs.declared.position.Position.{Position}
 use Rattle.rhai_lower.specs.declared.token.Token.{Token}
 use Rattle.rhai_lower.specs.declared.token.Token.TheVariants as token
 use Rattle.rhai_grammar.specs.Causes as cause
-use Rattle.rhai_grammar.specs.Causes.{Cause}
+use Rattle.rhai_grammar.specs.Causes.{Cause, refusal}
 use Rattle.rhai_grammar.specs.Beginnings.{missing}
-use Rattle.rhai_grammar.specs.Demands.{Verdict, Fine, Wrong, Otherwise}
+use Rattle.rhai_grammar.specs.Demands.{Verdict, Fine, Wrong, Blames, Otherwise}
 use Rattle.rhai_grammar.specs.DueTokens.{is_due}
 use Rattle.rhai_grammar.specs.declared.due.DueToken.TheVariants as due
 use Rattle.rhai_grammar.specs.Targets.{is_assignment, is_equals}
@@ -48,9 +50,15 @@ sign_start token.Fn = start.Function
 sign_start token.Private = start.Private
 sign_start _ = start.Expression
 
+-- a doc comment
+abbrev pub is_comment : Lexeme → Bool
+is_comment (Comment t) = true
+is_comment _ = false
+
 -- what a token begins where a statement is expected, if the engine lets scripts have loops
 abbrev pub any_start : Lexeme → StatementStart
 any_start (Sign t) = sign_start t
+any_start (Comment t) = start.Comment
 any_start _ = start.Expression
 
 -- A start that is not allowed is an expression's: that is what is then expected there.
@@ -169,6 +177,16 @@ expression_at _ = Otherwise
 abbrev pub expression_begins : Context → Lexeme → Verdict
 expression_begins context token = expression_at (statement_start context token)
 
+-- after the doc comments of a function, of which the first one is at a position: a further one, or the function
+abbrev pub function_follows : (first : Position) → StatementStart → Verdict
+function_follows first start.Comment = Otherwise
+function_follows first start.Function = Otherwise
+function_follows first start.Private = Otherwise
+function_follows first _ = Blames (refusal cause.WrongDocComment first)
+
+abbrev pub after_comment : Context → (first : Position) → Lexeme → Verdict
+after_comment context first token = function_follows first (statement_start context token)
+
 -- after an expression statement: no assignment
 abbrev pub unassigned : Lexeme → Verdict
 unassigned token = if is_assignment token then Otherwise else Fine
@@ -202,9 +220,12 @@ loop_variable_due token = if is_due due.LeftParen token then Otherwise else name
 abbrev pub without_value : Lexeme → Verdict
 without_value token = if is_equals token then Otherwise else Fine
 
--- In a block, `}` closes the list of statements and the end mark is refused; in a script, the end mark closes it.
+-- In a block, `}` closes the list of statements and the end mark is refused; in a script, the end mark closes it. After
+-- a doc comment, the end mark makes that one wrong.
 example : (list_ends Brace (Sign token.RightBrace) ≡ Fine) × (list_ends EndMark (Sign token.EOF) ≡ Fine)
     × (list_ends Brace (Sign token.EOF) ≡ Wrong (cause.MissingToken (codes "}")))
     × (closed_due Brace (Sign token.EOF) ≡ Wrong (cause.MissingToken (codes ";")))
     × (name_due (Sign token.Let) ≡ Wrong cause.VariableExpected)
-example = (refl, refl, refl, refl, refl)
+    × ((context : Context) → after_comment context (place 1 1) (Sign token.EOF)
+    ≡ Blames (refusal cause.WrongDocComment (place 1 1)))
+example = (refl, refl, refl, refl, refl, λ context. refl)

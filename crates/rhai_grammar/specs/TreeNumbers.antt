@@ -203,6 +203,7 @@ example_function = record {
     name = codes "f";
     is_private = false;
     parameters = codes "x" ∷ [];
+    comments = [];
     body = braces (one_statement (expression (example_use (Some 1) (codes "x") 11)) no_statements) (place 1 9)
         (place 1 13);
   };

@@ -18,6 +18,7 @@ use Rattle.rhai_lower.specs.Nodes as node
 use Rattle.rhai_lower.specs.declared.position.Position.{Position}
 use Rattle.rhai_lower.specs.declared.token.Token.TheVariants.{Plus, UnaryMinus}
 use Rattle.rhai_grammar.specs.Functions.{ended_function, owner_of, parameter_names, parameters_live}
+use Rattle.rhai_grammar.specs.Comments.{Comment}
 use Rattle.rhai_grammar.specs.Forms.{Owner, ParameterList}
 use Rattle.rhai_grammar.specs.Libraries.{Ended}
 use Rattle.rhai_grammar.specs.Beginnings.{value_of, is_this, is_negated}
@@ -260,7 +261,7 @@ abbrev mutual
   statement_tree (form.ExportDefined at constant keyword name name_at value) live =
       definition_tree constant true keyword name (value_tree value live) live
   -- A function stands in the library.
-  statement_tree (form.Function is_private at owner name name_at list opening body) live = noop at
+  statement_tree (form.Function comments is_private at owner name name_at list opening body) live = noop at
 
   -- of a construct whose first token is at a position
   pub construct_tree : Construct → Live → Position → node.Statement
@@ -330,11 +331,11 @@ abbrev pub named_tree : Primary → Path → (called : Bool) → Live → Node
 named_tree x path called live = path_tree path live.imports (primary_tree x live (called || is_scoped path))
 
 -- what a function gives
-abbrev pub function_tree : (is_private : Option Position) → Owner → (name : Text) → ParameterList
+abbrev pub function_tree : List Comment → (is_private : Option Position) → Owner → (name : Text) → ParameterList
     → (opening : Position) → Body → Ended
-function_tree is_private owner name list opening body =
+function_tree comments is_private owner name list opening body =
     let names = parameter_names list in
-    ended_function (is_some is_private) (owner_of owner) name names
+    ended_function comments (is_some is_private) (owner_of owner) name names
     (block_tree opening body (parameters_live names))
 
 -- what a closure's body is; it lies in the block of the closure's parameters

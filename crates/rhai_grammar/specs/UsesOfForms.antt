@@ -148,9 +148,9 @@ abbrev mutual
   statement_events (form.Import at source other) live = events source live
   statement_events (form.Export at name name_at other) live = []
   statement_events (form.ExportDefined at constant keyword name name_at value) live = value_events value live
-  statement_events (form.Function is_private at owner name name_at list opening body) live =
+  statement_events (form.Function comments is_private at owner name name_at list opening body) live =
       ends_only (body_events body (parameters_live (parameter_names list)))
-      ++ HasEnded (function_tree is_private owner name list opening body) ∷ []
+      ++ HasEnded (function_tree comments is_private owner name list opening body) ∷ []
 
   pub construct_events : Construct → Live → List Event
   construct_events (form.Block body) live = body_events body live

@@ -56,6 +56,7 @@ pub use Rattle.rhai_grammar.specs.Parts.{due_token, comma_at, closed_at, raise, 
 pub use Rattle.rhai_grammar.specs.Parts.{as_expression, operands_fit, field, unfaulted, method, new_name, inside_at}
 pub use Rattle.rhai_grammar.specs.Parts.{in_braces, as_guard, as_iterated, loop_names, catch_name, loop_at, separated}
 pub use Rattle.rhai_grammar.specs.Parts.{as_case, banged, global_at, other_name, path}
+pub use Rattle.rhai_grammar.specs.Parts.{after_comments, comments_at, further_comments}
 pub use Rattle.rhai_grammar.specs.Parts.{function_at, function_begins, function_ends, function_name}
 pub use Rattle.rhai_grammar.specs.Parts.{parameter, parameter_list, parameters}
 pub use Rattle.rhai_grammar.specs.Parts.{as_closure, captured_names, closure_parameters}
@@ -290,14 +291,14 @@ abbrev mutual
       Tok code (item (Sign (keyword_of constant)) keyword) anything ▸
       new_name name name_at inner live (definition_value value inner live keyword more))))
   -- A function's body raises the level after its `{`, which is refused at its `fn`.
-  statement (form.Function is_private at owner name name_at list opening body) context live more =
+  statement (form.Function comments is_private at owner name name_at list opening body) context live more =
       let inside = level_up (in_function context live) in
-      function_begins is_private at context live (
+      function_begins comments is_private at context live (
       function_name owner name name_at (
       parameter_list list name (
       Tok code (item (Sign LeftBrace) opening) (body_due name) ▸ raise_at inside at (
       block body (level_up inside) (parameters_live (parameter_names list)) (
-      function_ends (function_tree is_private owner name list opening body) at more)))))
+      function_ends (function_tree comments is_private owner name list opening body) at more)))))
 
   -- A construct after its first token, which is at a position. Only its body is in a loop.
   pub construct : Construct → Context → Live → (at : Position) → Demands → Demands

@@ -63,6 +63,8 @@ pub enum ParseErrorType {
     WrongSwitchIntegerCase,
     /// A function below the global level.
     WrongFnDefinition,
+    /// A doc comment before anything but a function at global level.
+    WrongDocComment,
     /// A function without a name.
     FnMissingName,
     /// A function of this name without a parameter list.

@@ -11,7 +11,7 @@ ghost use Rattle.rhai_grammar.specs.RowsOfChains.{CaptureRow, GroupedRow, Joined
 ghost use Rattle.rhai_grammar.specs.RowsOfClosures.{CaseRow, ClosureSumRow, DotRow, EmptyBodyRow, FunctionNameRow};
 ghost use Rattle.rhai_grammar.specs.RowsOfClosures.{MemberRow, NestedRow, SecondFunctionRow, SlotRow};
 ghost use Rattle.rhai_grammar.specs.RowsOfConstructs.{ArmRow, BreakRow, DefaultRow, IntegerRow, LoopRow, PipeRow};
-ghost use Rattle.rhai_grammar.specs.RowsOfFunctions.{FunctionRow};
+ghost use Rattle.rhai_grammar.specs.RowsOfFunctions.{CommentRow, FunctionRow};
 ghost use Rattle.rhai_grammar.specs.RowsOfModules.{ExportedRow, TwiceRow};
 ghost use Rattle.rhai_grammar.specs.RowsOfStatements.{AgainRow, ConstantRow, LetRow, OpenBlockRow};
 ghost use Rattle.rhai_grammar.specs.RowsOfStatements.{ScopesRow, SingleRow};
@@ -255,6 +255,13 @@ pub fn exported_row()
 #[tactic(auto, using(crate::proofs::FunctionRowLemmas::function_row))]
 pub fn function_row()
     ensures { FunctionRow }
+{}
+
+/// A doc comment before `fn f() {}` is the function's. Before another statement, or before the end mark, it is refused
+/// once that token is there; at the start of a block it is refused at once.
+#[tactic(auto, using(crate::proofs::FunctionRowLemmas::comment_row))]
+pub fn comment_row()
+    ensures { CommentRow }
 {}
 
 /// `switch 1 { _ => 2, 3 => 4 }` is refused at the `_`: the default arm is the last one.

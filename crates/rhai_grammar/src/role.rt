@@ -179,6 +179,8 @@ pub enum StatementStart {
     Function,
     /// `private`, which is followed by `fn`.
     Private,
+    /// A doc comment, which is followed by a function.
+    Comment,
     /// An expression, or nothing that may stand there.
     Expression,
 }

@@ -12,6 +12,7 @@ use Rattle.rhai_ast.specs.declared.ast.Ident.{Ident}
 use Rattle.rhai_ast.specs.declared.ast.ScriptFuncDef.{ScriptFuncDef}
 use Rattle.rhai_ast.specs.declared.ast.Stmt.{Stmt}
 use Rattle.rhai_lower.specs.declared.position.Position.{Position}
+use Rattle.rhai_grammar.specs.Comments.{Comment}
 use Rattle.rhai_grammar.specs.Contexts.{Live}
 use Rattle.rhai_grammar.specs.declared.role.Closing.{Closing}
 use Rattle.rhai_grammar.specs.declared.role.Construct.{Construct}
@@ -26,6 +27,7 @@ use Rattle.rhai_reading.specs.Reading as reading
 use Rattle.rhai_reading.specs.Reading.{Goal, Val}
 use Rattle.rhai_reading.specs.Running.{Gives, Progress, need, nested, result_of}
 use Rattle.rhai_reading.specs.Nesting.{Nesting}
+use Rattle.rhai_base.specs.Comments.{comments_of}
 use Rattle.rhai_base.specs.Counts.{counts_of}
 use Rattle.rhai_base.specs.declared.counts.ParseCounts.{ParseCounts}
 use Rattle.rhai_base.specs.Frames.{FrameValue}
@@ -208,16 +210,18 @@ case language frame settings = reading.Case (context_of language frame settings)
 abbrev pub case_guard : LanguageValue → FrameValue → ParseSettings → Goal
 case_guard language frame settings = reading.CaseGuard (context_of language frame settings) (live_of frame)
 
--- a function as a statement after its `fn`, where the settings stand; its first token is at a position
-abbrev pub function_statement : LanguageValue → FrameValue → ParseSettings → (first : Position) (is_private : Bool)
-    → Goal
-function_statement language frame settings first is_private =
-    reading.FunctionStatement (context_of language frame settings) (live_of frame) first settings.pos is_private
+-- a function with these doc comments, as a statement, after its `fn`, where the settings stand; its `private` or `fn`
+-- is at a position
+abbrev pub function_statement : LanguageValue → FrameValue → ParseSettings → List Comment → (first : Position)
+    (is_private : Bool) → Goal
+function_statement language frame settings comments first is_private =
+    reading.FunctionStatement (context_of language frame settings) (live_of frame) comments first settings.pos
+    is_private
 
--- a function, in a frame of its own
-abbrev pub function : LanguageValue → FrameValue → ParseSettings → (is_private : Bool) → Goal
-function language frame settings is_private =
-    reading.Function (context_of language frame settings) settings.pos is_private
+-- a function with these doc comments, in a frame of its own
+abbrev pub function : LanguageValue → FrameValue → ParseSettings → List Comment → (is_private : Bool) → Goal
+function language frame settings comments is_private =
+    reading.Function (context_of language frame settings) comments settings.pos is_private
 
 -- what an arm does
 abbrev pub action : LanguageValue → FrameValue → ParseSettings → Goal
@@ -242,6 +246,10 @@ name_view n = (rc_str_bytes n.0, n.1)
 -- the names of the parameters of a function
 abbrev pub names_of : Vec (RcStr Global) Global → List Text
 names_of names = map rc_str_bytes names.items
+
+-- doc comments
+abbrev pub comments_view : Vec (RcStr Global × Position) Global → List Comment
+comments_view comments = comments_of comments.items
 
 -- the name of a function, with the type of its objects, if it has one
 abbrev pub head_view : Option (RcStr Global) × RcStr Global → Option Text × Text

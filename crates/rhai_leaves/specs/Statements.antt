@@ -1,15 +1,16 @@
--- What stands where a statement begins and ends, and the name of a definition, as the code takes them.
-use Rattle.std.specs.Prelude.{◌≡◌, Bool, true, false, IsTrue, Result, Ok, Err, codes}
+-- What stands where a statement begins and ends, doc comments, and the name of a definition, as the code takes them.
+use Rattle.std.specs.Prelude.{◌≡◌, Bool, true, false, IsTrue, Option, None, Some, Result, Ok, Err, codes}
 use Rattle.std.specs.Rc.{rc_str_bytes}
+use Rattle.std.specs.declared.alloc.AllocError.{AllocError}
 use Rattle.std.specs.declared.alloc.Global.{Global}
 use Rattle.std.specs.declared.rc.RcStr.{RcStr}
-use Rattle.rhai_lower.specs.Lexemes.{Name}
+use Rattle.rhai_lower.specs.Lexemes.{Name, text_of}
 use Rattle.rhai_lower.specs.declared.position.Position.{Position}
 use Rattle.rhai_grammar.specs.Beginnings.{is_name, missing}
 use Rattle.rhai_grammar.specs.Causes.{is_for_memory, refusal, refusal_of}
 use Rattle.rhai_grammar.specs.Cursors.{Cursor, asked, looking, taking}
 use Rattle.rhai_grammar.specs.Delivered.{is_memory}
-use Rattle.rhai_grammar.specs.Statements.{no_variable, token_after_statement}
+use Rattle.rhai_grammar.specs.Statements.{is_comment, no_variable, token_after_statement}
 use Rattle.rhai_grammar.specs.declared.error.ParseError.{ParseError}
 use Rattle.rhai_grammar.specs.declared.role.AfterStatement.TheVariants as after
 use Rattle.rhai_grammar.specs.declared.role.Closing.{Closing}
@@ -27,6 +28,20 @@ is_expression _ = false
 abbrev pub place_found : (ends : Bool) → StatementPlace
 place_found true = place.Close
 place_found false = place.Statement
+
+-- The next token is taken, with its text and its position; or memory ran out.
+abbrev pub TakesText : Cursor → Result (RcStr Global × Position) AllocError → Cursor → Type 0
+TakesText s (Ok x) t =
+    (rc_str_bytes x.0 ≡ text_of (asked s).lexeme) × (x.1 ≡ (asked s).at) × (is_memory (asked s).lexeme ≡ false)
+    × (t ≡ taking s)
+TakesText s (Err e) t = Unit {0}
+
+-- A doc comment is taken, with its position, if it is next, and any other token stays; or memory ran out.
+abbrev pub TakesComment : Cursor → Result (Option (RcStr Global × Position)) AllocError → Cursor → Type 0
+TakesComment s (Ok None) t =
+    (is_comment (asked s).lexeme ≡ false) × (is_memory (asked s).lexeme ≡ false) × (t ≡ looking s)
+TakesComment s (Ok (Some x)) t = (is_comment (asked s).lexeme ≡ true) × TakesText s (Ok x) t
+TakesComment s (Err e) t = Unit {0}
 
 -- After a statement that does not end by itself, a `;` is taken (`true`), or the token that closes the list stays; or
 -- another token is refused and stays, unless memory ran out.

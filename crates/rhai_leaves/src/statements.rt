@@ -1,19 +1,20 @@
-//! Statements: what begins one, what follows it in a list, the name of a definition, what is exported, and the signs of
-//! assignments.
+//! Statements: what begins one, what follows it in a list, doc comments, the name of a definition, what is exported,
+//! and the signs of assignments.
 
-ghost use Rattle.std.specs.Prelude.{◌≡◌, ◌+◌, ◌≤◌, IfErr, IfOk, IfSome, IsTrue, OnOk, codes, false};
+ghost use Rattle.std.specs.Prelude.{◌≡◌, ◌+◌, ◌≤◌, IfErr, IfOk, IfSome, IsSome, IsTrue, OnOk, codes};
+ghost use Rattle.std.specs.Prelude.{false};
 ghost use Rattle.rhai_lower.specs.Lexemes.{lexeme};
 ghost use Rattle.rhai_grammar.specs.Beginnings.{missing};
 ghost use Rattle.rhai_grammar.specs.Causes.{MemoryIsNowhere, cause_of, is_for_memory, refusal, refusal_of};
 ghost use Rattle.rhai_grammar.specs.Contexts.{Context, allows_looping};
 ghost use Rattle.rhai_grammar.specs.Cursors.{asked, cursor_of, left, looking};
 ghost use Rattle.rhai_grammar.specs.Delivered.{is_end, is_memory};
-ghost use Rattle.rhai_grammar.specs.Statements.{allowed_start, any_start, defines};
+ghost use Rattle.rhai_grammar.specs.Statements.{allowed_start, any_start, defines, is_comment};
 ghost use Rattle.rhai_grammar.specs.Statements.{no_variable, statement_place, statement_start, token_after_statement};
 ghost use Rattle.rhai_grammar.specs.Targets.{is_assignment, is_equals};
 ghost use Rattle.rhai_grammar.specs.declared.role.AfterStatement.TheVariants.{SemiColon};
 ghost use Rattle.rhai_grammar.specs.declared.role.StatementPlace.TheVariants.{Nothing, Statement};
-ghost use Rattle.rhai_leaves.specs.Statements.{Names, Separates, is_expression, place_found};
+ghost use Rattle.rhai_leaves.specs.Statements.{Names, Separates, TakesComment, TakesText, is_expression, place_found};
 
 use crate::constructs::may_stand;
 use crate::cursor::{peek, skip};
@@ -52,6 +53,7 @@ fn any_start(token: &Token) -> StatementStart
         Token::Export => StatementStart::Export,
         Token::Fn => StatementStart::Function,
         Token::Private => StatementStart::Private,
+        Token::Comment(_) => StatementStart::Comment,
         _ => StatementStart::Expression,
     }
 }
@@ -78,6 +80,48 @@ pub fn what_starts(looping: bool, token: &Token) -> StatementStart
     ensures more { is_expression result ≡ false → is_end (lexeme token.now) ≡ false }
 {
     allowed_start(looping, any_start(token))
+}
+
+// Whether a token is a doc comment.
+fn is_comment(token: &Token) -> bool
+    ensures comment { result ≡ is_comment (lexeme token.now) }
+    ensures more { IsTrue result → is_end (lexeme token.now) ≡ false }
+{
+    matches!(token, Token::Comment(_))
+}
+
+/// Takes the next token, whichever it is: its text, and its position. The error is that there is no memory for the
+/// text, or that the tokenizer ran out of memory at that token; then the token stays.
+pub fn take_text(alloc: Global, input: &mut TokenStream) -> Result<(RcStr, Position), AllocError>
+    ensures text { TakesText (cursor_of input.old) result (cursor_of input.new) }
+    ensures shorter { left (cursor_of input.new).tokens ≤ left (cursor_of input.old).tokens }
+    ensures shrinks { is_end (asked (cursor_of input.old)).lexeme ≡ false
+        → OnOk result (left (cursor_of input.new).tokens + 1 ≤ left (cursor_of input.old).tokens) }
+{
+    let (token, pos) = peek(input)?;
+    let pos = *pos;
+    let text = token.text(alloc)?;
+    skip(input);
+    Ok((text, pos))
+}
+
+/// Takes a doc comment, with its position, if it is next; any other token stays, and then there is none. The error is
+/// that there is no memory for the comment, or that the tokenizer ran out of memory there.
+pub fn take_comment(
+    alloc: Global,
+    input: &mut TokenStream,
+) -> Result<Option<(RcStr, Position)>, AllocError>
+    ensures comment { TakesComment (cursor_of input.old) result (cursor_of input.new) }
+    ensures shorter { left (cursor_of input.new).tokens ≤ left (cursor_of input.old).tokens }
+    ensures shrinks { IfOk result (λ comment. IsSome comment
+        → left (cursor_of input.new).tokens + 1 ≤ left (cursor_of input.old).tokens) }
+{
+    let (token, _) = peek(input)?;
+    if !is_comment(token) {
+        return Ok(None);
+    }
+    let comment = take_text(alloc, input)?;
+    Ok(Some(comment))
 }
 
 // What a token is where a statement of a list may begin.

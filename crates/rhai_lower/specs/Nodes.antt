@@ -128,6 +128,7 @@ pub record Function : Type 0 where
   pub name : Text
   pub is_private : Bool
   pub parameters : List Text
+  pub comments : List Text
   pub body : Block
 
 abbrev pub block_start : Block → Position

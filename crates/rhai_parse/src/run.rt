@@ -1,139 +1,14 @@
 //! The program, over any reader and writer.
 
-ghost use Rattle.std.specs.Prelude.{All, IfOk, IsTrue};
-ghost use Rattle.rhai_input.specs.Entries.{may_be_delivered};
+use rhai_print::accepted;
+use rhai_run::{Failure, print_answer, read_tree};
+use std::alloc::Global;
+use std::io::{Read, Write};
 
-use crate::words::{Entry, Limits, read_words};
-use bitflags::Flags;
-use rhai_parser::{
-    AST, Engine, FnLib, LangOptions, OptimizationLevel, ParseError, ParseResult, ParseState,
-    TokenStream, TokenizerControl,
-};
-use rhai_print::{Refused, accepted};
-use rhai_text::{ListError, TokenList, read_lines, read_list};
-use std::alloc::{AllocError, Global};
-use std::io::{self, ErrorKind, Read, Write};
-
-// Why there is no tree.
-#[derive(Drop, Debug)]
-enum Failure {
-    // This line of the input, counted from 1, cannot be read; 0 for the command line.
-    Unreadable(usize),
-    Refused(ParseError),
-}
-
-impl From<AllocError> for Failure {
-    fn from(error: AllocError) -> Failure {
-        Failure::Refused(ParseError::from(error))
-    }
-}
-
-impl From<ParseError> for Failure {
-    fn from(error: ParseError) -> Failure {
-        Failure::Refused(error)
-    }
-}
-
-impl From<ListError> for Failure {
-    fn from(error: ListError) -> Failure {
-        match error {
-            ListError::Unreadable(line) => Failure::Unreadable(line),
-            ListError::OutOfMemory => Failure::from(AllocError),
-        }
-    }
-}
-
-// Sets the limits and options that the command line names.
-fn set_limits(engine: &mut Engine, limits: &Limits) {
-    let expr_depth = limits.expr_depth.unwrap_or(engine.max_expr_depth());
-    engine.set_max_expr_depth(expr_depth);
-    let fn_depth = limits.fn_depth.unwrap_or(engine.max_function_expr_depth());
-    engine.set_max_function_expr_depth(fn_depth);
-    engine.set_max_functions(limits.functions.unwrap_or(engine.max_functions()));
-    engine.set_max_array_size(limits.array.unwrap_or(engine.max_array_size()));
-    engine.set_max_map_size(limits.map.unwrap_or(engine.max_map_size()));
-    if let Some(bits) = limits.options {
-        engine.set_options(LangOptions::from_bits_retain(bits));
-    }
-}
-
-// The tree of a stream that is one expression.
-fn parse_expr(alloc: Global, engine: &Engine, mut input: TokenStream) -> ParseResult<AST> {
-    let mut lib = FnLib::new(alloc);
-    let state = ParseState::new(alloc, None, &mut input, TokenizerControl, &mut lib);
-    engine.parse_global_expr(state, |_settings| {}, OptimizationLevel::None)
-}
-
-// The tree of a stream that is a script.
-fn parse_script(alloc: Global, engine: &Engine, mut input: TokenStream) -> ParseResult<AST> {
-    let mut lib = FnLib::new(alloc);
-    let mut state = ParseState::new(alloc, None, &mut input, TokenizerControl, &mut lib);
-    let (statements, functions) = engine.parse_global_level(&mut state, |_settings| {})?;
-    Ok(AST {
-        statements,
-        functions,
-    })
-}
-
-// The tree of a list of tokens, parsed by this entry.
-fn parse(alloc: Global, entry: Entry, limits: &Limits, list: TokenList) -> ParseResult<AST>
-    requires { All (λ e. IsTrue (may_be_delivered e)) list.entries.items }
-{
-    let mut engine = Engine::new(alloc);
-    set_limits(&mut engine, limits);
-    let input = TokenStream::new(list.entries, list.end);
-    match entry {
-        Entry::Expr => parse_expr(alloc, &engine, input),
-        Entry::Script => parse_script(alloc, &engine, input),
-    }
-}
-
-// The list of tokens that the input is.
-fn read_input<R: Read>(alloc: Global, input: &mut R) -> Result<TokenList, Failure>
-    ensures { IfOk result (λ list. All (λ e. IsTrue (may_be_delivered e)) list.entries.items) }
-{
-    let lines = read_lines(alloc, input)?;
-    Ok(read_list(alloc, &lines)?)
-}
-
-// What is printed of what the parser returned, if it is a tree.
-fn tree_text(alloc: Global, script: ParseResult<AST>) -> Result<String, Failure> {
-    let script = script?;
-    Ok(accepted(alloc, &script)?)
-}
-
+// What is printed of the tree that the input has.
 fn answer<R: Read>(alloc: Global, words: &[String], input: &mut R) -> Result<String, Failure> {
-    let (entry, limits) = read_words(words).ok_or(Failure::Unreadable(0))?;
-    let list = read_input(alloc, input)?;
-    tree_text(alloc, parse(alloc, entry, &limits, list))
-}
-
-// Prints why there is no tree, and returns the exit status.
-fn print_failure<W: Write>(output: &mut W, failure: &Failure) -> io::Result<u8> {
-    match failure {
-        Failure::Unreadable(line) => {
-            writeln!(output, "unreadable line {line}")?;
-            Ok(2)
-        }
-        Failure::Refused(error) => {
-            let refused = Refused(error);
-            writeln!(output, "refused {refused}")?;
-            Ok(1)
-        }
-    }
-}
-
-// Prints the answer, and returns the exit status.
-fn print<W: Write>(output: &mut W, answer: &Result<String, Failure>) -> io::Result<u8> {
-    let status = match answer {
-        Ok(text) => {
-            output.write_all(text.as_bytes())?;
-            0
-        }
-        Err(failure) => print_failure(output, failure)?,
-    };
-    output.flush()?;
-    Ok(status)
+    let script = read_tree(alloc, words, input)?;
+    Ok(accepted(alloc, &script)?)
 }
 
 /// Runs the program on the words of its command line, without its name, and returns its exit status. It reads the whole
@@ -147,17 +22,7 @@ pub fn run<R: Read, W: Write>(
     output: &mut W,
 ) -> u8 {
     let answer = answer(alloc, words, input);
-    print(output, &answer).unwrap_or(2)
-}
-
-/// Runs the program if the words of the command line could not be read, because memory ran out or because one of them
-/// is not UTF-8, and returns its exit status.
-pub fn refuse_words<W: Write>(error: &io::Error, output: &mut W) -> u8 {
-    let failure = match error.kind() {
-        ErrorKind::OutOfMemory => Failure::from(AllocError),
-        _ => Failure::Unreadable(0),
-    };
-    print(output, &Err(failure)).unwrap_or(2)
+    print_answer(output, &answer)
 }
 
 #[cfg(test)]

@@ -1,5 +1,10 @@
 //! What an operand begins with: a value, a name, a group, an array, an object map, a string, a construct, or a closure.
 
+ghost use Rattle.std.specs.Prelude.{◌≡◌, false};
+ghost use Rattle.rhai_grammar.specs.Beginnings.{beginning};
+ghost use Rattle.rhai_language.specs.Readers.{state_of};
+ghost use Rattle.rhai_reading.specs.Running.{asked};
+ghost use Rattle.rhai_primaries.specs.Plain.{is_plain};
 ghost use Rattle.rhai_language.specs.Readers.{Covers, GoesOn, Reads, primary};
 ghost use Rattle.rhai_language.specs.Rooms.{Stays};
 ghost use Rattle.rhai_trees.specs.Chains.{chain_view};
@@ -56,6 +61,40 @@ impl<R: LentReaders> PrimaryReader<'_, R> {
                 let called = is_called(shared.input)?;
                 used_word(alloc, settings, word, called, pos)
             }
+            Beginning::Group
+            | Beginning::Array
+            | Beginning::Map
+            | Beginning::Interpolated
+            | Beginning::Construct(_)
+            | Beginning::Closure(_)
+            | Beginning::Sign
+            | Beginning::Range
+            | Beginning::Nothing => self.parse_compound(shared, frame, settings),
+        }
+    }
+
+    // Reads an operand that is not one token. It is apart from the operands that are, since these are many, and each
+    // place that a function may use costs time whenever the function is called.
+    #[inline(never)]
+    #[tactic(auto, using(crate::proofs::Readers::parse_primary))]
+    fn parse_compound(
+        &self,
+        shared: &mut Shared<'_>,
+        frame: &Frame<'_>,
+        settings: ParseSettings,
+    ) -> ParseResult<Chain>
+        requires compound { is_plain (beginning (asked (state_of shared.old)).lexeme) ≡ false }
+        requires lent { Covers (R.lent self.now.readers) (primary self.now.language.now frame.now settings)
+            shared.old }
+        ensures goes_on { GoesOn shared.old shared.new }
+        ensures stays { Stays self.now.language.now frame.now settings 1 shared.old shared.new }
+        ensures reads { Reads (primary self.now.language.now frame.now settings) chain_view shared.old result
+            shared.new }
+    {
+        let alloc = self.language.alloc();
+        let (token, pos) = peek(shared.input)?;
+        let pos = *pos;
+        match what_begins(token) {
             Beginning::Group => {
                 skip(shared.input);
                 let deeper = settings.at(pos).level_up()?;
@@ -107,7 +146,11 @@ impl<R: LentReaders> PrimaryReader<'_, R> {
                 nested!(shared, self.parse_closure(shared, frame, here, bars))
             }
             Beginning::Range => Ok(Chain::from_value(alloc, Expr::IntegerConstant(0, pos))),
-            Beginning::Sign | Beginning::Nothing => Err(no_operand(alloc, token, pos)),
+            Beginning::Value
+            | Beginning::Name
+            | Beginning::Word
+            | Beginning::Sign
+            | Beginning::Nothing => Err(no_operand(alloc, token, pos)),
         }
     }
 }

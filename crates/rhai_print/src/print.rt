@@ -24,6 +24,10 @@ fn print_function(text: &mut String, function: &ScriptFuncDef) -> Result<(), All
         write!(text, " {parameter}")?;
     }
     text.push_str("\n")?;
+    for comment in &function.comments {
+        let comment = Escaped(comment);
+        writeln!(text, "  Doc {comment}")?;
+    }
     print_block(text, 1, &function.body)
 }
 

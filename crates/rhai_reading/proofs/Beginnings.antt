@@ -1,6 +1,6 @@
 -- Which token it is that a view of one found.
 use Rattle.std.proofs.Common.{◌≡◌, ℕ, Bool, true, false, refl, ap, ◌∙◌, subst, if◌then◌else◌}
-use Rattle.rhai_lower.specs.Lexemes.{Lexeme, Interpolated, Name, Reserved, Sign, String, text_of}
+use Rattle.rhai_lower.specs.Lexemes.{Comment, Lexeme, Interpolated, Name, Reserved, Sign, String, text_of}
 use Rattle.rhai_grammar.specs.Interpolations.{is_last_text, is_text}
 use Rattle.rhai_grammar.specs.Starts.{jump_token}
 use Rattle.std.specs.Prelude.{Some}
@@ -23,7 +23,7 @@ use Rattle.rhai_grammar.specs.Beginnings.{beginning, calling, is_name, member_pl
 use Rattle.rhai_grammar.specs.Literals.{item_place, KeyPlace, FieldsEnd, AKey, key_place}
 use Rattle.rhai_grammar.specs.Verdicts.{no_method}
 use Rattle.rhai_grammar.specs.Targets.{is_equals}
-use Rattle.rhai_grammar.specs.Statements.{allowed_start, any_start, defines, keyword_of, name_due, no_variable}
+use Rattle.rhai_grammar.specs.Statements.{is_comment, allowed_start, any_start, defines, keyword_of, name_due, no_variable}
 use Rattle.rhai_grammar.specs.Statements.{token_after_statement}
 use Rattle.rhai_grammar.specs.Statements.{statement_start}
 use Rattle.rhai_grammar.specs.Constructs.{construct_token, do_end, do_token, may_be_value, may_stand}
@@ -146,6 +146,7 @@ Starts start.Import i = i ≡ item (Sign token.Import) i.at
 Starts start.Export i = i ≡ item (Sign token.Export) i.at
 Starts start.Function i = i ≡ item (Sign token.Fn) i.at
 Starts start.Private i = i ≡ item (Sign token.Private) i.at
+Starts start.Comment i = i ≡ item (Comment (text_of i.lexeme)) i.at
 Starts start.Expression i = Unit {0}
 
 starts : (l : Lexeme) (p : Position) → Starts (any_start l) (item l p)
@@ -168,6 +169,7 @@ starts (Sign token.Import) p = refl
 starts (Sign token.Export) p = refl
 starts (Sign token.Fn) p = refl
 starts (Sign token.Private) p = refl
+starts (Comment t) p = refl
 starts _ p = tt
 
 -- and the engine allows it
@@ -199,6 +201,7 @@ allowed c start.Import i h = (tt, h)
 allowed c start.Export i h = (tt, h)
 allowed c start.Function i h = (tt, h)
 allowed c start.Private i h = (tt, h)
+allowed c start.Comment i h = (tt, h)
 allowed c start.Expression i h = (tt, h)
 
 pub started : {v : StatementStart} (c : Context) (s : Point) → statement_start c (op_at s) ≡ v
@@ -318,6 +321,10 @@ no_name _ e = refl
 pub name_is : (l : Lexeme) (p : Position) → is_name l ≡ true → item l p ≡ item (Name (text_of l)) p
 name_is (Name t) p e = refl
 name_is _ p e = absurd cc
+
+pub comment_is : (l : Lexeme) (p : Position) → is_comment l ≡ true → item l p ≡ item (Comment (text_of l)) p
+comment_is (Comment t) p e = refl
+comment_is _ p e = absurd cc
 
 -- a member that is no name is a reserved word
 pub word_is : (l : Lexeme) (p : Position) → is_member (member_place l) ≡ true → is_name l ≡ false

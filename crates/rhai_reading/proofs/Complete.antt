@@ -149,8 +149,8 @@ mutual
   statement (form.Export pos name name_at other) = T.export pos name name_at other
   statement (form.ExportDefined pos constant keyword name name_at value) =
       T.export_defined pos constant keyword name name_at value (initializer value)
-  statement (form.Function is_private pos owner name name_at list opening f) =
-      Y.statement is_private pos (record {
+  statement (form.Function comments is_private pos owner name name_at list opening f) =
+      Y.statement comments is_private pos (record {
         head = record { owner = owner; name = name; at = name_at };
         list = list;
         opening = opening;

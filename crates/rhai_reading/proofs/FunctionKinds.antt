@@ -1,5 +1,5 @@
 -- The forms of functions that each reader reads, with their trees and demands.
-use Rattle.std.proofs.Common.{Bool, Option, List, []}
+use Rattle.std.proofs.Common.{◌≡◌, Bool, false, Option, List, [], ◌++◌}
 use Rattle.rhai_lower.specs.Texts.{Text}
 use Rattle.rhai_lower.specs.Lexemes.{Sign}
 use Rattle.rhai_lower.specs.Nodes as node
@@ -9,17 +9,21 @@ use Rattle.rhai_lower.specs.declared.position.Position.{Position}
 use Rattle.rhai_lower.specs.declared.token.Token.TheVariants as token
 use Rattle.rhai_grammar.specs.Causes as cause
 use Rattle.rhai_grammar.specs.Causes.{refusal}
+use Rattle.rhai_grammar.specs.Comments.{Comment}
 use Rattle.rhai_grammar.specs.Contexts.{Context, Live, is_global, level_up}
-use Rattle.rhai_grammar.specs.Delivered.{code, item}
+use Rattle.rhai_grammar.specs.Delivered.{code, item, Point}
 use Rattle.rhai_grammar.specs.Demands.{Demands, Test, TestIn, Tok, ◌▸◌}
 use Rattle.rhai_grammar.specs.Forms as form
 use Rattle.rhai_grammar.specs.Forms.{Body, Owner, ParameterList, Parameters}
 use Rattle.rhai_grammar.specs.Functions.{body_due, ended_function, in_function, may_begin, names_after, owner_of}
 use Rattle.rhai_grammar.specs.Functions.{parameter_names, parameters_live}
 use Rattle.rhai_grammar.specs.Libraries.{Ended}
+use Rattle.rhai_grammar.specs.Statements.{is_comment}
 use Rattle.rhai_grammar.specs.declared.list.CommaList.{CommaList}
 use Rattle.rhai_grammar.specs.Trees.{block_tree}
 use Rattle.rhai_grammar.specs.Written as W
+use Rattle.rhai_reading.proofs.Looks.{op_at}
+use Rattle.rhai_reading.proofs.Paths.{Passes}
 use Rattle.rhai_reading.proofs.Shows.{Kind}
 
 -- the name of a function, with the type of its objects
@@ -46,6 +50,14 @@ parameters parts function before = record {
   demands = λ x k. W.parameters x parts function before k;
 }
 
+-- Further doc comments were read, and no other one comes next.
+pub record CommentsRead (c : Context) (first : Position) (before : List Comment) (s : Point) (xs : List Comment)
+    (t : Point) : Type 0 where
+  pub rest : List Comment
+  pub is : before ++ rest ≡ xs
+  pub passes : Passes s (λ k. W.further_comments rest first c k) t
+  pub ended : is_comment (op_at t) ≡ false
+
 -- a function after its `fn`
 pub record FunctionForm : Type 0 where
   pub head : HeadForm
@@ -53,10 +65,10 @@ pub record FunctionForm : Type 0 where
   pub opening : Position
   pub body : Body
 
-abbrev pub function_of : (is_private : Bool) → FunctionForm → Ended
-function_of is_private f =
+abbrev pub function_of : List Comment → (is_private : Bool) → FunctionForm → Ended
+function_of comments is_private f =
     let names = parameter_names f.list in
-    ended_function is_private (owner_of f.head.owner) f.head.name names
+    ended_function comments is_private (owner_of f.head.owner) f.head.name names
     (block_tree f.opening f.body (parameters_live names))
 
 abbrev pub function_demands : Context → (at : Position) → FunctionForm → Demands → Demands
@@ -66,25 +78,25 @@ function_demands c at f k =
     Tok code (item (Sign token.LeftBrace) f.opening) (body_due f.head.name) ▸ W.raise_at c at (
     W.block f.body (level_up c) (parameters_live (parameter_names f.list)) k)))
 
-abbrev pub functions : Context → (at : Position) → (is_private : Bool) → Kind FunctionForm Ended
-functions c at is_private =
-    record { tree = λ t f. function_of is_private f; demands = function_demands c at }
+abbrev pub functions : Context → List Comment → (at : Position) → (is_private : Bool) → Kind FunctionForm Ended
+functions c comments at is_private =
+    record { tree = λ t f. function_of comments is_private f; demands = function_demands c at }
 
 -- a function as a statement
-abbrev pub function_statements : Context → Live → (first at : Position) → (is_private : Bool)
+abbrev pub function_statements : Context → Live → List Comment → (first at : Position) → (is_private : Bool)
     → Kind FunctionForm (node.Statement × Live)
-function_statements c w first at is_private = record {
+function_statements c w comments first at is_private = record {
   tree = λ t f. (noop at, w);
   demands = λ f k.
       Test (is_global c) (refusal cause.WrongFnDefinition first) ▸
       TestIn (may_begin c) (refusal cause.TooManyFunctions at) ▸ W.raise_at (in_function c w) at (
-      function_demands (level_up (in_function c w)) at f (W.function_ends (function_of is_private f) at k));
+      function_demands (level_up (in_function c w)) at f (W.function_ends (function_of comments is_private f) at k));
 }
 
--- the statement of a function
-abbrev pub function_form : (is_private : Option Position) → (at : Position) → FunctionForm → form.Statement
-function_form is_private at f =
-    form.Function is_private at f.head.owner f.head.name f.head.at f.list f.opening f.body
+-- the statement of a function after its doc comments
+abbrev pub function_form : List Comment → (is_private : Option Position) → (at : Position) → FunctionForm → form.Statement
+function_form comments is_private at f =
+    form.Function comments is_private at f.head.owner f.head.name f.head.at f.list f.opening f.body
 
 -- ---- fillers: what stands after a missed demand
 

@@ -101,6 +101,11 @@ pub wrong : {i : Item} {v : Lexeme → Verdict} {ds : Demands} {s : Point} {c : 
     → v (op_at s) ≡ Wrong c → Way (Tok code i v ▸ ds) s (Lost (refusal c (pos_at s)) s)
 wrong {v = v} {s = s} m e = lost (lost_at v s _ _ m e refl)
 
+-- so it is where what stands before it is refused
+pub blamed_at : {i : Item} {v : Lexeme → Verdict} {ds : Demands} {s : Point} {e : Refusal} → is_memory (op_at s) ≡ false
+    → v (op_at s) ≡ Blames e → Way (Tok code i v ▸ ds) s (Lost e s)
+blamed_at {v = v} {s = s} m e = lost (lost_at v s _ _ m e refl)
+
 -- the token that comes next is refused, or what stands before it
 pub ill : {v : Lexeme → Verdict} {ds : Demands} {s : Point} {c : Cause} → is_memory (op_at s) ≡ false
     → v (op_at s) ≡ Wrong c → Way (Next v ▸ ds) s (Lost (refusal c (pos_at s)) s)

@@ -90,8 +90,10 @@ step ih (R.DefaultArm c w default) s b = tells (X.default_arm ih c w default s b
 step ih (R.Action c w) s b = tells (X.action ih c w s b)
 step {call = call} ih (R.ArmEnd itself) s b = tells (X.arm_end call itself s b)
 step {call = call} ih (R.DefaultEnd default) s b = tells (X.default_end call default s b)
-step ih (R.FunctionStatement c w from at is_private) s b = tells (Y.function_statement ih c w from at is_private s b)
-step ih (R.Function c at is_private) s b = tells (Y.function ih c at is_private s b)
+step ih (R.Comments before) s b = λ c start. tells (Y.further_comments ih before c start s b)
+step ih (R.FunctionStatement c w comments from at is_private) s b =
+    tells (Y.function_statement ih c w comments from at is_private s b)
+step ih (R.Function c comments at is_private) s b = tells (Y.function ih c comments at is_private s b)
 step {call = call} ih R.FunctionHead s b = tells (Y.head call s b)
 step ih (R.ParameterList function) s b = tells (Y.parameter_list ih function s b)
 step ih (R.Parameters parts function before) s b = tells (Y.parameters_of ih parts function before s b)
@@ -114,6 +116,7 @@ none (R.Postfix c w x) s b = λ place from p is G. record { told = tt }
 none (R.Called c w name qualified) s b = λ on. record { told = tt }
 none (R.Path w x) s b = λ named on. record { told = tt }
 none (R.Member c w) s b = λ is. record { told = tt }
+none (R.Comments before) s b = λ c start. record { told = tt }
 none (R.BinaryOp c w pos p lhs) s b = λ q from L live is height same suits ended stands. record { told = tt }
 none _ s b = record { told = tt }
 

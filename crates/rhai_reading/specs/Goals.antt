@@ -6,6 +6,7 @@ use Rattle.rhai_grammar.specs.Uses.{Use}
 use Rattle.rhai_grammar.specs.declared.role.Bars.{Bars}
 use Rattle.rhai_grammar.specs.Causes as cause
 use Rattle.rhai_grammar.specs.Causes.{Refusal, refusal}
+use Rattle.rhai_grammar.specs.Comments.{Comment}
 use Rattle.rhai_grammar.specs.DueTokens.{is_due, not_due}
 use Rattle.rhai_grammar.specs.declared.due.DueToken.{DueToken}
 use Rattle.rhai_grammar.specs.declared.filter.ExprFilter.{ExprFilter}
@@ -137,10 +138,13 @@ pub data Goal : Type 0 where
   ArmEnd : (itself : Bool) → Goal
   -- the `}` after the default arm, whose `_` is at a position
   DefaultEnd : (default : Position) → Goal
-  -- a function after its `fn`, which is at a position, as a statement whose first token is at another
-  FunctionStatement : Context → Live → (first at : Position) (is_private : Bool) → Goal
-  -- a function, under its own settings, up to the end of its body
-  Function : Context → (at : Position) (is_private : Bool) → Goal
+  -- the doc comments that follow, after these
+  Comments : (before : List Comment) → Goal
+  -- a function with these doc comments after its `fn`, which is at a position, as a statement whose `private` or `fn`
+  -- is at another
+  FunctionStatement : Context → Live → List Comment → (first at : Position) (is_private : Bool) → Goal
+  -- a function with these doc comments, under its own settings, up to the end of its body
+  Function : Context → List Comment → (at : Position) (is_private : Bool) → Goal
   -- its name, with the type of its objects, if it has one
   FunctionHead : Goal
   -- its parameters, after its name
@@ -210,8 +214,9 @@ Val (CaseGuard context live) = Node
 Val (Action context live) = Node × Bool
 Val (ArmEnd itself) = Unit {0}
 Val (DefaultEnd default) = Unit {0}
-Val (FunctionStatement context live first at is_private) = node.Statement × Live
-Val (Function context at is_private) = Ended
+Val (Comments before) = List Comment
+Val (FunctionStatement context live comments first at is_private) = node.Statement × Live
+Val (Function context comments at is_private) = Ended
 Val FunctionHead = Option Text × Text
 Val (ParameterList function) = List Text
 Val (Parameters parts function before) = List Text

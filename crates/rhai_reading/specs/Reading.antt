@@ -61,16 +61,18 @@ pub use Rattle.rhai_reading.specs.Goals.{Definition, Statement, Statements, Bloc
 pub use Rattle.rhai_reading.specs.Goals.{Branch, Braced, Catch, Conditional, Construct, DoEnd, Guard, Iterated}
 pub use Rattle.rhai_reading.specs.Goals.{Alias, Export, Import, LoopNames, Path, RightOperand}
 pub use Rattle.rhai_reading.specs.Goals.{Action, Arm, ArmEnd, Arms, Case, CaseGuard, Cases, DefaultArm}
-pub use Rattle.rhai_reading.specs.Goals.{DefaultEnd, Function, FunctionHead, FunctionStatement, ParameterList}
+pub use Rattle.rhai_reading.specs.Goals.{Comments, DefaultEnd, Function, FunctionHead, FunctionStatement, ParameterList}
 pub use Rattle.rhai_reading.specs.Goals.{Closure, ClosureBody, Parameters, Script, Val}
 pub use Rattle.rhai_reading.specs.Goals.{Ret, Fail, Peek, Take, TakeText, Know, Add, Note, Call, CallLiteral, CallApart, Prog}
 pub use Rattle.rhai_reading.specs.Goals.{after_a_part, construct_on, match_name, match_token, part_next, raised, tested}
 pub use Rattle.rhai_reading.specs.ReadingStatements.{evaluated_at, var_name_at, value_at, definition_on}
 pub use Rattle.rhai_reading.specs.ReadingStatements.{jump_on, loop_at, statement_at, separated_at, statements_on}
+pub use Rattle.rhai_reading.specs.ReadingStatements.{documented, documented_at, fn_on, private_on}
 pub use Rattle.rhai_reading.specs.ReadingStatements.{statements_at, inside_on, inside_construct, guard_on}
 pub use Rattle.rhai_reading.specs.ReadingStatements.{no_brace, else_at, branch_at, counted_on}
 pub use Rattle.rhai_reading.specs.ReadingStatements.{first_of_two, loop_names_at, catch_at, do_end_at}
 pub use Rattle.rhai_reading.specs.ReadingStatements.{alias_at, export_at, export_on, global_at, import_on}
+pub use Rattle.rhai_reading.specs.ReadingFunctions.{comment_of, comments_at}
 pub use Rattle.rhai_reading.specs.ReadingFunctions.{function_at, function_body_at, function_end, function_on, head_at}
 pub use Rattle.rhai_reading.specs.ReadingClosures.{captured_on, closure_added, closure_at, closure_body_at, closure_by, closure_end, closure_on}
 use Rattle.rhai_grammar.specs.Modules.{captures_use}
@@ -397,10 +399,12 @@ body (CaseGuard context live) = Peek (λ lexeme at. case_guard_at context live l
 body (Action context live) = action_on context live (has_single_blocks context)
 body (ArmEnd itself) = Peek (λ lexeme at. arm_end_at itself lexeme at (after_part lists.Arms lexeme))
 body (DefaultEnd default) = Peek (λ lexeme at. default_end_at default lexeme at (arm_place lexeme))
-body (FunctionStatement context live first at is_private) = function_at context live first at is_private
-body (Function context at is_private) =
+body (Comments before) = Peek (comments_at before)
+body (FunctionStatement context live comments first at is_private) =
+    function_at context live comments first at is_private
+body (Function context comments at is_private) =
     Call FunctionHead (λ head. Call (ParameterList head.1) (λ names.
-    Peek (function_body_at context at is_private head names)))
+    Peek (function_body_at context comments at is_private head names)))
 body FunctionHead = Peek head_at
 body (ParameterList function) = Peek (λ lexeme at. parameters_at function lexeme at (calling lexeme))
 body (Parameters parts function before) =

@@ -8,6 +8,7 @@ use Rattle.rhai_lower.specs.declared.position.Position.{Position}
 use Rattle.rhai_grammar.specs.Beginnings.{is_name}
 use Rattle.rhai_grammar.specs.Causes as cause
 use Rattle.rhai_grammar.specs.Causes.{refusal}
+use Rattle.rhai_grammar.specs.Comments.{Comment}
 use Rattle.rhai_grammar.specs.Contexts.{Context, Live, is_global}
 use Rattle.rhai_grammar.specs.DueTokens.{is_due, not_due}
 use Rattle.rhai_grammar.specs.Functions.{duplicate_of, ended_function, in_function, is_new, is_type, may_begin, no_body}
@@ -15,6 +16,7 @@ use Rattle.rhai_grammar.specs.Functions.{names_function}
 use Rattle.rhai_grammar.specs.Functions.{no_function_name, no_parameter, no_parameters, parameters_live, type_name}
 use Rattle.rhai_grammar.specs.Imports.{is_among}
 use Rattle.rhai_grammar.specs.Libraries.{Ended, Library}
+use Rattle.rhai_grammar.specs.Statements.{is_comment}
 use Rattle.rhai_grammar.specs.declared.due.DueToken.TheVariants as due
 use Rattle.rhai_grammar.specs.declared.list.CommaList.{CommaList}
 use Rattle.rhai_grammar.specs.declared.list.CommaList.TheVariants as lists
@@ -22,9 +24,20 @@ use Rattle.rhai_grammar.specs.declared.role.Calling.{Calling}
 use Rattle.rhai_grammar.specs.declared.role.Calling.TheVariants as calls_by
 use Rattle.rhai_grammar.specs.declared.role.ItemPlace.{ItemPlace}
 use Rattle.rhai_grammar.specs.declared.role.ItemPlace.TheVariants as place
-use Rattle.rhai_reading.specs.Goals.{Block, Function, Parameters}
+use Rattle.rhai_reading.specs.Goals.{Block, Comments, Function, Parameters}
 use Rattle.rhai_reading.specs.Goals.{Ret, Fail, Peek, Take, Know, Add, Call, Prog}
 use Rattle.rhai_reading.specs.Goals.{after_a_part, raised}
+
+-- ---- its doc comments
+
+-- a token as a doc comment
+abbrev pub comment_of : Lexeme → Position → Comment
+comment_of lexeme at = record { text = text_of lexeme; at = at }
+
+-- after these doc comments
+abbrev pub comments_at : (before : List Comment) → Lexeme → Position → Prog (List Comment)
+comments_at before lexeme at =
+    if is_comment lexeme then Take (Call (Comments (before ++ comment_of lexeme at ∷ [])) Ret) else Ret before
 
 -- ---- the name
 
@@ -70,12 +83,12 @@ parameters_at function lexeme at _ = Fail (refusal (no_parameters function lexem
 -- ---- the body
 
 -- after the parameters
-abbrev pub function_body_at : Context → (at : Position) → (is_private : Bool) → (head : Option Text × Text)
-    → (names : List Text) → Lexeme → Position → Prog Ended
-function_body_at context at is_private head names lexeme opening =
+abbrev pub function_body_at : Context → List Comment → (at : Position) → (is_private : Bool)
+    → (head : Option Text × Text) → (names : List Text) → Lexeme → Position → Prog Ended
+function_body_at context comments at is_private head names lexeme opening =
     if is_due due.LeftBrace lexeme then Take (raised context at (λ deeper.
     Call (Block deeper (parameters_live names) opening) (λ body.
-    Ret (ended_function is_private head.0 head.1 names body))))
+    Ret (ended_function comments is_private head.0 head.1 names body))))
     else Fail (refusal (no_body head.1 lexeme) opening)
 
 -- after the body
@@ -84,15 +97,16 @@ function_end live at ended library =
     if is_new ended.key library then Add ended (Ret (noop at, live)) else Fail (duplicate_of ended.key at)
 
 -- after `fn`, where one more function may begin or not
-abbrev pub function_on : Context → Live → (at : Position) → (is_private : Bool) → Library
+abbrev pub function_on : Context → Live → List Comment → (at : Position) → (is_private : Bool) → Library
     → Prog (node.Statement × Live)
-function_on context live at is_private library =
+function_on context live comments at is_private library =
     if may_begin context library then raised (in_function context live) at (λ deeper.
-    Call (Function deeper at is_private) (λ ended. Know (function_end live at ended)))
+    Call (Function deeper comments at is_private) (λ ended. Know (function_end live at ended)))
     else Fail (refusal cause.TooManyFunctions at)
 
 -- after `fn`, which stands at the global level or not
-abbrev pub function_at : Context → Live → (first at : Position) → (is_private : Bool) → Prog (node.Statement × Live)
-function_at context live first at is_private =
-    if is_global context then Know (function_on context live at is_private)
+abbrev pub function_at : Context → Live → List Comment → (first at : Position) → (is_private : Bool)
+    → Prog (node.Statement × Live)
+function_at context live comments first at is_private =
+    if is_global context then Know (function_on context live comments at is_private)
     else Fail (refusal cause.WrongFnDefinition first)

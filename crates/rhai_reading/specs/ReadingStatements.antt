@@ -1,5 +1,5 @@
 -- The terms of the readers of statements and constructs.
-use Rattle.std.specs.Prelude.{Bool, true, false, Option, Some, None, codes}
+use Rattle.std.specs.Prelude.{Bool, true, false, Option, Some, None, List, [], ◌∷◌, codes}
 use Rattle.std.specs.Prelude.{unwrap_or, if◌then◌else◌}
 use Rattle.rhai_lower.specs.Texts.{Text, same_text}
 use Rattle.rhai_lower.specs.Lexemes.{Lexeme, text_of}
@@ -13,6 +13,7 @@ use Rattle.rhai_lower.specs.Positions.{nowhere}
 use Rattle.rhai_lower.specs.declared.position.Position.{Position}
 use Rattle.rhai_grammar.specs.Causes as cause
 use Rattle.rhai_grammar.specs.Causes.{Refusal, refusal}
+use Rattle.rhai_grammar.specs.Comments.{Comment}
 use Rattle.rhai_grammar.specs.declared.due.DueToken.TheVariants as due
 use Rattle.rhai_grammar.specs.Contexts.{Context, Live, below_global, in_block, is_global, is_in_loop, loop_body}
 use Rattle.rhai_grammar.specs.Constructs.{guard_expected, no_assignment}
@@ -21,7 +22,7 @@ use Rattle.rhai_grammar.specs.DueTokens.{is_due}
 use Rattle.rhai_grammar.specs.declared.role.Construct.{Construct as Kind}
 use Rattle.rhai_grammar.specs.declared.role.Construct.TheVariants as kind
 use Rattle.rhai_grammar.specs.Targets.{is_assignment, is_constant_use, is_equals, target_fault, update_of}
-use Rattle.rhai_grammar.specs.Statements.{ends_itself, no_variable, token_after_statement}
+use Rattle.rhai_grammar.specs.Statements.{ends_itself, no_variable, statement_start, token_after_statement}
 use Rattle.rhai_grammar.specs.declared.role.AfterStatement.{AfterStatement}
 use Rattle.rhai_grammar.specs.declared.role.AfterStatement.TheVariants as ends
 use Rattle.rhai_grammar.specs.declared.role.Closing.{Closing}
@@ -40,9 +41,10 @@ use Rattle.rhai_reading.specs.Goals.{Jump}
 use Rattle.rhai_reading.specs.Goals.{ExprStatement}
 use Rattle.rhai_reading.specs.Goals.{Definition, Statement, Statements, Block}
 use Rattle.rhai_reading.specs.Goals.{Arms, Braced, Catch, Conditional, DoEnd, Guard, Iterated}
-use Rattle.rhai_reading.specs.Goals.{Alias, Export, FunctionStatement, Import, LoopNames}
+use Rattle.rhai_reading.specs.Goals.{Alias, Comments, Export, FunctionStatement, Import, LoopNames}
 use Rattle.rhai_reading.specs.Goals.{Ret, Fail, Peek, Take, Call, Prog}
 use Rattle.rhai_reading.specs.Goals.{match_name, match_token, raised, tested}
+use Rattle.rhai_reading.specs.ReadingFunctions.{comment_of}
 
 -- after an expression
 abbrev pub evaluated_at : Context → Live → Node → Lexeme → Position → Prog node.Statement
@@ -100,6 +102,29 @@ jump_on context live at throws =
 abbrev pub loop_at : {A : Type 0} → Context → Position → Prog A → Prog A
 loop_at context at rest = if is_in_loop context then rest else Fail (refusal cause.LoopBreak at)
 
+-- where the `fn` of a function with these doc comments is
+abbrev pub fn_on : Context → Live → List Comment → Position → Prog (node.Statement × Live)
+fn_on context live comments at = Take (Call (FunctionStatement context live comments at at false) Ret)
+
+-- where its `private` is
+abbrev pub private_on : Context → Live → List Comment → Position → Prog (node.Statement × Live)
+private_on context live comments at =
+    Take (Peek (λ lexeme pos. match_token due.Fn (Call (FunctionStatement context live comments at pos true) Ret)))
+
+-- after doc comments, of which the first one is at a position
+abbrev pub documented_at : Context → Live → (first : Position) → List Comment → Position → StatementStart
+    → Prog (node.Statement × Live)
+documented_at context live first comments at start.Function = fn_on context live comments at
+documented_at context live first comments at start.Private = private_on context live comments at
+documented_at context live first comments at _ = Fail (refusal cause.WrongDocComment first)
+
+-- after the first doc comment
+abbrev pub documented : Context → Live → (first : Comment) → Prog (node.Statement × Live)
+documented context live first =
+    if is_global context then Call (Comments (first ∷ [])) (λ comments. Peek (λ lexeme at.
+    documented_at context live first.at comments at (statement_start context lexeme)))
+    else Fail (refusal cause.WrongDocComment first.at)
+
 -- where a statement begins
 abbrev pub statement_at : Context → Live → Position → StatementStart → Prog (node.Statement × Live)
 statement_at context live at start.Empty = Take (Ret (noop at, live))
@@ -115,9 +140,10 @@ statement_at context live at start.Import =
     Take (raised context at (λ deeper. raised deeper at (λ inside. Call (Import inside live at) Ret)))
 statement_at context live at start.Export =
     Take (global_at context at (raised context at (λ deeper. Call (Export deeper live at) Ret)))
-statement_at context live at start.Function = Take (Call (FunctionStatement context live at at false) Ret)
-statement_at context live at start.Private =
-    Take (Peek (λ lexeme pos. match_token due.Fn (Call (FunctionStatement context live at pos true) Ret)))
+statement_at context live at start.Function = fn_on context live [] at
+statement_at context live at start.Private = private_on context live [] at
+statement_at context live at start.Comment =
+    Peek (λ lexeme pos. Take (documented context live (comment_of lexeme pos)))
 statement_at context live at start.Expression =
     raised context at (λ deeper. Call (ExprStatement deeper live) (λ f. Ret (f, live)))
 

@@ -22,7 +22,8 @@ use Rattle.rhai_reading.specs.Reading.{Alias, Export, Import, Path}
 use Rattle.rhai_reading.specs.Reading.{Branch, Braced, Catch, Conditional, Construct, DoEnd, Guard, Iterated, LoopNames}
 use Rattle.rhai_reading.specs.Reading.{Action, Arm, ArmEnd, Arms, Case, CaseGuard, Cases, DefaultArm, DefaultEnd}
 use Rattle.rhai_reading.specs.Reading.{RightOperand}
-use Rattle.rhai_reading.specs.Reading.{Closure, ClosureBody, Function, FunctionHead, FunctionStatement, ParameterList, Parameters}
+use Rattle.rhai_reading.specs.Reading.{Closure, ClosureBody, Comments, Function, FunctionHead, FunctionStatement}
+use Rattle.rhai_reading.specs.Reading.{ParameterList, Parameters}
 use Rattle.rhai_reading.specs.Reading.{Prog, body}
 
 -- What is left of a stream, the functions that have ended, the names that the closure around has captured, and how
@@ -148,8 +149,9 @@ rank (CaseGuard context live) = 0
 rank (Action context live) = 6
 rank (ArmEnd itself) = 0
 rank (DefaultEnd default) = 0
-rank (FunctionStatement context live first at is_private) = 2
-rank (Function context at is_private) = 1
+rank (Comments before) = 0
+rank (FunctionStatement context live comments first at is_private) = 2
+rank (Function context comments at is_private) = 1
 rank FunctionHead = 0
 rank (ParameterList function) = 0
 rank (Parameters parts function before) = 0

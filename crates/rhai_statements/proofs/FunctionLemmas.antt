@@ -1,11 +1,12 @@
 -- Functions: what the reading program does where a leaf has decided.
-use Rattle.std.proofs.Common.{◌≡◌, ◌∙◌, ◌+◌, ℕ, Bool, true, false, ◌++◌, Result, ap, arith, if◌then◌else◌, refl, sym}
+use Rattle.std.proofs.Common.{◌≡◌, ◌∙◌, ◌+◌, ℕ, Bool, true, false, List, ◌++◌, Result, ap, arith, if◌then◌else◌, refl, sym}
 use Rattle.rhai_lower.specs.Texts.{Text}
 use Rattle.rhai_lower.specs.Lexemes.{Lexeme}
 use Rattle.rhai_lower.specs.declared.position.Position.{Position}
 use Rattle.rhai_grammar.specs.Beginnings.{calling, is_list}
 use Rattle.rhai_grammar.specs.Causes as cause
 use Rattle.rhai_grammar.specs.Causes.{Refusal, out_of_memory, refusal}
+use Rattle.rhai_grammar.specs.Comments.{Comment}
 use Rattle.rhai_grammar.specs.Contexts.{Context, Known, Live, has_room, is_global, level_up}
 use Rattle.rhai_grammar.specs.Cursors as cursors
 use Rattle.rhai_grammar.specs.Cursors.{Cursor}
@@ -79,33 +80,33 @@ pub record Begun (c : Context) (w : Live) (at : Position) (d : Context) (here : 
   pub stands : here ≡ at
 
 -- what follows the function
-abbrev pub after : (c : Context) (w : Live) (first at : Position) (p : Bool) (s : Progress) → Ended → Progress → Out (node.Statement × Live)
-after c w first at p s ended t =
-    exec (guarded (FunctionStatement c w first at p) s) (function_end w at ended t.library) t
+abbrev pub after : (c : Context) (w : Live) (cs : List Comment) (first at : Position) (p : Bool) (s : Progress) → Ended → Progress → Out (node.Statement × Live)
+after c w cs first at p s ended t =
+    exec (guarded (FunctionStatement c w cs first at p) s) (function_end w at ended t.library) t
 
-pub begun_runs : (c : Context) (w : Live) (first at : Position) (p : Bool) (d : Context) (here : Position) (s : Progress) → Begun c w at d here s
-    → result_of (FunctionStatement c w first at p) s ≡ and_then (nested (result_of (Function d here p)) s) (after c w first at p s)
-begun_runs c w first at p d here s h =
-    let call = guarded (FunctionStatement c w first at p) s in
-    let inside = Call (Function (level_up (in_function c w)) at p) (λ ended. Know (function_end w at ended)) in
-    step_function_statement c w first at p s
-    ∙ ap (λ b. exec call (if b then Know (function_on c w at p) else Fail (refusal cause.WrongFnDefinition first)) s) h.global
-    ∙ ap (λ b. exec call (if b then raised (in_function c w) at (λ deeper. Call (Function deeper at p) (λ ended. Know (function_end w at ended))) else Fail (refusal cause.TooManyFunctions at)) s) h.fits
+pub begun_runs : (c : Context) (w : Live) (cs : List Comment) (first at : Position) (p : Bool) (d : Context) (here : Position) (s : Progress) → Begun c w at d here s
+    → result_of (FunctionStatement c w cs first at p) s ≡ and_then (nested (result_of (Function d cs here p)) s) (after c w cs first at p s)
+begun_runs c w cs first at p d here s h =
+    let call = guarded (FunctionStatement c w cs first at p) s in
+    let inside = Call (Function (level_up (in_function c w)) cs at p) (λ ended. Know (function_end w at ended)) in
+    step_function_statement c w cs first at p s
+    ∙ ap (λ b. exec call (if b then Know (function_on c w cs at p) else Fail (refusal cause.WrongFnDefinition first)) s) h.global
+    ∙ ap (λ b. exec call (if b then raised (in_function c w) at (λ deeper. Call (Function deeper cs at p) (λ ended. Know (function_end w at ended))) else Fail (refusal cause.TooManyFunctions at)) s) h.fits
     ∙ ap (λ b. exec call (if b then inside else Fail (refusal cause.ExprTooDeep at)) s) h.room
-    ∙ ap (λ o. and_then o (after c w first at p s)) (
-    nested_is (FunctionStatement c w first at p) s (Function (level_up (in_function c w)) at p) s (omega arith)
-    ∙ ap (λ e. nested (result_of (Function e at p)) s) (sym h.context)
-    ∙ ap (λ q. nested (result_of (Function d q p)) s) (sym h.stands))
+    ∙ ap (λ o. and_then o (after c w cs first at p s)) (
+    nested_is (FunctionStatement c w cs first at p) s (Function (level_up (in_function c w)) cs at p) s (omega arith)
+    ∙ ap (λ e. nested (result_of (Function e cs at p)) s) (sym h.context)
+    ∙ ap (λ q. nested (result_of (Function d cs q p)) s) (sym h.stands))
 
-pub function_fails : (c : Context) (w : Live) (first at : Position) (p : Bool) (d : Context) (here : Position) (s : Progress) → Begun c w at d here s
-    → (e : ParseError) (t : Progress) → Fails (nested (result_of (Function d here p)) s) e t
-    → Fails (result_of (FunctionStatement c w first at p) s) e t
-function_fails c w first at p d here s h e t fails =
-    (λ told. begun_runs c w first at p d here s h ∙ ap (λ o. and_then o (after c w first at p s)) (fails.0 told), fails.1)
+pub function_fails : (c : Context) (w : Live) (cs : List Comment) (first at : Position) (p : Bool) (d : Context) (here : Position) (s : Progress) → Begun c w at d here s
+    → (e : ParseError) (t : Progress) → Fails (nested (result_of (Function d cs here p)) s) e t
+    → Fails (result_of (FunctionStatement c w cs first at p) s) e t
+function_fails c w cs first at p d here s h e t fails =
+    (λ told. begun_runs c w cs first at p d here s h ∙ ap (λ o. and_then o (after c w cs first at p s)) (fails.0 told), fails.1)
 
-pub function_gives : {X : Type 0} (view : X → node.Statement × Live) (c : Context) (w : Live) (first at : Position) (p : Bool) (d : Context) (here : Position) (s : Progress)
-    → Begun c w at d here s → (ended : Ended) (t : Progress) → nested (result_of (Function d here p)) s ≡ Done ended t
-    → (r : Result X ParseError) (u : Progress) → Gives view (after c w first at p s ended t) r u
-    → Gives view (result_of (FunctionStatement c w first at p) s) r u
-function_gives view c w first at p d here s h ended t done r u gives =
-    gives_so view r u (begun_runs c w first at p d here s h ∙ ap (λ o. and_then o (after c w first at p s)) done) gives
+pub function_gives : {X : Type 0} (view : X → node.Statement × Live) (c : Context) (w : Live) (cs : List Comment) (first at : Position) (p : Bool) (d : Context) (here : Position) (s : Progress)
+    → Begun c w at d here s → (ended : Ended) (t : Progress) → nested (result_of (Function d cs here p)) s ≡ Done ended t
+    → (r : Result X ParseError) (u : Progress) → Gives view (after c w cs first at p s ended t) r u
+    → Gives view (result_of (FunctionStatement c w cs first at p) s) r u
+function_gives view c w cs first at p d here s h ended t done r u gives =
+    gives_so view r u (begun_runs c w cs first at p d here s h ∙ ap (λ o. and_then o (after c w cs first at p s)) done) gives

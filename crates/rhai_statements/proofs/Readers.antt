@@ -1,6 +1,6 @@
 -- What the proofs of the readers rest on: for each reader its equation, and what it makes of what it read.
 use Rattle.rhai_ast.proofs.Views.{view_noop, view_unit}
-use Rattle.rhai_reading.proofs.Steps.{nested_so, step_definition, step_export, step_expr_statement, step_function, step_function_statement, step_import, step_initializer, step_inside, step_jump, step_parameter_list, step_statement, step_statements}
+use Rattle.rhai_reading.proofs.Steps.{nested_so, step_comments, step_definition, step_export, step_expr_statement, step_function, step_function_statement, step_import, step_initializer, step_inside, step_jump, step_parameter_list, step_statement, step_statements}
 use Rattle.rhai_language.proofs.Readers.{calls_of_readers, readers}
 use Rattle.rhai_language.proofs.Rooms.{function_ends, gap_most, given_up, no_function, one_function}
 
@@ -21,6 +21,14 @@ pub ruleset parse_expr_stmt = (readers, nested_so, step_expr_statement)
 pub ruleset parse_block_inside = (readers, nested_so, step_inside, no_function)
 
 pub ruleset parse_jump = (readers, nested_so, step_jump)
+
+pub ruleset parse_documented_fn = (readers, nested_so)
+
+pub ruleset parse_plain_fn = (readers, nested_so)
+
+pub ruleset parse_private_fn = (readers, nested_so)
+
+pub ruleset next_comments = (calls_of_readers, step_comments)
 
 pub ruleset parse_fn = (readers, nested_so, step_function_statement)
 

@@ -1,28 +1,37 @@
-//! Functions: where they may stand, what they are read under, and what they give.
+//! Functions: their doc comments, where they may stand, what they are read under, and what they give.
 
-ghost use Rattle.std.specs.Prelude.{◌≡◌, IfOk, OnOk, false, map, true};
+ghost use Rattle.std.specs.Prelude.{◌≡◌, ◌+◌, ◌≤◌, IfOk, OnOk, false, map, true};
 ghost use Rattle.std.specs.Rc.{rc_str_bytes};
 ghost use Rattle.rhai_ast.specs.View.{block_view, statement_view};
 ghost use Rattle.rhai_grammar.specs.Contexts.{nothing_live};
+ghost use Rattle.rhai_grammar.specs.Cursors.{left};
+ghost use Rattle.rhai_grammar.specs.Delivered.{is_end, is_memory};
 ghost use Rattle.rhai_grammar.specs.Functions.{ended_function, names_function, parameters_live};
 ghost use Rattle.rhai_grammar.specs.Keys.{is_closure, key_of};
+ghost use Rattle.rhai_grammar.specs.declared.role.StatementStart.TheVariants.{Comment};
+ghost use Rattle.rhai_base.specs.Comments.{comments_of};
 ghost use Rattle.rhai_base.specs.Frames.{SamePlace};
+ghost use Rattle.rhai_language.specs.Frames.{context_of, live_of};
 ghost use Rattle.rhai_language.specs.Readers.{Covers, GoesOn, Reads, ended_view, function, function_statement};
-ghost use Rattle.rhai_language.specs.Readers.{head_view, names_of, state_of, with_live};
-ghost use Rattle.rhai_reading.specs.Reading.{function_end};
-ghost use Rattle.rhai_reading.specs.Running.{Caller, Gives, exec};
+ghost use Rattle.rhai_language.specs.Readers.{head_view, names_of, state_of, statement, with_live};
+ghost use Rattle.rhai_reading.specs.Reading.{Goal, fn_on, function_end, private_on, statement_at};
+ghost use Rattle.rhai_reading.specs.Running.{Caller, Gives, Progress, asked, exec, guarded};
 ghost use Rattle.rhai_language.specs.Rooms.{Ends, Stays, function_room};
 
-use crate::functions::{next_head, next_parameter_list};
+use crate::functions::{next_comments, next_head, next_parameter_list};
 use crate::reader::StmtReader;
 use rhai_ast::{ScriptFuncDef, Stmt, StmtBlock};
-use rhai_base::places::test_function;
+use rhai_base::comments::kept_comments;
+use rhai_base::places::{test_comment, test_function};
 use rhai_base::{Frame, ParseSettings};
-use rhai_grammar::{FnKey, ParseError, ParseErrorType, ParseResult};
+use rhai_grammar::{DueToken, FnKey, ParseError, ParseErrorType, ParseResult, StatementStart};
 use rhai_language::blocks::parse_block;
 use rhai_language::parameters::declare_parameters;
 use rhai_language::{LentReaders, Shared, nested};
+use rhai_leaves::cursor::{peek, skip};
+use rhai_leaves::due::match_token;
 use rhai_leaves::functions::open_body;
+use rhai_leaves::statements::{take_text, what_starts};
 use rhai_lower::Position;
 use std::alloc::{AllocError, Global};
 use std::rc::{Rc, RcStr};
@@ -31,24 +40,129 @@ use std::rc::{Rc, RcStr};
 type EndedFn = (FnKey, Rc<ScriptFuncDef>);
 
 impl<R: LentReaders> StmtReader<'_, R> {
-    /// Reads a function after its `fn`, where the settings stand, as a statement that begins at `first`: at its
-    /// `private`, if it has one. It joins the library, and leaves nothing in its place.
+    /// Reads a function with its doc comments, of which the first comes next, as the caller has seen. Where that is
+    /// below the global level, or no function follows the comments, the error is `WrongDocComment` at the first.
+    #[tactic(auto, using(crate::proofs::Readers::parse_documented_fn))]
+    pub(crate) fn parse_documented_fn(
+        &self,
+        shared: &mut Shared<'_>,
+        frame: &Frame<'_>,
+        settings: ParseSettings,
+    ) -> ParseResult<Stmt>
+        requires more { is_end (asked (state_of shared.old)).lexeme ≡ false }
+        requires lent { Covers (R.lent self.now.readers) (statement self.now.language.now frame.now settings)
+            shared.old }
+        ensures goes_on { GoesOn shared.old shared.new }
+        ensures shorter { OnOk result (left (state_of shared.new).cursor.tokens + 1
+            ≤ left (state_of shared.old).cursor.tokens) }
+        ensures stays { Stays self.now.language.now frame.now settings
+            (1 + function_room self.now.language.now settings) shared.old shared.new }
+        ensures reads { (g : Goal) (s : Progress)
+            → left (state_of shared.old).cursor.tokens ≤ left s.cursor.tokens
+            → Gives (with_live statement_view frame.now) (exec (guarded g s) (statement_at
+            (context_of self.now.language.now frame.now settings) (live_of frame.now) settings.pos Comment)
+            (state_of shared.old)) result (state_of shared.new) }
+    {
+        let alloc = self.language.alloc();
+        let comment = take_text(alloc, shared.input)?;
+        let first = comment.1;
+        test_comment(settings, first)?;
+        let comments = next_comments(alloc, shared, comment)?;
+        let (token, pos) = peek(shared.input)?;
+        let settings = settings.at(*pos);
+        match what_starts(self.language.allow_looping(), token) {
+            StatementStart::Function => self.parse_plain_fn(shared, frame, settings, &comments),
+            StatementStart::Private => self.parse_private_fn(shared, frame, settings, &comments),
+            _ => Err(ParseError(ParseErrorType::WrongDocComment, first)),
+        }
+    }
+
+    /// Reads a function that is not private and has these doc comments, from its `fn` on, which comes next, as the
+    /// caller has seen; the settings stand there.
+    #[tactic(auto, using(crate::proofs::Readers::parse_plain_fn))]
+    pub(crate) fn parse_plain_fn(
+        &self,
+        shared: &mut Shared<'_>,
+        frame: &Frame<'_>,
+        settings: ParseSettings,
+        comments: &[(RcStr, Position)],
+    ) -> ParseResult<Stmt>
+        requires readable { is_memory (asked (state_of shared.old)).lexeme ≡ false }
+        requires more { is_end (asked (state_of shared.old)).lexeme ≡ false }
+        requires lent { Covers (R.lent self.now.readers) (statement self.now.language.now frame.now settings)
+            shared.old }
+        ensures goes_on { GoesOn shared.old shared.new }
+        ensures shorter { left (state_of shared.new).cursor.tokens + 1 ≤ left (state_of shared.old).cursor.tokens }
+        ensures stays { Stays self.now.language.now frame.now settings
+            (1 + function_room self.now.language.now settings) shared.old shared.new }
+        ensures reads { (g : Goal) (s : Progress)
+            → left (state_of shared.old).cursor.tokens ≤ left s.cursor.tokens
+            → Gives (with_live statement_view frame.now) (exec (guarded g s) (fn_on
+            (context_of self.now.language.now frame.now settings) (live_of frame.now) (comments_of comments.now)
+            settings.pos) (state_of shared.old)) result (state_of shared.new) }
+    {
+        skip(shared.input);
+        nested!(
+            shared,
+            self.parse_fn(shared, frame, settings, comments, settings.pos, false)
+        )
+    }
+
+    /// Reads a private function that has these doc comments, from its `private` on, which comes next, as the caller has
+    /// seen; the settings stand there. Where no `fn` follows it, the error is `MissingToken` there.
+    #[tactic(auto, using(crate::proofs::Readers::parse_private_fn))]
+    pub(crate) fn parse_private_fn(
+        &self,
+        shared: &mut Shared<'_>,
+        frame: &Frame<'_>,
+        settings: ParseSettings,
+        comments: &[(RcStr, Position)],
+    ) -> ParseResult<Stmt>
+        requires readable { is_memory (asked (state_of shared.old)).lexeme ≡ false }
+        requires more { is_end (asked (state_of shared.old)).lexeme ≡ false }
+        requires lent { Covers (R.lent self.now.readers) (statement self.now.language.now frame.now settings)
+            shared.old }
+        ensures goes_on { GoesOn shared.old shared.new }
+        ensures shorter { left (state_of shared.new).cursor.tokens + 1 ≤ left (state_of shared.old).cursor.tokens }
+        ensures stays { Stays self.now.language.now frame.now settings
+            (1 + function_room self.now.language.now settings) shared.old shared.new }
+        ensures reads { (g : Goal) (s : Progress)
+            → left (state_of shared.old).cursor.tokens ≤ left s.cursor.tokens
+            → Gives (with_live statement_view frame.now) (exec (guarded g s) (private_on
+            (context_of self.now.language.now frame.now settings) (live_of frame.now) (comments_of comments.now)
+            settings.pos) (state_of shared.old)) result (state_of shared.new) }
+    {
+        skip(shared.input);
+        let (_, pos) = peek(shared.input)?;
+        let inner = settings.at(*pos);
+        let note = "after `private`";
+        match_token(self.language.alloc(), shared.input, DueToken::Fn, note)?;
+        nested!(
+            shared,
+            self.parse_fn(shared, frame, inner, comments, settings.pos, true)
+        )
+    }
+
+    /// Reads a function with its doc comments after its `fn`, where the settings stand, as a statement whose `private`
+    /// or `fn` is at `first`. It joins the library, and leaves nothing in its place.
     #[tactic(auto, using(crate::proofs::Readers::parse_fn))]
     pub(crate) fn parse_fn(
         &self,
         shared: &mut Shared<'_>,
         frame: &Frame<'_>,
         settings: ParseSettings,
+        comments: &[(RcStr, Position)],
         first: Position,
         private: bool,
     ) -> ParseResult<Stmt>
         requires lent { Covers (R.lent self.now.readers) (function_statement self.now.language.now frame.now settings
-            first private) shared.old }
+            (comments_of comments.now) first private) shared.old }
         ensures goes_on { GoesOn shared.old shared.new }
         ensures stays { Stays self.now.language.now frame.now settings
             (function_room self.now.language.now settings) shared.old shared.new }
-        ensures reads { Reads (function_statement self.now.language.now frame.now settings first private)
-            (with_live statement_view frame.now) shared.old result shared.new }
+        ensures reads { Reads (function_statement self.now.language.now frame.now settings
+            (comments_of comments.now) first private) (with_live statement_view frame.now) shared.old result
+            shared.new }
     {
         test_function(settings, first)?;
         let limit = self.language.max_functions();
@@ -63,28 +177,29 @@ impl<R: LentReaders> StmtReader<'_, R> {
             .level_up()?;
         let (key, function) = nested!(
             shared,
-            self.parse_function(shared, &mut inner, deeper, private)
+            self.parse_function(shared, &mut inner, deeper, comments, private)
         )?;
         end_function(shared, key, function, settings.pos)
     }
 
-    /// Reads a function after its `fn`, where the settings stand, up to the `}` of its body, in a frame of its own,
-    /// which then holds its parameters.
+    /// Reads a function with its doc comments after its `fn`, where the settings stand, up to the `}` of its body, in a
+    /// frame of its own, which then holds its parameters.
     #[tactic(auto, using(crate::proofs::Readers::parse_function))]
     fn parse_function(
         &self,
         shared: &mut Shared<'_>,
         frame: &mut Frame<'_>,
         settings: ParseSettings,
+        comments: &[(RcStr, Position)],
         private: bool,
     ) -> ParseResult<EndedFn>
         requires alone { frame.old.live ≡ nothing_live }
         requires lent { Covers (R.lent self.now.readers) (function self.now.language.now frame.old settings
-            private) shared.old }
+            (comments_of comments.now) private) shared.old }
         ensures goes_on { GoesOn shared.old shared.new }
         ensures stays { Stays self.now.language.now frame.old settings 0 shared.old shared.new }
-        ensures reads { Reads (function self.now.language.now frame.old settings private) ended_view shared.old
-            result shared.new }
+        ensures reads { Reads (function self.now.language.now frame.old settings (comments_of comments.now) private)
+            ended_view shared.old result shared.new }
         ensures named { IfOk result (λ e. is_closure (key_of e.0) ≡ false) }
     {
         let head = next_head(self.language.alloc(), shared)?;
@@ -96,20 +211,24 @@ impl<R: LentReaders> StmtReader<'_, R> {
             shared,
             parse_block(self.language, &self.readers, shared, frame, deeper)
         )?;
-        Ok(make_function(self.language.alloc(), private, head, names, body)?)
+        let alloc = self.language.alloc();
+        Ok(make_function(alloc, comments, private, head, names, body)?)
     }
 }
 
-// A function of these parts with its key: its type, its name, and the number of its parameters.
+// A function of these parts with its key: its type, its name, and the number of its parameters. It keeps what is to be
+// kept of its doc comments.
 fn make_function(
     alloc: Global,
+    comments: &[(RcStr, Position)],
     private: bool,
     head: (Option<RcStr>, RcStr),
     params: Vec<RcStr>,
     body: StmtBlock,
 ) -> Result<EndedFn, AllocError>
     ensures ended { IfOk result (λ e. ended_view e
-        ≡ ended_function private (head_view head).0 (head_view head).1 (names_of params) (block_view body)) }
+        ≡ ended_function (comments_of comments.now) private (head_view head).0 (head_view head).1 (names_of params)
+        (block_view body)) }
     ensures named { names_function (rc_str_bytes head.1) ≡ true
         → IfOk result (λ e. is_closure (key_of e.0) ≡ false) }
 {
@@ -125,6 +244,7 @@ fn make_function(
         private,
         params,
         body,
+        comments: kept_comments(alloc, comments)?,
     };
     Ok((key, Rc::new(alloc, function)?))
 }

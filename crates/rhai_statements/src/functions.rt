@@ -1,11 +1,12 @@
-//! What the reader of functions asks for by leaves: the name of a function with the type of its objects, and its
-//! parameters.
+//! What the reader of functions asks for by leaves: doc comments, the name of a function with the type of its objects,
+//! and its parameters.
 
-ghost use Rattle.std.specs.Prelude.{◌≡◌, IfOk, true};
+ghost use Rattle.std.specs.Prelude.{◌≡◌, ◌∷◌, [], IfOk, true};
 ghost use Rattle.std.specs.Rc.{rc_str_bytes};
 ghost use Rattle.rhai_grammar.specs.Functions.{names_function};
-ghost use Rattle.rhai_reading.specs.Reading.{FunctionHead, ParameterList};
-ghost use Rattle.rhai_language.specs.Readers.{GoesOn, Reads, head_view, names_of};
+ghost use Rattle.rhai_base.specs.Comments.{comment_of};
+ghost use Rattle.rhai_reading.specs.Reading.{Comments, FunctionHead, ParameterList};
+ghost use Rattle.rhai_language.specs.Readers.{GoesOn, Reads, comments_view, head_view, names_of};
 ghost use Rattle.rhai_language.specs.Rooms.{Steady};
 
 use rhai_grammar::{CommaList, DueToken, ParseResult};
@@ -15,8 +16,30 @@ use rhai_leaves::due::{match_token, pass_token};
 use rhai_leaves::functions::{
     open_parameters, take_function_name, take_type, test_function_name, type_named,
 };
+use rhai_leaves::statements::take_comment;
+use rhai_lower::Position;
 use std::alloc::Global;
 use std::rc::RcStr;
+
+/// The doc comments that follow each other, of which `first` is taken, each with its position; all are taken.
+#[tactic(auto, using(crate::proofs::Readers::next_comments))]
+pub(crate) fn next_comments(
+    alloc: Global,
+    shared: &mut Shared<'_>,
+    first: (RcStr, Position),
+) -> ParseResult<Vec<(RcStr, Position)>>
+    ensures goes_on { GoesOn shared.old shared.new }
+    ensures steady { Steady shared.old shared.new }
+    ensures reads { Reads (Comments (comment_of first ∷ [])) comments_view shared.old result shared.new }
+{
+    let mut comments = vec![in alloc; first]?;
+    loop {
+        let Some(comment) = take_comment(alloc, shared.input)? else {
+            return Ok(comments);
+        };
+        comments.push(comment)?;
+    }
+}
 
 /// The name of a function after its `fn`, with the type of its objects, if it has one; all are taken.
 #[tactic(auto, using(rhai_reading::proofs::Steps::step_function_head))]

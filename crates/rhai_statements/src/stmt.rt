@@ -19,10 +19,9 @@ use crate::reader::StmtReader;
 use rhai_ast::{Expr, Stmt};
 use rhai_base::places::{test_global, test_loop};
 use rhai_base::{Frame, ParseSettingFlags, ParseSettings};
-use rhai_grammar::{Closing, DueToken, ParseResult, StatementStart};
+use rhai_grammar::{Closing, ParseResult, StatementStart};
 use rhai_language::{LentReaders, Shared, nested};
 use rhai_leaves::cursor::{peek, skip, take};
-use rhai_leaves::due::match_token;
 use rhai_leaves::statements::{
     assigns, has_value, list_ends, parse_var_name, statement_continues, what_is_exported,
     what_starts,
@@ -146,24 +145,9 @@ impl<R: LentReaders> StmtReader<'_, R> {
                 let deeper = settings.level_up()?;
                 nested!(shared, self.parse_export(shared, frame, deeper))
             }
-            StatementStart::Function => {
-                skip(shared.input);
-                nested!(
-                    shared,
-                    self.parse_fn(shared, frame, settings, settings.pos, false)
-                )
-            }
-            StatementStart::Private => {
-                skip(shared.input);
-                let (_, pos) = peek(shared.input)?;
-                let pos = *pos;
-                let note = "after `private`";
-                match_token(self.language.alloc(), shared.input, DueToken::Fn, note)?;
-                nested!(
-                    shared,
-                    self.parse_fn(shared, frame, settings.at(pos), settings.pos, true)
-                )
-            }
+            StatementStart::Function => self.parse_plain_fn(shared, frame, settings, &[]),
+            StatementStart::Private => self.parse_private_fn(shared, frame, settings, &[]),
+            StatementStart::Comment => self.parse_documented_fn(shared, frame, settings),
             StatementStart::Expression => {
                 let deeper = settings.level_up()?;
                 nested!(shared, self.parse_expr_stmt(shared, frame, deeper))

@@ -1,6 +1,6 @@
 //! Calls that allocate, each once: no contract says that memory is left. Each is made by a function that ends with
 //! `AllocError` where memory is refused, and two tests run it: one wants it to come to its end, with ample memory. The
-//! other, `.._refused`, lets it end early, and holds however memory is refused (tests/fail_alloc_tests.sh): what was
+//! other, `.._refused`, lets it end early, and holds however memory is refused (tests/hostile/calls.py): what was
 //! asserted on the way has to hold all the same.
 
 use crate::script::{add_line, parse};
@@ -9,11 +9,12 @@ use std::alloc::{AllocError, Global};
 use std::process::Abort;
 use std::test::Fail;
 
-// Where memory is refused, the module is not added.
+// Where memory is refused, the module is not added, and the engine keeps those that it has.
 fn module(rt: &impl Abort, alloc: Global) -> Result<(), AllocError> {
     let mut engine = Engine::new(alloc);
+    engine.add_sub_module("k")?;
     if let Err(error) = engine.add_sub_module("m") {
-        assert!(rt; !engine.has_sub_module("m"));
+        assert!(rt; engine.has_sub_module("k") && !engine.has_sub_module("m"));
         return Err(error);
     }
     Ok(())

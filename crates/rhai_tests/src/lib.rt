@@ -6,6 +6,10 @@ mod allocation;
 #[cfg(test)]
 mod caller_settings;
 #[cfg(test)]
+mod fn_names;
+#[cfg(test)]
+mod libraries;
+#[cfg(test)]
 mod long_scripts;
 #[cfg(test)]
 mod modules;

@@ -65,6 +65,8 @@ fn integer(word: &str) -> Option<Token> {
         "0" => Token::IntegerConstant(0),
         "1" => Token::IntegerConstant(1),
         "2" => Token::IntegerConstant(2),
+        "3" => Token::IntegerConstant(3),
+        "4" => Token::IntegerConstant(4),
         _ => return None,
     })
 }

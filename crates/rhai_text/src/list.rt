@@ -102,6 +102,7 @@ fn token(alloc: Global, kind: &str, payload: &str) -> Result<Token, LineError> {
         "istr" | "tistr" => Token::InterpolatedString(text(alloc, payload)?),
         "id" => Token::Identifier(text(alloc, payload)?),
         "res" => Token::Reserved(text(alloc, payload)?),
+        "doc" => Token::Comment(text(alloc, payload)?),
         "sym" => symbol(payload).ok_or(LineError::Unreadable)?,
         "err" => Token::LexError(lex_error(alloc, payload)?),
         _ => return Err(LineError::Unreadable),

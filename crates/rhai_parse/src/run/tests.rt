@@ -96,21 +96,32 @@ fn a_reader_of_single_bytes(rt: HostRuntime) -> Result<(), Fail> {
     Ok(())
 }
 
+// The answer where a reader fails after these bytes, all of which can be read.
+fn failed_read(alloc: Global, bytes: &[u8]) -> Result<String, AllocError> {
+    let ended = bytes.iter().filter(|byte| **byte == b'\n').count();
+    let line = ended.saturating_add(1);
+    format!(in alloc; "unreadable line {line}\n")
+}
+
 #[test]
 fn a_reader_that_fails(rt: HostRuntime) -> Result<(), Fail> {
-    let lists: [(&[u8], &str); 8] = [
-        (b"", "unreadable line 1\n"),
-        (b"1:1 in", "unreadable line 1\n"),
-        (b"1:1 int 1", "unreadable line 1\n"),
-        (b"1:1 int 1\n", "unreadable line 2\n"),
-        (b"1:1 int 1\n1:2 eof", "unreadable line 2\n"),
-        (b"1:1 int 1\n1:2 eof\n", "unreadable line 3\n"),
-        (b"1:1 bad\n1:2 eof\n", "unreadable line 1\n"),
-        (b"bad\n\xff\n1", "unreadable line 1\n"),
-    ];
-    for (bytes, text) in lists {
+    let list: &[u8] = b"1:1 int 12\n1:3 sym +\n1:4 str a\\sb\n1:9 eof\n";
+    let failure = Some(ErrorKind::Other);
+    for count in 0..list.len() + 1 {
+        let bytes = &list[..count];
+        let text = failed_read(rt.alloc(), bytes)?;
+        check(&rt, rt.alloc(), Reader { bytes, failure }, (2, &text))?;
+    }
+    Ok(())
+}
+
+#[test]
+fn a_reader_that_fails_after_a_bad_line(rt: HostRuntime) -> Result<(), Fail> {
+    let lists: [&[u8]; 2] = [b"1:1 bad\n1:2 eof\n", b"bad\n\xff\n1"];
+    for bytes in lists {
         let failure = Some(ErrorKind::Other);
-        check(&rt, rt.alloc(), Reader { bytes, failure }, (2, text))?;
+        let wanted = (2, "unreadable line 1\n");
+        check(&rt, rt.alloc(), Reader { bytes, failure }, wanted)?;
     }
     Ok(())
 }
@@ -123,16 +134,34 @@ fn a_reader_without_memory(rt: HostRuntime) -> Result<(), Fail> {
     Ok(())
 }
 
+// Runs the program on a list, and wants it to say by its status that the writer fails.
+fn check_writer(
+    rt: &impl Abort,
+    alloc: Global,
+    mut list: &[u8],
+    mut output: Writer,
+    wanted: u8,
+) -> Result<(), AllocError> {
+    let room = output.room;
+    let status = run(alloc, &words(alloc)?, &mut list, &mut output);
+    assert!(rt; status == wanted, "room for {room}");
+    Ok(())
+}
+
 #[test]
 fn a_writer_that_fails(rt: HostRuntime) -> Result<(), Fail> {
-    let alloc = rt.alloc();
-    let words = words(alloc)?;
-    for room in 0..ACCEPTED.len() + 1 {
-        for flushes in [true, false] {
-            let mut input: &[u8] = b"1:1 int 1\n1:2 eof\n";
-            let status = run(alloc, &words, &mut input, &mut Writer { room, flushes });
-            let fits = room == ACCEPTED.len() && flushes;
-            assert!(rt; status == if fits { 0 } else { 2 }, "{room} {flushes}");
+    let lists: [(&[u8], (u8, usize)); 3] = [
+        (b"1:1 int 1\n1:2 eof\n", (0, ACCEPTED.len())),
+        (b"1:1 eof", (1, "refused E1 1:1 UnexpectedEOF\n".len())),
+        (b"", (2, "unreadable line 1\n".len())),
+    ];
+    for (list, (status, length)) in lists {
+        for room in 0..length + 1 {
+            for flushes in [true, false] {
+                let wanted = if room == length && flushes { status } else { 2 };
+                let output = Writer { room, flushes };
+                check_writer(&rt, rt.alloc(), list, output, wanted)?;
+            }
         }
     }
     Ok(())

@@ -3,17 +3,22 @@ use Rattle.rhai_grammar.specs.declared.list.CommaList.{CommaList}
 use Rattle.rhai_grammar.specs.declared.list.CommaList.TheVariants as lists
 use Rattle.rhai_grammar.specs.CommaLists.{after_part, closing_of}
 use Rattle.rhai_grammar.specs.Functions.{parameter_place}
+use Rattle.rhai_grammar.specs.Statements.{is_comment}
+use Rattle.rhai_grammar.specs.Written as W
 use Rattle.rhai_lower.specs.declared.token.Token.TheVariants as token
 use Rattle.rhai_lower.specs.Lexemes.{Sign}
+use Rattle.rhai_lower.specs.Nodes.{noop}
 use Rattle.rhai_reading.specs.Reading.{Prog, Ret, Take}
-use Rattle.std.proofs.Common.{◌+◌, ◌≡◌, Bool, true, false, None, Option, Some, List, [], ◌∷◌, ◌++◌, if◌then◌else◌, refl}
+use Rattle.std.proofs.Common.{◌+◌, ◌≡◌, Bool, true, false, None, Option, Some, List, [], ◌∷◌, ◌++◌, if◌then◌else◌, refl, sym, ap, max}
+use Rattle.std.proofs.Common.{append-nil, append_assoc}
 use Rattle.rhai_lower.specs.Texts.{Text}
 use Rattle.rhai_lower.specs.declared.position.Position.{Position}
 use Rattle.rhai_grammar.specs.Causes.{Refusal}
+use Rattle.rhai_grammar.specs.Comments.{Comment}
 use Rattle.rhai_grammar.specs.Contexts.{Context, Live, level_up}
-use Rattle.rhai_grammar.specs.Delivered.{code, past}
+use Rattle.rhai_grammar.specs.Delivered.{code, item, is_memory, next_at, past, Point}
 use Rattle.rhai_grammar.specs.Depths.{body_depth}
-use Rattle.rhai_grammar.specs.Demands.{Blames, Fine}
+use Rattle.rhai_grammar.specs.Demands.{Blames, Demands, Fine, Met}
 use Rattle.rhai_grammar.specs.DueTokens.{is_due}
 use Rattle.rhai_grammar.specs.Forms as form
 use Rattle.rhai_grammar.specs.Forms.{Body, Owner, ParameterList, Parameters}
@@ -25,7 +30,8 @@ use Rattle.rhai_reading.proofs.Complete.Law.{BodyRead, IsFlat, IsRead, Statement
 use Rattle.rhai_reading.proofs.FunctionKinds.{FunctionForm, HeadForm, function_of, function_statements, functions, heads}
 use Rattle.rhai_reading.proofs.FunctionKinds.{parameter_lists, parameters}
 use Rattle.rhai_reading.proofs.Looks.{no_other, op_at}
-use Rattle.rhai_reading.proofs.Reaches.{deeper, add, due as due_now, if_false, if_true, know, next, part, peek, ret, take}
+use Rattle.rhai_reading.proofs.Reaches.{Reaches, deeper, add, due as due_now, gives, if_false, if_true, know, look, next, part}
+use Rattle.rhai_reading.proofs.Reaches.{peek, ret, take}
 use Rattle.rhai_reading.proofs.Strengths.{not_true}
 use Rattle.rhai_reading.proofs.Tokens.{readable}
 
@@ -98,27 +104,68 @@ parameter_list (form.ListedParameters opening list) function k s t b m =
 
 -- ---- the whole
 
-pub function : (f : FunctionForm) → BodyRead f.body → (c : Context) (at : Position) (is_private : Bool)
-    → IsRead (1 + body_depth f.body) (R.Function c at is_private) (functions c at is_private) f
-function f reads c at is_private k s t b m =
+pub function : (f : FunctionForm) → BodyRead f.body → (c : Context) (comments : List Comment) (at : Position)
+    (is_private : Bool)
+    → IsRead (1 + body_depth f.body) (R.Function c comments at is_private) (functions c comments at is_private) f
+function f reads c comments at is_private k s t b m =
     part (head f.head _ s t b m) (λ u l n.
     part (parameter_list f.list f.head.name _ u t l n) (λ v a i.
     due_now i.0 refl refl (if_true _ i.1.0
     (deeper _ refl (reads (level_up c) (parameters_live (parameter_names f.list)) f.opening k (past code v) t false i.1.1)
     (λ x d j. ret j)))))
 
-pub function_statement : (f : FunctionForm) → BodyRead f.body → (c : Context) (w : Live) (from at : Position)
-    (is_private : Bool)
-    → IsRead (1 + (1 + body_depth f.body)) (R.FunctionStatement c w from at is_private) (function_statements c w from at is_private) f
-function_statement f reads c w from at is_private k s t b m =
+pub function_statement : (f : FunctionForm) → BodyRead f.body → (c : Context) (w : Live) (comments : List Comment)
+    (from at : Position) (is_private : Bool)
+    → IsRead (1 + (1 + body_depth f.body)) (R.FunctionStatement c w comments from at is_private)
+    (function_statements c w comments from at is_private) f
+function_statement f reads c w comments from at is_private k s t b m =
     if_true _ m.0 (know (if_true _ m.1.0 (if_true _ m.1.1.0
-    (deeper _ refl (function f reads (level_up (in_function c w)) at is_private _ s t b m.1.1.1) (λ u l n.
-    know (if_true _ n.0 (add (function_of is_private f) (ret n.1.1))))))))
+    (deeper _ refl (function f reads (level_up (in_function c w)) comments at is_private _ s t b m.1.1.1) (λ u l n.
+    know (if_true _ n.0 (add (function_of comments is_private f) (ret n.1.1))))))))
 
-pub statement : (is_private : Option Position) (at : Position) (f : FunctionForm) → BodyRead f.body
-    → StatementRead (form.Function is_private at f.head.owner f.head.name f.head.at f.list f.opening f.body)
-statement None at f reads c w k s t b m =
-    due_now m.0 refl refl (part (function_statement f reads c w at at false k (past code s) t false m.1) (λ u l n. ret n))
-statement (Some first) at f reads c w k s t b m =
-    due_now m.0 refl refl (peek m.1.0 refl (due_now m.1.0 refl refl
-    (part (function_statement f reads c w first at true k (past code (past code s)) t false m.1.1) (λ u l n. ret n))))
+-- a function with these comments, from its `fn` or its `private`
+from_fn : (comments : List Comment) (at : Position) (f : FunctionForm) → BodyRead f.body → (c : Context) (w : Live)
+    (k : Demands) (s t : Point) (b : Bool) → next_at code s ≡ item (Sign token.Fn) at
+    → Met ((function_statements c w comments at at false).demands f k) (past code s) t
+    → Reaches (λ z. max (1 + (1 + body_depth f.body)) z) (R.fn_on c w comments at) s b (noop at, w) k t
+from_fn comments at f reads c w k s t b here m =
+    take here refl (part (function_statement f reads c w comments at at false k (past code s) t false m) (λ u l n. ret n))
+
+from_private : (comments : List Comment) (first at : Position) (f : FunctionForm) → BodyRead f.body → (c : Context)
+    (w : Live) (k : Demands) (s t : Point) (b : Bool) → next_at code s ≡ item (Sign token.Private) first
+    → next_at code (past code s) ≡ item (Sign token.Fn) at
+    → Met ((function_statements c w comments first at true).demands f k) (past code (past code s)) t
+    → Reaches (λ z. max (1 + (1 + body_depth f.body)) z) (R.private_on c w comments first) s b (noop at, w) k t
+from_private comments first at f reads c w k s t b here is m =
+    take here refl (peek is refl (due_now is refl refl
+    (part (function_statement f reads c w comments first at true k (past code (past code s)) t false m) (λ u l n. ret n))))
+
+-- no comment is next, and what is next can be read
+abbrev Uncommented : Point → Type 0
+Uncommented s = (is_memory (op_at s) ≡ false) × (is_comment (op_at s) ≡ false)
+
+-- the comments that follow others
+further_comments : (xs before : List Comment) (first : Position) (c : Context) (k : Demands) (s t : Point) (b : Bool)
+    → ((u : Point) → Met k u t → Uncommented u) → Met (W.further_comments xs first c k) s t
+    → Reaches (λ z. z) (body (R.Comments before)) s b (before ++ xs) k t
+further_comments [] before first c k s t b follows m =
+    let none = follows s m in
+    look none.0 (if_false _ none.1 (gives (sym (append-nil before)) m))
+further_comments (x ∷ xs) before first c k s t b follows m =
+    due_now m.0 refl refl (part (further_comments xs (before ++ x ∷ []) first c k (past code s) t false follows m.1)
+    (λ u l n. gives (append_assoc before (x ∷ []) xs) n))
+
+pub statement : (comments : List Comment) (is_private : Option Position) (at : Position) (f : FunctionForm)
+    → BodyRead f.body
+    → StatementRead (form.Function comments is_private at f.head.owner f.head.name f.head.at f.list f.opening f.body)
+statement [] None at f reads c w k s t b m = peek m.0 refl (from_fn [] at f reads c w k s t true m.0 m.1)
+statement [] (Some first) at f reads c w k s t b m =
+    peek m.0 refl (from_private [] first at f reads c w k s t true m.0 m.1.0 m.1.1)
+statement (x ∷ xs) None at f reads c w k s t b m =
+    peek m.0 refl (due_now m.0 refl refl (if_true _ m.1.0 (part
+    (further_comments xs (x ∷ []) x.at c _ (past code s) t false (λ u n. (ap (λ i. is_memory i.lexeme) n.0, ap (λ i. is_comment i.lexeme) n.0)) m.1.1)
+    (λ u l n. peek n.0 refl (from_fn (x ∷ xs) at f reads c w k u t true n.0 n.1)))))
+statement (x ∷ xs) (Some first) at f reads c w k s t b m =
+    peek m.0 refl (due_now m.0 refl refl (if_true _ m.1.0 (part
+    (further_comments xs (x ∷ []) x.at c _ (past code s) t false (λ u n. (ap (λ i. is_memory i.lexeme) n.0, ap (λ i. is_comment i.lexeme) n.0)) m.1.1)
+    (λ u l n. peek n.0 refl (from_private (x ∷ xs) first at f reads c w k u t true n.0 n.1.0 n.1.1)))))

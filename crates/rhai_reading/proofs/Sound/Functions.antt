@@ -1,5 +1,6 @@
 -- Functions.
-use Rattle.std.proofs.Common.{◌≡◌, Bool, true, false, not, None, List, [], ◌∷◌, ◌++◌, refl, ap, if◌then◌else◌}
+use Rattle.std.proofs.Common.{◌≡◌, Bool, true, false, not, None, List, [], ◌∷◌, ◌++◌, append-nil, append_assoc, refl, sym, ap, ◌∙◌}
+use Rattle.std.proofs.Common.{if◌then◌else◌}
 use Rattle.rhai_lower.specs.Texts.{Text}
 use Rattle.rhai_lower.specs.Lexemes.{Lexeme, Name, String, text_of}
 use Rattle.rhai_lower.specs.Positions.{nowhere}
@@ -7,6 +8,7 @@ use Rattle.rhai_lower.specs.declared.position.Position.{Position}
 use Rattle.rhai_grammar.specs.Beginnings.{calling, is_name}
 use Rattle.rhai_grammar.specs.Causes as cause
 use Rattle.rhai_grammar.specs.Causes.{refusal}
+use Rattle.rhai_grammar.specs.Comments.{Comment}
 use Rattle.rhai_grammar.specs.Contexts.{Context, Live, is_global, level_up}
 use Rattle.rhai_grammar.specs.Delivered.{code, Point, is_memory, past}
 use Rattle.rhai_grammar.specs.Demands.{Wrong}
@@ -17,6 +19,7 @@ use Rattle.rhai_grammar.specs.Functions.{after_type, ended_function, function_na
 use Rattle.rhai_grammar.specs.Functions.{may_begin, names_function, no_function_name, owner_of, parameter_names, parameter_place}
 use Rattle.rhai_grammar.specs.Functions.{parameters_live, type_or_name_due, untyped}
 use Rattle.rhai_grammar.specs.Imports.{is_among}
+use Rattle.rhai_grammar.specs.Statements.{is_comment}
 use Rattle.rhai_grammar.specs.declared.due.DueToken.TheVariants as due
 use Rattle.rhai_grammar.specs.declared.list.CommaList.TheVariants as lists
 use Rattle.rhai_grammar.specs.declared.role.Calling.{Calling}
@@ -25,17 +28,37 @@ use Rattle.rhai_grammar.specs.declared.role.ItemPlace.{ItemPlace}
 use Rattle.rhai_grammar.specs.declared.role.ItemPlace.TheVariants as place
 use Rattle.rhai_reading.specs.Reading as R
 use Rattle.rhai_reading.specs.Reading.{body}
-use Rattle.rhai_reading.proofs.Beginnings.{called, name_is}
+use Rattle.rhai_reading.proofs.Beginnings.{called as called_by, comment_is, name_is}
 use Rattle.rhai_grammar.specs.declared.list.CommaList.{CommaList}
 use Rattle.rhai_reading.proofs.ConstructKinds.{BracedForm}
 use Rattle.rhai_reading.proofs.Dues.{parameter_is, separated, stands}
-use Rattle.rhai_reading.proofs.FunctionKinds.{FunctionForm, HeadForm, any_function, any_head, any_list, function_of}
+use Rattle.rhai_reading.proofs.FunctionKinds.{CommentsRead, FunctionForm, HeadForm, any_function, any_head, any_list, function_of}
 use Rattle.rhai_reading.proofs.FunctionKinds.{function_statements, functions, heads, parameter_lists, parameters}
 use Rattle.rhai_reading.proofs.Looks.{op_at, pos_at}
 use Rattle.rhai_reading.proofs.Paths.{◌▹◌, lost}
-use Rattle.rhai_reading.proofs.Shows.{Histories, Goes, add, blamed, check, done, either, ends, fails, fine, first, halt}
+use Rattle.rhai_reading.proofs.Shows.{Histories, Goes, Shows, add, blamed, called, check, done, either, ends, fails, fine}
+use Rattle.rhai_reading.proofs.Shows.{first, halt, over, ret}
 use Rattle.rhai_reading.proofs.Shows.{know, look, part, raise, refuse, take, test, wrong}
 use Rattle.rhai_reading.proofs.Sound.Law.{AllSound, any_body, any_braced}
+
+-- ---- its doc comments
+
+module _ {call : Histories} (ih : AllSound call) (before : List Comment) (c : Context) (start : Position) (s : Point)
+  where
+    pub further_comments : (b : Bool)
+        → Shows call (CommentsRead c start before s) (λ e u. ⊥) (body (R.Comments before)) s b
+    further_comments b =
+        let x = R.comment_of (op_at s) (pos_at s) in
+        look (λ m. either (is_comment (op_at s))
+        (λ is.
+        let here = comment_is (op_at s) (pos_at s) is in
+        take (called (ih.of (R.Comments (before ++ x ∷ [])) (past code s) false c start) (λ e u r. r) (λ xs t d r. ret (record {
+          rest = x ∷ r.rest;
+          is = sym (append_assoc before (x ∷ []) r.rest) ∙ r.is;
+          passes = over (λ k o way. here ▹ r.passes.on way);
+          ended = r.ended;
+        }))))
+        (λ none. ret (record { rest = []; is = append-nil before; passes = over (λ k o way. way); ended = none })))
 
 -- ---- the name
 
@@ -105,10 +128,10 @@ module _ (call : Histories) (s : Point) where
 module _ {call : Histories} (ih : AllSound call) (function : Text) (s : Point) where
   list_by : (v : Calling) → calling (op_at s) ≡ v → is_memory (op_at s) ≡ false
       → Goes call (parameter_lists function) s (R.parameters_at function (op_at s) (pos_at s) v) s true
-  list_by calls_by.Pair e m = take (done (form.EmptyParameters (pos_at s)) (λ k o r. called s e ▹ r))
+  list_by calls_by.Pair e m = take (done (form.EmptyParameters (pos_at s)) (λ k o r. called_by s e ▹ r))
   list_by calls_by.List e m =
       take (ends (ih.of (R.Parameters lists.Parameters function []) (past code s) false) (form.ListedParameters (pos_at s))
-      (λ v x. refl) (λ x k o r. called s e ▹ r))
+      (λ v x. refl) (λ x k o r. called_by s e ▹ r))
   list_by calls_by.Bang e m = refuse any_list (λ k. wrong m (rw e))
   list_by calls_by.Nothing e m = refuse any_list (λ k. wrong m (rw e))
 
@@ -144,8 +167,10 @@ module _ {call : Histories} (ih : AllSound call) (parts : CommaList) (function :
 abbrev with_parts : HeadForm → ParameterList → BracedForm → FunctionForm
 with_parts h x f = record { head = h; list = x; opening = f.opening; body = f.body }
 
-module _ {call : Histories} (ih : AllSound call) (c : Context) (at : Position) (is_private : Bool) (s : Point) where
-  pub function : (b : Bool) → Goes call (functions c at is_private) s (body (R.Function c at is_private)) s b
+module _ {call : Histories} (ih : AllSound call) (c : Context) (comments : List Comment) (at : Position)
+    (is_private : Bool) (s : Point) where
+  pub function : (b : Bool)
+      → Goes call (functions c comments at is_private) s (body (R.Function c comments at is_private)) s b
   function b =
       first (ih.of R.FunctionHead s b) (λ h (f : ParameterList × BracedForm). with_parts h f.0 f.1)
       (any_list, any_braced) (λ h f k o r. r) (λ h t a.
@@ -154,20 +179,21 @@ module _ {call : Histories} (ih : AllSound call) (c : Context) (at : Position) (
       look (λ m. check (is_due due.LeftBrace (op_at u)) any_braced (λ other k. wrong m (rw other)) (λ is.
       let here = stands due.LeftBrace (op_at u) (pos_at u) is in
       take (raise c (opens any_body) (λ high k. here ▹ fails high) (λ below.
-      ends {v = ended_function is_private (owner_of h.owner) h.name (parameter_names x)}
+      ends {v = ended_function comments is_private (owner_of h.owner) h.name (parameter_names x)}
       (ih.of (R.Block (level_up c) (parameters_live (parameter_names x)) (pos_at u)) (past code u) false) opens
       (λ v f. refl) (λ f k o r. here ▹ below ▹ r)))))))
 
-module _ {call : Histories} (ih : AllSound call) (c : Context) (w : Live) (from at : Position) (is_private : Bool)
-    (s : Point) where
+module _ {call : Histories} (ih : AllSound call) (c : Context) (w : Live) (comments : List Comment)
+    (from at : Position) (is_private : Bool) (s : Point) where
   pub function_statement : (b : Bool)
-      → Goes call (function_statements c w from at is_private) s (body (R.FunctionStatement c w from at is_private)) s b
+      → Goes call (function_statements c w comments from at is_private) s
+      (body (R.FunctionStatement c w comments from at is_private)) s b
   function_statement b =
       let inner = in_function c w in
       test (is_global c) any_function refl (λ out k. fails out) (λ global.
       know (test (may_begin c s.library) any_function refl (λ many k. global ▹ lost (many, refl)) (λ room.
       raise inner any_function (λ high k. global ▹ room ▹ fails high) (λ below.
-      part (ih.of (R.Function (level_up inner) at is_private) s b) (λ f. f) (λ f k o r. global ▹ room ▹ below ▹ r _)
-      (λ f t a G. know (test (is_new (function_of is_private f).key t.library) f refl
+      part (ih.of (R.Function (level_up inner) comments at is_private) s b) (λ f. f) (λ f k o r. global ▹ room ▹ below ▹ r _)
+      (λ f t a G. know (test (is_new (function_of comments is_private f).key t.library) f refl
       (λ old k. global ▹ room ▹ below ▹ G.on (lost (old, refl)))
       (λ new. add (done f (λ k o r. global ▹ room ▹ below ▹ G.on (new ▹ tt ▹ r))))))))))

@@ -1,9 +1,10 @@
 -- What each reader shows.
-use Rattle.rhai_reading.proofs.FunctionKinds.{function_statements, functions, heads, parameter_lists, parameters}
+use Rattle.rhai_reading.proofs.FunctionKinds.{CommentsRead, function_statements, functions, heads, parameter_lists, parameters}
 use Rattle.rhai_reading.proofs.ClosureKinds.{closure_bodies, closures}
 use Rattle.std.proofs.Common.{◌≡◌, ℕ, Bool, true, false, None, [], refl}
 use Rattle.rhai_lower.specs.Lexemes.{Lexeme, Integer}
 use Rattle.rhai_lower.specs.Positions.{nowhere}
+use Rattle.rhai_lower.specs.declared.position.Position.{Position}
 use Rattle.rhai_lower.specs.Nodes.{Node}
 use Rattle.rhai_grammar.specs.Causes.{Refusal}
 use Rattle.rhai_grammar.specs.Delivered.{code, Point}
@@ -144,8 +145,11 @@ Sound (R.CaseGuard c w) s o = Answers (case_guards c w) s o
 Sound (R.Action c w) s o = Answers (actions c w) s o
 Sound (R.ArmEnd itself) s o = Answers (arm_ends itself) s o
 Sound (R.DefaultEnd default) s o = Answers (default_ends default) s o
-Sound (R.FunctionStatement c w from at is_private) s o = Answers (function_statements c w from at is_private) s o
-Sound (R.Function c at is_private) s o = Answers (functions c at is_private) s o
+Sound (R.Comments before) s o =
+    (c : Context) (start : Position) → Tells (CommentsRead c start before s) (λ e u. ⊥) o
+Sound (R.FunctionStatement c w comments from at is_private) s o =
+    Answers (function_statements c w comments from at is_private) s o
+Sound (R.Function c comments at is_private) s o = Answers (functions c comments at is_private) s o
 Sound R.FunctionHead s o = Answers heads s o
 Sound (R.ParameterList function) s o = Answers (parameter_lists function) s o
 Sound (R.Parameters parts function before) s o = Answers (parameters parts function before) s o

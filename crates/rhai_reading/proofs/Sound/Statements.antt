@@ -1,14 +1,17 @@
 -- Statements, their lists, and blocks.
 use Rattle.rhai_grammar.specs.Ends.{needs_no_semicolon}
 use Rattle.rhai_grammar.proofs.EndLemmas.{tree_ends}
-use Rattle.rhai_reading.proofs.FunctionKinds.{any_function, function_form}
-use Rattle.std.proofs.Common.{◌≡◌, Bool, true, false, Option, Some, None, List, [], ◌∷◌, refl, sym, ap, ◌∙◌}
+use Rattle.rhai_grammar.specs.Comments.{Comment}
+use Rattle.rhai_reading.proofs.FunctionKinds.{CommentsRead, FunctionForm, any_function, function_form, function_statements}
+use Rattle.std.proofs.Common.{◌≡◌, Bool, true, false, Option, Some, None, List, [], ◌∷◌, refl, sym, ap, subst, ◌∙◌}
 use Rattle.std.specs.Prelude.{not}
 use Rattle.rhai_lower.specs.Lexemes.{Lexeme, Sign, text_of}
+use Rattle.rhai_lower.specs.Lexemes as lexeme
 use Rattle.rhai_lower.specs.Nodes.{Node, position_of}
 use Rattle.rhai_lower.specs.Positions.{nowhere}
 use Rattle.rhai_lower.specs.Nodes as node
 use Rattle.rhai_lower.specs.declared.position.Position.{Position}
+use Rattle.rhai_grammar.specs.Causes as cause
 use Rattle.rhai_grammar.specs.Causes.{AssignmentToConstant, refusal}
 use Rattle.rhai_grammar.specs.Delivered.{code, item, Point, next_at, past, is_memory}
 use Rattle.rhai_grammar.specs.Contexts.{Context, Live, below_global, has_room, has_single_blocks, in_block, is_global, is_in_loop, level_up}
@@ -51,9 +54,9 @@ use Rattle.rhai_grammar.specs.Demands.{Demands}
 use Rattle.rhai_grammar.specs.Written as W
 use Rattle.rhai_reading.proofs.Lists.{kept_statement, last_kept, no_statement}
 use Rattle.rhai_reading.proofs.Looks.{op_at, pos_at}
-use Rattle.rhai_reading.proofs.Paths.{Aim, Fits, Way, ◌▹◌}
+use Rattle.rhai_reading.proofs.Paths.{Aim, Fits, Passes, Way, ◌▹◌}
 use Rattle.rhai_reading.proofs.Shows.{Histories, Goes, ill, wrong, fine, fails, take, look, either, gives, done, refuse}
-use Rattle.rhai_reading.proofs.Shows.{test, raise, part, first, ends, Passed}
+use Rattle.rhai_reading.proofs.Shows.{blamed_at, called, halt, test, raise, part, first, ends, Passed}
 use Rattle.rhai_reading.proofs.Sound.Chains.{Early, early_if, early_or, tested}
 use Rattle.rhai_reading.proofs.Sound.Law.{AllSound, any_construct, any_run}
 use Rattle.rhai_grammar.specs.Constructs.{construct_token, kind_of, may_stand}
@@ -199,6 +202,49 @@ module _ {call : Histories} (ih : AllSound call) (c : Context) (w : Live) (s : P
   export_way here global below (ExportName name name_at other) k o r = here ▹ global ▹ below ▹ r
   export_way here global below (ExportDefinition constant keyword f) k o r = here ▹ global ▹ below ▹ r
 
+  -- a function after doc comments, from its `fn` or its `private`
+  fn_from : (t : Point) (xs : List Comment) → next_at code t ≡ item (Sign token.Fn) (pos_at t)
+      → ((f : FunctionForm) (k : Demands) (o : Aim)
+      → Way (W.function_at (W.after_comments xs c) None (pos_at t)
+      ((function_statements c w xs (pos_at t) (pos_at t) false).demands f k)) t o
+      → Way (W.statement (function_form xs None (pos_at t) f) c w k) s o)
+      → Goes call (statements c w) s (R.fn_on c w xs (pos_at t)) t true
+  fn_from t xs here way =
+      take (ends (ih.of (R.FunctionStatement c w xs (pos_at t) (pos_at t) false) (past code t) false)
+      (function_form xs None (pos_at t)) (λ v f. refl) (λ f k o r. way f k o (here ▹ r)))
+
+  private_from : (t : Point) (xs : List Comment) → next_at code t ≡ item (Sign token.Private) (pos_at t)
+      → ((at : Position) (f : FunctionForm) (k : Demands) (o : Aim)
+      → Way (W.function_at (W.after_comments xs c) (Some (pos_at t)) at
+      ((function_statements c w xs (pos_at t) at true).demands f k)) t o
+      → Way (W.statement (function_form xs (Some (pos_at t)) at f) c w k) s o)
+      → Goes call (statements c w) s (R.private_on c w xs (pos_at t)) t true
+  private_from t xs here way =
+      let u = past code t in
+      take (look (λ n. expect due.Fn (function_form xs (Some (pos_at t)) nowhere any_function)
+      (λ missing k. way nowhere any_function k _ (here ▹ missing.way)) (λ is.
+      ends (ih.of (R.FunctionStatement c w xs (pos_at t) (pos_at u) true) (past code u) false)
+      (function_form xs (Some (pos_at t)) (pos_at u)) (λ v f. refl) (λ f k o r. way (pos_at u) f k o (here ▹ is ▹ r)))))
+
+  -- the token after doc comments, of which the first one is here
+  documented_by : (rest : List Comment) (t : Point) → next_at code s ≡ item (lexeme.Comment (text_of (op_at s))) (pos_at s)
+      → is_global c ≡ true → Passes (past code s) (λ k. W.further_comments rest (pos_at s) c k) t
+      → V.is_comment (op_at t) ≡ false → (v : StatementStart) → V.statement_start c (op_at t) ≡ v
+      → is_memory (op_at t) ≡ false
+      → Goes call (statements c w) s
+      (R.documented_at c w (pos_at s) (R.comment_of (op_at s) (pos_at s) ∷ rest) (pos_at t) v) t true
+  documented_by rest t here global G none start.Function e m =
+      fn_from t (R.comment_of (op_at s) (pos_at s) ∷ rest) (started c t e).1 (λ f k o r. here ▹ global ▹ G.on r)
+  documented_by rest t here global G none start.Private e m =
+      private_from t (R.comment_of (op_at s) (pos_at s) ∷ rest) (started c t e).1 (λ at f k o r. here ▹ global ▹ G.on r)
+  documented_by rest t here global G none start.Comment e m =
+      let another = ap (λ i. V.is_comment i.lexeme) (started c t e).1 in
+      absurd (let y = sym none ∙ another in cc)
+  documented_by rest t here global G none _ e m =
+      halt (function_form (R.comment_of (op_at s) (pos_at s) ∷ rest) None nowhere any_function) refl
+      (λ k. here ▹ global ▹ G.on (blamed_at {v = V.after_comment c (pos_at s)} {s = t}
+      {e = refusal cause.WrongDocComment (pos_at s)} m (rw e)))
+
   statement_by : (v : StatementStart) → V.statement_start c (op_at s) ≡ v → is_memory (op_at s) ≡ false
       → Goes call (statements c w) s (R.statement_at c w (pos_at s) v) s true
   statement_by start.Empty e m = take (done (form.EmptyStatement (pos_at s)) (λ k o r. (started c s e).1 ▹ r))
@@ -240,17 +286,17 @@ module _ {call : Histories} (ih : AllSound call) (c : Context) (w : Live) (s : P
       raise c any (λ high k. here ▹ global ▹ fails high) (λ below.
       ends (ih.of (R.Export (level_up c) w (pos_at s)) (past code s) false) (export_form (pos_at s)) (λ v f. refl)
       (export_way here global below))))
-  statement_by start.Function e m =
+  statement_by start.Function e m = fn_from s [] (started c s e).1 (λ f k o r. r)
+  statement_by start.Private e m = private_from s [] (started c s e).1 (λ at f k o r. r)
+  statement_by start.Comment e m =
       let here = (started c s e).1 in
-      take (ends (ih.of (R.FunctionStatement c w (pos_at s) (pos_at s) false) (past code s) false)
-      (function_form None (pos_at s)) (λ v f. refl) (λ f k o r. here ▹ r))
-  statement_by start.Private e m =
-      let here = (started c s e).1 in
-      let t = past code s in
-      take (look (λ n. expect due.Fn (function_form (Some (pos_at s)) nowhere any_function)
-      (λ missing k. here ▹ missing.way) (λ is.
-      ends (ih.of (R.FunctionStatement c w (pos_at s) (pos_at t) true) (past code t) false)
-      (function_form (Some (pos_at s)) (pos_at t)) (λ v f. refl) (λ f k o r. here ▹ is ▹ r))))
+      let x = R.comment_of (op_at s) (pos_at s) in
+      look (λ n. take (test (is_global c) (function_form (x ∷ []) None nowhere any_function) refl
+      (λ below k. here ▹ fails below)
+      (λ global. called (ih.of (R.Comments (x ∷ [])) (past code s) false c (pos_at s)) (λ e u r. absurd r) (λ xs t d r.
+      subst (λ ys. Goes call (statements c w) s (R.Peek (λ l p. R.documented_at c w (pos_at s) ys p (V.statement_start c l))) t d)
+      r.is
+      (look (λ p. documented_by r.rest t here global r.passes r.ended (V.statement_start c (op_at t)) refl p))))))
   statement_by start.Expression e m =
       let begins : Fits (V.expression_begins c) s = fine m (rw e) in
       raise c (form.Expression (form.Evaluate any_run)) (λ high k. begins ▹ ill m (rw high)) (λ below.

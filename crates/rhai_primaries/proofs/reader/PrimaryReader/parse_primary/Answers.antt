@@ -1,4 +1,4 @@
-use Rattle.std.proofs.Common.{ap, rules}
+use Rattle.std.proofs.Common.{◌∙◌, ap, arith, rules, sym}
 use Rattle.std.specs.Rc.{rc_str_bytes}
 use Rattle.rhai_trees.specs.Chains.{chain_view}
 use Rattle.rhai_grammar.specs.Cursors.{cursor_of}
@@ -6,10 +6,11 @@ use Rattle.rhai_language.proofs.Given.{gives_so}
 use Rattle.rhai_language.specs.Frames.{context_of, live_of}
 use Rattle.rhai_language.specs.Readers.{state_at, state_of}
 use Rattle.rhai_reading.specs.Reading.{Primary}
-use Rattle.rhai_reading.specs.Running.{guarded}
+use Rattle.rhai_reading.specs.Running.{guarded, result_of}
 use Rattle.rhai_reading.proofs.Outcomes.{answer_given}
 use Rattle.rhai_reading.proofs.WordSteps.{Worded}
 use Rattle.rhai_primaries.proofs.AnswerLemmas.{named, worded_outcome}
+use Rattle.rhai_primaries.proofs.LookedLemmas.{primary_looked}
 use Rattle.rhai_grammar.specs.Beginnings.{calls, excludes_use}
 use Rattle.rhai_grammar.specs.declared.role.Beginning.TheVariants as begin
 use Rattle.rhai_primaries.proofs.reader.PrimaryReader.parse_primary.Goals as goal
@@ -46,3 +47,10 @@ returns-in_ok-called-in-Word-clause-reads g c =
       look_on = search rules;
     } in
     answer_given chain_view _ _ c.used_word.result (worded_outcome _ _ h) c.used_word.ensures.answers c.used_word.ensures.nowhere
+
+pub returns-in-Group-clause-reads : goal.returns-in-Group-clause-reads
+returns-in-Group-clause-reads g c =
+    let context = context_of c.args.self.now.language.now c.args.frame.now c.args.settings in
+    let live = live_of c.args.frame.now in
+    gives_so chain_view c.parse_compound.result (state_of c.parse_compound.new.shared)
+    (sym (primary_looked context live (state_of c.args.shared.now)) ∙ ap (result_of (Primary context live)) (grind arith)) c.parse_compound.ensures.reads

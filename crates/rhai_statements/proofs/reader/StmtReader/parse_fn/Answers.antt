@@ -1,6 +1,7 @@
 use Rattle.std.proofs.Common.{Err, arith, rules}
 use Rattle.std.proofs.lemmas.Result.{err_from_is_err_and}
 use Rattle.rhai_ast.specs.View.{statement_view}
+use Rattle.rhai_base.specs.Comments.{comments_of}
 use Rattle.rhai_language.specs.Frames.{context_of, live_of}
 use Rattle.rhai_language.specs.Readers.{ended_view, state_of, with_live}
 use Rattle.rhai_reading.specs.Reading.{FunctionStatement}
@@ -24,7 +25,7 @@ returns-in_err-key-clause-reads g c =
       context = context_inside c.args.self.now.language.now c.args.frame.now c.in_function-inner.result c.args.settings c.in_ok-deeper.deeper (search rules) (search rules) (search rules) (search rules);
       stands = search rules;
     } in
-    rw (p.1, p.2) (function_fails context (live_of c.args.frame.now) c.args.first c.args.settings.pos c.args.private inside c.in_ok-deeper.deeper.pos (state_of c.args.shared.now) begun
+    rw (p.1, p.2) (function_fails context (live_of c.args.frame.now) (comments_of c.args.comments.now) c.args.first c.args.settings.pos c.args.private inside c.in_ok-deeper.deeper.pos (state_of c.args.shared.now) begun
     _ (state_of c.nested-leave.new.self) (nested_gives ended_view _ _ _ _ _ (Err _) c.nested-enter.ensures.enters c.in_err-key.ensures.reads c.nested-leave.ensures.leaves))
 
 pub returns-clause-reads : goal.returns-clause-reads
@@ -38,8 +39,8 @@ returns-clause-reads g c =
       context = context_inside c.args.self.now.language.now c.args.frame.now c.in_function-inner.result c.args.settings c.in_ok-deeper.deeper (search rules) (search rules) (search rules) (search rules);
       stands = search rules;
     } in
-    let call = guarded (FunctionStatement context (live_of c.args.frame.now) c.args.first c.args.settings.pos c.args.private) (state_of c.args.shared.now) in
-    function_gives (with_live statement_view c.args.frame.now) context (live_of c.args.frame.now) c.args.first c.args.settings.pos c.args.private inside c.in_ok-deeper.deeper.pos (state_of c.args.shared.now) begun
+    let call = guarded (FunctionStatement context (live_of c.args.frame.now) (comments_of c.args.comments.now) c.args.first c.args.settings.pos c.args.private) (state_of c.args.shared.now) in
+    function_gives (with_live statement_view c.args.frame.now) context (live_of c.args.frame.now) (comments_of c.args.comments.now) c.args.first c.args.settings.pos c.args.private inside c.in_ok-deeper.deeper.pos (state_of c.args.shared.now) begun
     (ended_view (c.in_ok-key.key, c.in_ok-key.function)) (state_of c.nested-leave.new.self) (nested_done _ _ c.nested-enter.ensures.enters c.in_ok-key.ensures.reads c.nested-leave.ensures.leaves)
     c.end_function.result (state_of c.end_function.new.shared) (c.end_function.ensures.gives call (live_of c.args.frame.now))
 

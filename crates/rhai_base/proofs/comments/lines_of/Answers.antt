@@ -1,0 +1,10 @@
+-- At the end of the text all lines came.
+use Rattle.std.proofs.Common.{◌∙◌, ap, map}
+use Rattle.std.proofs.lemmas.Iterator.Consumers.{YieldsList-end}
+use Rattle.std.proofs.lemmas.Iterator.Splits.{YieldsList-from_lines}
+use Rattle.rhai_base.proofs.comments.lines_of.Goals as goal
+
+pub returns : goal.returns
+returns c =
+    let end = YieldsList-end (YieldsList-from_lines c.args.text.now cc) c.loop-line.yielded _ c.loop-line.yielded_by _ _ c.in-None.is c.next.ensures.steps in
+    ap (map (λ x. x.now)) c.loop-line.invariant ∙ end.0

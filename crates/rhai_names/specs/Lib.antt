@@ -1,0 +1,6 @@
+pub mod Mentions
+pub mod WrittenFunctions
+pub mod FnNames
+pub mod Laws
+pub mod Scripts
+pub mod Walks

@@ -1,0 +1,10 @@
+-- An operand that was looked at is read as it was before.
+use Rattle.std.proofs.Common.{◌≡◌, ◌∙◌, sym}
+use Rattle.rhai_grammar.specs.Contexts.{Context, Live}
+use Rattle.rhai_reading.specs.Reading.{Primary}
+use Rattle.rhai_reading.specs.Running.{Progress, guarded, looking, only_less, result_of}
+use Rattle.rhai_reading.proofs.Steps.{run_step}
+
+pub primary_looked : (c : Context) (w : Live) (s : Progress) → result_of (Primary c w) (looking s) ≡ result_of (Primary c w) s
+unfolding guarded only_less
+primary_looked c w s = run_step (Primary c w) (looking s) ∙ sym (run_step (Primary c w) s)

@@ -1,0 +1,106 @@
+-- Doc comments, and the function after them: what the reading program does where the code has decided.
+use Rattle.std.proofs.Common.{◌≡◌, ◌∙◌, ◌+◌, ◌≤◌, true, false, List, [], ◌∷◌, ◌++◌, ap, arith, if◌then◌else◌, sym}
+use Rattle.std.proofs.lemmas.List.{map_push}
+use Rattle.std.specs.declared.alloc.Global.{Global}
+use Rattle.std.specs.declared.rc.RcStr.{RcStr}
+use Rattle.rhai_lower.specs.declared.position.Position.{Position}
+use Rattle.rhai_grammar.specs.Causes as cause
+use Rattle.rhai_grammar.specs.Causes.{out_of_memory, refusal}
+use Rattle.rhai_grammar.specs.Comments.{Comment}
+use Rattle.rhai_grammar.specs.Contexts.{Context, Live, is_global}
+use Rattle.rhai_grammar.specs.Cursors.{left}
+use Rattle.rhai_grammar.specs.Delivered.{is_memory}
+use Rattle.rhai_grammar.specs.Statements.{is_comment, statement_start}
+use Rattle.rhai_grammar.specs.declared.role.StatementStart.TheVariants as start
+use Rattle.rhai_reading.specs.Reading as reading
+use Rattle.rhai_reading.specs.Reading.{Call, Comments, Fail, FunctionStatement, Goal, Peek, Ret, Statement, Take, comments_at, documented, documented_at, fn_on, statement_at}
+use Rattle.rhai_reading.specs.Running as R
+use Rattle.rhai_reading.specs.Running.{Done, Progress, and_then, asked, exec, guarded, looking, nested, result_of, taking}
+use Rattle.rhai_reading.proofs.Steps.{and_then_done, guarded_is, nested_is, step_comments, step_statement}
+use Rattle.rhai_base.specs.Comments.{comment_of, comments_of}
+
+-- one more doc comment
+pub comments_push : (cs : List (RcStr Global × Position)) (c : RcStr Global × Position) → comments_of (cs ++ c ∷ []) ≡ comments_of cs ++ comment_of c ∷ []
+comments_push cs c = map_push comment_of cs c
+
+-- one more is taken
+pub comment_taken : (before : List Comment) (s t : Progress) (x : Comment) → is_memory (asked s).lexeme ≡ false
+    → is_comment (asked s).lexeme ≡ true → x ≡ reading.comment_of (asked s).lexeme (asked s).at → t ≡ taking s
+    → left t.cursor.tokens + 1 ≤ left s.cursor.tokens → result_of (Comments before) s ≡ result_of (Comments (before ++ x ∷ [])) t
+comment_taken before s t x readable comment same took short =
+    let call = guarded (Comments before) s in
+    let l = (asked s).lexeme in
+    let p = (asked s).at in
+    step_comments before s
+    ∙ ap (λ m. if m then R.Refused out_of_memory (looking s) else exec call (comments_at before l p) (looking s)) readable
+    ∙ ap (λ b. exec call (if b then Take (Call (Comments (before ++ reading.comment_of l p ∷ [])) Ret) else Ret before) (looking s)) comment
+    ∙ ap (λ m. if m then R.Refused out_of_memory (looking s) else exec call (Call (Comments (before ++ reading.comment_of l p ∷ [])) Ret) (taking s)) readable
+    ∙ ap (λ (y : Comment). exec call (Call (Comments (before ++ y ∷ [])) Ret) (taking s)) (sym same)
+    ∙ ap (λ (u : Progress). exec call (Call (Comments (before ++ x ∷ [])) Ret) u) (sym took)
+    ∙ and_then_done (call (Comments (before ++ x ∷ [])) t)
+    ∙ guarded_is (Comments before) s (Comments (before ++ x ∷ [])) t (omega (arith, short))
+
+-- a function whose `fn` is taken
+pub plain_read : (h : Goal) (s : Progress) (c : Context) (w : Live) (cs : List Comment) (at : Position) (old taken : Progress) → is_memory (asked old).lexeme ≡ false
+    → taken ≡ taking old → left taken.cursor.tokens + 1 ≤ left old.cursor.tokens → left old.cursor.tokens ≤ left s.cursor.tokens
+    → exec (guarded h s) (fn_on c w cs at) old ≡ nested (result_of (FunctionStatement c w cs at at false)) taken
+plain_read h s c w cs at old taken readable took short within =
+    let call = guarded h s in
+    let inside = FunctionStatement c w cs at at false in
+    ap (λ m. if m then R.Refused out_of_memory (looking old) else exec call (Call inside Ret) (taking old)) readable
+    ∙ ap (λ (u : Progress). exec call (Call inside Ret) u) (sym took)
+    ∙ and_then_done (nested (call inside) taken)
+    ∙ nested_is h s inside taken (omega (arith, short, within))
+
+-- a statement that begins with `fn`
+pub function_starts : (c d : Context) (w : Live) (here : Position) (s looked : Progress) → is_memory (asked s).lexeme ≡ false
+    → statement_start c (asked s).lexeme ≡ start.Function → c ≡ d → (asked s).at ≡ here → looked ≡ looking s
+    → result_of (Statement c w) s ≡ exec (guarded (Statement c w) s) (fn_on d w [] here) looked
+function_starts c d w here s looked readable begins context stands look =
+    let call = guarded (Statement c w) s in
+    let l = (asked s).lexeme in
+    let p = (asked s).at in
+    step_statement c w s
+    ∙ ap (λ m. if m then R.Refused out_of_memory (looking s) else exec call (statement_at c w p (statement_start c l)) (looking s)) readable
+    ∙ ap (λ k. exec call (statement_at c w p k) (looking s)) begins
+    ∙ ap (λ (e : Context). exec call (fn_on e w [] p) (looking s)) context
+    ∙ ap (λ (q : Position). exec call (fn_on d w [] q) (looking s)) stands
+    ∙ ap (λ (u : Progress). exec call (fn_on d w [] here) u) (sym look)
+
+-- Doc comments are taken where a statement begins, of which the first one is x, and a token is next that is seen.
+pub record Documented (c : Context) (x : Comment) (cs : List Comment) (s old taken read : Progress) : Type 0 where
+  pub readable : is_memory (asked old).lexeme ≡ false
+  pub comment : x ≡ reading.comment_of (asked old).lexeme (asked old).at
+  pub took : taken ≡ taking old
+  pub short : left taken.cursor.tokens + 1 ≤ left old.cursor.tokens
+  pub within : left old.cursor.tokens ≤ left s.cursor.tokens
+  pub global : is_global c ≡ true
+  pub further : result_of (Comments (x ∷ [])) taken ≡ Done cs read
+  pub readable_on : is_memory (asked read).lexeme ≡ false
+
+pub comments_read : (h : Goal) (c : Context) (w : Live) (at : Position) (x : Comment) (cs : List Comment) (s old taken read : Progress) → Documented c x cs s old taken read
+    → exec (guarded h s) (statement_at c w at start.Comment) old
+    ≡ exec (guarded h s) (documented_at c w x.at cs (asked read).at (statement_start c (asked read).lexeme)) (looking read)
+comments_read h c w at x cs s old taken read d =
+    let call = guarded h s in
+    let y = reading.comment_of (asked old).lexeme (asked old).at in
+    ap (λ m. if m then R.Refused out_of_memory (looking old) else exec call (Take (documented c w y)) (looking old)) d.readable
+    ∙ ap (λ m. if m then R.Refused out_of_memory (looking old) else exec call (documented c w y) (taking old)) d.readable
+    ∙ ap (λ (z : Comment). exec call (documented c w z) (taking old)) (sym d.comment)
+    ∙ ap (λ (u : Progress). exec call (documented c w x) u) (sym d.took)
+    ∙ ap (λ b. exec call (if b then Call (Comments (x ∷ [])) (λ comments. Peek (λ l p. documented_at c w x.at comments p (statement_start c l))) else Fail (refusal cause.WrongDocComment x.at)) taken) d.global
+    ∙ ap (λ o. and_then o (λ comments t. exec call (Peek (λ l p. documented_at c w x.at comments p (statement_start c l))) t))
+    (guarded_is h s (Comments (x ∷ [])) taken (omega (arith, d.short, d.within)) ∙ d.further)
+    ∙ ap (λ m. if m then R.Refused out_of_memory (looking read) else exec call (documented_at c w x.at cs (asked read).at (statement_start c (asked read).lexeme)) (looking read)) d.readable_on
+
+-- a function follows
+pub function_follows : (h : Goal) (c e : Context) (w : Live) (at here : Position) (x : Comment) (cs : List Comment) (s old taken read looked : Progress) → Documented c x cs s old taken read
+    → statement_start c (asked read).lexeme ≡ start.Function → c ≡ e → (asked read).at ≡ here → looked ≡ looking read
+    → exec (guarded h s) (statement_at c w at start.Comment) old ≡ exec (guarded h s) (fn_on e w cs here) looked
+function_follows h c e w at here x cs s old taken read looked d begins context stands look =
+    let call = guarded h s in
+    comments_read h c w at x cs s old taken read d
+    ∙ ap (λ k. exec call (documented_at c w x.at cs (asked read).at k) (looking read)) begins
+    ∙ ap (λ (f : Context). exec call (fn_on f w cs (asked read).at) (looking read)) context
+    ∙ ap (λ (q : Position). exec call (fn_on e w cs q) (looking read)) stands
+    ∙ ap (λ (u : Progress). exec call (fn_on e w cs here) u) (sym look)
