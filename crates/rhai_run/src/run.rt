@@ -161,3 +161,6 @@ fn failed_words(error: &io::Error) -> Failure {
         _ => Failure::Unreadable(0),
     }
 }
+
+#[cfg(test)]
+mod tests;

@@ -2,6 +2,8 @@
 //! it prints of which list is in the table of cases.
 
 use super::*;
+use std::alloc::AllocError;
+use std::io::{self, ErrorKind};
 use std::process::Abort;
 use std::str;
 use std::test::Fail;
@@ -165,17 +167,4 @@ fn a_writer_that_fails(rt: HostRuntime) -> Result<(), Fail> {
         }
     }
     Ok(())
-}
-
-#[test]
-fn words_that_cannot_be_had(rt: HostRuntime) {
-    for (kind, wanted, text) in [
-        (ErrorKind::OutOfMemory, 1, NO_MEMORY),
-        (ErrorKind::InvalidData, 2, "unreadable line 0\n"),
-    ] {
-        let mut output: Vec<u8> = Vec::new(rt.alloc());
-        let status = refuse_words(&io::Error::from(kind), &mut output);
-        assert!(rt; status == wanted, "{text}");
-        check_printed(&rt, &output, text);
-    }
 }
