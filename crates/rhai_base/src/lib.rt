@@ -10,6 +10,7 @@ pub mod counts;
 pub mod ended;
 pub mod flags;
 pub mod frame;
+mod imports;
 pub mod known;
 pub mod library;
 pub mod literals;
