@@ -7,7 +7,7 @@ use Rattle.rhai_reading.specs.Running.{result_of}
 use Rattle.rhai_language.specs.Readers.{GoesOn, binary_op, state_of}
 use Rattle.rhai_language.specs.Rooms.{Stays}
 use Rattle.rhai_expressions.proofs.RunLemmas.{Awaits}
-use Rattle.rhai_expressions.proofs.reader.ExprReader.parse_binary_op.Given as goal
+use Rattle.rhai_expressions.proofs.reader.ExprReader.parse_run.Given as goal
 
 abbrev pub invariant-loop-pending : goal.invariant-loop-pending
 invariant-loop-pending g l = record {

@@ -8,7 +8,7 @@ use Rattle.rhai_language.specs.Frames.{context_of, live_of}
 use Rattle.rhai_language.specs.Readers.{GoesOn, links, state_of}
 use Rattle.rhai_language.specs.Rooms.{Stays}
 use Rattle.rhai_expressions.specs.Views.{linked}
-use Rattle.rhai_expressions.proofs.reader.ExprReader.parse_links.Given as goal
+use Rattle.rhai_expressions.proofs.reader.ExprReader.parse_all_links.Given as goal
 
 abbrev pub invariant-loop-links : goal.invariant-loop-links
 invariant-loop-links g l = record {

@@ -8,8 +8,8 @@ use Rattle.rhai_language.specs.Readers.{binary_op, state_of}
 use Rattle.rhai_expressions.specs.Runs.{run_at}
 use Rattle.rhai_base.specs.declared.settings.ParseSettings.{ParseSettings}
 use Rattle.rhai_expressions.proofs.RunLemmas.{Pushes, awaits_done, awaits_refused, nothing_waits, popped_as, popped_less, popped_limit, popped_refused, pushed_as, right_refused}
-use Rattle.rhai_expressions.proofs.reader.ExprReader.parse_binary_op.Goals as goal
-use Rattle.rhai_expressions.proofs.reader.ExprReader.parse_binary_op.Goals.{In-Some, In_default}
+use Rattle.rhai_expressions.proofs.reader.ExprReader.parse_run.Goals as goal
+use Rattle.rhai_expressions.proofs.reader.ExprReader.parse_run.Goals.{In-Some, In_default}
 
 pub loop-pending-init : goal.loop-pending-init
 loop-pending-init g c = record {

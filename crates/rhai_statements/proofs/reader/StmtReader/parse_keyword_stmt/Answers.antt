@@ -7,7 +7,7 @@ use Rattle.rhai_language.specs.Readers.{state_at, state_of, statement, with_live
 use Rattle.rhai_language.proofs.Given.{gives_so}
 use Rattle.rhai_language.proofs.Rooms.{room_same}
 use Rattle.rhai_statements.proofs.CommentLemmas.{function_starts}
-use Rattle.rhai_statements.proofs.reader.StmtReader.parse_stmt.Goals as goal
+use Rattle.rhai_statements.proofs.reader.StmtReader.parse_keyword_stmt.Goals as goal
 
 pub returns-in-Function-clause-reads : goal.returns-in-Function-clause-reads
 returns-in-Function-clause-reads g c =

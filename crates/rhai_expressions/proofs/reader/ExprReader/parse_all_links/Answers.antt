@@ -9,7 +9,7 @@ use Rattle.rhai_language.specs.Readers.{state_at, state_of}
 use Rattle.rhai_reading.proofs.ChainSteps.{BracketTaken, DotTaken, bracket_goes_on, bracket_short, dot_goes_on, dot_short}
 use Rattle.rhai_reading.proofs.Steps.{nested_done}
 use Rattle.rhai_trees.proofs.ChainLemmas.{indexed_after, links_push}
-use Rattle.rhai_expressions.proofs.reader.ExprReader.parse_links.Goals as goal
+use Rattle.rhai_expressions.proofs.reader.ExprReader.parse_all_links.Goals as goal
 
 pub loop-links-preserved : goal.loop-links-preserved
 loop-links-preserved g c =

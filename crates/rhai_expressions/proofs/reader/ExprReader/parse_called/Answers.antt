@@ -11,7 +11,7 @@ use Rattle.rhai_language.specs.Readers.{state_of}
 use Rattle.rhai_reading.proofs.PathSteps.{call_given, call_refused, call_unknown, name_plain}
 use Rattle.rhai_reading.proofs.Steps.{nested_done, nested_refused}
 use Rattle.rhai_expressions.proofs.AnswerLemmas.{same_called}
-use Rattle.rhai_expressions.proofs.reader.ExprReader.parse_postfix.Goals as goal
+use Rattle.rhai_expressions.proofs.reader.ExprReader.parse_called.Goals as goal
 
 pub returns-in_err-named-clause-reads : goal.returns-in_err-named-clause-reads
 returns-in_err-named-clause-reads g c =
