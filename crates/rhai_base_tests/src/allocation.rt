@@ -10,8 +10,8 @@ use rhai_ast::{Expr, ScriptFuncDef, Stmt, StmtBlock};
 use rhai_base::captured::add_use;
 use rhai_base::closures::{closure_function, closure_value};
 use rhai_base::{
-    FnLib, FnNames, Frame, Known, Library, add_function, functions, has_function, kept_comments,
-    make_anonymous_fn,
+    FnLib, FnNames, Frame, Known, Library, NamedList, add_function, functions, has_function,
+    kept_comments, make_anonymous_fn,
 };
 use rhai_grammar::{ExprFilter, FnKey, InputError, ParseError, ParseErrorType};
 use rhai_input::Scope;
@@ -89,6 +89,45 @@ fn indexed_slots_with_ample_memory(rt: HostRuntime) -> Result<(), Fail> {
 #[test]
 fn indexed_slots_refused(rt: HostRuntime) {
     let _ = indexed_slots(&rt, rt.alloc());
+}
+
+// Appends a name. Where memory is refused, the list is unchanged.
+fn append(
+    rt: &impl Abort,
+    alloc: Global,
+    names: &mut NamedList<RcStr>,
+    name: RcStr,
+) -> Result<(), AllocError> {
+    let before = names.len();
+    if let Err(error) = names.push(alloc, name) {
+        assert!(rt; names.len() == before);
+        return Err(error);
+    }
+    Ok(())
+}
+
+// More names than a list keeps without an index of them.
+fn many_names(rt: &impl Abort, alloc: Global) -> Result<(), AllocError> {
+    let mut names = NamedList::new(alloc);
+    assert!(rt; names.is_empty());
+    for n in 0..12 {
+        let text = format!(in alloc; "name {n}")?;
+        assert!(rt; !names.has_name(&text));
+        append(rt, alloc, &mut names, RcStr::from_str(alloc, &text)?)?;
+        assert!(rt; names.has_name(&text));
+    }
+    assert!(rt; names.into_items().len() == 12);
+    Ok(())
+}
+
+#[test]
+fn many_names_with_ample_memory(rt: HostRuntime) -> Result<(), Fail> {
+    Ok(many_names(&rt, rt.alloc())?)
+}
+
+#[test]
+fn many_names_refused(rt: HostRuntime) {
+    let _ = many_names(&rt, rt.alloc());
 }
 
 fn key(alloc: Global, name: &str) -> Result<FnKey, AllocError> {
