@@ -32,7 +32,7 @@ pub use flags::{LangOptions, ParseSettingFlags};
 pub use frame::Frame;
 pub use known::Known;
 pub use library::{FnLib, add_function, closure_count, functions, has_function, is_function_name};
-pub use named_list::{HasName, NamedList};
+pub use named_list::{HasName, NamedList, is_named};
 pub use names::FnNames;
 pub use settings::{ParseSettings, RunSettings};
 pub use state::{ParseState, TokenizerControl, nest_peak};

@@ -123,8 +123,8 @@ impl<T: HasName + Drop> NamedList<T> {
     }
 }
 
-// Whether one of these items has this name. Does not allocate.
-pub(crate) fn is_named<T: HasName>(items: &[T], name: &str) -> bool
+/// Whether one of these items has this name. Does not allocate.
+pub fn is_named<T: HasName>(items: &[T], name: &str) -> bool
     ensures { result ≡ is_among name.now (map T.text items.now) }
 {
     for item in items {
