@@ -172,6 +172,16 @@ impl TokenStream {
     fn ask(&mut self)
         ensures { self.new ≡ peeking self.old }
     {
+        if let Head::Unasked { .. } = self.head {
+            self.ask_next();
+        }
+    }
+
+    // The same, apart from the test that each peek makes: most find the token peeked.
+    #[inline(never)]
+    fn ask_next(&mut self)
+        ensures { self.new ≡ peeking self.old }
+    {
         if let Head::Unasked { text } = self.head {
             self.head = match self.rest.pop() {
                 Some(entry) => ask_entry(entry, text),

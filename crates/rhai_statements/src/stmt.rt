@@ -9,7 +9,7 @@ ghost use Rattle.rhai_language.specs.Readers.{exported, imported};
 ghost use Rattle.rhai_grammar.specs.Cursors.{left};
 ghost use Rattle.rhai_grammar.specs.Statements.{ends_itself, statement_start};
 ghost use Rattle.rhai_language.specs.Frames.{context_of};
-ghost use Rattle.rhai_leaves.specs.Statements.{is_expression};
+ghost use Rattle.rhai_statements.specs.Starts.{is_rare};
 ghost use Rattle.rhai_reading.specs.Running.{asked};
 ghost use Rattle.rhai_base.specs.Frames.{SamePlace};
 ghost use Rattle.rhai_language.specs.Readers.{inside, jump, state_of, statements, statements_of, with_live};
@@ -99,12 +99,19 @@ impl<R: LentReaders> StmtReader<'_, R> {
                 let deeper = settings.at(*pos).level_up()?;
                 nested!(shared, self.parse_expr_stmt(shared, frame, deeper))
             }
+            StatementStart::Construct(kind) => {
+                let settings = settings.at(*pos);
+                skip(shared.input);
+                let deeper = settings.level_up()?.level_up()?;
+                self.readers
+                    .parse_construct(self.language, shared, frame, deeper, kind)
+            }
             _ => self.parse_keyword_stmt(shared, frame, settings),
         }
     }
 
-    // Reads a statement that begins with a word or a symbol of its own. These are apart from expressions, since a
-    // function clears all the places that it has when it begins.
+    // Reads a statement that is neither an expression nor a construct. These are apart, since a function clears all the
+    // places that it has when it begins.
     #[inline(never)]
     #[tactic(auto, using(crate::proofs::Readers::parse_stmt))]
     fn parse_keyword_stmt(
@@ -113,8 +120,8 @@ impl<R: LentReaders> StmtReader<'_, R> {
         frame: &mut Frame<'_>,
         settings: ParseSettings,
     ) -> ParseResult<Stmt>
-        requires keyword { is_expression (statement_start (context_of self.now.language.now frame.old settings)
-            (asked (state_of shared.old)).lexeme) ≡ false }
+        requires keyword { is_rare (statement_start (context_of self.now.language.now frame.old settings)
+            (asked (state_of shared.old)).lexeme) ≡ true }
         requires lent { Covers (R.lent self.now.readers) (statement self.now.language.now frame.old settings)
             shared.old }
         ensures goes_on { GoesOn shared.old shared.new }
@@ -133,12 +140,6 @@ impl<R: LentReaders> StmtReader<'_, R> {
             StatementStart::Empty => {
                 skip(shared.input);
                 Ok(Stmt::Noop(settings.pos))
-            }
-            StatementStart::Construct(kind) => {
-                skip(shared.input);
-                let deeper = settings.level_up()?.level_up()?;
-                self.readers
-                    .parse_construct(self.language, shared, frame, deeper, kind)
             }
             StatementStart::Let => {
                 skip(shared.input);
@@ -185,7 +186,7 @@ impl<R: LentReaders> StmtReader<'_, R> {
             StatementStart::Function => self.parse_plain_fn(shared, frame, settings, &[]),
             StatementStart::Private => self.parse_private_fn(shared, frame, settings, &[]),
             StatementStart::Comment => self.parse_documented_fn(shared, frame, settings),
-            StatementStart::Expression => unreachable!(),
+            StatementStart::Expression | StatementStart::Construct(_) => unreachable!(),
         }
     }
 
