@@ -3,8 +3,8 @@
 
 usage: tests/speed.py [PROGRAM [OTHER CALL]]
 
-The first table has the instructions a token that the parse call takes in a list of 10,000 tokens. valgrind's callgrind
-counts them, the same on every run. With OTHER, a program that takes the same words and lists, it also has those of that
+The first table has the instructions a token that the parse call takes in a list of 10,000 tokens, which is accepted.
+valgrind's callgrind counts them, the same on every run. With OTHER, a program that takes the same words and lists, it also has those of that
 program's function whose name has CALL in it, and how many times as many PROGRAM takes.
 
 The second one has the nanoseconds a token that a whole run takes, in lists of 10,000, 100,000 and 1,000,000 tokens: the
@@ -24,7 +24,6 @@ import time
 ROOT = pathlib.Path(__file__).resolve().parent.parent
 PROGRAM = ROOT / "crates/rhai_parse/out/rhai_parse"
 WORDS = ["script", "expr_depth=0", "fn_depth=0", "functions=10000000"]
-REFUSED = b"refused E2 "
 
 # The tokens of a script: names are of letters and digits, integers of digits, texts stand in quotes, `interpolated`
 # begins a string with a block, `text` ends it, and all else is a symbol.
@@ -65,31 +64,31 @@ KINDS = {
 }
 
 
-def write_list(kind, count, path):
-    """Writes a list of about this many tokens, of which the last is one too many, and returns how many there are."""
+def write_list(kind, count, path, extra=()):
+    """Writes a list of about this many tokens, and of these extra ones at its end, and returns how many there are."""
     begin, part, end = KINDS[kind]
     tokens = begin.split()
     number = 0
     while len(tokens) < count:
         tokens += part(number).split()
         number += 1
-    tokens += end.split() + [")"]
+    tokens += [*end.split(), *extra]
     lines = [f"{n // 1000 + 1}:{n % 1000 + 1} {line(token)}\n" for n, token in enumerate(tokens)]
     path.write_text("".join(lines) + f"{len(tokens) // 1000 + 1}:{len(tokens) % 1000 + 1} eof\n")
     return len(tokens)
 
 
-def run(command, path):
+def run(command, path, due):
     with open(path, "rb") as tokens:
         answer = subprocess.run(command, stdin=tokens, stdout=subprocess.PIPE, stderr=subprocess.DEVNULL).stdout
-    if not answer.startswith(REFUSED):
+    if not answer.startswith(due):
         sys.exit(f"{command[0]} answers {answer[:200]!r}")
 
 
 def instructions(program, call, path, folder):
     """How many instructions the function takes whose name has this text in it, with those that it calls."""
     counts = folder / "counts"
-    run(["valgrind", "--tool=callgrind", f"--callgrind-out-file={counts}", program, *WORDS], path)
+    run(["valgrind", "--tool=callgrind", f"--callgrind-out-file={counts}", program, *WORDS], path, b"accepted")
     table = subprocess.run(
         ["callgrind_annotate", "--inclusive=yes", "--threshold=100", counts], capture_output=True, text=True
     ).stdout
@@ -100,7 +99,7 @@ def instructions(program, call, path, folder):
 def nanoseconds(program, path, runs):
     def once():
         begin = time.perf_counter_ns()
-        run([program, *WORDS], path)
+        run([program, *WORDS], path, b"refused E2 ")
         return time.perf_counter_ns() - begin
 
     return min(once() for _ in range(runs))
@@ -123,7 +122,7 @@ def print_growth(program, folder):
         costs = []
         for tokens, runs in ((10_000, 11), (100_000, 5), (1_000_000, 2)):
             path = folder / "list"
-            count = write_list(kind, tokens, path)
+            count = write_list(kind, tokens, path, extra=[")"])
             costs.append(nanoseconds(program, path, runs) / count)
         if costs[2] > 2 * costs[0]:
             grown.append(kind)
