@@ -1,7 +1,9 @@
 -- What a search from the latest slot or import has found so far.
-use Rattle.std.proofs.Common.{◌≡◌, ℕ, suc, zero, ◌+◌, ◌-◌, ◌<◌, ◌∙◌, Bool, true, false, not, ◌&&◌, ◌||◌, cond, List, [], ◌∷◌, Option, None, Some, unwrap_or, length, map, get_or, drop, ap, sym, refl, arith}
+use Rattle.std.proofs.Common.{◌≡◌, ℕ, suc, zero, ◌+◌, ◌-◌, ◌<◌, ◌∙◌, Bool, true, false, not, ◌&&◌, ◌||◌, cond, List, [], ◌∷◌, Option, None, Some, unwrap_or, codes, length, map, get_or, drop, ap, sym, refl, arith}
 use Rattle.std.proofs.Math.Seq.{drop-cons}
+use Rattle.std.proofs.lemmas.List.{length-map}
 use Rattle.std.proofs.Common.{MatchOption, option_map}
+use Rattle.std.specs.Cmp.Lexicographic as texts
 use Rattle.std.specs.Rc.{rc_str_bytes}
 use Rattle.std.specs.declared.rc.RcStr.{RcStr}
 use Rattle.std.specs.declared.alloc.Global.{Global}
@@ -9,7 +11,8 @@ use Rattle.std.specs.declared.num.NonZeroUsize.{NonZeroUsize}
 use Rattle.std.specs.List.{list_any}
 use Rattle.std.specs.Option.{option_or}
 use Rattle.rhai_lower.specs.Texts.{Text, same_text}
-use Rattle.rhai_input.specs.Slots.{SlotValue, slot_at, fresh_slot}
+use Rattle.rhai_input.specs.Names.{latest_name}
+use Rattle.rhai_input.specs.Slots.{SlotValue, slot_at, fresh_slot, latest}
 use Rattle.rhai_grammar.specs.Slots.{number, is_named, is_barrier, later_than, barrier_before}
 use Rattle.rhai_grammar.specs.Imports.{module_number}
 
@@ -111,3 +114,84 @@ text-at (n ∷ names) (suc i) x l e = text-at names i x (omega arith) e
 pub non-zero : (r : Option NonZeroUsize) (n : ℕ) → MatchOption r (n ≡ 0) (λ x. x.value ≡ n) → 0 < n → option_map (λ x. x.value) r ≡ Some n
 non-zero None n h l = absurd (omega arith)
 non-zero (Some x) n h l = ap Some h
+
+-- ---- the latest slot of a name, and its number
+
+equal_texts : (a b : Text) → same_text a b ≡ true → a ≡ b
+equal_texts a b e = texts.same_text a b (sym e)
+
+-- a slot of the name of a barrier is a barrier
+barrier-named : (name : Text) (s : SlotValue) → same_text name (codes "$ BARRIER $") ≡ true → is_named name s ≡ false
+barrier-named name s h = by (same_text s.name name) refl
+  where
+    by : (b : Bool) → same_text s.name name ≡ b → (b && not (is_barrier s)) ≡ false
+    by true e = ap not (ap (λ t. same_text t (codes "$ BARRIER $")) (equal_texts s.name name e) ∙ h)
+    by false e = refl
+
+-- a slot of another name than a barrier's is a variable
+variable-named : (name : Text) (s : SlotValue) → same_text name (codes "$ BARRIER $") ≡ false → is_named name s ≡ same_text s.name name
+variable-named name s h = by (same_text s.name name) refl
+  where
+    by : (b : Bool) → same_text s.name name ≡ b → (b && not (is_barrier s)) ≡ b
+    by true e = ap not (ap (λ t. same_text t (codes "$ BARRIER $")) (equal_texts s.name name e) ∙ h)
+    by false e = refl
+
+-- a barrier has no number
+pub number-barrier : (name : Text) (slots : List SlotValue) → same_text name (codes "$ BARRIER $") ≡ true → number name slots ≡ None
+unfolding number
+number-barrier name [] h = refl
+number-barrier name (s ∷ later) h =
+    ap (λ o. option_or o (cond (is_named name s) (Some (length later + 1)) None)) (number-barrier name later h)
+    ∙ ap (λ b. cond b (Some (length later + 1)) None) (barrier-named name s h)
+
+pub number-step : (o : Option ℕ) (b : Bool) (n : ℕ) → option_or (option_map (λ i. n - i) o) (cond b (Some (n + 1)) None) ≡ option_map (λ i. suc n - i) (option_or (option_map (λ i. i + 1) o) (cond b (Some 0) None))
+number-step (Some i) b n = ap Some (omega arith)
+number-step None true n = ap Some (omega arith)
+number-step None false n = refl
+
+-- the number counts back from the end
+pub number-latest : (name : Text) (slots : List SlotValue) → same_text name (codes "$ BARRIER $") ≡ false → number name slots ≡ option_map (λ i. length slots - i) (latest name slots)
+unfolding number latest_name
+number-latest name [] h = refl
+number-latest name (s ∷ later) h =
+    ap (λ o. option_or o (cond (is_named name s) (Some (length later + 1)) None)) (number-latest name later h)
+    ∙ ap (λ b. option_or (option_map (λ i. length later - i) (latest name later)) (cond b (Some (length later + 1)) None)) (variable-named name s h)
+    ∙ number-step (latest name later) (same_text s.name name) (length later)
+
+-- no slot of the name
+pub number-absent : (name : Text) (slots : List SlotValue) → None ≡ latest name slots → number name slots ≡ None
+number-absent name slots e = by (same_text name (codes "$ BARRIER $")) refl
+  where
+    by : (b : Bool) → same_text name (codes "$ BARRIER $") ≡ b → number name slots ≡ None
+    by true h = number-barrier name slots h
+    by false h = number-latest name slots h ∙ ap (option_map (λ i. length slots - i)) (sym e)
+
+below-step : (o : Option ℕ) (b : Bool) (i n : ℕ) → ((j : ℕ) → Some j ≡ o → j < n) → Some i ≡ option_or (option_map (λ i. i + 1) o) (cond b (Some 0) None) → i < suc n
+below-step (Some j) b i n few e = let l = few j refl in let same : i ≡ j + 1 = cc in omega (arith, l, same)
+below-step None true i n few e = let same : i ≡ 0 = cc in omega (arith, same)
+below-step None false i n few e = absurd cc
+
+-- the latest is one of the names
+pub name-below : (name : Text) (names : List Text) (i : ℕ) → Some i ≡ latest_name name names → i < length names
+unfolding latest_name
+name-below name [] i e = absurd cc
+name-below name (n ∷ later) i e = below-step (latest_name name later) (same_text n name) i (length later) (name-below name later) e
+
+-- the latest slot is one of the slots
+pub latest-below : (name : Text) (slots : List SlotValue) (i : ℕ) → Some i ≡ latest name slots → i < length slots
+latest-below name slots i e =
+    let below = name-below name (map (λ s. s.name) slots) i e in
+    let same = length-map slots (λ (s : SlotValue). s.name) in
+    omega (arith, below, same)
+
+-- the number of the latest slot
+pub place-latest : (r : Option NonZeroUsize) (name : Text) (slots : List SlotValue) (len i : ℕ) → MatchOption r (len - i ≡ 0) (λ x. x.value ≡ len - i) → len ≡ length slots → Some i ≡ latest name slots → same_text name (codes "$ BARRIER $") ≡ false → option_map (λ x. x.value) r ≡ number name slots
+place-latest r name slots len i m e found h =
+    let below = latest-below name slots i found in
+    let some : 0 < len - i = omega (arith, below, e) in
+    non-zero r (len - i) m some
+    ∙ ap (λ l. Some (l - i)) e
+    ∙ ap (option_map (λ i. length slots - i)) found
+    ∙ sym (number-latest name slots h)
+
+pub ruleset places = (number-absent, number-barrier, latest-below)

@@ -1,12 +1,13 @@
 -- The imports of a frame: those of the frames around it, and then its own.
-use Rattle.std.proofs.Common.{◌≡◌, ◌∙◌, ◌+◌, ◌<◌, ◌≤◌, ◌++◌, ℕ, Bool, true, false, List, [], ◌∷◌, Option, Some, None, MatchOption, length, option_map, refl, sym, ap, arith, if◌then◌else◌}
+use Rattle.std.proofs.Common.{◌≡◌, ◌∙◌, ◌+◌, ◌-◌, ◌<◌, ◌≤◌, ◌++◌, ℕ, Bool, true, false, List, [], ◌∷◌, Option, Some, None, MatchOption, length, option_map, refl, sym, ap, arith, if◌then◌else◌}
 use Rattle.std.proofs.lemmas.List.{length-append}
 use Rattle.std.specs.Int.NonZero.{non_zero_usize_get}
 use Rattle.std.specs.Option.{option_or}
 use Rattle.std.specs.declared.num.NonZeroUsize.{NonZeroUsize}
 use Rattle.rhai_lower.specs.Texts.{Text, same_text}
 use Rattle.rhai_grammar.specs.Imports.{module_number}
-use Rattle.rhai_base.proofs.FindLemmas.{non-zero}
+use Rattle.rhai_input.specs.Names.{latest_name}
+use Rattle.rhai_base.proofs.FindLemmas.{name-below, non-zero, number-step}
 use Rattle.rhai_base.proofs.FrameLemmas.{or_none, regroup}
 
 -- a module's number is at most the number of imports
@@ -52,3 +53,23 @@ import_further name all imports outer own k l s e h q = after_own name all impor
     both : (o : Option ℕ) → option_map (λ n. k + n) (option_map (λ n. n + length own) o) ≡ option_map (λ n. l + n) o
     both None = refl
     both (Some n) = ap Some (omega (arith, q))
+
+-- ---- the latest import of a name, and its number
+
+-- the number counts back from the end
+pub module-latest : (name : Text) (imports : List Text) → module_number name imports ≡ option_map (λ i. length imports - i) (latest_name name imports)
+unfolding module_number latest_name
+module-latest name [] = refl
+module-latest name (t ∷ later) =
+    ap (λ o. option_or o (if same_text t name then Some (length later + 1) else None)) (module-latest name later)
+    ∙ number-step (latest_name name later) (same_text t name) (length later)
+
+-- the number of the latest import
+pub module-place : (r : Option NonZeroUsize) (name : Text) (imports : List Text) (len i : ℕ) → MatchOption r (len - i ≡ 0) (λ x. x.value ≡ len - i) → len ≡ length imports → Some i ≡ latest_name name imports → option_map non_zero_usize_get r ≡ module_number name imports
+module-place r name imports len i m e found =
+    let below = name-below name imports i found in
+    let some : 0 < len - i = omega (arith, below, e) in
+    non-zero r (len - i) m some
+    ∙ ap (λ l. Some (l - i)) e
+    ∙ ap (option_map (λ i. length imports - i)) found
+    ∙ sym (module-latest name imports)

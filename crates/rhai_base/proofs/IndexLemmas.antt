@@ -26,7 +26,7 @@ or-true : (a : Bool) → (a || true) ≡ true
 or-true true = refl
 or-true false = refl
 
-or-last : (a b : Bool) → (a || (b || false)) ≡ (a || b)
+pub or-last : (a b : Bool) → (a || (b || false)) ≡ (a || b)
 or-last true b = refl
 or-last false true = refl
 or-last false false = refl

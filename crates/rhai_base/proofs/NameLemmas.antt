@@ -1,10 +1,7 @@
 -- Places of names, paths, and numbers of arguments.
-use Rattle.std.proofs.Common.{◌≡◌, ℕ, ◌<◌, ◌==◌, Bool, true, false, not, List, [], ◌∷◌, ◌++◌, Option, None, Some, unwrap_or, length, map, slice_get, ap, refl, sym, ◌∙◌, arith, MatchOption, option_map, if◌then◌else◌}
+use Rattle.std.proofs.Common.{◌≡◌, ◌==◌, Bool, true, false, not, List, [], ◌∷◌, ◌++◌, None, Some, length, map, slice_get, ap, refl, ◌∙◌, arith, if◌then◌else◌}
 use Rattle.std.proofs.Math.Dec.{eqb-suc-zero}
-use Rattle.std.specs.Int.NonZero.{non_zero_usize_get}
-use Rattle.std.specs.declared.num.NonZeroUsize.{NonZeroUsize}
 use Rattle.rhai_lower.specs.Texts.{Text}
-use Rattle.rhai_input.specs.Slots.{SlotValue}
 use Rattle.std.specs.Rc.{rc_str_bytes}
 use Rattle.rhai_lower.specs.Nodes.{Node, variable}
 use Rattle.rhai_lower.specs.Positions.{nowhere}
@@ -16,26 +13,7 @@ use Rattle.rhai_lower.specs.declared.position.Position.{Position}
 use Rattle.rhai_grammar.specs.Causes.{ModuleUndefined, refusal}
 use Rattle.rhai_grammar.specs.Contexts.{Context, Live}
 use Rattle.rhai_grammar.specs.Modules.{is_qualified, may_enter, module_fault, root_of}
-use Rattle.rhai_grammar.specs.Slots.{number, IsLatest}
 use Rattle.rhai_grammar.specs.Trees.{node_count}
-use Rattle.rhai_grammar.proofs.SlotLemmas.{latest_number}
-use Rattle.rhai_base.proofs.FindLemmas.{non-zero}
-
-none_is : (o : Option ℕ) (name : Text) (slots : List SlotValue) → IsLatest name slots o → 0 ≡ unwrap_or o 0 → o ≡ None
-none_is None name slots h e = refl
-none_is (Some n) name slots h e = absurd (omega (arith, h.0, e))
-
--- no place is 0
-pub no_place : (n : ℕ) (name : Text) (slots : List SlotValue) → n ≡ unwrap_or (number name slots) 0 → n ≡ 0 → number name slots ≡ None
-no_place n name slots e z = none_is (number name slots) name slots (latest_number name slots) (sym z ∙ e)
-
-some_is : (o : Option ℕ) (r : Option NonZeroUsize) (n : ℕ) → MatchOption r (n ≡ 0) (λ x. x.value ≡ n) → n ≡ unwrap_or o 0 → 0 < n → option_map (λ x. x.value) r ≡ o
-some_is None r n m e l = absurd (omega (arith, e))
-some_is (Some k) r n m e l = non-zero r n m l ∙ ap Some e
-
--- a place that is not 0
-pub slot_place : (r : Option NonZeroUsize) (n : ℕ) (name : Text) (slots : List SlotValue) → MatchOption r (n ≡ 0) (λ x. x.value ≡ n) → n ≡ unwrap_or (number name slots) 0 → 0 < n → option_map non_zero_usize_get r ≡ number name slots
-slot_place r n name slots m e l = some_is (number name slots) r n m e l
 
 pub count_views : (es : List Expr) → node_count (views es) ≡ length es
 count_views [] = refl

@@ -3,8 +3,6 @@
 use Rattle.std.specs.Prelude.{◌≡◌, ℕ, ◌+◌, ◌<◌, ◌^◌, List, [], Option, Some, None, length, map}
 use Rattle.std.specs.Borrow.{Bor}
 use Rattle.std.specs.Rc.{rc_str_bytes}
-use Rattle.std.specs.declared.alloc.Global.{Global}
-use Rattle.std.specs.declared.rc.RcStr.{RcStr}
 use Rattle.rhai_input.specs.Slots.{SlotValue}
 use Rattle.rhai_lower.specs.Texts.{Text}
 use Rattle.rhai_grammar.specs.Contexts as context
@@ -58,7 +56,7 @@ outer_depth (Some outer) = outer.now.depth + 1
 
 -- A frame knows how many slots and imports are around it, and the numbers of all slots and of all imports are `usize`.
 pub record IsCounted (outer : Option (Bor FrameValue)) (below : ℕ) (stack : List SlotValue) (above : ℕ)
-    (imports : List (RcStr Global)) : Type 0 where
+    (imports : List Text) : Type 0 where
   pub counted : below ≡ length (outer_slots outer)
   pub fits : below + length stack < 2 ^ 64
   pub imported : above ≡ length (outer_imports outer)

@@ -19,8 +19,9 @@ ghost use Rattle.rhai_base.specs.Frames.{SamePlace, known_of};
 ghost use Rattle.rhai_base.specs.Libraries.{library_of};
 
 use crate::ended::Library;
+use crate::imports::Imports;
 use crate::known::Known;
-use crate::lookup::{find_import, place_of};
+use crate::lookup::place_of;
 use crate::slots::{define, export};
 use rhai_grammar::{ExprFilter, ParseError, ParseErrorType, ParseResult};
 use rhai_input::Scope;
@@ -46,8 +47,8 @@ pub struct Frame<'p> {
     block: usize,
     // The number of imports of all frames around this one.
     above: usize,
-    // The names of the imports of this block.
-    imports: Vec<RcStr>,
+    // The imports of this block; in the outermost frame all imports.
+    imports: Imports,
     // Which tokens the expressions in this block may contain.
     filter: ExprFilter,
     // What is known around the script.
@@ -57,8 +58,7 @@ pub struct Frame<'p> {
 }
 
 impl<'p> Model for Frame<'p> {
-    ghost use Rattle.std.specs.Prelude.{◌++◌, ◌+◌, length, map};
-    ghost use Rattle.std.specs.Rc.{rc_str_bytes};
+    ghost use Rattle.std.specs.Prelude.{◌++◌, ◌+◌, length};
     ghost use Rattle.rhai_base.specs.Frames.{FrameValue, IsCounted, known_of, outer_depth, outer_imports, outer_slots};
 
     ghost Value = { FrameValue };
@@ -67,7 +67,7 @@ impl<'p> Model for Frame<'p> {
       live = record {
         slots = outer_slots f.outer ++ f.stack;
         block = length (outer_slots f.outer) + f.block;
-        imports = outer_imports f.outer ++ map rc_str_bytes f.imports.items;
+        imports = outer_imports f.outer ++ f.imports;
       };
       depth = outer_depth f.outer;
       filter = f.filter;
@@ -75,7 +75,7 @@ impl<'p> Model for Frame<'p> {
       begun = f.begun;
     } };
 
-    ghost invariant = { λ f. IsCounted f.outer f.below f.stack f.above f.imports.items };
+    ghost invariant = { λ f. IsCounted f.outer f.below f.stack f.above f.imports };
 
     ghost size = { λ v. v.depth };
 
@@ -112,7 +112,7 @@ impl<'p> Frame<'p> {
             stack,
             block,
             above,
-            imports,
+            imports: Imports::new(imports),
             filter,
             known,
             begun,
@@ -154,7 +154,7 @@ impl<'p> Frame<'p> {
             stack: Scope::new(alloc),
             block: 0,
             above: self.import_count(),
-            imports: Vec::new(alloc),
+            imports: Imports::new(Vec::new(alloc)),
             filter,
             known: self.known,
             begun: self.begun,
@@ -202,7 +202,7 @@ impl<'p> Frame<'p> {
         if let Some(outer) = self.outer {
             outer.push_imports(all)?;
         }
-        push_names(all, &self.imports)
+        push_names(all, self.imports.names())
     }
 
     /// How many functions and closures have begun around this frame. Does not allocate.
@@ -226,7 +226,7 @@ impl<'p> Frame<'p> {
         ensures slots { result.0 ≡ self.entry.live.slots }
         ensures imports { map rc_str_bytes result.1.items ≡ self.entry.live.imports }
     {
-        (self.stack, self.imports)
+        (self.stack, self.imports.into_names())
     }
 
     /// The number of the latest slot of the variable `name`, counted from 1 at the latest slot of all; none if no slot
@@ -339,7 +339,7 @@ impl<'p> Frame<'p> {
         let count = self.import_count();
         let mut frame = self;
         loop {
-            if let Some(place) = find_import(&frame.imports, name) {
+            if let Some(place) = frame.imports.find(name) {
                 return NonZeroUsize::new(count - frame.import_count() + place.get());
             }
             let Some(outer) = frame.outer else {

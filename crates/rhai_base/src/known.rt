@@ -1,11 +1,11 @@
 //! What is known before a script defines or imports anything.
 
-ghost use Rattle.std.specs.Prelude.{◌≡◌, map};
-ghost use Rattle.std.specs.Rc.{rc_str_bytes};
+ghost use Rattle.std.specs.Prelude.{◌≡◌};
 ghost use Rattle.rhai_input.specs.Slots.{is_declared};
 ghost use Rattle.rhai_grammar.specs.Imports.{is_among};
 ghost use Rattle.rhai_base.specs.Frames.{known_of};
 
+use crate::named_list::is_named;
 use rhai_input::Scope;
 use std::rc::RcStr;
 
@@ -35,25 +35,13 @@ impl<'p> Known<'p> {
     pub(crate) fn has_import(&self, name: &str) -> bool
         ensures { result ≡ is_among name.now (known_of self.now).imports }
     {
-        is_among(self.imports, name)
+        is_named(self.imports, name)
     }
 
     // Whether the engine has a module of this name.
     pub(crate) fn has_module(&self, name: &str) -> bool
         ensures { result ≡ is_among name.now (known_of self.now).modules }
     {
-        is_among(self.modules, name)
+        is_named(self.modules, name)
     }
-}
-
-/// Whether one of these names is this one. Does not allocate.
-pub fn is_among(names: &[RcStr], name: &str) -> bool
-    ensures { result ≡ is_among name.now (map rc_str_bytes names.now) }
-{
-    for other in names {
-        if other.as_str() == name {
-            return true;
-        }
-    }
-    false
 }

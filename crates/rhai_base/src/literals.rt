@@ -6,6 +6,7 @@ ghost use Rattle.rhai_ast.specs.View.{property_views, view};
 ghost use Rattle.rhai_grammar.specs.Beginnings.{value_of};
 ghost use Rattle.rhai_grammar.specs.Literals.{has_key};
 
+use crate::named_list::NamedList;
 use rhai_ast::{Expr, Ident};
 use rhai_lower::{Position, Token};
 use std::alloc::AllocError;
@@ -25,14 +26,10 @@ pub fn value_of(token: &Token, pos: Position) -> Result<Expr, AllocError>
     }
 }
 
-/// Whether one of these properties has this key.
-pub fn has_key(key: &str, properties: &[(Ident, Expr)]) -> bool
+/// Whether one of these properties has this key. Does not allocate. The time does not grow with the properties.
+#[tactic(auto, using(crate::proofs::LiteralLemmas::among_keys))]
+pub fn has_key(key: &str, properties: &NamedList<(Ident, Expr)>) -> bool
     ensures { result ≡ has_key key.now (property_views properties.now) }
 {
-    for property in properties {
-        if property.0.name.as_str() == key {
-            return true;
-        }
-    }
-    false
+    properties.has_name(key)
 }

@@ -35,16 +35,17 @@ pub fn find_slot(slots: &Scope, name: &str) -> (usize, bool)
 }
 
 /// The index of the latest slot of the variable `name`, counted from 1 at the latest slot of all; none if no slot has
-/// the name. It does not allocate.
-#[tactic(auto, using(crate::proofs::NameLemmas::no_place, crate::proofs::NameLemmas::slot_place))]
+/// the name. A slot named `$ BARRIER $` is never found. It does not allocate. Where there are many slots, the time does
+/// not grow with them.
+#[tactic(auto, using(crate::proofs::FindLemmas::places))]
 pub fn place_of(slots: &Scope, name: &str) -> Option<NonZeroUsize>
     ensures { option_map non_zero_usize_get result ≡ number name.now slots.now }
 {
-    let (place, _) = find_slot(slots, name);
-    if place == 0 {
+    let index = slots.latest(name)?;
+    if name == BARRIER {
         return None;
     }
-    NonZeroUsize::new(place)
+    NonZeroUsize::new(slots.len() - index)
 }
 
 /// The index of the latest import of this name, counted from 1 at the latest of all; none if no import has the name. It

@@ -10,8 +10,8 @@ use rhai_ast::{Expr, ScriptFuncDef, Stmt, StmtBlock};
 use rhai_base::captured::add_use;
 use rhai_base::closures::{closure_function, closure_value};
 use rhai_base::{
-    FnLib, FnNames, Frame, Known, Library, add_function, functions, has_function, kept_comments,
-    make_anonymous_fn,
+    FnLib, FnNames, Frame, Known, Library, NamedList, add_function, functions, has_function,
+    kept_comments, make_anonymous_fn,
 };
 use rhai_grammar::{ExprFilter, FnKey, InputError, ParseError, ParseErrorType};
 use rhai_input::Scope;
@@ -57,6 +57,77 @@ fn slots_with_ample_memory(rt: HostRuntime) -> Result<(), Fail> {
 #[test]
 fn slots_refused(rt: HostRuntime) {
     let _ = slots(&rt, rt.alloc());
+}
+
+// Enough names for an index, and two of them once more.
+const NAMES: [&str; 12] = ["a", "b", "c", "d", "e", "f", "g", "h", "i", "j", "a", "b"];
+
+// Adds a slot of each name, and drops some. The latest slot of a name is found on the way.
+fn indexed_slots(rt: &impl Abort, alloc: Global) -> Result<(), AllocError> {
+    let mut scope = Scope::new(alloc);
+    for (i, name) in NAMES.iter().enumerate() {
+        push(rt, &mut scope, RcStr::from_str(alloc, name)?)?;
+        assert!(rt; scope.latest(name) == Some(i) && scope.latest("z").is_none());
+    }
+    assert!(rt; scope.latest("a") == Some(10) && scope.latest("c") == Some(2));
+    assert!(rt; scope.len() > 11);
+    scope.rewind(11);
+    assert!(rt; scope.latest("a") == Some(10) && scope.latest("b") == Some(1));
+    assert!(rt; scope.len() > 9);
+    scope.rewind(9);
+    assert!(rt; scope.latest("a") == Some(0) && scope.latest("j").is_none());
+    push(rt, &mut scope, RcStr::from_str(alloc, "j")?)?;
+    assert!(rt; scope.latest("j") == Some(9));
+    Ok(())
+}
+
+#[test]
+fn indexed_slots_with_ample_memory(rt: HostRuntime) -> Result<(), Fail> {
+    Ok(indexed_slots(&rt, rt.alloc())?)
+}
+
+#[test]
+fn indexed_slots_refused(rt: HostRuntime) {
+    let _ = indexed_slots(&rt, rt.alloc());
+}
+
+// Appends a name. Where memory is refused, the list is unchanged.
+fn append(
+    rt: &impl Abort,
+    alloc: Global,
+    names: &mut NamedList<RcStr>,
+    name: RcStr,
+) -> Result<(), AllocError> {
+    let before = names.len();
+    if let Err(error) = names.push(alloc, name) {
+        assert!(rt; names.len() == before);
+        return Err(error);
+    }
+    Ok(())
+}
+
+// More names than a list keeps without an index of them.
+fn many_names(rt: &impl Abort, alloc: Global) -> Result<(), AllocError> {
+    let mut names = NamedList::new(alloc);
+    assert!(rt; names.is_empty());
+    for n in 0..12 {
+        let text = format!(in alloc; "name {n}")?;
+        assert!(rt; !names.has_name(&text));
+        append(rt, alloc, &mut names, RcStr::from_str(alloc, &text)?)?;
+        assert!(rt; names.has_name(&text));
+    }
+    assert!(rt; names.into_items().len() == 12);
+    Ok(())
+}
+
+#[test]
+fn many_names_with_ample_memory(rt: HostRuntime) -> Result<(), Fail> {
+    Ok(many_names(&rt, rt.alloc())?)
+}
+
+#[test]
+fn many_names_refused(rt: HostRuntime) {
+    let _ = many_names(&rt, rt.alloc());
 }
 
 fn key(alloc: Global, name: &str) -> Result<FnKey, AllocError> {
@@ -155,6 +226,37 @@ fn frame<'p>(rt: &impl Abort, alloc: Global) -> Result<Frame<'p>, AllocError> {
     let all = frame.all_imports(alloc)?;
     assert!(rt; all.len() == 1);
     Ok(frame)
+}
+
+// Imports a module of each name. The latest import of a name is found on the way.
+fn indexed_imports(rt: &impl Abort, alloc: Global) -> Result<(), AllocError> {
+    let mut frame = frame(rt, alloc)?;
+    for name in &NAMES {
+        frame.import(alloc, &Some(RcStr::from_str(alloc, name)?))?;
+        assert!(rt; is_import(&frame, name, 1) && frame.find_module("z").is_none());
+    }
+    assert!(rt;
+        is_import(&frame, "a", 2) && is_import(&frame, "c", 10) && is_import(&frame, "m", 13)
+    );
+    Ok(())
+}
+
+// Whether the latest import of this name has this number.
+fn is_import(frame: &Frame<'_>, name: &str, number: usize) -> bool {
+    match frame.find_module(name) {
+        Some(found) => found.get() == number,
+        None => false,
+    }
+}
+
+#[test]
+fn indexed_imports_with_ample_memory(rt: HostRuntime) -> Result<(), Fail> {
+    Ok(indexed_imports(&rt, rt.alloc())?)
+}
+
+#[test]
+fn indexed_imports_refused(rt: HostRuntime) {
+    let _ = indexed_imports(&rt, rt.alloc());
 }
 
 // The names that a closure captures: one, used twice. Where memory is refused, none is added.

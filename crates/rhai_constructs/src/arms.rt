@@ -11,16 +11,15 @@ ghost use Rattle.rhai_reading.specs.Reading.{ArmEnd, DefaultEnd, arm_on, default
 ghost use Rattle.rhai_reading.specs.Running.{Caller, Done, Gives, Out, Progress, and_then, exec, recast, result_of};
 ghost use Rattle.rhai_language.specs.Readers.{GoesOn, Reads, state_of, views_of};
 ghost use Rattle.rhai_constructs.specs.Switches.{action_view, arm_view};
-ghost use Rattle.rhai_statement_trees.specs.Switches.{collected_view};
+ghost use Rattle.rhai_statement_trees.specs.Arms.{arms_view};
 ghost use Rattle.rhai_language.specs.Rooms.{Steady};
 
-use rhai_ast::ast::SwitchCasesCollection;
 use rhai_ast::{Expr, Stmt};
 use rhai_grammar::ParseResult;
 use rhai_language::Shared;
 use rhai_leaves::arms::{arm_continues, as_literal, default_ends};
 use rhai_lower::Position;
-use rhai_statement_trees::{ends_arm, make_statement_value, test_cases};
+use rhai_statement_trees::{Arms, ends_arm, make_statement_value, test_cases};
 use std::alloc::Global;
 
 /// What an arm of a `switch` does.
@@ -96,7 +95,7 @@ pub(crate) fn next_default_end(
 pub(crate) fn end_arm(
     alloc: Global,
     shared: &mut Shared<'_>,
-    before: &SwitchCasesCollection,
+    before: &Arms,
     cases: Vec<Expr>,
     guard: Expr,
     does: Action,
@@ -106,7 +105,7 @@ pub(crate) fn end_arm(
     ensures gives { (call : Caller) → call (ArmEnd does.ends) (state_of shared.old)
         ≡ result_of (ArmEnd does.ends) (state_of shared.old)
         → Gives arm_view (exec call (arm_on (views_of cases) (view guard) (action_view does)
-        (arm_fault (collected_view before.now) (views_of cases))) (state_of shared.old)) result (state_of shared.new) }
+        (arm_fault (arms_view before.now) (views_of cases))) (state_of shared.old)) result (state_of shared.new) }
 {
     test_cases(alloc, before, &cases)?;
     next_arm_end(alloc, shared, does.ends)?;

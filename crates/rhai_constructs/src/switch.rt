@@ -10,12 +10,11 @@ ghost use Rattle.rhai_language.specs.Readers.{Covers, GoesOn, Reads, action, arm
 ghost use Rattle.rhai_language.specs.Readers.{construct};
 ghost use Rattle.rhai_language.specs.Readers.{default_arm, state_of, views_of};
 ghost use Rattle.rhai_constructs.specs.Switches.{action_view, arm_view};
-ghost use Rattle.rhai_statement_trees.specs.Switches.{collected_view};
+ghost use Rattle.rhai_statement_trees.specs.Arms.{arms_view};
 ghost use Rattle.rhai_language.specs.Rooms.{Stays};
 
 use crate::arms::{Action, Arm, as_case, end_arm, end_default, end_statement_action};
 use crate::reader::ConstructReader;
-use rhai_ast::ast::SwitchCasesCollection;
 use rhai_ast::{Expr, Stmt};
 use rhai_base::{Frame, ParseSettingFlags, ParseSettings};
 use rhai_grammar::{DueToken, ParseResult};
@@ -23,7 +22,7 @@ use rhai_language::{LentReaders, Shared, nested};
 use rhai_leaves::arms::{NextArm, action_due, default_unguarded, next_arm};
 use rhai_leaves::due::{match_token, pass_token};
 use rhai_lower::Position;
-use rhai_statement_trees::{make_switch, new_arms, no_guard, push_arm, push_default};
+use rhai_statement_trees::{Arms, make_switch, new_arms, no_guard, push_arm, push_default};
 
 impl<R: LentReaders> ConstructReader<'_, R> {
     /// Reads a `switch` after its keyword, where the settings stand.
@@ -63,12 +62,12 @@ impl<R: LentReaders> ConstructReader<'_, R> {
         shared: &mut Shared<'_>,
         frame: &Frame<'_>,
         settings: ParseSettings,
-    ) -> ParseResult<SwitchCasesCollection>
+    ) -> ParseResult<Arms>
         requires lent { Covers (R.lent self.now.readers) (arms self.now.language.now frame.now settings
             nothing_collected) shared.old }
         ensures goes_on { GoesOn shared.old shared.new }
         ensures stays { Stays self.now.language.now frame.now settings 4 shared.old shared.new }
-        ensures reads { Reads (arms self.now.language.now frame.now settings nothing_collected) collected_view
+        ensures reads { Reads (arms self.now.language.now frame.now settings nothing_collected) arms_view
             shared.old result
             shared.new }
     {
@@ -81,15 +80,14 @@ impl<R: LentReaders> ConstructReader<'_, R> {
                         shared,
                         self.parse_default_arm(shared, frame, settings, pos)
                     )?;
-                    push_default(&mut arms, action)?;
-                    return Ok(arms);
+                    return Ok(push_default(arms, action)?);
                 }
                 NextArm::Case => {}
             }
             let arm = nested!(shared, self.parse_arm(shared, frame, settings, &arms))?;
-            push_arm(
+            arms = push_arm(
                 self.language.alloc(),
-                &mut arms,
+                arms,
                 arm.cases,
                 arm.guard,
                 arm.action,
@@ -104,13 +102,13 @@ impl<R: LentReaders> ConstructReader<'_, R> {
         shared: &mut Shared<'_>,
         frame: &Frame<'_>,
         settings: ParseSettings,
-        before: &SwitchCasesCollection,
+        before: &Arms,
     ) -> ParseResult<Arm>
         requires lent { Covers (R.lent self.now.readers) (arm self.now.language.now frame.now settings
-            (collected_view before.now)) shared.old }
+            (arms_view before.now)) shared.old }
         ensures goes_on { GoesOn shared.old shared.new }
         ensures stays { Stays self.now.language.now frame.now settings 3 shared.old shared.new }
-        ensures reads { Reads (arm self.now.language.now frame.now settings (collected_view before.now)) arm_view
+        ensures reads { Reads (arm self.now.language.now frame.now settings (arms_view before.now)) arm_view
             shared.old result
             shared.new }
         ensures shrinks { OnOk result

@@ -1,3 +1,4 @@
 pub mod AnswerLemmas
+pub mod LookedLemmas
 pub mod Readers
 pub mod RunLemmas

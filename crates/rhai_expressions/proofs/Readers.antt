@@ -31,7 +31,11 @@ pub ruleset parse_binary_op = (readers)
 
 pub ruleset parse_call = (readers, nested_so, step_called, bang_refused)
 
-pub ruleset parse_links = (readers, nested_so, step_links, links_push, indexed_after)
+pub ruleset parse_links = (readers, step_links)
+
+pub ruleset parse_plain = (readers, step_postfix)
+
+pub ruleset parse_all_links = (readers, nested_so, step_links, links_push, indexed_after)
 
 pub ruleset parse_index = (readers, step_index)
 

@@ -76,10 +76,35 @@ impl<R: LentReaders> ExprReader<'_, R> {
         }
     }
 
-    /// Reads the brackets and dots after the operand `lhs`, up to what is none. A bracket raises the level, and its
-    /// index once more; a dot raises that of all to its right.
+    /// Reads the brackets and dots after the operand `lhs`, up to what is none.
     #[tactic(auto, using(crate::proofs::Readers::parse_links))]
     pub(crate) fn parse_links(
+        &self,
+        shared: &mut Shared<'_>,
+        frame: &Frame<'_>,
+        settings: ParseSettings,
+        lhs: &Chain,
+    ) -> ParseResult<Vec<Link>>
+        requires lent { Covers (R.lent self.now.readers) (links self.now.language.now frame.now settings
+            (chain_view lhs.now)) shared.old }
+        ensures goes_on { GoesOn shared.old shared.new }
+        ensures stays { Stays self.now.language.now frame.now settings 0 shared.old shared.new }
+        ensures reads { Reads (links self.now.language.now frame.now settings (chain_view lhs.now)) linked shared.old
+            result shared.new }
+    {
+        let (token, _) = peek(shared.input)?;
+        match what_links(token) {
+            Linking::Nothing => Ok(Vec::new(self.language.alloc())),
+            Linking::Bracket | Linking::Dot => self.parse_all_links(shared, frame, settings, lhs),
+        }
+    }
+
+    // The same, for operands that have links. These are few, and a function clears all the places that it has when it
+    // begins; so they are apart. A bracket raises the level, and its index once more; a dot raises that of all to its
+    // right.
+    #[inline(never)]
+    #[tactic(auto, using(crate::proofs::Readers::parse_all_links))]
+    fn parse_all_links(
         &self,
         shared: &mut Shared<'_>,
         frame: &Frame<'_>,

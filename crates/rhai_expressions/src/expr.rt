@@ -23,15 +23,39 @@ use rhai_language::{LentReaders, Shared, nested};
 use rhai_leaves::cursor::{peek, skip, take};
 use rhai_leaves::lists::{closes_list, list_continues};
 use rhai_leaves::refusals::missing;
-use rhai_leaves::tokens::{is_no_argument, is_sign, what_operand};
+use rhai_leaves::tokens::{excludes_use, is_no_argument, is_sign, what_operand};
 use rhai_statement_trees::make_statement_value;
 use rhai_trees::Chain;
 
 impl<R: LentReaders> ExprReader<'_, R> {
-    /// Reads the path and what calls an operand, if it is a name. The module that the path begins at is tested after
-    /// the arguments.
-    #[tactic(auto, using(crate::proofs::Readers::parse_postfix))]
+    /// Reads the path and what calls an operand, if it is a name.
+    #[tactic(auto, using(crate::proofs::Readers::parse_plain))]
     fn parse_postfix(
+        &self,
+        shared: &mut Shared<'_>,
+        frame: &Frame<'_>,
+        settings: ParseSettings,
+        operand: Chain,
+    ) -> ParseResult<Chain>
+        requires lent { Covers (R.lent self.now.readers) (postfix self.now.language.now frame.now settings
+            (chain_view operand)) shared.old }
+        ensures goes_on { GoesOn shared.old shared.new }
+        ensures stays { Stays self.now.language.now frame.now settings 2 shared.old shared.new }
+        ensures reads { Reads (postfix self.now.language.now frame.now settings (chain_view operand)) chain_view
+            shared.old result shared.new }
+    {
+        if !excludes_use(shared.input)? {
+            return Ok(operand);
+        }
+        self.parse_called(shared, frame, settings, operand)
+    }
+
+    // The same, where the next token makes a name before it one that is called, or part of a path. These are apart,
+    // since a function clears all the places that it has when it begins. The module that the path begins at is tested
+    // after the arguments.
+    #[inline(never)]
+    #[tactic(auto, using(crate::proofs::Readers::parse_postfix))]
+    fn parse_called(
         &self,
         shared: &mut Shared<'_>,
         frame: &Frame<'_>,

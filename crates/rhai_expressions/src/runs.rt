@@ -160,9 +160,36 @@ impl<R: LentReaders> ExprReader<'_, R> {
     }
 
     /// Reads the operators and operands after `lhs` that go on with a run on the right of an operator of strength
-    /// `parent`. A raise of the level is refused at `lhs`, and from the first operator on at the one before.
+    /// `parent`.
     #[tactic(auto, using(crate::proofs::Readers::parse_binary_op))]
     pub(crate) fn parse_binary_op(
+        &self,
+        shared: &mut Shared<'_>,
+        frame: &Frame<'_>,
+        settings: ParseSettings,
+        parent: u8,
+        lhs: Chain,
+    ) -> ParseResult<Chain>
+        requires lent { Covers (R.lent self.now.readers) (binary_op self.now.language.now frame.now settings
+            (position_of (chain_view lhs)) parent (chain_view lhs)) shared.old }
+        ensures goes_on { GoesOn shared.old shared.new }
+        ensures stays { Stays self.now.language.now frame.now settings 5 shared.old shared.new }
+        ensures reads { Reads (binary_op self.now.language.now frame.now settings (position_of (chain_view lhs)) parent
+            (chain_view lhs)) chain_view shared.old result shared.new }
+    {
+        let operator = next_in_run(self.language.alloc(), frame.filter(), shared, parent)?;
+        if operator.is_none() {
+            return Ok(lhs);
+        }
+        self.parse_run(shared, frame, settings, parent, lhs)
+    }
+
+    // The same, where there is such an operator. It is apart, since a function clears all the places that it has when
+    // it begins, and most operands have no operator after them. A raise of the level is refused at `lhs`, and from the
+    // first operator on at the one before.
+    #[inline(never)]
+    #[tactic(auto, using(crate::proofs::Readers::parse_binary_op))]
+    fn parse_run(
         &self,
         shared: &mut Shared<'_>,
         frame: &Frame<'_>,

@@ -1,3 +1,5 @@
+pub mod Index
+pub mod Names
 pub mod Slots
 pub mod SlotView
 pub mod Streams

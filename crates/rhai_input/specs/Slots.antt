@@ -1,9 +1,10 @@
 -- Slots of variables as contracts see them, the oldest first.
 use Rattle.std.specs.Prelude.{◌≡◌, ℕ, Bool, true, false, List, [], ◌∷◌, ◌++◌, take, codes, slice_index_or}
-use Rattle.std.specs.Prelude.{slice_set}
+use Rattle.std.specs.Prelude.{slice_set, map, Option, Some, None}
 use Rattle.std.specs.Prelude.{refl}
 use Rattle.std.specs.List.{list_any}
 use Rattle.rhai_lower.specs.Texts.{Text, same_text}
+use Rattle.rhai_input.specs.Names.{latest_name}
 
 -- a variable's name, whether it is constant, and the names under which it is exported
 pub record SlotValue : Type 0 where
@@ -36,11 +37,17 @@ with_alias slots index alias =
 abbrev pub is_declared : Text → List SlotValue → Bool
 is_declared name slots = list_any (λ s. same_text s.name name) slots
 
+-- the index of the latest slot of this name, if there is one
+abbrev pub latest : Text → List SlotValue → Option ℕ
+latest name slots = latest_name name (map (λ s. s.name) slots)
+
 -- A variable `a` and a constant `b`, which is then exported as `c`; a rewind to one slot drops it.
 abbrev example_slots : List SlotValue
 example_slots = with_alias (with_slot (with_slot [] (codes "a") false) (codes "b") true) 1 (codes "c")
 
 example : (slot_at example_slots 0 ≡ fresh_slot (codes "a") false)
     × ((slot_at example_slots 1).aliases ≡ codes "c" ∷ []) × (is_declared (codes "b") example_slots ≡ true)
-    × (is_declared (codes "b") (take 1 example_slots) ≡ false)
-example = (refl, refl, refl, refl)
+    × (is_declared (codes "b") (take 1 example_slots) ≡ false) × (latest (codes "b") example_slots ≡ Some 1)
+    × (latest (codes "c") example_slots ≡ None)
+unfolding latest_name
+example = (refl, refl, refl, refl, refl, refl)

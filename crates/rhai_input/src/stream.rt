@@ -99,17 +99,25 @@ fn ask_entry(entry: Entry, text: bool) -> Head
     ensures mode { head_text result ≡ text }
     ensures peeked { head_peeked result ≡ true }
 {
-    let Entry {
-        token,
-        pos,
-        text: marked,
-    } = entry;
-    if !marked {
-        return Head::Same {
-            text,
-            taken: (token, pos),
-        };
+    if entry.text {
+        return ask_marked(entry, text);
     }
+    Head::Same {
+        text,
+        taken: (entry.token, entry.pos),
+    }
+}
+
+// The same, of a marked entry. Such entries are few, and a function clears all the places that it has when it begins;
+// so they are apart.
+#[inline(never)]
+fn ask_marked(entry: Entry, text: bool) -> Head
+    requires { entry.text ≡ true }
+    ensures asks { head_asks result ≡ ask_of entry ∷ [] }
+    ensures mode { head_text result ≡ text }
+    ensures peeked { head_peeked result ≡ true }
+{
+    let Entry { token, pos, .. } = entry;
     match token {
         Token::StringConstant(s) => {
             if text {
@@ -164,6 +172,16 @@ impl TokenStream {
     fn ask(&mut self)
         ensures { self.new ≡ peeking self.old }
     {
+        if let Head::Unasked { .. } = self.head {
+            self.ask_next();
+        }
+    }
+
+    // The same, apart from the test that each peek makes: most find the token peeked.
+    #[inline(never)]
+    fn ask_next(&mut self)
+        ensures { self.new ≡ peeking self.old }
+    {
         if let Head::Unasked { text } = self.head {
             self.head = match self.rest.pop() {
                 Some(entry) => ask_entry(entry, text),
@@ -211,7 +229,8 @@ impl TokenStream {
     pub fn skip(&mut self)
         ensures { self.new ≡ later self.old }
     {
-        self.next();
+        self.ask();
+        self.head = Head::Unasked { text: false };
     }
 
     /// Makes the next request one in text mode, as needed after a block of an interpolated string; later ones are in

@@ -12,8 +12,7 @@ ghost use Rattle.rhai_language.specs.Readers.{GoesOn, Reads, names_of};
 ghost use Rattle.rhai_language.specs.Rooms.{Steady};
 
 use crate::shared::Shared;
-use rhai_base::Frame;
-use rhai_base::known::is_among;
+use rhai_base::{Frame, NamedList};
 use rhai_grammar::{CommaList, ParseError, ParseErrorType, ParseResult};
 use rhai_leaves::functions::take_parameter;
 use rhai_leaves::lists::list_continues;
@@ -34,29 +33,34 @@ pub fn next_parameters(
     ensures steady { Steady shared.old shared.new }
     ensures reads { Reads (Parameters list (rc_str_bytes function.now) []) names_of shared.old result shared.new }
 {
-    let mut names = Vec::new(alloc);
+    let mut names = NamedList::new(alloc);
     loop {
         let Some((name, pos)) = take_parameter(alloc, shared.input, list)? else {
-            return Ok(names);
+            return Ok(names.into_items());
         };
         test_parameter(function, &names, &name, pos)?;
-        names.push(name)?;
+        names.push(alloc, name)?;
         if !list_continues(alloc, shared.input, list)? {
-            return Ok(names);
+            return Ok(names.into_items());
         }
     }
 }
 
 // Refuses a parameter of `function` at `pos` whose name one of these before it has. The error is `FnDuplicatedParam` at
 // `pos`, or `OutOfMemory`.
-fn test_parameter(function: &RcStr, names: &[RcStr], name: &RcStr, pos: Position) -> ParseResult<()>
+fn test_parameter(
+    function: &RcStr,
+    names: &NamedList<RcStr>,
+    name: &RcStr,
+    pos: Position,
+) -> ParseResult<()>
     ensures passes { OnOk result (is_among (rc_str_bytes name.now) (map rc_str_bytes names.now) ≡ false) }
     ensures refused { IfErr result (λ e. is_for_memory e ≡ false
         → (is_among (rc_str_bytes name.now) (map rc_str_bytes names.now) ≡ true)
         × (refusal_of e ≡ refusal (FnDuplicatedParam (rc_str_bytes function.now) (rc_str_bytes name.now)) pos)) }
     ensures nowhere { IfErr result MemoryIsNowhere }
 {
-    if !is_among(names, name) {
+    if !names.has_name(name) {
         return Ok(());
     }
     let why = ParseErrorType::FnDuplicatedParam(function.clone()?, name.clone()?);

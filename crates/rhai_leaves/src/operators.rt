@@ -10,7 +10,8 @@ ghost use Rattle.rhai_grammar.specs.Strengths.{bars_pipe, is_pipe};
 ghost use Rattle.rhai_leaves.specs.Operators.{continues, is_reserved_symbol, operator_found, written_operator};
 
 use crate::cursor::peek;
-use rhai_grammar::{ExprFilter, ParseError, ParseErrorType, ParseResult};
+use crate::refusals::unknown_operator;
+use rhai_grammar::{ExprFilter, ParseResult};
 use rhai_input::TokenStream;
 use rhai_lower::{Token, is_valid_identifier};
 use std::alloc::Global;
@@ -96,7 +97,7 @@ pub fn next_operator(
 {
     let (token, pos) = peek(input)?;
     if is_reserved_symbol(token) {
-        return Err(ParseError(ParseErrorType::UnknownOperator(token.text(alloc)?), *pos));
+        return Err(unknown_operator(alloc, token, *pos));
     }
     Ok(written_operator(filter, token))
 }

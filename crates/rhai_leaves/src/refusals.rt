@@ -2,9 +2,9 @@
 
 ghost use Rattle.std.specs.Prelude.{◌≡◌, IfOk, false};
 ghost use Rattle.std.specs.Rc.{rc_str_bytes};
-ghost use Rattle.rhai_lower.specs.Lexemes.{lexeme};
+ghost use Rattle.rhai_lower.specs.Lexemes.{lexeme, text_of};
 ghost use Rattle.rhai_grammar.specs.Beginnings.{missing, no_operand, unexpected};
-ghost use Rattle.rhai_grammar.specs.Causes.{BadInput, LiteralTooLarge, Reserved, Says, cause_of, input_cause};
+ghost use Rattle.rhai_grammar.specs.Causes.{BadInput, LiteralTooLarge, Reserved, Says, UnknownOperator, cause_of, input_cause};
 ghost use Rattle.rhai_grammar.specs.Causes.{is_for_memory, refusal, refusal_of};
 ghost use Rattle.rhai_grammar.specs.Literals.{no_item};
 ghost use Rattle.rhai_leaves.specs.Members.{no_member};
@@ -21,6 +21,18 @@ pub fn unexpected(alloc: Global, token: &Token, pos: Position) -> ParseError
 {
     match unexpected_input(alloc, token) {
         Ok(input) => ParseError(ParseErrorType::BadInput(input), pos),
+        Err(error) => ParseError::from(error),
+    }
+}
+
+/// The refusal of a reserved symbol that stands where an operator may. It is apart from its callers, since a function
+/// clears all the places that it has when it begins.
+#[inline(never)]
+pub fn unknown_operator(alloc: Global, token: &Token, pos: Position) -> ParseError
+    ensures { Says (refusal (UnknownOperator (text_of (lexeme token.now))) pos) result }
+{
+    match token.text(alloc) {
+        Ok(text) => ParseError(ParseErrorType::UnknownOperator(text), pos),
         Err(error) => ParseError::from(error),
     }
 }

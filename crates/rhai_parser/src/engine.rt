@@ -29,10 +29,9 @@ use crate::optimizer::{OptimizationLevel, optimize_into_ast};
 use crate::readers::parse_whole_expr;
 use bitflags::Flags;
 use rhai_ast::{AST, Expr, Stmt};
-use rhai_base::known::is_among;
 use rhai_base::{
     FnLib, Frame, Known, LangOptions, Library, ParseCounts, ParseSettingFlags, ParseSettings,
-    ParseState, functions,
+    ParseState, functions, is_named,
 };
 use rhai_grammar::ParseResult;
 use rhai_input::{Scope, TokenStream};
@@ -212,7 +211,7 @@ impl Engine {
     pub fn has_sub_module(&self, name: &str) -> bool
         ensures { result ≡ is_among name.now self.now.sub_modules }
     {
-        is_among(&self.language.sub_modules, name)
+        is_named(&self.language.sub_modules, name)
     }
 
     /// Lets scripts find a module of this name without importing it. Where there is no memory for that, nothing

@@ -25,7 +25,7 @@ ghost use Rattle.rhai_language.specs.Rooms.{Steady};
 use crate::keys;
 use rhai_ast::{Expr, Ident};
 use rhai_base::words::{name_node, word_node};
-use rhai_base::{Frame, ParseSettingFlags, ParseSettings};
+use rhai_base::{Frame, NamedList, ParseSettingFlags, ParseSettings};
 use rhai_grammar::{DueToken, ParseResult};
 use rhai_language::{Language, Shared};
 use rhai_leaves::due::match_token;
@@ -43,7 +43,7 @@ pub(crate) fn next_key(
     language: &Language,
     shared: &mut Shared<'_>,
     settings: ParseSettings,
-    properties: &[(Ident, Expr)],
+    properties: &NamedList<(Ident, Expr)>,
 ) -> ParseResult<Option<Ident>>
     ensures goes_on { GoesOn shared.old shared.new }
     ensures steady { Steady shared.old shared.new }

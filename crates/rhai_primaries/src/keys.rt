@@ -11,7 +11,7 @@ ghost use Rattle.rhai_primaries.specs.MapKeys.{KeyIs, KeyRefused};
 
 use rhai_ast::{Expr, Ident};
 use rhai_base::literals::has_key;
-use rhai_base::{ParseSettingFlags, ParseSettings};
+use rhai_base::{NamedList, ParseSettingFlags, ParseSettings};
 use rhai_grammar::{ParseError, ParseErrorType, ParseResult};
 use rhai_input::TokenStream;
 use rhai_leaves::cursor::{peek, skip};
@@ -25,7 +25,7 @@ pub(crate) fn next_key(
     alloc: Global,
     input: &mut TokenStream,
     settings: ParseSettings,
-    properties: &[(Ident, Expr)],
+    properties: &NamedList<(Ident, Expr)>,
 ) -> ParseResult<Option<Ident>>
     ensures key { IfOk result (KeyIs (property_views properties.now) (asked (cursor_of input.old)).at
         (next_key (settings_of settings) (property_views properties.now) (asked (cursor_of input.old)).lexeme)) }

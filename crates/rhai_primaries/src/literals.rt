@@ -10,7 +10,7 @@ ghost use Rattle.rhai_language.specs.Rooms.{Stays};
 use crate::asks::{next_key, next_text};
 use crate::reader::PrimaryReader;
 use rhai_ast::{Expr, Ident};
-use rhai_base::{Frame, ParseSettings};
+use rhai_base::{Frame, NamedList, ParseSettings};
 use rhai_grammar::{CommaList, ItemPlace, ParseResult};
 use rhai_language::blocks::begin_block;
 use rhai_language::{LentReaders, Shared};
@@ -83,19 +83,19 @@ impl<R: LentReaders> PrimaryReader<'_, R> {
             result
             shared.new }
     {
-        let mut properties = Vec::new(self.language.alloc());
+        let mut properties = NamedList::new(self.language.alloc());
         loop {
             let next = next_key(self.language, shared, settings, &properties)?;
             let Some(key) = next else {
-                return Ok(properties);
+                return Ok(properties.into_items());
             };
             let deeper = settings.level_up()?;
             let value = self
                 .readers
                 .parse_expr(self.language, shared, frame, deeper)?;
-            properties.push((key, value))?;
+            properties.push(self.language.alloc(), (key, value))?;
             if !list_continues(self.language.alloc(), shared.input, CommaList::Map)? {
-                return Ok(properties);
+                return Ok(properties.into_items());
             }
         }
     }

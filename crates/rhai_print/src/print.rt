@@ -7,13 +7,14 @@ mod stmt_line;
 mod tree;
 
 use crate::print::fields::Optional;
-use crate::print::tree::{print_block, print_statements};
+use crate::print::tree::{Part, Printer};
 use rhai_ast::{AST, ScriptFuncDef};
 use rhai_text::Escaped;
 use std::alloc::{AllocError, Global};
 use std::rc::Rc;
 
-fn print_function(text: &mut String, function: &ScriptFuncDef) -> Result<(), AllocError> {
+// The line of a function, and its comments.
+fn print_head(text: &mut String, function: &ScriptFuncDef) -> Result<(), AllocError> {
     if function.private {
         text.push_str("private ")?;
     }
@@ -28,14 +29,18 @@ fn print_function(text: &mut String, function: &ScriptFuncDef) -> Result<(), All
         let comment = Escaped(comment);
         writeln!(text, "  Doc {comment}")?;
     }
-    print_block(text, 1, &function.body)
+    Ok(())
 }
 
-fn print_functions(text: &mut String, list: &[Rc<ScriptFuncDef>]) -> Result<(), AllocError> {
+fn print_functions<'a>(
+    printer: &mut Printer<'a>,
+    list: &'a [Rc<ScriptFuncDef>],
+) -> Result<(), AllocError> {
     let count = list.len();
-    writeln!(text, "functions {count}")?;
+    writeln!(printer.text, "functions {count}")?;
     for function in list {
-        print_function(text, function)?;
+        print_head(&mut printer.text, function)?;
+        printer.print(1, Part::Block(&function.body))?;
     }
     Ok(())
 }
@@ -43,8 +48,8 @@ fn print_functions(text: &mut String, list: &[Rc<ScriptFuncDef>]) -> Result<(), 
 /// The output for an accepted script: the word `accepted`, its statements, and its functions in the order in which they
 /// end. Returns `AllocError` if memory runs out.
 pub fn accepted(alloc: Global, script: &AST) -> Result<String, AllocError> {
-    let mut text = String::from_str(alloc, "accepted\n")?;
-    print_statements(&mut text, 0, &script.statements)?;
-    print_functions(&mut text, &script.functions)?;
-    Ok(text)
+    let mut printer = Printer::new(alloc, String::from_str(alloc, "accepted\n")?);
+    printer.print(0, Part::Stmts(&script.statements))?;
+    print_functions(&mut printer, &script.functions)?;
+    Ok(printer.text)
 }

@@ -1,3 +1,4 @@
+pub mod CaseIndexLemmas
 pub mod StatementLemmas
 pub mod StringLemmas
 pub mod SwitchLemmas

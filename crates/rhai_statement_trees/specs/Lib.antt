@@ -1,2 +1,4 @@
+pub mod Arms
+pub mod CaseKeys
 pub mod Statements
 pub mod Switches

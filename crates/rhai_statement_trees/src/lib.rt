@@ -2,6 +2,8 @@
 //! of `switch` with their cases, and segments of interpolated strings.
 #![tactic(auto)]
 
+pub mod arms;
+pub mod case_index;
 pub mod case_value;
 pub mod construct;
 pub mod literal;
@@ -9,6 +11,7 @@ pub mod statement;
 pub mod strings;
 pub mod switch;
 
+pub use arms::Arms;
 pub use case_value::{IntegerRange, range_of, same_value};
 pub use construct::{make_do, make_for, make_if, make_try, make_while};
 pub use literal::is_literal_value;

@@ -7,7 +7,10 @@ ghost use Rattle.rhai_language.specs.Readers.{Covers, GoesOn, Reads, definition,
 ghost use Rattle.rhai_language.specs.Readers.{statement};
 ghost use Rattle.rhai_language.specs.Readers.{exported, imported};
 ghost use Rattle.rhai_grammar.specs.Cursors.{left};
-ghost use Rattle.rhai_grammar.specs.Statements.{ends_itself};
+ghost use Rattle.rhai_grammar.specs.Statements.{ends_itself, statement_start};
+ghost use Rattle.rhai_language.specs.Frames.{context_of};
+ghost use Rattle.rhai_statements.specs.Starts.{is_rare};
+ghost use Rattle.rhai_reading.specs.Running.{asked};
 ghost use Rattle.rhai_base.specs.Frames.{SamePlace};
 ghost use Rattle.rhai_language.specs.Readers.{inside, jump, state_of, statements, statements_of, with_live};
 ghost use Rattle.rhai_statement_trees.specs.Statements.{optional_view};
@@ -91,17 +94,52 @@ impl<R: LentReaders> StmtReader<'_, R> {
             → left (state_of shared.new).cursor.tokens + 1 ≤ left (state_of shared.old).cursor.tokens) }
     {
         let (token, pos) = peek(shared.input)?;
+        match what_starts(self.language.allow_looping(), token) {
+            StatementStart::Expression => {
+                let deeper = settings.at(*pos).level_up()?;
+                nested!(shared, self.parse_expr_stmt(shared, frame, deeper))
+            }
+            StatementStart::Construct(kind) => {
+                let settings = settings.at(*pos);
+                skip(shared.input);
+                let deeper = settings.level_up()?.level_up()?;
+                self.readers
+                    .parse_construct(self.language, shared, frame, deeper, kind)
+            }
+            _ => self.parse_keyword_stmt(shared, frame, settings),
+        }
+    }
+
+    // Reads a statement that is neither an expression nor a construct. These are apart, since a function clears all the
+    // places that it has when it begins.
+    #[inline(never)]
+    #[tactic(auto, using(crate::proofs::Readers::parse_stmt))]
+    fn parse_keyword_stmt(
+        &self,
+        shared: &mut Shared<'_>,
+        frame: &mut Frame<'_>,
+        settings: ParseSettings,
+    ) -> ParseResult<Stmt>
+        requires keyword { is_rare (statement_start (context_of self.now.language.now frame.old settings)
+            (asked (state_of shared.old)).lexeme) ≡ true }
+        requires lent { Covers (R.lent self.now.readers) (statement self.now.language.now frame.old settings)
+            shared.old }
+        ensures goes_on { GoesOn shared.old shared.new }
+        ensures stays { Stays self.now.language.now frame.old settings
+            (1 + function_room self.now.language.now settings) shared.old shared.new }
+        ensures place { SamePlace frame.old frame.new }
+        ensures reads { Reads (statement self.now.language.now frame.old settings)
+            (with_live statement_view frame.new) shared.old
+            result shared.new }
+        ensures takes { IfOk result (λ s. ends_itself (statement_view s) ≡ true
+            → left (state_of shared.new).cursor.tokens + 1 ≤ left (state_of shared.old).cursor.tokens) }
+    {
+        let (token, pos) = peek(shared.input)?;
         let settings = settings.at(*pos);
         match what_starts(self.language.allow_looping(), token) {
             StatementStart::Empty => {
                 skip(shared.input);
                 Ok(Stmt::Noop(settings.pos))
-            }
-            StatementStart::Construct(kind) => {
-                skip(shared.input);
-                let deeper = settings.level_up()?.level_up()?;
-                self.readers
-                    .parse_construct(self.language, shared, frame, deeper, kind)
             }
             StatementStart::Let => {
                 skip(shared.input);
@@ -148,10 +186,7 @@ impl<R: LentReaders> StmtReader<'_, R> {
             StatementStart::Function => self.parse_plain_fn(shared, frame, settings, &[]),
             StatementStart::Private => self.parse_private_fn(shared, frame, settings, &[]),
             StatementStart::Comment => self.parse_documented_fn(shared, frame, settings),
-            StatementStart::Expression => {
-                let deeper = settings.level_up()?;
-                nested!(shared, self.parse_expr_stmt(shared, frame, deeper))
-            }
+            StatementStart::Expression | StatementStart::Construct(_) => unreachable!(),
         }
     }
 

@@ -88,6 +88,9 @@ impl Chain {
     pub fn join(self, mut links: Vec<Link>) -> Result<Chain, AllocError>
         ensures { IfOk result (λ c. chain_view c ≡ chained (chain_view self) (link_views links.items)) }
     {
+        if links.is_empty() {
+            return Ok(self);
+        }
         let Chain {
             root,
             links: mut all,
@@ -100,8 +103,21 @@ impl Chain {
     /// its item with all later links on its right. Only a bracket that is the last link ends its chain.
     ///
     /// Returns `AllocError` if memory runs out.
-    #[tactic(auto, using(crate::proofs::ChainLemmas::nests))]
+    #[tactic(auto, using(crate::proofs::ChainLemmas::views_of_chains))]
     pub fn nest(self, alloc: Global) -> Result<Expr, AllocError>
+        ensures { IfOk result (λ e. view e ≡ chain_view self) }
+    {
+        if self.links.is_empty() {
+            return Ok(self.root);
+        }
+        self.nest_links(alloc)
+    }
+
+    // The tree of a chain that has links. These are few, and a function clears all the places that it has when it
+    // begins; so they are apart.
+    #[inline(never)]
+    #[tactic(auto, using(crate::proofs::ChainLemmas::nests))]
+    fn nest_links(self, alloc: Global) -> Result<Expr, AllocError>
         ensures { IfOk result (λ e. view e ≡ chain_view self) }
     {
         let Chain { root, mut links } = self;

@@ -1,14 +1,15 @@
 use Rattle.std.proofs.Common.{◌≡◌}
 use Rattle.rhai_lower.specs.Nodes.{no_properties}
+use Rattle.rhai_ast.specs.View.{property_views}
 use Rattle.rhai_grammar.specs.Cursors.{left}
 use Rattle.rhai_reading.specs.Running.{result_of}
-use Rattle.rhai_language.specs.Readers.{GoesOn, fields, properties_of, state_of}
+use Rattle.rhai_language.specs.Readers.{GoesOn, fields, state_of}
 use Rattle.rhai_language.specs.Rooms.{Stays}
 use Rattle.rhai_primaries.proofs.reader.PrimaryReader.parse_map_literal.Given as goal
 
 abbrev pub invariant-loop-properties : goal.invariant-loop-properties
 invariant-loop-properties g l = record {
-  same : result_of (fields l.fn.self.language.now l.fn.frame l.fn.settings no_properties) (state_of l.fn.shared) ≡ result_of (fields l.self.language.now l.frame l.settings (properties_of l.properties)) (state_of l.shared);
+  same : result_of (fields l.fn.self.language.now l.fn.frame l.fn.settings no_properties) (state_of l.fn.shared) ≡ result_of (fields l.self.language.now l.frame l.settings (property_views l.properties)) (state_of l.shared);
   goes_on : GoesOn l.fn.shared l.shared;
   stays : Stays l.self.language.now l.frame l.settings 0 l.fn.shared l.shared;
 }
