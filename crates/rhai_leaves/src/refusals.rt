@@ -4,8 +4,8 @@ ghost use Rattle.std.specs.Prelude.{◌≡◌, IfOk, false};
 ghost use Rattle.std.specs.Rc.{rc_str_bytes};
 ghost use Rattle.rhai_lower.specs.Lexemes.{lexeme, text_of};
 ghost use Rattle.rhai_grammar.specs.Beginnings.{missing, no_operand, unexpected};
-ghost use Rattle.rhai_grammar.specs.Causes.{BadInput, LiteralTooLarge, Reserved, Says, UnknownOperator, cause_of, input_cause};
-ghost use Rattle.rhai_grammar.specs.Causes.{is_for_memory, refusal, refusal_of};
+ghost use Rattle.rhai_grammar.specs.Causes.{BadInput, LiteralTooLarge, Reserved, Says, UnknownOperator, cause_of};
+ghost use Rattle.rhai_grammar.specs.Causes.{input_cause, is_for_memory, refusal, refusal_of};
 ghost use Rattle.rhai_grammar.specs.Literals.{no_item};
 ghost use Rattle.rhai_leaves.specs.Members.{no_member};
 

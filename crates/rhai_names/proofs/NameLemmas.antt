@@ -19,7 +19,7 @@ use Rattle.rhai_lower.specs.Texts.{Text, same_text}
 use Rattle.rhai_grammar.specs.Imports.{is_among}
 use Rattle.rhai_names.specs.FnNames.{AreNamesOf, IsNamesOf, counted, texts, text_cmp}
 use Rattle.rhai_names.specs.declared.names.FnNames.{FnNames}
-use Rattle.rhai_names.proofs.WalkLemmas.{call_cmp, rc_cmp}
+use Rattle.rhai_names.proofs.SetLemmas.{call_cmp, rc_cmp}
 use Rattle.rhai_names.specs.FnNames as F
 
 -- ---- a name that is removed

@@ -203,7 +203,7 @@ impl<'a> Walk<'a> {
         self.push_all(&call.args)
     }
 
-    #[tactic(auto, using(crate::proofs::WalkLemmas::nothing), unfolding(crate::specs::Mentions::mentions, crate::specs::Walks::inside))]
+    #[tactic(auto, using(crate::proofs::WalkSteps::nothing), unfolding(crate::specs::Mentions::mentions, crate::specs::Walks::inside))]
     fn visit_expr(&mut self, expr: &'a Expr) -> Result<(), AllocError>
         ensures { OnOk result (Notes self.old self.new (mentions (view expr.now)) (inside (view expr.now))) }
     {
@@ -229,7 +229,7 @@ impl<'a> Walk<'a> {
         }
     }
 
-    #[tactic(auto, using(crate::proofs::WalkLemmas::nothing), unfolding(crate::specs::Mentions::statement_mentions, crate::specs::Mentions::optional_mentions, crate::specs::Walks::inside_statement, crate::specs::Walks::optional_size,))]
+    #[tactic(auto, using(crate::proofs::WalkSteps::nothing), unfolding(crate::specs::Mentions::statement_mentions, crate::specs::Mentions::optional_mentions, crate::specs::Walks::inside_statement, crate::specs::Walks::optional_size))]
     fn visit_stmt(&mut self, statement: &'a Stmt) -> Result<(), AllocError>
         ensures { OnOk result (Notes self.old self.new (statement_mentions (statement_view statement.now))
             (inside_statement (statement_view statement.now))) }

@@ -1,6 +1,5 @@
 pub mod AnswerLemmas
 pub mod ClosureLemmas
 pub mod KeyLemmas
-pub mod LookedLemmas
 pub mod Readers
 pub mod TextLemmas

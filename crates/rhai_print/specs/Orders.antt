@@ -42,7 +42,8 @@ item depth (part.Stmts fs) = statements depth (statement_views fs.now)
 item depth (part.Block b) = block depth (block_view b.now)
 item depth (part.Arms bs) = arms depth (arm_views bs.now)
 item depth (part.Ways cs) =
-    ways depth (case_views (out-SwitchCasesCollection cs.now).cases.items) (out-SwitchCasesCollection cs.now).ranges.items
+    ways depth (case_views (out-SwitchCasesCollection cs.now).cases.items)
+    (out-SwitchCasesCollection cs.now).ranges.items
 
 unfoldable pub items_of : List Due → List Item
 items_of dues = reverse (map (λ d. item d.depth d.part) dues)

@@ -1,5 +1,6 @@
 -- The keys of the cases of a `switch`, and the places of cases as they are added.
 use Rattle.std.proofs.Common.{◌≡◌, ◌∙◌, ◌<◌, ℕ, ℤ, ◌+◌, ◌==◌, Bool, true, false, List, [], ◌∷◌, ◌&&◌, ◌++◌, Option, Some, None, length, refl, sym, ap, arith, cond, unwrap_or, if◌then◌else◌}
+use Rattle.std.proofs.lemmas.Bool.{and_parts}
 use Rattle.std.specs.Bool.{beq}
 use Rattle.std.specs.Cmp.{signed_Decides, unsigned_Decides}
 use Rattle.std.specs.Cmp.Lexicographic as texts
@@ -24,7 +25,7 @@ use Rattle.rhai_grammar.specs.Switches.{with_value}
 use Rattle.rhai_statement_trees.specs.contracts.case_index.CaseKeyPartialEq.TheImpl.{eq-value}
 use Rattle.rhai_statement_trees.specs.CaseKeys.{Places, is_key, key_value, plain_value, range_value, same_case}
 use Rattle.rhai_statement_trees.specs.Switches.{case_place}
-use Rattle.rhai_statement_trees.proofs.SwitchLemmas.{boolean_anywhere, character_anywhere, integer_anywhere, pointer_anywhere, string_anywhere, place_none, unit_anywhere}
+use Rattle.rhai_statement_trees.proofs.SwitchLemmas.{boolean_anywhere, call_value, character_anywhere, integer_anywhere, place_none, pointer_anywhere, string_anywhere, unit_anywhere}
 use Rattle.rhai_statement_trees.specs.declared.case_index.CaseKey.{CaseKey}
 use Rattle.rhai_statement_trees.specs.declared.case_index.CaseKey.TheVariants as key
 
@@ -36,14 +37,6 @@ range_again r = by r.is_inclusive r.first r.last
     by : (b : Bool) (m n : ℤ) → range_of (range_value (record { first = m; last = n; is_inclusive = b })) ≡ Some (record { first = m; last = n; is_inclusive = b })
     by true m n = refl
     by false m n = refl
-
-no_range : (o : Option IntegerRange) → same_range o None ≡ false
-no_range None = refl
-no_range (Some r) = refl
-
-call_on_left : (d : Called) (ms : Nodes) (q : Position) (y : Node) → same_value (call d ms q) y ≡ same_range (range_of (call d ms q)) (range_of y)
-call_on_left d ms q (call c ns p) = refl
-call_on_left d ms q _ = sym (no_range (range_of (call d ms q)))
 
 call_on_right : (y : Node) (c d : Called) (ns ms : Nodes) (p q : Position) → range_of (call c ns p) ≡ range_of (call d ms q) → same_value y (call c ns p) ≡ same_value y (call d ms q)
 call_on_right (call e ks r) c d ns ms p q h = ap (same_range (range_of (call e ks r))) h
@@ -57,7 +50,7 @@ abbrev range_ends : IntegerRange → Nodes
 range_ends r = one_node (integer r.first nowhere) (one_node (integer r.last nowhere) no_nodes)
 
 range_on_left : (r : IntegerRange) (y : Node) → same_value (range_value r) y ≡ same_range (Some r) (range_of y)
-range_on_left r y = call_on_left (range_called r) (range_ends r) nowhere y ∙ ap (λ o. same_range o (range_of y)) (range_again r)
+range_on_left r y = call_value (range_called r) (range_ends r) nowhere y ∙ ap (λ o. same_range o (range_of y)) (range_again r)
 
 range_on_right : (y : Node) (c : Called) (ns : Nodes) (p : Position) (r : IntegerRange) → range_of (call c ns p) ≡ Some r → same_value y (call c ns p) ≡ same_value y (range_value r)
 range_on_right y c ns p r h = call_on_right y c (range_called r) ns (range_ends r) p nowhere (h ∙ sym (range_again r))
@@ -120,7 +113,7 @@ plain_left (call c ns at) p y e = by (range_of (call c ns at)) refl e
     by : (o : Option IntegerRange) → range_of (call c ns at) ≡ o → option_map range_value o ≡ Some p → same_value (call c ns at) y ≡ same_value p y
     by None h e = absurd cc
     by (Some r) h e =
-        let one = call_on_left c ns at y ∙ ap (λ o. same_range o (range_of y)) h in
+        let one = call_value c ns at y ∙ ap (λ o. same_range o (range_of y)) h in
         left_by y (call c ns at) (range_value r) p (one ∙ sym (range_on_left r y)) e
 plain_left _ p y e = absurd cc
 
@@ -155,7 +148,7 @@ no_plain (object_map ps at) q e = map_by_key ps at q
 no_plain (call c ns at) q e = by (range_of (call c ns at)) refl e
   where
     by : (o : Option IntegerRange) → range_of (call c ns at) ≡ o → option_map range_value o ≡ None → same_value (call c ns at) (key_value q) ≡ false
-    by None h e = call_on_left c ns at (key_value q) ∙ ap (λ o. same_range o (range_of (key_value q))) h
+    by None h e = call_value c ns at (key_value q) ∙ ap (λ o. same_range o (range_of (key_value q))) h
     by (Some r) h e = absurd cc
 no_plain _ q e = refl
 
@@ -178,14 +171,6 @@ same_booleans true false e = absurd cc
 same_booleans false true e = absurd cc
 same_booleans false false e = refl
 
-both_left : (a b : Bool) → (a && b) ≡ true → a ≡ true
-both_left true b e = refl
-both_left false b e = absurd cc
-
-both_right : (a b : Bool) → (a && b) ≡ true → b ≡ true
-both_right true b e = e
-both_right false b e = absurd cc
-
 pub equal_keys : (k q : CaseKey) → same_case k q ≡ true → key_value k ≡ key_value q
 equal_keys key.Unit key.Unit e = refl
 equal_keys (key.Boolean a) (key.Boolean b) e = ap (λ c. boolean c nowhere) (same_booleans a b e)
@@ -193,16 +178,16 @@ equal_keys (key.Integer a) (key.Integer b) e = ap (λ n. integer n nowhere) ((si
 equal_keys (key.Character a) (key.Character b) e = ap (λ c. character c nowhere) ((unsigned_Decides a b).0 e)
 equal_keys (key.Text a) (key.Text b) e = ap (λ t. string t nowhere) (texts.same_text _ _ (sym e))
 equal_keys (key.Pointer a m) (key.Pointer b n) e =
-    let names = both_left (same_text (rc_str_bytes a) (rc_str_bytes b)) (m == n) e in
-    let counts = both_right (same_text (rc_str_bytes a) (rc_str_bytes b)) (m == n) e in
+    let names = (and_parts (same_text (rc_str_bytes a) (rc_str_bytes b)) (m == n) e).0 in
+    let counts = (and_parts (same_text (rc_str_bytes a) (rc_str_bytes b)) (m == n) e).1 in
     ap (λ t. pointer t m nowhere) (texts.same_text _ _ (sym names))
     ∙ ap (λ k. pointer (rc_str_bytes b) k nowhere) ((unsigned_Decides m n).0 counts)
 equal_keys (key.Range a b c) (key.Range d f g) e =
-    let ends = both_right (same_boolean a d) (int_eq b f && int_eq c g) e in
+    let ends = (and_parts (same_boolean a d) (int_eq b f && int_eq c g) e).1 in
     let range = λ (x : Bool) (m n : ℤ). range_value (record { first = m; last = n; is_inclusive = x }) in
-    ap (λ x. range x b c) (same_booleans a d (both_left (same_boolean a d) (int_eq b f && int_eq c g) e))
-    ∙ ap (λ m. range d m c) ((signed_Decides b f).0 (both_left (int_eq b f) (int_eq c g) ends))
-    ∙ ap (λ n. range d f n) ((signed_Decides c g).0 (both_right (int_eq b f) (int_eq c g) ends))
+    ap (λ x. range x b c) (same_booleans a d (and_parts (same_boolean a d) (int_eq b f && int_eq c g) e).0)
+    ∙ ap (λ m. range d m c) ((signed_Decides b f).0 (and_parts (int_eq b f) (int_eq c g) ends).0)
+    ∙ ap (λ n. range d f n) ((signed_Decides c g).0 (and_parts (int_eq b f) (int_eq c g) ends).1)
 equal_keys _ _ e = absurd cc
 
 -- ---- places

@@ -1,5 +1,6 @@
 -- The keys by which the code finds the cases of a `switch`: literal values that are no arrays and no object maps.
-use Rattle.std.specs.Prelude.{◌≡◌, ℕ, Bool, true, false, ◌&&◌, ◌==◌, Option, Some, None, option_map, if◌then◌else◌, refl, pos}
+use Rattle.std.specs.Prelude.{◌≡◌, ℕ, Bool, true, false, ◌&&◌, ◌==◌, Option, Some, None, option_map, if◌then◌else◌}
+use Rattle.std.specs.Prelude.{pos, refl}
 use Rattle.std.specs.Ordering.{int_eq}
 use Rattle.std.specs.Rc.{rc_str_bytes}
 use Rattle.rhai_lower.specs.Texts.{same_text}

@@ -220,7 +220,8 @@ impl<'a> Printer<'a> {
     }
 
     fn print_block(&mut self, depth: usize, block: &'a StmtBlock) -> Result<(), AllocError>
-        ensures { OnOk result (pending_items self.new ≡ after_block depth (block_view block.now) ++ pending_items self.old) }
+        ensures { OnOk result
+            (pending_items self.new ≡ after_block depth (block_view block.now) ++ pending_items self.old) }
     {
         print_block_line(&mut self.text, depth, block)?;
         self.push(one_deeper(depth), Part::Stmts(&block.statements))
@@ -264,7 +265,8 @@ impl<'a> Printer<'a> {
     }
 
     fn print_arms(&mut self, depth: usize, list: &'a [BinaryExpr]) -> Result<(), AllocError>
-        ensures { OnOk result (pending_items self.new ≡ after_arms depth (arm_views list.now) ++ pending_items self.old) }
+        ensures { OnOk result
+            (pending_items self.new ≡ after_arms depth (arm_views list.now) ++ pending_items self.old) }
     {
         if let Some((first, others)) = list.split_first() {
             self.push(depth, Part::Arms(others))?;

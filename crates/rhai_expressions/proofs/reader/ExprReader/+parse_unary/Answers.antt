@@ -1,4 +1,4 @@
-use Rattle.std.proofs.Common.{arith, ◌≡◌, ◌∙◌, ap, sym}
+use Rattle.std.proofs.Common.{arith, ◌≡◌, ◌∙◌, ap, refl, sym}
 use Rattle.rhai_lower.specs.Lexemes.{lexeme}
 use Rattle.rhai_trees.specs.Chains.{chain_view}
 use Rattle.rhai_grammar.specs.Signs.{sign_result}
@@ -8,7 +8,7 @@ use Rattle.rhai_language.proofs.Given.{gives_so}
 use Rattle.rhai_language.specs.Frames.{context_of, live_of}
 use Rattle.rhai_language.specs.Readers.{operand, state_of}
 use Rattle.rhai_reading.proofs.Outcomes.{answer_given, outcome}
-use Rattle.rhai_reading.proofs.Steps.{operand_looked}
+use Rattle.rhai_reading.proofs.Steps.{looked}
 use Rattle.rhai_expressions.proofs.Readers as rule
 use Rattle.rhai_expressions.proofs.reader.ExprReader.+parse_unary.Goals as goal
 
@@ -23,4 +23,4 @@ pub returns-then-not-is_sign-clause-reads : goal.returns-then-not-is_sign-clause
 returns-then-not-is_sign-clause-reads g t c =
     let context = context_of c.args.self.now.language.now c.args.frame.now c.args.settings in
     let live = live_of c.args.frame.now in
-    gives_so chain_view c.parse_unsigned.result (state_of c.parse_unsigned.new.shared) (sym (operand_looked context live (state_of c.args.shared.now)) ∙ ap (result_of (Operand context live)) (grind arith)) c.parse_unsigned.ensures.reads
+    gives_so chain_view c.parse_unsigned.result (state_of c.parse_unsigned.new.shared) (sym (looked (Operand context live) _ (state_of c.args.shared.now) refl) ∙ ap (result_of (Operand context live)) (grind arith)) c.parse_unsigned.ensures.reads

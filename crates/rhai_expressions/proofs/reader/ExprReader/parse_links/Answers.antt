@@ -1,14 +1,14 @@
-use Rattle.std.proofs.Common.{◌∙◌, ap, arith, sym}
+use Rattle.std.proofs.Common.{◌∙◌, ap, arith, refl, sym}
 use Rattle.rhai_reading.specs.Running.{result_of}
 use Rattle.rhai_trees.specs.Chains.{chain_view}
 use Rattle.rhai_language.proofs.Given.{gives_so}
 use Rattle.rhai_language.specs.Readers.{links, state_of}
 use Rattle.rhai_expressions.specs.Views.{linked}
-use Rattle.rhai_expressions.proofs.LookedLemmas.{links_looked}
+use Rattle.rhai_reading.proofs.Steps.{looked}
 use Rattle.rhai_expressions.proofs.reader.ExprReader.parse_links.Goals as goal
 
 pub returns-in-Bracket-clause-reads : goal.returns-in-Bracket-clause-reads
 returns-in-Bracket-clause-reads g c =
     let goal = links c.args.self.now.language.now c.args.frame.now c.args.settings (chain_view c.args.lhs.now) in
     gives_so linked c.parse_all_links.result (state_of c.parse_all_links.new.shared)
-    (sym (links_looked _ _ (state_of c.args.shared.now)) ∙ ap (result_of goal) (grind arith)) c.parse_all_links.ensures.reads
+    (sym (looked goal _ (state_of c.args.shared.now) refl) ∙ ap (result_of goal) (grind arith)) c.parse_all_links.ensures.reads

@@ -1,4 +1,4 @@
-use Rattle.std.proofs.Common.{◌∙◌, ap, arith, rules, sym}
+use Rattle.std.proofs.Common.{◌∙◌, ap, arith, refl, rules, sym}
 use Rattle.std.specs.Rc.{rc_str_bytes}
 use Rattle.rhai_trees.specs.Chains.{chain_view}
 use Rattle.rhai_grammar.specs.Cursors.{cursor_of}
@@ -10,7 +10,7 @@ use Rattle.rhai_reading.specs.Running.{guarded, result_of}
 use Rattle.rhai_reading.proofs.Outcomes.{answer_given}
 use Rattle.rhai_reading.proofs.WordSteps.{Worded}
 use Rattle.rhai_primaries.proofs.AnswerLemmas.{named, worded_outcome}
-use Rattle.rhai_primaries.proofs.LookedLemmas.{primary_looked}
+use Rattle.rhai_reading.proofs.Steps.{looked}
 use Rattle.rhai_grammar.specs.Beginnings.{calls, excludes_use}
 use Rattle.rhai_grammar.specs.declared.role.Beginning.TheVariants as begin
 use Rattle.rhai_primaries.proofs.reader.PrimaryReader.parse_primary.Goals as goal
@@ -53,4 +53,4 @@ returns-in-Group-clause-reads g c =
     let context = context_of c.args.self.now.language.now c.args.frame.now c.args.settings in
     let live = live_of c.args.frame.now in
     gives_so chain_view c.parse_compound.result (state_of c.parse_compound.new.shared)
-    (sym (primary_looked context live (state_of c.args.shared.now)) ∙ ap (result_of (Primary context live)) (grind arith)) c.parse_compound.ensures.reads
+    (sym (looked (Primary context live) _ (state_of c.args.shared.now) refl) ∙ ap (result_of (Primary context live)) (grind arith)) c.parse_compound.ensures.reads

@@ -1,13 +1,13 @@
-use Rattle.std.proofs.Common.{◌∙◌, ap, arith, sym}
+use Rattle.std.proofs.Common.{◌∙◌, ap, arith, refl, sym}
 use Rattle.rhai_ast.specs.View.{statement_view}
 use Rattle.rhai_reading.specs.Running.{result_of}
 use Rattle.rhai_language.proofs.Given.{gives_so}
 use Rattle.rhai_language.specs.Readers.{state_of, statement, with_live}
-use Rattle.rhai_statements.proofs.LookedLemmas.{statement_looked}
+use Rattle.rhai_reading.proofs.Steps.{looked}
 use Rattle.rhai_statements.proofs.reader.StmtReader.parse_stmt.Goals as goal
 
 pub returns-in_default-clause-reads : goal.returns-in_default-clause-reads
 returns-in_default-clause-reads g c =
     let goal = statement c.args.self.now.language.now c.args.frame.now c.args.settings in
     gives_so (with_live statement_view c.parse_keyword_stmt.new.frame) c.parse_keyword_stmt.result (state_of c.parse_keyword_stmt.new.shared)
-    (sym (statement_looked _ _ (state_of c.args.shared.now)) ∙ ap (result_of goal) (grind arith)) c.parse_keyword_stmt.ensures.reads
+    (sym (looked goal _ (state_of c.args.shared.now) refl) ∙ ap (result_of goal) (grind arith)) c.parse_keyword_stmt.ensures.reads
