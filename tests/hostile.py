@@ -89,9 +89,9 @@ def tasks(program):
 def tasks_of_others():
     """What is to do with the program that prints names, and with the tests of the library."""
     names = built("rhai_names_cli", "rhai_names_cli")
-    tests = [built(crate, f"{crate}_tests") for crate in ("rhai_base_tests", "rhai_tests")]
+    tests = built("rhai_tests", "rhai_tests_tests")
     found = [(refused_requests, names, same) for same in chunks(table.all_runs(table.CASES / "names"))]
-    return found + [(refused_in_a_call, test, name) for test in tests for name in calls.names(test)]
+    return found + [(refused_in_a_call, tests, name) for name in calls.names(tests)]
 
 
 def run_task(library, task):

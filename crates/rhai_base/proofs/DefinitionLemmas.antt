@@ -5,7 +5,7 @@ use Rattle.std.specs.Rc.{rc_str_bytes}
 use Rattle.std.specs.declared.alloc.Global.{Global}
 use Rattle.std.specs.declared.rc.RcStr.{RcStr}
 use Rattle.rhai_lower.specs.Texts.{Text}
-use Rattle.rhai_input.specs.Slots.{SlotValue, with_alias, with_constant, with_slot}
+use Rattle.rhai_lower.specs.Slots.{SlotValue, with_alias, with_constant, with_slot}
 use Rattle.rhai_grammar.specs.Definitions.{define, define_at, export_at, is_exported, is_in_block, is_reusable, reused, reused_at}
 use Rattle.rhai_grammar.specs.Slots.{IsLatest, number}
 use Rattle.rhai_grammar.proofs.SlotLemmas.{latest_number}

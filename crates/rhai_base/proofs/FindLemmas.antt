@@ -11,8 +11,8 @@ use Rattle.std.specs.declared.num.NonZeroUsize.{NonZeroUsize}
 use Rattle.std.specs.List.{list_any}
 use Rattle.std.specs.Option.{option_or}
 use Rattle.rhai_lower.specs.Texts.{Text, same_text}
-use Rattle.rhai_input.specs.Names.{latest_name}
-use Rattle.rhai_input.specs.Slots.{SlotValue, slot_at, fresh_slot, latest}
+use Rattle.rhai_lower.specs.LatestNames.{latest_name}
+use Rattle.rhai_lower.specs.Slots.{SlotValue, slot_at, fresh_slot, latest}
 use Rattle.rhai_grammar.specs.Slots.{number, is_named, is_barrier, later_than, barrier_before}
 use Rattle.rhai_grammar.specs.Imports.{module_number}
 

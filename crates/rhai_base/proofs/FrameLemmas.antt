@@ -5,7 +5,7 @@ use Rattle.std.specs.Int.NonZero.{non_zero_usize_get}
 use Rattle.std.specs.Option.{option_or}
 use Rattle.std.specs.declared.num.NonZeroUsize.{NonZeroUsize}
 use Rattle.rhai_lower.specs.Texts.{Text}
-use Rattle.rhai_input.specs.Slots.{SlotValue, fresh_slot, slot_at, with_alias, with_constant}
+use Rattle.rhai_lower.specs.Slots.{SlotValue, fresh_slot, slot_at, with_alias, with_constant}
 use Rattle.rhai_grammar.specs.Contexts.{Live}
 use Rattle.rhai_grammar.specs.Definitions.{define, define_at, defined, export_at, exported, is_exported, is_in_block, is_reusable, reused, reused_at}
 use Rattle.rhai_grammar.specs.Slots.{IsLatest, is_named, number, slot_from_latest}

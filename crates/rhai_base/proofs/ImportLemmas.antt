@@ -6,7 +6,7 @@ use Rattle.std.specs.Option.{option_or}
 use Rattle.std.specs.declared.num.NonZeroUsize.{NonZeroUsize}
 use Rattle.rhai_lower.specs.Texts.{Text, same_text}
 use Rattle.rhai_grammar.specs.Imports.{module_number}
-use Rattle.rhai_input.specs.Names.{latest_name}
+use Rattle.rhai_lower.specs.LatestNames.{latest_name}
 use Rattle.rhai_base.proofs.FindLemmas.{name-below, non-zero, number-step}
 use Rattle.rhai_base.proofs.FrameLemmas.{or_none, regroup}
 

@@ -2,10 +2,10 @@
 use Rattle.std.proofs.Common.{◌≡◌, ◌||◌, List, [], ◌∷◌, map, ap, refl}
 use Rattle.std.specs.Rc.{rc_str_bytes}
 use Rattle.rhai_lower.specs.Texts.{Text, same_text}
-use Rattle.rhai_ast.specs.View.{property_views}
-use Rattle.rhai_ast.specs.declared.ast.Expr.{Expr}
-use Rattle.rhai_ast.specs.declared.ast.Ident.{Ident}
-use Rattle.rhai_ast.proofs.Views.{view_unit, view_boolean, view_integer, view_character, view_string}
+use Rattle.rhai_lower.specs.View.{property_views}
+use Rattle.rhai_lower.specs.declared.ast.Expr.{Expr}
+use Rattle.rhai_lower.specs.declared.ast.Ident.{Ident}
+use Rattle.rhai_lower.proofs.Views.{view_unit, view_boolean, view_integer, view_character, view_string}
 use Rattle.rhai_grammar.specs.Imports.{is_among}
 use Rattle.rhai_grammar.specs.Literals.{has_key}
 

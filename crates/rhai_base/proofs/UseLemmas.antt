@@ -5,10 +5,10 @@ use Rattle.std.specs.Rc.{rc_str_bytes}
 use Rattle.std.specs.declared.alloc.Global.{Global}
 use Rattle.std.specs.declared.rc.RcStr.{RcStr}
 use Rattle.rhai_lower.specs.declared.position.Position.{Position}
-use Rattle.rhai_input.specs.Slots.{SlotValue}
+use Rattle.rhai_lower.specs.Slots.{SlotValue}
 use Rattle.rhai_lower.specs.Nodes.{Node, block_value, braces, call, expression, no_statements, one_node, one_statement, share}
 use Rattle.rhai_lower.specs.Positions.{nowhere}
-use Rattle.rhai_ast.specs.View.{nodes_of}
+use Rattle.rhai_lower.specs.View.{nodes_of}
 use Rattle.rhai_grammar.specs.Closures.{captured_nodes, closure_value, curry, shared_names}
 use Rattle.rhai_grammar.specs.Contexts.{Live}
 use Rattle.rhai_grammar.specs.Uses.{Use}

@@ -3,7 +3,7 @@
 use Rattle.std.specs.Prelude.{◌≡◌, ℕ, ◌+◌, ◌<◌, ◌^◌, List, [], Option, Some, None, length, map}
 use Rattle.std.specs.Borrow.{Bor}
 use Rattle.std.specs.Rc.{rc_str_bytes}
-use Rattle.rhai_input.specs.Slots.{SlotValue}
+use Rattle.rhai_lower.specs.Slots.{SlotValue}
 use Rattle.rhai_lower.specs.Texts.{Text}
 use Rattle.rhai_grammar.specs.Contexts as context
 use Rattle.rhai_grammar.specs.Contexts.{Live}

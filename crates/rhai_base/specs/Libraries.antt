@@ -2,8 +2,8 @@
 use Rattle.std.specs.Prelude.{◌≡◌, List, ◌++◌, map}
 use Rattle.std.specs.declared.alloc.Global.{Global}
 use Rattle.std.specs.declared.rc.Rc.{Rc}
-use Rattle.rhai_ast.specs.View.{function_view}
-use Rattle.rhai_ast.specs.declared.ast.ScriptFuncDef.{ScriptFuncDef}
+use Rattle.rhai_lower.specs.View.{function_view}
+use Rattle.rhai_lower.specs.declared.ast.ScriptFuncDef.{ScriptFuncDef}
 use Rattle.rhai_grammar.specs.Keys.{key_of}
 use Rattle.rhai_grammar.specs.Libraries.{Ended, Library}
 use Rattle.rhai_grammar.specs.declared.key.FnKey.{FnKey}

@@ -4,7 +4,7 @@ use Rattle.std.specs.Prelude.{if◌then◌else◌, codes, refl}
 use Rattle.std.specs.Option.{is_some}
 use Rattle.rhai_lower.specs.Texts.{Text}
 use Rattle.rhai_lower.specs.Positions.{place}
-use Rattle.rhai_input.specs.Slots.{SlotValue, fresh_slot, is_declared}
+use Rattle.rhai_lower.specs.Slots.{SlotValue, fresh_slot, is_declared}
 use Rattle.rhai_lower.specs.Nodes.{Node, this}
 use Rattle.rhai_lower.specs.declared.position.Position.{Position}
 use Rattle.rhai_grammar.specs.Beginnings.{is_this, may_be_called}

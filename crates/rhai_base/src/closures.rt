@@ -3,17 +3,18 @@
 ghost use Rattle.std.specs.Prelude.{◌≡◌, ◌+◌, IfOk, None, [], length, map};
 ghost use Rattle.std.specs.Rc.{rc_str_bytes};
 ghost use Rattle.rhai_lower.specs.Nodes.{one_node, pointer};
-ghost use Rattle.rhai_ast.specs.View.{block_view, called, shared_of, view, views};
-ghost use Rattle.rhai_ast.specs.declared.ast.FnCallExpr.{out-FnCallExpr};
+ghost use Rattle.rhai_lower.specs.View.{block_view, called, shared_of, view, views};
+ghost use Rattle.rhai_lower.specs.declared.ast.FnCallExpr.{out-FnCallExpr};
 ghost use Rattle.rhai_grammar.specs.Closures.{all_names, captured_nodes, closure_name, closure_value, curry, ended_closure};
 ghost use Rattle.rhai_grammar.specs.Closures.{shared_names};
 ghost use Rattle.rhai_base.specs.Libraries.{ended};
 ghost use Rattle.rhai_base.specs.Uses.{captured_node, use_of, uses_of};
 
 use crate::frame::{Frame, push_names};
-use rhai_ast::{Expr, FnCallExpr, Ident, Namespace, ScriptFuncDef, Stmt, StmtBlock, VariableExpr};
 use rhai_grammar::FnKey;
-use rhai_lower::Position;
+use rhai_lower::{
+    Expr, FnCallExpr, Ident, Namespace, Position, ScriptFuncDef, Stmt, StmtBlock, VariableExpr,
+};
 use std::alloc::{AllocError, Global};
 use std::num::NonZeroUsize;
 use std::rc::{Rc, RcStr};
@@ -40,7 +41,7 @@ fn shared_names(
 }
 
 // A name that a closure captures, as an operand around it.
-#[tactic(auto, using(rhai_ast::proofs::Views::view_variable))]
+#[tactic(auto, using(rhai_lower::proofs::Views::view_variable))]
 fn captured_node(
     alloc: Global,
     frame: &Frame<'_>,

@@ -9,9 +9,8 @@ ghost use Rattle.rhai_base.specs.Settings.{too_many_functions};
 
 use crate::library::{FnLib, has_function};
 use crate::names::FnNames;
-use rhai_ast::ScriptFuncDef;
 use rhai_grammar::{FnKey, ParseError, ParseErrorType, ParseResult};
-use rhai_lower::Position;
+use rhai_lower::{Position, ScriptFuncDef};
 use std::alloc::AllocError;
 use std::marker::Model;
 use std::rc::Rc;
@@ -31,8 +30,8 @@ impl Model for Library {
     ghost use Rattle.std.specs.Coded.{codes};
     ghost use Rattle.std.specs.declared.alloc.Global.{Global};
     ghost use Rattle.std.specs.declared.rc.Rc.{Rc};
-    ghost use Rattle.rhai_ast.specs.contracts.ast.ScriptFuncDef as function;
-    ghost use Rattle.rhai_ast.specs.declared.ast.ScriptFuncDef.{ScriptFuncDef};
+    ghost use Rattle.rhai_lower.specs.contracts.ast.ScriptFuncDef as function;
+    ghost use Rattle.rhai_lower.specs.declared.ast.ScriptFuncDef.{ScriptFuncDef};
     ghost use Rattle.rhai_grammar.specs.Keys.{keys_of};
     ghost use Rattle.rhai_grammar.specs.declared.key.FnKey.{FnKey};
     ghost use Rattle.rhai_base.specs.Index.{Agrees};

@@ -4,10 +4,10 @@ ghost use Rattle.std.specs.Prelude.{◌≡◌, ◌++◌, ◌∷◌, [], IfOk, On
 ghost use Rattle.std.specs.Int.NonZero.{non_zero_usize_get};
 ghost use Rattle.std.specs.Rc.{rc_str_bytes};
 ghost use Rattle.rhai_grammar.specs.Imports.{module_number};
-ghost use Rattle.rhai_input.specs.Index.{Indexes, IsIndexed};
+ghost use Rattle.rhai_lower.specs.NameIndexes.{Indexes, IsIndexed};
 
 use crate::lookup::find_import;
-use rhai_input::NameIndex;
+use rhai_lower::NameIndex;
 use std::alloc::{AllocError, Global};
 use std::marker::Model;
 use std::num::NonZeroUsize;
@@ -28,7 +28,7 @@ impl Model for Imports {
     ghost use Rattle.std.specs.Prelude.{List, map};
     ghost use Rattle.std.specs.Rc.{rc_str_bytes};
     ghost use Rattle.rhai_lower.specs.Texts.{Text};
-    ghost use Rattle.rhai_input.specs.Index.{IsIndexed};
+    ghost use Rattle.rhai_lower.specs.NameIndexes.{IsIndexed};
 
     ghost Value = { List Text };
 

@@ -1,5 +1,5 @@
-//! What the parsing functions share: the settings, the state, what is live in a block, look-ups among the slots and
-//! imports, the library of functions, the nodes of values and names.
+//! What the parsing functions share: the settings, the state, the cursor, what is live in a block, look-ups among the
+//! slots and imports, the library of functions, the nodes of values and names, and the leaves of the readers.
 #![tactic(auto)]
 
 pub mod captured;
@@ -7,11 +7,13 @@ pub mod closure_name;
 pub mod closures;
 pub mod comments;
 pub mod counts;
+pub mod cursor;
 pub mod ended;
 pub mod flags;
 pub mod frame;
 mod imports;
 pub mod known;
+pub mod leaves;
 pub mod library;
 pub mod literals;
 pub mod lookup;

@@ -5,8 +5,8 @@ ghost use Rattle.indexmap.specs.IndexMap.{values};
 ghost use Rattle.rhai_grammar.specs.Keys.{key_of, keys_of, same_key, fed_key, has_key, has_name, closures, is_closure};
 
 use indexmap::IndexMap;
-use rhai_ast::ScriptFuncDef;
 use rhai_grammar::FnKey;
+use rhai_lower::ScriptFuncDef;
 use std::alloc::{AllocError, Global};
 use std::hash::{Hash, Hasher};
 use std::rc::Rc;

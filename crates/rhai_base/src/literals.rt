@@ -2,13 +2,12 @@
 
 ghost use Rattle.std.specs.Prelude.{◌≡◌, IfOk};
 ghost use Rattle.rhai_lower.specs.Lexemes.{lexeme};
-ghost use Rattle.rhai_ast.specs.View.{property_views, view};
+ghost use Rattle.rhai_lower.specs.View.{property_views, view};
 ghost use Rattle.rhai_grammar.specs.Beginnings.{value_of};
 ghost use Rattle.rhai_grammar.specs.Literals.{has_key};
 
 use crate::named_list::NamedList;
-use rhai_ast::{Expr, Ident};
-use rhai_lower::{Position, Token};
+use rhai_lower::{Expr, Ident, Position, Token};
 use std::alloc::AllocError;
 
 /// The node of a token at `pos` that is a value. The error is that there is no memory for it.

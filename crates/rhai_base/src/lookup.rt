@@ -7,7 +7,7 @@ ghost use Rattle.rhai_grammar.specs.Slots.{number, barrier_before, IsLatest};
 ghost use Rattle.rhai_grammar.specs.Imports.{module_number};
 
 use crate::state::ParseState;
-use rhai_input::Scope;
+use rhai_lower::Scope;
 use std::num::NonZeroUsize;
 use std::rc::RcStr;
 

@@ -2,7 +2,7 @@
 
 ghost use Rattle.std.specs.Prelude.{◌≡◌, IfErr, None, OnOk, Some, false};
 ghost use Rattle.rhai_lower.specs.Nodes.{variable};
-ghost use Rattle.rhai_ast.specs.View.{named, view};
+ghost use Rattle.rhai_lower.specs.View.{named, view};
 ghost use Rattle.rhai_grammar.specs.Causes.{MemoryIsNowhere, is_for_memory, refusal_of};
 ghost use Rattle.rhai_grammar.specs.Contexts.{Context};
 ghost use Rattle.rhai_grammar.specs.Modules.{module_fault};
@@ -11,14 +11,13 @@ ghost use Rattle.rhai_base.specs.Settings.{settings_of};
 use crate::flags::LangOptions;
 use crate::frame::Frame;
 use crate::settings::ParseSettings;
-use rhai_ast::{Expr, VariableExpr};
 use rhai_grammar::{ParseError, ParseErrorType, ParseResult};
-use rhai_lower::Position;
+use rhai_lower::{Expr, Position, VariableExpr};
 
 /// Refuses an operand that is a name with a path, if under strict variables the path's first name is not known.
 ///
 /// The error is `ModuleUndefined` at that name, or `OutOfMemory`.
-#[tactic(auto, using(rhai_ast::proofs::Views::view_variable))]
+#[tactic(auto, using(rhai_lower::proofs::Views::view_variable))]
 pub fn test_module(frame: &Frame<'_>, settings: ParseSettings, operand: &Expr) -> ParseResult<()>
     ensures passes { (context : Context) → context.settings ≡ settings_of settings
         → context.known ≡ frame.now.known

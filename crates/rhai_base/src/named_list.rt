@@ -8,7 +8,7 @@ ghost use Rattle.rhai_base.specs.Index.{listed};
 ghost use Rattle.rhai_base.specs.NamedLists.{Lists};
 
 use indexmap::IndexSet;
-use rhai_ast::{Expr, Ident};
+use rhai_lower::{Expr, Ident};
 use std::alloc::{AllocError, Global};
 use std::marker::Model;
 use std::rc::RcStr;

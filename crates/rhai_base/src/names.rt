@@ -7,8 +7,8 @@ ghost use Rattle.rhai_base.specs.Index.{listed, is_listed, counted, Agrees};
 
 use crate::library::{FnLib, is_closure_key};
 use indexmap::IndexSet;
-use rhai_ast::ScriptFuncDef;
 use rhai_grammar::FnKey;
+use rhai_lower::ScriptFuncDef;
 use std::alloc::{AllocError, Global};
 use std::rc::{Rc, RcStr};
 

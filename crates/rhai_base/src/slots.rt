@@ -7,7 +7,7 @@ ghost use Rattle.rhai_grammar.specs.Definitions.{define, export_at, is_in_block,
 ghost use Rattle.rhai_grammar.specs.Slots.{number};
 
 use crate::lookup::place_of;
-use rhai_input::Scope;
+use rhai_lower::Scope;
 use std::alloc::AllocError;
 use std::num::NonZeroUsize;
 use std::rc::RcStr;

@@ -7,8 +7,7 @@ ghost use Rattle.rhai_base.specs.Counts.{counts_of, none_yet};
 use crate::counts::ParseCounts;
 use crate::library::FnLib;
 use rhai_grammar::ExprFilter;
-use rhai_input::{Scope, TokenStream};
-use rhai_lower::Position;
+use rhai_lower::{Position, Scope, TokenStream};
 use std::alloc::Global;
 use std::rc::RcStr;
 

@@ -3,8 +3,8 @@
 ghost use Rattle.std.specs.Prelude.{◌≡◌, ◌+◌, None, Some, IfErr, IfOk, option_map, false};
 ghost use Rattle.std.specs.Int.NonZero.{non_zero_usize_get};
 ghost use Rattle.std.specs.Rc.{rc_str_bytes};
-ghost use Rattle.rhai_ast.specs.View.{called, module_index_of, named, path_of, view, views};
-ghost use Rattle.rhai_ast.specs.declared.ast.FnCallExpr.{out-FnCallExpr};
+ghost use Rattle.rhai_lower.specs.View.{called, module_index_of, named, path_of, view, views};
+ghost use Rattle.rhai_lower.specs.declared.ast.FnCallExpr.{out-FnCallExpr};
 ghost use Rattle.rhai_lower.specs.Nodes.{variable};
 ghost use Rattle.rhai_grammar.specs.Answers.{Answers};
 ghost use Rattle.rhai_grammar.specs.Beginnings.{is_this, may_be_called};
@@ -20,9 +20,10 @@ use crate::ended::Library;
 use crate::flags::{LangOptions, ParseSettingFlags};
 use crate::frame::Frame;
 use crate::settings::ParseSettings;
-use rhai_ast::{Expr, FnCallExpr, Ident, Namespace, VariableExpr};
 use rhai_grammar::{InputError, ParseError, ParseErrorType, ParseResult};
-use rhai_lower::{Position, is_reserved_keyword_or_symbol};
+use rhai_lower::{
+    Expr, FnCallExpr, Ident, Namespace, Position, VariableExpr, is_reserved_keyword_or_symbol,
+};
 use std::alloc::{AllocError, Global};
 use std::num::NonZeroUsize;
 use std::rc::RcStr;
@@ -37,7 +38,7 @@ pub struct Call {
 }
 
 // The use of a variable. The error is that there is no memory for it.
-#[tactic(auto, using(rhai_ast::proofs::Views::view_variable))]
+#[tactic(auto, using(rhai_lower::proofs::Views::view_variable))]
 fn variable(
     alloc: Global,
     index: Option<NonZeroUsize>,
@@ -126,7 +127,7 @@ pub fn word_node(
 }
 
 /// The parts of a variable, or any other operand as it is.
-#[tactic(auto, using(rhai_ast::proofs::Views::view_variable))]
+#[tactic(auto, using(rhai_lower::proofs::Views::view_variable))]
 pub fn as_variable(operand: Expr) -> Result<(Box<VariableExpr>, Position), Expr>
     ensures variable { IfOk result (λ v. view operand ≡ variable (named v.0.value) v.1) }
     ensures other { IfErr result (λ e. (view e ≡ view operand) × (is_variable (view operand) ≡ false)) }
@@ -210,7 +211,7 @@ fn script_call(name: RcStr, namespace: Namespace, native_args: usize, call: Call
 }
 
 /// The call of a name, with its path, which stands at the name. The error is that there is no memory for it.
-#[tactic(auto, using(rhai_ast::proofs::Views::view_call, crate::proofs::NameLemmas::count_views))]
+#[tactic(auto, using(rhai_lower::proofs::Views::view_call, crate::proofs::NameLemmas::count_views))]
 pub fn make_call(
     alloc: Global,
     name: Box<VariableExpr>,
@@ -227,7 +228,7 @@ pub fn make_call(
 }
 
 /// The call of a method, which stands at its name. The error is that there is no memory for it.
-#[tactic(auto, using(rhai_ast::proofs::Views::view_method_call, crate::proofs::NameLemmas::count_views))]
+#[tactic(auto, using(rhai_lower::proofs::Views::view_method_call, crate::proofs::NameLemmas::count_views))]
 pub fn make_method(
     alloc: Global,
     name: RcStr,

@@ -1,6 +1,6 @@
 -- What closures capture, by what happens in their bodies.
 use Rattle.std.proofs.Common.{inl, inr, ◌≡◌, ℕ, Bool, true, false, ◌++◌, List, [], ◌∷◌, refl, sym, ap, ◌∙◌}
-use Rattle.rhai_input.specs.Slots.{SlotValue}
+use Rattle.rhai_lower.specs.Slots.{SlotValue}
 use Rattle.rhai_grammar.specs.Causes.{Refusal}
 use Rattle.rhai_grammar.specs.ClosureLaws.{CapturedAreFreeUses, FormsLeaveTheirEvents}
 use Rattle.rhai_grammar.specs.Closures.{declared_names, in_closure}

@@ -7,7 +7,7 @@ use Rattle.std.proofs.lemmas.List.Folds.{list_any-append}
 use Rattle.std.specs.Cmp.Lexicographic as L
 use Rattle.rhai_lower.specs.Texts.{Text, same_text}
 use Rattle.rhai_lower.specs.declared.position.Position.{Position}
-use Rattle.rhai_input.specs.Slots.{SlotValue}
+use Rattle.rhai_lower.specs.Slots.{SlotValue}
 use Rattle.rhai_grammar.specs.ClosureLaws.{AreDistinct, CapturedAreUsed, ParametersAreCaptured, names_in}
 use Rattle.rhai_grammar.specs.Closures.{bars_at, captured_nodes, declared_names, in_closure, shared_names}
 use Rattle.rhai_grammar.specs.Contexts.{Context, Live, level_up}

@@ -1,7 +1,7 @@
 -- What a request leaves of a stream.
 use Rattle.std.proofs.Common.{◌≡◌, ◌+◌, ◌≤◌, Bool, true, false, List, [], ◌∷◌, refl, arith}
-use Rattle.rhai_input.specs.Streams as S
-use Rattle.rhai_input.specs.Streams.{Ask}
+use Rattle.rhai_lower.specs.Streams as S
+use Rattle.rhai_lower.specs.Streams.{Ask}
 use Rattle.rhai_lower.specs.declared.position.Position.{Position}
 use Rattle.rhai_grammar.specs.Delivered.{ask, later, is_end}
 use Rattle.rhai_grammar.specs.Cursors.{item_of, delivered, mode_by, left}

@@ -7,7 +7,7 @@ use Rattle.std.proofs.lemmas.List.Sums.{count_by-le-length}
 use Rattle.std.specs.Cmp.Lexicographic as L
 use Rattle.std.specs.List.{list_all, starts_with}
 use Rattle.std.specs.Prelude.{Option, codes, drop, nat_eq, not, take, if◌then◌else◌}
-use Rattle.rhai_input.specs.Slots.{SlotValue}
+use Rattle.rhai_lower.specs.Slots.{SlotValue}
 use Rattle.rhai_lower.specs.Lexemes.{Lexeme}
 use Rattle.rhai_lower.specs.Names.{begins_with_letter, first_but_underscore, is_identifier, is_reserved, is_word}
 use Rattle.rhai_lower.specs.Texts.{Text}

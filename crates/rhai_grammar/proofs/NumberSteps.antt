@@ -7,7 +7,7 @@ use Rattle.rhai_lower.specs.Nodes as node
 use Rattle.rhai_lower.specs.Nodes.{Arms, Cases, Node, Nodes, made_block}
 use Rattle.rhai_lower.specs.declared.position.Position.{Position}
 use Rattle.rhai_lower.specs.declared.token.Token.TheVariants as token
-use Rattle.rhai_input.specs.Slots.{SlotValue, fresh_slot, with_alias, with_constant}
+use Rattle.rhai_lower.specs.Slots.{SlotValue, fresh_slot, with_alias, with_constant}
 use Rattle.rhai_grammar.specs.Beginnings.{calls, is_this, may_be_called, value_of}
 use Rattle.rhai_grammar.specs.Causes.{Refusal}
 use Rattle.rhai_grammar.specs.Chains.{Bracket, Chain, Dotted, Link, LinkKind, chain_of, chained, is_last, link_node, nest}

@@ -7,7 +7,7 @@ use Rattle.std.specs.Cmp.Lexicographic as L
 use Rattle.std.specs.Option.{option_or}
 use Rattle.rhai_lower.specs.Texts.{Text, same_text}
 use Rattle.rhai_lower.specs.Names.{is_identifier}
-use Rattle.rhai_input.specs.Slots.{SlotValue, fresh_slot, slot_at, with_alias, with_constant, with_slot}
+use Rattle.rhai_lower.specs.Slots.{SlotValue, fresh_slot, slot_at, with_alias, with_constant, with_slot}
 use Rattle.rhai_lower.specs.declared.position.Position.{Position}
 use Rattle.rhai_grammar.specs.Contexts.{Live, in_block}
 use Rattle.rhai_grammar.specs.Definitions.{after_statement, after_statements, alias_of, catch_live, define, define_at, export_at, is_exported, is_in_block, is_reusable, loop_live, reused, reused_at}

@@ -3,10 +3,10 @@ use Rattle.std.proofs.Common.{◌≡◌, Bool, true, false, List, [], ◌∷◌,
 use Rattle.std.specs.Prelude.{IsTrue}
 use Rattle.std.proofs.lemmas.List.Elements.{All-head, All-tail}
 use Rattle.rhai_lower.specs.Lexemes.{Lexeme, Sign, lexeme}
-use Rattle.rhai_input.specs.Entries.{may_be_delivered, token_may_be_delivered}
-use Rattle.rhai_input.specs.Entries.{in_code as in_code_mode}
+use Rattle.rhai_lower.specs.Entries.{may_be_delivered, token_may_be_delivered}
+use Rattle.rhai_lower.specs.Entries.{in_code as in_code_mode}
 use Rattle.rhai_lower.specs.declared.position.Position.{Position}
-use Rattle.rhai_input.specs.declared.stream.Entry.{Entry}
+use Rattle.rhai_lower.specs.declared.stream.Entry.{Entry}
 use Rattle.rhai_lower.specs.declared.token.Token.{Token}
 use Rattle.rhai_lower.specs.declared.token.Token.TheVariants as token
 use Rattle.rhai_grammar.specs.Causes.{Cause}

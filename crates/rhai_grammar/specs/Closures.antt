@@ -1,7 +1,7 @@
 -- Closures: what they are read under, what their parameters are, and what they give.
 use Rattle.std.specs.Prelude.{ℕ, zero, suc, ◌+◌, ◌/◌, ◌%◌, ◌++◌, false, None, Option, List, [], ◌∷◌}
 use Rattle.std.specs.Prelude.{codes, if◌then◌else◌, length, map, nat_lt}
-use Rattle.rhai_input.specs.Slots.{SlotValue}
+use Rattle.rhai_lower.specs.Slots.{SlotValue}
 use Rattle.rhai_lower.specs.Lexemes.{Lexeme}
 use Rattle.rhai_lower.specs.Nodes.{Block, Called, Node, Nodes, block_value, braces, call, expression, no_nodes, no_statements}
 use Rattle.rhai_lower.specs.Nodes.{one_node, one_statement, pointer, share, variable}

@@ -2,7 +2,7 @@
 use Rattle.std.specs.Prelude.{◌≡◌, ℕ, ◌==◌, Bool, true, false, ◌&&◌, not, List, [], length, nat_lt, refl}
 use Rattle.std.specs.Int.RustNames.{bit_and}
 use Rattle.rhai_lower.specs.Texts.{Text}
-use Rattle.rhai_input.specs.Slots.{SlotValue}
+use Rattle.rhai_lower.specs.Slots.{SlotValue}
 use Rattle.rhai_grammar.specs.Settings as settings
 use Rattle.rhai_grammar.specs.declared.filter.ExprFilter.{ExprFilter}
 use Rattle.rhai_grammar.specs.declared.filter.ExprFilter.TheVariants.{All, AllButPipe}

@@ -4,7 +4,7 @@ use Rattle.std.specs.Prelude.{◌≡◌, ℕ, ◌-◌, Bool, true, false, ◌&&�
 use Rattle.std.specs.Prelude.{length, nat_lt, unwrap_or, codes, refl}
 use Rattle.std.specs.Prelude.{if◌then◌else◌}
 use Rattle.rhai_lower.specs.Texts.{Text}
-use Rattle.rhai_input.specs.Slots.{SlotValue, fresh_slot, with_slot, with_alias, with_constant}
+use Rattle.rhai_lower.specs.Slots.{SlotValue, fresh_slot, with_slot, with_alias, with_constant}
 use Rattle.rhai_grammar.specs.Contexts.{Context, Live, allows_shadowing, in_block}
 use Rattle.rhai_grammar.specs.Slots.{number, slot_from_latest}
 use Rattle.rhai_grammar.specs.Forms as form

@@ -8,7 +8,7 @@ use Rattle.rhai_lower.specs.Nodes.{Block}
 use Rattle.rhai_lower.specs.declared.position.Position.{Position}
 use Rattle.rhai_lower.specs.declared.token.Token.{Token}
 use Rattle.rhai_lower.specs.declared.token.Token.TheVariants as token
-use Rattle.rhai_input.specs.Slots.{fresh_slot}
+use Rattle.rhai_lower.specs.Slots.{fresh_slot}
 use Rattle.rhai_grammar.specs.Causes as cause
 use Rattle.rhai_grammar.specs.Causes.{Cause, Refusal, refusal}
 use Rattle.rhai_grammar.specs.Beginnings.{calling, missing}

@@ -1,8 +1,8 @@
 -- Laws of the definitions that users rely on.
 use Rattle.std.specs.Prelude.{◌≡◌, Bool, true, false, List, map, All, IsTrue}
-use Rattle.rhai_input.specs.Entries.{ask_of, may_be_delivered}
+use Rattle.rhai_lower.specs.Entries.{ask_of, may_be_delivered}
 use Rattle.rhai_lower.specs.declared.position.Position.{Position}
-use Rattle.rhai_input.specs.declared.stream.Entry.{Entry}
+use Rattle.rhai_lower.specs.declared.stream.Entry.{Entry}
 use Rattle.rhai_grammar.specs.Causes.{Refusal}
 use Rattle.rhai_grammar.specs.Delivered.{Mode, code, Point, Ends, Taken, ask}
 use Rattle.rhai_grammar.specs.Cursors.{Cursor, delivered}

@@ -4,7 +4,7 @@ use Rattle.std.specs.Prelude.{if◌then◌else◌, refl}
 use Rattle.std.specs.Option.{is_some}
 use Rattle.rhai_lower.specs.Texts.{Text, same_text}
 use Rattle.rhai_lower.specs.Positions.{place}
-use Rattle.rhai_input.specs.Slots.{is_declared}
+use Rattle.rhai_lower.specs.Slots.{is_declared}
 use Rattle.rhai_lower.specs.Nodes.{Node, variable}
 use Rattle.rhai_lower.specs.declared.position.Position.{Position}
 use Rattle.rhai_grammar.specs.Causes as cause

@@ -1,7 +1,7 @@
 -- Worked rows of constructs: scripts, their written forms, and what the definitions say about them.
 use Rattle.std.specs.Prelude.{◌≡◌, ℕ, codes, pos, true, false, Option, Some, None, List, [], ◌∷◌, ◌++◌}
 use Rattle.rhai_lower.specs.Positions.{nowhere, place}
-use Rattle.rhai_input.specs.Slots.{fresh_slot}
+use Rattle.rhai_lower.specs.Slots.{fresh_slot}
 use Rattle.rhai_lower.specs.Lexemes.{Lexeme, Integer, Name, Sign}
 use Rattle.rhai_lower.specs.Nodes as node
 use Rattle.rhai_lower.specs.Nodes.{Node}

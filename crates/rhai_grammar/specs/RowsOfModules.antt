@@ -2,7 +2,7 @@
 use Rattle.std.specs.Prelude.{◌≡◌, ℕ, Bool, codes, true, false, Option, None, Some, List, [], ◌∷◌, ◌++◌}
 use Rattle.rhai_lower.specs.Texts.{Text}
 use Rattle.rhai_lower.specs.Positions.{nowhere, place}
-use Rattle.rhai_input.specs.Slots.{fresh_slot}
+use Rattle.rhai_lower.specs.Slots.{fresh_slot}
 use Rattle.rhai_lower.specs.Lexemes.{Lexeme, Name, Sign, String}
 use Rattle.rhai_lower.specs.Nodes as node
 use Rattle.rhai_lower.specs.declared.token.Token.TheVariants as token

@@ -2,7 +2,7 @@
 use Rattle.std.specs.Prelude.{◌≡◌, ℕ, codes, pos, None, Some, Bool, true, false, Option, List, [], ◌∷◌, ◌++◌}
 use Rattle.rhai_lower.specs.Texts.{Text}
 use Rattle.rhai_lower.specs.Positions.{place}
-use Rattle.rhai_input.specs.Slots.{fresh_slot}
+use Rattle.rhai_lower.specs.Slots.{fresh_slot}
 use Rattle.rhai_lower.specs.Lexemes.{Lexeme, Integer, Name, Sign}
 use Rattle.rhai_lower.specs.Nodes as node
 use Rattle.rhai_lower.specs.Nodes.{Node}

@@ -5,7 +5,7 @@ use Rattle.std.specs.Prelude.{length, take, codes, refl}
 use Rattle.rhai_lower.specs.Texts.{Text}
 use Rattle.rhai_lower.specs.Names.{is_identifier}
 use Rattle.rhai_lower.specs.Positions.{place}
-use Rattle.rhai_input.specs.Slots.{SlotValue, fresh_slot}
+use Rattle.rhai_lower.specs.Slots.{SlotValue, fresh_slot}
 use Rattle.rhai_lower.specs.declared.position.Position.{Position}
 use Rattle.rhai_grammar.specs.Contexts.{Context, Live, in_block}
 use Rattle.rhai_grammar.specs.Definitions.{after_statement, after_statements, catch_live, define, is_exported}

@@ -6,7 +6,7 @@ use Rattle.std.specs.Prelude.{Some, length, drop, if◌then◌else◌, codes, re
 use Rattle.std.specs.List.{list_any}
 use Rattle.std.specs.Option.{option_or}
 use Rattle.rhai_lower.specs.Texts.{Text, same_text}
-use Rattle.rhai_input.specs.Slots.{SlotValue, fresh_slot, slot_at}
+use Rattle.rhai_lower.specs.Slots.{SlotValue, fresh_slot, slot_at}
 
 -- a slot that is not a variable, but a mark between variables
 abbrev pub is_barrier : SlotValue → Bool

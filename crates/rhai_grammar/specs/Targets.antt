@@ -5,7 +5,7 @@ use Rattle.std.specs.Option.{option_or}
 use Rattle.rhai_lower.specs.Tokens.{assigns}
 use Rattle.rhai_lower.specs.Positions.{place}
 use Rattle.rhai_lower.specs.Texts.{Text}
-use Rattle.rhai_input.specs.Slots.{SlotValue, fresh_slot}
+use Rattle.rhai_lower.specs.Slots.{SlotValue, fresh_slot}
 use Rattle.rhai_lower.specs.Lexemes.{Lexeme, Sign}
 use Rattle.rhai_lower.specs.Nodes.{Node, Named, coalescing, conjunction, disjunction, dot, index, integer}
 use Rattle.rhai_lower.specs.Nodes.{method_call, position_of, this, variable}

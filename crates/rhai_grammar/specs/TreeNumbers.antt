@@ -14,7 +14,7 @@ use Rattle.rhai_lower.specs.Nodes.{switch_statement, this, try_catch, unit, var_
 use Rattle.rhai_lower.specs.Positions.{place}
 use Rattle.rhai_lower.specs.Texts.{Text}
 use Rattle.rhai_lower.specs.declared.position.Position.{Position}
-use Rattle.rhai_input.specs.Slots.{SlotValue, fresh_slot}
+use Rattle.rhai_lower.specs.Slots.{SlotValue, fresh_slot}
 use Rattle.rhai_grammar.specs.Keys.{is_closure}
 use Rattle.rhai_grammar.specs.Libraries.{Ended, Library}
 use Rattle.rhai_grammar.specs.Slots.{number}

@@ -5,7 +5,7 @@ use Rattle.std.specs.Prelude.{if◌then◌else◌, refl}
 use Rattle.std.specs.Option.{is_some}
 use Rattle.rhai_lower.specs.Texts.{Text}
 use Rattle.rhai_lower.specs.Positions.{nowhere, place}
-use Rattle.rhai_input.specs.Slots.{SlotValue}
+use Rattle.rhai_lower.specs.Slots.{SlotValue}
 use Rattle.rhai_lower.specs.Lexemes.{Lexeme, Integer, Sign, text_of}
 use Rattle.rhai_lower.specs.Nodes.{Called, Named, Node, Nodes, Properties, array, integer, object_map, this, unit}
 use Rattle.rhai_lower.specs.Nodes.{variable}

@@ -7,7 +7,7 @@ use Rattle.rhai_lower.specs.Lexemes.{Integer, Sign}
 use Rattle.rhai_lower.specs.Positions.{place}
 use Rattle.rhai_lower.specs.Texts.{Text}
 use Rattle.rhai_lower.specs.declared.token.Token.TheVariants.{Period, Plus}
-use Rattle.rhai_input.specs.Slots.{SlotValue, fresh_slot}
+use Rattle.rhai_lower.specs.Slots.{SlotValue, fresh_slot}
 use Rattle.rhai_grammar.specs.Closures.{declared_names}
 use Rattle.rhai_grammar.specs.Contexts.{Live, in_block, nothing_live}
 use Rattle.rhai_grammar.specs.Definitions.{after_statement, catch_live, loop_live}

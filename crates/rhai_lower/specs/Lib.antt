@@ -4,3 +4,11 @@ pub mod Tokens
 pub mod Lexemes
 pub mod Names
 pub mod Nodes
+pub mod NameIndexes
+pub mod LatestNames
+pub mod Slots
+pub mod SlotView
+pub mod Streams
+pub mod Entries
+pub mod View
+pub mod Optimizer

@@ -1,12 +1,28 @@
-//! What the parser builds on: tokens, positions, names, and plain parts of nodes.
+//! What the parser builds on: tokens, positions and names, the stream that delivers the tokens, the scope of the
+//! variables that are there, the tree that the parser makes, and a stand-in for the optimizer.
 #![tactic(auto)]
 
+pub mod ast;
+pub mod name_index;
 pub mod names;
 pub mod node;
+pub mod optimizer;
+mod places;
 pub mod position;
+pub mod scope;
+pub mod stream;
 pub mod token;
 
+pub use ast::{
+    AST, BinaryExpr, Expr, FlowControl, FnCallExpr, ForLoop, Ident, LoopControl, Namespace,
+    ScriptFuncDef, Stmt, StmtBlock, StmtBlockContainer, SwitchCase, SwitchCasesCollection,
+    VariableExpr,
+};
+pub use name_index::NameIndex;
 pub use names::{is_reserved_keyword_or_symbol, is_valid_function_name, is_valid_identifier};
 pub use node::{LinkFlags, RangeCase};
+pub use optimizer::OptimizationLevel;
 pub use position::Position;
+pub use scope::Scope;
+pub use stream::{Entry, TokenStream};
 pub use token::{LexError, Token};

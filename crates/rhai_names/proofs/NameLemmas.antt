@@ -13,13 +13,13 @@ use Rattle.std.specs.declared.alloc.Global.{Global}
 use Rattle.std.specs.declared.cmp.Ordering.TheVariants.{Less}
 use Rattle.std.specs.declared.rc.Rc.{Rc}
 use Rattle.std.specs.declared.rc.RcStr.{RcStr}
-use Rattle.rhai_ast.specs.View.{function_view}
-use Rattle.rhai_ast.specs.declared.ast.ScriptFuncDef.{ScriptFuncDef}
+use Rattle.rhai_lower.specs.View.{function_view}
+use Rattle.rhai_lower.specs.declared.ast.ScriptFuncDef.{ScriptFuncDef}
 use Rattle.rhai_lower.specs.Texts.{Text, same_text}
 use Rattle.rhai_grammar.specs.Imports.{is_among}
 use Rattle.rhai_names.specs.FnNames.{AreNamesOf, IsNamesOf, counted, texts, text_cmp}
 use Rattle.rhai_names.specs.declared.names.FnNames.{FnNames}
-use Rattle.rhai_names.proofs.WalkLemmas.{call_cmp, rc_cmp}
+use Rattle.rhai_names.proofs.SetLemmas.{call_cmp, rc_cmp}
 use Rattle.rhai_names.specs.FnNames as F
 
 -- ---- a name that is removed

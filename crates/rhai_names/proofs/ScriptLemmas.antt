@@ -4,9 +4,9 @@ use Rattle.std.specs.List.{AllZip}
 use Rattle.std.specs.Prelude.{Err, Ok, Vec}
 use Rattle.std.specs.declared.alloc.Global.{Global}
 use Rattle.std.specs.declared.rc.Rc.{Rc}
-use Rattle.rhai_ast.specs.View.{function_view}
-use Rattle.rhai_ast.specs.declared.ast.ScriptFuncDef.{ScriptFuncDef}
-use Rattle.rhai_ast.specs.declared.ast.Stmt.{Stmt}
+use Rattle.rhai_lower.specs.View.{function_view}
+use Rattle.rhai_lower.specs.declared.ast.ScriptFuncDef.{ScriptFuncDef}
+use Rattle.rhai_lower.specs.declared.ast.Stmt.{Stmt}
 use Rattle.rhai_grammar.specs.Contexts.{Context, Live}
 use Rattle.rhai_grammar.specs.Cursors.{Cursor}
 use Rattle.rhai_grammar.specs.Forms.{Statements}
@@ -14,7 +14,7 @@ use Rattle.rhai_grammar.specs.Imports.{is_among}
 use Rattle.rhai_grammar.specs.Libraries.{Library}
 use Rattle.rhai_grammar.specs.Promises.{IsWrittenTo, scripts}
 use Rattle.rhai_grammar.specs.declared.error.ParseError.{ParseError}
-use Rattle.rhai_input.specs.Slots.{SlotValue}
+use Rattle.rhai_lower.specs.Slots.{SlotValue}
 use Rattle.rhai_lower.specs.Nodes.{Function}
 use Rattle.rhai_lower.specs.Texts.{Text}
 use Rattle.rhai_parser.specs.Scripts.{ReadsScript, functions_in}

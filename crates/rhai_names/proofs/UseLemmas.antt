@@ -38,8 +38,14 @@ use Rattle.rhai_names.specs.Laws.{FunctionsReadTheirUses}
 use Rattle.rhai_names.specs.Mentions.{all_mentions, block_mentions, mentions, optional_mentions, property_mentions, statement_mentions, statements_mentions}
 use Rattle.rhai_names.specs.WrittenFunctions as written
 use Rattle.rhai_names.specs.WrittenFunctions.{WrittenFunction, ended_of, in_action, in_arguments, in_arms, in_base, in_body, in_branch, in_case_guard, in_cases, in_closure_body, in_conditional, in_construct, in_elements, in_evaluation, in_fields, in_initializer, in_items, in_jump_value, in_links, in_operand, in_primary, in_run, in_segments, in_statement, in_statements}
-use Rattle.rhai_names.proofs.MentionSteps as M
-use Rattle.rhai_names.proofs.MentionSteps.{Collects, Reading, Stands, alone, both, collected_mentions, faultless, link_mentions, nothing, rather, same, swapped}
+use Rattle.rhai_names.proofs.OperandSteps as OperandSteps
+use Rattle.rhai_names.proofs.Readings as Readings
+use Rattle.rhai_names.proofs.SwitchSteps as SwitchSteps
+use Rattle.rhai_names.proofs.TreeSteps as TreeSteps
+use Rattle.rhai_names.proofs.OperandSteps.{Stands}
+use Rattle.rhai_names.proofs.Readings.{Reading, alone, both, nothing, rather, same, swapped}
+use Rattle.rhai_names.proofs.SwitchSteps.{Collects, collected_mentions, faultless}
+use Rattle.rhai_names.proofs.TreeSteps.{link_mentions}
 
 -- Nothing calls this operand after it, if nothing is said to do so.
 abbrev Uncalled : Primary → Live → Bool → Demands → Type 0
@@ -64,31 +70,31 @@ mutual
 
   pub primary : (x : Primary) (called : Bool) (c : Context) (w : Live) (p : OperandPlace) (k : Demands) → Uncalled x w called k
       → Gives (Stands x w called) (W.primary x c w p k) k
-  primary (form.Value token at) called c w p k u = shape (λ e. gets (λ h. M.value called token at w) (tok here))
-  primary (form.Named name at) called c w p k u = gets (λ h. M.named called name at w) (tok (uses here))
+  primary (form.Value token at) called c w p k u = shape (λ e. gets (λ h. OperandSteps.value called token at w) (tok here))
+  primary (form.Named name at) called c w p k u = gets (λ h. OperandSteps.named called name at w) (tok (uses here))
   primary (form.Word word at) called c w p k u = record {
     given = λ s t m. (
-      M.word called word at w c (next_at code (past code s)).lexeme m.1.0 (λ d. u d (past code s) t m.1.1),
+      OperandSteps.word called word at w c (next_at code (past code s)).lexeme m.1.0 (λ d. u d (past code s) t m.1.1),
       record { end = past code s; met = m.1.1; kept = λ h. h },
     );
   }
   primary (form.Group opening inside closing) called c w p k u =
-      gets (M.group called opening closing inside w)
+      gets (OperandSteps.group called opening closing inside w)
       (tok (test (up_to (expressed inside (level_up c) w (run inside _ _)) (tok here))))
   primary (form.Array opening list) called c w p k u =
-      gets (M.array called opening list w) (tok (test (elements list 0 (level_up c) w opening k)))
+      gets (OperandSteps.array called opening list w) (tok (test (elements list 0 (level_up c) w opening k)))
   primary (form.Map opening list) called c w p k u =
-      gets (M.object_map called opening list w) (tok (test (fields list no_properties (level_up c) w opening k)))
+      gets (OperandSteps.object_map called opening list w) (tok (test (fields list no_properties (level_up c) w opening k)))
   primary (form.Interpolated first at list) called c w p k u =
-      gets (M.interpolated called first at list w) (tok (test (segments list (level_up c) w at k)))
+      gets (OperandSteps.interpolated called first at list w) (tok (test (segments list (level_up c) w at k)))
   primary (form.CompoundValue at x) called c w p k u =
-      shape (λ e. gets (M.compound called at x w) (tok (test (test (construct x (level_up (level_up c)) w at k)))))
+      shape (λ e. gets (OperandSteps.compound called at x w) (tok (test (test (construct x (level_up (level_up c)) w at k)))))
   primary (form.Closure head f number us) called c w p k u =
       by_way (numbers.primary (form.Closure head f number us) called c w p k u)
       (shape (λ e. tok (test_in (past_it (closure_parameters head _) (test (apart_from
       (closure_body f (level_up (in_closure c w)) (parameters_live (declared_names head)) Nothing)
-      (λ h. known (M.closure called head f number us w h) here)))))))
-  primary (form.Zero range at) called c w p k u = shape (λ e. gets (λ h. M.zero called range at w) (ahead here))
+      (λ h. known (OperandSteps.closure called head f number us w h) here)))))))
+  primary (form.Zero range at) called c w p k u = shape (λ e. gets (λ h. OperandSteps.zero called range at w) (ahead here))
 
   pub closure_body : (x : ClosureBody) (c : Context) (w : Live) (k : Demands)
       → Gives (Reading (statement_mentions (T.body_tree x w)) (E.closure_events x w) (in_closure_body x)) (W.closure_body x c w k) k
@@ -100,17 +106,17 @@ mutual
   base (form.Plain x form.NoPath) c w p k =
       up_to (gets (λ h. record { names = h.names refl; ends = h.ends }) (primary x false c w p _ (λ d s t m. m.1.0))) (next (next here))
   base (form.Plain x (form.Scoped colons name at rest)) c w p k =
-      gets (λ h. M.scoped x colons name at rest w h.1 h.0.ends)
+      gets (λ h. OperandSteps.scoped x colons name at rest w h.1 h.0.ends)
       (on (primary x true c w p _ (λ d. absurd cc))
       (shape (λ e. known e (tok (tok (past_it (path rest w.imports _ _) (next here)))))))
   base (form.Call x list None args) c w p k =
       let y = named_tree x list true w in
-      gets (λ h. M.called x list w (function_called (named_by y) false (node_count (argument_trees args w))) h.1.0 h.0.ends h.1.1)
+      gets (λ h. OperandSteps.called x list w (function_called (named_by y) false (node_count (argument_trees args w))) h.1.0 h.0.ends h.1.1)
       (on (primary x true c w p _ (λ d. absurd cc)) (past_it (path list w.imports (primary_tree x w true) _)
       (shape (λ e. beside e (up_to (arguments args V.anything c w (position_of y) _) (unfaulted (module_fault c w y)))))))
   base (form.Call x list (Some bang) args) c w p k =
       let y = named_tree x list true w in
-      gets (λ h. M.called x list w (function_called (named_by y) true (node_count (argument_trees args w))) h.1.0 h.0.ends h.1.1)
+      gets (λ h. OperandSteps.called x list w (function_called (named_by y) true (node_count (argument_trees args w))) h.1.0 h.0.ends h.1.1)
       (on (primary x true c w p _ (λ d. absurd cc)) (past_it (path list w.imports (primary_tree x w true) _)
       (shape (λ e. beside e (tok (past_it (banged (is_qualified y) bang)
       (up_to (arguments args V.list_due c w (position_of y) _) (unfaulted (module_fault c w y)))))))))
@@ -129,27 +135,27 @@ mutual
       let l = member_link dot at (method_tree (text_of name) name_at false (argument_trees args w)) in
       let called = method_called (text_of name) false (node_count (argument_trees args w)) in
       shape (λ d. shape (λ e. tok (next (test (tok (next
-      (gets (λ h. both (M.call_before called h.0) h.1)
+      (gets (λ h. both (Readings.call_before called h.0) h.1)
       (on (arguments args V.anything (level_up q.settings) w name_at _) (links more (spot_after_dot q l) w k)))))))))
   links (form.Method dot at name name_at (Some bang) args more) q w k =
       let l = member_link dot at (method_tree (text_of name) name_at true (argument_trees args w)) in
       let called = method_called (text_of name) true (node_count (argument_trees args w)) in
       shape (λ d. shape (λ e. tok (next (test (tok (next (tok
-      (gets (λ h. both (M.call_before called h.0) h.1)
+      (gets (λ h. both (Readings.call_before called h.0) h.1)
       (on (arguments args V.list_due (level_up q.settings) w name_at _) (links more (spot_after_dot q l) w k))))))))))
 
   pub operand : (x : Operand) (c : Context) (w : Live) (p : OperandPlace) (k : Demands)
       → Gives (Reading (mentions (T.operand_tree x w)) (E.operand_events x w) (in_operand x)) (W.operand x c w p k) k
   operand (form.Linked x list) c w p k =
-      gets (λ h. same (M.chains (base_tree x w) (T.link_list list w)) (both h.0 h.1))
+      gets (λ h. same (TreeSteps.chains (base_tree x w) (T.link_list list w)) (both h.0 h.1))
       (on (base x c w p _) (up_to (links list (spot_after_operand c (base_tree x w)) w _)
       (unfaulted (module_fault c w (base_tree x w)))))
   operand (form.Signed sign at x) c w p k =
-      shape (λ e. gets (λ h. same (M.sign (effect sign) (plain_sign sign) at (T.operand_tree x w)) h)
+      shape (λ e. gets (λ h. same (TreeSteps.sign (effect sign) (plain_sign sign) at (T.operand_tree x w)) h)
       (tok (test (up_to (operand x (level_up c) w place.Elsewhere _) (test here)))))
   operand (form.NoOperand token at) c w p k = shape (λ e. gets (λ h. nothing) (ahead here))
   operand (form.Jump x) c w p k =
-      gets (λ h. same (M.made (T.statement_tree x (in_block w))) h) (next (statement x (below_global c) (in_block w) k))
+      gets (λ h. same (Readings.made (T.statement_tree x (in_block w))) h) (next (statement x (below_global c) (in_block w) k))
 
   pub arguments : (x : Arguments) (others : Lexeme → Verdict) (c : Context) (w : Live) (name : Position) (k : Demands)
       → Gives (Reading (all_mentions (argument_trees x w)) (E.argument_events x w) (in_arguments x)) (W.arguments x others c w name k) k
@@ -185,17 +191,17 @@ mutual
   pub segments : (x : Segments) (c : Context) (w : Live) (start : Position) (k : Demands)
       → Gives (Reading (all_mentions (T.segment_trees x w)) (E.segment_events x w) (in_segments x)) (W.segments x c w start k) k
   segments (form.LastSegment opening f last at) c w start k =
-      gets (λ h. same (ap (λ ms. block_mentions (T.block_tree opening f w) ++ ms) (M.text last at node.no_nodes)) (alone h))
+      gets (λ h. same (ap (λ ms. block_mentions (T.block_tree opening f w) ++ ms) (OperandSteps.text last at node.no_nodes)) (alone h))
       (tok (test (up_to (block f opening (level_up c) w _) (tok here))))
   segments (form.Segment opening f more at rest) c w start k =
-      gets (λ h. both h.0 (same (M.text more at (T.segment_trees rest w)) h.1))
+      gets (λ h. both h.0 (same (OperandSteps.text more at (T.segment_trees rest w)) h.1))
       (tok (test (on (block f opening (level_up c) w _) (tok (segments rest c w start k)))))
 
   pub run : (f : Run) (q : Spot) (k : Demands) → Gives (Reading (mentions (tree f q.live)) (events f q.live) (in_run f)) (W.run f q k) k
   run (form.Just x) q k = up_to (operand x q.first q.live (place_of q.side) _) (next (raised q.side))
   run (form.Binary op at l r) q k =
       let side = right_side op (height_after q l) q.live in
-      gets (λ h. M.operator (joining op) op at (tree l q.live) (tree r q.live) h.0 h.1)
+      gets (λ h. TreeSteps.operator (joining op) op at (tree l q.live) (tree r q.live) h.0 h.1)
       (on (run l q _)
       (shape (λ a. shape (λ b. shape (λ d. tok (up_to (run r side _) (next (test (test here)))))))))
 
@@ -237,7 +243,7 @@ mutual
       by_way (numbers.statement (form.Function comments is_private at owner name name_at list opening body) c w k)
       (past_it (comments_at comments c) (past_it (function_at _ is_private at) (test (test_in (test (past_it (function_name owner name name_at)
       (past_it (parameter_list list name _) (tok (test
-      (gets (λ h. M.function (written.Function comments is_private owner name list opening body) h)
+      (gets (λ h. Readings.function (written.Function comments is_private owner name list opening body) h)
       (block body opening inner (parameters_live (parameter_names list)) _)))))))))))
 
   pub construct : (x : Construct) (c : Context) (w : Live) (at : Position) (k : Demands)
@@ -274,19 +280,19 @@ mutual
   branch form.NoElse c w at k = gets (λ h. nothing) (next here)
   branch (form.Else else_at opening f) c w at k = tok (next (tok (test (block f opening (level_up c) w k))))
   branch (form.ElseIf else_at if_at x) c w at k =
-      gets (λ h. same (M.made (T.conditional_tree x w if_at)) h) (tok (tok (test (conditional x (level_up c) w if_at k))))
+      gets (λ h. same (Readings.made (T.conditional_tree x w if_at)) h) (tok (tok (test (conditional x (level_up c) w if_at k))))
 
   pub arms : (x : Arms) (b : Collected) (c : Context) (w : Live) (k : Demands)
       → Gives (Collects (collected_mentions b) (collected_mentions (T.collected x w b)) (E.arm_events x w) (in_arms x)) (W.arms x b c w k) k
-  arms (form.NoArm closing) b c w k = gets (λ h. M.no_arm) (tok here)
+  arms (form.NoArm closing) b c w k = gets (λ h. SwitchSteps.no_arm) (tok here)
   arms (form.Arm xs guard arrow does comma rest) b c w k =
       let next_arm = with_arm_collected b (case_trees xs w) (guard_tree guard w) (action_tree does w) in
-      gets (λ h. M.arm b (case_trees xs w) (guard_tree guard w) (action_tree does w) h.1.1.1.0 h.0 h.1.0 h.1.1.0 h.1.1.1.1)
+      gets (λ h. SwitchSteps.arm b (case_trees xs w) (guard_tree guard w) (action_tree does w) h.1.1.1.0 h.0 h.1.0 h.1.1.0 h.1.1.1.1)
       (next (on (cases xs c w _) (on (case_guard guard c w _) (tok (on (action does c w _)
       (on (faultless (arm_fault b (case_trees xs w)))
       (past_it (separated comma (action_ends does) _) (arms rest next_arm c w k))))))))
   arms (form.DefaultArm at arrow does comma closing) b c w k =
-      gets (λ h. M.default_arm b (action_tree does w) h)
+      gets (λ h. SwitchSteps.default_arm b (action_tree does w) h)
       (tok (next (tok (up_to (action does c w _) (past_it (separated comma (action_ends does) _) (tok here))))))
 
   pub cases : (x : Cases) (c : Context) (w : Live) (k : Demands)
@@ -304,20 +310,20 @@ mutual
   pub action : (x : Action) (c : Context) (w : Live) (k : Demands)
       → Gives (Reading (mentions (action_tree x w)) (E.action_events x w) (in_action x)) (W.action x c w k) k
   action (form.Does f) c w k =
-      shape (λ e. gets (λ h. same (M.made (T.statement_tree f (in_block w))) h) (next (statement f (below_global c) (in_block w) k)))
+      shape (λ e. gets (λ h. same (Readings.made (T.statement_tree f (in_block w))) h) (next (statement f (below_global c) (in_block w) k)))
   action (form.Gives f) c w k = shape (λ e. expressed f c w (run f _ _))
 
   pub statements : (xs : Statements) (closing : Closing) (c : Context) (w : Live) (k : Demands)
       → Gives (Reading (statements_mentions (T.statement_trees xs w)) (script_events xs w) (in_statements xs)) (W.statements xs closing c w k) k
   statements form.NoStatement closing c w k = gets (λ h. nothing) (next here)
   statements (form.LastStatement f) closing c w k =
-      gets (λ h. same (M.kept (T.statement_tree f w) node.no_statements) (alone h))
+      gets (λ h. same (Readings.kept (T.statement_tree f w) node.no_statements) (alone h))
       (next (up_to (statement f c w _) (shape (λ e. next here))))
   statements (form.WithSemicolon f semicolon rest) closing c w k =
-      gets (λ h. same (M.kept (T.statement_tree f w) (T.statement_trees rest (after_statement f w))) (both h.0 h.1))
+      gets (λ h. same (Readings.kept (T.statement_tree f w) (T.statement_trees rest (after_statement f w))) (both h.0 h.1))
       (next (on (statement f c w _) (shape (λ e. tok (statements rest closing c (after_statement f w) k)))))
   statements (form.Standing f rest) closing c w k =
-      gets (λ h. same (M.kept (T.statement_tree f w) (T.statement_trees rest (after_statement f w))) (both h.0 h.1))
+      gets (λ h. same (Readings.kept (T.statement_tree f w) (T.statement_trees rest (after_statement f w))) (both h.0 h.1))
       (next (on (statement f c w _) (shape (λ e. statements rest closing c (after_statement f w) k))))
 
   pub block : (x : Body) (opening : Position) (c : Context) (w : Live) (k : Demands)

@@ -13,7 +13,7 @@ use Rattle.rhai_lower.specs.Nodes.{no_statements, noop, object_map, one_arm, one
 use Rattle.rhai_lower.specs.Nodes.{one_statement, pointer, present, property, return_statement, share, string}
 use Rattle.rhai_lower.specs.Nodes.{switch_statement, this, try_catch, unit, var_statement, variable, while_statement}
 use Rattle.rhai_lower.specs.Texts.{Text}
-use Rattle.rhai_ast.specs.View.{statement_view, view}
+use Rattle.rhai_lower.specs.View.{statement_view, view}
 use Rattle.rhai_grammar.specs.Imports.{is_among}
 use Rattle.rhai_names.specs.FnNames.{counted, is_listed, texts}
 use Rattle.rhai_names.specs.Mentions.{Mention, is_called, is_read, mentions, statement_mentions}

@@ -6,6 +6,3 @@ pub mod laws;
 pub mod names;
 pub mod script;
 mod walk;
-
-pub use names::{FnNames, names_of};
-pub use script::names_of_script;

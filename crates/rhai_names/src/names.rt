@@ -3,12 +3,12 @@
 ghost use Rattle.std.specs.Prelude.{◌≡◌, IfOk, map, option_map};
 ghost use Rattle.std.specs.BTreeSet.{IsOrdered};
 ghost use Rattle.std.specs.Rc.{rc_str_bytes};
-ghost use Rattle.rhai_ast.specs.View.{function_view};
+ghost use Rattle.rhai_lower.specs.View.{function_view};
 ghost use Rattle.rhai_names.specs.FnNames.{AreNamesOf, IsNamesOf};
 ghost use Rattle.rhai_names.specs.Walks.{IsWithout};
 
 use crate::walk::Walk;
-use rhai_ast::ScriptFuncDef;
+use rhai_lower::ScriptFuncDef;
 use std::alloc::{AllocError, Global};
 use std::collections::BTreeSet;
 use std::rc::{Rc, RcStr};

@@ -2,19 +2,19 @@
 //! is long, so what is still to be visited is kept in a list.
 
 ghost use Rattle.std.specs.Prelude.{◌≡◌, ◌+◌, ◌++◌, [], OnOk, IfOk, option_map};
-ghost use Rattle.rhai_ast.specs.declared.ast.BinaryExpr.{out-BinaryExpr};
-ghost use Rattle.rhai_ast.specs.declared.ast.FlowControl.{out-FlowControl};
-ghost use Rattle.rhai_ast.specs.declared.ast.FnCallExpr.{out-FnCallExpr};
-ghost use Rattle.rhai_ast.specs.declared.ast.SwitchCasesCollection.{out-SwitchCasesCollection};
-ghost use Rattle.rhai_ast.specs.View.{arm_views, block_view, called, case_views, named, property_views};
-ghost use Rattle.rhai_ast.specs.View.{statement_view, statement_views, view, views};
+ghost use Rattle.rhai_lower.specs.declared.ast.BinaryExpr.{out-BinaryExpr};
+ghost use Rattle.rhai_lower.specs.declared.ast.FlowControl.{out-FlowControl};
+ghost use Rattle.rhai_lower.specs.declared.ast.FnCallExpr.{out-FnCallExpr};
+ghost use Rattle.rhai_lower.specs.declared.ast.SwitchCasesCollection.{out-SwitchCasesCollection};
+ghost use Rattle.rhai_lower.specs.View.{arm_views, block_view, called, case_views, named, property_views};
+ghost use Rattle.rhai_lower.specs.View.{statement_view, statement_views, view, views};
 ghost use Rattle.rhai_names.specs.Mentions.{all_mentions, arm_mentions, block_mentions, by_call, by_variable};
 ghost use Rattle.rhai_names.specs.Mentions.{case_mentions, mentions, property_mentions, statement_mentions};
 ghost use Rattle.rhai_names.specs.Mentions.{statements_mentions};
 ghost use Rattle.rhai_names.specs.Walks.{Notes, all_size, arm_size, block_size, case_size, inside, inside_statement};
 ghost use Rattle.rhai_names.specs.Walks.{HasWalked, Knows, part_mentions, part_size, property_size, statements_size};
 
-use rhai_ast::{
+use rhai_lower::{
     BinaryExpr, Expr, FlowControl, FnCallExpr, Ident, Stmt, StmtBlock, SwitchCase,
     SwitchCasesCollection, VariableExpr,
 };
@@ -203,7 +203,7 @@ impl<'a> Walk<'a> {
         self.push_all(&call.args)
     }
 
-    #[tactic(auto, using(crate::proofs::WalkLemmas::nothing), unfolding(crate::specs::Mentions::mentions, crate::specs::Walks::inside))]
+    #[tactic(auto, using(crate::proofs::WalkSteps::nothing), unfolding(crate::specs::Mentions::mentions, crate::specs::Walks::inside))]
     fn visit_expr(&mut self, expr: &'a Expr) -> Result<(), AllocError>
         ensures { OnOk result (Notes self.old self.new (mentions (view expr.now)) (inside (view expr.now))) }
     {
@@ -229,7 +229,7 @@ impl<'a> Walk<'a> {
         }
     }
 
-    #[tactic(auto, using(crate::proofs::WalkLemmas::nothing), unfolding(crate::specs::Mentions::statement_mentions, crate::specs::Mentions::optional_mentions, crate::specs::Walks::inside_statement, crate::specs::Walks::optional_size,))]
+    #[tactic(auto, using(crate::proofs::WalkSteps::nothing), unfolding(crate::specs::Mentions::statement_mentions, crate::specs::Mentions::optional_mentions, crate::specs::Walks::inside_statement, crate::specs::Walks::optional_size))]
     fn visit_stmt(&mut self, statement: &'a Stmt) -> Result<(), AllocError>
         ensures { OnOk result (Notes self.old self.new (statement_mentions (statement_view statement.now))
             (inside_statement (statement_view statement.now))) }

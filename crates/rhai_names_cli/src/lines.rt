@@ -1,6 +1,6 @@
 //! The lines that the program prints: one for each function, as `f/1: free y, z; calls g/1`.
 
-use rhai_names::FnNames;
+use rhai_names::names::FnNames;
 use std::alloc::{AllocError, Global};
 
 // Names with commas between them; `-` if there are none.

@@ -1,7 +1,7 @@
 //! The program, over any reader and writer.
 
 use crate::lines::lines_of;
-use rhai_names::names_of;
+use rhai_names::names::names_of;
 use rhai_run::{Failure, print_answer, read_tree};
 use std::alloc::Global;
 use std::io::{Read, Write};

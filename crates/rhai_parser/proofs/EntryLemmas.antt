@@ -4,7 +4,7 @@ use Rattle.std.specs.Prelude.{map}
 use Rattle.std.specs.Rc.{rc_str_bytes}
 use Rattle.std.specs.declared.alloc.Global.{Global}
 use Rattle.std.specs.declared.rc.RcStr.{RcStr}
-use Rattle.rhai_input.specs.Slots.{SlotValue}
+use Rattle.rhai_lower.specs.Slots.{SlotValue}
 use Rattle.rhai_grammar.specs.Contexts.{Context, Live, nothing_live}
 use Rattle.rhai_grammar.specs.declared.filter.ExprFilter.{ExprFilter}
 use Rattle.rhai_grammar.specs.declared.filter.ExprFilter.TheVariants.{All}
@@ -12,7 +12,7 @@ use Rattle.rhai_base.specs.Counts.{Counts, counts_of}
 use Rattle.rhai_base.specs.Frames.{known_variables}
 use Rattle.rhai_base.specs.States.{IsFresh}
 use Rattle.rhai_base.specs.declared.settings.ParseSettings.{ParseSettings}
-use Rattle.rhai_language.specs.Frames.{context_of}
+use Rattle.rhai_parser.specs.Frames.{context_of}
 use Rattle.rhai_parser.specs.Engines.{expr_settings, fresh_engine, script_settings}
 use Rattle.rhai_parser.specs.EntryLaws.{EntersAsInRows}
 use Rattle.rhai_parser.specs.Starts.{StateValue, live_in, starts_in}

@@ -4,11 +4,11 @@ use Rattle.std.specs.Prelude.{Vec, map}
 use Rattle.std.specs.Rc.{rc_str_bytes}
 use Rattle.std.specs.declared.alloc.Global.{Global}
 use Rattle.std.specs.declared.rc.RcStr.{RcStr}
-use Rattle.rhai_input.specs.Slots.{SlotValue}
+use Rattle.rhai_lower.specs.Slots.{SlotValue}
 use Rattle.rhai_grammar.specs.Contexts.{Known}
 use Rattle.rhai_base.specs.Counts.{counts_of}
 use Rattle.rhai_base.specs.Frames.{FrameValue, known_variables}
-use Rattle.rhai_language.specs.Languages.{LanguageValue}
+use Rattle.rhai_parser.specs.Languages.{LanguageValue}
 use Rattle.rhai_parser.specs.Starts.{StateValue, frame_in, known_in}
 
 abbrev Names : Type 0

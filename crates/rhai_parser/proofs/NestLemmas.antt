@@ -11,7 +11,7 @@ use Rattle.rhai_grammar.specs.Promises.{UnlessMemory}
 use Rattle.rhai_grammar.specs.declared.error.ParseError.{ParseError}
 use Rattle.rhai_base.specs.Counts.{Counts, with_entered, with_left}
 use Rattle.rhai_base.specs.declared.settings.ParseSettings.{ParseSettings}
-use Rattle.rhai_language.specs.Languages.{LanguageValue}
+use Rattle.rhai_parser.specs.Languages.{LanguageValue}
 use Rattle.std.specs.Prelude.{◌⊎◌}
 use Rattle.rhai_grammar.specs.Cursors.{Cursor}
 use Rattle.rhai_grammar.specs.Depths.{statements_depth}
@@ -27,9 +27,9 @@ use Rattle.std.proofs.Math.Nat.{le_refl}
 use Rattle.rhai_base.specs.Counts.{counts_of}
 use Rattle.rhai_base.specs.Frames.{FrameValue}
 use Rattle.rhai_base.specs.Libraries.{library_of}
-use Rattle.rhai_language.specs.Rooms.{Holds, IsWithin, Stays, function_room}
-use Rattle.rhai_language.specs.declared.shared.Shared.{Shared}
-use Rattle.rhai_language.proofs.Rooms.{function_room_most, gap_most}
+use Rattle.rhai_parser.specs.Rooms.{Holds, IsWithin, Stays, function_room}
+use Rattle.rhai_parser.specs.declared.shared.Shared.{Shared}
+use Rattle.rhai_parser.proofs.Rooms.{function_room_most, gap_most}
 use Rattle.std.proofs.Common.{Bool, true, false, nat_lt, refl, inl, inr}
 use Rattle.std.proofs.lemmas.Bool.{ltb-false, ltb-true}
 use Rattle.rhai_reading.proofs.Grows.{Again, AgainSo, active_again}

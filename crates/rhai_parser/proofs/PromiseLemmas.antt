@@ -5,12 +5,12 @@ use Rattle.std.specs.Prelude.{Vec, map}
 use Rattle.std.specs.declared.alloc.Global.{Global}
 use Rattle.std.specs.declared.rc.Rc.{Rc}
 use Rattle.rhai_lower.specs.Nodes.{Function, Node, Statements}
-use Rattle.rhai_input.specs.Slots.{SlotValue}
+use Rattle.rhai_lower.specs.Slots.{SlotValue}
 use Rattle.rhai_lower.specs.Texts.{Text}
-use Rattle.rhai_ast.specs.View.{function_view, statement_views}
-use Rattle.rhai_ast.specs.declared.ast.AST.{AST}
-use Rattle.rhai_ast.specs.declared.ast.ScriptFuncDef.{ScriptFuncDef}
-use Rattle.rhai_ast.specs.declared.ast.Stmt.{Stmt}
+use Rattle.rhai_lower.specs.View.{function_view, statement_views}
+use Rattle.rhai_lower.specs.declared.ast.AST.{AST}
+use Rattle.rhai_lower.specs.declared.ast.ScriptFuncDef.{ScriptFuncDef}
+use Rattle.rhai_lower.specs.declared.ast.Stmt.{Stmt}
 use Rattle.rhai_grammar.specs.Causes.{Refusal, refusal_of, is_for_memory}
 use Rattle.rhai_grammar.specs.Cursors.{Cursor}
 use Rattle.rhai_grammar.specs.Contexts.{Context, Live}
@@ -25,10 +25,10 @@ use Rattle.rhai_grammar.specs.Promises.{HasRead, ReadsWhole, Returns, UnlessMemo
 use Rattle.rhai_grammar.specs.declared.key.FnKey.{FnKey}
 use Rattle.rhai_base.specs.Libraries.{Begins, Grows, library_of}
 use Rattle.rhai_parser.specs.Scripts.{Accepts, Constants, IsMadeOf, IsScript, IsScriptOf, ReadsAst, ReadsExpression, ReadsScript, function_views, functions_in}
-use Rattle.rhai_parser.specs.Optimizer.{Optimized}
-use Rattle.rhai_parser.specs.declared.optimizer.OptimizationLevel.{OptimizationLevel}
+use Rattle.rhai_lower.specs.Optimizer.{Optimized}
+use Rattle.rhai_lower.specs.declared.optimizer.OptimizationLevel.{OptimizationLevel}
 use Rattle.rhai_grammar.specs.declared.error.ParseError.{ParseError}
-use Rattle.rhai_leaves.proofs.ErrorLemmas.{memory_cause}
+use Rattle.rhai_base.proofs.ErrorLemmas.{memory_cause}
 use Rattle.rhai_reading.specs.Reading.{Goal, Script, Val, Whole}
 use Rattle.rhai_reading.specs.Running.{Done, Fails, Progress, result_of}
 use Rattle.rhai_reading.proofs.Main as M

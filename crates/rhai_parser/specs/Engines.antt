@@ -4,7 +4,7 @@ use Rattle.std.specs.Int.RustNames.{bit_or}
 use Rattle.bitflags.specs.Sets.{without}
 use Rattle.rhai_lower.specs.Positions.{place}
 use Rattle.rhai_base.specs.declared.settings.ParseSettings.{ParseSettings}
-use Rattle.rhai_language.specs.Languages.{LanguageValue}
+use Rattle.rhai_parser.specs.Languages.{LanguageValue}
 
 -- a new engine: all options but STRICT_VAR
 abbrev pub fresh_engine : LanguageValue

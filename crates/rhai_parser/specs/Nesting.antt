@@ -8,7 +8,7 @@ use Rattle.rhai_grammar.specs.Libraries.{Library}
 use Rattle.rhai_grammar.specs.Promises.{IsWritten, scripts}
 use Rattle.rhai_base.specs.Counts.{Counts}
 use Rattle.rhai_base.specs.declared.settings.ParseSettings.{ParseSettings}
-use Rattle.rhai_language.specs.Languages.{LanguageValue}
+use Rattle.rhai_parser.specs.Languages.{LanguageValue}
 
 -- Where both depth limits are positive, never were more parsing functions active, beside those that were, than eight
 -- for each level of a script and of a function, and for these more.

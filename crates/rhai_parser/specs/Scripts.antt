@@ -4,13 +4,13 @@ use Rattle.std.specs.Borrow.{Bor}
 use Rattle.std.specs.declared.alloc.Global.{Global}
 use Rattle.std.specs.declared.rc.Rc.{Rc}
 use Rattle.rhai_lower.specs.Texts.{Text}
-use Rattle.rhai_input.specs.Slots.{SlotValue}
+use Rattle.rhai_lower.specs.Slots.{SlotValue}
 use Rattle.rhai_lower.specs.Nodes as node
 use Rattle.rhai_lower.specs.Nodes.{Function, Node, expression, no_statements, one_statement}
-use Rattle.rhai_ast.specs.View.{function_view, statement_views}
-use Rattle.rhai_ast.specs.declared.ast.AST.{AST}
-use Rattle.rhai_ast.specs.declared.ast.ScriptFuncDef.{ScriptFuncDef}
-use Rattle.rhai_ast.specs.declared.ast.Stmt.{Stmt}
+use Rattle.rhai_lower.specs.View.{function_view, statement_views}
+use Rattle.rhai_lower.specs.declared.ast.AST.{AST}
+use Rattle.rhai_lower.specs.declared.ast.ScriptFuncDef.{ScriptFuncDef}
+use Rattle.rhai_lower.specs.declared.ast.Stmt.{Stmt}
 use Rattle.rhai_grammar.specs.Cursors.{Cursor}
 use Rattle.rhai_grammar.specs.Contexts.{Context, Live}
 use Rattle.rhai_grammar.specs.Definitions.{after_statements}
@@ -19,8 +19,8 @@ use Rattle.rhai_grammar.specs.Libraries.{Library}
 use Rattle.rhai_grammar.specs.Promises.{ReadsWhole, Returns, expressions, scripts}
 use Rattle.rhai_grammar.specs.Trees.{statement_trees, tree}
 use Rattle.rhai_grammar.specs.declared.error.ParseError.{ParseError}
-use Rattle.rhai_parser.specs.Optimizer.{Optimized}
-use Rattle.rhai_parser.specs.declared.optimizer.OptimizationLevel.{OptimizationLevel}
+use Rattle.rhai_lower.specs.Optimizer.{Optimized}
+use Rattle.rhai_lower.specs.declared.optimizer.OptimizationLevel.{OptimizationLevel}
 
 -- lists of the code's functions
 abbrev pub function_views : List (Rc ScriptFuncDef Global) → List Function

@@ -3,7 +3,7 @@ use Rattle.std.specs.Prelude.{◌≡◌, List, Vec, map}
 use Rattle.std.specs.Rc.{rc_str_bytes}
 use Rattle.std.specs.declared.alloc.Global.{Global}
 use Rattle.std.specs.declared.rc.RcStr.{RcStr}
-use Rattle.rhai_input.specs.Slots.{SlotValue}
+use Rattle.rhai_lower.specs.Slots.{SlotValue}
 use Rattle.rhai_lower.specs.declared.position.Position.{Position}
 use Rattle.rhai_grammar.specs.Contexts.{Context, Known, Live}
 use Rattle.rhai_grammar.specs.Libraries.{Library}
@@ -12,8 +12,8 @@ use Rattle.rhai_base.specs.Counts.{Counts, counts_of}
 use Rattle.rhai_base.specs.Frames.{FrameValue, known_variables}
 use Rattle.rhai_base.specs.declared.settings.ParseSettings.{ParseSettings}
 use Rattle.rhai_base.specs.declared.state.ParseState.{ParseState}
-use Rattle.rhai_language.specs.Frames.{context_of}
-use Rattle.rhai_language.specs.Languages.{LanguageValue}
+use Rattle.rhai_parser.specs.Frames.{context_of}
+use Rattle.rhai_parser.specs.Languages.{LanguageValue}
 
 abbrev pub StateValue : Type 0
 StateValue = ParseState (List SlotValue) (Vec (RcStr Global × Position) Global) (Vec (RcStr Global) Global)

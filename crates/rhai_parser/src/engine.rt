@@ -3,7 +3,7 @@
 ghost use Rattle.std.specs.Prelude.{◌≡◌, ◌==◌, ◌++◌, ◌∷◌, [], IfErr, List, OnErr, OnOk, map};
 ghost use Rattle.std.specs.Int.RustNames.{bit_and};
 ghost use Rattle.std.specs.Fn.{FnOnceReturnsAtMut, FnOnceTakesAtMut};
-ghost use Rattle.rhai_ast.specs.View.{view};
+ghost use Rattle.rhai_lower.specs.View.{view};
 ghost use Rattle.rhai_grammar.specs.Causes.{MemoryIsNowhere};
 ghost use Rattle.rhai_grammar.specs.Cursors.{cursor_of};
 ghost use Rattle.rhai_grammar.specs.Delivered.{code};
@@ -15,28 +15,27 @@ ghost use Rattle.rhai_parser.specs.Scripts.{Accepts, ReadsExpression};
 ghost use Rattle.rhai_base.specs.Libraries.{Begins, Grows, library_of};
 ghost use Rattle.rhai_base.specs.States.{IsFresh};
 ghost use Rattle.rhai_base.specs.Counts.{counts_of};
-ghost use Rattle.rhai_language.specs.Readers.{nesting_of};
-ghost use Rattle.rhai_language.specs.Rooms.{Holds};
-ghost use Rattle.rhai_language.specs.Frames.{context_of, live_of};
+ghost use Rattle.rhai_parser.specs.Readers.{nesting_of};
+ghost use Rattle.rhai_parser.specs.Rooms.{Holds};
+ghost use Rattle.rhai_parser.specs.Frames.{context_of, live_of};
 ghost use Rattle.rhai_parser.specs.Starts.{KeepsOrder, live_in, starts_in};
 ghost use Rattle.rhai_base.specs.Frames.{known_of, known_variables};
 ghost use Rattle.std.specs.Rc.{rc_str_bytes};
 ghost use Rattle.rhai_grammar.specs.Imports.{is_among};
 ghost use Rattle.rhai_parser.specs.Engines.{fresh_engine, with_bits, expr_settings};
 
+use crate::language::Language;
+use crate::lending::parse_whole_expr;
 use crate::library::take_library;
-use crate::optimizer::{OptimizationLevel, optimize_into_ast};
-use crate::readers::parse_whole_expr;
+use crate::shared::Shared;
 use bitflags::Flags;
-use rhai_ast::{AST, Expr, Stmt};
 use rhai_base::{
     FnLib, Frame, Known, LangOptions, Library, ParseCounts, ParseSettingFlags, ParseSettings,
     ParseState, functions, is_named,
 };
 use rhai_grammar::ParseResult;
-use rhai_input::{Scope, TokenStream};
-use rhai_language::{Language, Shared};
-use rhai_lower::Position;
+use rhai_lower::optimizer::{OptimizationLevel, optimize_into_ast};
+use rhai_lower::{AST, Expr, Position, Scope, Stmt, TokenStream};
 use std::alloc::{AllocError, Global};
 use std::marker::Model;
 use std::rc::RcStr;
@@ -48,7 +47,7 @@ pub struct Engine {
 }
 
 impl Model for Engine {
-    ghost use Rattle.rhai_language.specs.Languages.{LanguageValue};
+    ghost use Rattle.rhai_parser.specs.Languages.{LanguageValue};
 
     ghost Value = { LanguageValue };
 
@@ -259,7 +258,7 @@ impl Engine {
     }
 
     // The script of one expression and of all functions of a library, as the optimizer makes it.
-    #[tactic(auto, using(rhai_ast::proofs::Views::view_expression, crate::proofs::PromiseLemmas::functions_are))]
+    #[tactic(auto, using(rhai_lower::proofs::Views::view_expression, crate::proofs::PromiseLemmas::functions_are))]
     fn make_script(
         &self,
         expr: Expr,

@@ -1,24 +1,45 @@
 //! The parser: from a stream of tokens to the tree of a script.
 #![tactic(auto)]
 
+/// Calls a reader that counts: it is entered before, and left after. No `?` may stand inside.
+macro_rules! nested {
+    ($shared:ident, $read:expr) => {{
+        $shared.enter();
+        let read = $read;
+        $shared.leave();
+        read
+    }};
+}
+
+mod blocks;
+mod chain;
+mod construct;
 pub mod engine;
+mod expr;
+mod function;
+mod language;
 pub mod laws;
+mod lending;
+mod lent;
 mod library;
-pub mod optimizer;
-mod readers;
+mod parameters;
+mod primary;
+mod reader;
 mod script;
+mod shared;
+mod stmt;
+mod switch;
 
 pub use engine::Engine;
-pub use optimizer::OptimizationLevel;
-pub use rhai_ast::{
-    AST, BinaryExpr, Expr, FlowControl, FnCallExpr, ForLoop, Ident, LoopControl, Namespace,
-    ScriptFuncDef, Stmt, StmtBlock, StmtBlockContainer, SwitchCase, SwitchCasesCollection,
-    VariableExpr,
-};
 pub use rhai_base::{
     FnLib, LangOptions, ParseCounts, ParseSettingFlags, ParseSettings, ParseState,
     TokenizerControl, make_anonymous_fn, nest_peak,
 };
 pub use rhai_grammar::{ExprFilter, FnKey, InputError, ParseError, ParseErrorType, ParseResult};
-pub use rhai_input::{Entry, Scope, TokenStream};
-pub use rhai_lower::{LexError, LinkFlags, Position, RangeCase, Token};
+pub use rhai_lower::optimizer::OptimizationLevel;
+pub use rhai_lower::{
+    AST, BinaryExpr, Entry, Expr, FlowControl, FnCallExpr, ForLoop, Ident, LexError, LinkFlags,
+    LoopControl, Namespace, Position, RangeCase, Scope, ScriptFuncDef, Stmt, StmtBlock,
+    StmtBlockContainer, SwitchCase, SwitchCasesCollection, Token, TokenStream, VariableExpr,
+    optimizer,
+};

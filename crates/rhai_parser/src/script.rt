@@ -3,7 +3,7 @@
 ghost use Rattle.std.specs.Prelude.{◌≡◌, [], IfErr, IfOk, List, map, true};
 ghost use Rattle.std.specs.Rc.{rc_str_bytes};
 ghost use Rattle.std.specs.Fn.{FnOnceReturnsAtMut, FnOnceTakesAtMut};
-ghost use Rattle.rhai_ast.specs.View.{statement_views};
+ghost use Rattle.rhai_lower.specs.View.{statement_views};
 ghost use Rattle.rhai_grammar.specs.Causes.{MemoryIsNowhere, is_for_memory};
 ghost use Rattle.rhai_grammar.specs.Contexts.{Live};
 ghost use Rattle.rhai_grammar.specs.Cursors.{cursor_of};
@@ -16,26 +16,24 @@ ghost use Rattle.rhai_reading.specs.Running.{Gives, result_of};
 ghost use Rattle.rhai_base.specs.Libraries.{Begins, Grows, library_of};
 ghost use Rattle.rhai_base.specs.Counts.{counts_of, none_yet, with_entered};
 ghost use Rattle.rhai_base.specs.States.{IsFresh};
-ghost use Rattle.rhai_parser.specs.Optimizer.{Optimized};
+ghost use Rattle.rhai_lower.specs.Optimizer.{Optimized};
 ghost use Rattle.rhai_parser.specs.Nesting.{ActiveAgain, NestsAsWritten, ReturnsTo, StaysWithin};
 ghost use Rattle.rhai_parser.specs.Engines.{script_settings};
-ghost use Rattle.rhai_language.specs.Frames.{context_of};
-ghost use Rattle.rhai_language.specs.Readers.{nesting_of};
-ghost use Rattle.rhai_language.specs.Rooms.{Holds};
+ghost use Rattle.rhai_parser.specs.Frames.{context_of};
+ghost use Rattle.rhai_parser.specs.Readers.{nesting_of};
+ghost use Rattle.rhai_parser.specs.Rooms.{Holds};
 ghost use Rattle.rhai_parser.specs.Starts.{KeepsOrder, KeepsState, live_in, starts_in};
 
 use crate::engine::Engine;
+use crate::lending::parse_statements;
 use crate::library::take_library;
-use crate::optimizer::{OptimizationLevel, optimize_into_ast};
-use crate::readers::parse_statements;
-use rhai_ast::{AST, ScriptFuncDef, Stmt, StmtBlockContainer};
+use crate::shared::Shared;
 use rhai_base::{
     FnLib, Frame, Library, ParseCounts, ParseSettingFlags, ParseSettings, ParseState, functions,
 };
 use rhai_grammar::{Closing, ParseResult};
-use rhai_input::{Scope, TokenStream};
-use rhai_language::Shared;
-use rhai_lower::Position;
+use rhai_lower::optimizer::{OptimizationLevel, optimize_into_ast};
+use rhai_lower::{AST, Position, Scope, ScriptFuncDef, Stmt, StmtBlockContainer, TokenStream};
 use std::mem;
 use std::rc::{Rc, RcStr};
 

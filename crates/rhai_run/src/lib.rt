@@ -1,8 +1,22 @@
-//! What the programs share: the words of the command line, the tree of the list of tokens that is read, and how an
-//! answer or a failure is printed.
+//! What the programs share: the lists of tokens that they read, what they print, the words of the command line, and
+//! how an answer or a failure is told. docs/FORMAT.md describes the formats.
 #![tactic(auto)]
 
+pub mod escape;
+pub mod lines;
+pub mod list;
+mod literal;
+pub mod number;
+pub mod print;
+pub mod refused;
 pub mod run;
+mod symbol;
 mod words;
 
+pub use escape::Escaped;
+pub use lines::read_lines;
+pub use list::{ListError, TokenList, read_list};
+pub use number::decimal;
+pub use print::accepted;
+pub use refused::Refused;
 pub use run::{Failure, command_line, print_answer, read_tree};

@@ -1,16 +1,17 @@
 //! Runs a program over any reader and writer: what its words and its input stand for, and how it answers.
 
 ghost use Rattle.std.specs.Prelude.{All, IfOk, IsTrue};
-ghost use Rattle.rhai_input.specs.Entries.{may_be_delivered};
+ghost use Rattle.rhai_lower.specs.Entries.{may_be_delivered};
 
+use crate::lines::read_lines;
+use crate::list::{ListError, TokenList, read_list};
+use crate::refused::Refused;
 use crate::words::{Entry, Limits, read_words};
 use bitflags::Flags;
 use rhai_parser::{
     AST, Engine, FnLib, LangOptions, OptimizationLevel, ParseError, ParseResult, ParseState,
     TokenStream, TokenizerControl,
 };
-use rhai_print::Refused;
-use rhai_text::{ListError, TokenList, read_lines, read_list};
 use std::alloc::{AllocError, Global};
 use std::env;
 use std::io::{self, ErrorKind, Read, Write};

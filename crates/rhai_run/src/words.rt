@@ -2,7 +2,7 @@
 
 ghost use Rattle.std.specs.Prelude.{◌≡◌, ◌↔◌, IsSome, IsNone};
 
-use rhai_text::decimal;
+use crate::number::decimal;
 
 /// What the list of tokens is parsed as.
 #[derive(Clone, Copy, PartialEq, Debug)]

@@ -2,7 +2,8 @@
 //! cases.
 
 use crate::script::stream_of_line;
-use rhai_names::{FnNames, names_of_script};
+use rhai_names::names::FnNames;
+use rhai_names::script::names_of_script;
 use rhai_parser::{
     Engine, FnLib, ParseError, ParseErrorType, ParseResult, ParseState, TokenizerControl,
 };

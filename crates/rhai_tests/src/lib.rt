@@ -4,6 +4,8 @@
 #[cfg(test)]
 mod allocation;
 #[cfg(test)]
+mod base_allocation;
+#[cfg(test)]
 mod caller_settings;
 #[cfg(test)]
 mod fn_names;
@@ -25,3 +27,5 @@ mod readme;
 mod script;
 #[cfg(test)]
 mod states;
+#[cfg(test)]
+mod text_mode;

@@ -4,7 +4,7 @@ use crate::script::stream_of_line;
 use rhai_parser::{
     AST, Engine, FnLib, OptimizationLevel, ParseResult, ParseState, TokenizerControl,
 };
-use rhai_print::{Refused, accepted};
+use rhai_run::{Refused, accepted};
 use std::alloc::{AllocError, Global};
 use std::process::Abort;
 use std::test::Fail;

@@ -1,7 +1,7 @@
 //! The code of README.md, "Use it as a library", word for word (tests/cases.sh compares them).
 
 ghost use Rattle.std.specs.Prelude.{All, IsTrue};
-ghost use Rattle.rhai_input.specs.Entries.{may_be_delivered};
+ghost use Rattle.rhai_lower.specs.Entries.{may_be_delivered};
 
 use crate::script::{add_line, check};
 use rhai_parser::{

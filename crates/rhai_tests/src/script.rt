@@ -5,7 +5,7 @@ use rhai_parser::{
     AST, Engine, Entry, FnLib, LangOptions, OptimizationLevel, ParseResult, ParseSettingFlags,
     ParseSettings, ParseState, Position, Token, TokenStream, TokenizerControl, nest_peak,
 };
-use rhai_print::Refused;
+use rhai_run::Refused;
 use std::alloc::{AllocError, Global};
 use std::process::Abort;
 use std::rc::RcStr;

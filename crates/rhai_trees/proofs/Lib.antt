@@ -2,3 +2,7 @@ pub mod SignLemmas
 pub mod OperatorLemmas
 pub mod ChainLemmas
 pub mod LinkedLemmas
+pub mod CaseIndexLemmas
+pub mod StatementLemmas
+pub mod StringLemmas
+pub mod SwitchLemmas

@@ -4,8 +4,8 @@ use Rattle.std.specs.Prelude.{codes, if◌then◌else◌, is_none, unwrap_or}
 use Rattle.rhai_lower.specs.Texts.{Text}
 use Rattle.rhai_lower.specs.Lexemes.{Lexeme}
 use Rattle.rhai_lower.specs.Nodes.{Node, one_node, start_of}
-use Rattle.rhai_ast.specs.View.{view, views}
-use Rattle.rhai_ast.specs.declared.ast.Expr.{Expr}
+use Rattle.rhai_lower.specs.View.{view, views}
+use Rattle.rhai_lower.specs.declared.ast.Expr.{Expr}
 use Rattle.rhai_lower.specs.declared.position.Position.{Position}
 use Rattle.rhai_grammar.specs.Causes.{MismatchedType, Refusal, is_for_memory, no_memory, refusal, refusal_of}
 use Rattle.rhai_grammar.specs.declared.error.ParseError.{ParseError}
@@ -16,7 +16,7 @@ use Rattle.rhai_grammar.specs.declared.role.ListKind.TheVariants as lists_of
 use Rattle.rhai_grammar.specs.declared.role.Joining.TheVariants as joins
 use Rattle.rhai_grammar.specs.Operators.{boolean_holds, joined, joining, mismatched, operator_result, operator_tree, takes_booleans}
 use Rattle.rhai_trees.specs.Views.{operand_fault}
-use Rattle.rhai_ast.proofs.Views.{view_and, view_or, view_coalesce}
+use Rattle.rhai_lower.proofs.Views.{view_and, view_or, view_coalesce}
 
 -- one list after the other
 pub views_append : (es fs : List Expr) → views (es ++ fs) ≡ joined (views es) (views fs)

@@ -12,7 +12,7 @@ use Rattle.rhai_grammar.specs.declared.role.Effect.{Effect}
 use Rattle.rhai_grammar.specs.declared.role.Effect.TheVariants.{Negates, Keeps, Calls}
 use Rattle.rhai_grammar.specs.Signs.{affected, effect, effect_holds, malformed, plain_sign, sign_call, sign_result, least}
 use Rattle.rhai_trees.specs.Views.{integer_value, negated}
-use Rattle.rhai_ast.proofs.Views.{view_integer}
+use Rattle.rhai_lower.proofs.Views.{view_integer}
 
 abbrev by_effect : Effect → Lexeme → Position → Node → Result Node Refusal
 by_effect e op at n = if effect_holds e n then Ok (affected e op at n) else Err (malformed at n)

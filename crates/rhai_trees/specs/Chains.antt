@@ -4,7 +4,7 @@ use Rattle.std.specs.Prelude.{codes, map, refl}
 use Rattle.rhai_lower.specs.Texts.{same_text}
 use Rattle.rhai_lower.specs.Positions.{place}
 use Rattle.rhai_lower.specs.Nodes.{Called, Node, Nodes, method_call, no_nodes, property}
-use Rattle.rhai_ast.specs.View.{view}
+use Rattle.rhai_lower.specs.View.{view}
 use Rattle.rhai_lower.specs.declared.position.Position.{Position}
 use Rattle.rhai_grammar.specs.Causes.{Refusal}
 use Rattle.rhai_grammar.specs.Chains as chain

@@ -6,7 +6,7 @@ use Rattle.std.specs.Ordering.{int_eq}
 use Rattle.rhai_lower.specs.Positions.{nowhere}
 use Rattle.rhai_lower.specs.Lexemes.{Lexeme, text_of}
 use Rattle.rhai_lower.specs.Nodes.{Called, Node, integer}
-use Rattle.rhai_ast.specs.View.{view, views}
+use Rattle.rhai_lower.specs.View.{view, views}
 use Rattle.rhai_lower.specs.declared.position.Position.{Position}
 use Rattle.rhai_grammar.specs.Causes.{Refusal}
 use Rattle.rhai_grammar.specs.Kinds as kind

@@ -3,17 +3,16 @@
 ghost use Rattle.std.specs.Prelude.{◌≡◌, IfOk, length, option_map};
 ghost use Rattle.rhai_lower.specs.Lexemes.{lexeme};
 ghost use Rattle.rhai_lower.specs.Nodes.{call};
-ghost use Rattle.rhai_ast.specs.View.{view, views};
+ghost use Rattle.rhai_lower.specs.View.{view, views};
 ghost use Rattle.rhai_grammar.specs.Operators.{contains_call};
 ghost use Rattle.rhai_trees.specs.Views.{native_called};
 
-use rhai_ast::{Expr, FnCallExpr, Namespace};
-use rhai_lower::{Position, Token};
+use rhai_lower::{Expr, FnCallExpr, Namespace, Position, Token};
 use std::alloc::{AllocError, Global};
 use std::rc::RcStr;
 
 /// The native-only call of an operator or sign, at position `pos`. Returns `AllocError` if memory runs out.
-#[tactic(auto, using(rhai_ast::proofs::Views::view_call))]
+#[tactic(auto, using(rhai_lower::proofs::Views::view_call))]
 pub(crate) fn native_call(
     alloc: Global,
     op_token: Token,
@@ -40,7 +39,7 @@ pub(crate) fn native_call(
 
 /// The call of `contains` for `lhs in rhs`; `op_token` is the token that it records. Returns `AllocError` if memory
 /// runs out.
-#[tactic(auto, using(rhai_ast::proofs::Views::view_call))]
+#[tactic(auto, using(rhai_lower::proofs::Views::view_call))]
 pub(crate) fn contains_call(
     alloc: Global,
     op_token: Option<Token>,

@@ -3,8 +3,8 @@
 ghost use Rattle.std.specs.Prelude.{◌≡◌, None, Some, true, false, IfErr, IfNone, IfOk, IfSome, IsOk, OnOk};
 ghost use Rattle.std.specs.Prelude.{option_map};
 ghost use Rattle.rhai_lower.specs.Nodes.{position_of};
-ghost use Rattle.rhai_ast.specs.View.{called, view, views};
-ghost use Rattle.rhai_ast.specs.declared.ast.FnCallExpr.{out-FnCallExpr};
+ghost use Rattle.rhai_lower.specs.View.{called, view, views};
+ghost use Rattle.rhai_lower.specs.declared.ast.FnCallExpr.{out-FnCallExpr};
 ghost use Rattle.rhai_grammar.specs.Causes.{MemoryIsNowhere, is_for_memory, refusal_of};
 ghost use Rattle.rhai_grammar.specs.Chains.{chained, index_refusal, last_fault, link_fault, link_node};
 ghost use Rattle.rhai_trees.specs.Chains.{chain_view, indexed_by, is_no_method, link_view, link_views, method_fault};
@@ -13,9 +13,8 @@ ghost use Rattle.rhai_trees.specs.Linked.{is_linked};
 
 use crate::kind::index_fault;
 use crate::link::{Chain, Link, LinkKind};
-use rhai_ast::{BinaryExpr, Expr, FnCallExpr};
 use rhai_grammar::{InputError, ParseError, ParseErrorType, ParseResult};
-use rhai_lower::{LinkFlags, Position};
+use rhai_lower::{BinaryExpr, Expr, FnCallExpr, LinkFlags, Position};
 use std::alloc::{AllocError, Global};
 use std::rc::RcStr;
 
@@ -177,7 +176,7 @@ fn with_next(
 }
 
 // The node of a link, with what is before it on its left and its item on its right.
-#[tactic(auto, using(rhai_ast::proofs::Views::view_dot, rhai_ast::proofs::Views::view_index))]
+#[tactic(auto, using(rhai_lower::proofs::Views::view_dot, rhai_lower::proofs::Views::view_index))]
 fn link_node(alloc: Global, link: NestedLink, last: bool, before: Expr) -> Result<Expr, AllocError>
     ensures { IfOk result (λ e. view e ≡ link_node (nested_view link) last (view before) (view link.item)) }
 {
@@ -262,7 +261,7 @@ pub fn test_links(alloc: Global, links: &[Link]) -> ParseResult<()>
 }
 
 // Refuses a link whose member is not allowed as a method.
-#[tactic(auto, using(rhai_ast::proofs::Views::view_method_call))]
+#[tactic(auto, using(rhai_lower::proofs::Views::view_method_call))]
 fn test_link(alloc: Global, link: &Link) -> ParseResult<()>
     ensures passes { IsOk result → link_fault (link_view link.now) ≡ None }
     ensures refuses { IfErr result (λ e. is_for_memory e ≡ false → link_fault (link_view link.now)

@@ -2,14 +2,14 @@
 
 ghost use Rattle.std.specs.Prelude.{◌≡◌, IfErr, IfOk, None, OnOk, Some, false, option_map};
 ghost use Rattle.rhai_lower.specs.Nodes.{start_of};
-ghost use Rattle.rhai_ast.specs.View.{view};
+ghost use Rattle.rhai_lower.specs.View.{view};
 ghost use Rattle.rhai_grammar.specs.Causes.{MemoryIsNowhere, MismatchedType, Says, cause_of, is_for_memory, refusal};
 ghost use Rattle.rhai_grammar.specs.Causes.{refusal_of};
 ghost use Rattle.rhai_grammar.specs.Constructs.{guard_fault, iterated_fault};
 
 use crate::kind::{not_boolean, not_iterable};
-use rhai_ast::Expr;
 use rhai_grammar::{ParseError, ParseErrorType, ParseResult};
+use rhai_lower::Expr;
 use std::alloc::{AllocError, Global};
 use std::rc::RcStr;
 

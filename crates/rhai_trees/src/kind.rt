@@ -1,12 +1,12 @@
 //! Tests on trees: what the value of a node can never be, and what is a constant.
 
 ghost use Rattle.std.specs.Prelude.{◌≡◌, option_map};
-ghost use Rattle.rhai_ast.specs.View.{property_views, view, views};
+ghost use Rattle.rhai_lower.specs.View.{property_views, view, views};
 ghost use Rattle.rhai_grammar.specs.Kinds.{are_constant, have_constants, Counted, Keyed, index_fault, index_kind};
 ghost use Rattle.rhai_grammar.specs.Kinds.{indexed, kind_fault, is_constant, not_boolean, not_iterable};
 ghost use Rattle.rhai_trees.specs.Views.{index_kind_view, indexed_view};
 
-use rhai_ast::{Expr, Ident};
+use rhai_lower::{Expr, Ident};
 
 /// What an operand takes as an index.
 #[derive(Clone, Copy)]
@@ -141,7 +141,7 @@ fn index_kind(index: &Expr) -> IndexKind
 /// Whether an expression is a constant: a literal without parts, or an array or object map of constants. Does not
 /// allocate.
 #[cycle(constants)]
-#[tactic(auto, using(rhai_ast::proofs::Views::view_map))]
+#[tactic(auto, using(rhai_lower::proofs::Views::view_map))]
 pub fn is_constant(expr: &Expr) -> bool
     ensures { result ≡ is_constant (view expr.now) }
 {

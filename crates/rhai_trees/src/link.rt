@@ -1,12 +1,11 @@
 //! Links, and chains as they are read: an operand and a list of links. Their tree is made when the chain has ended.
 
 ghost use Rattle.std.specs.Prelude.{◌≡◌, false, length};
-ghost use Rattle.rhai_ast.specs.View.{view};
+ghost use Rattle.rhai_lower.specs.View.{view};
 ghost use Rattle.rhai_trees.specs.Linked.{is_linked};
 ghost use Rattle.rhai_trees.specs.declared.link.LinkKind.TheVariants.{Dot};
 
-use rhai_ast::Expr;
-use rhai_lower::Position;
+use rhai_lower::{Expr, Position};
 
 /// The kind of a link.
 #[derive(Clone, Copy, PartialEq, Eq, Debug)]

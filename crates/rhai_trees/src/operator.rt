@@ -2,7 +2,7 @@
 
 ghost use Rattle.std.specs.Prelude.{◌≡◌, None, Some, true, false, IfErr, IfOk, IsOk};
 ghost use Rattle.rhai_lower.specs.Lexemes.{lexeme};
-ghost use Rattle.rhai_ast.specs.View.{view, views};
+ghost use Rattle.rhai_lower.specs.View.{view, views};
 ghost use Rattle.rhai_grammar.specs.Answers.{Answers};
 ghost use Rattle.rhai_grammar.specs.Causes.{MemoryIsNowhere, is_for_memory, no_memory, refusal_of};
 ghost use Rattle.rhai_grammar.specs.Operators.{boolean_holds, items, joining};
@@ -13,9 +13,8 @@ ghost use Rattle.rhai_trees.specs.Views.{operand_fault, part_view};
 
 use crate::call::{contains_call, native_call};
 use crate::guard::test_guard;
-use rhai_ast::Expr;
 use rhai_grammar::{Joining, ListKind, ParseResult};
-use rhai_lower::{Position, Token};
+use rhai_lower::{Expr, Position, Token};
 use std::alloc::{AllocError, Global};
 
 /// An operand of an operator that makes lists.
@@ -168,7 +167,7 @@ fn as_part(kind: ListKind, operand: Expr) -> Part
     }
 }
 
-#[tactic(auto, using(rhai_ast::proofs::Views::view_and))]
+#[tactic(auto, using(rhai_lower::proofs::Views::view_and))]
 fn and_part(operand: Expr) -> Part
     ensures { part_view result ≡ part And (view operand) }
 {
@@ -178,7 +177,7 @@ fn and_part(operand: Expr) -> Part
     }
 }
 
-#[tactic(auto, using(rhai_ast::proofs::Views::view_or))]
+#[tactic(auto, using(rhai_lower::proofs::Views::view_or))]
 fn or_part(operand: Expr) -> Part
     ensures { part_view result ≡ part Or (view operand) }
 {
@@ -188,7 +187,7 @@ fn or_part(operand: Expr) -> Part
     }
 }
 
-#[tactic(auto, using(rhai_ast::proofs::Views::view_coalesce))]
+#[tactic(auto, using(rhai_lower::proofs::Views::view_coalesce))]
 fn coalesce_part(operand: Expr) -> Part
     ensures { part_view result ≡ part Coalesce (view operand) }
 {

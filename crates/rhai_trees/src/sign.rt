@@ -2,16 +2,15 @@
 
 ghost use Rattle.std.specs.Prelude.{◌≡◌, IfErr, IfOk};
 ghost use Rattle.rhai_lower.specs.Lexemes.{lexeme};
-ghost use Rattle.rhai_ast.specs.View.{view};
+ghost use Rattle.rhai_lower.specs.View.{view};
 ghost use Rattle.rhai_grammar.specs.Answers.{Answers};
 ghost use Rattle.rhai_grammar.specs.Causes.{MemoryIsNowhere};
 ghost use Rattle.rhai_grammar.specs.Signs.{effect, plain_sign, sign_call, sign_result};
 ghost use Rattle.rhai_trees.specs.Views.{integer_value, negated};
 
 use crate::call::native_call;
-use rhai_ast::Expr;
 use rhai_grammar::{Effect, InputError, ParseError, ParseErrorType, ParseResult};
-use rhai_lower::{Position, Token};
+use rhai_lower::{Expr, Position, Token};
 use std::alloc::{AllocError, Global};
 use std::rc::RcStr;
 

@@ -5,7 +5,7 @@ ghost use Rattle.std.specs.Prelude.{◌≡◌, ◌+◌, IfErr, IfNone, IfOk, IfS
 ghost use Rattle.std.specs.Int.NonZero.{non_zero_usize_get};
 ghost use Rattle.std.specs.Option.{option_or};
 ghost use Rattle.rhai_lower.specs.Lexemes.{lexeme};
-ghost use Rattle.rhai_ast.specs.View.{named, view};
+ghost use Rattle.rhai_lower.specs.View.{named, view};
 ghost use Rattle.rhai_grammar.specs.Causes.{ImproperSymbol, MemoryIsNowhere, Says, input_cause, is_for_memory};
 ghost use Rattle.rhai_grammar.specs.Causes.{refusal_of};
 ghost use Rattle.rhai_grammar.specs.Chains.{chain_of};
@@ -15,15 +15,14 @@ ghost use Rattle.rhai_trees.specs.Chains.{link_kind_view};
 
 use crate::kind::is_constant;
 use crate::link::LinkKind;
-use rhai_ast::{Expr, VariableExpr};
 use rhai_grammar::{InputError, ParseError, ParseErrorType, ParseResult};
-use rhai_lower::{Position, Token};
+use rhai_lower::{Expr, Position, Token, VariableExpr};
 use std::alloc::{AllocError, Global};
 use std::num::NonZeroUsize;
 use std::rc::RcStr;
 
 /// The number of a variable's slot, counted from 1 at the latest; none if `target` is no variable with a slot.
-#[tactic(auto, using(rhai_ast::proofs::Views::view_variable))]
+#[tactic(auto, using(rhai_lower::proofs::Views::view_variable))]
 pub fn slot_of(target: &Expr) -> Option<NonZeroUsize>
     ensures { option_map non_zero_usize_get result ≡ slot_of (view target.now) }
 {

@@ -2,7 +2,7 @@
 use Rattle.rhai_grammar.specs.Ends.{needs_no_semicolon}
 use Rattle.rhai_grammar.proofs.EndLemmas.{tree_ends}
 use Rattle.rhai_grammar.specs.Comments.{Comment}
-use Rattle.rhai_reading.proofs.FunctionKinds.{CommentsRead, FunctionForm, any_function, function_form, function_statements}
+use Rattle.rhai_reading.proofs.FunctionKinds.{FunctionForm, any_function, function_form, function_statements}
 use Rattle.std.proofs.Common.{◌≡◌, Bool, true, false, Option, Some, None, List, [], ◌∷◌, refl, sym, ap, subst, ◌∙◌}
 use Rattle.std.specs.Prelude.{not}
 use Rattle.rhai_lower.specs.Lexemes.{Lexeme, Sign, text_of}

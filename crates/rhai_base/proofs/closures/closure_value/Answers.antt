@@ -2,9 +2,9 @@ use Rattle.std.proofs.Common.{◌≡◌, ◌∙◌, length, rules, sym}
 use Rattle.std.specs.Rc.{rc_str_bytes}
 use Rattle.rhai_lower.specs.Nodes.{block_value, braces, call, expression, no_statements, one_node, one_statement, pointer, share}
 use Rattle.rhai_lower.specs.Positions.{nowhere}
-use Rattle.rhai_ast.proofs.Views.{view_block, view_block_value, view_call, view_expression, view_pointer, view_share}
-use Rattle.rhai_ast.specs.View.{called, view}
-use Rattle.rhai_ast.specs.declared.ast.Expr.TheVariants as expr
+use Rattle.rhai_lower.proofs.Views.{view_block, view_block_value, view_call, view_expression, view_pointer, view_share}
+use Rattle.rhai_lower.specs.View.{called, view}
+use Rattle.rhai_lower.specs.declared.ast.Expr.TheVariants as expr
 use Rattle.rhai_grammar.specs.Closures.{captured_nodes, curry, shared_names}
 use Rattle.rhai_base.specs.Uses.{uses_of}
 use Rattle.rhai_base.proofs.UseLemmas.{closure_values}

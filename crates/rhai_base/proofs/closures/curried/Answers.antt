@@ -1,6 +1,6 @@
 use Rattle.std.proofs.Common.{drop, map, rules}
 use Rattle.std.proofs.lemmas.List.{drop_all}
-use Rattle.rhai_ast.specs.View.{view}
+use Rattle.rhai_lower.specs.View.{view}
 use Rattle.rhai_base.proofs.UseLemmas.{captured_done}
 use Rattle.rhai_base.proofs.closures.curried.Goals as goal
 

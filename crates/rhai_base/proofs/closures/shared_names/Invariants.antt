@@ -1,6 +1,6 @@
 -- The names so far, and those from the index on, are all names.
 use Rattle.std.proofs.Common.{◌≡◌, ◌++◌, drop}
-use Rattle.rhai_ast.specs.View.{shared_of}
+use Rattle.rhai_lower.specs.View.{shared_of}
 use Rattle.rhai_grammar.specs.Closures.{shared_names}
 use Rattle.rhai_base.specs.Uses.{uses_of}
 use Rattle.rhai_base.proofs.closures.shared_names.Given as goal

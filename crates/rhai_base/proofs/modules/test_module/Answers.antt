@@ -1,7 +1,7 @@
 use Rattle.std.proofs.Common.{◌≡◌, ◌∙◌, IfErr, Some, false, ap, subst, sym}
 use Rattle.rhai_lower.specs.Nodes.{variable}
-use Rattle.rhai_ast.specs.View.{named, view}
-use Rattle.rhai_ast.proofs.Views.{view_variable}
+use Rattle.rhai_lower.specs.View.{named, view}
+use Rattle.rhai_lower.proofs.Views.{view_variable}
 use Rattle.rhai_grammar.specs.Causes.{is_for_memory, refusal_of}
 use Rattle.rhai_grammar.specs.Modules.{module_fault}
 use Rattle.rhai_base.proofs.modules.test_module.Goals as goal

@@ -1,6 +1,6 @@
 -- The functions have their names one after the other.
 use Rattle.std.proofs.Common.{[], subst, sym}
-use Rattle.rhai_ast.specs.View.{function_view}
+use Rattle.rhai_lower.specs.View.{function_view}
 use Rattle.rhai_names.specs.FnNames.{AreNamesOf, IsNamesOf}
 use Rattle.rhai_names.proofs.NameLemmas.{named_all, named_more}
 use Rattle.rhai_names.proofs.names.names_of.Goals as goal

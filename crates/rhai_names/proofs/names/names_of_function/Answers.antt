@@ -3,7 +3,7 @@ use Rattle.std.proofs.Common.{◌∙◌, ◌&&◌, ap, not, subst, sym}
 use Rattle.std.proofs.lemmas.List.{length-map}
 use Rattle.std.specs.List.Sorted.{IsStrictlySortedBy}
 use Rattle.std.specs.Rc.{rc_str_bytes}
-use Rattle.rhai_ast.specs.View.{block_view}
+use Rattle.rhai_lower.specs.View.{block_view}
 use Rattle.rhai_grammar.specs.Imports.{is_among}
 use Rattle.rhai_names.specs.Mentions.{block_mentions, is_read}
 use Rattle.rhai_names.specs.FnNames.{call_cmp, counted, is_listed, text_cmp, texts}

@@ -1,7 +1,7 @@
 -- The names of the functions that were read.
 use Rattle.std.proofs.Common.{Err, Ok, ◌≡◌, ◌∙◌, map, rules, subst, sym}
 use Rattle.std.specs.Rc.{rc_str_bytes}
-use Rattle.rhai_ast.specs.View.{function_view}
+use Rattle.rhai_lower.specs.View.{function_view}
 use Rattle.rhai_base.specs.Libraries.{library_of}
 use Rattle.rhai_grammar.specs.Cursors.{cursor_of}
 use Rattle.rhai_parser.specs.Engines.{script_settings}

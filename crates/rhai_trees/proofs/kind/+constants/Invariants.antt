@@ -1,6 +1,6 @@
 -- The result depends on the items from the index on.
 use Rattle.std.proofs.Common.{◌≡◌, drop}
-use Rattle.rhai_ast.specs.View.{property_views, views}
+use Rattle.rhai_lower.specs.View.{property_views, views}
 use Rattle.rhai_grammar.specs.Kinds.{are_constant, have_constants}
 use Rattle.rhai_trees.proofs.kind.+constants.Given as goal
 

@@ -1,6 +1,6 @@
 use Rattle.std.proofs.Common.{rules}
 use Rattle.rhai_lower.specs.Lexemes.{lexeme}
-use Rattle.rhai_ast.specs.View.{view}
+use Rattle.rhai_lower.specs.View.{view}
 use Rattle.rhai_grammar.specs.Causes.{refusal_of}
 use Rattle.rhai_trees.proofs.OperatorLemmas.{answers_tree, result_refused}
 use Rattle.rhai_trees.proofs.operator.make_binary.Goals as goal

@@ -1,6 +1,6 @@
 use Rattle.std.proofs.Common.{rules}
 use Rattle.rhai_lower.specs.Lexemes.{lexeme}
-use Rattle.rhai_ast.specs.View.{view}
+use Rattle.rhai_lower.specs.View.{view}
 use Rattle.rhai_trees.proofs.OperatorLemmas.{misfit}
 use Rattle.rhai_trees.proofs.operator.test_operand.Goals as goal
 

@@ -1,6 +1,6 @@
 -- The error of the links that are left is the error of all.
 use Rattle.std.proofs.Common.{◌≡◌, length}
-use Rattle.rhai_ast.specs.View.{view}
+use Rattle.rhai_lower.specs.View.{view}
 use Rattle.rhai_grammar.specs.Chains.{chain_of}
 use Rattle.rhai_grammar.specs.Targets.{links_fault}
 use Rattle.rhai_trees.proofs.target.test_members.Given as goal

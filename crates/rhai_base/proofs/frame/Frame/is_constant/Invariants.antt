@@ -1,6 +1,6 @@
 -- The slot with the index is the same one in the frame that is reached.
 use Rattle.std.proofs.Common.{◌≡◌}
-use Rattle.rhai_input.specs.Slots.{slot_at}
+use Rattle.rhai_lower.specs.Slots.{slot_at}
 use Rattle.rhai_base.proofs.frame.Frame.is_constant.Given as goal
 
 abbrev pub invariant-loop-frame : goal.invariant-loop-frame

@@ -1,6 +1,6 @@
 -- One part is pushed.
 use Rattle.std.proofs.Common.{refl}
-use Rattle.rhai_names.proofs.WalkLemmas.{pushed}
+use Rattle.rhai_names.proofs.WalkSteps.{pushed}
 use Rattle.rhai_names.proofs.walk.Walk.push.Goals as goal
 
 pub returns : goal.returns

@@ -1,5 +1,6 @@
 -- All was noted but for the rest of the list.
-use Rattle.rhai_names.proofs.WalkLemmas.{at_start, end_at, exprs, step_at}
+use Rattle.rhai_names.proofs.WalkLists.{exprs}
+use Rattle.rhai_names.proofs.WalkSteps.{at_start, end_at, step_at}
 use Rattle.rhai_names.proofs.walk.Walk.push_all.Goals as goal
 
 pub loop-expr-init : goal.loop-expr-init

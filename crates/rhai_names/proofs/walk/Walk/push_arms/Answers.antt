@@ -1,5 +1,6 @@
 -- All was noted but for the rest of the list.
-use Rattle.rhai_names.proofs.WalkLemmas.{arms, at_start, both, end_at, step_at}
+use Rattle.rhai_names.proofs.WalkLists.{arms}
+use Rattle.rhai_names.proofs.WalkSteps.{at_start, both, end_at, step_at}
 use Rattle.rhai_names.proofs.walk.Walk.push_arms.Goals as goal
 
 pub loop-arm-init : goal.loop-arm-init

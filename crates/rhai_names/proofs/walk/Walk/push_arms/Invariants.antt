@@ -1,5 +1,6 @@
 -- All was noted but for the rest of the list.
-use Rattle.rhai_names.proofs.WalkLemmas.{LeftFrom, arms}
+use Rattle.rhai_names.proofs.WalkLists.{arms}
+use Rattle.rhai_names.proofs.WalkSteps.{LeftFrom}
 use Rattle.rhai_names.proofs.walk.Walk.push_arms.Given as goal
 
 abbrev pub invariant-loop-arm : goal.invariant-loop-arm

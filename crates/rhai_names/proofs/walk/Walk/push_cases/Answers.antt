@@ -1,5 +1,6 @@
 -- All was noted but for the rest of the list.
-use Rattle.rhai_names.proofs.WalkLemmas.{at_start, end_at, cases, step_at}
+use Rattle.rhai_names.proofs.WalkLists.{cases}
+use Rattle.rhai_names.proofs.WalkSteps.{at_start, end_at, step_at}
 use Rattle.rhai_names.proofs.walk.Walk.push_cases.Goals as goal
 
 pub loop-case-init : goal.loop-case-init

@@ -1,5 +1,5 @@
 use Rattle.std.proofs.Common.{rules}
-use Rattle.rhai_ast.proofs.Views.{view_expression}
+use Rattle.rhai_lower.proofs.Views.{view_expression}
 use Rattle.rhai_parser.proofs.PromiseLemmas.{functions_are}
 use Rattle.rhai_parser.proofs.engine.Engine.make_script.Goals as goal
 

@@ -6,7 +6,7 @@ use Rattle.rhai_grammar.specs.Cursors.{cursor_of, mode_by}
 use Rattle.rhai_parser.specs.Scripts.{ReadsExpression}
 use Rattle.rhai_parser.specs.Starts.{live_in, starts_in}
 use Rattle.rhai_parser.proofs.NestLemmas.{orderly_so}
-use Rattle.rhai_language.specs.Frames.{context_of, live_of}
+use Rattle.rhai_parser.specs.Frames.{context_of, live_of}
 use Rattle.rhai_parser.proofs.FrameLemmas.{frame_is}
 use Rattle.rhai_parser.proofs.engine.Engine.parse_global_expr.Goals as goal
 

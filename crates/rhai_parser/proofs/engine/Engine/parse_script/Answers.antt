@@ -1,15 +1,15 @@
 use Rattle.std.proofs.Common.{inr, [], ◌∙◌, ap, refl, rules, sym}
 use Rattle.std.proofs.lemmas.Result.{err_from_is_err_and}
 use Rattle.std.proofs.Math.Nat.{le-max_left, le_refl}
-use Rattle.rhai_ast.specs.View.{statement_views}
+use Rattle.rhai_lower.specs.View.{statement_views}
 use Rattle.rhai_grammar.specs.Causes.{refusal_of}
 use Rattle.rhai_grammar.specs.Cursors.{cursor_of}
 use Rattle.rhai_reading.specs.Reading.{Script}
 use Rattle.rhai_reading.specs.Running.{Done, Progress, Refused, result_of}
 use Rattle.rhai_base.specs.Counts.{counts_of}
 use Rattle.rhai_base.specs.Libraries.{library_of}
-use Rattle.rhai_language.specs.Frames.{context_of}
-use Rattle.rhai_language.specs.Readers.{nesting_of}
+use Rattle.rhai_parser.specs.Frames.{context_of}
+use Rattle.rhai_parser.specs.Readers.{nesting_of}
 use Rattle.rhai_parser.proofs.NestLemmas.{always, if_ok, nests_written, seen_of}
 use Rattle.rhai_parser.proofs.PromiseLemmas.{Entries, begins_read, begins_same, script_done, script_fails, has_read_done, has_read_fails, reads_none}
 use Rattle.rhai_reading.proofs.Main.{script_entry}

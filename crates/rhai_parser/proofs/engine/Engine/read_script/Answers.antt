@@ -1,10 +1,10 @@
 use Rattle.std.proofs.Common.{[], ◌∙◌, ap, refl, rules, sym}
-use Rattle.rhai_ast.specs.View.{view}
+use Rattle.rhai_lower.specs.View.{view}
 use Rattle.rhai_grammar.specs.Causes.{refusal_of}
 use Rattle.rhai_grammar.specs.Cursors.{cursor_of}
 use Rattle.rhai_base.specs.Libraries.{library_of}
-use Rattle.rhai_language.specs.Readers.{nesting_of}
-use Rattle.rhai_language.specs.Frames.{context_of, live_of}
+use Rattle.rhai_parser.specs.Readers.{nesting_of}
+use Rattle.rhai_parser.specs.Frames.{context_of, live_of}
 use Rattle.rhai_reading.specs.Reading.{Whole}
 use Rattle.rhai_reading.specs.Running.{Done, Progress, Refused, result_of}
 use Rattle.rhai_parser.proofs.PromiseLemmas.{Entries, begins_read, begins_same, expression_done, expression_fails, has_read_done, has_read_fails}

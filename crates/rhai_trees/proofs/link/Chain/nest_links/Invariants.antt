@@ -1,6 +1,6 @@
 -- The links that are left, with the one that contains all later links, nest to the same tree.
 use Rattle.std.proofs.Common.{◌≡◌, ◌∷◌, ◌++◌, [], vec_len}
-use Rattle.rhai_ast.specs.View.{view}
+use Rattle.rhai_lower.specs.View.{view}
 use Rattle.rhai_trees.specs.Chains.{chain_view, link_views, nest_until, nested_view}
 use Rattle.rhai_trees.proofs.link.Chain.nest_links.Given as goal
 

@@ -1,0 +1,124 @@
+//! Constructs: which may be statements, what begins and ends a guard, the end of `do`, and the variables of `for`.
+
+ghost use Rattle.std.specs.Prelude.{◌≡◌, ◌+◌, ◌≤◌, IfErr, IfSome, OnOk, false, true};
+ghost use Rattle.std.specs.Rc.{rc_str_bytes};
+ghost use Rattle.rhai_lower.specs.Lexemes.{lexeme};
+ghost use Rattle.rhai_lower.specs.Texts.{same_text};
+ghost use Rattle.rhai_grammar.specs.Causes.{DuplicatedVariable, MemoryIsNowhere, is_for_memory, refusal, refusal_of};
+ghost use Rattle.rhai_grammar.specs.Constructs.{do_end, guard_expected, may_stand, no_assignment};
+ghost use Rattle.rhai_grammar.specs.Contexts.{Context, allows_looping};
+ghost use Rattle.rhai_grammar.specs.Cursors.{asked, cursor_of, left, looking};
+ghost use Rattle.rhai_grammar.specs.Delivered.{is_end, is_memory};
+ghost use Rattle.rhai_grammar.specs.DueTokens.{is_due};
+ghost use Rattle.rhai_grammar.specs.declared.due.DueToken.TheVariants.{Equals, LeftBrace};
+ghost use Rattle.rhai_base.specs.Constructs.{EndsDo};
+
+use crate::cursor::{peek, skip};
+use crate::leaves::due::is_due;
+use crate::leaves::refusals::missing;
+use rhai_grammar::{Construct, DueToken, InputError, ParseError, ParseErrorType, ParseResult};
+use rhai_lower::{Position, Token, TokenStream};
+use std::alloc::{AllocError, Global};
+use std::rc::RcStr;
+
+/// Whether a construct may be a statement: a loop only where the engine lets scripts have loops, as `looping` says.
+pub fn may_stand(looping: bool, construct: Construct) -> bool
+    ensures { (context : Context) → looping ≡ allows_looping context → result ≡ may_stand context construct }
+{
+    match construct {
+        Construct::While | Construct::Loop | Construct::Do | Construct::For => looping,
+        Construct::Block | Construct::If | Construct::Switch | Construct::Try => true,
+    }
+}
+
+/// Refuses a `{` where a guard begins, or what `for` goes over; the next token stays in any case.
+///
+/// The error is `ExprExpected` at the `{`, or `OutOfMemory`.
+pub fn guard_begins(alloc: Global, input: &mut TokenStream) -> ParseResult<()>
+    ensures passes { OnOk result ((is_due LeftBrace (asked (cursor_of input.old)).lexeme ≡ false)
+        × (is_memory (asked (cursor_of input.old)).lexeme ≡ false)) }
+    ensures refused { IfErr result (λ e. is_for_memory e ≡ false
+        → (is_due LeftBrace (asked (cursor_of input.old)).lexeme ≡ true)
+        × (is_memory (asked (cursor_of input.old)).lexeme ≡ false)
+        × (refusal_of e ≡ refusal guard_expected (asked (cursor_of input.old)).at)) }
+    ensures nowhere { IfErr result MemoryIsNowhere }
+    ensures after { cursor_of input.new ≡ looking (cursor_of input.old) }
+{
+    let (token, pos) = peek(input)?;
+    if is_due(DueToken::LeftBrace, token) {
+        let what = RcStr::from_str(alloc, "a boolean")?;
+        return Err(ParseError(ParseErrorType::ExprExpected(what), *pos));
+    }
+    Ok(())
+}
+
+/// Refuses a `=` after a guard; the next token stays in any case.
+///
+/// The error is `ImproperSymbol` at the `=`, or `OutOfMemory`.
+pub fn guard_ends(alloc: Global, input: &mut TokenStream) -> ParseResult<()>
+    ensures passes { OnOk result ((is_due Equals (asked (cursor_of input.old)).lexeme ≡ false)
+        × (is_memory (asked (cursor_of input.old)).lexeme ≡ false)) }
+    ensures refused { IfErr result (λ e. is_for_memory e ≡ false
+        → (is_due Equals (asked (cursor_of input.old)).lexeme ≡ true)
+        × (is_memory (asked (cursor_of input.old)).lexeme ≡ false)
+        × (refusal_of e ≡ refusal no_assignment (asked (cursor_of input.old)).at)) }
+    ensures nowhere { IfErr result MemoryIsNowhere }
+    ensures after { cursor_of input.new ≡ looking (cursor_of input.old) }
+{
+    let (token, pos) = peek(input)?;
+    if is_due(DueToken::Equals, token) {
+        let symbol = RcStr::from_str(alloc, "=")?;
+        let note = RcStr::from_str(alloc, "a comparison is written with `==`")?;
+        let input = InputError::ImproperSymbol(symbol, note);
+        return Err(ParseError(ParseErrorType::BadInput(input), *pos));
+    }
+    Ok(())
+}
+
+// What ends a `do`: `while`, or `until`, which negates the guard (`true`); none for another token.
+fn do_end(token: &Token) -> Option<bool>
+    ensures end { result ≡ do_end (lexeme token.now) }
+    ensures more { IfSome result (λ negated. is_end (lexeme token.now) ≡ false) }
+{
+    match token {
+        Token::While => Some(false),
+        Token::Until => Some(true),
+        _ => None,
+    }
+}
+
+/// Takes the `while` or `until` that is due after the block of `do`. Whether it is `until`, which negates the guard.
+///
+/// If another token is there, the error is `MissingToken` at that token, or the error of the tokenizer that it is; if
+/// memory runs out, `OutOfMemory`.
+pub fn end_do(alloc: Global, input: &mut TokenStream) -> ParseResult<bool>
+    ensures ends { EndsDo (cursor_of input.old) result (cursor_of input.new) }
+    ensures nowhere { IfErr result MemoryIsNowhere }
+    ensures shorter { left (cursor_of input.new).tokens ≤ left (cursor_of input.old).tokens }
+    ensures shrinks { OnOk result (left (cursor_of input.new).tokens + 1 ≤ left (cursor_of input.old).tokens) }
+{
+    let (token, pos) = peek(input)?;
+    match do_end(token) {
+        Some(negated) => {
+            skip(input);
+            Ok(negated)
+        }
+        None => Err(missing(alloc, "while", "to end this `do`", token, *pos)),
+    }
+}
+
+/// Refuses the counter of a `for`, a name at `pos`, if it is also the loop's variable, which is `name`.
+///
+/// The error is `DuplicatedVariable` at `pos`, or `OutOfMemory`.
+pub fn test_counter(name: &RcStr, counter: &RcStr, pos: Position) -> ParseResult<()>
+    ensures passes { OnOk result (same_text (rc_str_bytes name.now) (rc_str_bytes counter.now) ≡ false) }
+    ensures refused { IfErr result (λ e. is_for_memory e ≡ false
+        → (same_text (rc_str_bytes name.now) (rc_str_bytes counter.now) ≡ true)
+        × (refusal_of e ≡ refusal (DuplicatedVariable (rc_str_bytes counter.now)) pos)) }
+    ensures nowhere { IfErr result MemoryIsNowhere }
+{
+    if name.as_str() == counter.as_str() {
+        return Err(ParseError(ParseErrorType::DuplicatedVariable(counter.clone()?), pos));
+    }
+    Ok(())
+}

@@ -1,4 +1,0 @@
-pub mod AnswerLemmas
-pub mod LookedLemmas
-pub mod Readers
-pub mod RunLemmas

@@ -1,7 +1,0 @@
-use Rattle.std.proofs.Common.{◌∙◌, ap, map, take}
-use Rattle.rhai_input.specs.SlotView.{slot_of}
-use Rattle.rhai_input.proofs.SlotLemmas.{slots-take}
-use Rattle.rhai_input.proofs.scope.Scope.rewind.Goals as goal
-
-pub returns : goal.returns
-returns c = ap (map slot_of) c.truncate.ensures.items ∙ slots-take _ _ ∙ ap (take c.args.len) c.self.view_is

@@ -1,5 +1,0 @@
-pub mod Bounds
-pub mod Given
-pub mod ParameterLemmas
-pub mod Readers
-pub mod Rooms

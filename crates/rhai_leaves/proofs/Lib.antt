@@ -1,3 +1,0 @@
-pub mod ErrorLemmas
-pub mod LiteralLemmas
-pub mod OperatorLemmas

@@ -1,0 +1,93 @@
+-- Where functions may stand, and what is kept of a library as functions begin and end.
+use Rattle.std.proofs.Common.{◌≡◌, ℕ, Bool, ◌+◌, ◌<◌, ◌≤◌, ◌^◌, false, true, ap, arith, length, nat_lt, ◌*◌, if◌then◌else◌, ◌∷◌, []}
+use Rattle.std.proofs.lemmas.Bool.{ltb-true}
+use Rattle.std.proofs.lemmas.List.{length-map}
+use Rattle.std.proofs.lemmas.List.Sums.{count_by-le-length}
+use Rattle.std.proofs.Common.{length-append}
+use Rattle.rhai_grammar.proofs.EventEnds.{new_last}
+use Rattle.rhai_grammar.proofs.LibraryLemmas.{closure_added, function_added}
+use Rattle.rhai_grammar.specs.Closures.{closure_name}
+use Rattle.rhai_grammar.specs.Functions.{is_new}
+use Rattle.rhai_grammar.specs.Keys.{is_closure}
+use Rattle.rhai_grammar.specs.Libraries.{Ended, Library, closure_count, keys_in, with_ended}
+use Rattle.rhai_grammar.specs.NumberedLibraries.{IsNumbered, IsOrderly}
+use Rattle.rhai_grammar.specs.Settings.{Settings, at_global_level}
+use Rattle.rhai_base.specs.Settings.{gap, settings_of}
+use Rattle.rhai_base.specs.declared.settings.ParseSettings.{ParseSettings}
+use Rattle.rhai_parser.specs.Languages.{LanguageValue}
+use Rattle.rhai_parser.specs.Rooms.{Holds, function_room}
+
+-- below the global level no function stands
+pub no_function : (language : LanguageValue) (settings : ParseSettings) → at_global_level (settings_of settings) ≡ false
+    → function_room language settings ≡ 0
+unfolding function_room
+no_function language settings e = ap (λ b. if b then 8 * language.max_function_expr_depth else 0) e
+
+-- at it one may
+pub one_function : (language : LanguageValue) (settings : ParseSettings) → at_global_level (settings_of settings) ≡ true
+    → function_room language settings ≡ 8 * language.max_function_expr_depth
+unfolding function_room
+one_function language settings e = ap (λ b. if b then 8 * language.max_function_expr_depth else 0) e
+
+-- under the same settings as many readers may be active in it
+pub room_same : (language : LanguageValue) (a b : ParseSettings) → settings_of a ≡ settings_of b
+    → function_room language a ≡ function_room language b
+unfolding function_room
+room_same language a b e =
+    ap (λ (s : Settings). if at_global_level s then 8 * language.max_function_expr_depth else 0) e
+
+-- no more than eight for each of its levels
+pub function_room_most : (language : LanguageValue) (settings : ParseSettings)
+    → function_room language settings ≤ 8 * language.max_function_expr_depth
+unfolding function_room
+function_room_most language settings = by (at_global_level (settings_of settings))
+  where
+    by : (b : Bool) → (if b then 8 * language.max_function_expr_depth else 0) ≤ 8 * language.max_function_expr_depth
+    by true = omega arith
+    by false = omega arith
+
+-- no more levels are left than there are
+pub gap_most : (limit level : ℕ) → gap limit level ≤ limit
+unfolding gap
+gap_most limit level = omega arith
+
+-- one more begins where there is room for it
+pub one_begun : (limit begun : ℕ) (l : Library) → nat_lt (length l + begun) limit ≡ true → Holds limit begun l
+    → Holds limit (begun + 1) l
+unfolding Holds
+one_begun limit begun l e h = record {
+  numbered = h.numbered;
+  keys = h.keys;
+  within = let less = ltb-true (length l + begun) limit e in omega (arith, less);
+  bound = h.bound;
+}
+
+-- one that had begun is given up
+pub given_up : (limit begun : ℕ) (l : Library) → Holds limit (begun + 1) l → Holds limit begun l
+unfolding Holds
+given_up limit begun l h =
+    record { numbered = h.numbered; keys = h.keys; within = omega (arith, h.within); bound = h.bound }
+
+ended : (limit begun : ℕ) (l : Library) (x : Ended) → IsOrderly limit (begun + 1) l → is_new x.key l ≡ true
+    → IsNumbered (with_ended l x) → IsOrderly limit begun (with_ended l x)
+ended limit begun l x h new numbered = record {
+  numbered = numbered;
+  keys = new_last [] l x h.keys new;
+  within = omega (arith, h.within, length-append l (x ∷ []));
+  bound = h.bound;
+}
+
+pub function_ends : (limit begun : ℕ) (l : Library) (x : Ended) → is_closure x.key ≡ false → is_new x.key l ≡ true
+    → Holds limit (begun + 1) l → Holds limit begun (with_ended l x)
+unfolding Holds
+function_ends limit begun l x other new h = ended limit begun l x h new (function_added l x h.numbered other)
+
+few : (limit begun : ℕ) (l : Library) → IsOrderly limit (begun + 1) l → closure_count l < 2 ^ 64
+few limit begun l h =
+    omega (arith, h.within, h.bound, count_by-le-length is_closure (keys_in l), length-map l (λ (x : Ended). x.key))
+
+pub closure_ends : (limit begun : ℕ) (l : Library) (x : Ended) → x.key.name ≡ closure_name (closure_count l)
+    → is_new x.key l ≡ true → Holds limit (begun + 1) l → Holds limit begun (with_ended l x)
+unfolding Holds
+closure_ends limit begun l x named new h =
+    ended limit begun l x h new (closure_added l x h.numbered (few limit begun l h) named)

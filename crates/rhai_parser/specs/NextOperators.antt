@@ -1,0 +1,6 @@
+-- How the contracts speak of the next operator.
+use Rattle.std.specs.Prelude.{ℕ, Bool}
+use Rattle.rhai_base.specs.declared.leaves.operators.Operator.{Operator}
+
+abbrev pub operator_pair : Operator → ℕ × Bool
+operator_pair o = (o.strength, o.right)

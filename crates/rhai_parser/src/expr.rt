@@ -1,0 +1,268 @@
+//! Expressions: operands with their signs and calls.
+
+pub(crate) mod asks;
+pub(crate) mod paths;
+pub(crate) mod runs;
+
+ghost use Rattle.std.specs.Prelude.{◌≡◌, false};
+ghost use Rattle.rhai_lower.specs.Nodes.{no_nodes};
+ghost use Rattle.rhai_lower.specs.View.{view};
+ghost use Rattle.rhai_grammar.specs.Beginnings.{beginning, is_sign};
+ghost use Rattle.rhai_reading.specs.Running.{asked};
+ghost use Rattle.rhai_parser.specs.Readers.{Covers, GoesOn, Reads, arguments, expression, items};
+ghost use Rattle.rhai_parser.specs.Readers.{operand, postfix};
+ghost use Rattle.rhai_parser.specs.Readers.{right_operand, state_of, views_of};
+ghost use Rattle.rhai_parser.specs.Rooms.{Stays};
+ghost use Rattle.rhai_trees.specs.Chains.{chain_view};
+
+use crate::expr::asks::{as_variable, end_operand, sign_operand};
+use crate::expr::paths::{NamedOperand, named_operand};
+use crate::lent::LentReaders;
+use crate::reader::ExprReader;
+use crate::shared::Shared;
+use rhai_base::cursor::{peek, skip, take};
+use rhai_base::leaves::lists::{closes_list, list_continues};
+use rhai_base::leaves::refusals::missing;
+use rhai_base::leaves::tokens::{excludes_use, is_no_argument, is_sign, what_operand};
+use rhai_base::modules::test_path;
+use rhai_base::words::{is_qualified_name, make_call};
+use rhai_base::{Frame, ParseSettings};
+use rhai_grammar::{CommaList, DueToken, OperandPlace, OperandStart, ParseResult};
+use rhai_lower::Expr;
+use rhai_trees::{Chain, make_statement_value};
+
+impl<R: LentReaders> ExprReader<'_, R> {
+    /// Reads the path and what calls an operand, if it is a name.
+    #[tactic(auto, using(crate::proofs::ExprReaders::parse_plain))]
+    fn parse_postfix(
+        &self,
+        shared: &mut Shared<'_>,
+        frame: &Frame<'_>,
+        settings: ParseSettings,
+        operand: Chain,
+    ) -> ParseResult<Chain>
+        requires lent { Covers (R.lent self.now.readers) (postfix self.now.language.now frame.now settings
+            (chain_view operand)) shared.old }
+        ensures goes_on { GoesOn shared.old shared.new }
+        ensures stays { Stays self.now.language.now frame.now settings 2 shared.old shared.new }
+        ensures reads { Reads (postfix self.now.language.now frame.now settings (chain_view operand)) chain_view
+            shared.old result shared.new }
+    {
+        if !excludes_use(shared.input)? {
+            return Ok(operand);
+        }
+        self.parse_called(shared, frame, settings, operand)
+    }
+
+    // The same, where the next token makes a name before it one that is called, or part of a path. These are apart,
+    // since a function clears all the places that it has when it begins. The module that the path begins at is tested
+    // after the arguments.
+    #[inline(never)]
+    #[tactic(auto, using(crate::proofs::ExprReaders::parse_postfix))]
+    fn parse_called(
+        &self,
+        shared: &mut Shared<'_>,
+        frame: &Frame<'_>,
+        settings: ParseSettings,
+        operand: Chain,
+    ) -> ParseResult<Chain>
+        requires lent { Covers (R.lent self.now.readers) (postfix self.now.language.now frame.now settings
+            (chain_view operand)) shared.old }
+        ensures goes_on { GoesOn shared.old shared.new }
+        ensures stays { Stays self.now.language.now frame.now settings 2 shared.old shared.new }
+        ensures reads { Reads (postfix self.now.language.now frame.now settings (chain_view operand)) chain_view
+            shared.old result shared.new }
+    {
+        let alloc = self.language.alloc();
+        let (name, pos) = match as_variable(alloc, operand) {
+            Ok(variable) => variable,
+            Err(other) => {
+                peek(shared.input)?;
+                return Ok(other);
+            }
+        };
+        let named = named_operand(alloc, shared, frame, name, pos)?;
+        let NamedOperand { name, pos, called } = named;
+        if !called {
+            return Ok(Chain::from_value(alloc, Expr::Variable(name, pos)));
+        }
+        let qualified = is_qualified_name(&name);
+        let call = nested!(
+            shared,
+            self.parse_call(shared, frame, settings.at(pos), qualified)
+        )?;
+        test_path(frame, settings, &name, pos)?;
+        let call = make_call(alloc, name, pos, call)?;
+        Ok(Chain::from_value(alloc, call))
+    }
+
+    /// Reads the arguments after the `(` of a call. A raise of their level is refused where the settings stand.
+    #[tactic(auto, using(crate::proofs::ExprReaders::parse_fn_call_args))]
+    pub(crate) fn parse_fn_call_args(
+        &self,
+        shared: &mut Shared<'_>,
+        frame: &Frame<'_>,
+        settings: ParseSettings,
+    ) -> ParseResult<Vec<Expr>>
+        requires lent { Covers (R.lent self.now.readers) (arguments self.now.language.now frame.now settings)
+            shared.old }
+        ensures goes_on { GoesOn shared.old shared.new }
+        ensures stays { Stays self.now.language.now frame.now settings 0 shared.old shared.new }
+        ensures reads { Reads (arguments self.now.language.now frame.now settings) views_of shared.old result
+            shared.new }
+    {
+        let (token, pos) = peek(shared.input)?;
+        if is_no_argument(token) {
+            let note = "to close the arguments of a call";
+            return Err(missing(self.language.alloc(), ")", note, token, *pos));
+        }
+        if closes_list(CommaList::Arguments, token) {
+            skip(shared.input);
+            return Ok(Vec::new(self.language.alloc()));
+        }
+        let settings = settings.level_up()?;
+        self.parse_items(shared, frame, settings)
+    }
+
+    /// Reads an argument, and those that follow, up to the `)`.
+    #[tactic(auto, using(crate::proofs::ExprReaders::parse_items))]
+    fn parse_items(
+        &self,
+        shared: &mut Shared<'_>,
+        frame: &Frame<'_>,
+        settings: ParseSettings,
+    ) -> ParseResult<Vec<Expr>>
+        requires lent { Covers (R.lent self.now.readers) (items self.now.language.now frame.now settings no_nodes)
+            shared.old }
+        ensures goes_on { GoesOn shared.old shared.new }
+        ensures stays { Stays self.now.language.now frame.now settings 1 shared.old shared.new }
+        ensures reads { Reads (items self.now.language.now frame.now settings no_nodes) views_of shared.old result
+            shared.new }
+    {
+        let mut items = Vec::new(self.language.alloc());
+        loop {
+            let item = self
+                .readers
+                .parse_expr(self.language, shared, frame, settings)?;
+            items.push(item)?;
+            if !list_continues(self.language.alloc(), shared.input, CommaList::Arguments)? {
+                return Ok(items);
+            }
+            let (token, _) = peek(shared.input)?;
+            if closes_list(CommaList::Arguments, token) {
+                skip(shared.input);
+                return Ok(items);
+            }
+        }
+    }
+
+    /// Reads an operand after an operator. What it may be depends on its place: after a range operator it may be
+    /// missing, and after `??` a jump may stand.
+    #[tactic(auto, using(crate::proofs::ExprReaders::parse_right_operand))]
+    pub(crate) fn parse_right_operand(
+        &self,
+        shared: &mut Shared<'_>,
+        frame: &Frame<'_>,
+        settings: ParseSettings,
+        place: OperandPlace,
+    ) -> ParseResult<Chain>
+        requires lent { Covers (R.lent self.now.readers) (right_operand self.now.language.now frame.now settings
+            place) shared.old }
+        ensures goes_on { GoesOn shared.old shared.new }
+        ensures stays { Stays self.now.language.now frame.now settings 4 shared.old shared.new }
+        ensures reads { Reads (right_operand self.now.language.now frame.now settings place) chain_view shared.old
+            result shared.new }
+    {
+        let alloc = self.language.alloc();
+        let (token, pos) = peek(shared.input)?;
+        match what_operand(place, token) {
+            OperandStart::Omitted => Ok(Chain::from_value(alloc, Expr::Unit(*pos))),
+            OperandStart::Jump => {
+                let mut inner = frame.inner(alloc);
+                let jump = self.readers.parse_stmt(
+                    self.language,
+                    shared,
+                    &mut inner,
+                    settings.below_global_level(),
+                )?;
+                let value = make_statement_value(alloc, jump)?;
+                Ok(Chain::from_value(alloc, value))
+            }
+            OperandStart::Written => nested!(shared, self.parse_unary(shared, frame, settings)),
+        }
+    }
+
+    /// Reads a written operand with its signs and its call.
+    #[tactic(auto, using(crate::proofs::ExprReaders::parse_unary))]
+    fn parse_unary(
+        &self,
+        shared: &mut Shared<'_>,
+        frame: &Frame<'_>,
+        settings: ParseSettings,
+    ) -> ParseResult<Chain>
+        requires lent { Covers (R.lent self.now.readers) (operand self.now.language.now frame.now settings)
+            shared.old }
+        ensures goes_on { GoesOn shared.old shared.new }
+        ensures stays { Stays self.now.language.now frame.now settings 3 shared.old shared.new }
+        ensures reads { Reads (operand self.now.language.now frame.now settings) chain_view shared.old result
+            shared.new }
+    {
+        let (token, _) = peek(shared.input)?;
+        if !is_sign(token) {
+            return self.parse_unsigned(shared, frame, settings);
+        }
+        let (sign, pos) = take(shared.input);
+        let settings = settings.at(pos).level_up()?;
+        let operand = nested!(shared, self.parse_unary(shared, frame, settings))?;
+        sign_operand(self.language.alloc(), sign, pos, operand)
+    }
+
+    /// Reads a written operand without a sign, with its call and its links. The caller has seen that no sign comes
+    /// next.
+    #[tactic(auto, using(crate::proofs::ExprReaders::parse_unsigned))]
+    fn parse_unsigned(
+        &self,
+        shared: &mut Shared<'_>,
+        frame: &Frame<'_>,
+        settings: ParseSettings,
+    ) -> ParseResult<Chain>
+        requires unsigned { is_sign (beginning (asked (state_of shared.old)).lexeme) ≡ false }
+        requires lent { Covers (R.lent self.now.readers) (operand self.now.language.now frame.now settings)
+            shared.old }
+        ensures goes_on { GoesOn shared.old shared.new }
+        ensures stays { Stays self.now.language.now frame.now settings 3 shared.old shared.new }
+        ensures reads { Reads (operand self.now.language.now frame.now settings) chain_view shared.old result
+            shared.new }
+    {
+        peek(shared.input)?;
+        let primary = self
+            .readers
+            .parse_primary(self.language, shared, frame, settings)?;
+        let operand = nested!(shared, self.parse_postfix(shared, frame, settings, primary))?;
+        match self.parse_links(shared, frame, settings, &operand) {
+            Ok(links) => end_operand(frame, settings, operand, links),
+            Err(error) => Err(error),
+        }
+    }
+
+    /// Reads an expression, as a chain that may go on. The level is raised at its first token.
+    #[tactic(auto, using(crate::proofs::ExprReaders::parse_chain))]
+    pub fn parse_chain(
+        &self,
+        shared: &mut Shared<'_>,
+        frame: &Frame<'_>,
+        settings: ParseSettings,
+    ) -> ParseResult<Chain>
+        requires lent { Covers (R.lent self.now.readers) (expression self.now.language.now frame.now settings)
+            shared.old }
+        ensures goes_on { GoesOn shared.old shared.new }
+        ensures stays { Stays self.now.language.now frame.now settings 0 shared.old shared.new }
+        ensures reads { Reads (expression self.now.language.now frame.now settings) chain_view shared.old result
+            shared.new }
+    {
+        let (_, pos) = peek(shared.input)?;
+        let settings = settings.at(*pos).level_up()?;
+        let lhs = nested!(shared, self.parse_unary(shared, frame, settings))?;
+        self.parse_binary_op(shared, frame, settings, 1, lhs)
+    }
+}

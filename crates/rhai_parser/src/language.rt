@@ -1,0 +1,98 @@
+//! What scripts are read under.
+
+ghost use Rattle.std.specs.Prelude.{◌≡◌, ◌==◌};
+ghost use Rattle.std.specs.Int.RustNames.{bit_and};
+
+use bitflags::Flags;
+use rhai_base::LangOptions;
+use std::alloc::Global;
+use std::marker::Model;
+use std::rc::RcStr;
+
+/// The options and limits that scripts are read under, and where memory is taken.
+#[derive(Drop)]
+pub struct Language {
+    pub alloc: Global,
+    pub options: LangOptions,
+    pub max_expr_depth: usize,
+    pub max_function_expr_depth: usize,
+    pub max_functions: usize,
+    pub max_array_size: usize,
+    pub max_map_size: usize,
+    /// The names of the modules that scripts find without importing them.
+    pub sub_modules: Vec<RcStr>,
+}
+
+impl Model for Language {
+    ghost use Rattle.std.specs.Prelude.{map};
+    ghost use Rattle.std.specs.Rc.{rc_str_bytes};
+    ghost use Rattle.rhai_parser.specs.Languages.{LanguageValue};
+
+    ghost Value = { LanguageValue };
+
+    ghost view = { λ l. record {
+      options = l.options.0;
+      max_expr_depth = l.max_expr_depth;
+      max_function_expr_depth = l.max_function_expr_depth;
+      max_functions = l.max_functions;
+      max_array_size = l.max_array_size;
+      max_map_size = l.max_map_size;
+      sub_modules = map rc_str_bytes l.sub_modules.items;
+    } };
+}
+
+impl Language {
+    /// Where the readers take memory from.
+    pub fn alloc(&self) -> Global {
+        self.alloc
+    }
+
+    /// The parts of the language that scripts may use.
+    pub fn options(&self) -> LangOptions
+        ensures { result.0 ≡ self.now.options }
+    {
+        self.options
+    }
+
+    /// Whether scripts may have loops.
+    pub fn allow_looping(&self) -> bool
+        ensures { result ≡ (bit_and self.now.options 32 == 32) }
+    {
+        self.options.contains(LangOptions::LOOPING)
+    }
+
+    /// Whether a script may define a variable of a name that is there already.
+    pub fn allow_shadowing(&self) -> bool
+        ensures { result ≡ (bit_and self.now.options 128 == 128) }
+    {
+        self.options.contains(LangOptions::SHADOWING)
+    }
+
+    /// The greatest level of nesting in a function; 0 is no limit.
+    pub fn max_function_expr_depth(&self) -> usize
+        ensures { result ≡ self.now.max_function_expr_depth }
+    {
+        self.max_function_expr_depth
+    }
+
+    /// The greatest number of functions and closures of a script; 0 allows none.
+    pub fn max_functions(&self) -> usize
+        ensures { result ≡ self.now.max_functions }
+    {
+        self.max_functions
+    }
+
+    /// The greatest number of items of an array literal; 0 is no limit.
+    pub fn max_array_size(&self) -> usize
+        ensures { result ≡ self.now.max_array_size }
+    {
+        self.max_array_size
+    }
+
+    /// The greatest number of properties of an object map literal; 0 is no limit.
+    pub fn max_map_size(&self) -> usize
+        ensures { result ≡ self.now.max_map_size }
+    {
+        self.max_map_size
+    }
+}

@@ -1,0 +1,132 @@
+//! What the readers of literals ask for by leaves, as the reading program gives it: the next key, and the text after a
+//! block.
+
+ghost use Rattle.std.specs.Prelude.{◌≡◌, ◌+◌, ◌≤◌, IfErr, OnOk, option_map};
+ghost use Rattle.rhai_lower.specs.View.{property_views, written};
+ghost use Rattle.rhai_grammar.specs.Answers.{Answers};
+ghost use Rattle.rhai_grammar.specs.Causes.{MemoryIsNowhere};
+ghost use Rattle.rhai_grammar.specs.Cursors.{left};
+ghost use Rattle.rhai_base.specs.Frames.{FrameValue};
+ghost use Rattle.rhai_base.specs.Settings.{settings_of};
+ghost use Rattle.rhai_base.specs.Words.{word_result};
+ghost use Rattle.rhai_trees.specs.Chains.{chain_view};
+ghost use Rattle.rhai_reading.specs.Reading.{NextKey, TextAfter};
+ghost use Rattle.std.specs.Rc.{rc_str_bytes};
+ghost use Rattle.rhai_lower.specs.Lexemes.{Lexeme};
+ghost use Rattle.rhai_grammar.specs.Beginnings.{excludes_use};
+ghost use Rattle.rhai_reading.specs.Reading.{name_at};
+ghost use Rattle.rhai_reading.specs.Running.{Caller, Gives, exec};
+ghost use Rattle.rhai_parser.specs.Frames.{context_of, live_of};
+ghost use Rattle.rhai_parser.specs.Languages.{LanguageValue};
+ghost use Rattle.rhai_parser.specs.Readers.{GoesOn, Reads, state_of};
+ghost use Rattle.rhai_parser.specs.PrimaryViews.{text_view};
+ghost use Rattle.rhai_parser.specs.Rooms.{Steady};
+
+use crate::language::Language;
+use crate::primary::keys;
+use crate::shared::Shared;
+use rhai_base::leaves::due::match_token;
+use rhai_base::leaves::items::room_for_value;
+use rhai_base::leaves::strings::{TextPart, end_interpolation};
+use rhai_base::words::{name_node, word_node};
+use rhai_base::{Frame, NamedList, ParseSettingFlags, ParseSettings};
+use rhai_grammar::{DueToken, ParseResult};
+use rhai_lower::{Expr, Ident, Position};
+use rhai_trees::Chain;
+use std::alloc::Global;
+use std::rc::RcStr;
+
+/// The key of the property after these ones, with its `:`, and a look at the value that is due; none where the `}` is,
+/// which is taken. The language limits how many properties the literal has.
+#[tactic(auto, using(rhai_reading::proofs::Steps::step_next_key, crate::proofs::KeyLemmas::count_properties))]
+pub(crate) fn next_key(
+    language: &Language,
+    shared: &mut Shared<'_>,
+    settings: ParseSettings,
+    properties: &NamedList<(Ident, Expr)>,
+) -> ParseResult<Option<Ident>>
+    ensures goes_on { GoesOn shared.old shared.new }
+    ensures steady { Steady shared.old shared.new }
+    ensures reads { (frame : FrameValue) → Reads (NextKey (context_of language.now frame settings)
+        (property_views properties.now)) (option_map written) shared.old result shared.new }
+{
+    let alloc = language.alloc();
+    let next = match keys::next_key(alloc, shared.input, settings, properties) {
+        Ok(next) => next,
+        Err(error) => return Err(error),
+    };
+    let Some(key) = next else {
+        return Ok(None);
+    };
+    let note = "to follow the key of a property in this object map literal";
+    if let Err(error) = match_token(alloc, shared.input, DueToken::Colon, note) {
+        return Err(error);
+    }
+    match room_for_value(
+        alloc,
+        shared.input,
+        language.max_map_size(),
+        properties.len(),
+    ) {
+        Ok(()) => Ok(Some(key)),
+        Err(error) => Err(error),
+    }
+}
+
+/// What a name is in this frame, where `excluded` says that it is no use of a variable. A use that the closure around
+/// captures is noted.
+///
+/// Under strict variables a variable that is not known is `VariableUndefined`; if memory runs out, the error is
+/// `OutOfMemory`.
+#[tactic(auto, using(crate::proofs::PrimaryLemmas::name_value))]
+pub(crate) fn used_name(
+    alloc: Global,
+    shared: &mut Shared<'_>,
+    frame: &Frame<'_>,
+    settings: ParseSettings,
+    name: RcStr,
+    excluded: bool,
+    pos: Position,
+) -> ParseResult<Chain>
+    ensures goes_on { GoesOn shared.old shared.new }
+    ensures steady { Steady shared.old shared.new }
+    ensures gives { (language : LanguageValue) (call : Caller) (token : Lexeme) → excluded ≡ excludes_use token
+        → Gives chain_view (exec call (name_at (context_of language frame.now settings) (live_of frame.now)
+        (rc_str_bytes name) pos token (state_of shared.old).library) (state_of shared.old)) result
+        (state_of shared.new) }
+{
+    let closure = settings.has_flag(ParseSettingFlags::CLOSURE_SCOPE);
+    let captures = !excluded && frame.is_captured(closure, shared.library, &name);
+    let used = name.clone()?;
+    let node = name_node(alloc, frame, shared.library, settings, name, excluded, pos)?;
+    shared.note(captures, &used, pos)?;
+    Ok(Chain::from_value(alloc, node))
+}
+
+/// What a reserved word or symbol is: the name of a call, or `this` in a function.
+///
+/// `this` elsewhere is `ImproperSymbol`, anything else is `Reserved`; if memory runs out, the error is `OutOfMemory`.
+pub(crate) fn used_word(
+    alloc: Global,
+    settings: ParseSettings,
+    word: RcStr,
+    called: bool,
+    pos: Position,
+) -> ParseResult<Chain>
+    ensures answers { Answers chain_view (word_result (settings_of settings) (rc_str_bytes word) called pos) result }
+    ensures nowhere { IfErr result MemoryIsNowhere }
+{
+    let node = word_node(alloc, settings, word, called, pos)?;
+    Ok(Chain::from_value(alloc, node))
+}
+
+/// The `}` of a block in an interpolated string, and the text after it; both are taken.
+pub(crate) fn next_text(alloc: Global, shared: &mut Shared<'_>) -> ParseResult<TextPart>
+    ensures goes_on { GoesOn shared.old shared.new }
+    ensures steady { Steady shared.old shared.new }
+    ensures reads { Reads TextAfter text_view shared.old result shared.new }
+    ensures shrinks { OnOk result (left (state_of shared.new).cursor.tokens + 1
+        ≤ left (state_of shared.old).cursor.tokens) }
+{
+    end_interpolation(alloc, shared.input)
+}

@@ -1,0 +1,146 @@
+//! The readers of arrays, of object maps and of interpolated strings.
+
+ghost use Rattle.rhai_lower.specs.Nodes.{no_nodes, no_properties};
+ghost use Rattle.rhai_parser.specs.Readers.{Covers, GoesOn, Reads, elements, fields, properties_of, segments};
+ghost use Rattle.rhai_parser.specs.Readers.{views_of};
+ghost use Rattle.rhai_grammar.specs.Interpolations.{added_text};
+ghost use Rattle.std.specs.Rc.{rc_str_bytes};
+ghost use Rattle.rhai_parser.specs.Rooms.{Stays};
+
+use crate::blocks::begin_block;
+use crate::lent::LentReaders;
+use crate::primary::asks::{next_key, next_text};
+use crate::reader::PrimaryReader;
+use crate::shared::Shared;
+use rhai_base::cursor::{peek, skip};
+use rhai_base::leaves::items::item_place;
+use rhai_base::leaves::lists::list_continues;
+use rhai_base::leaves::refusals::no_item;
+use rhai_base::{Frame, NamedList, ParseSettings};
+use rhai_grammar::{CommaList, ItemPlace, ParseResult};
+use rhai_lower::{Expr, Ident};
+use rhai_trees::{make_block, push_segment, push_text};
+use std::rc::RcStr;
+
+impl<R: LentReaders> PrimaryReader<'_, R> {
+    /// Reads the items of an array after its `[`, where the settings stand, up to the `]`. The level is raised for each
+    /// item anew, and a raise is refused at the `[`.
+    #[tactic(auto, using(crate::proofs::PrimaryReaders::parse_array_literal))]
+    pub(crate) fn parse_array_literal(
+        &self,
+        shared: &mut Shared<'_>,
+        frame: &Frame<'_>,
+        settings: ParseSettings,
+    ) -> ParseResult<Vec<Expr>>
+        requires lent { Covers (R.lent self.now.readers) (elements self.now.language.now frame.now settings
+            no_nodes) shared.old }
+        ensures goes_on { GoesOn shared.old shared.new }
+        ensures stays { Stays self.now.language.now frame.now settings 0 shared.old shared.new }
+        ensures reads { Reads (elements self.now.language.now frame.now settings no_nodes) views_of shared.old result
+            shared.new }
+    {
+        let limit = self.language.max_array_size();
+        let mut items = Vec::new(self.language.alloc());
+        loop {
+            let (token, pos) = peek(shared.input)?;
+            match item_place(token, limit, items.len()) {
+                ItemPlace::End => {
+                    skip(shared.input);
+                    return Ok(items);
+                }
+                ItemPlace::Item => {}
+                ItemPlace::Nothing => return Err(no_item(
+                    self.language.alloc(),
+                    limit,
+                    token,
+                    *pos,
+                )),
+            }
+            let deeper = settings.level_up()?;
+            let item = self
+                .readers
+                .parse_expr(self.language, shared, frame, deeper)?;
+            items.push(item)?;
+            if !list_continues(self.language.alloc(), shared.input, CommaList::Array)? {
+                return Ok(items);
+            }
+        }
+    }
+
+    /// Reads the properties of an object map after its `#{`, where the settings stand, up to the `}`. The level is
+    /// raised for each value anew, and a raise is refused at the `#{`.
+    #[tactic(auto, using(crate::proofs::PrimaryReaders::parse_map_literal))]
+    pub(crate) fn parse_map_literal(
+        &self,
+        shared: &mut Shared<'_>,
+        frame: &Frame<'_>,
+        settings: ParseSettings,
+    ) -> ParseResult<Vec<(Ident, Expr)>>
+        requires lent { Covers (R.lent self.now.readers) (fields self.now.language.now frame.now settings
+            no_properties) shared.old }
+        ensures goes_on { GoesOn shared.old shared.new }
+        ensures stays { Stays self.now.language.now frame.now settings 0 shared.old shared.new }
+        ensures reads { Reads (fields self.now.language.now frame.now settings no_properties) properties_of shared.old
+            result
+            shared.new }
+    {
+        let mut properties = NamedList::new(self.language.alloc());
+        loop {
+            let next = next_key(self.language, shared, settings, &properties)?;
+            let Some(key) = next else {
+                return Ok(properties.into_items());
+            };
+            let deeper = settings.level_up()?;
+            let value = self
+                .readers
+                .parse_expr(self.language, shared, frame, deeper)?;
+            properties.push(self.language.alloc(), (key, value))?;
+            if !list_continues(self.language.alloc(), shared.input, CommaList::Map)? {
+                return Ok(properties.into_items());
+            }
+        }
+    }
+
+    /// Reads the blocks and texts of an interpolated string after its first text, `first`, where the settings stand, up
+    /// to the text that ends it. The level is raised for each block anew, and a raise is refused at the first text.
+    #[tactic(auto, using(crate::proofs::PrimaryReaders::parse_interpolated_string))]
+    pub(crate) fn parse_interpolated_string(
+        &self,
+        shared: &mut Shared<'_>,
+        frame: &Frame<'_>,
+        settings: ParseSettings,
+        first: RcStr,
+    ) -> ParseResult<Vec<Expr>>
+        requires lent { Covers (R.lent self.now.readers) (segments self.now.language.now frame.now settings
+            (added_text no_nodes (rc_str_bytes first) settings.pos)) shared.old }
+        ensures goes_on { GoesOn shared.old shared.new }
+        ensures stays { Stays self.now.language.now frame.now settings 0 shared.old shared.new }
+        ensures reads { Reads (segments self.now.language.now frame.now settings
+            (added_text no_nodes (rc_str_bytes first)
+            settings.pos)) views_of shared.old result shared.new }
+    {
+        let mut segments = Vec::new(self.language.alloc());
+        push_text(&mut segments, first, settings.pos)?;
+        loop {
+            let note = "to begin a block in this string";
+            let start = begin_block(self.language.alloc(), shared, note)?;
+            let deeper = settings.level_up()?;
+            let statements = self
+                .readers
+                .parse_block_inside(self.language, shared, frame, deeper)?;
+            let part = next_text(self.language.alloc(), shared)?;
+            let block = make_block(statements, start, part.end);
+            push_segment(
+                self.language.alloc(),
+                &mut segments,
+                block,
+                part.text,
+                part.pos,
+            )?;
+            if part.last {
+                return Ok(segments);
+            }
+            continue;
+        }
+    }
+}

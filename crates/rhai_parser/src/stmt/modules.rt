@@ -1,0 +1,82 @@
+//! What the readers of statements ask for by leaves about modules: another name after `as`, and what an `export` does.
+
+ghost use Rattle.std.specs.Prelude.{◌≡◌, IfOk, OnOk, option_map, unwrap_or};
+ghost use Rattle.std.specs.Int.NonZero.{non_zero_usize_get};
+ghost use Rattle.std.specs.Rc.{rc_str_bytes};
+ghost use Rattle.rhai_lower.specs.Nodes.{variable};
+ghost use Rattle.rhai_lower.specs.View.{statement_view};
+ghost use Rattle.rhai_grammar.specs.Definitions.{defined_as, exported, reused};
+ghost use Rattle.rhai_grammar.specs.Trees.{export_tree};
+ghost use Rattle.rhai_reading.specs.Reading.{Alias};
+ghost use Rattle.rhai_parser.specs.Readers.{GoesOn, Reads};
+ghost use Rattle.rhai_base.specs.Frames.{SamePlace};
+ghost use Rattle.rhai_parser.specs.Rooms.{Steady};
+
+use crate::shared::Shared;
+use rhai_base::Frame;
+use rhai_base::leaves::due::pass_token;
+use rhai_base::leaves::statements::parse_var_name;
+use rhai_grammar::{DueToken, ParseResult};
+use rhai_lower::{Position, Stmt};
+use rhai_trees::make_export;
+use std::alloc::{AllocError, Global};
+use std::num::NonZeroUsize;
+use std::rc::RcStr;
+
+/// The name after `as`, if that comes next; both are taken.
+#[tactic(auto, using(rhai_reading::proofs::Steps::step_alias))]
+pub(crate) fn next_alias(shared: &mut Shared<'_>) -> ParseResult<Option<RcStr>>
+    ensures goes_on { GoesOn shared.old shared.new }
+    ensures steady { Steady shared.old shared.new }
+    ensures reads { Reads Alias (option_map rc_str_bytes) shared.old result shared.new }
+{
+    if !pass_token(shared.input, DueToken::As)? {
+        return Ok(None);
+    }
+    let (name, _) = parse_var_name(shared.input)?;
+    Ok(Some(name))
+}
+
+/// Defines a variable or a constant, as `Frame::define` does, and exports it under its own name if that is so.
+///
+/// The error is that there is no memory for it.
+pub(crate) fn define_as(
+    frame: &mut Frame<'_>,
+    name: &RcStr,
+    constant: bool,
+    exported: bool,
+) -> Result<Option<NonZeroUsize>, AllocError>
+    ensures number { IfOk result (λ number. option_map non_zero_usize_get number
+        ≡ reused frame.old.live.block (rc_str_bytes name.now) frame.old.live.slots) }
+    ensures ok { OnOk result (frame.new.live ≡ defined_as exported (rc_str_bytes name.now) constant frame.old.live) }
+    ensures place { SamePlace frame.old frame.new }
+{
+    let number = frame.define(name, constant)?;
+    if exported {
+        frame.export(name, name)?;
+    }
+    Ok(number)
+}
+
+/// The `export` at `pos` of a variable, under its own name or under `alias`: its slot is exported, if it has one.
+///
+/// The error is that there is no memory for it.
+pub(crate) fn export_name(
+    alloc: Global,
+    frame: &mut Frame<'_>,
+    name: RcStr,
+    alias: Option<RcStr>,
+    pos: Position,
+) -> Result<Stmt, AllocError>
+    ensures statement { IfOk result (λ s. statement_view s
+        ≡ export_tree (rc_str_bytes name) (option_map rc_str_bytes alias) pos) }
+    ensures ok { OnOk result (frame.new.live ≡ exported (rc_str_bytes name)
+        (unwrap_or (option_map rc_str_bytes alias) (rc_str_bytes name)) frame.old.live) }
+    ensures place { SamePlace frame.old frame.new }
+{
+    match &alias {
+        Some(alias) => frame.export(&name, alias)?,
+        None => frame.export(&name, &name)?,
+    }
+    make_export(alloc, name, alias, pos)
+}

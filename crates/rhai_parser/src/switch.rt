@@ -1,0 +1,257 @@
+//! `switch`: its arms, with their cases, guards and actions.
+
+pub(crate) mod arms;
+
+ghost use Rattle.std.specs.Prelude.{◌+◌, ◌≤◌, OnOk};
+ghost use Rattle.rhai_lower.specs.Nodes.{no_nodes};
+ghost use Rattle.rhai_lower.specs.View.{statement_view, view};
+ghost use Rattle.rhai_grammar.specs.Cursors.{left};
+ghost use Rattle.rhai_grammar.specs.Switches.{nothing_collected};
+ghost use Rattle.rhai_grammar.specs.declared.role.Construct.TheVariants.{Switch};
+ghost use Rattle.rhai_parser.specs.Readers.{Covers, GoesOn, Reads, action, arm, arms, case, case_guard, cases};
+ghost use Rattle.rhai_parser.specs.Readers.{construct};
+ghost use Rattle.rhai_parser.specs.Readers.{default_arm, state_of, views_of};
+ghost use Rattle.rhai_parser.specs.Switches.{action_view, arm_view};
+ghost use Rattle.rhai_trees.specs.Arms.{arms_view};
+ghost use Rattle.rhai_parser.specs.Rooms.{Stays};
+
+use crate::lent::LentReaders;
+use crate::reader::ConstructReader;
+use crate::shared::Shared;
+use crate::switch::arms::{Action, Arm, as_case, end_arm, end_default, end_statement_action};
+use rhai_base::leaves::arms::{NextArm, action_due, default_unguarded, next_arm};
+use rhai_base::leaves::due::{match_token, pass_token};
+use rhai_base::{Frame, ParseSettingFlags, ParseSettings};
+use rhai_grammar::{DueToken, ParseResult};
+use rhai_lower::{Expr, Position, Stmt};
+use rhai_trees::{Arms, make_switch, new_arms, no_guard, push_arm, push_default};
+
+impl<R: LentReaders> ConstructReader<'_, R> {
+    /// Reads a `switch` after its keyword, where the settings stand.
+    #[tactic(auto, using(crate::proofs::ConstructReaders::parse_switch))]
+    pub(crate) fn parse_switch(
+        &self,
+        shared: &mut Shared<'_>,
+        frame: &Frame<'_>,
+        settings: ParseSettings,
+    ) -> ParseResult<Stmt>
+        requires lent { Covers (R.lent self.now.readers) (construct self.now.language.now frame.now settings
+            Switch) shared.old }
+        ensures goes_on { GoesOn shared.old shared.new }
+        ensures stays { Stays self.now.language.now frame.now settings 4 shared.old shared.new }
+        ensures reads { Reads (construct self.now.language.now frame.now settings Switch) statement_view shared.old
+            result
+            shared.new }
+    {
+        let item = self
+            .readers
+            .parse_expr(self.language, shared, frame, settings)?;
+        let note = "to begin the arms of this `switch`";
+        match_token(
+            self.language.alloc(),
+            shared.input,
+            DueToken::LeftBrace,
+            note,
+        )?;
+        let arms = self.parse_arms(shared, frame, settings)?;
+        Ok(make_switch(self.language.alloc(), item, arms, settings.pos)?)
+    }
+
+    /// Reads the arms of a `switch`, up to the `}`.
+    #[tactic(auto, using(crate::proofs::ConstructReaders::parse_arms))]
+    fn parse_arms(
+        &self,
+        shared: &mut Shared<'_>,
+        frame: &Frame<'_>,
+        settings: ParseSettings,
+    ) -> ParseResult<Arms>
+        requires lent { Covers (R.lent self.now.readers) (arms self.now.language.now frame.now settings
+            nothing_collected) shared.old }
+        ensures goes_on { GoesOn shared.old shared.new }
+        ensures stays { Stays self.now.language.now frame.now settings 4 shared.old shared.new }
+        ensures reads { Reads (arms self.now.language.now frame.now settings nothing_collected) arms_view
+            shared.old result
+            shared.new }
+    {
+        let mut arms = new_arms(self.language.alloc());
+        loop {
+            match next_arm(self.language.alloc(), shared.input)? {
+                NextArm::End => return Ok(arms),
+                NextArm::Default(pos) => {
+                    let action = nested!(
+                        shared,
+                        self.parse_default_arm(shared, frame, settings, pos)
+                    )?;
+                    return Ok(push_default(arms, action)?);
+                }
+                NextArm::Case => {}
+            }
+            let arm = nested!(shared, self.parse_arm(shared, frame, settings, &arms))?;
+            arms = push_arm(
+                self.language.alloc(),
+                arms,
+                arm.cases,
+                arm.guard,
+                arm.action,
+            )?;
+        }
+    }
+
+    /// Reads an arm with cases, and the comma after it. Its cases are tested after these arms.
+    #[tactic(auto, using(crate::proofs::ConstructReaders::parse_arm))]
+    fn parse_arm(
+        &self,
+        shared: &mut Shared<'_>,
+        frame: &Frame<'_>,
+        settings: ParseSettings,
+        before: &Arms,
+    ) -> ParseResult<Arm>
+        requires lent { Covers (R.lent self.now.readers) (arm self.now.language.now frame.now settings
+            (arms_view before.now)) shared.old }
+        ensures goes_on { GoesOn shared.old shared.new }
+        ensures stays { Stays self.now.language.now frame.now settings 3 shared.old shared.new }
+        ensures reads { Reads (arm self.now.language.now frame.now settings (arms_view before.now)) arm_view
+            shared.old result
+            shared.new }
+        ensures shrinks { OnOk result
+            (left (state_of shared.new).cursor.tokens + 1 ≤ left (state_of shared.old).cursor.tokens) }
+    {
+        let cases = self.parse_cases(shared, frame, settings)?;
+        let guard = nested!(shared, self.parse_case_guard(shared, frame, settings))?;
+        match_token(
+            self.language.alloc(),
+            shared.input,
+            DueToken::DoubleArrow,
+            "after the cases of this arm",
+        )?;
+        let does = nested!(shared, self.parse_action(shared, frame, settings))?;
+        end_arm(self.language.alloc(), shared, before, cases, guard, does)
+    }
+
+    /// Reads the default arm after its `_`, which is at `default`, up to the `}` of the `switch`.
+    #[tactic(auto, using(crate::proofs::ConstructReaders::parse_default_arm))]
+    fn parse_default_arm(
+        &self,
+        shared: &mut Shared<'_>,
+        frame: &Frame<'_>,
+        settings: ParseSettings,
+        default: Position,
+    ) -> ParseResult<Expr>
+        requires lent { Covers (R.lent self.now.readers) (default_arm self.now.language.now frame.now settings
+            default) shared.old }
+        ensures goes_on { GoesOn shared.old shared.new }
+        ensures stays { Stays self.now.language.now frame.now settings 3 shared.old shared.new }
+        ensures reads { Reads (default_arm self.now.language.now frame.now settings default) view shared.old result
+            shared.new }
+    {
+        default_unguarded(shared.input)?;
+        match_token(
+            self.language.alloc(),
+            shared.input,
+            DueToken::DoubleArrow,
+            "after the `_` of this arm",
+        )?;
+        let does = nested!(shared, self.parse_action(shared, frame, settings))?;
+        end_default(self.language.alloc(), shared, does, default)
+    }
+
+    /// Reads the cases of an arm.
+    #[tactic(auto, using(crate::proofs::ConstructReaders::parse_cases))]
+    fn parse_cases(
+        &self,
+        shared: &mut Shared<'_>,
+        frame: &Frame<'_>,
+        settings: ParseSettings,
+    ) -> ParseResult<Vec<Expr>>
+        requires lent { Covers (R.lent self.now.readers) (cases self.now.language.now frame.now settings no_nodes)
+            shared.old }
+        ensures goes_on { GoesOn shared.old shared.new }
+        ensures stays { Stays self.now.language.now frame.now settings 2 shared.old shared.new }
+        ensures reads { Reads (cases self.now.language.now frame.now settings no_nodes) views_of shared.old result
+            shared.new }
+    {
+        let mut cases = Vec::new(self.language.alloc());
+        loop {
+            let case = nested!(shared, self.parse_case(shared, frame, settings))?;
+            cases.push(case)?;
+            if pass_token(shared.input, DueToken::Pipe)? {
+                continue;
+            }
+            return Ok(cases);
+        }
+    }
+
+    /// Reads a case of an arm, in which `|` is no operator. Each error in it is that of a missing literal.
+    #[tactic(auto, using(crate::proofs::ConstructReaders::parse_case))]
+    fn parse_case(
+        &self,
+        shared: &mut Shared<'_>,
+        frame: &Frame<'_>,
+        settings: ParseSettings,
+    ) -> ParseResult<Expr>
+        requires lent { Covers (R.lent self.now.readers) (case self.now.language.now frame.now settings)
+            shared.old }
+        ensures goes_on { GoesOn shared.old shared.new }
+        ensures stays { Stays self.now.language.now frame.now settings 1 shared.old shared.new }
+        ensures reads { Reads (case self.now.language.now frame.now settings) view shared.old result shared.new }
+    {
+        let inner = frame.in_case(self.language.alloc());
+        let case = self
+            .readers
+            .parse_expr(self.language, shared, &inner, settings);
+        as_case(self.language.alloc(), case)
+    }
+
+    /// Reads the guard of an arm, if it has one.
+    #[tactic(auto, using(crate::proofs::ConstructReaders::parse_case_guard))]
+    fn parse_case_guard(
+        &self,
+        shared: &mut Shared<'_>,
+        frame: &Frame<'_>,
+        settings: ParseSettings,
+    ) -> ParseResult<Expr>
+        requires lent { Covers (R.lent self.now.readers) (case_guard self.now.language.now frame.now settings)
+            shared.old }
+        ensures goes_on { GoesOn shared.old shared.new }
+        ensures stays { Stays self.now.language.now frame.now settings 2 shared.old shared.new }
+        ensures reads { Reads (case_guard self.now.language.now frame.now settings) view shared.old result shared.new }
+    {
+        if !pass_token(shared.input, DueToken::If)? {
+            return Ok(no_guard());
+        }
+        nested!(shared, self.parse_guard(shared, frame, settings))
+    }
+
+    /// Reads what an arm does: a statement in a block of its own, or where blocks are single expressions, an
+    /// expression.
+    #[tactic(auto, using(crate::proofs::ConstructReaders::parse_action))]
+    fn parse_action(
+        &self,
+        shared: &mut Shared<'_>,
+        frame: &Frame<'_>,
+        settings: ParseSettings,
+    ) -> ParseResult<Action>
+        requires lent { Covers (R.lent self.now.readers) (action self.now.language.now frame.now settings)
+            shared.old }
+        ensures goes_on { GoesOn shared.old shared.new }
+        ensures stays { Stays self.now.language.now frame.now settings 2 shared.old shared.new }
+        ensures reads { Reads (action self.now.language.now frame.now settings) action_view shared.old result
+            shared.new }
+    {
+        if settings.has_flag(ParseSettingFlags::DISALLOW_STATEMENTS_IN_BLOCKS) {
+            let expr = self
+                .readers
+                .parse_expr(self.language, shared, frame, settings)?;
+            return Ok(Action { expr, ends: false });
+        }
+        action_due(shared.input)?;
+        let mut inner = frame.inner(self.language.alloc());
+        let statement = self.readers.parse_stmt(
+            self.language,
+            shared,
+            &mut inner,
+            settings.below_global_level(),
+        )?;
+        end_statement_action(self.language.alloc(), statement)
+    }
+}

@@ -1,6 +1,0 @@
-pub mod AnswerLemmas
-pub mod ClosureLemmas
-pub mod KeyLemmas
-pub mod LookedLemmas
-pub mod Readers
-pub mod TextLemmas

@@ -1,0 +1,126 @@
+//! The line of a statement, and those of the values that lead to the arms of a `switch`.
+
+use crate::escape::Escaped;
+use crate::literal::print_literal;
+use crate::print::fields::{Optional, indent, mark, offset, print_ident};
+use rhai_lower::{ForLoop, Ident, Position, RangeCase, Stmt, SwitchCase, Token};
+use std::alloc::AllocError;
+use std::num::NonZeroUsize;
+
+fn print_for(text: &mut String, control: &ForLoop, pos: Position) -> Result<(), AllocError> {
+    let name = &control.name;
+    write!(text, "For {pos} {name} ")?;
+    match &control.counter {
+        Some(counter) => writeln!(text, "{counter}"),
+        None => text.push_str("-\n"),
+    }
+}
+
+fn print_assignment(
+    text: &mut String,
+    op: &Option<Token>,
+    pos: Position,
+) -> Result<(), AllocError> {
+    match op {
+        Some(token) => writeln!(text, "Assignment {pos} {}", token.literal_syntax()),
+        None => writeln!(text, "Assignment {pos} -"),
+    }
+}
+
+fn print_share(
+    text: &mut String,
+    variables: &[(Ident, Option<NonZeroUsize>)],
+    pos: Position,
+) -> Result<(), AllocError> {
+    write!(text, "Share {pos}")?;
+    for variable in variables {
+        print_ident(text, &variable.0)?;
+        write!(text, " {}", offset(variable.1))?;
+    }
+    text.push_str("\n")
+}
+
+// The marks of `let` and `const`.
+fn var_marks(constant: bool, exported: bool) -> (&'static str, &'static str) {
+    (mark("CONSTANT", constant), mark("EXPORTED", exported))
+}
+
+/// The line of a statement. An empty statement has none, and a block prints its own.
+pub fn print_statement_line(text: &mut String, statement: &Stmt) -> Result<(), AllocError> {
+    match statement {
+        Stmt::Noop(_) | Stmt::Block(_) => Ok(()),
+        Stmt::If(_, pos) => writeln!(text, "If {pos}"),
+        Stmt::Switch { cases, pos, .. } => {
+            writeln!(text, "Switch {pos} {}", Optional(cases.def_case))
+        }
+        Stmt::While(_, pos) => writeln!(text, "While {pos}"),
+        Stmt::Do { negated, pos, .. } => writeln!(text, "Do {pos} {}", mark("NEGATED", *negated)),
+        Stmt::For(control, pos) => print_for(text, control, *pos),
+        Stmt::Var {
+            name,
+            index,
+            constant,
+            exported,
+            pos,
+            ..
+        } => {
+            let (constant, exported) = var_marks(*constant, *exported);
+            writeln!(
+                text,
+                "Var {pos} {name} {} {constant} {exported}",
+                offset(*index)
+            )
+        }
+        Stmt::Assignment { op, pos, .. } => print_assignment(text, op, *pos),
+        Stmt::Expr(_) => text.push_str("Expr\n"),
+        Stmt::TryCatch(_, pos) => writeln!(text, "TryCatch {pos}"),
+        Stmt::BreakLoop { breaks, pos, .. } => {
+            writeln!(text, "BreakLoop {pos} {}", mark("BREAK", *breaks))
+        }
+        Stmt::Return { throws, pos, .. } => {
+            writeln!(text, "Return {pos} {}", mark("BREAK", *throws))
+        }
+        Stmt::Import { name, pos, .. } => writeln!(text, "Import {pos} {}", Escaped(name)),
+        Stmt::Export { name, alias, pos } => {
+            writeln!(text, "Export {pos} {name} {}", Escaped(alias))
+        }
+        Stmt::Share(variables, pos) => print_share(text, variables, *pos),
+    }
+}
+
+/// A line for each literal that leads to arms, with the numbers of these arms.
+pub fn print_cases(
+    text: &mut String,
+    depth: usize,
+    cases: &[SwitchCase],
+) -> Result<(), AllocError> {
+    for case in cases {
+        indent(text, depth)?;
+        text.push_str("Case ")?;
+        print_literal(text, &case.value)?;
+        print_indices(text, &case.indices)?;
+    }
+    Ok(())
+}
+
+fn print_indices(text: &mut String, indices: &[usize]) -> Result<(), AllocError> {
+    for index in indices {
+        write!(text, " {index}")?;
+    }
+    text.push_str("\n")
+}
+
+/// A line for each range that leads to an arm.
+pub fn print_ranges(
+    text: &mut String,
+    depth: usize,
+    ranges: &[RangeCase],
+) -> Result<(), AllocError> {
+    for range in ranges {
+        indent(text, depth)?;
+        let operator = if range.is_inclusive { "..=" } else { ".." };
+        let (first, last, index) = (range.first, range.last, range.index);
+        writeln!(text, "Range {operator} {first} {last} {index}")?;
+    }
+    Ok(())
+}

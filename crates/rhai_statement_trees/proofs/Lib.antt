@@ -1,4 +1,0 @@
-pub mod CaseIndexLemmas
-pub mod StatementLemmas
-pub mod StringLemmas
-pub mod SwitchLemmas

@@ -1,4 +1,0 @@
-pub mod Arms
-pub mod CaseKeys
-pub mod Statements
-pub mod Switches

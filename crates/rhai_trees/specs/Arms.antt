@@ -1,0 +1,8 @@
+-- The arms of a `switch` that the readers hand on.
+use Rattle.rhai_grammar.specs.Switches.{Collected}
+use Rattle.rhai_trees.specs.Switches.{collected_view}
+use Rattle.rhai_trees.specs.declared.arms.Arms.{Arms}
+
+-- the arms as the definitions see them
+abbrev pub arms_view : Arms → Collected
+arms_view x = collected_view x.collected

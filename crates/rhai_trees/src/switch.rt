@@ -1,0 +1,335 @@
+//! The arms of a `switch`, as they are read: the tests of cases, one more arm, and the node of a `switch`.
+
+ghost use Rattle.std.specs.Prelude.{◌≡◌, ◌++◌, ◌<◌, IfErr, IfOk, IfSome, None, OnOk, Some, false, length, option_map};
+ghost use Rattle.indexmap.specs.IndexMap.{get};
+ghost use Rattle.rhai_lower.specs.View.{case_views, statement_view, view, views};
+ghost use Rattle.rhai_grammar.specs.CaseValues.{range_of};
+ghost use Rattle.rhai_grammar.specs.Causes.{MemoryIsNowhere, is_for_memory, refusal_of};
+ghost use Rattle.rhai_grammar.specs.Switches.{arm_count, arm_fault, ends_arm, has_ranges, is_integer};
+ghost use Rattle.rhai_grammar.specs.Switches.{listed_range, no_guard};
+ghost use Rattle.rhai_grammar.specs.Switches.{nothing_collected, switch_tree, with_arm_collected, with_case};
+ghost use Rattle.rhai_grammar.specs.Switches.{with_cases, with_default_collected, with_value};
+ghost use Rattle.rhai_trees.specs.Arms.{arms_view};
+ghost use Rattle.rhai_trees.specs.CaseKeys.{Places, key_value, plain_value, same_case};
+ghost use Rattle.rhai_trees.specs.Switches.{case_place, collected_view, first_fault, is_full_range};
+ghost use Rattle.rhai_trees.specs.Switches.{value_fault, with_action};
+
+use crate::arms::Arms;
+use crate::case_index::{CaseKey, add_place, key_of, place_at};
+use crate::case_value::{range_of, same_value};
+use crate::literal::is_literal_value;
+use crate::statement::{ends_itself, is_empty};
+use indexmap::IndexMap;
+use rhai_grammar::{ParseError, ParseErrorType, ParseResult};
+use rhai_lower::{BinaryExpr, Expr, Position, RangeCase, Stmt, SwitchCase, SwitchCasesCollection};
+use std::alloc::{AllocError, Global};
+use std::rc::RcStr;
+
+/// The arms of a `switch` before the first one. Does not allocate.
+#[tactic(auto, using(crate::proofs::CaseIndexLemmas::no_places))]
+pub fn new_arms(alloc: Global) -> Arms
+    ensures { arms_view result ≡ nothing_collected }
+{
+    let collected = SwitchCasesCollection {
+        expressions: Vec::new(alloc),
+        cases: Vec::new(alloc),
+        ranges: Vec::new(alloc),
+        def_case: None,
+    };
+    let places = IndexMap::new(alloc);
+    Arms { collected, places }
+}
+
+/// An absent guard. Does not allocate.
+#[tactic(auto, using(rhai_lower::proofs::Views::view_boolean))]
+pub fn no_guard() -> Expr
+    ensures { view result ≡ no_guard }
+{
+    Expr::BoolConstant(true, Position::NONE)
+}
+
+/// Whether an arm whose action is this statement needs no comma after it: the statement ends by itself, and is not
+/// empty. Does not allocate.
+#[tactic(auto, using(crate::proofs::SwitchLemmas::arm_ended))]
+pub fn ends_arm(statement: &Stmt) -> bool
+    ensures { result ≡ ends_arm (statement_view statement.now) }
+{
+    !is_empty(statement) && ends_itself(statement)
+}
+
+// ---- tests
+
+// Whether a case is a range that is not empty.
+fn is_full_range(case: &Expr) -> bool
+    ensures { result ≡ is_full_range (range_of (view case.now)) }
+{
+    match range_of(case) {
+        Some(range) => !range.is_empty(),
+        None => false,
+    }
+}
+
+// Whether there is a range.
+#[tactic(auto, using(crate::proofs::SwitchLemmas::counted_ranges))]
+fn has_ranges(ranges: &[RangeCase]) -> bool
+    ensures { result ≡ has_ranges ranges.now }
+{
+    !ranges.is_empty()
+}
+
+// Whether a case is an integer.
+fn is_integer(case: &Expr) -> bool
+    ensures { result ≡ is_integer (view case.now) }
+{
+    matches!(case, Expr::IntegerConstant(_, _))
+}
+
+// Refuses a case that is no literal value, or an integer where `ranged` says that a range that is not empty stands
+// before it.
+fn test_case(alloc: Global, ranged: bool, case: &Expr) -> ParseResult<()>
+    ensures passes { OnOk result (value_fault ranged (view case.now) ≡ None) }
+    ensures refused { IfErr result (λ e. is_for_memory e ≡ false
+        → value_fault ranged (view case.now) ≡ Some (refusal_of e)) }
+    ensures nowhere { IfErr result MemoryIsNowhere }
+{
+    if !is_literal_value(case) {
+        let what = RcStr::from_str(alloc, "a literal")?;
+        let pos = case.start_position();
+        return Err(ParseError(ParseErrorType::ExprExpected(what), pos));
+    }
+    if is_integer(case) && ranged {
+        let pos = case.start_position();
+        return Err(ParseError(ParseErrorType::WrongSwitchIntegerCase, pos));
+    }
+    Ok(())
+}
+
+// Refuses the first of these cases that may not stand there; `ranged` is whether a range that is not empty stands
+// before them.
+fn test_from(alloc: Global, mut ranged: bool, cases: &[Expr]) -> ParseResult<()>
+    ensures passes { OnOk result (first_fault ranged (views cases.now) ≡ None) }
+    ensures refused { IfErr result (λ e. is_for_memory e ≡ false
+        → first_fault ranged (views cases.now) ≡ Some (refusal_of e)) }
+    ensures nowhere { IfErr result MemoryIsNowhere }
+{
+    for case in cases {
+        test_case(alloc, ranged, case)?;
+        ranged = ranged || is_full_range(case);
+    }
+    Ok(())
+}
+
+/// Refuses the cases of one more arm if one of them is no literal value, or an integer after a range that is not empty,
+/// which may be one of the same arm. `arms` are those before.
+///
+/// The error is `ExprExpected`, or `WrongSwitchIntegerCase`, at the start of the first case that is refused; if memory
+/// runs out, it is `OutOfMemory`.
+pub fn test_cases(alloc: Global, arms: &Arms, cases: &[Expr]) -> ParseResult<()>
+    ensures passes { OnOk result (arm_fault (arms_view arms.now) (views cases.now) ≡ None) }
+    ensures refused { IfErr result (λ e. is_for_memory e ≡ false
+        → arm_fault (arms_view arms.now) (views cases.now) ≡ Some (refusal_of e)) }
+    ensures nowhere { IfErr result MemoryIsNowhere }
+{
+    test_from(alloc, has_ranges(&arms.collected.ranges), cases)
+}
+
+// ---- one more arm
+
+// Where the value is among the cases that is equal to this one, which takes time linear in their number.
+fn case_place(cases: &[SwitchCase], value: &Expr) -> Option<usize>
+    ensures place { result ≡ case_place (case_views cases.now) (view value.now) }
+{
+    for (index, case) in cases.iter().enumerate() {
+        if same_value(&case.value, value) {
+            return Some(index);
+        }
+    }
+    None
+}
+
+// The same, for a value with this key: by the index if it has one.
+#[tactic(auto, using(crate::proofs::CaseIndexLemmas::by_key))]
+fn keyed_place(
+    cases: &[SwitchCase],
+    places: &IndexMap<CaseKey, usize>,
+    value: &Expr,
+    key: &Option<CaseKey>,
+) -> Option<usize>
+    requires indexed { Places (get same_case places.now) (case_views cases.now) }
+    requires key { option_map key_value key.now ≡ plain_value (view value.now) }
+    ensures place { result ≡ case_place (case_views cases.now) (view value.now) }
+    ensures inside { IfSome result (λ place. place < length cases.now) }
+{
+    match key {
+        Some(key) => place_at(places, key),
+        None => case_place(cases, value),
+    }
+}
+
+// Adds a value that leads to the arm with this index, and is equal to none of the cases. Its key is given.
+#[tactic(auto, using(crate::proofs::CaseIndexLemmas::pushed))]
+fn push_new_value(
+    alloc: Global,
+    cases: &mut Vec<SwitchCase>,
+    places: &mut IndexMap<CaseKey, usize>,
+    value: Expr,
+    key: Option<CaseKey>,
+    index: usize,
+) -> Result<(), AllocError>
+    requires indexed { Places (get same_case places.old) (case_views cases.old.items) }
+    requires key { option_map key_value key ≡ plain_value (view value) }
+    requires new { case_place (case_views cases.old.items) (view value) ≡ None }
+    ensures pushed { OnOk result
+        (case_views cases.new.items ≡ with_value (case_views cases.old.items) (view value) index) }
+    ensures indexed { OnOk result (Places (get same_case places.new) (case_views cases.new.items)) }
+{
+    add_place(places, key, cases.len())?;
+    let mut indices = Vec::new(alloc);
+    indices.push(index)?;
+    cases.push(SwitchCase { value, indices })?;
+    Ok(())
+}
+
+// Makes a value lead to one more arm: after the arms to which an equal value leads, or as a case of its own.
+#[tactic(auto, using(crate::proofs::SwitchLemmas::with_values))]
+fn push_value(
+    alloc: Global,
+    cases: &mut Vec<SwitchCase>,
+    places: &mut IndexMap<CaseKey, usize>,
+    value: Expr,
+    index: usize,
+) -> Result<(), AllocError>
+    requires { Places (get same_case places.old) (case_views cases.old.items) }
+    ensures pushed { OnOk result
+        (case_views cases.new.items ≡ with_value (case_views cases.old.items) (view value) index) }
+    ensures indexed { OnOk result (Places (get same_case places.new) (case_views cases.new.items)) }
+{
+    let key = key_of(&value)?;
+    match keyed_place(cases, places, &value, &key) {
+        Some(place) => {
+            cases[place].indices.push(index)?;
+            Ok(())
+        }
+        None => push_new_value(alloc, cases, places, value, key, index),
+    }
+}
+
+// Adds a case to the ranges, if it is a range that is not empty.
+#[tactic(auto, using(crate::proofs::SwitchLemmas::listed))]
+fn push_range(ranges: &mut Vec<RangeCase>, case: &Expr, index: usize) -> Result<(), AllocError>
+    ensures { OnOk result (ranges.new.items ≡ ranges.old.items ++ listed_range (range_of (view case.now)) index) }
+{
+    let Some(range) = range_of(case) else {
+        return Ok(());
+    };
+    if range.is_empty() {
+        return Ok(());
+    }
+    ranges.push(RangeCase {
+        first: range.first,
+        last: range.last,
+        is_inclusive: range.is_inclusive,
+        index,
+    })?;
+    Ok(())
+}
+
+// Adds a case of the arm with this index.
+fn push_case(
+    alloc: Global,
+    arms: &mut SwitchCasesCollection,
+    places: &mut IndexMap<CaseKey, usize>,
+    index: usize,
+    case: Expr,
+) -> Result<(), AllocError>
+    requires { Places (get same_case places.old) (collected_view arms.old).cases }
+    ensures pushed { OnOk result (collected_view arms.new ≡ with_case index (collected_view arms.old) (view case)) }
+    ensures indexed { OnOk result (Places (get same_case places.new) (collected_view arms.new).cases) }
+{
+    push_range(&mut arms.ranges, &case, index)?;
+    push_value(alloc, &mut arms.cases, places, case, index)
+}
+
+// Adds the cases of the arm with this index.
+fn push_cases(
+    alloc: Global,
+    arms: &mut SwitchCasesCollection,
+    places: &mut IndexMap<CaseKey, usize>,
+    index: usize,
+    cases: Vec<Expr>,
+) -> Result<(), AllocError>
+    requires { Places (get same_case places.old) (collected_view arms.old).cases }
+    ensures pushed { OnOk result
+        (collected_view arms.new ≡ with_cases index (collected_view arms.old) (views cases.items)) }
+    ensures indexed { OnOk result (Places (get same_case places.new) (collected_view arms.new).cases) }
+{
+    for case in cases {
+        push_case(alloc, arms, places, index, case)?;
+    }
+    Ok(())
+}
+
+// Adds a guard with its action. The index of the arm.
+#[tactic(auto, using(crate::proofs::SwitchLemmas::arms))]
+fn push_action(
+    arms: &mut SwitchCasesCollection,
+    guard: Expr,
+    action: Expr,
+) -> Result<usize, AllocError>
+    ensures index { IfOk result (λ index. index ≡ arm_count (collected_view arms.old).arms) }
+    ensures arms { OnOk result (collected_view arms.new
+        ≡ with_action (collected_view arms.old) (view guard) (view action)) }
+{
+    let index = arms.expressions.len();
+    arms.expressions.push(BinaryExpr {
+        lhs: guard,
+        rhs: action,
+    })?;
+    Ok(index)
+}
+
+/// The arms with one more, which has these cases; its guard is `no_guard` if none was written. The error is that there
+/// is no memory for it.
+pub fn push_arm(
+    alloc: Global,
+    arms: Arms,
+    cases: Vec<Expr>,
+    guard: Expr,
+    action: Expr,
+) -> Result<Arms, AllocError>
+    ensures { IfOk result (λ more. arms_view more
+        ≡ with_arm_collected (arms_view arms) (views cases.items) (view guard) (view action)) }
+{
+    let Arms {
+        mut collected,
+        mut places,
+    } = arms;
+    let index = push_action(&mut collected, guard, action)?;
+    push_cases(alloc, &mut collected, &mut places, index, cases)?;
+    Ok(Arms { collected, places })
+}
+
+/// The arms with the default arm. The error is that there is no memory for it.
+pub fn push_default(arms: Arms, action: Expr) -> Result<Arms, AllocError>
+    ensures { IfOk result (λ more. arms_view more ≡ with_default_collected (arms_view arms) (view action)) }
+{
+    let Arms {
+        mut collected,
+        places,
+    } = arms;
+    let index = push_action(&mut collected, no_guard(), action)?;
+    collected.def_case = Some(index);
+    Ok(Arms { collected, places })
+}
+
+/// A `switch` at `pos` over `item`, with these arms. Returns `AllocError` if memory runs out.
+#[tactic(auto, using(rhai_lower::proofs::Views::view_switch))]
+pub fn make_switch(alloc: Global, item: Expr, arms: Arms, pos: Position) -> Result<Stmt, AllocError>
+    ensures { IfOk result (λ s. statement_view s ≡ switch_tree (view item) (arms_view arms) pos) }
+{
+    Ok(Stmt::Switch {
+        item: Box::new(alloc, item)?,
+        cases: Box::new(alloc, arms.collected)?,
+        pos,
+    })
+}
