@@ -31,3 +31,6 @@ grows_ended before after e same held h = subst (Begins held) (sym same) (begins_
 
 pub grows_same : (before after : Library) → after ≡ before → Grows before after
 grows_same before after same held h = subst (Begins held) (sym same) h
+
+-- what the proof of an addition rests on
+pub ruleset added = (same_keys, one_more, grows_ended, grows_same)

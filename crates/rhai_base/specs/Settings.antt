@@ -63,7 +63,7 @@ pub record IsDeeper (c d : ParseSettings) : Type 0 where
   pub less : 1 ≤ c.max_expr_depth → levels_left d + 1 ≤ levels_left c
 
 -- no flags and no options
-abbrev bare : (level limit : ℕ) → Position → ParseSettings
+abbrev pub bare : (level limit : ℕ) → Position → ParseSettings
 bare level limit at = record {
   flags = record { 0 = 0 };
   options = record { 0 = 0 };
@@ -77,6 +77,11 @@ raises_below_the_limit = Raises (bare 1 2 (place 1 1)) (place 1 5) (Ok (bare 2 2
 
 abbrev is_refused_at_the_limit : Type 0
 is_refused_at_the_limit = Raises (bare 2 2 (place 1 1)) (place 1 5) (Err (too_deep (place 1 1)))
+
+-- Under a limit of 5, two levels are left at level 3, and none at level 7.
+example : (levels_left (bare 3 5 (place 1 1)) ≡ 2) × (levels_left (bare 7 5 (place 1 1)) ≡ 0)
+unfolding gap
+example = (refl, refl)
 
 -- Under a limit of 2, level 1 is raised to 2, and level 2 is refused at its position.
 example : raises_below_the_limit × is_refused_at_the_limit

@@ -111,7 +111,7 @@ impl Library {
 
     /// Appends a function. The caller has to prove that no function has its key yet. Returns `AllocError` if memory
     /// runs out; then nothing changes.
-    #[tactic(auto, using(crate::proofs::LibraryLemmas::same_keys, crate::proofs::LibraryLemmas::one_more, crate::proofs::LibraryLemmas::grows_ended, crate::proofs::LibraryLemmas::grows_same))]
+    #[tactic(auto, using(crate::proofs::LibraryLemmas::added))]
     pub fn add(&mut self, key: FnKey, function: Rc<ScriptFuncDef>) -> Result<(), AllocError>
         requires { has_key (key_of key) (keys_in (library_of self.old)) ≡ false }
         ensures ok { OnOk result (library_of self.new ≡ with_ended (library_of self.old) (ended key function)) }

@@ -33,43 +33,19 @@ use Rattle.rhai_grammar.proofs.EventEffects.{holds_front, holds_later, holds_own
 use Rattle.rhai_grammar.proofs.EventEffects.{library_ends, library_on, library_used}
 use Rattle.rhai_grammar.proofs.EventSteps.{Does, Is, Orderly, Reached, Scope, Stops, deeper, shape, stop, tok}
 use Rattle.rhai_grammar.proofs.LibraryLemmas.{closure_added, function_added}
+use Rattle.rhai_grammar.proofs.LibrarySteps.{few_closures, one_begins, one_ends, one_stops}
 
 -- ---- libraries with one more function
-
-pub new_last : (before library : Library) (x : Ended) → AreNew before library → is_new x.key (before ++ library) ≡ true
-    → AreNew before (library ++ x ∷ [])
-new_last before [] x h e = (ap (is_new x.key) (sym (append-nil before)) ∙ e, tt)
-new_last before (y ∷ library) x h e =
-    (h.0, new_last (before ++ y ∷ []) library x h.1 (ap (is_new x.key) (append_assoc before (y ∷ []) library) ∙ e))
 
 -- With one more that has begun, the functions are within the limit.
 abbrev pub Begun : Scope → Library → Type 0
 Begun q l = IsOrderly q.functions (q.begun + 1) l
 
-pub few_closures : (q : Scope) (l : Library) → Begun q l → closure_count l < 2 ^ 64
-few_closures q l g =
-    omega (arith, g.within, g.bound, count_by-le-length is_closure (keys_in l), length-map l (λ (x : Ended). x.key))
-
-one_ended : (q : Scope) (l : Library) (x : Ended) → Begun q l → IsNumbered (with_ended l x) → is_new x.key l ≡ true
-    → Orderly q (with_ended l x)
-one_ended q l x g h e = record {
-  numbered = h;
-  keys = new_last [] l x g.keys e;
-  within = omega (arith, g.within, length-append l (x ∷ []));
-  bound = g.bound;
-}
-
-fewer : (q : Scope) (l : Library) → Begun q l → Orderly q l
-fewer q l g = record { numbered = g.numbered; keys = g.keys; within = omega (arith, g.within); bound = g.bound }
-
 one_begun : (q : Scope) (c : Context) (l m : Library) → Is q c → may_begin c l ≡ true → m ≡ l → Orderly q l → Begun q m
 one_begun q c l m i e f g =
-    subst (λ x. Begun q x) (sym f) (record {
-      numbered = g.numbered;
-      keys = g.keys;
-      within = let h = ltb-true (length l + c.begun) c.sizes.functions e in omega (arith, h, i.1, i.2);
-      bound = g.bound;
-    })
+    let room : nat_lt (length l + q.begun) q.functions ≡ true =
+    sym (ap (λ n. nat_lt (length l + n) q.functions) i.1) ∙ sym (ap (λ n. nat_lt (length l + c.begun) n) i.2) ∙ e in
+    subst (λ x. Begun q x) (sym f) (one_begins q.functions q.begun l room g)
 
 -- ---- bodies
 
@@ -119,7 +95,7 @@ ended {q = q} c {es = es} {x = x} {ds = ds} {body = inside} {k = k} {why = why} 
             ∙ sym (captured_on q.inside es (HasEnded x ∷ []) s.library s.captured);
         orderly = λ g.
             let h = p.orderly (one_begun q c s.library r.end.library i m.0 r.library g) in
-            one_ended q p.end.library x h.0 h.1 p.met.0;
+            one_ends q.functions q.begun p.end.library x h.0 p.met.0 h.1;
       };
   stopped = λ s t e n m. first s t e n m;
 }
@@ -129,14 +105,14 @@ ended {q = q} c {es = es} {x = x} {ds = ds} {body = inside} {k = k} {why = why} 
         → Missed (TestIn (is_new x.key) other ▸ Adds x ▸ k) p e n t
         → Stops q s.library (es ++ HasEnded x ∷ []) t ⊎ Reached q s.library (library_after (es ++ HasEnded x ∷ []) s.library) k e n t
     last s t e n p l g (inl a) = inl (
-      λ o. (stop q es p t a.3).0 (fewer q p.library (g o).0),
+      λ o. (stop q es p t a.3).0 (one_stops q.functions q.begun p.library (g o).0),
       holds_later es (HasEnded x ∷ []) s.library p.library t.library l (stop q (HasEnded x ∷ []) p t a.3).1,
     )
     last s t e n p l g (inr b) = inr (record {
       end = adding x p;
       missed = b.1.1;
       library = ap (λ m. with_ended m x) l ∙ sym (library_on es (HasEnded x ∷ []) s.library);
-      orderly = λ o. let h = g o in one_ended q p.library x h.0 h.1 b.0;
+      orderly = λ o. let h = g o in one_ends q.functions q.begun p.library x h.0 b.0 h.1;
     })
 
     later : (s t : Point) (e : Refusal) (n : Mode) (r : Point) → r.library ≡ s.library
@@ -225,7 +201,7 @@ closure_runs {q = q} slots {es = es} {x = x} {ds = ds} {more = more} {k = k} {n 
     named between end l e count same g =
         let o : Begun q l = subst (λ m. Begun q m) (ap (λ (p : Point). p.library) e ∙ sym same) g in (
           o,
-          closure_added l x o.numbered (few_closures q l o)
+          closure_added l x o.numbered (few_closures q.functions q.begun l o)
               (name ∙ ap closure_name (sym (ap closure_count same ∙ count))),
         )
 
@@ -242,7 +218,7 @@ closure_runs {q = q} slots {es = es} {x = x} {ds = ds} {more = more} {k = k} {n 
         → Stops (one_more q) s.library (ends_only es ++ used_at slots us) t
         ⊎ Halted q s.library (library_after (ends_only es ++ used_at slots us) s.library) x k e m t
     later s between end t e m there l count o (inl h) = inl (
-      λ g. h.0 (fewer q between.library (subst (λ (p : Point). Begun q p.library) there (o g))),
+      λ g. h.0 (one_stops q.functions q.begun between.library (subst (λ (p : Point). Begun q p.library) there (o g))),
       holds_later (ends_only es) (used_at slots us) s.library between.library t.library (to_there s between end there l) h.1,
     )
     later s between end t e m there l count o (inr p) = inr (record {

@@ -23,6 +23,7 @@ pub mod BeginningLemmas
 pub mod StartLemmas
 pub mod SlotLemmas
 pub mod LibraryLemmas
+pub mod LibrarySteps
 pub mod ChainLemmas
 pub mod FairParts
 pub mod FairDemands

@@ -16,11 +16,11 @@ use Rattle.rhai_grammar.specs.Uses.{Use}
 use Rattle.rhai_grammar.specs.UsesOfForms.{Event}
 use Rattle.rhai_grammar.proofs.CaptureLemmas.{whole_expression, whole_script}
 use Rattle.rhai_grammar.proofs.EventEffects.{library_used}
-use Rattle.rhai_grammar.proofs.EventEnds.{few_closures}
 use Rattle.rhai_grammar.proofs.EventLemmas as happens
 use Rattle.rhai_grammar.proofs.EventParts.{captured_names}
 use Rattle.rhai_grammar.proofs.EventSteps.{Does, Orderly, Scope, Within, deeper, is_closure, scope_of}
 use Rattle.rhai_grammar.proofs.LibraryLemmas.{empty, key_is_new}
+use Rattle.rhai_grammar.proofs.LibrarySteps.{few_closures}
 
 kept : (q : Scope) (es : List Event) (ds : Demands) (s t : Point) → Does q es ds Nothing → Orderly q s.library → Met ds s t
     → Orderly q t.library
@@ -43,7 +43,7 @@ key c w head f n us s t g m =
     let there : r.end.library ≡ t.library = ap (λ (x : Point). x.library) r.met ∙ sym same in
     let o : IsOrderly c.sizes.functions (c.begun + 1) t.library =
     subst (λ l. IsOrderly c.sizes.functions (c.begun + 1) l) there (r.orderly g) in
-    key_is_new t.library (closure_tree head f n us).key o.numbered (few_closures q t.library o)
+    key_is_new t.library (closure_tree head f n us).key o.numbered (few_closures q.functions q.begun t.library o)
     (ap closure_name (sym (ap closure_count same ∙ m.2.0)))
 
 pub libraries_stay_orderly : LibrariesStayOrderly

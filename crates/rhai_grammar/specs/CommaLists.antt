@@ -11,7 +11,8 @@ use Rattle.rhai_grammar.specs.Beginnings.{missing, is_name}
 use Rattle.rhai_grammar.specs.declared.list.AfterPart.{AfterPart}
 use Rattle.rhai_grammar.specs.declared.list.AfterPart.TheVariants.{Comma, Close, Nothing}
 use Rattle.rhai_grammar.specs.declared.list.CommaList.{CommaList}
-use Rattle.rhai_grammar.specs.declared.list.CommaList.TheVariants.{Arguments, Arms, Array, ClosureParameters, Map, Parameters}
+use Rattle.rhai_grammar.specs.declared.list.CommaList.TheVariants.{Arguments, Arms, Array, ClosureParameters, Map}
+use Rattle.rhai_grammar.specs.declared.list.CommaList.TheVariants.{Parameters}
 
 -- the token that closes a list
 abbrev pub closing_of : CommaList → Token

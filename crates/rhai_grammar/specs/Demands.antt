@@ -4,7 +4,8 @@ use mathlib.Core.Logic.{inl}
 use Rattle.rhai_lower.specs.Lexemes.{Lexeme}
 use Rattle.rhai_lower.specs.declared.position.Position.{Position}
 use Rattle.rhai_grammar.specs.Causes.{Cause, ExprTooDeep, Refusal, as_literal, no_literal, refusal}
-use Rattle.rhai_grammar.specs.Delivered.{Mode, code, Item, Point, adding, apart, next_at, past, is_memory, capturing, with_captured}
+use Rattle.rhai_grammar.specs.Delivered.{Mode, code, Item, Point, adding, apart, next_at, past, is_memory, capturing}
+use Rattle.rhai_grammar.specs.Delivered.{with_captured}
 use Rattle.rhai_grammar.specs.Uses.{Use}
 use Rattle.rhai_grammar.specs.Libraries.{Ended, Library, closure_count}
 

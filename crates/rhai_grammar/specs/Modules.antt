@@ -1,5 +1,6 @@
 -- Modules: names with a path before them, such as `a::b::c`, and what has to be known under strict variables.
-use Rattle.std.specs.Prelude.{◌≡◌, ℕ, Bool, true, false, ◌||◌, ◌&&◌, ◌++◌, not, Option, Some, None, List, [], ◌∷◌, codes}
+use Rattle.std.specs.Prelude.{◌≡◌, ℕ, Bool, true, false, ◌||◌, ◌&&◌, ◌++◌, not, Option, Some, None, List, [], ◌∷◌}
+use Rattle.std.specs.Prelude.{codes}
 use Rattle.std.specs.Prelude.{if◌then◌else◌, refl}
 use Rattle.std.specs.Option.{is_some}
 use Rattle.rhai_lower.specs.Texts.{Text, same_text}

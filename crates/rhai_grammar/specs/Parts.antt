@@ -287,13 +287,14 @@ captured_names (u ∷ captured) context live more =
 
 -- A closure begins where one more function is within the limit, and its parameters follow. After these the level is
 -- raised at its first token, which is at a position, in the closure. `inside` is what its body demands then.
-abbrev pub as_closure : ClosureHead → (at : Position) → (inside : Context → Live → Demands → Demands) → (number : ℕ) → List Use → Ended
-    → Context → Live → Demands → Demands
+abbrev pub as_closure : ClosureHead → (at : Position) → (inside : Context → Live → Demands → Demands) → (number : ℕ)
+    → List Use → Ended → Context → Live → Demands → Demands
 as_closure head at inside number captured ended context live more =
     TestIn (may_begin context) (refusal cause.TooManyFunctions at) ▸
     closure_parameters head (
     raise_at (in_closure context live) at (
-    Apart (inside (level_up (in_closure context live)) (parameters_live (declared_names head)) Nothing) number captured ▸
+    Apart (inside (level_up (in_closure context live)) (parameters_live (declared_names head)) Nothing) number
+    captured ▸
     captured_names captured context live (function_ends ended at more)))
 
 -- ---- places

@@ -41,7 +41,12 @@ string_begun =
 
 -- what is left after its block, if this token is there in text mode
 abbrev pub after_block : Lexeme → Point
-after_block l = record { tokens = in_text_alone l 7 8; taken = reverse (taken_from string_begun); library = []; captured = [] }
+after_block l = record {
+  tokens = in_text_alone l 7 8;
+  taken = reverse (taken_from string_begun);
+  library = [];
+  captured = [];
+}
 
 abbrev pub string_stream : Lexeme → Point
 string_stream l = record { tokens = before string_begun (in_text_alone l 7 8); taken = []; library = []; captured = [] }

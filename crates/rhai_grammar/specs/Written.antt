@@ -100,8 +100,8 @@ abbrev mutual
   primary (form.Closure head body number captured) context live place more =
       Shape (may_be_closure context (bars_of head)) ▸
       Tok code (item (Sign (bars_token (bars_of head))) (bars_at head)) (operand_due context place) ▸
-      as_closure head (bars_at head) (closure_body body) number captured (closure_tree head body number captured) context
-      live more
+      as_closure head (bars_at head) (closure_body body) number captured (closure_tree head body number captured)
+      context live more
   primary (form.Zero range at) context live place more =
       Shape (is_range (beginning range)) ▸ Ahead (item range at) (operand_due context place) ▸ more
 

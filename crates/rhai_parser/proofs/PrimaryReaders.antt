@@ -13,7 +13,7 @@ pub ruleset parse_array_literal = (readers, step_elements, views_push, count_vie
 
 pub ruleset parse_map_literal = (readers, step_fields_key, property_views_push)
 
-pub ruleset parse_interpolated_string = (readers, step_segments)
+pub ruleset parse_interpolated_string = (readers, nested_so, step_segments)
 
 pub ruleset parse_closure = (readers, nested_so, step_closure)
 

@@ -1,16 +1,11 @@
 -- Where functions may stand, and what is kept of a library as functions begin and end.
-use Rattle.std.proofs.Common.{◌≡◌, ℕ, Bool, ◌+◌, ◌<◌, ◌≤◌, ◌^◌, false, true, ap, arith, length, nat_lt, ◌*◌, if◌then◌else◌, ◌∷◌, []}
-use Rattle.std.proofs.lemmas.Bool.{ltb-true}
-use Rattle.std.proofs.lemmas.List.{length-map}
-use Rattle.std.proofs.lemmas.List.Sums.{count_by-le-length}
-use Rattle.std.proofs.Common.{length-append}
-use Rattle.rhai_grammar.proofs.EventEnds.{new_last}
+use Rattle.std.proofs.Common.{◌≡◌, ℕ, Bool, ◌+◌, ◌≤◌, false, true, ap, arith, length, nat_lt, ◌*◌, if◌then◌else◌}
 use Rattle.rhai_grammar.proofs.LibraryLemmas.{closure_added, function_added}
+use Rattle.rhai_grammar.proofs.LibrarySteps.{few_closures, one_begins, one_ends, one_stops}
 use Rattle.rhai_grammar.specs.Closures.{closure_name}
 use Rattle.rhai_grammar.specs.Functions.{is_new}
 use Rattle.rhai_grammar.specs.Keys.{is_closure}
-use Rattle.rhai_grammar.specs.Libraries.{Ended, Library, closure_count, keys_in, with_ended}
-use Rattle.rhai_grammar.specs.NumberedLibraries.{IsNumbered, IsOrderly}
+use Rattle.rhai_grammar.specs.Libraries.{Ended, Library, closure_count, with_ended}
 use Rattle.rhai_grammar.specs.Settings.{Settings, at_global_level}
 use Rattle.rhai_base.specs.Settings.{gap, settings_of}
 use Rattle.rhai_base.specs.declared.settings.ParseSettings.{ParseSettings}
@@ -55,39 +50,20 @@ gap_most limit level = omega arith
 pub one_begun : (limit begun : ℕ) (l : Library) → nat_lt (length l + begun) limit ≡ true → Holds limit begun l
     → Holds limit (begun + 1) l
 unfolding Holds
-one_begun limit begun l e h = record {
-  numbered = h.numbered;
-  keys = h.keys;
-  within = let less = ltb-true (length l + begun) limit e in omega (arith, less);
-  bound = h.bound;
-}
+one_begun limit begun l e h = one_begins limit begun l e h
 
 -- one that had begun is given up
 pub given_up : (limit begun : ℕ) (l : Library) → Holds limit (begun + 1) l → Holds limit begun l
 unfolding Holds
-given_up limit begun l h =
-    record { numbered = h.numbered; keys = h.keys; within = omega (arith, h.within); bound = h.bound }
-
-ended : (limit begun : ℕ) (l : Library) (x : Ended) → IsOrderly limit (begun + 1) l → is_new x.key l ≡ true
-    → IsNumbered (with_ended l x) → IsOrderly limit begun (with_ended l x)
-ended limit begun l x h new numbered = record {
-  numbered = numbered;
-  keys = new_last [] l x h.keys new;
-  within = omega (arith, h.within, length-append l (x ∷ []));
-  bound = h.bound;
-}
+given_up limit begun l h = one_stops limit begun l h
 
 pub function_ends : (limit begun : ℕ) (l : Library) (x : Ended) → is_closure x.key ≡ false → is_new x.key l ≡ true
     → Holds limit (begun + 1) l → Holds limit begun (with_ended l x)
 unfolding Holds
-function_ends limit begun l x other new h = ended limit begun l x h new (function_added l x h.numbered other)
-
-few : (limit begun : ℕ) (l : Library) → IsOrderly limit (begun + 1) l → closure_count l < 2 ^ 64
-few limit begun l h =
-    omega (arith, h.within, h.bound, count_by-le-length is_closure (keys_in l), length-map l (λ (x : Ended). x.key))
+function_ends limit begun l x other new h = one_ends limit begun l x h new (function_added l x h.numbered other)
 
 pub closure_ends : (limit begun : ℕ) (l : Library) (x : Ended) → x.key.name ≡ closure_name (closure_count l)
     → is_new x.key l ≡ true → Holds limit (begun + 1) l → Holds limit begun (with_ended l x)
 unfolding Holds
 closure_ends limit begun l x named new h =
-    ended limit begun l x h new (closure_added l x h.numbered (few limit begun l h) named)
+    one_ends limit begun l x h new (closure_added l x h.numbered (few_closures limit begun l h) named)

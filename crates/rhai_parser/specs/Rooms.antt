@@ -1,13 +1,14 @@
 -- How many readers may be active below a reader, and what each reader leaves of that and of the library, whatever it
 -- answers.
-use Rattle.std.specs.Prelude.{◌≡◌, ℕ, ◌+◌, ◌-◌, ◌*◌, ◌≤◌, if◌then◌else◌}
+use Rattle.std.specs.Prelude.{◌≡◌, ◌×◌, ℕ, ◌+◌, ◌-◌, ◌*◌, ◌≤◌, [], if◌then◌else◌, refl}
+use Rattle.rhai_lower.specs.Positions.{place}
 use Rattle.rhai_grammar.specs.NumberedLibraries.{IsOrderly}
 use Rattle.rhai_grammar.specs.Libraries.{Library}
 use Rattle.rhai_grammar.specs.Settings.{at_global_level}
 use Rattle.rhai_base.specs.Counts.{counts_of}
 use Rattle.rhai_base.specs.Frames.{FrameValue}
 use Rattle.rhai_base.specs.Libraries.{library_of}
-use Rattle.rhai_base.specs.Settings.{levels_left, settings_of}
+use Rattle.rhai_base.specs.Settings.{bare, levels_left, settings_of}
 use Rattle.rhai_base.specs.declared.counts.ParseCounts.{ParseCounts}
 use Rattle.rhai_base.specs.declared.settings.ParseSettings.{ParseSettings}
 use Rattle.rhai_parser.specs.Languages.{LanguageValue}
@@ -25,6 +26,26 @@ Holds limit begun library = IsOrderly limit begun library
 unfoldable pub function_room : LanguageValue → ParseSettings → ℕ
 function_room language settings =
     if at_global_level (settings_of settings) then 8 * language.max_function_expr_depth else 0
+
+-- at the global level
+abbrev at_global : ParseSettings
+at_global = record (bare 0 0 (place 1 1)) { flags = record { 0 = 1 } }
+
+abbrev four_levels : LanguageValue
+four_levels = record {
+  options = 0;
+  max_expr_depth = 9;
+  max_function_expr_depth = 4;
+  max_functions = 9;
+  max_array_size = 0;
+  max_map_size = 0;
+  sub_modules = [];
+}
+
+-- Where functions have four levels, 32 readers may be active in one at the global level, and none below it.
+example : (function_room four_levels at_global ≡ 32) × (function_room four_levels (bare 0 0 (place 1 1)) ≡ 0)
+unfolding function_room
+example = (refl, refl)
 
 -- What a reader leaves, whatever it answers. Where both depth limits are positive, at most eight readers for each level
 -- that is left are active below it, and those that may stand on its own level, which are height; afterwards no more are

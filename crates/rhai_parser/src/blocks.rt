@@ -7,8 +7,8 @@ ghost use Rattle.rhai_parser.specs.Readers.{Covers, GoesOn, Reads, block, state_
 ghost use Rattle.rhai_reading.specs.Reading.{BlockEnd, BlockStart};
 ghost use Rattle.rhai_parser.specs.Rooms.{Stays, Steady};
 
-use crate::language::Language;
 use crate::lent::LentReaders;
+use crate::reader::Reader;
 use crate::shared::Shared;
 use rhai_base::cursor::peek;
 use rhai_base::leaves::due::match_token;
@@ -56,21 +56,21 @@ pub fn end_block(
     Ok(make_block(statements, start, end))
 }
 
-/// Reads a block after its `{`, where the settings stand, up to its `}`. Its definitions end with it. Its statements
-/// are read by `readers`.
-#[tactic(auto, using(rhai_reading::proofs::Steps::step_block, crate::proofs::Readers::readers))]
-pub fn parse_block<R: LentReaders>(
-    language: &Language,
-    readers: &R,
-    shared: &mut Shared<'_>,
-    frame: &Frame<'_>,
-    settings: ParseSettings,
-) -> ParseResult<StmtBlock>
-    requires lent { Covers (R.lent readers.now) (block language.now frame.now settings) shared.old }
-    ensures goes_on { GoesOn shared.old shared.new }
-    ensures stays { Stays language.now frame.now settings 3 shared.old shared.new }
-    ensures reads { Reads (block language.now frame.now settings) block_view shared.old result shared.new }
-{
-    let statements = readers.parse_block_inside(language, shared, frame, settings)?;
-    end_block(language.alloc(), shared, statements, settings.pos)
+impl<R: LentReaders> Reader<'_, R> {
+    /// Reads a block after its `{`, where the settings stand, up to its `}`. Its definitions end with it.
+    #[tactic(auto, using(crate::proofs::StmtReaders::parse_block))]
+    pub(crate) fn parse_block(
+        &self,
+        shared: &mut Shared<'_>,
+        frame: &Frame<'_>,
+        settings: ParseSettings,
+    ) -> ParseResult<StmtBlock>
+        requires lent { Covers (R.lent self.now.readers) (block self.now.language.now frame.now settings) shared.old }
+        ensures goes_on { GoesOn shared.old shared.new }
+        ensures stays { Stays self.now.language.now frame.now settings 3 shared.old shared.new }
+        ensures reads { Reads (block self.now.language.now frame.now settings) block_view shared.old result shared.new }
+    {
+        let statements = nested!(shared, self.parse_block_inside(shared, frame, settings))?;
+        end_block(self.language.alloc(), shared, statements, settings.pos)
+    }
 }

@@ -12,7 +12,7 @@ ghost use Rattle.rhai_parser.specs.Rooms.{Stays};
 
 use crate::expr::asks::end_index;
 use crate::lent::LentReaders;
-use crate::reader::ExprReader;
+use crate::reader::Reader;
 use crate::shared::Shared;
 use rhai_base::cursor::{peek, skip};
 use rhai_base::leaves::due::{arguments_due, no_bang};
@@ -25,7 +25,7 @@ use rhai_grammar::{Calling, Linking, ParseResult};
 use rhai_lower::Expr;
 use rhai_trees::{Chain, Link, LinkKind, indexed_operand, test_links};
 
-impl<R: LentReaders> ExprReader<'_, R> {
+impl<R: LentReaders> Reader<'_, R> {
     /// Reads what calls the name before it; without that, there is no `!` and no argument. A name with a path, which
     /// `qualified` says it is, may not be called with a `!`. A raise of the arguments' level is refused where the
     /// settings stand.

@@ -8,12 +8,12 @@ ghost use Rattle.rhai_parser.specs.Readers.{Covers, GoesOn, Reads, braced, branc
 ghost use Rattle.rhai_parser.specs.Readers.{guard, iterated};
 ghost use Rattle.rhai_parser.specs.Rooms.{Stays};
 
-use crate::blocks::{begin_block, parse_block};
+use crate::blocks::begin_block;
 use crate::construct::control::{
     catch_frame, end_guard, end_iterated, loop_frame, next_catch, next_do_end, next_loop_names,
 };
 use crate::lent::LentReaders;
-use crate::reader::ConstructReader;
+use crate::reader::Reader;
 use crate::shared::Shared;
 use rhai_base::cursor::peek;
 use rhai_base::leaves::constructs::guard_begins;
@@ -25,7 +25,7 @@ use rhai_trees::{
     make_block_statement, make_do, make_for, make_if, make_try, make_while, no_block,
 };
 
-impl<R: LentReaders> ConstructReader<'_, R> {
+impl<R: LentReaders> Reader<'_, R> {
     /// Reads a construct of this kind after its first token, where the settings stand.
     #[tactic(auto, using(crate::proofs::ConstructReaders::parse_construct))]
     pub fn parse_construct(
@@ -45,10 +45,7 @@ impl<R: LentReaders> ConstructReader<'_, R> {
     {
         match kind {
             Construct::Block => {
-                let block = nested!(
-                    shared,
-                    parse_block(self.language, &self.readers, shared, frame, settings)
-                )?;
+                let block = nested!(shared, self.parse_block(shared, frame, settings))?;
                 Ok(make_block_statement(self.language.alloc(), block)?)
             }
             Construct::If => nested!(shared, self.parse_if(shared, frame, settings)),
@@ -173,10 +170,7 @@ impl<R: LentReaders> ConstructReader<'_, R> {
     {
         let opening = begin_block(self.language.alloc(), shared, "to begin this block")?;
         let deeper = settings.level_up_with_position(opening)?;
-        nested!(
-            shared,
-            parse_block(self.language, &self.readers, shared, frame, deeper)
-        )
+        nested!(shared, self.parse_block(shared, frame, deeper))
     }
 
     /// Reads a `while` after its keyword, where the settings stand.

@@ -18,7 +18,7 @@ ghost use Rattle.rhai_trees.specs.Chains.{chain_view};
 use crate::expr::asks::{as_variable, end_operand, sign_operand};
 use crate::expr::paths::{NamedOperand, named_operand};
 use crate::lent::LentReaders;
-use crate::reader::ExprReader;
+use crate::reader::Reader;
 use crate::shared::Shared;
 use rhai_base::cursor::{peek, skip, take};
 use rhai_base::leaves::lists::{closes_list, list_continues};
@@ -31,7 +31,7 @@ use rhai_grammar::{CommaList, DueToken, OperandPlace, OperandStart, ParseResult}
 use rhai_lower::Expr;
 use rhai_trees::{Chain, make_statement_value};
 
-impl<R: LentReaders> ExprReader<'_, R> {
+impl<R: LentReaders> Reader<'_, R> {
     /// Reads the path and what calls an operand, if it is a name.
     #[tactic(auto, using(crate::proofs::ExprReaders::parse_plain))]
     fn parse_postfix(
@@ -235,9 +235,7 @@ impl<R: LentReaders> ExprReader<'_, R> {
             shared.new }
     {
         peek(shared.input)?;
-        let primary = self
-            .readers
-            .parse_primary(self.language, shared, frame, settings)?;
+        let primary = nested!(shared, self.parse_primary(shared, frame, settings))?;
         let operand = nested!(shared, self.parse_postfix(shared, frame, settings, primary))?;
         match self.parse_links(shared, frame, settings, &operand) {
             Ok(links) => end_operand(frame, settings, operand, links),

@@ -20,11 +20,10 @@ ghost use Rattle.rhai_reading.specs.Reading.{Goal, fn_on, function_end, private_
 ghost use Rattle.rhai_reading.specs.Running.{Caller, Gives, Progress, asked, exec, guarded};
 ghost use Rattle.rhai_parser.specs.Rooms.{Ends, Stays, function_room};
 
-use crate::blocks::parse_block;
 use crate::function::head::{next_comments, next_head, next_parameter_list};
 use crate::lent::LentReaders;
 use crate::parameters::declare_parameters;
-use crate::reader::StmtReader;
+use crate::reader::Reader;
 use crate::shared::Shared;
 use rhai_base::comments::kept_comments;
 use rhai_base::cursor::{peek, skip};
@@ -41,7 +40,7 @@ use std::rc::{Rc, RcStr};
 /// A function with the key that it is found by.
 type EndedFn = (FnKey, Rc<ScriptFuncDef>);
 
-impl<R: LentReaders> StmtReader<'_, R> {
+impl<R: LentReaders> Reader<'_, R> {
     /// Reads a function with its doc comments, of which the first comes next, as the caller has seen. Where that is
     /// below the global level, or no function follows the comments, the error is `WrongDocComment` at the first.
     #[tactic(auto, using(crate::proofs::StmtReaders::parse_documented_fn))]
@@ -209,10 +208,7 @@ impl<R: LentReaders> StmtReader<'_, R> {
         let opening = open_body(shared.input, &head.1)?;
         let deeper = settings.level_up_with_position(opening)?;
         declare_parameters(frame, &names)?;
-        let body = nested!(
-            shared,
-            parse_block(self.language, &self.readers, shared, frame, deeper)
-        )?;
+        let body = nested!(shared, self.parse_block(shared, frame, deeper))?;
         let alloc = self.language.alloc();
         Ok(make_function(alloc, comments, private, head, names, body)?)
     }

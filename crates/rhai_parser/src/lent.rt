@@ -2,8 +2,7 @@
 
 ghost use Rattle.std.specs.Prelude.{ℕ, ◌+◌};
 ghost use Rattle.rhai_lower.specs.View.{statement_view, view};
-ghost use Rattle.rhai_parser.specs.Readers.{GoesOn, Nests, construct, expression, inside, primary, state_of};
-ghost use Rattle.rhai_parser.specs.Readers.{statement, statements_of, with_live};
+ghost use Rattle.rhai_parser.specs.Readers.{GoesOn, Nests, expression, state_of, statement, with_live};
 ghost use Rattle.rhai_reading.specs.Running.{need};
 ghost use Rattle.rhai_parser.specs.Rooms.{Stays, function_room};
 ghost use Rattle.rhai_trees.specs.Chains.{chain_view};
@@ -11,7 +10,7 @@ ghost use Rattle.rhai_trees.specs.Chains.{chain_view};
 use crate::language::Language;
 use crate::shared::Shared;
 use rhai_base::{Frame, ParseSettings};
-use rhai_grammar::{Construct, ParseResult};
+use rhai_grammar::ParseResult;
 use rhai_lower::{Expr, Stmt};
 use rhai_trees::Chain;
 
@@ -51,47 +50,6 @@ pub trait LentReaders {
             Err(error) => Err(error),
         }
     }
-
-    /// Reads what an operand begins with, without its sign, what calls it and its links: a chain where it is a group.
-    fn parse_primary(
-        &self,
-        language: &Language,
-        shared: &mut Shared<'_>,
-        frame: &Frame<'_>,
-        settings: ParseSettings,
-    ) -> ParseResult<Chain>
-        requires covered { lent self.now (need (primary language.now frame.now settings) (state_of shared.old)) }
-        ensures goes_on { GoesOn shared.old shared.new }
-        ensures stays { Stays language.now frame.now settings 2 shared.old shared.new }
-        ensures reads { Nests (primary language.now frame.now settings) chain_view shared.old result shared.new };
-
-    /// Reads a construct of this kind after its first token, where the settings stand.
-    fn parse_construct(
-        &self,
-        language: &Language,
-        shared: &mut Shared<'_>,
-        frame: &Frame<'_>,
-        settings: ParseSettings,
-        kind: Construct,
-    ) -> ParseResult<Stmt>
-        requires covered { lent self.now (need (construct language.now frame.now settings kind) (state_of shared.old)) }
-        ensures goes_on { GoesOn shared.old shared.new }
-        ensures stays { Stays language.now frame.now settings 5 shared.old shared.new }
-        ensures reads { Nests (construct language.now frame.now settings kind) statement_view shared.old result
-            shared.new };
-
-    /// Reads the statements of a block up to its `}`, which stays. Its definitions end with it.
-    fn parse_block_inside(
-        &self,
-        language: &Language,
-        shared: &mut Shared<'_>,
-        frame: &Frame<'_>,
-        settings: ParseSettings,
-    ) -> ParseResult<Vec<Stmt>>
-        requires covered { lent self.now (need (inside language.now frame.now settings) (state_of shared.old)) }
-        ensures goes_on { GoesOn shared.old shared.new }
-        ensures stays { Stays language.now frame.now settings 3 shared.old shared.new }
-        ensures reads { Nests (inside language.now frame.now settings) statements_of shared.old result shared.new };
 
     /// Reads a statement. The level is raised at its first token.
     fn parse_stmt(

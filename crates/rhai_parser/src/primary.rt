@@ -16,7 +16,7 @@ ghost use Rattle.rhai_trees.specs.Chains.{chain_view};
 
 use crate::lent::LentReaders;
 use crate::primary::asks::{used_name, used_word};
-use crate::reader::PrimaryReader;
+use crate::reader::Reader;
 use crate::shared::Shared;
 use rhai_base::cursor::{peek, skip};
 use rhai_base::leaves::due::match_token;
@@ -29,7 +29,7 @@ use rhai_grammar::{Beginning, DueToken, ParseResult};
 use rhai_lower::Expr;
 use rhai_trees::{Chain, make_statement_value};
 
-impl<R: LentReaders> PrimaryReader<'_, R> {
+impl<R: LentReaders> Reader<'_, R> {
     /// Reads an operand without its sign, and without what calls it: a chain where it is a group.
     #[tactic(auto, using(crate::proofs::PrimaryReaders::parse_primary))]
     pub fn parse_primary(
@@ -136,9 +136,7 @@ impl<R: LentReaders> PrimaryReader<'_, R> {
                 }
                 skip(shared.input);
                 let deeper = settings.at(pos).level_up()?.level_up()?;
-                let statement = self
-                    .readers
-                    .parse_construct(self.language, shared, frame, deeper, kind)?;
+                let statement = nested!(shared, self.parse_construct(shared, frame, deeper, kind))?;
                 let value = make_statement_value(alloc, statement)?;
                 Ok(Chain::from_value(alloc, value))
             }

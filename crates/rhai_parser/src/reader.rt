@@ -1,39 +1,12 @@
-//! The readers: for each kind of construct a struct, whose methods read it.
+//! The reader of scripts. Its methods stand beside the constructs that they read.
 
 use crate::language::Language;
 
-/// The reader of expressions of one language.
+/// Reads the scripts of one language. What recurses, expressions and statements, is lent to it.
 #[derive(Drop)]
-pub struct ExprReader<'r, R> {
+pub struct Reader<'r, R> {
     /// What scripts are read under.
     pub language: &'r Language,
-    /// What reads the other parts of a script.
-    pub readers: R,
-}
-
-/// The reader of primaries of one language.
-#[derive(Drop)]
-pub struct PrimaryReader<'r, R> {
-    /// What scripts are read under.
-    pub language: &'r Language,
-    /// What reads the other parts of a script.
-    pub readers: R,
-}
-
-/// The reader of constructs of one language.
-#[derive(Drop)]
-pub struct ConstructReader<'r, R> {
-    /// What scripts are read under.
-    pub language: &'r Language,
-    /// What reads the other parts of a script.
-    pub readers: R,
-}
-
-/// The reader of statements of one language.
-#[derive(Drop)]
-pub struct StmtReader<'r, R> {
-    /// What scripts are read under.
-    pub language: &'r Language,
-    /// What reads the other parts of a script.
+    /// What reads the expressions and statements in what it reads.
     pub readers: R,
 }

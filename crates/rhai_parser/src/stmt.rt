@@ -20,7 +20,7 @@ ghost use Rattle.rhai_trees.specs.Statements.{optional_view};
 ghost use Rattle.rhai_parser.specs.Rooms.{Stays, function_room};
 
 use crate::lent::LentReaders;
-use crate::reader::StmtReader;
+use crate::reader::Reader;
 use crate::shared::Shared;
 use crate::stmt::asks::{end_assignment, next_var_name, starts_expression};
 use crate::stmt::modules::{define_as, export_name, next_alias};
@@ -38,7 +38,7 @@ use rhai_trees::{
     make_jump, push_statement,
 };
 
-impl<R: LentReaders> StmtReader<'_, R> {
+impl<R: LentReaders> Reader<'_, R> {
     /// Reads the statements of a list, up to the token that closes it, which stays. The definitions among them are
     /// made in the frame.
     #[tactic(auto, using(crate::proofs::StmtReaders::parse_statements))]
@@ -106,8 +106,7 @@ impl<R: LentReaders> StmtReader<'_, R> {
                 let settings = settings.at(*pos);
                 skip(shared.input);
                 let deeper = settings.level_up()?.level_up()?;
-                self.readers
-                    .parse_construct(self.language, shared, frame, deeper, kind)
+                nested!(shared, self.parse_construct(shared, frame, deeper, kind))
             }
             _ => self.parse_keyword_stmt(shared, frame, settings),
         }

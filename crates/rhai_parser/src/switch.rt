@@ -16,7 +16,7 @@ ghost use Rattle.rhai_trees.specs.Arms.{arms_view};
 ghost use Rattle.rhai_parser.specs.Rooms.{Stays};
 
 use crate::lent::LentReaders;
-use crate::reader::ConstructReader;
+use crate::reader::Reader;
 use crate::shared::Shared;
 use crate::switch::arms::{Action, Arm, as_case, end_arm, end_default, end_statement_action};
 use rhai_base::leaves::arms::{NextArm, action_due, default_unguarded, next_arm};
@@ -26,7 +26,7 @@ use rhai_grammar::{DueToken, ParseResult};
 use rhai_lower::{Expr, Position, Stmt};
 use rhai_trees::{Arms, make_switch, new_arms, no_guard, push_arm, push_default};
 
-impl<R: LentReaders> ConstructReader<'_, R> {
+impl<R: LentReaders> Reader<'_, R> {
     /// Reads a `switch` after its keyword, where the settings stand.
     #[tactic(auto, using(crate::proofs::ConstructReaders::parse_switch))]
     pub(crate) fn parse_switch(

@@ -63,7 +63,8 @@ pub use Rattle.rhai_reading.specs.Goals.{Alias, Export, Import, LoopNames, Path,
 pub use Rattle.rhai_reading.specs.Goals.{Action, Arm, ArmEnd, Arms, Case, CaseGuard, Cases, DefaultArm}
 pub use Rattle.rhai_reading.specs.Goals.{Comments, DefaultEnd, Function, FunctionHead, FunctionStatement, ParameterList}
 pub use Rattle.rhai_reading.specs.Goals.{Closure, ClosureBody, Parameters, Script, Val}
-pub use Rattle.rhai_reading.specs.Goals.{Ret, Fail, Peek, Take, TakeText, Know, Add, Note, Call, CallLiteral, CallApart, Prog}
+pub use Rattle.rhai_reading.specs.Goals.{Ret, Fail, Peek, Take, TakeText, Know, Add, Note, Call, CallLiteral, CallApart}
+pub use Rattle.rhai_reading.specs.Goals.{Prog}
 pub use Rattle.rhai_reading.specs.Goals.{after_a_part, construct_on, match_name, match_token, part_next, raised, tested}
 pub use Rattle.rhai_reading.specs.ReadingStatements.{evaluated_at, var_name_at, value_at, definition_on}
 pub use Rattle.rhai_reading.specs.ReadingStatements.{jump_on, loop_at, statement_at, separated_at, statements_on}
@@ -74,7 +75,8 @@ pub use Rattle.rhai_reading.specs.ReadingStatements.{first_of_two, loop_names_at
 pub use Rattle.rhai_reading.specs.ReadingStatements.{alias_at, export_at, export_on, global_at, import_on}
 pub use Rattle.rhai_reading.specs.ReadingFunctions.{comment_of, comments_at}
 pub use Rattle.rhai_reading.specs.ReadingFunctions.{function_at, function_body_at, function_end, function_on, head_at}
-pub use Rattle.rhai_reading.specs.ReadingClosures.{captured_on, closure_added, closure_at, closure_body_at, closure_by, closure_end, closure_on}
+pub use Rattle.rhai_reading.specs.ReadingClosures.{captured_on, closure_added, closure_at, closure_body_at, closure_by}
+pub use Rattle.rhai_reading.specs.ReadingClosures.{closure_end, closure_on}
 use Rattle.rhai_grammar.specs.Modules.{captures_use}
 use Rattle.rhai_grammar.specs.Starts.{may_be_closure}
 pub use Rattle.rhai_reading.specs.ReadingFunctions.{named_at, owner_at, parameter_at, parameters_at}

@@ -139,8 +139,7 @@ last_fault_push (k ∷ ls) l =
 -- ---- one more link
 
 pub links_push : (ls : List Link) (l : Link) → link_views (ls ++ (l ∷ [])) ≡ link_views ls ++ (link_view l ∷ [])
-links_push [] l = refl
-links_push (m ∷ ls) l = ap (λ r. link_view m ∷ r) (links_push ls l)
+links_push ls l = views_append ls (l ∷ [])
 
 pub indexed_after : (x : Node) (ls : List chain.Link) (l : chain.Link) → indexed_by x (ls ++ (l ∷ [])) ≡ None
 indexed_after x [] l = refl

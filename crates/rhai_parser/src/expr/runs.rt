@@ -21,7 +21,7 @@ ghost use Rattle.rhai_parser.specs.Runs.{right_side, run_at, side_view};
 
 use crate::expr::asks::next_operator;
 use crate::lent::LentReaders;
-use crate::reader::ExprReader;
+use crate::reader::Reader;
 use crate::shared::Shared;
 use rhai_base::cursor::take;
 use rhai_base::leaves::operators::Operator;
@@ -103,7 +103,7 @@ pub(crate) fn next_in_run(
     }
 }
 
-impl<R: LentReaders> ExprReader<'_, R> {
+impl<R: LentReaders> Reader<'_, R> {
     /// Reads the operator that comes next, which the caller has seen, and the operand after it, which begins a run on
     /// its right. A reserved symbol after the operand is refused before the level is raised.
     #[tactic(auto, using(crate::proofs::ExprReaders::parse_operator))]

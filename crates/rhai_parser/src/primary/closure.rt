@@ -14,7 +14,7 @@ ghost use Rattle.rhai_parser.specs.Rooms.{Ends, Stays, Steady, function_room};
 
 use crate::lent::LentReaders;
 use crate::parameters::{declare_parameters, next_parameters};
-use crate::reader::PrimaryReader;
+use crate::reader::Reader;
 use crate::shared::Shared;
 use rhai_base::closures::{closure_function, closure_value};
 use rhai_base::leaves::tokens::ends_here;
@@ -26,7 +26,7 @@ use rhai_trees::Chain;
 use std::alloc::Global;
 use std::rc::RcStr;
 
-impl<R: LentReaders> PrimaryReader<'_, R> {
+impl<R: LentReaders> Reader<'_, R> {
     /// Reads a closure after its `|` or `||`, where the settings stand. Its function joins the library.
     #[tactic(auto, using(crate::proofs::PrimaryReaders::parse_closure))]
     pub(crate) fn parse_closure(

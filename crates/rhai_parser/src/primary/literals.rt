@@ -10,7 +10,7 @@ ghost use Rattle.rhai_parser.specs.Rooms.{Stays};
 use crate::blocks::begin_block;
 use crate::lent::LentReaders;
 use crate::primary::asks::{next_key, next_text};
-use crate::reader::PrimaryReader;
+use crate::reader::Reader;
 use crate::shared::Shared;
 use rhai_base::cursor::{peek, skip};
 use rhai_base::leaves::items::item_place;
@@ -22,7 +22,7 @@ use rhai_lower::{Expr, Ident};
 use rhai_trees::{make_block, push_segment, push_text};
 use std::rc::RcStr;
 
-impl<R: LentReaders> PrimaryReader<'_, R> {
+impl<R: LentReaders> Reader<'_, R> {
     /// Reads the items of an array after its `[`, where the settings stand, up to the `]`. The level is raised for each
     /// item anew, and a raise is refused at the `[`.
     #[tactic(auto, using(crate::proofs::PrimaryReaders::parse_array_literal))]
@@ -125,9 +125,7 @@ impl<R: LentReaders> PrimaryReader<'_, R> {
             let note = "to begin a block in this string";
             let start = begin_block(self.language.alloc(), shared, note)?;
             let deeper = settings.level_up()?;
-            let statements = self
-                .readers
-                .parse_block_inside(self.language, shared, frame, deeper)?;
+            let statements = nested!(shared, self.parse_block_inside(shared, frame, deeper))?;
             let part = next_text(self.language.alloc(), shared)?;
             let block = make_block(statements, start, part.end);
             push_segment(

@@ -1,7 +1,7 @@
--- What each of these functions lends, where less is left to do than at its own call.
+-- What both of these functions lend, where less is left to do than at their own call.
 use Rattle.std.proofs.Common.{ℕ, ◌≡◌, ◌<◌, ◌∙◌, ap, arith}
 use Rattle.rhai_reading.specs.Running.{need}
-use Rattle.rhai_parser.specs.Readers.{construct, expression, inside, primary, statement}
+use Rattle.rhai_parser.specs.Readers.{expression, statement}
 use Rattle.rhai_parser.proofs.lending.+parser.Goals as goal
 
 -- A need that falls below another is below what that other is measured by.
@@ -13,45 +13,6 @@ parse_chain-parse_chain-requires t c =
     let same = ap (need (expression c.args.language.now c.args.frame.now c.args.settings)) c.nested-enter.ensures.enters ∙ c.decreases in record {
       lent = λ m below. (
         λ language shared frame settings is. ((falls is below same, tt), λ result after told. told.1),
-        λ language shared frame settings is. ((falls is below same, tt), λ result after told. told.1),
-        λ language shared frame settings kind is. ((falls is below same, tt), λ result after told. told.2),
-        λ language shared frame settings is. ((falls is below same, tt), λ result after told. told.1),
-        λ language shared frame settings is. ((falls is below same, tt), λ result after left told. told.1),
-      );
-    }
-
-pub parse_primary-parse_primary-requires : goal.parse_primary-parse_primary-requires
-parse_primary-parse_primary-requires t c =
-    let same = ap (need (primary c.args.language.now c.args.frame.now c.args.settings)) c.nested-enter.ensures.enters ∙ c.decreases in record {
-      lent = λ m below. (
-        λ language shared frame settings is. ((falls is below same, tt), λ result after told. told.1),
-        λ language shared frame settings is. ((falls is below same, tt), λ result after told. told.1),
-        λ language shared frame settings kind is. ((falls is below same, tt), λ result after told. told.2),
-        λ language shared frame settings is. ((falls is below same, tt), λ result after told. told.1),
-        λ language shared frame settings is. ((falls is below same, tt), λ result after left told. told.1),
-      );
-    }
-
-pub parse_construct-parse_construct-requires : goal.parse_construct-parse_construct-requires
-parse_construct-parse_construct-requires t c =
-    let same = ap (need (construct c.args.language.now c.args.frame.now c.args.settings c.args.kind)) c.nested-enter.ensures.enters ∙ c.decreases in record {
-      lent = λ m below. (
-        λ language shared frame settings is. ((falls is below same, tt), λ result after told. told.1),
-        λ language shared frame settings is. ((falls is below same, tt), λ result after told. told.1),
-        λ language shared frame settings kind is. ((falls is below same, tt), λ result after told. told.2),
-        λ language shared frame settings is. ((falls is below same, tt), λ result after told. told.1),
-        λ language shared frame settings is. ((falls is below same, tt), λ result after left told. told.1),
-      );
-    }
-
-pub parse_block_inside-parse_block_inside-requires : goal.parse_block_inside-parse_block_inside-requires
-parse_block_inside-parse_block_inside-requires t c =
-    let same = ap (need (inside c.args.language.now c.args.frame.now c.args.settings)) c.nested-enter.ensures.enters ∙ c.decreases in record {
-      lent = λ m below. (
-        λ language shared frame settings is. ((falls is below same, tt), λ result after told. told.1),
-        λ language shared frame settings is. ((falls is below same, tt), λ result after told. told.1),
-        λ language shared frame settings kind is. ((falls is below same, tt), λ result after told. told.2),
-        λ language shared frame settings is. ((falls is below same, tt), λ result after told. told.1),
         λ language shared frame settings is. ((falls is below same, tt), λ result after left told. told.1),
       );
     }
@@ -60,9 +21,6 @@ pub parse_stmt-parse_stmt-requires : goal.parse_stmt-parse_stmt-requires
 parse_stmt-parse_stmt-requires t c =
     let same = ap (need (statement c.args.language.now c.args.frame.now c.args.settings)) c.nested-enter.ensures.enters ∙ c.decreases in record {
       lent = λ m below. (
-        λ language shared frame settings is. ((falls is below same, tt), λ result after told. told.1),
-        λ language shared frame settings is. ((falls is below same, tt), λ result after told. told.1),
-        λ language shared frame settings kind is. ((falls is below same, tt), λ result after told. told.2),
         λ language shared frame settings is. ((falls is below same, tt), λ result after told. told.1),
         λ language shared frame settings is. ((falls is below same, tt), λ result after left told. told.1),
       );

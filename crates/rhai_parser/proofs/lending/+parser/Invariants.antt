@@ -1,18 +1,9 @@
 use Rattle.rhai_reading.specs.Running.{need}
-use Rattle.rhai_parser.specs.Readers.{construct, expression, inside, primary, state_of, statement}
+use Rattle.rhai_parser.specs.Readers.{expression, state_of, statement}
 use Rattle.rhai_parser.proofs.lending.+parser.Given as goal
 
 abbrev pub decreases-parse_chain : goal.decreases-parse_chain
 decreases-parse_chain l = need (expression l.language.now l.frame.now l.settings) (state_of l.shared.now)
-
-abbrev pub decreases-parse_primary : goal.decreases-parse_primary
-decreases-parse_primary l = need (primary l.language.now l.frame.now l.settings) (state_of l.shared.now)
-
-abbrev pub decreases-parse_construct : goal.decreases-parse_construct
-decreases-parse_construct l = need (construct l.language.now l.frame.now l.settings l.kind) (state_of l.shared.now)
-
-abbrev pub decreases-parse_block_inside : goal.decreases-parse_block_inside
-decreases-parse_block_inside l = need (inside l.language.now l.frame.now l.settings) (state_of l.shared.now)
 
 abbrev pub decreases-parse_stmt : goal.decreases-parse_stmt
 decreases-parse_stmt l = need (statement l.language.now l.frame.now l.settings) (state_of l.shared.now)

@@ -1,0 +1,7 @@
+use Rattle.std.proofs.Common.{arith}
+use Rattle.std.proofs.lemmas.Result.{err_from_is_err_and}
+use Rattle.rhai_parser.proofs.PrimaryReaders as rule
+use Rattle.rhai_parser.proofs.reader.Reader.parse_array_literal.Goals as goal
+
+pub returns-in_err-list_continues-clause-reads : goal.returns-in_err-list_continues-clause-reads
+returns-in_err-list_continues-clause-reads g c = let p = err_from_is_err_and c.from_residual-in_err-list_continues.result c.from_residual-in_err-list_continues.ensures.1 in rw (p.1, p.2) (grind (arith, rule.parse_array_literal))

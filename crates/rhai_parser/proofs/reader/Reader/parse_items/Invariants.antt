@@ -1,0 +1,17 @@
+use Rattle.std.proofs.Common.{◌≡◌}
+use Rattle.rhai_lower.specs.Nodes.{no_nodes}
+use Rattle.rhai_grammar.specs.Cursors.{left}
+use Rattle.rhai_reading.specs.Running.{result_of}
+use Rattle.rhai_parser.specs.Readers.{GoesOn, items, state_of, views_of}
+use Rattle.rhai_parser.specs.Rooms.{Stays}
+use Rattle.rhai_parser.proofs.reader.Reader.parse_items.Given as goal
+
+abbrev pub invariant-loop-items : goal.invariant-loop-items
+invariant-loop-items g l = record {
+  same : result_of (items l.fn.self.language.now l.fn.frame l.fn.settings no_nodes) (state_of l.fn.shared) ≡ result_of (items l.self.language.now l.frame l.settings (views_of l.items)) (state_of l.shared);
+  goes_on : GoesOn l.fn.shared l.shared;
+  stays : Stays l.self.language.now l.frame l.settings 1 l.fn.shared l.shared;
+}
+
+abbrev pub decreases-loop-items : goal.decreases-loop-items
+decreases-loop-items g l = left (state_of l.shared).cursor.tokens

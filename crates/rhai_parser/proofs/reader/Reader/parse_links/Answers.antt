@@ -1,0 +1,14 @@
+use Rattle.std.proofs.Common.{◌∙◌, ap, arith, refl, sym}
+use Rattle.rhai_reading.specs.Running.{result_of}
+use Rattle.rhai_trees.specs.Chains.{chain_view}
+use Rattle.rhai_parser.proofs.Given.{gives_so}
+use Rattle.rhai_parser.specs.Readers.{links, state_of}
+use Rattle.rhai_parser.specs.ExprViews.{linked}
+use Rattle.rhai_reading.proofs.Steps.{looked}
+use Rattle.rhai_parser.proofs.reader.Reader.parse_links.Goals as goal
+
+pub returns-in-Bracket-clause-reads : goal.returns-in-Bracket-clause-reads
+returns-in-Bracket-clause-reads g c =
+    let goal = links c.args.self.now.language.now c.args.frame.now c.args.settings (chain_view c.args.lhs.now) in
+    gives_so linked c.parse_all_links.result (state_of c.parse_all_links.new.shared)
+    (sym (looked goal _ (state_of c.args.shared.now) refl) ∙ ap (result_of goal) (grind arith)) c.parse_all_links.ensures.reads
