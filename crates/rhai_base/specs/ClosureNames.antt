@@ -1,4 +1,4 @@
--- The names of closures: some of them.
+-- Worked examples of closures' names.
 use Rattle.std.specs.Prelude.{◌≡◌, ◌^◌, ◌-◌, codes, refl}
 use Rattle.rhai_grammar.specs.Closures.{closure_name, last_hex_digits}
 

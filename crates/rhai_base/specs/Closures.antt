@@ -1,4 +1,4 @@
--- Closures: where a body is missing.
+-- A closure whose body is missing.
 use Rattle.std.specs.Prelude.{◌≡◌, true, false, Option, Some, None}
 use Rattle.rhai_lower.specs.declared.position.Position.{Position}
 use Rattle.rhai_grammar.specs.Delivered.{Item, is_end}

@@ -1,4 +1,4 @@
--- What follows a part of a list with commas, as the code takes it.
+-- What the code takes after a part of a list with commas.
 use Rattle.std.specs.Prelude.{◌≡◌, Bool, false, IsTrue, Result, Ok, Err}
 use Rattle.rhai_grammar.specs.Causes.{is_for_memory, refusal, refusal_of}
 use Rattle.rhai_grammar.specs.CommaLists.{after_part, not_after}

@@ -1,5 +1,5 @@
--- How many functions and closures have begun, how many grammar functions are active, and the greatest number active at
--- once.
+-- How counts of functions and active readers change. They count the functions and closures that have begun, the grammar
+-- functions that are active, and the greatest number active at once.
 use Rattle.std.specs.Prelude.{◌≡◌, ℕ, ◌-◌, ◌^◌, max, refl}
 use Rattle.rhai_grammar.specs.Settings.{one_more}
 use Rattle.rhai_base.specs.declared.counts.ParseCounts.{ParseCounts}

@@ -1,4 +1,4 @@
--- An index of the names in a library.
+-- When an index agrees with the names in a library.
 use Rattle.std.specs.Prelude.{◌≡◌, ℕ, Bool, List}
 use Rattle.std.specs.List.{list_any}
 use Rattle.std.specs.Rc.{rc_str_bytes}

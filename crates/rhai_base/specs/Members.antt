@@ -1,4 +1,4 @@
--- What a token is after a dot, as the code's tests tell it.
+-- What a token is after a dot, by the code's tests.
 use Rattle.rhai_lower.specs.Lexemes.{Lexeme, Faulty, Reserved}
 use Rattle.rhai_grammar.specs.Causes as cause
 use Rattle.rhai_grammar.specs.Causes.{Cause}

@@ -1,4 +1,4 @@
--- An index of the names in a list.
+-- When an index agrees with the names in a list.
 use Rattle.std.specs.Prelude.{◌≡◌, List, [], ◌∷◌, refl}
 use Rattle.std.specs.Rc.{rc_str_bytes}
 use Rattle.std.specs.declared.rc.RcStr.{RcStr}

@@ -1,4 +1,4 @@
--- The settings of the code as the definitions see them, what a raise of the level makes of them, and what they refuse.
+-- The settings of the code as plain ones: raises of the level, and refusals.
 use Rattle.std.specs.Prelude.{◌≡◌, ◌+◌, ◌-◌, ◌≤◌, ℕ, true, false, Result, Ok, Err, refl}
 use Rattle.rhai_lower.specs.Positions.{place}
 use Rattle.rhai_lower.specs.declared.position.Position.{Position}

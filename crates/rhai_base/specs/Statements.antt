@@ -1,4 +1,4 @@
--- What stands where a statement begins and ends, doc comments, and the name of a definition, as the code takes them.
+-- How the code takes what begins and ends statements. Doc comments and the name of a definition are here too.
 use Rattle.std.specs.Prelude.{◌≡◌, Bool, true, false, IsTrue, Option, None, Some, Result, Ok, Err, codes}
 use Rattle.std.specs.Rc.{rc_str_bytes}
 use Rattle.std.specs.declared.alloc.AllocError.{AllocError}

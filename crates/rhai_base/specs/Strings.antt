@@ -1,4 +1,4 @@
--- The end of a block in an interpolated string, and the text after it, as the code takes them.
+-- How the code takes the end of an interpolated block, and its next text.
 use Rattle.std.specs.Prelude.{◌≡◌, ◌⊎◌, true, false, Result, Ok, Err}
 use Rattle.std.specs.Rc.{rc_str_bytes}
 use Rattle.rhai_lower.specs.Lexemes.{text_of}

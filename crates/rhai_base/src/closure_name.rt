@@ -1,4 +1,4 @@
-//! The names of closures.
+//! How closures are named: `anon$` and sixteen hexadecimal digits.
 
 ghost use Rattle.std.specs.Prelude.{◌≡◌, IfOk};
 ghost use Rattle.std.specs.Rc.{rc_str_bytes};

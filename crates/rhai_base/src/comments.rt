@@ -1,4 +1,4 @@
-//! Doc comments: what a function keeps of those written before it.
+//! `kept_comments`: which doc comments a function keeps, and how.
 
 ghost use Rattle.std.specs.Prelude.{◌≡◌, ◌≤◌, IfOk, OnOk, string_bytes};
 ghost use Rattle.std.specs.Prelude.{List, ◌∷◌, ◌++◌, All, drop, map};

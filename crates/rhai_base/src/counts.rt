@@ -1,4 +1,4 @@
-//! How many functions have begun, and how deeply grammar functions are nested.
+//! `ParseCounts`: functions begun, and grammar functions active. The greatest number active at once is kept too.
 
 ghost use Rattle.std.specs.Prelude.{◌≡◌};
 ghost use Rattle.rhai_base.specs.Counts.{counts_of, none_yet, with_begun, with_ended, with_entered, with_left};

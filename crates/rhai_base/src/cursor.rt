@@ -1,4 +1,5 @@
-//! Peeking at tokens and taking them.
+//! Peeking at tokens and taking them: `peek`, `take` and `skip`. A token that says that memory ran out is refused here,
+//! and nowhere else.
 
 ghost use Rattle.std.specs.Prelude.{◌≡◌, ◌+◌, ◌≤◌, false};
 ghost use Rattle.std.specs.Borrow.{sem};

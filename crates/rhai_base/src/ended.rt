@@ -1,4 +1,4 @@
-//! The functions of a script with an index of their names.
+//! `Library`: a script's functions with an index of their names.
 
 ghost use Rattle.std.specs.Prelude.{◌≡◌, ◌+◌, IfErr, IfOk, OnErr, OnOk, false, length, nat_lt, true};
 ghost use Rattle.rhai_grammar.specs.Keys.{has_key, key_of, keys_of};

@@ -1,4 +1,4 @@
-//! The flags and options that are sets of bits.
+//! `ParseSettingFlags` and `LangOptions`: sets of bits.
 
 ghost use Rattle.std.specs.Prelude.{⊤, ◌≡◌};
 ghost use Rattle.std.specs.Int.RustNames.{bit_and, bit_or, bit_xor};

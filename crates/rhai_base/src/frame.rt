@@ -1,4 +1,4 @@
-//! What is live in a block, and which tokens its expressions may contain.
+//! `Frame`: what is live in a block, and which tokens its expressions may contain.
 
 ghost use Rattle.std.specs.Prelude.{◌≡◌, ◌&&◌, ◌||◌, ◌++◌, IfErr, IfOk, OnOk, codes, false, length, map, not};
 ghost use Rattle.std.specs.Prelude.{option_map, true};

@@ -1,4 +1,4 @@
-//! The imports of a block.
+//! `Imports`: the imports of a block, indexed if they are many.
 
 ghost use Rattle.std.specs.Prelude.{◌≡◌, ◌++◌, ◌∷◌, [], IfOk, OnErr, OnOk, length, map, option_map};
 ghost use Rattle.std.specs.Int.NonZero.{non_zero_usize_get};

@@ -1,4 +1,4 @@
-//! What is known before a script defines or imports anything.
+//! `Known`: what is known before a script defines or imports anything.
 
 ghost use Rattle.std.specs.Prelude.{◌≡◌};
 ghost use Rattle.rhai_lower.specs.Slots.{is_declared};

@@ -1,6 +1,6 @@
-//! What the readers ask of tokens and make of them without reading an expression: tests, operators, keys, lists, texts
-//! of strings, due tokens, statements, functions, constructs, arms of `switch` and refusals. None of it knows settings
-//! or what is live.
+//! The leaves: what readers ask of tokens, or make of them, without reading an expression. They are tests, operators,
+//! keys, lists, texts of strings, due tokens, statements, functions, constructs, arms of `switch` and refusals. None of
+//! it knows settings or what is live.
 
 pub mod arms;
 pub mod constructs;

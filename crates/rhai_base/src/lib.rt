@@ -1,5 +1,5 @@
-//! What the parsing functions share: the settings, the state, the cursor, what is live in a block, look-ups among the
-//! slots and imports, the library of functions, the nodes of values and names, and the leaves of the readers.
+//! What the readers stand on: settings, state, frames, look-ups, the library, and leaves. Leaves ask of tokens, or take
+//! them, without reading an expression. The cursor and the nodes of values and names are here too.
 #![tactic(auto)]
 
 pub mod captured;

@@ -1,4 +1,4 @@
-//! The functions and closures of a script.
+//! `FnLib`: functions and closures by key, without an index of names.
 
 ghost use Rattle.std.specs.Prelude.{◌≡◌, ◌↔◌, ◌++◌, ◌∷◌, [], true, false, IsTrue, OnOk, OnErr, IfOk, fold, map};
 ghost use Rattle.indexmap.specs.IndexMap.{values};

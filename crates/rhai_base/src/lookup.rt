@@ -1,4 +1,4 @@
-//! Look-ups of names among the slots and the imports.
+//! `find_var`, `find_module` and the like: look-ups among slots and imports.
 
 ghost use Rattle.std.specs.Prelude.{◌≡◌, ℕ, option_map, unwrap_or, map};
 ghost use Rattle.std.specs.Int.NonZero.{non_zero_usize_get};

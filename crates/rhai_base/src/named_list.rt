@@ -1,4 +1,4 @@
-//! Lists of what has a name, which know by an index whether a name is among theirs.
+//! `NamedList`: a list of what has a name, indexed if long.
 
 ghost use Rattle.std.specs.Prelude.{◌≡◌, ◌==◌, ◌||◌, ◌++◌, ◌∷◌, [], IfOk, List, OnErr, OnOk, length, map};
 ghost use Rattle.std.specs.Rc.{rc_str_bytes};

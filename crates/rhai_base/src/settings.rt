@@ -1,4 +1,4 @@
-//! The settings under which a construct is parsed.
+//! `ParseSettings`: the settings under which a construct is parsed, and their raises.
 
 ghost use Rattle.std.specs.Prelude.{◌≡◌, ◌==◌, IfOk, false};
 ghost use Rattle.std.specs.Int.RustNames.{bit_and};

@@ -1,4 +1,4 @@
-//! What a definition and an export do to the slots of one frame.
+//! What a definition and an export do to the slots of a frame.
 
 ghost use Rattle.std.specs.Prelude.{◌≡◌, ◌≤◌, IfOk, OnErr, OnOk, length, option_map};
 ghost use Rattle.std.specs.Int.NonZero.{non_zero_usize_get};

@@ -1,4 +1,4 @@
-//! The state of a parse.
+//! `ParseState`: the state that a caller gives a parse.
 
 ghost use Rattle.std.specs.Prelude.{◌≡◌, [], true};
 ghost use Rattle.rhai_grammar.specs.declared.filter.ExprFilter.TheVariants.{All};

@@ -1,4 +1,4 @@
--- No token is both required and refused at one place: single tokens, and the parts of forms that hold no form.
+-- Fair parts: single tokens, and what holds no form. No token is both required and refused at one place.
 use Rattle.std.proofs.Common.{◌≡◌, Bool, true, false, refl, ap, if◌then◌else◌}
 use Rattle.std.specs.Prelude.{Option, Some, None}
 use Rattle.rhai_lower.specs.Lexemes.{Lexeme, Sign, String}

@@ -1,4 +1,4 @@
--- What each form demands leads, over the tokens of its spelling, to what comes after it.
+-- A form's demands lead over its spelling to what follows. It is one induction over all forms.
 use Rattle.std.proofs.Common.{◌≡◌, ℕ, ◌+◌, Bool, true, false, List, [], ◌∷◌, ◌++◌, append-nil, append_assoc, sym, subst}
 use Rattle.std.specs.Prelude.{Option, Some, None}
 use Rattle.rhai_lower.specs.Lexemes.{Lexeme, Sign, text_of, Name}

@@ -1,4 +1,4 @@
--- Demands that are met give a fact about a form, and keep the numbers right in the functions that end along them.
+-- Met demands keep numbers right in functions that end. They also give a fact about a form.
 use Rattle.std.proofs.Common.{◌≡◌, ℕ, Bool, true, false, List, [], ◌∷◌, ◌++◌, subst}
 use Rattle.std.specs.Prelude.{Option, Some, None}
 use Rattle.rhai_lower.specs.Lexemes.{Lexeme}

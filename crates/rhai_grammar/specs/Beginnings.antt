@@ -1,4 +1,5 @@
--- What a token begins where an operand is expected, and what it does after a name, an operand and a dot.
+-- What a token begins where an operand is due, and what it is after one. It is also said of a token after a name and
+-- after a dot.
 use Rattle.std.specs.Prelude.{◌≡◌, ◌||◌, Bool, true, false, codes, if◌then◌else◌, refl}
 use Rattle.rhai_lower.specs.Texts.{Text, same_text}
 use Rattle.rhai_lower.specs.Names.{reserved_as}

@@ -1,5 +1,4 @@
--- The values of the cases of a `switch`: which nodes they are, which ranges, and when two are equal. Positions make no
--- difference.
+-- Values of `switch` cases: nodes, ranges, and equality. Positions make no difference.
 use Rattle.std.specs.Prelude.{◌≡◌, ◌-◌, ◌^◌, ◌==◌, ℤ, pos, int_lt, Bool, true, false, ◌&&◌, not, Option, Some, None}
 use Rattle.std.specs.Prelude.{option_map, if◌then◌else◌, refl}
 use Rattle.std.specs.Option.{is_some}

@@ -1,4 +1,4 @@
--- Why a script is refused, as the definitions see it: texts are bytes, and notes for people are left out.
+-- Causes of refusals, as definitions see them. Texts are bytes, and notes for people are left out.
 use Rattle.std.specs.Prelude.{◌≡◌, ℕ, Bool, true, false, codes, if◌then◌else◌, refl}
 use Rattle.std.specs.Rc.{rc_str_bytes}
 use Rattle.rhai_lower.specs.Texts.{Text}

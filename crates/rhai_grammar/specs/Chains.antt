@@ -1,4 +1,4 @@
--- Chains: an operand followed by brackets and dots, and the nested tree of that.
+-- An operand with brackets and dots, and its nested tree.
 use Rattle.std.specs.Prelude.{◌≡◌, Bool, true, false, ◌&&◌, ◌||◌, ◌++◌, ◌∷◌, [], List, Option, Some, None}
 use Rattle.std.specs.Prelude.{option_map}
 use Rattle.std.specs.Prelude.{if◌then◌else◌, codes, refl}

@@ -1,5 +1,5 @@
--- Laws of closures that users rely on: what their parameters are, what `curry` hands over, which names are captured,
--- and where these are used.
+-- Laws of closures: parameters, `curry`, captured names. They also say where captured names are used. Users rely on
+-- them.
 use Rattle.std.specs.Prelude.{◌≡◌, ◌⊎◌, ℕ, Bool, true, false, ◌++◌, List, [], ◌∷◌, None, Option, length, map}
 use Rattle.std.specs.Option.{is_some}
 use Rattle.rhai_lower.specs.Nodes as node

@@ -1,4 +1,4 @@
--- Lists with commas: what a token is after a part of one.
+-- What a token is after a part of a list with commas.
 use Rattle.std.specs.Prelude.{◌≡◌, Bool, true, false, not, codes, if◌then◌else◌, refl}
 use Rattle.rhai_lower.specs.Texts.{Text}
 use Rattle.rhai_lower.specs.Lexemes.{Lexeme, Faulty, Name, Sign}

@@ -1,4 +1,4 @@
--- Doc comments: which of those written before a function it keeps, and how they read there.
+-- Which doc comments a function keeps, and how they read. They are those written before it.
 use Rattle.std.specs.Prelude.{◌≡◌, ℕ, ◌-◌, min, Bool, ◌==◌, if◌then◌else◌, codes, refl}
 use Rattle.std.specs.Prelude.{List, [], ◌∷◌, ◌++◌, drop, fold, map}
 use Rattle.std.specs.List.{join_by, list_any, prefix_len}

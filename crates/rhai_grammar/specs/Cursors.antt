@@ -1,4 +1,4 @@
--- The stream of the code as a delivered stream.
+-- The code's stream as a delivered stream.
 use Rattle.std.specs.Prelude.{◌≡◌, ℕ, ◌+◌, Bool, true, false, List, [], ◌∷◌, max, refl}
 use Rattle.rhai_lower.specs.Positions.{place}
 use Rattle.rhai_lower.specs.Lexemes.{Sign, lexeme}

@@ -1,4 +1,4 @@
--- What a definition does to the slots: the latest slot of its name is used again if it is in the current block and is
+-- What a definition does to the slots. The latest slot of its name is used again if it is in the current block and is
 -- not exported; otherwise there is a new slot.
 use Rattle.std.specs.Prelude.{◌≡◌, ℕ, ◌-◌, Bool, true, false, ◌&&◌, ◌||◌, ◌++◌, not, List, [], ◌∷◌, Option, Some, None}
 use Rattle.std.specs.Prelude.{length, nat_lt, unwrap_or, codes, refl}

@@ -1,5 +1,5 @@
--- How deep a form is: the greatest number of its expressions, blocks, functions and closures, counted together, that
--- lie one in another.
+-- How deep a form is: how many of its parts lie one in another. These are its expressions, blocks, functions and
+-- closures, counted together, and the greatest number counts.
 use Rattle.std.specs.Prelude.{◌≡◌, ℕ, ◌+◌, None, [], codes, max, refl}
 use Rattle.rhai_lower.specs.Positions.{place}
 use Rattle.rhai_grammar.specs.Forms as form

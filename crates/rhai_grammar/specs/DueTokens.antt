@@ -1,4 +1,4 @@
--- Tokens that continue or end a construct, and the error for another token in their place.
+-- Tokens that are due, and errors in their place. Such a token continues or ends a construct.
 use Rattle.std.specs.Prelude.{◌≡◌, Bool, true, false, codes, refl}
 use Rattle.rhai_lower.specs.Texts.{Text}
 use Rattle.rhai_lower.specs.Lexemes.{Lexeme, Sign}

@@ -1,4 +1,4 @@
--- Which statements end by themselves, and after which actions an arm of a `switch` needs no comma.
+-- Which statements end by themselves, and which arms need no comma. An arm of a `switch` needs none after some actions.
 use Rattle.std.specs.Prelude.{◌≡◌, ℕ, Bool, true, false, None, [], codes, refl}
 use Rattle.rhai_lower.specs.Positions.{place}
 use Rattle.rhai_grammar.specs.Forms as form

@@ -1,4 +1,5 @@
--- Interpolated strings: which token is a text, what else is refused in its place, and what a text becomes.
+-- Which tokens are texts of interpolated strings, and what they give. It also says what else is refused in the place of
+-- one.
 use Rattle.std.specs.Prelude.{◌≡◌, Bool, true, false, [], codes, if◌then◌else◌, refl}
 use Rattle.rhai_lower.specs.Texts.{Text}
 use Rattle.rhai_lower.specs.Lexemes.{Lexeme, Interpolated, Name, Sign, String}

@@ -1,4 +1,4 @@
--- Tests on trees: what the value of a node can never be, and what is a constant.
+-- Tests on trees: what values a node cannot have, and constants.
 use Rattle.std.specs.Prelude.{◌≡◌, pos, Bool, true, false, ◌&&◌, ◌++◌, Option, Some, None, codes, refl}
 use Rattle.rhai_lower.specs.Texts.{Text}
 use Rattle.rhai_lower.specs.Positions.{place}

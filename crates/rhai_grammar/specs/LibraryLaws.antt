@@ -1,5 +1,5 @@
--- Laws of libraries that users rely on: as long as closures get the next number, their names are new; and what parsing
--- leaves is within the limit, and has each key once.
+-- Laws of libraries: closures' names are new, limits hold, keys are unique. As long as closures get the next number,
+-- their names are new; and what parsing leaves is within the limit, and has each key once. Users rely on them.
 use Rattle.std.specs.Prelude.{◌≡◌, ◌<◌, ◌≤◌, ◌+◌, ◌^◌, ℕ, true, false, List, []}
 use Rattle.rhai_grammar.specs.Causes.{Refusal}
 use Rattle.rhai_grammar.specs.Closures.{closure_name, declared_names, in_closure}

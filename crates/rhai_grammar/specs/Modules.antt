@@ -1,4 +1,4 @@
--- Modules: names with a path before them, such as `a::b::c`, and what has to be known under strict variables.
+-- Names with a path, such as `a::b::c`, under strict variables too. Under these the modules have to be known.
 use Rattle.std.specs.Prelude.{◌≡◌, ℕ, Bool, true, false, ◌||◌, ◌&&◌, ◌++◌, not, Option, Some, None, List, [], ◌∷◌}
 use Rattle.std.specs.Prelude.{codes}
 use Rattle.std.specs.Prelude.{if◌then◌else◌, refl}

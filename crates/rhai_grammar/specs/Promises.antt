@@ -1,4 +1,4 @@
--- What the parser promises about a stream that it parses, in terms of written forms only.
+-- What the parser promises of a stream that it parses. Written forms alone are named there.
 use Rattle.std.specs.Prelude.{◌≡◌, ◌⊎◌, Bool, true, false, List, [], Result, Ok, Err, IfOk, IfErr}
 use Rattle.rhai_grammar.specs.Causes.{Refusal, refusal_of, is_for_memory}
 use Rattle.rhai_grammar.specs.Delivered.{Mode, text, Taken, Point, is_memory}

@@ -1,4 +1,4 @@
--- Worked rows: scripts, their written forms, and what the definitions say about them.
+-- Worked rows: scripts, their written forms, and what holds of them. What holds is what the definitions say.
 use Rattle.std.specs.Prelude.{◌≡◌, ℕ, pos, codes, None, false, List, [], ◌∷◌, ◌++◌, reverse}
 use Rattle.rhai_lower.specs.Positions.{place}
 use Rattle.rhai_lower.specs.Lexemes.{Lexeme, Integer, Name, Sign}

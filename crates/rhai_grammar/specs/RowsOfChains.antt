@@ -1,4 +1,4 @@
--- Worked rows of chains: scripts, their written forms, and what the definitions say about them.
+-- Worked rows of chains. They are scripts, their written forms, and what the definitions say about them.
 use Rattle.std.specs.Prelude.{◌≡◌, ℕ, codes, None, Some, true, false, List, [], ◌∷◌}
 use Rattle.rhai_lower.specs.Texts.{Text}
 use Rattle.rhai_lower.specs.Positions.{place}

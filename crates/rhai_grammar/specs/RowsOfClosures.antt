@@ -1,4 +1,5 @@
--- Worked rows of closures: expressions and a script, their written forms, and what the definitions say about them.
+-- Worked rows of closures. They are expressions and a script, their written forms, and what the definitions say about
+-- them.
 use Rattle.std.specs.Prelude.{pos, ◌≡◌, ℕ, true, false, None, Option, Some, List, [], ◌∷◌, ◌++◌, codes, map, length}
 use Rattle.rhai_lower.specs.Lexemes.{Integer, Lexeme, Name, Sign}
 use Rattle.rhai_lower.specs.Nodes as node

@@ -1,4 +1,4 @@
--- Worked rows of constructs: scripts, their written forms, and what the definitions say about them.
+-- Worked rows of constructs. They are scripts, their written forms, and what the definitions say about them.
 use Rattle.std.specs.Prelude.{◌≡◌, ℕ, codes, pos, true, false, Option, Some, None, List, [], ◌∷◌, ◌++◌}
 use Rattle.rhai_lower.specs.Positions.{nowhere, place}
 use Rattle.rhai_lower.specs.Slots.{fresh_slot}

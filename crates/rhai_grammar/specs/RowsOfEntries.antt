@@ -1,5 +1,5 @@
--- Worked rows under the settings that a new engine hands over at its two entries: the forms, their trees, and what is
--- refused.
+-- Worked rows under a new engine's settings. These are what it hands over at its two entries. The rows are forms, their
+-- trees, and what is refused.
 use Rattle.std.specs.Prelude.{◌≡◌, ◌-◌, ◌^◌, ℕ, None, List, [], ◌∷◌, ◌++◌, codes, false}
 use Rattle.rhai_lower.specs.Lexemes.{Lexeme, Name, Sign, String}
 use Rattle.rhai_lower.specs.Nodes as node

@@ -1,4 +1,4 @@
--- Worked rows of functions: scripts, their written forms, and what the definitions say about them.
+-- Worked rows of functions. They are scripts, their written forms, and what the definitions say about them.
 use Rattle.std.specs.Prelude.{◌≡◌, ℕ, ◌+◌, codes, false, None, List, [], ◌∷◌, ◌++◌}
 use Rattle.rhai_lower.specs.Positions.{place}
 use Rattle.rhai_lower.specs.Lexemes.{Lexeme, Comment, Name, Sign}

@@ -1,4 +1,4 @@
--- Worked rows of modules: scripts, their written forms, and what the definitions say about them.
+-- Worked rows of modules. They are scripts, their written forms, and what the definitions say about them.
 use Rattle.std.specs.Prelude.{◌≡◌, ℕ, Bool, codes, true, false, Option, None, Some, List, [], ◌∷◌, ◌++◌}
 use Rattle.rhai_lower.specs.Texts.{Text}
 use Rattle.rhai_lower.specs.Positions.{nowhere, place}

@@ -1,4 +1,4 @@
--- Worked rows of statements: scripts, their written forms, and what the definitions say about them.
+-- Worked rows of statements. They are scripts, their written forms, and what the definitions say about them.
 use Rattle.std.specs.Prelude.{◌≡◌, ℕ, codes, pos, None, Some, Bool, true, false, Option, List, [], ◌∷◌, ◌++◌}
 use Rattle.rhai_lower.specs.Texts.{Text}
 use Rattle.rhai_lower.specs.Positions.{place}

@@ -1,5 +1,5 @@
--- Worked rows of interpolated strings and of jumps: scripts, their written forms, and what the definitions say about
--- them.
+-- Worked rows of interpolated strings and jumps. They are scripts, their written forms, and what the definitions say
+-- about them.
 use Rattle.std.specs.Prelude.{◌≡◌, ℕ, codes, pos, None, false, List, [], ◌∷◌, ◌++◌, reverse}
 use Rattle.rhai_lower.specs.Positions.{place}
 use Rattle.rhai_lower.specs.Lexemes.{Lexeme, Faulty, Integer, Interpolated, Name, Sign, String, UnexpectedInput}

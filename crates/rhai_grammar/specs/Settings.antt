@@ -1,5 +1,5 @@
--- The settings under which a construct is parsed, as plain numbers: the bits of the flags and of the options, the
--- level, and its limit (0 means none). Their position is left out.
+-- The settings under which a construct is parsed, as plain numbers. They are the bits of the flags and of the options,
+-- the level, and its limit (0 means none). Their position is left out.
 use Rattle.std.specs.Prelude.{◌≡◌, ℕ, ◌+◌, ◌-◌, ◌^◌, ◌==◌, ◌||◌, Bool, true, false, nat_lt, min, refl}
 use Rattle.std.specs.Int.RustNames.{bit_and, bit_or}
 

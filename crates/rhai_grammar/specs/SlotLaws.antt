@@ -1,5 +1,5 @@
--- Laws of names and slots that users rely on: which slot a use refers to, what a definition does, and where a scope
--- ends.
+-- Laws of names and slots: uses, definitions, and ends of scopes. They say which slot a use refers to, what a
+-- definition does, and where a scope ends. Users rely on them.
 use Rattle.std.specs.Prelude.{◌≡◌, ℕ, ◌+◌, ◌-◌, ◌≤◌, ◌↔◌, ◌⊎◌, Bool, true, false, List, [], ◌∷◌, Option, Some, None}
 use Rattle.std.specs.Prelude.{length, take, codes, refl}
 use Rattle.rhai_lower.specs.Texts.{Text}

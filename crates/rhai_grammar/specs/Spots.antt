@@ -1,4 +1,4 @@
--- The place of a run and of a link: the settings under which they are parsed, and what stands around them.
+-- The place of a run or of a link: its settings, and what stands around.
 use Rattle.std.specs.Prelude.{Bool, true, Option, Some, None, List, [], ◌∷◌, ◌++◌}
 use Rattle.rhai_lower.specs.Lexemes.{Lexeme}
 use Rattle.rhai_lower.specs.Nodes.{Node, position_of}

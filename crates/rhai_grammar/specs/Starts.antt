@@ -1,5 +1,5 @@
--- Which tokens begin an expression, and what a jump makes of that: `return`, `throw` and `break` have a value exactly
--- where the next token begins one.
+-- Which tokens begin an expression. It also says what a jump makes of that: `return`, `throw` and `break` have a value
+-- exactly where the next token begins one.
 use Rattle.std.specs.Prelude.{◌≡◌, ◌&&◌, Bool, true, false, if◌then◌else◌, refl}
 use Rattle.rhai_lower.specs.Lexemes.{Lexeme, Faulty, Sign, UnterminatedString}
 use Rattle.rhai_lower.specs.declared.token.Token.{Token}

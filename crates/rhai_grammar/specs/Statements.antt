@@ -1,5 +1,4 @@
--- What a token does where a statement begins, in a definition, and after a statement; and which tokens are refused
--- there.
+-- What a token does where a statement begins, in a definition, and after a statement. Some tokens are refused there.
 use Rattle.std.specs.Prelude.{◌≡◌, Bool, true, false, Option, Some, None, codes}
 use Rattle.std.specs.Prelude.{if◌then◌else◌, refl}
 use Rattle.rhai_grammar.specs.Constructs.{may_stand}

@@ -1,5 +1,5 @@
--- `switch`: what a token is where an arm may begin and after an arm, and what the arms give: which value leads to which
--- of them.
+-- Arms of `switch`: what each token is, and what they give. It says what a token is where an arm may begin and after an
+-- arm, and which value leads to which of them.
 use Rattle.std.specs.Prelude.{◌≡◌, ℕ, ◌+◌, pos, Bool, true, false, ◌&&◌, not, Option, Some, None, List, [], ◌∷◌, ◌++◌}
 use Rattle.std.specs.Prelude.{codes, if◌then◌else◌, refl}
 use Rattle.std.specs.Option.{option_or}

@@ -1,4 +1,4 @@
--- What may be assigned to: `this`, a variable that is not constant, and a property or an item of either.
+-- What may be assigned to: `this`, variables not constant, and parts of these. Such a part is a property or an item.
 use Rattle.std.specs.Prelude.{◌≡◌, ℕ, Bool, true, false, List, [], ◌∷◌, Option, Some, None, codes, refl, pos}
 use Rattle.std.specs.Prelude.{if◌then◌else◌}
 use Rattle.std.specs.Option.{option_or}

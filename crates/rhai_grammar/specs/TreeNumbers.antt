@@ -1,4 +1,4 @@
--- Whether the numbers of the variables in a tree are right, said of the plain tree alone: an evaluator that keeps the
+-- Whether the numbers of a tree's variables are right. It is said of the plain tree alone: an evaluator that keeps the
 -- names of the live variables finds each one at its number. Names are listed from the oldest to the latest; a number
 -- counts from 1 at the latest.
 use Rattle.std.specs.Prelude.{◌≡◌, ℕ, Bool, true, false, Option, Some, None, List, [], ◌∷◌, ◌++◌, map, codes, refl}

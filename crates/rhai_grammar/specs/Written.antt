@@ -1,4 +1,5 @@
--- What each written form demands of the stream, followed by what comes after it demands (the last argument, `more`).
+-- What each form demands of the stream. Its demands are followed by those of what comes after it (the last argument,
+-- `more`).
 use Rattle.std.specs.Prelude.{ℕ, ◌+◌, true, false, not, Some, None}
 use Rattle.rhai_lower.specs.Lexemes.{Lexeme, Interpolated, Name, Reserved, Sign, String, text_of}
 use Rattle.rhai_lower.specs.Nodes.{Properties, no_properties, with_property, property, position_of}

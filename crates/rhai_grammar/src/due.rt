@@ -1,4 +1,4 @@
-//! Tokens that continue or end a construct.
+//! `DueToken`: tokens that continue or end a construct.
 
 /// A token that continues or ends a construct. Where it is required, any other token in its place is refused.
 #[derive(Clone, Copy, PartialEq, Eq, Debug)]

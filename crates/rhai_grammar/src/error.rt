@@ -1,4 +1,4 @@
-//! Why a script is refused, and where.
+//! `ParseError`: why a script is refused, and where.
 
 ghost use Rattle.std.specs.Prelude.{◌≡◌};
 ghost use Rattle.rhai_grammar.specs.Causes.{no_memory};

@@ -1,4 +1,4 @@
-//! Which tokens are allowed in an expression.
+//! `ExprFilter`: which tokens are allowed in an expression.
 
 /// Which tokens an expression may contain.
 #[derive(Clone, Copy, PartialEq, Eq, Hash, Debug)]

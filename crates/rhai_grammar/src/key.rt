@@ -1,4 +1,4 @@
-//! The key under which a script's function is stored.
+//! `FnKey`: the key under which a script's function is stored.
 
 use std::rc::RcStr;
 

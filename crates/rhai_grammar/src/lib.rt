@@ -1,5 +1,4 @@
-//! The language: the definitions in which the parser's promises are stated (specs/), and the plain types that they
-//! name.
+//! The language: the definitions in which promises are stated, and the types that they name.
 #![tactic(auto)]
 
 pub mod due;

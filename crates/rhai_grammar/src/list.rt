@@ -1,4 +1,4 @@
-//! Lists with commas.
+//! `CommaList`: the lists with commas. `AfterPart` is what a token is after a part of one.
 
 /// A list whose parts are separated by commas.
 #[derive(Clone, Copy, PartialEq, Eq, Debug)]

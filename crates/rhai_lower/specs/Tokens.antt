@@ -1,4 +1,4 @@
--- Tokens of the code: their strengths as operators, and how those without payload are written.
+-- Tokens: strengths as operators, and spellings of those without payload.
 use Rattle.std.specs.Prelude.{◌≡◌, ℕ, Bool, true, false, [], Option, None, Some, codes, refl}
 use Rattle.rhai_lower.specs.Texts.{Text}
 use Rattle.rhai_lower.specs.declared.token.Token.{Token}

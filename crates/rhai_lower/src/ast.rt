@@ -1,4 +1,4 @@
-//! The tree that the parser builds.
+//! `Expr`, `Stmt`, `AST`: the tree that the parser builds.
 
 ghost use Rattle.std.specs.Prelude.{◌≡◌, IfOk};
 ghost use Rattle.rhai_lower.specs.Nodes.{block_of_one, made_block};

@@ -1,5 +1,5 @@
-//! What the parser builds on: tokens, positions and names, the stream that delivers the tokens, the scope of the
-//! variables that are there, the tree that the parser makes, and a stand-in for the optimizer.
+//! What the parser stands on: tokens, their stream, the scope, the tree, the optimizer's stand-in. Positions and names
+//! are here too.
 #![tactic(auto)]
 
 pub mod ast;

@@ -1,4 +1,4 @@
-//! An index of a list of names, for look-ups whose time does not grow with the list.
+//! `NameIndex`: an index of a list of names. The time of a look-up does not grow with the list.
 
 ghost use Rattle.std.specs.Prelude.{◌≡◌, ◌∷◌, ◌++◌, [], List, IsSome, OnErr, OnOk, Some, if◌then◌else◌};
 ghost use Rattle.std.specs.Rc.{rc_str_bytes};

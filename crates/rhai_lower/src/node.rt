@@ -1,4 +1,4 @@
-//! The plain parts of nodes.
+//! `LinkFlags` and `RangeCase`: the plain parts of nodes.
 
 /// Marks of a link of a chain.
 #[derive(Clone, Copy, PartialEq, Eq, Debug)]

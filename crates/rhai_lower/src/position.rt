@@ -1,4 +1,4 @@
-//! Positions of tokens and nodes in a script.
+//! `Position`: where tokens and nodes are in a script.
 
 ghost use Rattle.std.specs.Prelude.{◌≡◌, ◌<◌, ◌↔◌, IsSome, IfSome, IsTrue};
 ghost use Rattle.rhai_lower.specs.Positions.{place, line_of, column_of, nowhere};

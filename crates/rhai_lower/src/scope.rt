@@ -1,4 +1,4 @@
-//! The slots of variables.
+//! `Scope`: the slots of variables.
 
 ghost use Rattle.std.specs.Prelude.{◌≡◌, ◌<◌, ◌≤◌, ◌↔◌, ◌∷◌, ◌++◌, [], IfOk, IsTrue, OnErr, OnOk, length, map, take};
 ghost use Rattle.std.specs.Rc.{rc_str_bytes};

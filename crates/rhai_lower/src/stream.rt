@@ -1,4 +1,4 @@
-//! The stream that delivers tokens to the parser.
+//! `TokenStream`: it delivers entries to the parser as tokens.
 
 ghost use Rattle.std.specs.Prelude.{⊤, ◌≡◌, ◌≢◌, ◌<◌, ◌≤◌, ◌+◌, ◌∷◌, [], List, reverse, map, false, true, not};
 ghost use Rattle.std.specs.Prelude.{length};

@@ -1,4 +1,4 @@
-//! Tokens: what the tokenizer delivers to the parser.
+//! `Token`: what the tokenizer delivers to the parser.
 
 ghost use Rattle.std.specs.Prelude.{◌≡◌, IfOk};
 ghost use Rattle.std.specs.Rc.{rc_str_bytes};

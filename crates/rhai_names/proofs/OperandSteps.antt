@@ -1,4 +1,4 @@
--- What an operand mentions: one of each kind, a closure, and what is called or has a path.
+-- What an operand mentions, for each kind of operand. Among the kinds are a closure, and what is called or has a path.
 use Rattle.std.proofs.Common.{◌≡◌, ◌∙◌, ℕ, Bool, true, false, ◌&&◌, ◌||◌, not, List, [], ◌∷◌, ◌++◌, None, refl, sym, ap, ap₂, if◌then◌else◌, append-nil, is_some}
 use Rattle.rhai_lower.specs.Lexemes.{Lexeme}
 use Rattle.rhai_lower.specs.Nodes as node

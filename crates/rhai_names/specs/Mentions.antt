@@ -1,4 +1,4 @@
--- What a tree mentions: variables by their names alone, and calls that a function of a script may answer.
+-- What a tree mentions: variables by name, and calls. The calls are those that a function of a script may answer.
 use Rattle.std.specs.Prelude.{◌≡◌, ℕ, ◌==◌, ◌&&◌, ◌||◌, ◌++◌, Bool, true, false, Option, Some, None, List, []}
 use Rattle.std.specs.Prelude.{◌∷◌, if◌then◌else◌, codes, refl}
 use Rattle.std.specs.Option.{is_some}

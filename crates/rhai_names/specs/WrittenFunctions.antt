@@ -1,4 +1,5 @@
--- The functions and closures that are written in a form, in the order in which they end, and the names that each uses.
+-- Functions and closures in a form, with their uses. They come in the order in which they end, each with the names that
+-- it uses.
 use Rattle.std.specs.Prelude.{◌≡◌, ◌&&◌, ◌||◌, ◌++◌, ℕ, Bool, true, false, not, Option, List, [], ◌∷◌, codes}
 use Rattle.std.specs.Prelude.{refl}
 use Rattle.std.specs.Option.{is_some}

@@ -1,4 +1,4 @@
-//! The names of functions.
+//! `names_of`: the names of functions, by their trees.
 
 ghost use Rattle.std.specs.Prelude.{◌≡◌, IfOk, map, option_map};
 ghost use Rattle.std.specs.BTreeSet.{IsOrdered};

@@ -1,4 +1,4 @@
-//! The names of the functions of a script.
+//! `names_of_script`: the names of the functions of a script.
 
 ghost use Rattle.std.specs.Prelude.{◌≡◌, [], IfErr, IfOk};
 ghost use Rattle.rhai_base.specs.Counts.{counts_of};

@@ -1,5 +1,5 @@
-//! A walk over a tree, which notes what the tree mentions. It does not recurse: a run of operators nests as deep as it
-//! is long, so what is still to be visited is kept in a list.
+//! A walk over a tree, which notes what it mentions. It does not recurse: a run of operators nests as deep as it is
+//! long, so what is still to be visited is kept in a list.
 
 ghost use Rattle.std.specs.Prelude.{◌≡◌, ◌+◌, ◌++◌, [], OnOk, IfOk, option_map};
 ghost use Rattle.rhai_lower.specs.declared.ast.BinaryExpr.{out-BinaryExpr};

@@ -1,4 +1,4 @@
-//! The lines that the program prints: one for each function, as `f/1: free y, z; calls g/1`.
+//! The printed line of a function, as `f/1: free y, z; calls g/1`.
 
 use rhai_names::names::FnNames;
 use std::alloc::{AllocError, Global};

@@ -1,5 +1,5 @@
-//! Reads a list of tokens, and prints which names each function of the script needs, or why the list is refused.
-//! docs/FORMAT.md describes the command line and both formats.
+//! The program `rhai-names`: prints which names each function of a script needs. It reads a list of tokens, and prints
+//! why one is refused. docs/FORMAT.md describes the command line and both formats.
 #![tactic(auto)]
 
 mod lines;

@@ -1,5 +1,5 @@
-//! Reads a list of tokens, and prints the tree that the parser builds, or why the list is refused. docs/FORMAT.md
-//! describes the command line and both formats.
+//! The program `rhai-parse`: prints the tree of a list of tokens, or its refusal. docs/FORMAT.md describes the command
+//! line and both formats.
 #![tactic(auto)]
 
 mod run;

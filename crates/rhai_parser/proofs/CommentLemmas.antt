@@ -1,4 +1,4 @@
--- Doc comments, and the function after them: what the reading program does where the code has decided.
+-- Doc comments: what the reading program does where the code has decided. The function after them is here too.
 use Rattle.std.proofs.Common.{◌≡◌, ◌∙◌, ◌+◌, ◌≤◌, true, false, List, [], ◌∷◌, ◌++◌, ap, arith, if◌then◌else◌, sym}
 use Rattle.std.proofs.lemmas.List.{map_push}
 use Rattle.std.specs.declared.alloc.Global.{Global}

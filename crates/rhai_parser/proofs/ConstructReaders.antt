@@ -1,4 +1,5 @@
--- What the proofs of the readers rest on: for each reader its equation, and what it makes of what it read.
+-- Rules for the proofs of the readers of constructs. For each reader they have its equation, and what it makes of what
+-- it read.
 use Rattle.rhai_lower.proofs.Views.{view_unit, views_push}
 use Rattle.rhai_reading.proofs.Steps.{nested_so, step_action, step_arm, step_arms, step_braced, step_branch, step_case, step_case_guard, step_cases, step_conditional, step_construct, step_default_arm, step_guard, step_iterated}
 use Rattle.rhai_parser.proofs.Readers.{readers}

@@ -1,4 +1,5 @@
--- What the reading program does where the code asks a function outside of the readers.
+-- The next operator, and settings that differ in position alone. This is what the reading program does where the code
+-- asks a function outside of the readers.
 use Rattle.std.proofs.Common.{Option, Some, None, option_map, ◌≡◌, Bool, false, Result, Ok, Err, IfErr, IfOk, OnOk, refl, sym, ap, ◌∙◌, if◌then◌else◌}
 use Rattle.rhai_lower.specs.Lexemes.{text_of}
 use Rattle.rhai_lower.specs.declared.position.Position.{Position}

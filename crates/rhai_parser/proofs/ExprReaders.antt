@@ -1,4 +1,5 @@
--- What the proofs of the readers rest on: for each reader its equation, and what it makes of what it read.
+-- Rules for the proofs of the readers of expressions. For each reader they have its equation, and what it makes of what
+-- it read.
 use Rattle.rhai_lower.proofs.Views.{view_property, view_unit, view_variable, views_push}
 use Rattle.rhai_reading.proofs.Outcomes.{bang_refused, operand_other, operand_sign, sign_outcome}
 use Rattle.rhai_reading.proofs.Steps.{nested_so, step_arguments, step_binary_op, step_called, step_expression, step_index, step_items, step_links, step_member, step_operand, step_path, step_postfix, step_right_operand}

@@ -1,5 +1,5 @@
--- What follows an operand is read as it is before it was looked at; and where nothing of that kind follows, the operand
--- stays as it is.
+-- What follows an operand, once it was looked at. It is read as before the look; and where nothing of that kind
+-- follows, the operand stays as it is.
 use Rattle.std.proofs.Common.{◌≡◌, ◌∙◌, ◌&&◌, ◌||◌, Bool, true, false, ℕ, ap, if◌then◌else◌, nat_lt, refl, sym}
 use Rattle.rhai_grammar.specs.Beginnings.{calls, excludes_use, qualifies}
 use Rattle.rhai_grammar.specs.Causes.{out_of_memory}

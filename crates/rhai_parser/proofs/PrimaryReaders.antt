@@ -1,4 +1,5 @@
--- What the proofs of the readers rest on: for each reader its equation, and what it makes of what it read.
+-- Rules for the proofs of the readers of primaries. For each reader they have its equation, and what it makes of what
+-- it read.
 use Rattle.rhai_base.proofs.NameLemmas.{count_views}
 use Rattle.rhai_lower.proofs.Views.{property_views_push, view_array, view_integer, view_noop, view_interpolated, view_map, views_push}
 use Rattle.rhai_reading.proofs.FieldSteps.{step_fields_key}

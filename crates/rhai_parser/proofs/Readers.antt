@@ -1,4 +1,4 @@
--- What the proofs of all readers rest on: calls that stay below a bound, and what follows a call.
+-- Rules for the proofs of all readers. They are on calls that stay below a bound, and on what follows a call.
 use Rattle.rhai_reading.proofs.Steps.{and_then_done, guarded_is, nested_is, step_parameters}
 use Rattle.rhai_parser.proofs.Bounds.{up_to_at, up_to_less}
 use Rattle.rhai_parser.proofs.ParameterLemmas.{names_push}

@@ -1,4 +1,4 @@
--- A run of operators as the code reads it: what waits for the right side of an operator stands in a list.
+-- What the operators that wait in a run give. The code keeps what waits for the right side of an operator in a list.
 use Rattle.std.proofs.Common.{◌≡◌, ℕ, ◌+◌, ◌≤◌, Bool, true, false, List, [], ◌∷◌, ◌++◌, Ok, Err, refl, sym, ap, ◌∙◌, subst, arith, if◌then◌else◌}
 use Rattle.rhai_lower.specs.Lexemes.{Lexeme, lexeme}
 use Rattle.rhai_lower.specs.Nodes.{Node, position_of}

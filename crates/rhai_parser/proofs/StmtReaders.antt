@@ -1,4 +1,5 @@
--- What the proofs of the readers rest on: for each reader its equation, and what it makes of what it read.
+-- Rules for the proofs of the readers of statements. For each reader they have its equation, and what it makes of what
+-- it read.
 use Rattle.rhai_lower.proofs.Views.{view_noop, view_unit}
 use Rattle.rhai_reading.proofs.Steps.{nested_so, step_block, step_comments, step_definition, step_export, step_expr_statement, step_function, step_function_statement, step_import, step_initializer, step_inside, step_jump, step_parameter_list, step_statement, step_statements}
 use Rattle.rhai_parser.proofs.Readers.{calls_of_readers, readers}

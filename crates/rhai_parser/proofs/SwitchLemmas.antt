@@ -1,4 +1,4 @@
--- What the reading program makes of a refusal in a case of `switch`, where the code does.
+-- A refusal in a case of `switch`. The reading program makes of it what the code does.
 use Rattle.std.proofs.Common.{◌≡◌, Bool, true, false, IfErr, Result, Ok, Err, refl, ap, sym, ◌∙◌, if◌then◌else◌}
 use Rattle.rhai_lower.specs.Lexemes.{Lexeme}
 use Rattle.rhai_lower.specs.Nodes.{Node}

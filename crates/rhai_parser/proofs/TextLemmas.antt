@@ -1,4 +1,4 @@
--- The text after a block of an interpolated string, as the reading program takes it where the code does.
+-- A text after a block of an interpolated string. The reading program takes it where the code does.
 use Rattle.std.proofs.Common.{◌≡◌, Ok, Err, IfErr, Result, ap, ◌∙◌, sym, inl, inr, ◌⊎◌}
 use Rattle.std.specs.Rc.{rc_str_bytes}
 use Rattle.rhai_lower.specs.Lexemes.{text_of}

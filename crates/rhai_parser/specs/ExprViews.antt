@@ -1,4 +1,4 @@
--- How the contracts of the readers of expressions see what is read.
+-- Links, calls and variables as contracts see them.
 use Rattle.std.specs.Prelude.{Bool, List, Vec}
 use Rattle.std.specs.declared.alloc.Global.{Global}
 use Rattle.rhai_lower.specs.Nodes.{Node, Nodes, variable}

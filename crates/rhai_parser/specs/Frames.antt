@@ -1,4 +1,4 @@
--- What a form stands in where a reader reads it.
+-- A form's context and what is live before it.
 use Rattle.rhai_grammar.specs.Contexts.{Context, Live}
 use Rattle.rhai_base.specs.Frames.{FrameValue}
 use Rattle.rhai_base.specs.Settings.{settings_of}

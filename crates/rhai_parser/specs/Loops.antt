@@ -1,4 +1,4 @@
--- How the contracts of the readers of constructs see the variables of `for`.
+-- The variables of `for` as contracts see them.
 use Rattle.std.specs.Prelude.{Option, option_map}
 use Rattle.std.specs.Rc.{rc_str_bytes}
 use Rattle.rhai_lower.specs.Texts.{Text}

@@ -1,4 +1,4 @@
--- How deeply parsing functions are nested while a script is read.
+-- The bound on how deeply parsing functions nest. It holds while a script is read.
 use Rattle.std.specs.Prelude.{◌≡◌, ◌⊎◌, ℕ, ◌+◌, ◌-◌, ◌*◌, ◌^◌, ◌≤◌, max}
 use Rattle.rhai_grammar.specs.Contexts.{Context, Live}
 use Rattle.rhai_grammar.specs.Cursors.{Cursor}

@@ -1,4 +1,4 @@
--- How the contracts speak of the next operator.
+-- The next operator as contracts see it.
 use Rattle.std.specs.Prelude.{ℕ, Bool}
 use Rattle.rhai_base.specs.declared.leaves.operators.Operator.{Operator}
 

@@ -1,4 +1,4 @@
--- How the contracts of the readers of primaries see what is read.
+-- A text after a block, as contracts see it. The block is that of an interpolated string.
 use Rattle.std.specs.Prelude.{Bool}
 use Rattle.std.specs.Rc.{rc_str_bytes}
 use Rattle.rhai_lower.specs.Texts.{Text}

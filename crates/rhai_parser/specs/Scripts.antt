@@ -1,4 +1,4 @@
--- What the parser promises about the tree that it returns, in terms of written forms only.
+-- What the parser promises of the tree that it returns. Written forms alone are named there.
 use Rattle.std.specs.Prelude.{◌≡◌, List, Option, Result, Vec, map}
 use Rattle.std.specs.Borrow.{Bor}
 use Rattle.std.specs.declared.alloc.Global.{Global}

@@ -1,4 +1,4 @@
--- How the contracts of the readers speak of the arms of `switch`.
+-- Arms of `switch` as contracts see them.
 use Rattle.std.specs.Prelude.{Bool}
 use Rattle.rhai_lower.specs.Nodes.{Node, Nodes}
 use Rattle.rhai_lower.specs.View.{view, views}

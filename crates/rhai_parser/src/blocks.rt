@@ -1,4 +1,4 @@
-//! Blocks: the `{`, the statements, and the `}`.
+//! Blocks, for readers of all kinds: `{`, statements, and `}`.
 
 ghost use Rattle.std.specs.Prelude.{◌+◌, ◌≤◌, OnOk};
 ghost use Rattle.rhai_lower.specs.View.{block_view};

@@ -1,4 +1,4 @@
-//! Chains: the brackets and dots after an operand, and calls.
+//! Readers of links after an operand, and of calls. Links are brackets and dots.
 
 ghost use Rattle.std.specs.Prelude.{◌≡◌, IfOk, false, option_map};
 ghost use Rattle.rhai_lower.specs.View.{view};

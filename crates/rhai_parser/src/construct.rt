@@ -1,4 +1,4 @@
-//! Constructs: conditions, loops, and `try`.
+//! Readers of conditions, loops, and `try`.
 
 pub(crate) mod control;
 

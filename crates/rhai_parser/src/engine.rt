@@ -1,4 +1,4 @@
-//! The engine: language options and limits, and the entries of the parser.
+//! `Engine`: options and limits, and the entry for one expression.
 
 ghost use Rattle.std.specs.Prelude.{◌≡◌, ◌==◌, ◌++◌, ◌∷◌, [], IfErr, List, OnErr, OnOk, map};
 ghost use Rattle.std.specs.Int.RustNames.{bit_and};

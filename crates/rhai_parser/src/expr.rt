@@ -1,4 +1,4 @@
-//! Expressions: operands with their signs and calls.
+//! Readers of expressions and operands, with signs and calls.
 
 pub(crate) mod asks;
 pub(crate) mod paths;

@@ -1,4 +1,4 @@
-//! Functions: their doc comments, where they may stand, what they are read under, and what they give.
+//! Readers of functions: places, settings, and what functions give. Their doc comments are read here too.
 
 pub(crate) mod head;
 

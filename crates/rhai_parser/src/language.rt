@@ -1,4 +1,4 @@
-//! What scripts are read under.
+//! `Language`: options and limits that scripts are read under.
 
 ghost use Rattle.std.specs.Prelude.{◌≡◌, ◌==◌};
 ghost use Rattle.std.specs.Int.RustNames.{bit_and};

@@ -1,4 +1,4 @@
-//! The readers of expressions and of statements, lent to the reader of scripts.
+//! `Lent`: the readers of expressions and of statements, lent to the reader of scripts.
 
 ghost use Rattle.std.specs.Prelude.{◌≡◌, ◌+◌};
 ghost use Rattle.rhai_lower.specs.Nodes.{no_statements};

@@ -1,4 +1,4 @@
-//! What the readers of a script read for each other.
+//! `LentReaders`: what readers read for each other.
 
 ghost use Rattle.std.specs.Prelude.{ℕ, ◌+◌};
 ghost use Rattle.rhai_lower.specs.View.{statement_view, view};

@@ -1,4 +1,4 @@
-//! The functions of a state while a script is read.
+//! `take_library`: a state's functions while a script is read.
 
 ghost use Rattle.std.specs.Prelude.{◌≡◌, IfOk, OnErr};
 

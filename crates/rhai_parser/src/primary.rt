@@ -1,4 +1,5 @@
-//! What an operand begins with: a value, a name, a group, an array, an object map, a string, a construct, or a closure.
+//! Readers of primaries: operands without signs, calls and links. One is a value, a name, a group, an array, an object
+//! map, a string, a construct, or a closure.
 
 pub(crate) mod asks;
 pub(crate) mod closure;

@@ -1,4 +1,4 @@
-//! The reader of scripts. Its methods stand beside the constructs that they read.
+//! `Reader`: the reader of scripts. Its methods stand beside the constructs that they read.
 
 use crate::language::Language;
 

@@ -1,4 +1,4 @@
-//! What the readers of a script lend on to each other.
+//! `Shared`: what all readers of a script work on. They lend it on to each other.
 
 ghost use Rattle.std.specs.Prelude.{◌≡◌, [], OnOk};
 ghost use Rattle.std.specs.Rc.{rc_str_bytes};

@@ -1,4 +1,4 @@
-//! Statements: their lists, definitions, and what is inside blocks.
+//! Readers of statements, of their lists, and of definitions. What is inside a block is read here too.
 
 pub(crate) mod asks;
 pub(crate) mod modules;

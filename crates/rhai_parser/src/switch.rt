@@ -1,4 +1,4 @@
-//! `switch`: its arms, with their cases, guards and actions.
+//! Readers of `switch`, arms, cases, guards and actions.
 
 pub(crate) mod arms;
 

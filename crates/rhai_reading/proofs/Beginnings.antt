@@ -1,4 +1,4 @@
--- Which token it is that a view of one found.
+-- Which token it is, by its role.
 use Rattle.std.proofs.Common.{◌≡◌, ℕ, Bool, true, false, refl, ap, ◌∙◌, subst, if◌then◌else◌}
 use Rattle.rhai_lower.specs.Lexemes.{Comment, Lexeme, Interpolated, Name, Reserved, Sign, String, text_of}
 use Rattle.rhai_grammar.specs.Interpolations.{is_last_text, is_text}

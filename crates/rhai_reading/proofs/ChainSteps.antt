@@ -1,4 +1,4 @@
--- A dot with its member, and a bracket with its index, as the reading program takes them.
+-- Several steps as one: a dot with its member, a bracket with its index.
 use Rattle.std.proofs.Common.{◌≡◌, ◌+◌, ◌≤◌, true, false, None, [], ◌∷◌, ◌++◌, sym, ap, ◌∙◌, subst, arith, if◌then◌else◌}
 use Rattle.rhai_lower.specs.Lexemes.{Lexeme}
 use Rattle.rhai_lower.specs.Nodes.{Node}

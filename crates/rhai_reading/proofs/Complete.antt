@@ -1,4 +1,4 @@
--- What is written so is read so.
+-- Completeness: what is written so is read so.
 pub mod Law
 pub mod Operands
 pub mod Calls

@@ -1,4 +1,4 @@
--- How a reader runs, and how deep it is, step by step.
+-- How a reader runs, and how deep it is, step by step. Nothing here speaks of the grammar.
 use Rattle.std.proofs.Common.{◌≡◌, ℕ, ◌+◌, ◌≤◌, Bool, true, false, max, refl, sym, subst, List, [], arith}
 use Rattle.std.proofs.Common.{if◌then◌else◌}
 use Rattle.rhai_lower.specs.Lexemes.{Lexeme, Sign}

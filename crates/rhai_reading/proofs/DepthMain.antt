@@ -1,4 +1,5 @@
--- The nesting bound from below: after acceptance readers were nested at least as deeply as the form is deep.
+-- The nesting bound from below, in terms of forms. After acceptance readers were nested at least as deeply as the form
+-- is deep.
 use Rattle.std.proofs.Common.{◌≡◌, ℕ, ◌+◌, ◌≤◌, max, inr, refl, subst}
 use Rattle.std.proofs.Common.{arith}
 use Rattle.rhai_lower.specs.Nodes as node

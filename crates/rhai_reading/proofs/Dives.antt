@@ -1,4 +1,4 @@
--- How deeply readers are nested at least: how high the peak is after a term was run, a rule for each of its steps.
+-- How high the peak is at least after a run, a rule for each step. Nothing here speaks of the grammar.
 use Rattle.std.proofs.Common.{◌≡◌, ℕ, zero, suc, ◌+◌, ◌-◌, ◌^◌, ◌≤◌, Bool, true, false, max, sym, ap, subst, ◌∙◌, arith}
 use Rattle.std.proofs.Common.{nat_lt, if◌then◌else◌, inl, inr, List, []}
 use Rattle.std.specs.Prelude.{◌⊎◌}

@@ -1,4 +1,4 @@
--- A token that is due, and what follows a part of a list: what is shown there, whatever the token and the list are.
+-- Soundness of due tokens, and of commas in lists. The rules hold whatever the token and the list are.
 use Rattle.rhai_grammar.specs.Functions.{parameter_place, place_by}
 use Rattle.rhai_grammar.specs.declared.role.ItemPlace.{ItemPlace}
 use Rattle.rhai_grammar.specs.declared.role.ItemPlace.TheVariants as place

@@ -1,4 +1,4 @@
--- The properties of an object map: the key first, and one more of them with the comma after it.
+-- Several steps as one: a property's key, and a property with its comma.
 use Rattle.std.proofs.Common.{◌≡◌, ◌+◌, ◌≤◌, true, false, Some, sym, ap, ◌∙◌, subst, arith, if◌then◌else◌}
 use Rattle.rhai_lower.specs.Texts.{Text}
 use Rattle.rhai_lower.specs.Nodes.{Node, Properties, with_property}

@@ -1,4 +1,4 @@
--- How readers are nested while they run: no more of them are active afterwards, and the peak does not fall.
+-- After a run no more readers are active, and the peak is no lower. Nothing here speaks of the grammar.
 use Rattle.std.proofs.Common.{◌≡◌, ℕ, suc, ◌+◌, ◌-◌, ◌^◌, ◌≤◌, Bool, true, false, max, min, refl, arith, nat_lt}
 use Rattle.std.proofs.Common.{if◌then◌else◌, inl, inr}
 use Rattle.std.proofs.lemmas.Bool.{ltb-false, ltb-true}

@@ -1,4 +1,5 @@
--- What a run keeps of how readers are nested, if a reader that is entered and left keeps it.
+-- What a run keeps of how readers are nested. It keeps what a reader keeps that is entered and left. Nothing here
+-- speaks of the grammar.
 use Rattle.std.proofs.Common.{ℕ, zero, suc, ◌+◌, Bool, true, false, nat_lt}
 use Rattle.std.proofs.Common.{if◌then◌else◌, []}
 use Rattle.rhai_grammar.specs.Delivered.{is_memory}

@@ -1,4 +1,4 @@
--- One more name of a path, as the reading program takes it.
+-- Several steps as one: one more name of a path.
 use Rattle.std.proofs.Common.{◌≡◌, ◌+◌, ◌≤◌, Bool, true, false, refl, sym, ap, ◌∙◌, subst, arith, if◌then◌else◌}
 use Rattle.std.specs.Prelude.{◌&&◌, None, Some}
 use Rattle.rhai_lower.specs.Texts.{Text}

@@ -1,4 +1,4 @@
--- A refusal that is reported as a missing literal.
+-- A refusal that is reported as a missing literal. Nothing here speaks of the grammar.
 use Rattle.std.proofs.Common.{◌≡◌, false, refl}
 use Rattle.rhai_lower.specs.declared.position.Position.{Position}
 use Rattle.rhai_grammar.specs.Causes.{Cause, OutOfMemory, as_literal, is_memory_cause, refusal}

@@ -1,4 +1,4 @@
--- What is shown of a run of a reader, and one rule for each of its steps.
+-- Soundness: what is shown of a reader's run, a rule for each step. Nothing here speaks of the grammar.
 use Rattle.std.proofs.Common.{◌≡◌, Bool, true, false, refl, sym, ap, ◌∙◌, subst, if◌then◌else◌}
 use Rattle.rhai_lower.specs.Lexemes.{Lexeme}
 use Rattle.rhai_lower.specs.declared.position.Position.{Position}

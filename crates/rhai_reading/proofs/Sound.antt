@@ -1,4 +1,4 @@
--- What is read is written so, and what is refused is what a form misses.
+-- Soundness: what is read is written so; a form misses what is refused.
 pub mod Law
 pub mod Operands
 pub mod Calls

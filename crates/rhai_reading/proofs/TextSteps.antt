@@ -1,4 +1,4 @@
--- The end of a block in an interpolated string, and the text after it, as the reading program takes them.
+-- Several steps as one: the `}` of an interpolated block, with the text after it.
 use Rattle.std.proofs.Common.{◌≡◌, Bool, true, false, refl, ◌∙◌, if◌then◌else◌}
 use Rattle.rhai_lower.specs.Lexemes.{text_of}
 use Rattle.rhai_grammar.specs.Beginnings.{unexpected}

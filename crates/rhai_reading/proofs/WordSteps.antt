@@ -1,4 +1,4 @@
--- A name or a reserved word, as the reading program takes it.
+-- Several steps as one: a name or a reserved word.
 use Rattle.std.proofs.Common.{◌≡◌, Bool, false, sym, ap, ◌∙◌, if◌then◌else◌}
 use Rattle.rhai_lower.specs.Texts.{Text}
 use Rattle.rhai_lower.specs.Lexemes.{Lexeme, text_of}

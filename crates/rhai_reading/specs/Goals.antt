@@ -1,4 +1,4 @@
--- What a reader is called for, what it gives, and the terms that readers are made of.
+-- Goals: what readers are called for, what they give, and their terms.
 use Rattle.std.specs.Prelude.{if◌then◌else◌}
 use Rattle.rhai_lower.specs.Lexemes.{Lexeme}
 use Rattle.rhai_grammar.specs.Libraries.{Ended, Library}

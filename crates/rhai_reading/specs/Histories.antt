@@ -1,4 +1,4 @@
--- What the reader does, with the tokens that it took: what the laws about it speak of.
+-- What the reader does, with the tokens that it took. The laws about it speak of that.
 use Rattle.std.specs.Prelude.{◌≡◌, ℕ, zero, suc, ◌≤◌, Bool, false, true}
 use Rattle.rhai_lower.specs.Lexemes.{Lexeme}
 use Rattle.rhai_lower.specs.declared.position.Position.{Position}

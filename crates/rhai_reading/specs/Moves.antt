@@ -1,4 +1,4 @@
--- What a reader does, one request after the other, whatever it moves along.
+-- What a reader does, one request after the other, whatever it moves along. Nothing here speaks of the grammar.
 use Rattle.std.specs.Prelude.{if◌then◌else◌}
 use Rattle.rhai_lower.specs.Lexemes.{Lexeme}
 use Rattle.rhai_lower.specs.declared.position.Position.{Position}

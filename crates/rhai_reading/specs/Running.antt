@@ -1,4 +1,4 @@
--- What the reader does, as a function: a fixed point of its rules, guarded by what is left to read.
+-- What the reader does, as a function: a fixed point of its rules. What is left to read guards it.
 use Rattle.std.specs.Prelude.{◌≡◌, ℕ, zero, suc, ◌+◌, ◌*◌, false, Result, Ok, Err, nat_lt, if◌then◌else◌}
 use Rattle.rhai_lower.specs.Lexemes.{Lexeme}
 use Rattle.rhai_lower.specs.declared.position.Position.{Position}

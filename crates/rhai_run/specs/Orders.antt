@@ -1,5 +1,5 @@
--- In which order a tree is printed: what is still to be printed, and what stands in its place once the lines of its
--- first part itself are printed.
+-- In which order a tree is printed. It says what is still to be printed, and what stands in the place of its first part
+-- once that part's own lines are printed.
 use Rattle.std.specs.Prelude.{◌≡◌, ℕ, ◌+◌, ◌-◌, ◌^◌, List, [], ◌∷◌, ◌++◌, min, map, reverse, refl}
 use Rattle.rhai_lower.specs.Nodes.{Arms, Block, Cases, Node, Nodes, Optional, Properties, Statement, Statements}
 use Rattle.rhai_lower.specs.Nodes.{absent, array, assignment, block_statement, block_value, boolean, braces, break_loop}

@@ -1,5 +1,4 @@
-//! How texts are written, in a list of tokens and in what the program prints: without spaces and line feeds, and never
-//! empty.
+//! How texts are written in lists and in what is printed. They have no spaces and line feeds, and are never empty.
 
 use std::alloc::{AllocError, Global};
 use std::fmt;

@@ -1,5 +1,5 @@
-//! What the programs share: the lists of tokens that they read, what they print, the words of the command line, and
-//! how an answer or a failure is told. docs/FORMAT.md describes the formats.
+//! What the programs share: lists of tokens, what is printed, and the command line. How an answer or a failure is told
+//! is here too. docs/FORMAT.md describes the formats.
 #![tactic(auto)]
 
 pub mod escape;

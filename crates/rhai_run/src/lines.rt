@@ -1,4 +1,4 @@
-//! The input as a whole.
+//! The input as a whole, as its lines.
 
 use std::alloc::{AllocError, Global};
 use std::io::{ErrorKind, Read};

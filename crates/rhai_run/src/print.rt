@@ -1,5 +1,5 @@
-//! How an accepted script is printed: one node per line, indented two spaces deeper than its parent. docs/FORMAT.md has
-//! the line of each node.
+//! How an accepted script is printed: a line for each node. It is indented two spaces deeper than its parent.
+//! docs/FORMAT.md has the line of each node.
 
 mod expr_line;
 mod fields;

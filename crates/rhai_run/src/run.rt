@@ -1,4 +1,4 @@
-//! Runs a program over any reader and writer: what its words and its input stand for, and how it answers.
+//! Runs a program over any reader and writer. Here is what its words and its input stand for, and how it answers.
 
 ghost use Rattle.std.specs.Prelude.{All, IfOk, IsTrue};
 ghost use Rattle.rhai_lower.specs.Entries.{may_be_delivered};

@@ -1,4 +1,4 @@
-//! Tokens by how they are written.
+//! Tokens by how they are written in a list.
 
 ghost use Rattle.std.specs.Prelude.{◌≡◌, IfSome};
 ghost use Rattle.rhai_run.specs.Symbols.{written_as};

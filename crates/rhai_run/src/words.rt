@@ -1,4 +1,4 @@
-//! The words of the command line.
+//! The words of the command line: an entry and limits.
 
 ghost use Rattle.std.specs.Prelude.{◌≡◌, ◌↔◌, IsSome, IsNone};
 

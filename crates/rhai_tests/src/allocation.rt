@@ -1,7 +1,7 @@
-//! Calls that allocate, each once: no contract says that memory is left. Each is made by a function that ends with
-//! `AllocError` where memory is refused, and two tests run it: one wants it to come to its end, with ample memory. The
-//! other, `.._refused`, lets it end early, and holds however memory is refused (tests/hostile/calls.py): what was
-//! asserted on the way has to hold all the same.
+//! Calls of the parser that allocate, each once. No contract says that memory is left. Each is made by a function that
+//! ends with `AllocError` where memory is refused, and two tests run it: one wants it to come to its end, with ample
+//! memory. The other, `.._refused`, lets it end early, and holds however memory is refused (tests/hostile/calls.py):
+//! what was asserted on the way has to hold all the same.
 
 use crate::script::{add_line, parse};
 use rhai_parser::{Engine, ParseError};

@@ -1,7 +1,7 @@
-//! Calls that allocate, each once: no contract says that memory is left. Each is made by a function that ends with
-//! `AllocError` where memory is refused, and two tests run it: one wants it to come to its end, with ample memory. The
-//! other, `.._refused`, lets it end early, and holds however memory is refused (tests/hostile/calls.py): what was
-//! asserted on the way has to hold all the same.
+//! Calls below the parser that allocate, each once. No contract says that memory is left. Each is made by a function
+//! that ends with `AllocError` where memory is refused, and two tests run it: one wants it to come to its end, with
+//! ample memory. The other, `.._refused`, lets it end early, and holds however memory is refused
+//! (tests/hostile/calls.py): what was asserted on the way has to hold all the same.
 
 ghost use Rattle.rhai_grammar.specs.Keys.{keys_of};
 ghost use Rattle.rhai_base.specs.Index.{Agrees};

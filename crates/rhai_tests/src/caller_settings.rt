@@ -1,4 +1,4 @@
-//! Settings that only the caller's closure can change, so that no list of tokens shows what they do.
+//! Settings that only the caller's closure can change. No list of tokens shows what they do.
 
 use crate::script::{Change, test_expr, test_script};
 use rhai_parser::{Engine, LangOptions, ParseSettingFlags};

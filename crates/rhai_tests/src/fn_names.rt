@@ -1,5 +1,4 @@
-//! The names of functions, as the call gives them that reads a script. What it finds in which script is in the table of
-//! cases.
+//! The call that reads a script for its functions' names. What it finds in which script is in the table of cases.
 
 use crate::script::stream_of_line;
 use rhai_names::names::FnNames;

@@ -1,4 +1,4 @@
-//! Tests of the library: what no contract says, and no list of tokens shows.
+//! Tests of the library: what no contract says and no list shows.
 #![tactic(auto)]
 
 #[cfg(test)]

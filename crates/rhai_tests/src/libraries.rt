@@ -1,4 +1,5 @@
-//! What a library holds where memory ran out: what it held before, followed by functions that have ended since.
+//! What a library holds where memory ran out. It holds what it held before, followed by functions that have ended
+//! since.
 
 use crate::script::{add_line, stream_of, stream_of_line};
 use rhai_parser::{

@@ -1,5 +1,5 @@
-//! Long scripts: they are parsed, and their trees are dropped, without a recursion for each operator or link. That
-//! would run out of stack.
+//! Long runs and chains, parsed and dropped without recursion. A recursion for each operator or link would run out of
+//! stack.
 
 use crate::script::{add_line, parse};
 use std::alloc::Global;

@@ -1,4 +1,4 @@
-//! The entry that hands a whole script to the optimizer.
+//! The entry that hands a script to the optimizer.
 
 use crate::script::stream_of_line;
 use rhai_parser::{

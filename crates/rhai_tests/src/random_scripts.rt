@@ -1,4 +1,5 @@
-//! Random scripts: however they nest, no more grammar functions are active at once than the limits allow.
+//! Random scripts nest no deeper than the limits allow. However they nest, no more grammar functions are active at
+//! once.
 
 ghost use Rattle.std.specs.Prelude.{◌<◌};
 

@@ -1,4 +1,4 @@
-//! States that a caller changed, or that a script left, before they are given to the parser.
+//! States that a caller or an earlier script changed. The parser is given them so.
 
 use crate::script::{Change, check, stream_of_line, test_expr};
 use rhai_parser::{

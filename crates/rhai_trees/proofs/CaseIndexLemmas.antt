@@ -1,4 +1,4 @@
--- The keys of the cases of a `switch`, and the places of cases as they are added.
+-- Keys of `switch` cases, and places as cases are added.
 use Rattle.std.proofs.Common.{◌≡◌, ◌∙◌, ◌<◌, ℕ, ℤ, ◌+◌, ◌==◌, Bool, true, false, List, [], ◌∷◌, ◌&&◌, ◌++◌, Option, Some, None, length, refl, sym, ap, arith, cond, unwrap_or, if◌then◌else◌}
 use Rattle.std.proofs.lemmas.Bool.{and_parts}
 use Rattle.std.specs.Bool.{beq}

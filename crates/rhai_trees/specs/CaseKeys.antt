@@ -1,4 +1,4 @@
--- The keys by which the code finds the cases of a `switch`: literal values that are no arrays and no object maps.
+-- The keys by which `switch` cases are found. They are literal values that are no arrays and no object maps.
 use Rattle.std.specs.Prelude.{◌≡◌, ℕ, Bool, true, false, ◌&&◌, ◌==◌, Option, Some, None, option_map, if◌then◌else◌}
 use Rattle.std.specs.Prelude.{pos, refl}
 use Rattle.std.specs.Ordering.{int_eq}

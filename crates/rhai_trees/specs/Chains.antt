@@ -1,4 +1,4 @@
--- What the links and chains of the code represent, and what is left of a chain while its tree is made.
+-- What links and chains of the code represent. It is also said what is left of a chain while its tree is made.
 use Rattle.std.specs.Prelude.{◌≡◌, Bool, true, false, ◌&&◌, ◌||◌, [], ◌∷◌, List, Option, None, Some}
 use Rattle.std.specs.Prelude.{codes, map, refl}
 use Rattle.rhai_lower.specs.Texts.{same_text}

@@ -1,4 +1,4 @@
--- Statements that leave no trace in a list, and the values that a statement may have.
+-- Statements that leave no trace in a list; values of statements.
 use Rattle.std.specs.Prelude.{◌≡◌, Bool, true, false, Box, Option, Some, None, box_value, refl}
 use Rattle.std.specs.declared.alloc.Global.{Global}
 use Rattle.rhai_lower.specs.Positions.{place}

@@ -1,4 +1,4 @@
-//! The arms of a `switch` while they are read.
+//! `Arms`: the arms of a `switch` while they are read.
 
 ghost use Rattle.indexmap.specs.IndexMap.{get};
 ghost use Rattle.rhai_trees.specs.CaseKeys.{Places, same_case};

@@ -1,4 +1,4 @@
-//! An index of the cases of a `switch` by their values, for look-ups whose time does not grow with their number.
+//! An index of `switch` cases by their values. The time of a look-up does not grow with their number.
 
 ghost use Rattle.std.specs.Prelude.{◌≡◌, if◌then◌else◌, IfOk, OnOk, Some, option_map};
 ghost use Rattle.indexmap.specs.IndexMap.{get};

@@ -1,4 +1,4 @@
-//! The values of the cases of a `switch`: which ranges they are, and when two are equal.
+//! Values of `switch` cases: ranges, and equality. It says which ranges they are, and when two are equal.
 
 ghost use Rattle.std.specs.Prelude.{◌≡◌, option_map};
 ghost use Rattle.std.specs.Rc.{rc_str_bytes};

@@ -1,4 +1,4 @@
-//! Chains: an operand followed by brackets and dots.
+//! `join` and `nest` of a `Chain`: more links, and its tree. A chain is an operand followed by brackets and dots.
 
 ghost use Rattle.std.specs.Prelude.{◌≡◌, None, Some, true, false, IfErr, IfNone, IfOk, IfSome, IsOk, OnOk};
 ghost use Rattle.std.specs.Prelude.{option_map};

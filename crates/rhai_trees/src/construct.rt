@@ -1,4 +1,4 @@
-//! Constructs: the nodes of `if`, of loops and of `try`.
+//! The nodes of `if`, loops and `try`.
 
 ghost use Rattle.std.specs.Prelude.{◌≡◌, IfErr, IfOk, None, OnOk, Some, false, option_map};
 ghost use Rattle.std.specs.Rc.{rc_str_bytes};

@@ -1,4 +1,4 @@
-//! Tests on trees: what the value of a node can never be, and what is a constant.
+//! Tests on trees: what values a node cannot have, and constants.
 
 ghost use Rattle.std.specs.Prelude.{◌≡◌, option_map};
 ghost use Rattle.rhai_lower.specs.View.{property_views, view, views};

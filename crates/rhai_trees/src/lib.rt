@@ -1,4 +1,4 @@
-//! Operations on trees that do not use the stream. On trees of expressions: signs, operators and links with their
+//! Operations on trees, which do not use the stream. On trees of expressions: signs, operators and links with their
 //! operands, and tests of operands, of guards and of what is assigned to. On trees that hold statements: statements and
 //! their blocks, constructs, arms of `switch` with their cases, and segments of interpolated strings.
 #![tactic(auto)]

@@ -1,4 +1,4 @@
-//! Which expressions are values that a `switch` case may have.
+//! `is_literal_value`: which expressions may be values of `switch` cases.
 
 ghost use Rattle.std.specs.Prelude.{◌≡◌};
 ghost use Rattle.rhai_lower.specs.View.{property_views, view, views};

@@ -1,4 +1,4 @@
-//! Binary operators with their operands.
+//! `make_binary`: what a binary operator makes of its operands.
 
 ghost use Rattle.std.specs.Prelude.{◌≡◌, None, Some, true, false, IfErr, IfOk, IsOk};
 ghost use Rattle.rhai_lower.specs.Lexemes.{lexeme};

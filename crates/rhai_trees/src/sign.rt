@@ -1,4 +1,4 @@
-//! Signs before an operand: `-`, `+` and `!`.
+//! `make_unary`: what `-`, `+` or `!` makes of its operand.
 
 ghost use Rattle.std.specs.Prelude.{◌≡◌, IfErr, IfOk};
 ghost use Rattle.rhai_lower.specs.Lexemes.{lexeme};

@@ -1,5 +1,5 @@
-//! Statements: which end by themselves, lists of them, the nodes of definitions, imports, exports, assignments, blocks
-//! and jumps, and statements as operands.
+//! Statements: lists, nodes, and which end by themselves. The nodes are those of definitions, imports, exports,
+//! assignments, blocks and jumps. Statements as operands are here too.
 
 ghost use Rattle.std.specs.Prelude.{◌≡◌, [], IfOk, OnOk, false, option_map, true, unwrap_or};
 ghost use Rattle.std.specs.Int.NonZero.{non_zero_usize_get};

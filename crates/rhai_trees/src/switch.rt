@@ -1,4 +1,4 @@
-//! The arms of a `switch`, as they are read: the tests of cases, one more arm, and the node of a `switch`.
+//! The arms of a `switch` as they are read, and its node. The tests of cases are here too.
 
 ghost use Rattle.std.specs.Prelude.{◌≡◌, ◌++◌, ◌<◌, IfErr, IfOk, IfSome, None, OnOk, Some, false, length, option_map};
 ghost use Rattle.indexmap.specs.IndexMap.{get};

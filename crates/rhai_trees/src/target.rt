@@ -1,4 +1,4 @@
-//! What may be assigned to.
+//! `test_target`: what may be assigned to.
 
 ghost use Rattle.std.specs.Prelude.{length};
 ghost use Rattle.std.specs.Prelude.{◌≡◌, ◌+◌, IfErr, IfNone, IfOk, IfSome, None, OnOk, Some, codes, false, option_map};

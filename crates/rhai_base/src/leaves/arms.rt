@@ -1,4 +1,4 @@
-//! Arms of `switch`: where one begins and ends, and what may not stand there.
+//! Where an arm of `switch` begins and ends, and what is refused there.
 
 ghost use Rattle.std.specs.Prelude.{◌≡◌, ◌+◌, ◌≤◌, IfErr, IfOk, OnOk, codes, false, true};
 ghost use Rattle.rhai_lower.specs.Lexemes.{lexeme};

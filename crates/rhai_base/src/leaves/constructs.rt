@@ -1,4 +1,4 @@
-//! Constructs: which may be statements, what begins and ends a guard, the end of `do`, and the variables of `for`.
+//! Which constructs are statements; what begins and ends guards; ends of `do`. The variables of `for` are here too.
 
 ghost use Rattle.std.specs.Prelude.{◌≡◌, ◌+◌, ◌≤◌, IfErr, IfSome, OnOk, false, true};
 ghost use Rattle.std.specs.Rc.{rc_str_bytes};

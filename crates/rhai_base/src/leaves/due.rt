@@ -1,5 +1,5 @@
-//! Tokens that are due: one that is taken; one that is taken if it is there; the arguments after the `!` of a call,
-//! which a name with a path may not have; and the end mark.
+//! `match_token` and the like: tokens that are due. Some are taken, and some are passed if they are there. After the
+//! `!` of a call arguments are due, which a name with a path may not have. The end mark is here too.
 
 ghost use Rattle.std.specs.Prelude.{◌≡◌, ◌+◌, ◌≤◌, IfErr, IfOk, IsTrue, OnOk, codes, false, true};
 ghost use Rattle.rhai_lower.specs.Lexemes.{lexeme};

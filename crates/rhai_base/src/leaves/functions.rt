@@ -1,4 +1,4 @@
-//! Functions: the type and the name of one, its parameters, and what begins its body.
+//! The head of a function: type, name, parameters, and `{`.
 
 ghost use Rattle.std.specs.Prelude.{◌≡◌, ◌⊎◌, ◌+◌, ◌≤◌, IfErr, IfOk, OnOk, false, true};
 ghost use Rattle.std.specs.Rc.{rc_str_bytes};

@@ -1,4 +1,4 @@
-//! Keys of properties.
+//! `key_at`: the key of a property that a token is.
 
 ghost use Rattle.std.specs.Prelude.{◌≡◌, if◌then◌else◌, IfErr, IfOk, codes, false};
 ghost use Rattle.rhai_lower.specs.Lexemes.{lexeme};

@@ -1,4 +1,4 @@
-//! Links after an operand: what a token is there, the member after a dot, and what may not follow a property.
+//! What a token is after an operand, and the member after a dot. Some tokens may not follow a property.
 
 ghost use Rattle.std.specs.Prelude.{◌≡◌, IfErr, IfOk, IsTrue, OnOk, false, true};
 ghost use Rattle.rhai_lower.specs.Lexemes.{lexeme};

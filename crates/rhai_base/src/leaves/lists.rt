@@ -1,4 +1,4 @@
-//! Lists with commas: what follows a part of one.
+//! `list_continues`: what follows a part of a list with commas.
 
 ghost use Rattle.std.specs.Prelude.{◌≡◌, ◌+◌, ◌≤◌, IfErr, IfOk, IsTrue, false};
 ghost use Rattle.rhai_lower.specs.Lexemes.{lexeme};

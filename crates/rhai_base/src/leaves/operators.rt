@@ -1,4 +1,4 @@
-//! Binary operators, as they stand after an operand.
+//! The binary operator after an operand, if one is there.
 
 ghost use Rattle.std.specs.Prelude.{◌≡◌, IfErr, IfOk, IsSome, OnOk, false};
 ghost use Rattle.rhai_lower.specs.Lexemes.{lexeme, text_of};

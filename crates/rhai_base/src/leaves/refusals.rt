@@ -1,4 +1,4 @@
-//! Refusals of a token.
+//! Refusals of a token that is out of place.
 
 ghost use Rattle.std.specs.Prelude.{◌≡◌, IfOk, false};
 ghost use Rattle.std.specs.Rc.{rc_str_bytes};

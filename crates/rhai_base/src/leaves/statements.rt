@@ -1,5 +1,5 @@
-//! Statements: what begins one, what follows it in a list, doc comments, the name of a definition, what is exported,
-//! and the signs of assignments.
+//! What begins a statement, and what follows it in a list. Doc comments, the name of a definition, what is exported,
+//! and the signs of assignments are here too.
 
 ghost use Rattle.std.specs.Prelude.{◌≡◌, ◌+◌, ◌≤◌, IfErr, IfOk, IfSome, IsSome, IsTrue, OnOk, codes};
 ghost use Rattle.std.specs.Prelude.{false};

@@ -1,5 +1,5 @@
-//! Tests of the program over readers and writers in memory that move one byte at a time, and over some that fail. What
-//! it prints of which list is in the table of cases.
+//! Tests over readers and writers that fail. Others move one byte at a time, in memory. What the program prints of
+//! which list is in the table of cases.
 
 use super::*;
 use std::alloc::AllocError;

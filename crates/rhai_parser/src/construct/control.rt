@@ -1,5 +1,5 @@
-//! What the readers of constructs ask for by leaves, as the reading program gives it: the names of `for` and of
-//! `catch`, the end of `do`, and the frames that hold such names; and the ends of guards and of what `for` goes over.
+//! Leaves joined for constructs, as the reading program asks. They are the names of `for` and of `catch`, the end of
+//! `do`, and the frames that hold such names; and the ends of guards and of what `for` goes over.
 
 ghost use Rattle.std.specs.Prelude.{◌≡◌, ◌+◌, ◌≤◌, IfOk, OnOk, option_map};
 ghost use Rattle.std.specs.Rc.{rc_str_bytes};

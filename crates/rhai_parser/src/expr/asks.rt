@@ -1,5 +1,5 @@
-//! What the readers of expressions ask for by leaves, as the reading program gives it: the next operator, and the ends
-//! of an index and of an operand.
+//! Leaves joined for expressions, as the reading program asks. They are the next operator, and the ends of an index and
+//! of an operand.
 
 ghost use Rattle.std.specs.Prelude.{◌≡◌, IfErr, IfOk, IsSome, None, OnOk, Some, false, option_map};
 ghost use Rattle.rhai_base.specs.Settings.{settings_of};

@@ -1,4 +1,4 @@
-//! What the readers of expressions ask for by leaves: the names of a path, and whether a name is called.
+//! Leaves joined for paths: names, and whether one is called. The readers of expressions ask for them.
 
 ghost use Rattle.std.specs.Prelude.{◌≡◌, IfErr, IfOk, true};
 ghost use Rattle.rhai_lower.specs.Nodes.{variable};

@@ -1,5 +1,5 @@
-//! Runs of binary operators. What waits for the right side of an operator is a list, and no call, so that a long run
-//! nests no readers.
+//! Runs of binary operators, read in one loop. What waits for the right side of an operator is a list, and no call, so
+//! that a long run nests no readers.
 
 ghost use Rattle.std.specs.Prelude.{◌≡◌, ◌+◌, ◌≤◌, IfErr, IfOk, IsSome, OnOk, false};
 ghost use Rattle.rhai_trees.specs.Chains.{chain_view};

@@ -1,5 +1,4 @@
-//! What the reader of functions asks for by leaves: doc comments, the name of a function with the type of its objects,
-//! and its parameters.
+//! Leaves joined for functions: comments, name, parameters. The name comes with the type of the function's objects.
 
 ghost use Rattle.std.specs.Prelude.{◌≡◌, ◌∷◌, [], IfOk, true};
 ghost use Rattle.std.specs.Rc.{rc_str_bytes};

@@ -1,5 +1,4 @@
-//! What the readers of literals ask for by leaves, as the reading program gives it: the next key, and the text after a
-//! block.
+//! Leaves joined for literals, as the reading program asks. They are the next key, and the text after a block.
 
 ghost use Rattle.std.specs.Prelude.{◌≡◌, ◌+◌, ◌≤◌, IfErr, OnOk, option_map};
 ghost use Rattle.rhai_lower.specs.View.{property_views, written};

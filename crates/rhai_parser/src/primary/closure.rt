@@ -1,4 +1,4 @@
-//! The reader of closures.
+//! Readers of closures.
 
 ghost use Rattle.std.specs.Prelude.{◌+◌};
 ghost use Rattle.rhai_lower.specs.View.{statement_view};

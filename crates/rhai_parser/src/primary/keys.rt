@@ -1,4 +1,4 @@
-//! The key of the next property of an object map.
+//! The key of the next property.
 
 ghost use Rattle.std.specs.Prelude.{◌≡◌, ◌≤◌, IfErr, IfOk, OnOk, false};
 ghost use Rattle.rhai_lower.specs.View.{property_views};

@@ -1,5 +1,5 @@
-//! What the readers of statements ask for by leaves: the name of a definition and the end of an assignment, as the
-//! reading program gives them, and whether the value of a jump begins.
+//! Leaves joined for statements, as the reading program asks. They are the name of a definition, the end of an
+//! assignment, and whether the value of a jump begins.
 
 ghost use Rattle.std.specs.Prelude.{◌≡◌, IfOk, false};
 ghost use Rattle.rhai_lower.specs.Lexemes.{lexeme};

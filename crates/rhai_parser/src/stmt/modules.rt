@@ -1,4 +1,4 @@
-//! What the readers of statements ask for by leaves about modules: another name after `as`, and what an `export` does.
+//! Leaves joined for modules: names after `as`, and exports. The readers of statements ask for them.
 
 ghost use Rattle.std.specs.Prelude.{◌≡◌, IfOk, OnOk, option_map, unwrap_or};
 ghost use Rattle.std.specs.Int.NonZero.{non_zero_usize_get};

@@ -1,4 +1,4 @@
-//! The line of a statement, and those of the values that lead to the arms of a `switch`.
+//! The line of a statement, and lines of the values in a `switch`. These values lead to its arms.
 
 use crate::escape::Escaped;
 use crate::literal::print_literal;

@@ -1,5 +1,5 @@
-//! A node and its children: each is printed two spaces deeper than its parent. A chain and a run of operators nest as
-//! deep as they are long, so nothing here recurses: what is still to be printed is kept in a list.
+//! A node and its children, printed without recursion. Each is printed two spaces deeper than its parent. A chain and a
+//! run of operators nest as deep as they are long, so what is still to be printed is kept in a list.
 
 ghost use Rattle.std.specs.Prelude.{◌≡◌, ◌∷◌, ◌++◌, [], OnOk};
 ghost use Rattle.rhai_lower.specs.declared.ast.BinaryExpr.{out-BinaryExpr};
