@@ -78,12 +78,9 @@ raises_below_the_limit = Raises (bare 1 2 (place 1 1)) (place 1 5) (Ok (bare 2 2
 abbrev is_refused_at_the_limit : Type 0
 is_refused_at_the_limit = Raises (bare 2 2 (place 1 1)) (place 1 5) (Err (too_deep (place 1 1)))
 
--- Under a limit of 5, two levels are left at level 3, and none at level 7.
-example : (levels_left (bare 3 5 (place 1 1)) ≡ 2) × (levels_left (bare 7 5 (place 1 1)) ≡ 0)
-unfolding gap
-example = (refl, refl)
-
--- Under a limit of 2, level 1 is raised to 2, and level 2 is refused at its position.
-example : raises_below_the_limit × is_refused_at_the_limit
-unfolding one_more
-example = ((refl, refl, refl), (refl, refl))
+-- Under a limit of 2, level 1 is raised to 2, and level 2 is refused at its position. Under a limit of 5, two levels
+-- are left at level 3, and none at level 7.
+example : raises_below_the_limit × is_refused_at_the_limit × (levels_left (bare 3 5 (place 1 1)) ≡ 2)
+    × (levels_left (bare 7 5 (place 1 1)) ≡ 0)
+unfolding one_more gap
+example = ((refl, refl, refl), (refl, refl), refl, refl)

@@ -1,5 +1,5 @@
 -- A form ends by itself where its tree does.
-use Rattle.std.proofs.Common.{◌≡◌, ◌×◌, refl}
+use Rattle.std.proofs.Common.{◌≡◌, refl}
 use Rattle.rhai_lower.specs.declared.position.Position.{Position}
 use Rattle.rhai_grammar.specs.Contexts.{Live}
 use Rattle.rhai_grammar.specs.Ends.{ends_with_brace, needs_no_semicolon, statement_ends_arm}

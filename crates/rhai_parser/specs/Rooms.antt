@@ -1,6 +1,6 @@
 -- How many readers may be active below a reader. It also says what each reader leaves of that and of the library,
 -- whatever it answers.
-use Rattle.std.specs.Prelude.{◌≡◌, ◌×◌, ℕ, ◌+◌, ◌-◌, ◌*◌, ◌≤◌, [], if◌then◌else◌, refl}
+use Rattle.std.specs.Prelude.{◌≡◌, ℕ, ◌+◌, ◌-◌, ◌*◌, ◌≤◌, [], if◌then◌else◌, refl}
 use Rattle.rhai_lower.specs.Positions.{place}
 use Rattle.rhai_grammar.specs.NumberedLibraries.{IsOrderly}
 use Rattle.rhai_grammar.specs.Libraries.{Library}
