@@ -30,7 +30,7 @@ use Rattle.rhai_base.specs.Settings.{settings_of}
 use Rattle.rhai_base.specs.declared.settings.ParseSettings.{ParseSettings}
 use Rattle.rhai_parser.proofs.Given.{gives_so}
 use Rattle.rhai_parser.specs.Frames.{context_of, live_of}
-use Rattle.rhai_parser.specs.Languages.{LanguageValue}
+use Rattle.rhai_parser.specs.Engines.{EngineValue}
 use Rattle.rhai_parser.specs.Closures.{closure_parameters}
 
 -- what is known of the frame in which a closure is read
@@ -38,15 +38,15 @@ abbrev pub known_inside : FrameValue → Known
 known_inside outer = record outer.known { imports = outer.known.imports ++ outer.live.imports }
 
 -- the context of a closure is that of its frame
-pub context_inside : (language : LanguageValue) (outer inner : FrameValue) (here deeper : ParseSettings)
+pub context_inside : (engine : EngineValue) (outer inner : FrameValue) (here deeper : ParseSettings)
     → inner.filter ≡ All → inner.known ≡ known_inside outer → inner.begun ≡ outer.begun + 1
-    → settings_of deeper ≡ settings.level_up (closure_settings (settings_of here) language.options)
-    → context_of language inner deeper ≡ level_up (in_closure (context_of language outer here) (live_of outer))
-context_inside language outer inner here deeper filtered knows begun raised =
-    ap (λ (x : ExprFilter). record (context_of language inner deeper) { filter = x }) filtered
-    ∙ ap (λ (x : Known). record (context_of language inner deeper) { filter = All; known = x }) knows
-    ∙ ap (λ (x : ℕ). record (context_of language inner deeper) { filter = All; known = known_inside outer; begun = x }) begun
-    ∙ ap (λ (x : Settings). record (context_of language inner deeper) {
+    → settings_of deeper ≡ settings.level_up (closure_settings (settings_of here) engine.options)
+    → context_of engine inner deeper ≡ level_up (in_closure (context_of engine outer here) (live_of outer))
+context_inside engine outer inner here deeper filtered knows begun raised =
+    ap (λ (x : ExprFilter). record (context_of engine inner deeper) { filter = x }) filtered
+    ∙ ap (λ (x : Known). record (context_of engine inner deeper) { filter = All; known = x }) knows
+    ∙ ap (λ (x : ℕ). record (context_of engine inner deeper) { filter = All; known = known_inside outer; begun = x }) begun
+    ∙ ap (λ (x : Settings). record (context_of engine inner deeper) {
       settings = x;
       filter = All;
       known = known_inside outer;

@@ -20,7 +20,7 @@ use Rattle.rhai_base.specs.declared.leaves.operators.Operator.{Operator}
 use Rattle.rhai_base.specs.Frames.{FrameValue}
 use Rattle.rhai_base.specs.Settings.{settings_of}
 use Rattle.rhai_base.specs.declared.settings.ParseSettings.{ParseSettings}
-use Rattle.rhai_parser.specs.Languages.{LanguageValue, sizes_of}
+use Rattle.rhai_parser.specs.Engines.{EngineValue, sizes_of}
 use Rattle.rhai_parser.specs.Frames.{context_of, live_of}
 use Rattle.rhai_parser.specs.Readers.{called}
 
@@ -59,25 +59,25 @@ next_given f s t (Err e) found refused nowhere look readable = (
 
 -- ---- what a form stands in
 
-abbrev pub under : LanguageValue → FrameValue → Settings → Context
-under language frame c = record {
+abbrev pub under : EngineValue → FrameValue → Settings → Context
+under engine frame c = record {
   settings = c;
-  options = language.options;
-  sizes = sizes_of language;
+  options = engine.options;
+  sizes = sizes_of engine;
   filter = frame.filter;
   known = frame.known;
   begun = frame.begun;
 }
 
 -- Settings that differ in their position alone make one context.
-pub same_context : (language : LanguageValue) (frame : FrameValue) (c d : ParseSettings) → settings_of c ≡ settings_of d → context_of language frame c ≡ context_of language frame d
-same_context language frame c d e = ap (under language frame) e
+pub same_context : (engine : EngineValue) (frame : FrameValue) (c d : ParseSettings) → settings_of c ≡ settings_of d → context_of engine frame c ≡ context_of engine frame d
+same_context engine frame c d e = ap (under engine frame) e
 
 -- What calls a name is read alike under settings that differ in their position alone.
-pub same_called : (language : LanguageValue) (frame : FrameValue) (c d : ParseSettings) (at : Position) (q r : Bool) (t : Progress)
+pub same_called : (engine : EngineValue) (frame : FrameValue) (c d : ParseSettings) (at : Position) (q r : Bool) (t : Progress)
     → settings_of c ≡ settings_of d → c.pos ≡ at → q ≡ r
-    → nested (result_of (called language frame c q)) t ≡ nested (result_of (Called (context_of language frame d) (live_of frame) at r)) t
-same_called language frame c d at q r t same stands is =
-    ap (λ k. nested (result_of (Called k (live_of frame) c.pos q)) t) (same_context language frame c d same)
-    ∙ ap (λ p. nested (result_of (Called (context_of language frame d) (live_of frame) p q)) t) stands
-    ∙ ap (λ b. nested (result_of (Called (context_of language frame d) (live_of frame) at b)) t) is
+    → nested (result_of (called engine frame c q)) t ≡ nested (result_of (Called (context_of engine frame d) (live_of frame) at r)) t
+same_called engine frame c d at q r t same stands is =
+    ap (λ k. nested (result_of (Called k (live_of frame) c.pos q)) t) (same_context engine frame c d same)
+    ∙ ap (λ p. nested (result_of (Called (context_of engine frame d) (live_of frame) p q)) t) stands
+    ∙ ap (λ b. nested (result_of (Called (context_of engine frame d) (live_of frame) at b)) t) is

@@ -8,7 +8,7 @@ use Rattle.rhai_lower.specs.Slots.{SlotValue}
 use Rattle.rhai_grammar.specs.Contexts.{Known}
 use Rattle.rhai_base.specs.Counts.{counts_of}
 use Rattle.rhai_base.specs.Frames.{FrameValue, known_variables}
-use Rattle.rhai_parser.specs.Languages.{LanguageValue}
+use Rattle.rhai_parser.specs.Engines.{EngineValue}
 use Rattle.rhai_parser.specs.Starts.{StateValue, frame_in, known_in}
 
 abbrev Names : Type 0
@@ -23,14 +23,14 @@ made state slots imports known begun = record {
   begun = begun;
 }
 
-abbrev knowing : LanguageValue → StateValue → Names → Known
+abbrev knowing : EngineValue → StateValue → Names → Known
 knowing engine state around = record {
   variables = known_variables state.external_constants;
   imports = map rc_str_bytes around;
   modules = engine.sub_modules;
 }
 
-pub frame_is : (engine : LanguageValue) (state : StateValue) (frame : FrameValue) (known : Known) (slots : List SlotValue)
+pub frame_is : (engine : EngineValue) (state : StateValue) (frame : FrameValue) (known : Known) (slots : List SlotValue)
     (imports : Vec (RcStr Global) Global) (around : Names) (begun : ℕ) → frame ≡ made state slots imports.items known begun
     → known ≡ knowing engine state around → slots ≡ state.stack → imports ≡ state.imports
     → around ≡ state.global_imports.items → begun ≡ (counts_of state.counts).begun → frame ≡ frame_in engine state

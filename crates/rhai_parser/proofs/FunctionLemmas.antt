@@ -31,7 +31,7 @@ use Rattle.rhai_base.specs.Settings.{settings_of}
 use Rattle.rhai_base.specs.declared.settings.ParseSettings.{ParseSettings}
 use Rattle.rhai_parser.proofs.Given.{gives_so}
 use Rattle.rhai_parser.specs.Frames.{context_of, live_of}
-use Rattle.rhai_parser.specs.Languages.{LanguageValue}
+use Rattle.rhai_parser.specs.Engines.{EngineValue}
 
 no_list : (function : Text) (l : Lexeme) (at : Position) (k : Calling) → is_list k ≡ false
     → parameters_at function l at k ≡ Fail (refusal (no_parameters function l) at)
@@ -61,15 +61,15 @@ abbrev pub known_inside : FrameValue → Known
 known_inside outer = record outer.known { imports = outer.known.imports ++ outer.live.imports }
 
 -- the context of a function is that of its frame
-pub context_inside : (language : LanguageValue) (outer inner : FrameValue) (here deeper : ParseSettings)
+pub context_inside : (engine : EngineValue) (outer inner : FrameValue) (here deeper : ParseSettings)
     → inner.filter ≡ All → inner.known ≡ known_inside outer → inner.begun ≡ outer.begun + 1
-    → settings_of deeper ≡ settings.level_up (function_settings (settings_of here) language.options language.max_function_expr_depth)
-    → context_of language inner deeper ≡ level_up (in_function (context_of language outer here) (live_of outer))
-context_inside language outer inner here deeper filtered knows begun raised =
-    ap (λ (x : ExprFilter). record (context_of language inner deeper) { filter = x }) filtered
-    ∙ ap (λ (x : Known). record (context_of language inner deeper) { filter = All; known = x }) knows
-    ∙ ap (λ (x : ℕ). record (context_of language inner deeper) { filter = All; known = known_inside outer; begun = x }) begun
-    ∙ ap (λ (x : Settings). record (context_of language inner deeper) { settings = x; filter = All; known = known_inside outer; begun = outer.begun + 1 }) raised
+    → settings_of deeper ≡ settings.level_up (function_settings (settings_of here) engine.options engine.max_function_expr_depth)
+    → context_of engine inner deeper ≡ level_up (in_function (context_of engine outer here) (live_of outer))
+context_inside engine outer inner here deeper filtered knows begun raised =
+    ap (λ (x : ExprFilter). record (context_of engine inner deeper) { filter = x }) filtered
+    ∙ ap (λ (x : Known). record (context_of engine inner deeper) { filter = All; known = x }) knows
+    ∙ ap (λ (x : ℕ). record (context_of engine inner deeper) { filter = All; known = known_inside outer; begun = x }) begun
+    ∙ ap (λ (x : Settings). record (context_of engine inner deeper) { settings = x; filter = All; known = known_inside outer; begun = outer.begun + 1 }) raised
 
 -- A function may begin, at a position in a context of its own.
 pub record Begun (c : Context) (w : Live) (at : Position) (d : Context) (here : Position) (s : Progress) : Type 0 where

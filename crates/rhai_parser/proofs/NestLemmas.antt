@@ -11,7 +11,7 @@ use Rattle.rhai_grammar.specs.Promises.{UnlessMemory}
 use Rattle.rhai_grammar.specs.declared.error.ParseError.{ParseError}
 use Rattle.rhai_base.specs.Counts.{Counts, with_entered, with_left}
 use Rattle.rhai_base.specs.declared.settings.ParseSettings.{ParseSettings}
-use Rattle.rhai_parser.specs.Languages.{LanguageValue}
+use Rattle.rhai_parser.specs.Engines.{EngineValue}
 use Rattle.std.specs.Prelude.{◌⊎◌}
 use Rattle.rhai_grammar.specs.Cursors.{Cursor}
 use Rattle.rhai_grammar.specs.Depths.{statements_depth}
@@ -35,21 +35,21 @@ use Rattle.std.proofs.lemmas.Bool.{ltb-false, ltb-true}
 use Rattle.rhai_reading.proofs.Grows.{Again, AgainSo, active_again}
 
 -- what the code's reader of a script leaves
-pub stays_read : (language engine : LanguageValue) (frame : FrameValue) (settings : ParseSettings) (old new : Shared)
-    → language ≡ engine → Stays language frame settings (2 + function_room language settings) old new
+pub stays_read : (engine engine : EngineValue) (frame : FrameValue) (settings : ParseSettings) (old new : Shared)
+    → engine ≡ engine → Stays engine frame settings (2 + function_room engine settings) old new
     → StaysWithin 1 engine settings (counts_of old.counts) (counts_of new.counts)
 unfolding IsWithin
-stays_read language engine frame settings old new is h =
+stays_read engine engine frame settings old new is h =
     subst (λ e. StaysWithin 1 e settings (counts_of old.counts) (counts_of new.counts)) is (λ positive more.
     let a = old.counts.active in
-    let top = max old.counts.peak (a + 8 * (settings.max_expr_depth + language.max_function_expr_depth + 1)) in
-    let right = le-max_right old.counts.peak (a + 8 * (settings.max_expr_depth + language.max_function_expr_depth + 1)) in
+    let top = max old.counts.peak (a + 8 * (settings.max_expr_depth + engine.max_function_expr_depth + 1)) in
+    let right = le-max_right old.counts.peak (a + 8 * (settings.max_expr_depth + engine.max_function_expr_depth + 1)) in
     let levels = gap_most settings.max_expr_depth settings.level in
-    let function = function_room_most language settings in
+    let function = function_room_most engine settings in
     (h.nesting a top positive more (omega (arith, right, levels, function)) (le_refl a, le-max_left _ _)).1)
 
 -- a library stays orderly in the state of an entry, from which its frame has how many have begun
-pub orderly_so : (engine : LanguageValue) (begun here : ℕ) (old new : Library) → here ≡ begun
+pub orderly_so : (engine : EngineValue) (begun here : ℕ) (old new : Library) → here ≡ begun
     → (Holds engine.max_functions here old → Holds engine.max_functions here new)
     → IsOrderly engine.max_functions begun old → IsOrderly engine.max_functions begun new
 unfolding Holds
@@ -69,7 +69,7 @@ with_entry p a peak n h =
     omega (arith, h, both)
 
 -- so it is for the entry, which is entered before and left after
-pub entry_stays : (engine : LanguageValue) (settings : ParseSettings) (old begun read left : Counts)
+pub entry_stays : (engine : EngineValue) (settings : ParseSettings) (old begun read left : Counts)
     → begun ≡ with_entered old → left ≡ with_left read → StaysWithin 1 engine settings begun read
     → StaysWithin 2 engine settings old left
 entry_stays engine settings old begun read left enters leaves stays = λ positive more.

@@ -9,35 +9,35 @@ use Rattle.rhai_grammar.specs.Libraries.{Ended, Library, closure_count, with_end
 use Rattle.rhai_grammar.specs.Settings.{Settings, at_global_level}
 use Rattle.rhai_base.specs.Settings.{gap, settings_of}
 use Rattle.rhai_base.specs.declared.settings.ParseSettings.{ParseSettings}
-use Rattle.rhai_parser.specs.Languages.{LanguageValue}
+use Rattle.rhai_parser.specs.Engines.{EngineValue}
 use Rattle.rhai_parser.specs.Rooms.{Holds, function_room}
 
 -- below the global level no function stands
-pub no_function : (language : LanguageValue) (settings : ParseSettings) → at_global_level (settings_of settings) ≡ false
-    → function_room language settings ≡ 0
+pub no_function : (engine : EngineValue) (settings : ParseSettings) → at_global_level (settings_of settings) ≡ false
+    → function_room engine settings ≡ 0
 unfolding function_room
-no_function language settings e = ap (λ b. if b then 8 * language.max_function_expr_depth else 0) e
+no_function engine settings e = ap (λ b. if b then 8 * engine.max_function_expr_depth else 0) e
 
 -- at it one may
-pub one_function : (language : LanguageValue) (settings : ParseSettings) → at_global_level (settings_of settings) ≡ true
-    → function_room language settings ≡ 8 * language.max_function_expr_depth
+pub one_function : (engine : EngineValue) (settings : ParseSettings) → at_global_level (settings_of settings) ≡ true
+    → function_room engine settings ≡ 8 * engine.max_function_expr_depth
 unfolding function_room
-one_function language settings e = ap (λ b. if b then 8 * language.max_function_expr_depth else 0) e
+one_function engine settings e = ap (λ b. if b then 8 * engine.max_function_expr_depth else 0) e
 
 -- under the same settings as many readers may be active in it
-pub room_same : (language : LanguageValue) (a b : ParseSettings) → settings_of a ≡ settings_of b
-    → function_room language a ≡ function_room language b
+pub room_same : (engine : EngineValue) (a b : ParseSettings) → settings_of a ≡ settings_of b
+    → function_room engine a ≡ function_room engine b
 unfolding function_room
-room_same language a b e =
-    ap (λ (s : Settings). if at_global_level s then 8 * language.max_function_expr_depth else 0) e
+room_same engine a b e =
+    ap (λ (s : Settings). if at_global_level s then 8 * engine.max_function_expr_depth else 0) e
 
 -- no more than eight for each of its levels
-pub function_room_most : (language : LanguageValue) (settings : ParseSettings)
-    → function_room language settings ≤ 8 * language.max_function_expr_depth
+pub function_room_most : (engine : EngineValue) (settings : ParseSettings)
+    → function_room engine settings ≤ 8 * engine.max_function_expr_depth
 unfolding function_room
-function_room_most language settings = by (at_global_level (settings_of settings))
+function_room_most engine settings = by (at_global_level (settings_of settings))
   where
-    by : (b : Bool) → (if b then 8 * language.max_function_expr_depth else 0) ≤ 8 * language.max_function_expr_depth
+    by : (b : Bool) → (if b then 8 * engine.max_function_expr_depth else 0) ≤ 8 * engine.max_function_expr_depth
     by true = omega arith
     by false = omega arith
 

@@ -20,7 +20,7 @@ use Rattle.rhai_reading.specs.Running.{Caller, Progress, asked, exec, guarded, l
 use Rattle.rhai_reading.proofs.Outcomes.{binary_done, binary_refused}
 use Rattle.rhai_reading.proofs.Steps.{and_then_done, guarded_is}
 use Rattle.rhai_parser.specs.Frames.{context_of, live_of}
-use Rattle.rhai_parser.specs.Languages.{LanguageValue}
+use Rattle.rhai_parser.specs.Engines.{EngineValue}
 use Rattle.rhai_parser.specs.Readers.{binary_op}
 use Rattle.rhai_parser.specs.Runs.{right_side}
 use Rattle.rhai_parser.proofs.ExprLemmas.{same_context, under}
@@ -71,21 +71,21 @@ right_refused c w at parent lhs n s s1 t e found reads =
 
 -- What the reading program makes of what the run on the right of an operator gives, where that leaves no more than a
 -- bound: the operator joins it, and the run around goes on.
-pub record Stands (language : LanguageValue) (frame : FrameValue) (start : ParseSettings) (bound : ℕ) (p : Pending) (around inside : R.Out Node → R.Out Node) : Type 0 where
+pub record Stands (engine : EngineValue) (frame : FrameValue) (start : ParseSettings) (bound : ℕ) (p : Pending) (around inside : R.Out Node → R.Out Node) : Type 0 where
   pub limit : p.around.settings.max_expr_depth ≡ start.max_expr_depth
   pub less : 1 ≤ start.max_expr_depth → levels_left p.around.settings ≤ levels_left start
   pub refused : (e : Refusal) (t : Progress) → inside (R.Refused e t) ≡ around (R.Refused e t)
   pub joined : (y z : Node) (t : Progress) → left t.cursor.tokens ≤ bound → operator_result (lexeme p.op_token) p.pos (chain_view p.around.lhs) y ≡ Ok z
-      → inside (R.Done y t) ≡ around (result_of (binary_op language frame p.around.settings p.around.settings.pos p.around.parent z) t)
+      → inside (R.Done y t) ≡ around (result_of (binary_op engine frame p.around.settings p.around.settings.pos p.around.parent z) t)
   pub missed : (y : Node) (e : Refusal) (t : Progress) → operator_result (lexeme p.op_token) p.pos (chain_view p.around.lhs) y ≡ Err e
       → inside (R.Done y t) ≡ around (R.Refused e t)
 
-module _ (language : LanguageValue) (frame : FrameValue) (start : ParseSettings) where
+module _ (engine : EngineValue) (frame : FrameValue) (start : ParseSettings) where
   -- from what is around a list of waiting operators to what is inside it
   unfoldable pub Waits : (bound : ℕ) → List Pending → (around inside : R.Out Node → R.Out Node) → Type 0
   Waits bound [] around inside = inside ≡ around
   Waits bound (p ∷ ps) around inside =
-      (next : R.Out Node → R.Out Node) × Stands language frame start bound p around next × Waits bound ps next inside
+      (next : R.Out Node → R.Out Node) × Stands engine frame start bound p around next × Waits bound ps next inside
 
   fewer : (n m : ℕ) (ps : List Pending) (around inside : R.Out Node → R.Out Node) → m ≤ n → Waits n ps around inside → Waits m ps around inside
   unfolding Waits
@@ -103,14 +103,14 @@ module _ (language : LanguageValue) (frame : FrameValue) (start : ParseSettings)
         fewer n m ps waits.0 inside less waits.2,
       )
 
-  one_more : (n : ℕ) (ps : List Pending) (p : Pending) (around inside new : R.Out Node → R.Out Node) → Waits n ps around inside → Stands language frame start n p inside new → Waits n (ps ++ p ∷ []) around new
+  one_more : (n : ℕ) (ps : List Pending) (p : Pending) (around inside new : R.Out Node → R.Out Node) → Waits n ps around inside → Stands engine frame start n p inside new → Waits n (ps ++ p ∷ []) around new
   unfolding Waits
-  one_more n [] p around inside new e h = (new, subst (λ f. Stands language frame start n p f new) e h, refl)
+  one_more n [] p around inside new e h = (new, subst (λ f. Stands engine frame start n p f new) e h, refl)
   one_more n (q ∷ ps) p around inside new waits h = (waits.0, waits.1, one_more n ps p waits.0 inside new waits.2 h)
 
-  one_less : (n : ℕ) (ps : List Pending) (p : Pending) (around new : R.Out Node → R.Out Node) → Waits n (ps ++ p ∷ []) around new → (inside : R.Out Node → R.Out Node) × Waits n ps around inside × Stands language frame start n p inside new
+  one_less : (n : ℕ) (ps : List Pending) (p : Pending) (around new : R.Out Node → R.Out Node) → Waits n (ps ++ p ∷ []) around new → (inside : R.Out Node → R.Out Node) × Waits n ps around inside × Stands engine frame start n p inside new
   unfolding Waits
-  one_less n [] p around new waits = (around, refl, subst (λ f. Stands language frame start n p around f) (sym waits.2) waits.1)
+  one_less n [] p around new waits = (around, refl, subst (λ f. Stands engine frame start n p around f) (sym waits.2) waits.1)
   one_less n (q ∷ ps) p around new waits =
       let r = one_less n ps p waits.0 new waits.2 in
       (r.0, (waits.0, waits.1, r.1), r.2)
@@ -121,27 +121,27 @@ module _ (language : LanguageValue) (frame : FrameValue) (start : ParseSettings)
   all_refused n (p ∷ ps) around inside waits e t = all_refused n ps waits.0 inside waits.2 e t ∙ waits.1.refused e t
 
 -- What is read is what the waiting operators make of what the run at hand gives.
-pub record Awaits (language : LanguageValue) (frame : FrameValue) (start : ParseSettings) (bound : ℕ) (ps : List Pending) (whole now : R.Out Node) : Type 0 where
+pub record Awaits (engine : EngineValue) (frame : FrameValue) (start : ParseSettings) (bound : ℕ) (ps : List Pending) (whole now : R.Out Node) : Type 0 where
   pub inside : R.Out Node → R.Out Node
-  pub waits : Waits language frame start bound ps (λ o. o) inside
+  pub waits : Waits engine frame start bound ps (λ o. o) inside
   pub same : whole ≡ inside now
 
 -- before the first operator
-pub nothing_waits : {language : LanguageValue} {frame : FrameValue} {start c : ParseSettings} {bound : ℕ} {ps : List Pending} {at : Position} (parent : ℕ) (lhs : Node) (s : Progress) → ps ≡ [] → settings_of c ≡ settings_of start → c.pos ≡ at
-    → Awaits language frame start bound ps (result_of (binary_op language frame start at parent lhs) s) (result_of (binary_op language frame c c.pos parent lhs) s)
+pub nothing_waits : {engine : EngineValue} {frame : FrameValue} {start c : ParseSettings} {bound : ℕ} {ps : List Pending} {at : Position} (parent : ℕ) (lhs : Node) (s : Progress) → ps ≡ [] → settings_of c ≡ settings_of start → c.pos ≡ at
+    → Awaits engine frame start bound ps (result_of (binary_op engine frame start at parent lhs) s) (result_of (binary_op engine frame c c.pos parent lhs) s)
 unfolding Waits
-nothing_waits {language} {frame} {start} {c} {bound} {ps} {at} parent lhs s none same there = record {
+nothing_waits {engine} {frame} {start} {c} {bound} {ps} {at} parent lhs s none same there = record {
   inside = λ o. o;
-  waits = subst (λ rs. Waits language frame start bound rs (λ o. o) (λ o. o)) (sym none) refl;
-  same = ap (λ (d : Context). result_of (BinaryOp d (live_of frame) at parent lhs) s) (sym (same_context language frame c start same)) ∙ ap (λ (q : Position). result_of (binary_op language frame c q parent lhs) s) (sym there);
+  waits = subst (λ rs. Waits engine frame start bound rs (λ o. o) (λ o. o)) (sym none) refl;
+  same = ap (λ (d : Context). result_of (BinaryOp d (live_of frame) at parent lhs) s) (sym (same_context engine frame c start same)) ∙ ap (λ (q : Position). result_of (binary_op engine frame c q parent lhs) s) (sym there);
 }
 
 -- From s the operator of p comes next, and x is the operand after it; t is left, and the run that x begins has these
 -- settings.
-pub record Pushes (language : LanguageValue) (frame : FrameValue) (start settings side : ParseSettings) (parent : ℕ) (lhs : Node) (n : ℕ) (x : Node) (p : Pending) (s s1 t : Progress) : Type 0 where
-  pub found : result_of (binary_op language frame settings settings.pos parent lhs) s
-      ≡ exec (guarded (binary_op language frame settings settings.pos parent lhs) s) (Peek (binary_on (context_of language frame settings) (live_of frame) settings.pos parent lhs n)) s1
-  pub reads : exec (guarded (binary_op language frame settings settings.pos parent lhs) s) (right_side (context_of language frame settings) (live_of frame) settings.pos) s1
+pub record Pushes (engine : EngineValue) (frame : FrameValue) (start settings side : ParseSettings) (parent : ℕ) (lhs : Node) (n : ℕ) (x : Node) (p : Pending) (s s1 t : Progress) : Type 0 where
+  pub found : result_of (binary_op engine frame settings settings.pos parent lhs) s
+      ≡ exec (guarded (binary_op engine frame settings settings.pos parent lhs) s) (Peek (binary_on (context_of engine frame settings) (live_of frame) settings.pos parent lhs n)) s1
+  pub reads : exec (guarded (binary_op engine frame settings settings.pos parent lhs) s) (right_side (context_of engine frame settings) (live_of frame) settings.pos) s1
       ≡ R.Done (lexeme p.op_token, p.pos, x) t
   pub short : left t.cursor.tokens + 1 ≤ left s.cursor.tokens
   pub left_side : chain_view p.around.lhs ≡ lhs
@@ -153,9 +153,9 @@ pub record Pushes (language : LanguageValue) (frame : FrameValue) (start setting
   pub limit : p.around.settings.max_expr_depth ≡ start.max_expr_depth
   pub less : 1 ≤ start.max_expr_depth → levels_left p.around.settings ≤ levels_left start
 
-module _ {language : LanguageValue} {frame : FrameValue} {start settings side : ParseSettings} {parent : ℕ} {lhs : Node} {n : ℕ} {x : Node} {p : Pending} {s s1 t : Progress} (h : Pushes language frame start settings side parent lhs n x p s s1 t) where
+module _ {engine : EngineValue} {frame : FrameValue} {start settings side : ParseSettings} {parent : ℕ} {lhs : Node} {n : ℕ} {x : Node} {p : Pending} {s s1 t : Progress} (h : Pushes engine frame start settings side parent lhs n x p s s1 t) where
   c : Context
-  c = context_of language frame settings
+  c = context_of engine frame settings
 
   w : Live
   w = live_of frame
@@ -167,10 +167,10 @@ module _ {language : LanguageValue} {frame : FrameValue} {start settings side : 
   behind : R.Out Node → R.Out Node
   behind o = R.and_then o (λ v u. exec call (binary_next (level_up c) w parent lhs (lexeme p.op_token) p.pos v) u)
 
-  side_read : result_of (binary_op language frame settings settings.pos parent lhs) s ≡ behind (result_of (binary_op language frame side side.pos n x) t)
+  side_read : result_of (binary_op engine frame settings settings.pos parent lhs) s ≡ behind (result_of (binary_op engine frame side side.pos n x) t)
   unfolding c w call behind
   side_read =
-      let same : context_of language frame side ≡ level_up c = ap (under language frame) h.side_raised in
+      let same : context_of engine frame side ≡ level_up c = ap (under engine frame) h.side_raised in
       h.found
       ∙ side_first call c w settings.pos parent lhs n s1
       ∙ ap (λ o. R.and_then o (behind_side call c w parent lhs n)) h.reads
@@ -179,10 +179,10 @@ module _ {language : LanguageValue} {frame : FrameValue} {start settings side : 
       ∙ ap (λ (d : Context). behind (result_of (BinaryOp d w side.pos n x) t)) (sym same)
 
   joined_so : (y z : Node) (u : Progress) → left u.cursor.tokens ≤ left t.cursor.tokens → operator_result (lexeme p.op_token) p.pos (chain_view p.around.lhs) y ≡ Ok z
-      → behind (R.Done y u) ≡ result_of (binary_op language frame p.around.settings p.around.settings.pos p.around.parent z) u
+      → behind (R.Done y u) ≡ result_of (binary_op engine frame p.around.settings p.around.settings.pos p.around.parent z) u
   unfolding c w call behind
   joined_so y z u less is =
-      let same : context_of language frame p.around.settings ≡ level_up c = ap (under language frame) h.next_raised in
+      let same : context_of engine frame p.around.settings ≡ level_up c = ap (under engine frame) h.next_raised in
       let g = BinaryOp c w settings.pos parent lhs in
       let on = BinaryOp (level_up c) w p.pos parent z in
       binary_done call (level_up c) w parent lhs (lexeme p.op_token) p.pos y z u (ap (λ m. operator_result (lexeme p.op_token) p.pos m y) (sym h.left_side) ∙ is)
@@ -192,7 +192,7 @@ module _ {language : LanguageValue} {frame : FrameValue} {start settings side : 
       ∙ ap (λ (m : ℕ). result_of (BinaryOp (level_up c) w p.around.settings.pos m z) u) (sym h.outer)
       ∙ ap (λ (d : Context). result_of (BinaryOp d w p.around.settings.pos p.around.parent z) u) (sym same)
 
-  stands : (inside : R.Out Node → R.Out Node) → Stands language frame start (left t.cursor.tokens) p inside (λ o. inside (behind o))
+  stands : (inside : R.Out Node → R.Out Node) → Stands engine frame start (left t.cursor.tokens) p inside (λ o. inside (behind o))
   unfolding c w call behind
   stands inside = record {
     limit = h.limit;
@@ -202,53 +202,53 @@ module _ {language : LanguageValue} {frame : FrameValue} {start settings side : 
     missed = λ y e u is. ap inside (binary_refused call (level_up c) w parent lhs (lexeme p.op_token) p.pos y e u (ap (λ m. operator_result (lexeme p.op_token) p.pos m y) (sym h.left_side) ∙ is));
   }
 
-  pushed : {ps qs : List Pending} {whole : R.Out Node} → Awaits language frame start (left s.cursor.tokens) ps whole (result_of (binary_op language frame settings settings.pos parent lhs) s) → qs ≡ ps ++ p ∷ []
-      → Awaits language frame start (left t.cursor.tokens) qs whole (result_of (binary_op language frame side side.pos n x) t)
+  pushed : {ps qs : List Pending} {whole : R.Out Node} → Awaits engine frame start (left s.cursor.tokens) ps whole (result_of (binary_op engine frame settings settings.pos parent lhs) s) → qs ≡ ps ++ p ∷ []
+      → Awaits engine frame start (left t.cursor.tokens) qs whole (result_of (binary_op engine frame side side.pos n x) t)
   pushed {ps} {qs} {whole} a e =
       let inside : R.Out Node → R.Out Node = λ o. a.inside (behind o) in
-      let fewer_waits = fewer language frame start (left s.cursor.tokens) (left t.cursor.tokens) ps (λ o. o) a.inside (let short = h.short in omega (arith, short)) a.waits in
-      let more : Waits language frame start (left t.cursor.tokens) (ps ++ p ∷ []) (λ o. o) inside = one_more language frame start (left t.cursor.tokens) ps p (λ o. o) a.inside inside fewer_waits (stands a.inside) in
+      let fewer_waits = fewer engine frame start (left s.cursor.tokens) (left t.cursor.tokens) ps (λ o. o) a.inside (let short = h.short in omega (arith, short)) a.waits in
+      let more : Waits engine frame start (left t.cursor.tokens) (ps ++ p ∷ []) (λ o. o) inside = one_more engine frame start (left t.cursor.tokens) ps p (λ o. o) a.inside inside fewer_waits (stands a.inside) in
       record {
         inside = inside;
-        waits = subst (λ rs. Waits language frame start (left t.cursor.tokens) rs (λ o. o) inside) (sym e) more;
+        waits = subst (λ rs. Waits engine frame start (left t.cursor.tokens) rs (λ o. o) inside) (sym e) more;
         same = a.same ∙ ap a.inside side_read;
       }
 
-  pub pushed_as : {ps qs : List Pending} {whole : R.Out Node} {m : ℕ} → m ≡ n → Awaits language frame start (left s.cursor.tokens) ps whole (result_of (binary_op language frame settings settings.pos parent lhs) s) → qs ≡ ps ++ p ∷ []
-      → Awaits language frame start (left t.cursor.tokens) qs whole (result_of (binary_op language frame side side.pos m x) t)
+  pub pushed_as : {ps qs : List Pending} {whole : R.Out Node} {m : ℕ} → m ≡ n → Awaits engine frame start (left s.cursor.tokens) ps whole (result_of (binary_op engine frame settings settings.pos parent lhs) s) → qs ≡ ps ++ p ∷ []
+      → Awaits engine frame start (left t.cursor.tokens) qs whole (result_of (binary_op engine frame side side.pos m x) t)
   pushed_as {ps} {qs} {whole} same a e =
-      subst (λ k. Awaits language frame start (left t.cursor.tokens) qs whole (result_of (binary_op language frame side side.pos k x) t)) (sym same) (pushed a e)
+      subst (λ k. Awaits engine frame start (left t.cursor.tokens) qs whole (result_of (binary_op engine frame side side.pos k x) t)) (sym same) (pushed a e)
 
-module _ {language : LanguageValue} {frame : FrameValue} {start : ParseSettings} {bound : ℕ} {ps : List Pending} {whole now : R.Out Node} (a : Awaits language frame start bound ps whole now) where
+module _ {engine : EngineValue} {frame : FrameValue} {start : ParseSettings} {bound : ℕ} {ps : List Pending} {whole now : R.Out Node} (a : Awaits engine frame start bound ps whole now) where
   pub awaits_refused : {e : Refusal} {t : Progress} → now ≡ R.Refused e t → whole ≡ R.Refused e t
-  awaits_refused {e} {t} is = a.same ∙ ap a.inside is ∙ all_refused language frame start bound ps (λ o. o) a.inside a.waits e t
+  awaits_refused {e} {t} is = a.same ∙ ap a.inside is ∙ all_refused engine frame start bound ps (λ o. o) a.inside a.waits e t
 
   pub awaits_done : {x : Node} {t : Progress} → ps ≡ [] → now ≡ R.Done x t → whole ≡ R.Done x t
   unfolding Waits
   awaits_done {x} {t} none is =
-      let waits : a.inside ≡ (λ o. o) = subst (λ rs. Waits language frame start bound rs (λ o. o) a.inside) none a.waits in
+      let waits : a.inside ≡ (λ o. o) = subst (λ rs. Waits engine frame start bound rs (λ o. o) a.inside) none a.waits in
       a.same ∙ ap a.inside is ∙ ap (λ f. f (R.Done x t)) waits
 
   module _ (qs : List Pending) (p : Pending) (y : Node) (t : Progress) (e : ps ≡ qs ++ p ∷ []) (is : now ≡ R.Done y t) where
-    last : (inside : R.Out Node → R.Out Node) × Waits language frame start bound qs (λ o. o) inside × Stands language frame start bound p inside a.inside
-    last = one_less language frame start bound qs p (λ o. o) a.inside (subst (λ rs. Waits language frame start bound rs (λ o. o) a.inside) e a.waits)
+    last : (inside : R.Out Node → R.Out Node) × Waits engine frame start bound qs (λ o. o) inside × Stands engine frame start bound p inside a.inside
+    last = one_less engine frame start bound qs p (λ o. o) a.inside (subst (λ rs. Waits engine frame start bound rs (λ o. o) a.inside) e a.waits)
 
     popped : {z : Node} → left t.cursor.tokens ≤ bound → operator_result (lexeme p.op_token) p.pos (chain_view p.around.lhs) y ≡ Ok z
-        → Awaits language frame start (left t.cursor.tokens) qs whole (result_of (binary_op language frame p.around.settings p.around.settings.pos p.around.parent z) t)
+        → Awaits engine frame start (left t.cursor.tokens) qs whole (result_of (binary_op engine frame p.around.settings p.around.settings.pos p.around.parent z) t)
     popped {z} less joined = record {
       inside = last.0;
-      waits = fewer language frame start bound (left t.cursor.tokens) qs (λ o. o) last.0 less last.1;
+      waits = fewer engine frame start bound (left t.cursor.tokens) qs (λ o. o) last.0 less last.1;
       same = a.same ∙ ap a.inside is ∙ last.2.joined y z t less joined;
     }
 
     pub popped_as : {z : Node} {d : ParseSettings} {m : ℕ} → d ≡ p.around.settings → m ≡ p.around.parent → left t.cursor.tokens ≤ bound → operator_result (lexeme p.op_token) p.pos (chain_view p.around.lhs) y ≡ Ok z
-        → Awaits language frame start (left t.cursor.tokens) qs whole (result_of (binary_op language frame d d.pos m z) t)
+        → Awaits engine frame start (left t.cursor.tokens) qs whole (result_of (binary_op engine frame d d.pos m z) t)
     popped_as {z} {d} {m} settings parent less joined =
-        subst (λ k. Awaits language frame start (left t.cursor.tokens) qs whole (result_of (binary_op language frame d d.pos k z) t)) (sym parent)
-        (subst (λ (f : ParseSettings). Awaits language frame start (left t.cursor.tokens) qs whole (result_of (binary_op language frame f f.pos p.around.parent z) t)) (sym settings) (popped less joined))
+        subst (λ k. Awaits engine frame start (left t.cursor.tokens) qs whole (result_of (binary_op engine frame d d.pos k z) t)) (sym parent)
+        (subst (λ (f : ParseSettings). Awaits engine frame start (left t.cursor.tokens) qs whole (result_of (binary_op engine frame f f.pos p.around.parent z) t)) (sym settings) (popped less joined))
 
     pub popped_refused : {r : Refusal} → operator_result (lexeme p.op_token) p.pos (chain_view p.around.lhs) y ≡ Err r → whole ≡ R.Refused r t
-    popped_refused {r} refused = a.same ∙ ap a.inside is ∙ last.2.missed y r t refused ∙ all_refused language frame start bound qs (λ o. o) last.0 last.1 r t
+    popped_refused {r} refused = a.same ∙ ap a.inside is ∙ last.2.missed y r t refused ∙ all_refused engine frame start bound qs (λ o. o) last.0 last.1 r t
 
     pub popped_limit : p.around.settings.max_expr_depth ≡ start.max_expr_depth
     popped_limit = last.2.limit

@@ -1,4 +1,4 @@
--- Closures, by the language, the frame and the settings that they are read under.
+-- Closures, by the engine, the frame and the settings that they are read under.
 use Rattle.std.specs.Prelude.{◌≡◌, List, [], Result, Ok, Err}
 use Rattle.rhai_lower.specs.Texts.{Text}
 use Rattle.rhai_lower.specs.Nodes.{Node}
@@ -14,16 +14,16 @@ use Rattle.rhai_reading.specs.Running.{Caller, Done, Fails, Out, Progress, exec,
 use Rattle.rhai_base.specs.Frames.{FrameValue}
 use Rattle.rhai_base.specs.declared.settings.ParseSettings.{ParseSettings}
 use Rattle.rhai_parser.specs.Frames.{context_of, live_of}
-use Rattle.rhai_parser.specs.Languages.{LanguageValue}
+use Rattle.rhai_parser.specs.Engines.{EngineValue}
 
 -- a closure after its first token, where the settings stand
-abbrev pub closure : LanguageValue → FrameValue → ParseSettings → Bars → Goal
-closure language frame settings by =
-    reading.Closure (context_of language frame settings) (live_of frame) settings.pos by
+abbrev pub closure : EngineValue → FrameValue → ParseSettings → Bars → Goal
+closure engine frame settings by =
+    reading.Closure (context_of engine frame settings) (live_of frame) settings.pos by
 
 -- the body of a closure, in a frame of its own
-abbrev pub closure_body : LanguageValue → FrameValue → ParseSettings → Goal
-closure_body language frame settings = reading.ClosureBody (context_of language frame settings) (live_of frame)
+abbrev pub closure_body : EngineValue → FrameValue → ParseSettings → Goal
+closure_body engine frame settings = reading.ClosureBody (context_of engine frame settings) (live_of frame)
 
 -- what the parameters of a closure come to
 abbrev pub closure_parameters : Bars → Progress → Out (List Text)

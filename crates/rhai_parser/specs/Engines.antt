@@ -1,13 +1,33 @@
--- An engine as contracts see it: by the options and limits of its language.
-use Rattle.std.specs.Prelude.{ℕ, Bool, [], ◌-◌, ◌^◌, if◌then◌else◌}
+-- An engine as contracts see it: its options and limits.
+use Rattle.std.specs.Prelude.{ℕ, Bool, List, [], ◌-◌, ◌^◌, if◌then◌else◌}
 use Rattle.std.specs.Int.RustNames.{bit_or}
 use Rattle.bitflags.specs.Sets.{without}
 use Rattle.rhai_lower.specs.Positions.{place}
+use Rattle.rhai_lower.specs.Texts.{Text}
+use Rattle.rhai_grammar.specs.Contexts.{Sizes}
 use Rattle.rhai_base.specs.declared.settings.ParseSettings.{ParseSettings}
-use Rattle.rhai_parser.specs.Languages.{LanguageValue}
+
+-- the bits of its options, its limits, and the names of its modules
+pub record EngineValue : Type 0 where
+  pub options : ℕ
+  pub max_expr_depth : ℕ
+  pub max_function_expr_depth : ℕ
+  pub max_functions : ℕ
+  pub max_array_size : ℕ
+  pub max_map_size : ℕ
+  pub sub_modules : List Text
+
+-- how large the literals of arrays and of object maps may be, how deep a function, and how many functions there may be
+abbrev pub sizes_of : EngineValue → Sizes
+sizes_of l = record {
+  array = l.max_array_size;
+  map = l.max_map_size;
+  function_depth = l.max_function_expr_depth;
+  functions = l.max_functions;
+}
 
 -- a new engine: all options but STRICT_VAR
-abbrev pub fresh_engine : LanguageValue
+abbrev pub fresh_engine : EngineValue
 fresh_engine = record {
   options = 191;
   max_expr_depth = 64;
@@ -24,7 +44,7 @@ with_bits options bits enable = if enable then bit_or options bits else without 
 
 -- The settings that one expression is read under, before the caller changes them: the flags GLOBAL_LEVEL and
 -- DISALLOW_STATEMENTS_IN_BLOCKS, and the engine's options without STMT_EXPR and LOOP_EXPR.
-abbrev pub expr_settings : LanguageValue → ParseSettings
+abbrev pub expr_settings : EngineValue → ParseSettings
 expr_settings e = record {
   flags = record { 0 = 17 };
   options = record { 0 = without 8 (without 8 e.options 8) 4 };
@@ -34,7 +54,7 @@ expr_settings e = record {
 }
 
 -- the settings that a script is read under, before the caller changes them: the flag GLOBAL_LEVEL
-abbrev pub script_settings : LanguageValue → ParseSettings
+abbrev pub script_settings : EngineValue → ParseSettings
 script_settings e = record {
   flags = record { 0 = 1 };
   options = record { 0 = e.options };

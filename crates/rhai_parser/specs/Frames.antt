@@ -3,14 +3,14 @@ use Rattle.rhai_grammar.specs.Contexts.{Context, Live}
 use Rattle.rhai_base.specs.Frames.{FrameValue}
 use Rattle.rhai_base.specs.Settings.{settings_of}
 use Rattle.rhai_base.specs.declared.settings.ParseSettings.{ParseSettings}
-use Rattle.rhai_parser.specs.Languages.{LanguageValue, sizes_of}
+use Rattle.rhai_parser.specs.Engines.{EngineValue, sizes_of}
 
 -- what goes down into it, where it is read in this frame and under these settings
-abbrev pub context_of : LanguageValue → FrameValue → ParseSettings → Context
-context_of language frame settings = record {
+abbrev pub context_of : EngineValue → FrameValue → ParseSettings → Context
+context_of engine frame settings = record {
   settings = settings_of settings;
-  options = language.options;
-  sizes = sizes_of language;
+  options = engine.options;
+  sizes = sizes_of engine;
   filter = frame.filter;
   known = frame.known;
   begun = frame.begun;

@@ -1,6 +1,6 @@
 pub mod Bounds
 pub mod Frames
-pub mod Languages
+pub mod Engines
 pub mod Readers
 pub mod Rooms
 pub mod NextOperators

@@ -8,11 +8,11 @@ use Rattle.rhai_grammar.specs.Libraries.{Library}
 use Rattle.rhai_grammar.specs.Promises.{IsWritten, scripts}
 use Rattle.rhai_base.specs.Counts.{Counts}
 use Rattle.rhai_base.specs.declared.settings.ParseSettings.{ParseSettings}
-use Rattle.rhai_parser.specs.Languages.{LanguageValue}
+use Rattle.rhai_parser.specs.Engines.{EngineValue}
 
 -- Where both depth limits are positive, never were more parsing functions active, beside those that were, than eight
 -- for each level of a script and of a function, and for these more.
-abbrev pub StaysWithin : (more : ℕ) → LanguageValue → ParseSettings → (before after : Counts) → Type 0
+abbrev pub StaysWithin : (more : ℕ) → EngineValue → ParseSettings → (before after : Counts) → Type 0
 StaysWithin more engine settings before after =
     1 ≤ settings.max_expr_depth → 1 ≤ engine.max_function_expr_depth
     → after.peak

@@ -35,197 +35,197 @@ use Rattle.rhai_base.specs.Libraries.{Grows, ended, library_of}
 use Rattle.rhai_base.specs.Uses.{uses_of}
 use Rattle.rhai_base.specs.declared.settings.ParseSettings.{ParseSettings}
 use Rattle.rhai_parser.specs.Bounds.{UpTo}
-use Rattle.rhai_parser.specs.Languages.{LanguageValue}
+use Rattle.rhai_parser.specs.Engines.{EngineValue}
 use Rattle.rhai_parser.specs.Frames.{context_of, live_of}
 use Rattle.rhai_parser.specs.declared.shared.Shared.{Shared}
 
--- ---- what is read, by the language, the frame and the settings that it is read under
+-- ---- what is read, by the engine, the frame and the settings that it is read under
 
 -- an expression up to the end mark
-abbrev pub whole : LanguageValue → FrameValue → ParseSettings → Goal
-whole language frame settings = reading.Whole (context_of language frame settings) (live_of frame)
+abbrev pub whole : EngineValue → FrameValue → ParseSettings → Goal
+whole engine frame settings = reading.Whole (context_of engine frame settings) (live_of frame)
 
-abbrev pub expression : LanguageValue → FrameValue → ParseSettings → Goal
-expression language frame settings = reading.Expression (context_of language frame settings) (live_of frame)
+abbrev pub expression : EngineValue → FrameValue → ParseSettings → Goal
+expression engine frame settings = reading.Expression (context_of engine frame settings) (live_of frame)
 
 -- a written operand with its signs and its call
-abbrev pub operand : LanguageValue → FrameValue → ParseSettings → Goal
-operand language frame settings = reading.Operand (context_of language frame settings) (live_of frame)
+abbrev pub operand : EngineValue → FrameValue → ParseSettings → Goal
+operand engine frame settings = reading.Operand (context_of engine frame settings) (live_of frame)
 
 -- an operand at this place after an operator
-abbrev pub right_operand : LanguageValue → FrameValue → ParseSettings → OperandPlace → Goal
-right_operand language frame settings place =
-    reading.RightOperand (context_of language frame settings) (live_of frame) place
+abbrev pub right_operand : EngineValue → FrameValue → ParseSettings → OperandPlace → Goal
+right_operand engine frame settings place =
+    reading.RightOperand (context_of engine frame settings) (live_of frame) place
 
-abbrev pub primary : LanguageValue → FrameValue → ParseSettings → Goal
-primary language frame settings = reading.Primary (context_of language frame settings) (live_of frame)
+abbrev pub primary : EngineValue → FrameValue → ParseSettings → Goal
+primary engine frame settings = reading.Primary (context_of engine frame settings) (live_of frame)
 
 -- what calls an operand, if it is a variable
-abbrev pub postfix : LanguageValue → FrameValue → ParseSettings → (operand : Node) → Goal
-postfix language frame settings operand = reading.Postfix (context_of language frame settings) (live_of frame) operand
+abbrev pub postfix : EngineValue → FrameValue → ParseSettings → (operand : Node) → Goal
+postfix engine frame settings operand = reading.Postfix (context_of engine frame settings) (live_of frame) operand
 
 -- what calls a name, which may have a path
-abbrev pub called : LanguageValue → FrameValue → ParseSettings → (qualified : Bool) → Goal
-called language frame settings qualified =
-    reading.Called (context_of language frame settings) (live_of frame) settings.pos qualified
+abbrev pub called : EngineValue → FrameValue → ParseSettings → (qualified : Bool) → Goal
+called engine frame settings qualified =
+    reading.Called (context_of engine frame settings) (live_of frame) settings.pos qualified
 
 -- the arguments after a `(`
-abbrev pub arguments : LanguageValue → FrameValue → ParseSettings → Goal
-arguments language frame settings = reading.Arguments (context_of language frame settings) (live_of frame) settings.pos
+abbrev pub arguments : EngineValue → FrameValue → ParseSettings → Goal
+arguments engine frame settings = reading.Arguments (context_of engine frame settings) (live_of frame) settings.pos
 
 -- an argument, and those that follow, after these
-abbrev pub items : LanguageValue → FrameValue → ParseSettings → (before : Nodes) → Goal
-items language frame settings before = reading.Items (context_of language frame settings) (live_of frame) before
+abbrev pub items : EngineValue → FrameValue → ParseSettings → (before : Nodes) → Goal
+items engine frame settings before = reading.Items (context_of engine frame settings) (live_of frame) before
 
 -- the items of an array, after these
-abbrev pub elements : LanguageValue → FrameValue → ParseSettings → (before : Nodes) → Goal
-elements language frame settings before =
-    reading.Elements (context_of language frame settings) (live_of frame) settings.pos before
+abbrev pub elements : EngineValue → FrameValue → ParseSettings → (before : Nodes) → Goal
+elements engine frame settings before =
+    reading.Elements (context_of engine frame settings) (live_of frame) settings.pos before
 
 -- the properties of an object map, after these
-abbrev pub fields : LanguageValue → FrameValue → ParseSettings → (before : Properties) → Goal
-fields language frame settings before =
-    reading.Fields (context_of language frame settings) (live_of frame) settings.pos before
+abbrev pub fields : EngineValue → FrameValue → ParseSettings → (before : Properties) → Goal
+fields engine frame settings before =
+    reading.Fields (context_of engine frame settings) (live_of frame) settings.pos before
 
 -- the blocks and texts of an interpolated string, after these segments
-abbrev pub segments : LanguageValue → FrameValue → ParseSettings → (before : Nodes) → Goal
-segments language frame settings before =
-    reading.Segments (context_of language frame settings) (live_of frame) settings.pos before
+abbrev pub segments : EngineValue → FrameValue → ParseSettings → (before : Nodes) → Goal
+segments engine frame settings before =
+    reading.Segments (context_of engine frame settings) (live_of frame) settings.pos before
 
 -- what follows `return`, `throw` or `break`
-abbrev pub jump : LanguageValue → FrameValue → ParseSettings → Goal
-jump language frame settings = reading.Jump (context_of language frame settings) (live_of frame) settings.pos
+abbrev pub jump : EngineValue → FrameValue → ParseSettings → Goal
+jump engine frame settings = reading.Jump (context_of engine frame settings) (live_of frame) settings.pos
 
 -- the links after an operand
-abbrev pub links : LanguageValue → FrameValue → ParseSettings → (root : Node) → Goal
-links language frame settings root =
-    reading.Links (live_of frame) (spot_after_operand (context_of language frame settings) root)
+abbrev pub links : EngineValue → FrameValue → ParseSettings → (root : Node) → Goal
+links engine frame settings root =
+    reading.Links (live_of frame) (spot_after_operand (context_of engine frame settings) root)
 
 -- the index in a bracket; whose index it is, if that is tested
-abbrev pub index : LanguageValue → FrameValue → ParseSettings → (indexed : Option Node) → Goal
-index language frame settings indexed = reading.Index (context_of language frame settings) (live_of frame) indexed
+abbrev pub index : EngineValue → FrameValue → ParseSettings → (indexed : Option Node) → Goal
+index engine frame settings indexed = reading.Index (context_of engine frame settings) (live_of frame) indexed
 
 -- the member after a dot
-abbrev pub member : LanguageValue → FrameValue → ParseSettings → Goal
-member language frame settings = reading.Member (context_of language frame settings) (live_of frame)
+abbrev pub member : EngineValue → FrameValue → ParseSettings → Goal
+member engine frame settings = reading.Member (context_of engine frame settings) (live_of frame)
 
 -- the operators after a left operand that go on with a run of this strength
-abbrev pub binary_op : LanguageValue → FrameValue → ParseSettings → (at : Position) (parent : ℕ) (lhs : Node)
+abbrev pub binary_op : EngineValue → FrameValue → ParseSettings → (at : Position) (parent : ℕ) (lhs : Node)
     → Goal
-binary_op language frame settings at parent lhs =
-    reading.BinaryOp (context_of language frame settings) (live_of frame) at parent lhs
+binary_op engine frame settings at parent lhs =
+    reading.BinaryOp (context_of engine frame settings) (live_of frame) at parent lhs
 
 -- an expression or an assignment
-abbrev pub expr_statement : LanguageValue → FrameValue → ParseSettings → Goal
-expr_statement language frame settings = reading.ExprStatement (context_of language frame settings) (live_of frame)
+abbrev pub expr_statement : EngineValue → FrameValue → ParseSettings → Goal
+expr_statement engine frame settings = reading.ExprStatement (context_of engine frame settings) (live_of frame)
 
 -- the name of a definition
-abbrev pub var_name : LanguageValue → FrameValue → ParseSettings → Goal
-var_name language frame settings = reading.VarName (context_of language frame settings) (live_of frame)
+abbrev pub var_name : EngineValue → FrameValue → ParseSettings → Goal
+var_name engine frame settings = reading.VarName (context_of engine frame settings) (live_of frame)
 
 -- the value of a definition
-abbrev pub initializer : LanguageValue → FrameValue → ParseSettings → Goal
-initializer language frame settings =
-    reading.Initializer (context_of language frame settings) (live_of frame) settings.pos
+abbrev pub initializer : EngineValue → FrameValue → ParseSettings → Goal
+initializer engine frame settings =
+    reading.Initializer (context_of engine frame settings) (live_of frame) settings.pos
 
 -- a definition after its keyword
-abbrev pub definition : LanguageValue → FrameValue → ParseSettings → (constant exported : Bool) → Goal
-definition language frame settings constant exported =
-    reading.Definition (context_of language frame settings) (live_of frame) settings.pos constant exported
+abbrev pub definition : EngineValue → FrameValue → ParseSettings → (constant exported : Bool) → Goal
+definition engine frame settings constant exported =
+    reading.Definition (context_of engine frame settings) (live_of frame) settings.pos constant exported
 
 -- what follows `import`
-abbrev pub imported : LanguageValue → FrameValue → ParseSettings → Goal
-imported language frame settings =
-    reading.Import (context_of language frame settings) (live_of frame) settings.pos
+abbrev pub imported : EngineValue → FrameValue → ParseSettings → Goal
+imported engine frame settings =
+    reading.Import (context_of engine frame settings) (live_of frame) settings.pos
 
 -- what follows `export`
-abbrev pub exported : LanguageValue → FrameValue → ParseSettings → Goal
-exported language frame settings =
-    reading.Export (context_of language frame settings) (live_of frame) settings.pos
+abbrev pub exported : EngineValue → FrameValue → ParseSettings → Goal
+exported engine frame settings =
+    reading.Export (context_of engine frame settings) (live_of frame) settings.pos
 
-abbrev pub statement : LanguageValue → FrameValue → ParseSettings → Goal
-statement language frame settings = reading.Statement (context_of language frame settings) (live_of frame)
+abbrev pub statement : EngineValue → FrameValue → ParseSettings → Goal
+statement engine frame settings = reading.Statement (context_of engine frame settings) (live_of frame)
 
 -- the statements of a list, after these
-abbrev pub statements : LanguageValue → FrameValue → ParseSettings → Closing → (before : Statements) → Goal
-statements language frame settings closing before =
-    reading.Statements closing (context_of language frame settings) (live_of frame) before
+abbrev pub statements : EngineValue → FrameValue → ParseSettings → Closing → (before : Statements) → Goal
+statements engine frame settings closing before =
+    reading.Statements closing (context_of engine frame settings) (live_of frame) before
 
 -- the statements of a block, up to its `}`
-abbrev pub inside : LanguageValue → FrameValue → ParseSettings → Goal
-inside language frame settings = reading.Inside (context_of language frame settings) (live_of frame)
+abbrev pub inside : EngineValue → FrameValue → ParseSettings → Goal
+inside engine frame settings = reading.Inside (context_of engine frame settings) (live_of frame)
 
 -- a block after its `{`
-abbrev pub block : LanguageValue → FrameValue → ParseSettings → Goal
-block language frame settings = reading.Block (context_of language frame settings) (live_of frame) settings.pos
+abbrev pub block : EngineValue → FrameValue → ParseSettings → Goal
+block engine frame settings = reading.Block (context_of engine frame settings) (live_of frame) settings.pos
 
 -- a construct of this kind after its first token
-abbrev pub construct : LanguageValue → FrameValue → ParseSettings → Construct → Goal
-construct language frame settings kind =
-    reading.Construct (context_of language frame settings) (live_of frame) settings.pos kind
+abbrev pub construct : EngineValue → FrameValue → ParseSettings → Construct → Goal
+construct engine frame settings kind =
+    reading.Construct (context_of engine frame settings) (live_of frame) settings.pos kind
 
 -- a block of a construct from its `{`
-abbrev pub braced : LanguageValue → FrameValue → ParseSettings → Goal
-braced language frame settings = reading.Braced (context_of language frame settings) (live_of frame) settings.pos
+abbrev pub braced : EngineValue → FrameValue → ParseSettings → Goal
+braced engine frame settings = reading.Braced (context_of engine frame settings) (live_of frame) settings.pos
 
-abbrev pub guard : LanguageValue → FrameValue → ParseSettings → Goal
-guard language frame settings = reading.Guard (context_of language frame settings) (live_of frame)
+abbrev pub guard : EngineValue → FrameValue → ParseSettings → Goal
+guard engine frame settings = reading.Guard (context_of engine frame settings) (live_of frame)
 
 -- what `for` goes over
-abbrev pub iterated : LanguageValue → FrameValue → ParseSettings → Goal
-iterated language frame settings = reading.Iterated (context_of language frame settings) (live_of frame)
+abbrev pub iterated : EngineValue → FrameValue → ParseSettings → Goal
+iterated engine frame settings = reading.Iterated (context_of engine frame settings) (live_of frame)
 
 -- what follows `if`
-abbrev pub conditional : LanguageValue → FrameValue → ParseSettings → Goal
-conditional language frame settings =
-    reading.Conditional (context_of language frame settings) (live_of frame) settings.pos
+abbrev pub conditional : EngineValue → FrameValue → ParseSettings → Goal
+conditional engine frame settings =
+    reading.Conditional (context_of engine frame settings) (live_of frame) settings.pos
 
 -- what follows the block of an `if`
-abbrev pub branch : LanguageValue → FrameValue → ParseSettings → Goal
-branch language frame settings = reading.Branch (context_of language frame settings) (live_of frame) settings.pos
+abbrev pub branch : EngineValue → FrameValue → ParseSettings → Goal
+branch engine frame settings = reading.Branch (context_of engine frame settings) (live_of frame) settings.pos
 
 -- the arms of `switch`, after those that were collected
-abbrev pub arms : LanguageValue → FrameValue → ParseSettings → (before : Collected) → Goal
-arms language frame settings before =
-    reading.Arms (context_of language frame settings) (live_of frame) before
+abbrev pub arms : EngineValue → FrameValue → ParseSettings → (before : Collected) → Goal
+arms engine frame settings before =
+    reading.Arms (context_of engine frame settings) (live_of frame) before
 
 -- an arm with cases, after those that were collected
-abbrev pub arm : LanguageValue → FrameValue → ParseSettings → (before : Collected) → Goal
-arm language frame settings before = reading.Arm (context_of language frame settings) (live_of frame) before
+abbrev pub arm : EngineValue → FrameValue → ParseSettings → (before : Collected) → Goal
+arm engine frame settings before = reading.Arm (context_of engine frame settings) (live_of frame) before
 
 -- the default arm after its `_`
-abbrev pub default_arm : LanguageValue → FrameValue → ParseSettings → (default : Position) → Goal
-default_arm language frame settings default =
-    reading.DefaultArm (context_of language frame settings) (live_of frame) default
+abbrev pub default_arm : EngineValue → FrameValue → ParseSettings → (default : Position) → Goal
+default_arm engine frame settings default =
+    reading.DefaultArm (context_of engine frame settings) (live_of frame) default
 
 -- the cases of an arm, after these
-abbrev pub cases : LanguageValue → FrameValue → ParseSettings → (before : Nodes) → Goal
-cases language frame settings before =
-    reading.Cases (context_of language frame settings) (live_of frame) before
+abbrev pub cases : EngineValue → FrameValue → ParseSettings → (before : Nodes) → Goal
+cases engine frame settings before =
+    reading.Cases (context_of engine frame settings) (live_of frame) before
 
-abbrev pub case : LanguageValue → FrameValue → ParseSettings → Goal
-case language frame settings = reading.Case (context_of language frame settings) (live_of frame)
+abbrev pub case : EngineValue → FrameValue → ParseSettings → Goal
+case engine frame settings = reading.Case (context_of engine frame settings) (live_of frame)
 
 -- the guard of an arm, if it has one
-abbrev pub case_guard : LanguageValue → FrameValue → ParseSettings → Goal
-case_guard language frame settings = reading.CaseGuard (context_of language frame settings) (live_of frame)
+abbrev pub case_guard : EngineValue → FrameValue → ParseSettings → Goal
+case_guard engine frame settings = reading.CaseGuard (context_of engine frame settings) (live_of frame)
 
 -- a function with these doc comments, as a statement, after its `fn`, where the settings stand; its `private` or `fn`
 -- is at a position
-abbrev pub function_statement : LanguageValue → FrameValue → ParseSettings → List Comment → (first : Position)
+abbrev pub function_statement : EngineValue → FrameValue → ParseSettings → List Comment → (first : Position)
     (is_private : Bool) → Goal
-function_statement language frame settings comments first is_private =
-    reading.FunctionStatement (context_of language frame settings) (live_of frame) comments first settings.pos
+function_statement engine frame settings comments first is_private =
+    reading.FunctionStatement (context_of engine frame settings) (live_of frame) comments first settings.pos
     is_private
 
 -- a function with these doc comments, in a frame of its own
-abbrev pub function : LanguageValue → FrameValue → ParseSettings → List Comment → (is_private : Bool) → Goal
-function language frame settings comments is_private =
-    reading.Function (context_of language frame settings) comments settings.pos is_private
+abbrev pub function : EngineValue → FrameValue → ParseSettings → List Comment → (is_private : Bool) → Goal
+function engine frame settings comments is_private =
+    reading.Function (context_of engine frame settings) comments settings.pos is_private
 
 -- what an arm does
-abbrev pub action : LanguageValue → FrameValue → ParseSettings → Goal
-action language frame settings = reading.Action (context_of language frame settings) (live_of frame)
+abbrev pub action : EngineValue → FrameValue → ParseSettings → Goal
+action engine frame settings = reading.Action (context_of engine frame settings) (live_of frame)
 
 -- ---- what comes of it
 

@@ -11,7 +11,7 @@ use Rattle.rhai_base.specs.Libraries.{library_of}
 use Rattle.rhai_base.specs.Settings.{bare, levels_left, settings_of}
 use Rattle.rhai_base.specs.declared.counts.ParseCounts.{ParseCounts}
 use Rattle.rhai_base.specs.declared.settings.ParseSettings.{ParseSettings}
-use Rattle.rhai_parser.specs.Languages.{LanguageValue}
+use Rattle.rhai_parser.specs.Engines.{EngineValue}
 use Rattle.rhai_parser.specs.declared.shared.Shared.{Shared}
 
 -- At most this many readers are active, and never were more than that.
@@ -23,15 +23,15 @@ unfoldable pub Holds : (limit begun : ℕ) → Library → Type 0
 Holds limit begun library = IsOrderly limit begun library
 
 -- the readers that may be active in a function, where one may stand
-unfoldable pub function_room : LanguageValue → ParseSettings → ℕ
-function_room language settings =
-    if at_global_level (settings_of settings) then 8 * language.max_function_expr_depth else 0
+unfoldable pub function_room : EngineValue → ParseSettings → ℕ
+function_room engine settings =
+    if at_global_level (settings_of settings) then 8 * engine.max_function_expr_depth else 0
 
 -- at the global level
 abbrev at_global : ParseSettings
 at_global = record (bare 0 0 (place 1 1)) { flags = record { 0 = 1 } }
 
-abbrev four_levels : LanguageValue
+abbrev four_levels : EngineValue
 four_levels = record {
   options = 0;
   max_expr_depth = 9;
@@ -50,12 +50,12 @@ example = (refl, refl)
 -- What a reader leaves, whatever it answers. Where both depth limits are positive, at most eight readers for each level
 -- that is left are active below it, and those that may stand on its own level, which are height; afterwards no more are
 -- active than before. And a library that is orderly stays so.
-pub record Stays (language : LanguageValue) (frame : FrameValue) (settings : ParseSettings) (height : ℕ)
+pub record Stays (engine : EngineValue) (frame : FrameValue) (settings : ParseSettings) (height : ℕ)
     (old new : Shared) : Type 0 where
-  pub nesting : (most top : ℕ) → 1 ≤ settings.max_expr_depth → 1 ≤ language.max_function_expr_depth
+  pub nesting : (most top : ℕ) → 1 ≤ settings.max_expr_depth → 1 ≤ engine.max_function_expr_depth
       → most + (8 * levels_left settings + height) ≤ top → IsWithin most top old.counts → IsWithin most top new.counts
-  pub library : Holds language.max_functions frame.begun (library_of old.library.now)
-      → Holds language.max_functions frame.begun (library_of new.library.now)
+  pub library : Holds engine.max_functions frame.begun (library_of old.library.now)
+      → Holds engine.max_functions frame.begun (library_of new.library.now)
 
 -- No reader is entered or left, and no function ends.
 pub record Steady (old new : Shared) : Type 0 where

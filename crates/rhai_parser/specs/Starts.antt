@@ -13,7 +13,7 @@ use Rattle.rhai_base.specs.Frames.{FrameValue, known_variables}
 use Rattle.rhai_base.specs.declared.settings.ParseSettings.{ParseSettings}
 use Rattle.rhai_base.specs.declared.state.ParseState.{ParseState}
 use Rattle.rhai_parser.specs.Frames.{context_of}
-use Rattle.rhai_parser.specs.Languages.{LanguageValue}
+use Rattle.rhai_parser.specs.Engines.{EngineValue}
 
 abbrev pub StateValue : Type 0
 StateValue = ParseState (List SlotValue) (Vec (RcStr Global × Position) Global) (Vec (RcStr Global) Global)
@@ -28,7 +28,7 @@ live_in state = record {
 
 -- what is known around it: the state's variables from outside and the imports of enclosing scripts, and the engine's
 -- modules
-abbrev pub known_in : LanguageValue → StateValue → Known
+abbrev pub known_in : EngineValue → StateValue → Known
 known_in engine state = record {
   variables = known_variables state.external_constants;
   imports = map rc_str_bytes state.global_imports.items;
@@ -36,7 +36,7 @@ known_in engine state = record {
 }
 
 -- the frame in which the whole form is read; the functions and closures that have begun are those of the state's counts
-abbrev pub frame_in : LanguageValue → StateValue → FrameValue
+abbrev pub frame_in : EngineValue → StateValue → FrameValue
 frame_in engine state = record {
   live = live_in state;
   depth = 0;
@@ -46,11 +46,11 @@ frame_in engine state = record {
 }
 
 -- what goes down into the whole form, under the settings that the caller chose
-abbrev pub starts_in : LanguageValue → StateValue → ParseSettings → Context
+abbrev pub starts_in : EngineValue → StateValue → ParseSettings → Context
 starts_in engine state settings = context_of engine (frame_in engine state) settings
 
 -- A library that is orderly, with the functions and closures that have begun, is so afterwards.
-abbrev pub KeepsOrder : LanguageValue → Counts → (before after : Library) → Type 0
+abbrev pub KeepsOrder : EngineValue → Counts → (before after : Library) → Type 0
 KeepsOrder engine counts before after =
     IsOrderly engine.max_functions counts.begun before → IsOrderly engine.max_functions counts.begun after
 

@@ -65,12 +65,12 @@ impl<R: LentReaders> Reader<'_, R> {
         frame: &Frame<'_>,
         settings: ParseSettings,
     ) -> ParseResult<StmtBlock>
-        requires lent { Covers (R.lent self.now.readers) (block self.now.language.now frame.now settings) shared.old }
+        requires lent { Covers (R.lent self.now.readers) (block self.now.engine.now frame.now settings) shared.old }
         ensures goes_on { GoesOn shared.old shared.new }
-        ensures stays { Stays self.now.language.now frame.now settings 3 shared.old shared.new }
-        ensures reads { Reads (block self.now.language.now frame.now settings) block_view shared.old result shared.new }
+        ensures stays { Stays self.now.engine.now frame.now settings 3 shared.old shared.new }
+        ensures reads { Reads (block self.now.engine.now frame.now settings) block_view shared.old result shared.new }
     {
         let statements = nested!(shared, self.parse_block_inside(shared, frame, settings))?;
-        end_block(self.language.alloc(), shared, statements, settings.pos)
+        end_block(self.engine.alloc(), shared, statements, settings.pos)
     }
 }

@@ -37,11 +37,11 @@ impl<R: LentReaders> Reader<'_, R> {
         settings: ParseSettings,
         qualified: bool,
     ) -> ParseResult<Call>
-        requires lent { Covers (R.lent self.now.readers) (called self.now.language.now frame.now settings
+        requires lent { Covers (R.lent self.now.readers) (called self.now.engine.now frame.now settings
             qualified) shared.old }
         ensures goes_on { GoesOn shared.old shared.new }
-        ensures stays { Stays self.now.language.now frame.now settings 1 shared.old shared.new }
-        ensures reads { Reads (called self.now.language.now frame.now settings qualified) call_view shared.old result
+        ensures stays { Stays self.now.engine.now frame.now settings 1 shared.old shared.new }
+        ensures reads { Reads (called self.now.engine.now frame.now settings qualified) call_view shared.old result
             shared.new }
     {
         let (token, pos) = peek(shared.input)?;
@@ -51,16 +51,16 @@ impl<R: LentReaders> Reader<'_, R> {
         if bang {
             skip(shared.input);
             if qualified {
-                return Err(no_bang(self.language.alloc(), shared.input, pos));
+                return Err(no_bang(self.engine.alloc(), shared.input, pos));
             }
-            calling = arguments_due(self.language.alloc(), shared.input)?;
+            calling = arguments_due(self.engine.alloc(), shared.input)?;
         }
         match calling {
             Calling::Pair => {
                 skip(shared.input);
                 Ok(Call {
                     bang,
-                    args: Vec::new(self.language.alloc()),
+                    args: Vec::new(self.engine.alloc()),
                 })
             }
             Calling::List => {
@@ -72,7 +72,7 @@ impl<R: LentReaders> Reader<'_, R> {
             }
             Calling::Bang | Calling::Nothing => Ok(Call {
                 bang,
-                args: Vec::new(self.language.alloc()),
+                args: Vec::new(self.engine.alloc()),
             }),
         }
     }
@@ -86,16 +86,16 @@ impl<R: LentReaders> Reader<'_, R> {
         settings: ParseSettings,
         lhs: &Chain,
     ) -> ParseResult<Vec<Link>>
-        requires lent { Covers (R.lent self.now.readers) (links self.now.language.now frame.now settings
+        requires lent { Covers (R.lent self.now.readers) (links self.now.engine.now frame.now settings
             (chain_view lhs.now)) shared.old }
         ensures goes_on { GoesOn shared.old shared.new }
-        ensures stays { Stays self.now.language.now frame.now settings 0 shared.old shared.new }
-        ensures reads { Reads (links self.now.language.now frame.now settings (chain_view lhs.now)) linked shared.old
+        ensures stays { Stays self.now.engine.now frame.now settings 0 shared.old shared.new }
+        ensures reads { Reads (links self.now.engine.now frame.now settings (chain_view lhs.now)) linked shared.old
             result shared.new }
     {
         let (token, _) = peek(shared.input)?;
         match what_links(token) {
-            Linking::Nothing => Ok(Vec::new(self.language.alloc())),
+            Linking::Nothing => Ok(Vec::new(self.engine.alloc())),
             Linking::Bracket | Linking::Dot => self.parse_all_links(shared, frame, settings, lhs),
         }
     }
@@ -112,16 +112,16 @@ impl<R: LentReaders> Reader<'_, R> {
         settings: ParseSettings,
         lhs: &Chain,
     ) -> ParseResult<Vec<Link>>
-        requires lent { Covers (R.lent self.now.readers) (links self.now.language.now frame.now settings
+        requires lent { Covers (R.lent self.now.readers) (links self.now.engine.now frame.now settings
             (chain_view lhs.now)) shared.old }
         ensures goes_on { GoesOn shared.old shared.new }
-        ensures stays { Stays self.now.language.now frame.now settings 0 shared.old shared.new }
-        ensures reads { Reads (links self.now.language.now frame.now settings (chain_view lhs.now)) linked shared.old
+        ensures stays { Stays self.now.engine.now frame.now settings 0 shared.old shared.new }
+        ensures reads { Reads (links self.now.engine.now frame.now settings (chain_view lhs.now)) linked shared.old
             result shared.new }
     {
         let mut settings = settings;
         let mut brackets = settings;
-        let mut links = Vec::new(self.language.alloc());
+        let mut links = Vec::new(self.engine.alloc());
         loop {
             let (token, pos) = peek(shared.input)?;
             let pos = *pos;
@@ -156,7 +156,7 @@ impl<R: LentReaders> Reader<'_, R> {
                     continue;
                 }
                 Linking::Nothing => {
-                    test_links(self.language.alloc(), &links)?;
+                    test_links(self.engine.alloc(), &links)?;
                     return Ok(links);
                 }
             }
@@ -173,17 +173,17 @@ impl<R: LentReaders> Reader<'_, R> {
         settings: ParseSettings,
         indexed: Option<&Chain>,
     ) -> ParseResult<Expr>
-        requires lent { Covers (R.lent self.now.readers) (index self.now.language.now frame.now settings
+        requires lent { Covers (R.lent self.now.readers) (index self.now.engine.now frame.now settings
             (option_map (λ x. chain_view x.now) indexed)) shared.old }
         ensures goes_on { GoesOn shared.old shared.new }
-        ensures stays { Stays self.now.language.now frame.now settings 1 shared.old shared.new }
-        ensures reads { Reads (index self.now.language.now frame.now settings
+        ensures stays { Stays self.now.engine.now frame.now settings 1 shared.old shared.new }
+        ensures reads { Reads (index self.now.engine.now frame.now settings
             (option_map (λ x. chain_view x.now) indexed.entry)) view shared.old result shared.new }
     {
         let index = self
             .readers
-            .parse_expr(self.language, shared, frame, settings)?;
-        end_index(self.language.alloc(), shared, indexed, index)
+            .parse_expr(self.engine, shared, frame, settings)?;
+        end_index(self.engine.alloc(), shared, indexed, index)
     }
 
     /// Reads the member after a dot: a property, or a call of a method. The caller has looked at it.
@@ -195,16 +195,16 @@ impl<R: LentReaders> Reader<'_, R> {
         settings: ParseSettings,
     ) -> ParseResult<Expr>
         requires seen { is_end (asked (state_of shared.old)).lexeme ≡ false }
-        requires lent { Covers (R.lent self.now.readers) (member self.now.language.now frame.now settings)
+        requires lent { Covers (R.lent self.now.readers) (member self.now.engine.now frame.now settings)
             shared.old }
         ensures goes_on { GoesOn shared.old shared.new }
-        ensures stays { Stays self.now.language.now frame.now settings 2 shared.old shared.new }
-        ensures reads { Reads (member self.now.language.now frame.now settings) view shared.old result shared.new }
+        ensures stays { Stays self.now.engine.now frame.now settings 2 shared.old shared.new }
+        ensures reads { Reads (member self.now.engine.now frame.now settings) view shared.old result shared.new }
         ensures value { IfOk result (λ x. is_linked (view x) ≡ false) }
     {
         let (token, pos) = peek(shared.input)?;
         let pos = *pos;
-        let name = token.text(self.language.alloc())?;
+        let name = token.text(self.engine.alloc())?;
         let is_name = is_name(token);
         skip(shared.input);
         if is_called(shared.input)? {
@@ -212,12 +212,12 @@ impl<R: LentReaders> Reader<'_, R> {
                 shared,
                 self.parse_call(shared, frame, settings.at(pos), false)
             )?;
-            return Ok(make_method(self.language.alloc(), name, pos, call)?);
+            return Ok(make_method(self.engine.alloc(), name, pos, call)?);
         }
         if !is_name {
             return Err(reserved(name, pos));
         }
-        unscoped(self.language.alloc(), shared.input)?;
+        unscoped(self.engine.alloc(), shared.input)?;
         Ok(Expr::Property(name, pos))
     }
 }

@@ -35,18 +35,18 @@ impl<R: LentReaders> Reader<'_, R> {
         settings: ParseSettings,
         kind: Construct,
     ) -> ParseResult<Stmt>
-        requires lent { Covers (R.lent self.now.readers) (construct self.now.language.now frame.now settings kind)
+        requires lent { Covers (R.lent self.now.readers) (construct self.now.engine.now frame.now settings kind)
             shared.old }
         ensures goes_on { GoesOn shared.old shared.new }
-        ensures stays { Stays self.now.language.now frame.now settings 4 shared.old shared.new }
-        ensures reads { Reads (construct self.now.language.now frame.now settings kind) statement_view shared.old
+        ensures stays { Stays self.now.engine.now frame.now settings 4 shared.old shared.new }
+        ensures reads { Reads (construct self.now.engine.now frame.now settings kind) statement_view shared.old
             result
             shared.new }
     {
         match kind {
             Construct::Block => {
                 let block = nested!(shared, self.parse_block(shared, frame, settings))?;
-                Ok(make_block_statement(self.language.alloc(), block)?)
+                Ok(make_block_statement(self.engine.alloc(), block)?)
             }
             Construct::If => nested!(shared, self.parse_if(shared, frame, settings)),
             Construct::While => self.parse_while(shared, frame, settings),
@@ -67,17 +67,17 @@ impl<R: LentReaders> Reader<'_, R> {
         frame: &Frame<'_>,
         settings: ParseSettings,
     ) -> ParseResult<Stmt>
-        requires lent { Covers (R.lent self.now.readers) (conditional self.now.language.now frame.now settings)
+        requires lent { Covers (R.lent self.now.readers) (conditional self.now.engine.now frame.now settings)
             shared.old }
         ensures goes_on { GoesOn shared.old shared.new }
-        ensures stays { Stays self.now.language.now frame.now settings 2 shared.old shared.new }
-        ensures reads { Reads (conditional self.now.language.now frame.now settings) statement_view shared.old result
+        ensures stays { Stays self.now.engine.now frame.now settings 2 shared.old shared.new }
+        ensures reads { Reads (conditional self.now.engine.now frame.now settings) statement_view shared.old result
             shared.new }
     {
         let guard = nested!(shared, self.parse_guard(shared, frame, settings))?;
         let body = nested!(shared, self.parse_braces(shared, frame, settings))?;
         let branch = nested!(shared, self.parse_else(shared, frame, settings))?;
-        Ok(make_if(self.language.alloc(), guard, body, branch, settings.pos)?)
+        Ok(make_if(self.engine.alloc(), guard, body, branch, settings.pos)?)
     }
 
     /// Reads what follows the block of an `if`, where the settings stand: its `else`, if it has one. The level of an
@@ -90,15 +90,15 @@ impl<R: LentReaders> Reader<'_, R> {
         frame: &Frame<'_>,
         settings: ParseSettings,
     ) -> ParseResult<StmtBlock>
-        requires lent { Covers (R.lent self.now.readers) (branch self.now.language.now frame.now settings)
+        requires lent { Covers (R.lent self.now.readers) (branch self.now.engine.now frame.now settings)
             shared.old }
         ensures goes_on { GoesOn shared.old shared.new }
-        ensures stays { Stays self.now.language.now frame.now settings 1 shared.old shared.new }
-        ensures reads { Reads (branch self.now.language.now frame.now settings) block_view shared.old result
+        ensures stays { Stays self.now.engine.now frame.now settings 1 shared.old shared.new }
+        ensures reads { Reads (branch self.now.engine.now frame.now settings) block_view shared.old result
             shared.new }
     {
         if !pass_token(shared.input, DueToken::Else)? {
-            return Ok(no_block(self.language.alloc()));
+            return Ok(no_block(self.engine.alloc()));
         }
         let (_, pos) = peek(shared.input)?;
         let pos = *pos;
@@ -107,7 +107,7 @@ impl<R: LentReaders> Reader<'_, R> {
         }
         let deeper = settings.level_up_with_position(pos)?;
         let statement = nested!(shared, self.parse_if(shared, frame, deeper))?;
-        Ok(StmtBlock::from_stmt(self.language.alloc(), statement)?)
+        Ok(StmtBlock::from_stmt(self.engine.alloc(), statement)?)
     }
 
     /// Reads the guard of an `if` or of a loop.
@@ -118,17 +118,17 @@ impl<R: LentReaders> Reader<'_, R> {
         frame: &Frame<'_>,
         settings: ParseSettings,
     ) -> ParseResult<Expr>
-        requires lent { Covers (R.lent self.now.readers) (guard self.now.language.now frame.now settings)
+        requires lent { Covers (R.lent self.now.readers) (guard self.now.engine.now frame.now settings)
             shared.old }
         ensures goes_on { GoesOn shared.old shared.new }
-        ensures stays { Stays self.now.language.now frame.now settings 1 shared.old shared.new }
-        ensures reads { Reads (guard self.now.language.now frame.now settings) view shared.old result shared.new }
+        ensures stays { Stays self.now.engine.now frame.now settings 1 shared.old shared.new }
+        ensures reads { Reads (guard self.now.engine.now frame.now settings) view shared.old result shared.new }
     {
-        guard_begins(self.language.alloc(), shared.input)?;
+        guard_begins(self.engine.alloc(), shared.input)?;
         let guard = self
             .readers
-            .parse_expr(self.language, shared, frame, settings)?;
-        end_guard(self.language.alloc(), shared, guard)
+            .parse_expr(self.engine, shared, frame, settings)?;
+        end_guard(self.engine.alloc(), shared, guard)
     }
 
     /// Reads what a `for` goes over.
@@ -139,17 +139,17 @@ impl<R: LentReaders> Reader<'_, R> {
         frame: &Frame<'_>,
         settings: ParseSettings,
     ) -> ParseResult<Expr>
-        requires lent { Covers (R.lent self.now.readers) (iterated self.now.language.now frame.now settings)
+        requires lent { Covers (R.lent self.now.readers) (iterated self.now.engine.now frame.now settings)
             shared.old }
         ensures goes_on { GoesOn shared.old shared.new }
-        ensures stays { Stays self.now.language.now frame.now settings 1 shared.old shared.new }
-        ensures reads { Reads (iterated self.now.language.now frame.now settings) view shared.old result shared.new }
+        ensures stays { Stays self.now.engine.now frame.now settings 1 shared.old shared.new }
+        ensures reads { Reads (iterated self.now.engine.now frame.now settings) view shared.old result shared.new }
     {
-        guard_begins(self.language.alloc(), shared.input)?;
+        guard_begins(self.engine.alloc(), shared.input)?;
         let over = self
             .readers
-            .parse_expr(self.language, shared, frame, settings)?;
-        end_iterated(self.language.alloc(), over)
+            .parse_expr(self.engine, shared, frame, settings)?;
+        end_iterated(self.engine.alloc(), over)
     }
 
     /// Reads a block of a construct from its `{`. The level is raised after the `{`, which is refused where the
@@ -161,14 +161,14 @@ impl<R: LentReaders> Reader<'_, R> {
         frame: &Frame<'_>,
         settings: ParseSettings,
     ) -> ParseResult<StmtBlock>
-        requires lent { Covers (R.lent self.now.readers) (braced self.now.language.now frame.now settings)
+        requires lent { Covers (R.lent self.now.readers) (braced self.now.engine.now frame.now settings)
             shared.old }
         ensures goes_on { GoesOn shared.old shared.new }
-        ensures stays { Stays self.now.language.now frame.now settings 0 shared.old shared.new }
-        ensures reads { Reads (braced self.now.language.now frame.now settings) block_view shared.old result
+        ensures stays { Stays self.now.engine.now frame.now settings 0 shared.old shared.new }
+        ensures reads { Reads (braced self.now.engine.now frame.now settings) block_view shared.old result
             shared.new }
     {
-        let opening = begin_block(self.language.alloc(), shared, "to begin this block")?;
+        let opening = begin_block(self.engine.alloc(), shared, "to begin this block")?;
         let deeper = settings.level_up_with_position(opening)?;
         nested!(shared, self.parse_block(shared, frame, deeper))
     }
@@ -181,11 +181,11 @@ impl<R: LentReaders> Reader<'_, R> {
         frame: &Frame<'_>,
         settings: ParseSettings,
     ) -> ParseResult<Stmt>
-        requires lent { Covers (R.lent self.now.readers) (construct self.now.language.now frame.now settings
+        requires lent { Covers (R.lent self.now.readers) (construct self.now.engine.now frame.now settings
             While) shared.old }
         ensures goes_on { GoesOn shared.old shared.new }
-        ensures stays { Stays self.now.language.now frame.now settings 4 shared.old shared.new }
-        ensures reads { Reads (construct self.now.language.now frame.now settings While) statement_view shared.old
+        ensures stays { Stays self.now.engine.now frame.now settings 4 shared.old shared.new }
+        ensures reads { Reads (construct self.now.engine.now frame.now settings While) statement_view shared.old
             result
             shared.new }
     {
@@ -194,7 +194,7 @@ impl<R: LentReaders> Reader<'_, R> {
             shared,
             self.parse_braces(shared, frame, settings.loop_body())
         )?;
-        Ok(make_while(self.language.alloc(), guard, body, settings.pos)?)
+        Ok(make_while(self.engine.alloc(), guard, body, settings.pos)?)
     }
 
     /// Reads a `loop` after its keyword, where the settings stand.
@@ -205,11 +205,11 @@ impl<R: LentReaders> Reader<'_, R> {
         frame: &Frame<'_>,
         settings: ParseSettings,
     ) -> ParseResult<Stmt>
-        requires lent { Covers (R.lent self.now.readers) (construct self.now.language.now frame.now settings Loop)
+        requires lent { Covers (R.lent self.now.readers) (construct self.now.engine.now frame.now settings Loop)
             shared.old }
         ensures goes_on { GoesOn shared.old shared.new }
-        ensures stays { Stays self.now.language.now frame.now settings 4 shared.old shared.new }
-        ensures reads { Reads (construct self.now.language.now frame.now settings Loop) statement_view shared.old
+        ensures stays { Stays self.now.engine.now frame.now settings 4 shared.old shared.new }
+        ensures reads { Reads (construct self.now.engine.now frame.now settings Loop) statement_view shared.old
             result
             shared.new }
     {
@@ -218,7 +218,7 @@ impl<R: LentReaders> Reader<'_, R> {
             self.parse_braces(shared, frame, settings.loop_body())
         )?;
         Ok(make_while(
-            self.language.alloc(),
+            self.engine.alloc(),
             Expr::Unit(Position::NONE),
             body,
             settings.pos,
@@ -233,20 +233,20 @@ impl<R: LentReaders> Reader<'_, R> {
         frame: &Frame<'_>,
         settings: ParseSettings,
     ) -> ParseResult<Stmt>
-        requires lent { Covers (R.lent self.now.readers) (construct self.now.language.now frame.now settings Do)
+        requires lent { Covers (R.lent self.now.readers) (construct self.now.engine.now frame.now settings Do)
             shared.old }
         ensures goes_on { GoesOn shared.old shared.new }
-        ensures stays { Stays self.now.language.now frame.now settings 4 shared.old shared.new }
-        ensures reads { Reads (construct self.now.language.now frame.now settings Do) statement_view shared.old result
+        ensures stays { Stays self.now.engine.now frame.now settings 4 shared.old shared.new }
+        ensures reads { Reads (construct self.now.engine.now frame.now settings Do) statement_view shared.old result
             shared.new }
     {
         let body = nested!(
             shared,
             self.parse_braces(shared, frame, settings.loop_body())
         )?;
-        let negated = next_do_end(self.language.alloc(), shared)?;
+        let negated = next_do_end(self.engine.alloc(), shared)?;
         let guard = nested!(shared, self.parse_guard(shared, frame, settings))?;
-        Ok(make_do(self.language.alloc(), guard, body, negated, settings.pos)?)
+        Ok(make_do(self.engine.alloc(), guard, body, negated, settings.pos)?)
     }
 
     /// Reads a `for` after its keyword, where the settings stand. Its variables are live in its block alone.
@@ -257,23 +257,23 @@ impl<R: LentReaders> Reader<'_, R> {
         frame: &Frame<'_>,
         settings: ParseSettings,
     ) -> ParseResult<Stmt>
-        requires lent { Covers (R.lent self.now.readers) (construct self.now.language.now frame.now settings For)
+        requires lent { Covers (R.lent self.now.readers) (construct self.now.engine.now frame.now settings For)
             shared.old }
         ensures goes_on { GoesOn shared.old shared.new }
-        ensures stays { Stays self.now.language.now frame.now settings 4 shared.old shared.new }
-        ensures reads { Reads (construct self.now.language.now frame.now settings For) statement_view shared.old
+        ensures stays { Stays self.now.engine.now frame.now settings 4 shared.old shared.new }
+        ensures reads { Reads (construct self.now.engine.now frame.now settings For) statement_view shared.old
             result
             shared.new }
     {
-        let names = next_loop_names(self.language.alloc(), shared)?;
+        let names = next_loop_names(self.engine.alloc(), shared)?;
         let over = nested!(shared, self.parse_iterated(shared, frame, settings))?;
-        let inner = loop_frame(self.language.alloc(), frame, &names)?;
+        let inner = loop_frame(self.engine.alloc(), frame, &names)?;
         let body = nested!(
             shared,
             self.parse_braces(shared, &inner, settings.loop_body())
         )?;
         Ok(make_for(
-            self.language.alloc(),
+            self.engine.alloc(),
             names.name,
             names.counter,
             over,
@@ -291,18 +291,18 @@ impl<R: LentReaders> Reader<'_, R> {
         frame: &Frame<'_>,
         settings: ParseSettings,
     ) -> ParseResult<Stmt>
-        requires lent { Covers (R.lent self.now.readers) (construct self.now.language.now frame.now settings Try)
+        requires lent { Covers (R.lent self.now.readers) (construct self.now.engine.now frame.now settings Try)
             shared.old }
         ensures goes_on { GoesOn shared.old shared.new }
-        ensures stays { Stays self.now.language.now frame.now settings 4 shared.old shared.new }
-        ensures reads { Reads (construct self.now.language.now frame.now settings Try) statement_view shared.old
+        ensures stays { Stays self.now.engine.now frame.now settings 4 shared.old shared.new }
+        ensures reads { Reads (construct self.now.engine.now frame.now settings Try) statement_view shared.old
             result
             shared.new }
     {
         let body = nested!(shared, self.parse_braces(shared, frame, settings))?;
-        let name = next_catch(self.language.alloc(), shared)?;
-        let inner = catch_frame(self.language.alloc(), frame, &name)?;
+        let name = next_catch(self.engine.alloc(), shared)?;
+        let inner = catch_frame(self.engine.alloc(), frame, &name)?;
         let handler = nested!(shared, self.parse_braces(shared, &inner, settings))?;
-        Ok(make_try(self.language.alloc(), body, name, handler, settings.pos)?)
+        Ok(make_try(self.engine.alloc(), body, name, handler, settings.pos)?)
     }
 }

@@ -41,11 +41,11 @@ impl<R: LentReaders> Reader<'_, R> {
         settings: ParseSettings,
         operand: Chain,
     ) -> ParseResult<Chain>
-        requires lent { Covers (R.lent self.now.readers) (postfix self.now.language.now frame.now settings
+        requires lent { Covers (R.lent self.now.readers) (postfix self.now.engine.now frame.now settings
             (chain_view operand)) shared.old }
         ensures goes_on { GoesOn shared.old shared.new }
-        ensures stays { Stays self.now.language.now frame.now settings 2 shared.old shared.new }
-        ensures reads { Reads (postfix self.now.language.now frame.now settings (chain_view operand)) chain_view
+        ensures stays { Stays self.now.engine.now frame.now settings 2 shared.old shared.new }
+        ensures reads { Reads (postfix self.now.engine.now frame.now settings (chain_view operand)) chain_view
             shared.old result shared.new }
     {
         if !excludes_use(shared.input)? {
@@ -66,14 +66,14 @@ impl<R: LentReaders> Reader<'_, R> {
         settings: ParseSettings,
         operand: Chain,
     ) -> ParseResult<Chain>
-        requires lent { Covers (R.lent self.now.readers) (postfix self.now.language.now frame.now settings
+        requires lent { Covers (R.lent self.now.readers) (postfix self.now.engine.now frame.now settings
             (chain_view operand)) shared.old }
         ensures goes_on { GoesOn shared.old shared.new }
-        ensures stays { Stays self.now.language.now frame.now settings 2 shared.old shared.new }
-        ensures reads { Reads (postfix self.now.language.now frame.now settings (chain_view operand)) chain_view
+        ensures stays { Stays self.now.engine.now frame.now settings 2 shared.old shared.new }
+        ensures reads { Reads (postfix self.now.engine.now frame.now settings (chain_view operand)) chain_view
             shared.old result shared.new }
     {
-        let alloc = self.language.alloc();
+        let alloc = self.engine.alloc();
         let (name, pos) = match as_variable(alloc, operand) {
             Ok(variable) => variable,
             Err(other) => {
@@ -104,21 +104,21 @@ impl<R: LentReaders> Reader<'_, R> {
         frame: &Frame<'_>,
         settings: ParseSettings,
     ) -> ParseResult<Vec<Expr>>
-        requires lent { Covers (R.lent self.now.readers) (arguments self.now.language.now frame.now settings)
+        requires lent { Covers (R.lent self.now.readers) (arguments self.now.engine.now frame.now settings)
             shared.old }
         ensures goes_on { GoesOn shared.old shared.new }
-        ensures stays { Stays self.now.language.now frame.now settings 0 shared.old shared.new }
-        ensures reads { Reads (arguments self.now.language.now frame.now settings) views_of shared.old result
+        ensures stays { Stays self.now.engine.now frame.now settings 0 shared.old shared.new }
+        ensures reads { Reads (arguments self.now.engine.now frame.now settings) views_of shared.old result
             shared.new }
     {
         let (token, pos) = peek(shared.input)?;
         if is_no_argument(token) {
             let note = "to close the arguments of a call";
-            return Err(missing(self.language.alloc(), ")", note, token, *pos));
+            return Err(missing(self.engine.alloc(), ")", note, token, *pos));
         }
         if closes_list(CommaList::Arguments, token) {
             skip(shared.input);
-            return Ok(Vec::new(self.language.alloc()));
+            return Ok(Vec::new(self.engine.alloc()));
         }
         let settings = settings.level_up()?;
         self.parse_items(shared, frame, settings)
@@ -132,20 +132,20 @@ impl<R: LentReaders> Reader<'_, R> {
         frame: &Frame<'_>,
         settings: ParseSettings,
     ) -> ParseResult<Vec<Expr>>
-        requires lent { Covers (R.lent self.now.readers) (items self.now.language.now frame.now settings no_nodes)
+        requires lent { Covers (R.lent self.now.readers) (items self.now.engine.now frame.now settings no_nodes)
             shared.old }
         ensures goes_on { GoesOn shared.old shared.new }
-        ensures stays { Stays self.now.language.now frame.now settings 1 shared.old shared.new }
-        ensures reads { Reads (items self.now.language.now frame.now settings no_nodes) views_of shared.old result
+        ensures stays { Stays self.now.engine.now frame.now settings 1 shared.old shared.new }
+        ensures reads { Reads (items self.now.engine.now frame.now settings no_nodes) views_of shared.old result
             shared.new }
     {
-        let mut items = Vec::new(self.language.alloc());
+        let mut items = Vec::new(self.engine.alloc());
         loop {
             let item = self
                 .readers
-                .parse_expr(self.language, shared, frame, settings)?;
+                .parse_expr(self.engine, shared, frame, settings)?;
             items.push(item)?;
-            if !list_continues(self.language.alloc(), shared.input, CommaList::Arguments)? {
+            if !list_continues(self.engine.alloc(), shared.input, CommaList::Arguments)? {
                 return Ok(items);
             }
             let (token, _) = peek(shared.input)?;
@@ -166,21 +166,21 @@ impl<R: LentReaders> Reader<'_, R> {
         settings: ParseSettings,
         place: OperandPlace,
     ) -> ParseResult<Chain>
-        requires lent { Covers (R.lent self.now.readers) (right_operand self.now.language.now frame.now settings
+        requires lent { Covers (R.lent self.now.readers) (right_operand self.now.engine.now frame.now settings
             place) shared.old }
         ensures goes_on { GoesOn shared.old shared.new }
-        ensures stays { Stays self.now.language.now frame.now settings 4 shared.old shared.new }
-        ensures reads { Reads (right_operand self.now.language.now frame.now settings place) chain_view shared.old
+        ensures stays { Stays self.now.engine.now frame.now settings 4 shared.old shared.new }
+        ensures reads { Reads (right_operand self.now.engine.now frame.now settings place) chain_view shared.old
             result shared.new }
     {
-        let alloc = self.language.alloc();
+        let alloc = self.engine.alloc();
         let (token, pos) = peek(shared.input)?;
         match what_operand(place, token) {
             OperandStart::Omitted => Ok(Chain::from_value(alloc, Expr::Unit(*pos))),
             OperandStart::Jump => {
                 let mut inner = frame.inner(alloc);
                 let jump = self.readers.parse_stmt(
-                    self.language,
+                    self.engine,
                     shared,
                     &mut inner,
                     settings.below_global_level(),
@@ -200,11 +200,11 @@ impl<R: LentReaders> Reader<'_, R> {
         frame: &Frame<'_>,
         settings: ParseSettings,
     ) -> ParseResult<Chain>
-        requires lent { Covers (R.lent self.now.readers) (operand self.now.language.now frame.now settings)
+        requires lent { Covers (R.lent self.now.readers) (operand self.now.engine.now frame.now settings)
             shared.old }
         ensures goes_on { GoesOn shared.old shared.new }
-        ensures stays { Stays self.now.language.now frame.now settings 3 shared.old shared.new }
-        ensures reads { Reads (operand self.now.language.now frame.now settings) chain_view shared.old result
+        ensures stays { Stays self.now.engine.now frame.now settings 3 shared.old shared.new }
+        ensures reads { Reads (operand self.now.engine.now frame.now settings) chain_view shared.old result
             shared.new }
     {
         let (token, _) = peek(shared.input)?;
@@ -214,7 +214,7 @@ impl<R: LentReaders> Reader<'_, R> {
         let (sign, pos) = take(shared.input);
         let settings = settings.at(pos).level_up()?;
         let operand = nested!(shared, self.parse_unary(shared, frame, settings))?;
-        sign_operand(self.language.alloc(), sign, pos, operand)
+        sign_operand(self.engine.alloc(), sign, pos, operand)
     }
 
     /// Reads a written operand without a sign, with its call and its links. The caller has seen that no sign comes
@@ -227,11 +227,11 @@ impl<R: LentReaders> Reader<'_, R> {
         settings: ParseSettings,
     ) -> ParseResult<Chain>
         requires unsigned { is_sign (beginning (asked (state_of shared.old)).lexeme) ≡ false }
-        requires lent { Covers (R.lent self.now.readers) (operand self.now.language.now frame.now settings)
+        requires lent { Covers (R.lent self.now.readers) (operand self.now.engine.now frame.now settings)
             shared.old }
         ensures goes_on { GoesOn shared.old shared.new }
-        ensures stays { Stays self.now.language.now frame.now settings 3 shared.old shared.new }
-        ensures reads { Reads (operand self.now.language.now frame.now settings) chain_view shared.old result
+        ensures stays { Stays self.now.engine.now frame.now settings 3 shared.old shared.new }
+        ensures reads { Reads (operand self.now.engine.now frame.now settings) chain_view shared.old result
             shared.new }
     {
         peek(shared.input)?;
@@ -251,11 +251,11 @@ impl<R: LentReaders> Reader<'_, R> {
         frame: &Frame<'_>,
         settings: ParseSettings,
     ) -> ParseResult<Chain>
-        requires lent { Covers (R.lent self.now.readers) (expression self.now.language.now frame.now settings)
+        requires lent { Covers (R.lent self.now.readers) (expression self.now.engine.now frame.now settings)
             shared.old }
         ensures goes_on { GoesOn shared.old shared.new }
-        ensures stays { Stays self.now.language.now frame.now settings 0 shared.old shared.new }
-        ensures reads { Reads (expression self.now.language.now frame.now settings) chain_view shared.old result
+        ensures stays { Stays self.now.engine.now frame.now settings 0 shared.old shared.new }
+        ensures reads { Reads (expression self.now.engine.now frame.now settings) chain_view shared.old result
             shared.new }
     {
         let (_, pos) = peek(shared.input)?;

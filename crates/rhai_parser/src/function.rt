@@ -51,27 +51,27 @@ impl<R: LentReaders> Reader<'_, R> {
         settings: ParseSettings,
     ) -> ParseResult<Stmt>
         requires more { is_end (asked (state_of shared.old)).lexeme ≡ false }
-        requires lent { Covers (R.lent self.now.readers) (statement self.now.language.now frame.now settings)
+        requires lent { Covers (R.lent self.now.readers) (statement self.now.engine.now frame.now settings)
             shared.old }
         ensures goes_on { GoesOn shared.old shared.new }
         ensures shorter { OnOk result (left (state_of shared.new).cursor.tokens + 1
             ≤ left (state_of shared.old).cursor.tokens) }
-        ensures stays { Stays self.now.language.now frame.now settings
-            (1 + function_room self.now.language.now settings) shared.old shared.new }
+        ensures stays { Stays self.now.engine.now frame.now settings
+            (1 + function_room self.now.engine.now settings) shared.old shared.new }
         ensures reads { (g : Goal) (s : Progress)
             → left (state_of shared.old).cursor.tokens ≤ left s.cursor.tokens
             → Gives (with_live statement_view frame.now) (exec (guarded g s) (statement_at
-            (context_of self.now.language.now frame.now settings) (live_of frame.now) settings.pos Comment)
+            (context_of self.now.engine.now frame.now settings) (live_of frame.now) settings.pos Comment)
             (state_of shared.old)) result (state_of shared.new) }
     {
-        let alloc = self.language.alloc();
+        let alloc = self.engine.alloc();
         let comment = take_text(alloc, shared.input)?;
         let first = comment.1;
         test_comment(settings, first)?;
         let comments = next_comments(alloc, shared, comment)?;
         let (token, pos) = peek(shared.input)?;
         let settings = settings.at(*pos);
-        match what_starts(self.language.allow_looping(), token) {
+        match what_starts(self.engine.allow_looping(), token) {
             StatementStart::Function => self.parse_plain_fn(shared, frame, settings, &comments),
             StatementStart::Private => self.parse_private_fn(shared, frame, settings, &comments),
             _ => Err(ParseError(ParseErrorType::WrongDocComment, first)),
@@ -90,16 +90,16 @@ impl<R: LentReaders> Reader<'_, R> {
     ) -> ParseResult<Stmt>
         requires readable { is_memory (asked (state_of shared.old)).lexeme ≡ false }
         requires more { is_end (asked (state_of shared.old)).lexeme ≡ false }
-        requires lent { Covers (R.lent self.now.readers) (statement self.now.language.now frame.now settings)
+        requires lent { Covers (R.lent self.now.readers) (statement self.now.engine.now frame.now settings)
             shared.old }
         ensures goes_on { GoesOn shared.old shared.new }
         ensures shorter { left (state_of shared.new).cursor.tokens + 1 ≤ left (state_of shared.old).cursor.tokens }
-        ensures stays { Stays self.now.language.now frame.now settings
-            (1 + function_room self.now.language.now settings) shared.old shared.new }
+        ensures stays { Stays self.now.engine.now frame.now settings
+            (1 + function_room self.now.engine.now settings) shared.old shared.new }
         ensures reads { (g : Goal) (s : Progress)
             → left (state_of shared.old).cursor.tokens ≤ left s.cursor.tokens
             → Gives (with_live statement_view frame.now) (exec (guarded g s) (fn_on
-            (context_of self.now.language.now frame.now settings) (live_of frame.now) (comments_of comments.now)
+            (context_of self.now.engine.now frame.now settings) (live_of frame.now) (comments_of comments.now)
             settings.pos) (state_of shared.old)) result (state_of shared.new) }
     {
         skip(shared.input);
@@ -121,23 +121,23 @@ impl<R: LentReaders> Reader<'_, R> {
     ) -> ParseResult<Stmt>
         requires readable { is_memory (asked (state_of shared.old)).lexeme ≡ false }
         requires more { is_end (asked (state_of shared.old)).lexeme ≡ false }
-        requires lent { Covers (R.lent self.now.readers) (statement self.now.language.now frame.now settings)
+        requires lent { Covers (R.lent self.now.readers) (statement self.now.engine.now frame.now settings)
             shared.old }
         ensures goes_on { GoesOn shared.old shared.new }
         ensures shorter { left (state_of shared.new).cursor.tokens + 1 ≤ left (state_of shared.old).cursor.tokens }
-        ensures stays { Stays self.now.language.now frame.now settings
-            (1 + function_room self.now.language.now settings) shared.old shared.new }
+        ensures stays { Stays self.now.engine.now frame.now settings
+            (1 + function_room self.now.engine.now settings) shared.old shared.new }
         ensures reads { (g : Goal) (s : Progress)
             → left (state_of shared.old).cursor.tokens ≤ left s.cursor.tokens
             → Gives (with_live statement_view frame.now) (exec (guarded g s) (private_on
-            (context_of self.now.language.now frame.now settings) (live_of frame.now) (comments_of comments.now)
+            (context_of self.now.engine.now frame.now settings) (live_of frame.now) (comments_of comments.now)
             settings.pos) (state_of shared.old)) result (state_of shared.new) }
     {
         skip(shared.input);
         let (_, pos) = peek(shared.input)?;
         let inner = settings.at(*pos);
         let note = "after `private`";
-        match_token(self.language.alloc(), shared.input, DueToken::Fn, note)?;
+        match_token(self.engine.alloc(), shared.input, DueToken::Fn, note)?;
         nested!(
             shared,
             self.parse_fn(shared, frame, inner, comments, settings.pos, true)
@@ -156,25 +156,25 @@ impl<R: LentReaders> Reader<'_, R> {
         first: Position,
         private: bool,
     ) -> ParseResult<Stmt>
-        requires lent { Covers (R.lent self.now.readers) (function_statement self.now.language.now frame.now settings
+        requires lent { Covers (R.lent self.now.readers) (function_statement self.now.engine.now frame.now settings
             (comments_of comments.now) first private) shared.old }
         ensures goes_on { GoesOn shared.old shared.new }
-        ensures stays { Stays self.now.language.now frame.now settings
-            (function_room self.now.language.now settings) shared.old shared.new }
-        ensures reads { Reads (function_statement self.now.language.now frame.now settings
+        ensures stays { Stays self.now.engine.now frame.now settings
+            (function_room self.now.engine.now settings) shared.old shared.new }
+        ensures reads { Reads (function_statement self.now.engine.now frame.now settings
             (comments_of comments.now) first private) (with_live statement_view frame.now) shared.old result
             shared.new }
     {
         test_function(settings, first)?;
-        let limit = self.language.max_functions();
+        let limit = self.engine.max_functions();
         let begun = shared
             .library
             .test_room(limit, frame.begun(), settings.pos)?;
-        let imports = frame.all_imports(self.language.alloc())?;
-        let mut inner = frame.in_function(self.language.alloc(), &imports, begun);
-        let max_depth = self.language.max_function_expr_depth();
+        let imports = frame.all_imports(self.engine.alloc())?;
+        let mut inner = frame.in_function(self.engine.alloc(), &imports, begun);
+        let max_depth = self.engine.max_function_expr_depth();
         let deeper = settings
-            .in_function(self.language.options(), max_depth)
+            .in_function(self.engine.options(), max_depth)
             .level_up()?;
         let (key, function) = nested!(
             shared,
@@ -195,21 +195,21 @@ impl<R: LentReaders> Reader<'_, R> {
         private: bool,
     ) -> ParseResult<EndedFn>
         requires alone { frame.old.live ≡ nothing_live }
-        requires lent { Covers (R.lent self.now.readers) (function self.now.language.now frame.old settings
+        requires lent { Covers (R.lent self.now.readers) (function self.now.engine.now frame.old settings
             (comments_of comments.now) private) shared.old }
         ensures goes_on { GoesOn shared.old shared.new }
-        ensures stays { Stays self.now.language.now frame.old settings 0 shared.old shared.new }
-        ensures reads { Reads (function self.now.language.now frame.old settings (comments_of comments.now) private)
+        ensures stays { Stays self.now.engine.now frame.old settings 0 shared.old shared.new }
+        ensures reads { Reads (function self.now.engine.now frame.old settings (comments_of comments.now) private)
             ended_view shared.old result shared.new }
         ensures named { IfOk result (λ e. is_closure (key_of e.0) ≡ false) }
     {
-        let head = next_head(self.language.alloc(), shared)?;
-        let names = next_parameter_list(self.language.alloc(), shared, &head.1)?;
+        let head = next_head(self.engine.alloc(), shared)?;
+        let names = next_parameter_list(self.engine.alloc(), shared, &head.1)?;
         let opening = open_body(shared.input, &head.1)?;
         let deeper = settings.level_up_with_position(opening)?;
         declare_parameters(frame, &names)?;
         let body = nested!(shared, self.parse_block(shared, frame, deeper))?;
-        let alloc = self.language.alloc();
+        let alloc = self.engine.alloc();
         Ok(make_function(alloc, comments, private, head, names, body)?)
     }
 }

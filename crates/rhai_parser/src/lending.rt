@@ -12,7 +12,7 @@ ghost use Rattle.rhai_parser.specs.Readers.{statement, statements, statements_of
 ghost use Rattle.rhai_parser.specs.Rooms.{Stays, function_room};
 ghost use Rattle.rhai_trees.specs.Chains.{chain_view};
 
-use crate::language::Language;
+use crate::engine::Engine;
 use crate::lent::LentReaders;
 use crate::reader::Reader;
 use crate::shared::Shared;
@@ -31,48 +31,48 @@ struct Lent<E, S> {
 
 impl<E, S> LentReaders for Lent<E, S>
 where
-    E: Fn(&Language, &mut Shared<'_>, &Frame<'_>, ParseSettings) -> ParseResult<Chain>,
-    S: Fn(&Language, &mut Shared<'_>, &mut Frame<'_>, ParseSettings) -> ParseResult<Stmt>,
+    E: Fn(&Engine, &mut Shared<'_>, &Frame<'_>, ParseSettings) -> ParseResult<Chain>,
+    S: Fn(&Engine, &mut Shared<'_>, &mut Frame<'_>, ParseSettings) -> ParseResult<Stmt>,
 {
     ghost lent = { λ s n.
-        ((language : _) (shared : _) (frame : _) (settings : _)
-        → need (expression language.now frame.now settings) (state_of shared.now) ≡ n
-        → E.pre s.chain language shared frame settings
-        × ((result : _) (after : _) → E.post s.chain language shared frame settings result after
+        ((engine : _) (shared : _) (frame : _) (settings : _)
+        → need (expression engine.now frame.now settings) (state_of shared.now) ≡ n
+        → E.pre s.chain engine shared frame settings
+        × ((result : _) (after : _) → E.post s.chain engine shared frame settings result after
         → GoesOn shared.now after.now
-        × (Stays language.now frame.now settings 1 shared.now after.now
-        × Nests (expression language.now frame.now settings) chain_view shared.now result after.now)))
-        × ((language : _) (shared : _) (frame : _) (settings : _)
-        → need (statement language.now frame.now settings) (state_of shared.now) ≡ n
-        → S.pre s.stmt language shared frame settings
+        × (Stays engine.now frame.now settings 1 shared.now after.now
+        × Nests (expression engine.now frame.now settings) chain_view shared.now result after.now)))
+        × ((engine : _) (shared : _) (frame : _) (settings : _)
+        → need (statement engine.now frame.now settings) (state_of shared.now) ≡ n
+        → S.pre s.stmt engine shared frame settings
         × ((result : _) (after : _) (after_frame : _)
-        → S.post s.stmt language shared frame settings result after after_frame
+        → S.post s.stmt engine shared frame settings result after after_frame
         → GoesOn shared.now after.now
-        × (Stays language.now frame.now settings (2 + function_room language.now settings) shared.now after.now
+        × (Stays engine.now frame.now settings (2 + function_room engine.now settings) shared.now after.now
         × SamePlace frame.now after_frame.now
-        × Nests (statement language.now frame.now settings) (with_live statement_view after_frame.now) shared.now result
+        × Nests (statement engine.now frame.now settings) (with_live statement_view after_frame.now) shared.now result
         after.now
         × IfOk result (λ s. ends_itself (statement_view s) ≡ true
         → left (state_of after.now).cursor.tokens + 1 ≤ left (state_of shared.now).cursor.tokens)))) };
 
     fn parse_chain(
         &self,
-        language: &Language,
+        engine: &Engine,
         shared: &mut Shared<'_>,
         frame: &Frame<'_>,
         settings: ParseSettings,
     ) -> ParseResult<Chain> {
-        (self.chain)(language, shared, frame, settings)
+        (self.chain)(engine, shared, frame, settings)
     }
 
     fn parse_stmt(
         &self,
-        language: &Language,
+        engine: &Engine,
         shared: &mut Shared<'_>,
         frame: &mut Frame<'_>,
         settings: ParseSettings,
     ) -> ParseResult<Stmt> {
-        (self.stmt)(language, shared, frame, settings)
+        (self.stmt)(engine, shared, frame, settings)
     }
 }
 
@@ -80,20 +80,20 @@ where
 #[tactic(auto, using(rhai_reading::proofs::Steps::nested_so))]
 #[cycle(parser)]
 fn parse_chain(
-    language: &Language,
+    engine: &Engine,
     shared: &mut Shared<'_>,
     frame: &Frame<'_>,
     settings: ParseSettings,
 ) -> ParseResult<Chain>
     ensures goes_on { GoesOn shared.old shared.new }
-    ensures stays { Stays language.now frame.now settings 1 shared.old shared.new }
-    ensures reads { Nests (expression language.now frame.now settings) chain_view shared.old result shared.new }
+    ensures stays { Stays engine.now frame.now settings 1 shared.old shared.new }
+    ensures reads { Nests (expression engine.now frame.now settings) chain_view shared.old result shared.new }
 {
     let readers = Lent {
         chain: parse_chain,
         stmt: parse_stmt,
     };
-    let reader = Reader { language, readers };
+    let reader = Reader { engine, readers };
     nested!(shared, reader.parse_chain(shared, frame, settings))
 }
 
@@ -101,16 +101,16 @@ fn parse_chain(
 #[tactic(auto, using(rhai_reading::proofs::Steps::nested_so))]
 #[cycle(parser)]
 fn parse_stmt(
-    language: &Language,
+    engine: &Engine,
     shared: &mut Shared<'_>,
     frame: &mut Frame<'_>,
     settings: ParseSettings,
 ) -> ParseResult<Stmt>
     ensures goes_on { GoesOn shared.old shared.new }
-    ensures stays { Stays language.now frame.old settings
-        (2 + function_room language.now settings) shared.old shared.new }
+    ensures stays { Stays engine.now frame.old settings
+        (2 + function_room engine.now settings) shared.old shared.new }
     ensures place { SamePlace frame.old frame.new }
-    ensures reads { Nests (statement language.now frame.old settings) (with_live statement_view frame.new) shared.old
+    ensures reads { Nests (statement engine.now frame.old settings) (with_live statement_view frame.new) shared.old
         result shared.new }
     ensures takes { IfOk result (λ s. ends_itself (statement_view s) ≡ true
         → left (state_of shared.new).cursor.tokens + 1 ≤ left (state_of shared.old).cursor.tokens) }
@@ -119,48 +119,48 @@ fn parse_stmt(
         chain: parse_chain,
         stmt: parse_stmt,
     };
-    let reader = Reader { language, readers };
+    let reader = Reader { engine, readers };
     nested!(shared, reader.parse_stmt(shared, frame, settings))
 }
 
 /// Reads an expression that the end mark follows.
 #[tactic(auto, using(rhai_reading::proofs::Steps::step_whole, crate::proofs::Readers::calls_of_readers))]
 pub(crate) fn parse_whole_expr(
-    language: &Language,
+    engine: &Engine,
     shared: &mut Shared<'_>,
     frame: &Frame<'_>,
     settings: ParseSettings,
 ) -> ParseResult<Expr>
     ensures goes_on { GoesOn shared.old shared.new }
-    ensures stays { Stays language.now frame.now settings 1 shared.old shared.new }
-    ensures reads { Reads (whole language.now frame.now settings) view shared.old result shared.new }
+    ensures stays { Stays engine.now frame.now settings 1 shared.old shared.new }
+    ensures reads { Reads (whole engine.now frame.now settings) view shared.old result shared.new }
 {
-    let chain = parse_chain(language, shared, frame, settings)?;
-    let expr = chain.nest(language.alloc())?;
-    end_due(language.alloc(), shared.input)?;
+    let chain = parse_chain(engine, shared, frame, settings)?;
+    let expr = chain.nest(engine.alloc())?;
+    end_due(engine.alloc(), shared.input)?;
     Ok(expr)
 }
 
 /// Reads the statements of a list, up to the token that closes it, which stays. The definitions among them are made in
 /// the frame.
 pub(crate) fn parse_statements(
-    language: &Language,
+    engine: &Engine,
     shared: &mut Shared<'_>,
     frame: &mut Frame<'_>,
     settings: ParseSettings,
     closing: Closing,
 ) -> ParseResult<Vec<Stmt>>
     ensures goes_on { GoesOn shared.old shared.new }
-    ensures stays { Stays language.now frame.old settings
-        (2 + function_room language.now settings) shared.old shared.new }
+    ensures stays { Stays engine.now frame.old settings
+        (2 + function_room engine.now settings) shared.old shared.new }
     ensures place { SamePlace frame.old frame.new }
-    ensures reads { Reads (statements language.now frame.old settings closing no_statements)
+    ensures reads { Reads (statements engine.now frame.old settings closing no_statements)
         (with_live statements_of frame.new) shared.old result shared.new }
 {
     let readers = Lent {
         chain: parse_chain,
         stmt: parse_stmt,
     };
-    let reader = Reader { language, readers };
+    let reader = Reader { engine, readers };
     reader.parse_statements(shared, frame, settings, closing)
 }

@@ -10,7 +10,7 @@ ghost use Rattle.rhai_reading.specs.Running.{need};
 ghost use Rattle.rhai_parser.specs.Rooms.{Stays, function_room};
 ghost use Rattle.rhai_trees.specs.Chains.{chain_view};
 
-use crate::language::Language;
+use crate::engine::Engine;
 use crate::shared::Shared;
 use rhai_base::{Frame, ParseSettings};
 use rhai_grammar::ParseResult;
@@ -25,31 +25,31 @@ pub trait LentReaders {
     /// Reads an expression, as a chain that may go on. The level is raised at its first token.
     fn parse_chain(
         &self,
-        language: &Language,
+        engine: &Engine,
         shared: &mut Shared<'_>,
         frame: &Frame<'_>,
         settings: ParseSettings,
     ) -> ParseResult<Chain>
-        requires covered { lent self.now (need (expression language.now frame.now settings) (state_of shared.old)) }
+        requires covered { lent self.now (need (expression engine.now frame.now settings) (state_of shared.old)) }
         ensures goes_on { GoesOn shared.old shared.new }
-        ensures stays { Stays language.now frame.now settings 1 shared.old shared.new }
-        ensures reads { Nests (expression language.now frame.now settings) chain_view shared.old result shared.new };
+        ensures stays { Stays engine.now frame.now settings 1 shared.old shared.new }
+        ensures reads { Nests (expression engine.now frame.now settings) chain_view shared.old result shared.new };
 
     /// Reads an expression. The level is raised at its first token.
     fn parse_expr(
         &self,
-        language: &Language,
+        engine: &Engine,
         shared: &mut Shared<'_>,
         frame: &Frame<'_>,
         settings: ParseSettings,
     ) -> ParseResult<Expr>
-        requires covered { lent self.now (need (expression language.now frame.now settings) (state_of shared.old)) }
+        requires covered { lent self.now (need (expression engine.now frame.now settings) (state_of shared.old)) }
         ensures goes_on { GoesOn shared.old shared.new }
-        ensures stays { Stays language.now frame.now settings 1 shared.old shared.new }
-        ensures reads { Nests (expression language.now frame.now settings) view shared.old result shared.new }
+        ensures stays { Stays engine.now frame.now settings 1 shared.old shared.new }
+        ensures reads { Nests (expression engine.now frame.now settings) view shared.old result shared.new }
     {
-        match self.parse_chain(language, shared, frame, settings) {
-            Ok(chain) => Ok(chain.nest(language.alloc())?),
+        match self.parse_chain(engine, shared, frame, settings) {
+            Ok(chain) => Ok(chain.nest(engine.alloc())?),
             Err(error) => Err(error),
         }
     }
@@ -57,17 +57,17 @@ pub trait LentReaders {
     /// Reads a statement. The level is raised at its first token.
     fn parse_stmt(
         &self,
-        language: &Language,
+        engine: &Engine,
         shared: &mut Shared<'_>,
         frame: &mut Frame<'_>,
         settings: ParseSettings,
     ) -> ParseResult<Stmt>
-        requires covered { lent self.now (need (statement language.now frame.old settings) (state_of shared.old)) }
+        requires covered { lent self.now (need (statement engine.now frame.old settings) (state_of shared.old)) }
         ensures goes_on { GoesOn shared.old shared.new }
-        ensures stays { Stays language.now frame.old settings
-            (2 + function_room language.now settings) shared.old shared.new }
+        ensures stays { Stays engine.now frame.old settings
+            (2 + function_room engine.now settings) shared.old shared.new }
         ensures place { SamePlace frame.old frame.new }
-        ensures reads { Nests (statement language.now frame.old settings) (with_live statement_view frame.new)
+        ensures reads { Nests (statement engine.now frame.old settings) (with_live statement_view frame.new)
             shared.old result shared.new }
         ensures takes { IfOk result (λ s. ends_itself (statement_view s) ≡ true
             → left (state_of shared.new).cursor.tokens + 1 ≤ left (state_of shared.old).cursor.tokens) };

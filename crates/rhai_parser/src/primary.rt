@@ -39,14 +39,14 @@ impl<R: LentReaders> Reader<'_, R> {
         frame: &Frame<'_>,
         settings: ParseSettings,
     ) -> ParseResult<Chain>
-        requires lent { Covers (R.lent self.now.readers) (primary self.now.language.now frame.now settings)
+        requires lent { Covers (R.lent self.now.readers) (primary self.now.engine.now frame.now settings)
             shared.old }
         ensures goes_on { GoesOn shared.old shared.new }
-        ensures stays { Stays self.now.language.now frame.now settings 1 shared.old shared.new }
-        ensures reads { Reads (primary self.now.language.now frame.now settings) chain_view shared.old result
+        ensures stays { Stays self.now.engine.now frame.now settings 1 shared.old shared.new }
+        ensures reads { Reads (primary self.now.engine.now frame.now settings) chain_view shared.old result
             shared.new }
     {
-        let alloc = self.language.alloc();
+        let alloc = self.engine.alloc();
         let (token, pos) = peek(shared.input)?;
         let pos = *pos;
         match what_begins(token) {
@@ -90,14 +90,14 @@ impl<R: LentReaders> Reader<'_, R> {
         settings: ParseSettings,
     ) -> ParseResult<Chain>
         requires compound { is_plain (beginning (asked (state_of shared.old)).lexeme) ≡ false }
-        requires lent { Covers (R.lent self.now.readers) (primary self.now.language.now frame.now settings)
+        requires lent { Covers (R.lent self.now.readers) (primary self.now.engine.now frame.now settings)
             shared.old }
         ensures goes_on { GoesOn shared.old shared.new }
-        ensures stays { Stays self.now.language.now frame.now settings 1 shared.old shared.new }
-        ensures reads { Reads (primary self.now.language.now frame.now settings) chain_view shared.old result
+        ensures stays { Stays self.now.engine.now frame.now settings 1 shared.old shared.new }
+        ensures reads { Reads (primary self.now.engine.now frame.now settings) chain_view shared.old result
             shared.new }
     {
-        let alloc = self.language.alloc();
+        let alloc = self.engine.alloc();
         let (token, pos) = peek(shared.input)?;
         let pos = *pos;
         match what_begins(token) {
@@ -106,7 +106,7 @@ impl<R: LentReaders> Reader<'_, R> {
                 let deeper = settings.at(pos).level_up()?;
                 let inside = self
                     .readers
-                    .parse_chain(self.language, shared, frame, deeper)?;
+                    .parse_chain(self.engine, shared, frame, deeper)?;
                 let note = "to close the parentheses";
                 match_token(alloc, shared.input, DueToken::RightParen, note)?;
                 Ok(inside)
@@ -132,7 +132,7 @@ impl<R: LentReaders> Reader<'_, R> {
                 Ok(Chain::from_value(alloc, value))
             }
             Beginning::Construct(kind) => {
-                if !may_be_value(settings, self.language.allow_looping(), kind) {
+                if !may_be_value(settings, self.engine.allow_looping(), kind) {
                     return Err(no_operand(alloc, token, pos));
                 }
                 skip(shared.input);

@@ -95,7 +95,7 @@ impl Engine {
             counts: *counts,
         };
         let statements = parse_statements(
-            self.language(),
+            self,
             &mut shared,
             &mut frame,
             settings,

@@ -49,29 +49,29 @@ impl<R: LentReaders> Reader<'_, R> {
         settings: ParseSettings,
         closing: Closing,
     ) -> ParseResult<Vec<Stmt>>
-        requires lent { Covers (R.lent self.now.readers) (statements self.now.language.now frame.old settings
+        requires lent { Covers (R.lent self.now.readers) (statements self.now.engine.now frame.old settings
             closing no_statements) shared.old }
         ensures goes_on { GoesOn shared.old shared.new }
-        ensures stays { Stays self.now.language.now frame.old settings
-            (2 + function_room self.now.language.now settings) shared.old shared.new }
+        ensures stays { Stays self.now.engine.now frame.old settings
+            (2 + function_room self.now.engine.now settings) shared.old shared.new }
         ensures place { SamePlace frame.old frame.new }
-        ensures reads { Reads (statements self.now.language.now frame.old settings closing no_statements)
+        ensures reads { Reads (statements self.now.engine.now frame.old settings closing no_statements)
             (with_live statements_of frame.new) shared.old result shared.new }
     {
-        let mut statements = Vec::new(self.language.alloc());
+        let mut statements = Vec::new(self.engine.alloc());
         loop {
-            if list_ends(self.language.alloc(), shared.input, closing)? {
+            if list_ends(self.engine.alloc(), shared.input, closing)? {
                 return Ok(statements);
             }
             let statement = self
                 .readers
-                .parse_stmt(self.language, shared, frame, settings)?;
+                .parse_stmt(self.engine, shared, frame, settings)?;
             let ended = ends_itself(&statement);
             push_statement(&mut statements, statement)?;
             if ended {
                 continue;
             }
-            if statement_continues(self.language.alloc(), shared.input, closing)? {
+            if statement_continues(self.engine.alloc(), shared.input, closing)? {
                 continue;
             }
             return Ok(statements);
@@ -86,20 +86,20 @@ impl<R: LentReaders> Reader<'_, R> {
         frame: &mut Frame<'_>,
         settings: ParseSettings,
     ) -> ParseResult<Stmt>
-        requires lent { Covers (R.lent self.now.readers) (statement self.now.language.now frame.old settings)
+        requires lent { Covers (R.lent self.now.readers) (statement self.now.engine.now frame.old settings)
             shared.old }
         ensures goes_on { GoesOn shared.old shared.new }
-        ensures stays { Stays self.now.language.now frame.old settings
-            (1 + function_room self.now.language.now settings) shared.old shared.new }
+        ensures stays { Stays self.now.engine.now frame.old settings
+            (1 + function_room self.now.engine.now settings) shared.old shared.new }
         ensures place { SamePlace frame.old frame.new }
-        ensures reads { Reads (statement self.now.language.now frame.old settings)
+        ensures reads { Reads (statement self.now.engine.now frame.old settings)
             (with_live statement_view frame.new) shared.old
             result shared.new }
         ensures takes { IfOk result (λ s. ends_itself (statement_view s) ≡ true
             → left (state_of shared.new).cursor.tokens + 1 ≤ left (state_of shared.old).cursor.tokens) }
     {
         let (token, pos) = peek(shared.input)?;
-        match what_starts(self.language.allow_looping(), token) {
+        match what_starts(self.engine.allow_looping(), token) {
             StatementStart::Expression => {
                 let deeper = settings.at(*pos).level_up()?;
                 nested!(shared, self.parse_expr_stmt(shared, frame, deeper))
@@ -124,15 +124,15 @@ impl<R: LentReaders> Reader<'_, R> {
         frame: &mut Frame<'_>,
         settings: ParseSettings,
     ) -> ParseResult<Stmt>
-        requires keyword { is_rare (statement_start (context_of self.now.language.now frame.old settings)
+        requires keyword { is_rare (statement_start (context_of self.now.engine.now frame.old settings)
             (asked (state_of shared.old)).lexeme) ≡ true }
-        requires lent { Covers (R.lent self.now.readers) (statement self.now.language.now frame.old settings)
+        requires lent { Covers (R.lent self.now.readers) (statement self.now.engine.now frame.old settings)
             shared.old }
         ensures goes_on { GoesOn shared.old shared.new }
-        ensures stays { Stays self.now.language.now frame.old settings
-            (1 + function_room self.now.language.now settings) shared.old shared.new }
+        ensures stays { Stays self.now.engine.now frame.old settings
+            (1 + function_room self.now.engine.now settings) shared.old shared.new }
         ensures place { SamePlace frame.old frame.new }
-        ensures reads { Reads (statement self.now.language.now frame.old settings)
+        ensures reads { Reads (statement self.now.engine.now frame.old settings)
             (with_live statement_view frame.new) shared.old
             result shared.new }
         ensures takes { IfOk result (λ s. ends_itself (statement_view s) ≡ true
@@ -140,7 +140,7 @@ impl<R: LentReaders> Reader<'_, R> {
     {
         let (token, pos) = peek(shared.input)?;
         let settings = settings.at(*pos);
-        match what_starts(self.language.allow_looping(), token) {
+        match what_starts(self.engine.allow_looping(), token) {
             StatementStart::Empty => {
                 skip(shared.input);
                 Ok(Stmt::Noop(settings.pos))
@@ -158,18 +158,18 @@ impl<R: LentReaders> Reader<'_, R> {
             StatementStart::Return => {
                 skip(shared.input);
                 let value = nested!(shared, self.parse_jump(shared, frame, settings))?;
-                Ok(make_jump(self.language.alloc(), value, false, settings.pos)?)
+                Ok(make_jump(self.engine.alloc(), value, false, settings.pos)?)
             }
             StatementStart::Throw => {
                 skip(shared.input);
                 let value = nested!(shared, self.parse_jump(shared, frame, settings))?;
-                Ok(make_jump(self.language.alloc(), value, true, settings.pos)?)
+                Ok(make_jump(self.engine.alloc(), value, true, settings.pos)?)
             }
             StatementStart::Break => {
                 skip(shared.input);
                 test_loop(settings, settings.pos)?;
                 let value = nested!(shared, self.parse_jump(shared, frame, settings))?;
-                Ok(make_break(self.language.alloc(), value, settings.pos)?)
+                Ok(make_break(self.engine.alloc(), value, settings.pos)?)
             }
             StatementStart::Continue => {
                 skip(shared.input);
@@ -202,21 +202,21 @@ impl<R: LentReaders> Reader<'_, R> {
         frame: &mut Frame<'_>,
         settings: ParseSettings,
     ) -> ParseResult<Stmt>
-        requires lent { Covers (R.lent self.now.readers) (imported self.now.language.now frame.old settings)
+        requires lent { Covers (R.lent self.now.readers) (imported self.now.engine.now frame.old settings)
             shared.old }
         ensures goes_on { GoesOn shared.old shared.new }
-        ensures stays { Stays self.now.language.now frame.old settings 1 shared.old shared.new }
+        ensures stays { Stays self.now.engine.now frame.old settings 1 shared.old shared.new }
         ensures place { SamePlace frame.old frame.new }
-        ensures reads { Reads (imported self.now.language.now frame.old settings) (with_live statement_view frame.new)
+        ensures reads { Reads (imported self.now.engine.now frame.old settings) (with_live statement_view frame.new)
             shared.old
             result shared.new }
     {
         let source = self
             .readers
-            .parse_expr(self.language, shared, frame, settings)?;
+            .parse_expr(self.engine, shared, frame, settings)?;
         let name = next_alias(shared)?;
-        frame.import(self.language.alloc(), &name)?;
-        Ok(make_import(self.language.alloc(), source, name, settings.pos)?)
+        frame.import(self.engine.alloc(), &name)?;
+        Ok(make_import(self.engine.alloc(), source, name, settings.pos)?)
     }
 
     /// Reads an `export` after its keyword, where the settings stand: of a definition, which raises the level once
@@ -228,12 +228,12 @@ impl<R: LentReaders> Reader<'_, R> {
         frame: &mut Frame<'_>,
         settings: ParseSettings,
     ) -> ParseResult<Stmt>
-        requires lent { Covers (R.lent self.now.readers) (exported self.now.language.now frame.old settings)
+        requires lent { Covers (R.lent self.now.readers) (exported self.now.engine.now frame.old settings)
             shared.old }
         ensures goes_on { GoesOn shared.old shared.new }
-        ensures stays { Stays self.now.language.now frame.old settings 0 shared.old shared.new }
+        ensures stays { Stays self.now.engine.now frame.old settings 0 shared.old shared.new }
         ensures place { SamePlace frame.old frame.new }
-        ensures reads { Reads (exported self.now.language.now frame.old settings) (with_live statement_view frame.new)
+        ensures reads { Reads (exported self.now.engine.now frame.old settings) (with_live statement_view frame.new)
             shared.old
             result shared.new }
     {
@@ -247,7 +247,7 @@ impl<R: LentReaders> Reader<'_, R> {
         }
         let (name, _) = parse_var_name(shared.input)?;
         let alias = next_alias(shared)?;
-        Ok(export_name(self.language.alloc(), frame, name, alias, settings.pos)?)
+        Ok(export_name(self.engine.alloc(), frame, name, alias, settings.pos)?)
     }
 
     /// Reads a definition after its keyword, where the settings stand. Its slot is made after its value is read, and is
@@ -261,20 +261,20 @@ impl<R: LentReaders> Reader<'_, R> {
         constant: bool,
         exported: bool,
     ) -> ParseResult<Stmt>
-        requires lent { Covers (R.lent self.now.readers) (definition self.now.language.now frame.old settings
+        requires lent { Covers (R.lent self.now.readers) (definition self.now.engine.now frame.old settings
             constant exported) shared.old }
         ensures goes_on { GoesOn shared.old shared.new }
-        ensures stays { Stays self.now.language.now frame.old settings 1 shared.old shared.new }
+        ensures stays { Stays self.now.engine.now frame.old settings 1 shared.old shared.new }
         ensures place { SamePlace frame.old frame.new }
-        ensures reads { Reads (definition self.now.language.now frame.old settings constant exported)
+        ensures reads { Reads (definition self.now.engine.now frame.old settings constant exported)
             (with_live statement_view frame.new) shared.old result shared.new }
     {
-        let (name, _) = next_var_name(self.language, shared, frame, settings)?;
+        let (name, _) = next_var_name(self.engine, shared, frame, settings)?;
         let value = nested!(shared, self.parse_initializer(shared, frame, settings))?;
         let number = define_as(frame, &name, constant, exported)?;
         let pos = settings.pos;
         Ok(make_definition(
-            self.language.alloc(),
+            self.engine.alloc(),
             name,
             value,
             number,
@@ -293,19 +293,18 @@ impl<R: LentReaders> Reader<'_, R> {
         frame: &Frame<'_>,
         settings: ParseSettings,
     ) -> ParseResult<Expr>
-        requires lent { Covers (R.lent self.now.readers) (initializer self.now.language.now frame.now settings)
+        requires lent { Covers (R.lent self.now.readers) (initializer self.now.engine.now frame.now settings)
             shared.old }
         ensures goes_on { GoesOn shared.old shared.new }
-        ensures stays { Stays self.now.language.now frame.now settings 0 shared.old shared.new }
-        ensures reads { Reads (initializer self.now.language.now frame.now settings) view shared.old result shared.new }
+        ensures stays { Stays self.now.engine.now frame.now settings 0 shared.old shared.new }
+        ensures reads { Reads (initializer self.now.engine.now frame.now settings) view shared.old result shared.new }
     {
         if !has_value(shared.input)? {
             return Ok(Expr::Unit(Position::NONE));
         }
         skip(shared.input);
         let deeper = settings.level_up()?;
-        self.readers
-            .parse_expr(self.language, shared, frame, deeper)
+        self.readers.parse_expr(self.engine, shared, frame, deeper)
     }
 
     /// Reads an expression or an assignment. What is assigned to is tested after the value is read.
@@ -316,25 +315,25 @@ impl<R: LentReaders> Reader<'_, R> {
         frame: &Frame<'_>,
         settings: ParseSettings,
     ) -> ParseResult<Stmt>
-        requires lent { Covers (R.lent self.now.readers) (expr_statement self.now.language.now frame.now settings)
+        requires lent { Covers (R.lent self.now.readers) (expr_statement self.now.engine.now frame.now settings)
             shared.old }
         ensures goes_on { GoesOn shared.old shared.new }
-        ensures stays { Stays self.now.language.now frame.now settings 1 shared.old shared.new }
-        ensures reads { Reads (expr_statement self.now.language.now frame.now settings) statement_view shared.old
+        ensures stays { Stays self.now.engine.now frame.now settings 1 shared.old shared.new }
+        ensures reads { Reads (expr_statement self.now.engine.now frame.now settings) statement_view shared.old
             result shared.new }
         ensures open { IfOk result (λ s. ends_itself (statement_view s) ≡ false) }
     {
         let target = self
             .readers
-            .parse_expr(self.language, shared, frame, settings)?;
+            .parse_expr(self.engine, shared, frame, settings)?;
         if !assigns(shared.input)? {
-            return Ok(make_expression(self.language.alloc(), target)?);
+            return Ok(make_expression(self.engine.alloc(), target)?);
         }
         let (op, pos) = take(shared.input);
         let value = self
             .readers
-            .parse_expr(self.language, shared, frame, settings)?;
-        end_assignment(self.language.alloc(), frame, op, pos, target, value)
+            .parse_expr(self.engine, shared, frame, settings)?;
+        end_assignment(self.engine.alloc(), frame, op, pos, target, value)
     }
 
     /// Reads the statements of a block up to its `}`, which stays. Its definitions end with it.
@@ -345,18 +344,18 @@ impl<R: LentReaders> Reader<'_, R> {
         frame: &Frame<'_>,
         settings: ParseSettings,
     ) -> ParseResult<Vec<Stmt>>
-        requires lent { Covers (R.lent self.now.readers) (inside self.now.language.now frame.now settings)
+        requires lent { Covers (R.lent self.now.readers) (inside self.now.engine.now frame.now settings)
             shared.old }
         ensures goes_on { GoesOn shared.old shared.new }
-        ensures stays { Stays self.now.language.now frame.now settings 2 shared.old shared.new }
-        ensures reads { Reads (inside self.now.language.now frame.now settings) statements_of shared.old result
+        ensures stays { Stays self.now.engine.now frame.now settings 2 shared.old shared.new }
+        ensures reads { Reads (inside self.now.engine.now frame.now settings) statements_of shared.old result
             shared.new }
     {
         if settings.has_flag(ParseSettingFlags::DISALLOW_STATEMENTS_IN_BLOCKS) {
             let statement = nested!(shared, self.parse_expr_stmt(shared, frame, settings))?;
-            return Ok(vec![in self.language.alloc(); statement]?);
+            return Ok(vec![in self.engine.alloc(); statement]?);
         }
-        let mut inner = frame.inner(self.language.alloc());
+        let mut inner = frame.inner(self.engine.alloc());
         let settings = settings.below_global_level();
         self.parse_statements(shared, &mut inner, settings, Closing::Brace)
     }
@@ -370,23 +369,21 @@ impl<R: LentReaders> Reader<'_, R> {
         frame: &Frame<'_>,
         settings: ParseSettings,
     ) -> ParseResult<Option<Expr>>
-        requires lent { Covers (R.lent self.now.readers) (jump self.now.language.now frame.now settings)
+        requires lent { Covers (R.lent self.now.readers) (jump self.now.engine.now frame.now settings)
             shared.old }
         ensures goes_on { GoesOn shared.old shared.new }
-        ensures stays { Stays self.now.language.now frame.now settings 0 shared.old shared.new }
-        ensures reads { Reads (jump self.now.language.now frame.now settings) optional_view shared.old result
+        ensures stays { Stays self.now.engine.now frame.now settings 0 shared.old shared.new }
+        ensures reads { Reads (jump self.now.engine.now frame.now settings) optional_view shared.old result
             shared.new }
     {
         let (token, _) = peek(shared.input)?;
-        let looping = self.language.allow_looping();
+        let looping = self.engine.allow_looping();
         let valued = starts_expression(settings, looping, frame.filter(), token);
         let deeper = settings.level_up()?;
         if !valued {
             return Ok(None);
         }
-        let value = self
-            .readers
-            .parse_expr(self.language, shared, frame, deeper)?;
+        let value = self.readers.parse_expr(self.engine, shared, frame, deeper)?;
         Ok(Some(value))
     }
 }

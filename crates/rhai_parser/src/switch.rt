@@ -35,26 +35,21 @@ impl<R: LentReaders> Reader<'_, R> {
         frame: &Frame<'_>,
         settings: ParseSettings,
     ) -> ParseResult<Stmt>
-        requires lent { Covers (R.lent self.now.readers) (construct self.now.language.now frame.now settings
+        requires lent { Covers (R.lent self.now.readers) (construct self.now.engine.now frame.now settings
             Switch) shared.old }
         ensures goes_on { GoesOn shared.old shared.new }
-        ensures stays { Stays self.now.language.now frame.now settings 4 shared.old shared.new }
-        ensures reads { Reads (construct self.now.language.now frame.now settings Switch) statement_view shared.old
+        ensures stays { Stays self.now.engine.now frame.now settings 4 shared.old shared.new }
+        ensures reads { Reads (construct self.now.engine.now frame.now settings Switch) statement_view shared.old
             result
             shared.new }
     {
         let item = self
             .readers
-            .parse_expr(self.language, shared, frame, settings)?;
+            .parse_expr(self.engine, shared, frame, settings)?;
         let note = "to begin the arms of this `switch`";
-        match_token(
-            self.language.alloc(),
-            shared.input,
-            DueToken::LeftBrace,
-            note,
-        )?;
+        match_token(self.engine.alloc(), shared.input, DueToken::LeftBrace, note)?;
         let arms = self.parse_arms(shared, frame, settings)?;
-        Ok(make_switch(self.language.alloc(), item, arms, settings.pos)?)
+        Ok(make_switch(self.engine.alloc(), item, arms, settings.pos)?)
     }
 
     /// Reads the arms of a `switch`, up to the `}`.
@@ -65,17 +60,17 @@ impl<R: LentReaders> Reader<'_, R> {
         frame: &Frame<'_>,
         settings: ParseSettings,
     ) -> ParseResult<Arms>
-        requires lent { Covers (R.lent self.now.readers) (arms self.now.language.now frame.now settings
+        requires lent { Covers (R.lent self.now.readers) (arms self.now.engine.now frame.now settings
             nothing_collected) shared.old }
         ensures goes_on { GoesOn shared.old shared.new }
-        ensures stays { Stays self.now.language.now frame.now settings 4 shared.old shared.new }
-        ensures reads { Reads (arms self.now.language.now frame.now settings nothing_collected) arms_view
+        ensures stays { Stays self.now.engine.now frame.now settings 4 shared.old shared.new }
+        ensures reads { Reads (arms self.now.engine.now frame.now settings nothing_collected) arms_view
             shared.old result
             shared.new }
     {
-        let mut arms = new_arms(self.language.alloc());
+        let mut arms = new_arms(self.engine.alloc());
         loop {
-            match next_arm(self.language.alloc(), shared.input)? {
+            match next_arm(self.engine.alloc(), shared.input)? {
                 NextArm::End => return Ok(arms),
                 NextArm::Default(pos) => {
                     let action = nested!(
@@ -87,13 +82,7 @@ impl<R: LentReaders> Reader<'_, R> {
                 NextArm::Case => {}
             }
             let arm = nested!(shared, self.parse_arm(shared, frame, settings, &arms))?;
-            arms = push_arm(
-                self.language.alloc(),
-                arms,
-                arm.cases,
-                arm.guard,
-                arm.action,
-            )?;
+            arms = push_arm(self.engine.alloc(), arms, arm.cases, arm.guard, arm.action)?;
         }
     }
 
@@ -106,11 +95,11 @@ impl<R: LentReaders> Reader<'_, R> {
         settings: ParseSettings,
         before: &Arms,
     ) -> ParseResult<Arm>
-        requires lent { Covers (R.lent self.now.readers) (arm self.now.language.now frame.now settings
+        requires lent { Covers (R.lent self.now.readers) (arm self.now.engine.now frame.now settings
             (arms_view before.now)) shared.old }
         ensures goes_on { GoesOn shared.old shared.new }
-        ensures stays { Stays self.now.language.now frame.now settings 3 shared.old shared.new }
-        ensures reads { Reads (arm self.now.language.now frame.now settings (arms_view before.now)) arm_view
+        ensures stays { Stays self.now.engine.now frame.now settings 3 shared.old shared.new }
+        ensures reads { Reads (arm self.now.engine.now frame.now settings (arms_view before.now)) arm_view
             shared.old result
             shared.new }
         ensures shrinks { OnOk result
@@ -119,13 +108,13 @@ impl<R: LentReaders> Reader<'_, R> {
         let cases = self.parse_cases(shared, frame, settings)?;
         let guard = nested!(shared, self.parse_case_guard(shared, frame, settings))?;
         match_token(
-            self.language.alloc(),
+            self.engine.alloc(),
             shared.input,
             DueToken::DoubleArrow,
             "after the cases of this arm",
         )?;
         let does = nested!(shared, self.parse_action(shared, frame, settings))?;
-        end_arm(self.language.alloc(), shared, before, cases, guard, does)
+        end_arm(self.engine.alloc(), shared, before, cases, guard, does)
     }
 
     /// Reads the default arm after its `_`, which is at `default`, up to the `}` of the `switch`.
@@ -137,22 +126,22 @@ impl<R: LentReaders> Reader<'_, R> {
         settings: ParseSettings,
         default: Position,
     ) -> ParseResult<Expr>
-        requires lent { Covers (R.lent self.now.readers) (default_arm self.now.language.now frame.now settings
+        requires lent { Covers (R.lent self.now.readers) (default_arm self.now.engine.now frame.now settings
             default) shared.old }
         ensures goes_on { GoesOn shared.old shared.new }
-        ensures stays { Stays self.now.language.now frame.now settings 3 shared.old shared.new }
-        ensures reads { Reads (default_arm self.now.language.now frame.now settings default) view shared.old result
+        ensures stays { Stays self.now.engine.now frame.now settings 3 shared.old shared.new }
+        ensures reads { Reads (default_arm self.now.engine.now frame.now settings default) view shared.old result
             shared.new }
     {
         default_unguarded(shared.input)?;
         match_token(
-            self.language.alloc(),
+            self.engine.alloc(),
             shared.input,
             DueToken::DoubleArrow,
             "after the `_` of this arm",
         )?;
         let does = nested!(shared, self.parse_action(shared, frame, settings))?;
-        end_default(self.language.alloc(), shared, does, default)
+        end_default(self.engine.alloc(), shared, does, default)
     }
 
     /// Reads the cases of an arm.
@@ -163,14 +152,14 @@ impl<R: LentReaders> Reader<'_, R> {
         frame: &Frame<'_>,
         settings: ParseSettings,
     ) -> ParseResult<Vec<Expr>>
-        requires lent { Covers (R.lent self.now.readers) (cases self.now.language.now frame.now settings no_nodes)
+        requires lent { Covers (R.lent self.now.readers) (cases self.now.engine.now frame.now settings no_nodes)
             shared.old }
         ensures goes_on { GoesOn shared.old shared.new }
-        ensures stays { Stays self.now.language.now frame.now settings 2 shared.old shared.new }
-        ensures reads { Reads (cases self.now.language.now frame.now settings no_nodes) views_of shared.old result
+        ensures stays { Stays self.now.engine.now frame.now settings 2 shared.old shared.new }
+        ensures reads { Reads (cases self.now.engine.now frame.now settings no_nodes) views_of shared.old result
             shared.new }
     {
-        let mut cases = Vec::new(self.language.alloc());
+        let mut cases = Vec::new(self.engine.alloc());
         loop {
             let case = nested!(shared, self.parse_case(shared, frame, settings))?;
             cases.push(case)?;
@@ -189,17 +178,17 @@ impl<R: LentReaders> Reader<'_, R> {
         frame: &Frame<'_>,
         settings: ParseSettings,
     ) -> ParseResult<Expr>
-        requires lent { Covers (R.lent self.now.readers) (case self.now.language.now frame.now settings)
+        requires lent { Covers (R.lent self.now.readers) (case self.now.engine.now frame.now settings)
             shared.old }
         ensures goes_on { GoesOn shared.old shared.new }
-        ensures stays { Stays self.now.language.now frame.now settings 1 shared.old shared.new }
-        ensures reads { Reads (case self.now.language.now frame.now settings) view shared.old result shared.new }
+        ensures stays { Stays self.now.engine.now frame.now settings 1 shared.old shared.new }
+        ensures reads { Reads (case self.now.engine.now frame.now settings) view shared.old result shared.new }
     {
-        let inner = frame.in_case(self.language.alloc());
+        let inner = frame.in_case(self.engine.alloc());
         let case = self
             .readers
-            .parse_expr(self.language, shared, &inner, settings);
-        as_case(self.language.alloc(), case)
+            .parse_expr(self.engine, shared, &inner, settings);
+        as_case(self.engine.alloc(), case)
     }
 
     /// Reads the guard of an arm, if it has one.
@@ -210,11 +199,11 @@ impl<R: LentReaders> Reader<'_, R> {
         frame: &Frame<'_>,
         settings: ParseSettings,
     ) -> ParseResult<Expr>
-        requires lent { Covers (R.lent self.now.readers) (case_guard self.now.language.now frame.now settings)
+        requires lent { Covers (R.lent self.now.readers) (case_guard self.now.engine.now frame.now settings)
             shared.old }
         ensures goes_on { GoesOn shared.old shared.new }
-        ensures stays { Stays self.now.language.now frame.now settings 2 shared.old shared.new }
-        ensures reads { Reads (case_guard self.now.language.now frame.now settings) view shared.old result shared.new }
+        ensures stays { Stays self.now.engine.now frame.now settings 2 shared.old shared.new }
+        ensures reads { Reads (case_guard self.now.engine.now frame.now settings) view shared.old result shared.new }
     {
         if !pass_token(shared.input, DueToken::If)? {
             return Ok(no_guard());
@@ -231,27 +220,27 @@ impl<R: LentReaders> Reader<'_, R> {
         frame: &Frame<'_>,
         settings: ParseSettings,
     ) -> ParseResult<Action>
-        requires lent { Covers (R.lent self.now.readers) (action self.now.language.now frame.now settings)
+        requires lent { Covers (R.lent self.now.readers) (action self.now.engine.now frame.now settings)
             shared.old }
         ensures goes_on { GoesOn shared.old shared.new }
-        ensures stays { Stays self.now.language.now frame.now settings 2 shared.old shared.new }
-        ensures reads { Reads (action self.now.language.now frame.now settings) action_view shared.old result
+        ensures stays { Stays self.now.engine.now frame.now settings 2 shared.old shared.new }
+        ensures reads { Reads (action self.now.engine.now frame.now settings) action_view shared.old result
             shared.new }
     {
         if settings.has_flag(ParseSettingFlags::DISALLOW_STATEMENTS_IN_BLOCKS) {
             let expr = self
                 .readers
-                .parse_expr(self.language, shared, frame, settings)?;
+                .parse_expr(self.engine, shared, frame, settings)?;
             return Ok(Action { expr, ends: false });
         }
         action_due(shared.input)?;
-        let mut inner = frame.inner(self.language.alloc());
+        let mut inner = frame.inner(self.engine.alloc());
         let statement = self.readers.parse_stmt(
-            self.language,
+            self.engine,
             shared,
             &mut inner,
             settings.below_global_level(),
         )?;
-        end_statement_action(self.language.alloc(), statement)
+        end_statement_action(self.engine.alloc(), statement)
     }
 }

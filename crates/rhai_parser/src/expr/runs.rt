@@ -120,7 +120,7 @@ impl<R: LentReaders> Reader<'_, R> {
         ensures goes_on { GoesOn shared.old shared.new }
         ensures shorter { OnOk result (left (state_of shared.new).cursor.tokens + 1
             ≤ left (state_of shared.old).cursor.tokens) }
-        ensures stays { Stays self.now.language.now frame.now run.settings 5 shared.old shared.new }
+        ensures stays { Stays self.now.engine.now frame.now run.settings 5 shared.old shared.new }
         ensures around { IfOk result (λ r. (r.0.around.lhs ≡ run.lhs) × (r.0.around.parent ≡ run.parent)
             × IsDeeper run.settings r.0.around.settings × Raises run.settings r.0.pos (Ok r.0.around.settings)) }
         ensures side { IfOk result (λ r. (r.1.parent ≡ strength)
@@ -129,7 +129,7 @@ impl<R: LentReaders> Reader<'_, R> {
         ensures reads { (g : Goal) (s : Progress)
             → left (state_of shared.old).cursor.tokens ≤ left s.cursor.tokens
             → Gives side_view (exec (guarded g s) (right_side
-            (context_of self.now.language.now frame.now run.settings) (live_of frame.now) run.settings.pos)
+            (context_of self.now.engine.now frame.now run.settings) (live_of frame.now) run.settings.pos)
             (state_of shared.old)) result (state_of shared.new) }
     {
         let settings = run.settings;
@@ -139,7 +139,7 @@ impl<R: LentReaders> Reader<'_, R> {
             shared,
             self.parse_right_operand(shared, frame, settings, place)
         )?;
-        next_operator(self.language.alloc(), frame.filter(), shared)?;
+        next_operator(self.engine.alloc(), frame.filter(), shared)?;
         let deeper = settings.level_up_in_run(pos)?;
         let side = Run {
             settings: deeper.side.at(lhs.position()),
@@ -171,14 +171,14 @@ impl<R: LentReaders> Reader<'_, R> {
         parent: u8,
         lhs: Chain,
     ) -> ParseResult<Chain>
-        requires lent { Covers (R.lent self.now.readers) (binary_op self.now.language.now frame.now settings
+        requires lent { Covers (R.lent self.now.readers) (binary_op self.now.engine.now frame.now settings
             (position_of (chain_view lhs)) parent (chain_view lhs)) shared.old }
         ensures goes_on { GoesOn shared.old shared.new }
-        ensures stays { Stays self.now.language.now frame.now settings 5 shared.old shared.new }
-        ensures reads { Reads (binary_op self.now.language.now frame.now settings (position_of (chain_view lhs)) parent
+        ensures stays { Stays self.now.engine.now frame.now settings 5 shared.old shared.new }
+        ensures reads { Reads (binary_op self.now.engine.now frame.now settings (position_of (chain_view lhs)) parent
             (chain_view lhs)) chain_view shared.old result shared.new }
     {
-        let operator = next_in_run(self.language.alloc(), frame.filter(), shared, parent)?;
+        let operator = next_in_run(self.engine.alloc(), frame.filter(), shared, parent)?;
         if operator.is_none() {
             return Ok(lhs);
         }
@@ -198,14 +198,14 @@ impl<R: LentReaders> Reader<'_, R> {
         parent: u8,
         lhs: Chain,
     ) -> ParseResult<Chain>
-        requires lent { Covers (R.lent self.now.readers) (binary_op self.now.language.now frame.now settings
+        requires lent { Covers (R.lent self.now.readers) (binary_op self.now.engine.now frame.now settings
             (position_of (chain_view lhs)) parent (chain_view lhs)) shared.old }
         ensures goes_on { GoesOn shared.old shared.new }
-        ensures stays { Stays self.now.language.now frame.now settings 5 shared.old shared.new }
-        ensures reads { Reads (binary_op self.now.language.now frame.now settings (position_of (chain_view lhs)) parent
+        ensures stays { Stays self.now.engine.now frame.now settings 5 shared.old shared.new }
+        ensures reads { Reads (binary_op self.now.engine.now frame.now settings (position_of (chain_view lhs)) parent
             (chain_view lhs)) chain_view shared.old result shared.new }
     {
-        let alloc = self.language.alloc();
+        let alloc = self.engine.alloc();
         let mut run = Run {
             settings: settings.at(lhs.position()),
             parent,

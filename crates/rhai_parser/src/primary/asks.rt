@@ -16,12 +16,12 @@ ghost use Rattle.rhai_grammar.specs.Beginnings.{excludes_use};
 ghost use Rattle.rhai_reading.specs.Reading.{name_at};
 ghost use Rattle.rhai_reading.specs.Running.{Caller, Gives, exec};
 ghost use Rattle.rhai_parser.specs.Frames.{context_of, live_of};
-ghost use Rattle.rhai_parser.specs.Languages.{LanguageValue};
+ghost use Rattle.rhai_parser.specs.Engines.{EngineValue};
 ghost use Rattle.rhai_parser.specs.Readers.{GoesOn, Reads, state_of};
 ghost use Rattle.rhai_parser.specs.PrimaryViews.{text_view};
 ghost use Rattle.rhai_parser.specs.Rooms.{Steady};
 
-use crate::language::Language;
+use crate::engine::Engine;
 use crate::primary::keys;
 use crate::shared::Shared;
 use rhai_base::leaves::due::match_token;
@@ -36,20 +36,20 @@ use std::alloc::Global;
 use std::rc::RcStr;
 
 /// The key of the property after these ones, with its `:`, and a look at the value that is due; none where the `}` is,
-/// which is taken. The language limits how many properties the literal has.
+/// which is taken. The engine limits how many properties the literal has.
 #[tactic(auto, using(rhai_reading::proofs::Steps::step_next_key, crate::proofs::KeyLemmas::count_properties))]
 pub(crate) fn next_key(
-    language: &Language,
+    engine: &Engine,
     shared: &mut Shared<'_>,
     settings: ParseSettings,
     properties: &NamedList<(Ident, Expr)>,
 ) -> ParseResult<Option<Ident>>
     ensures goes_on { GoesOn shared.old shared.new }
     ensures steady { Steady shared.old shared.new }
-    ensures reads { (frame : FrameValue) → Reads (NextKey (context_of language.now frame settings)
+    ensures reads { (frame : FrameValue) → Reads (NextKey (context_of engine.now frame settings)
         (property_views properties.now)) (option_map written) shared.old result shared.new }
 {
-    let alloc = language.alloc();
+    let alloc = engine.alloc();
     let next = match keys::next_key(alloc, shared.input, settings, properties) {
         Ok(next) => next,
         Err(error) => return Err(error),
@@ -61,12 +61,7 @@ pub(crate) fn next_key(
     if let Err(error) = match_token(alloc, shared.input, DueToken::Colon, note) {
         return Err(error);
     }
-    match room_for_value(
-        alloc,
-        shared.input,
-        language.max_map_size(),
-        properties.len(),
-    ) {
+    match room_for_value(alloc, shared.input, engine.max_map_size(), properties.len()) {
         Ok(()) => Ok(Some(key)),
         Err(error) => Err(error),
     }
@@ -89,8 +84,8 @@ pub(crate) fn used_name(
 ) -> ParseResult<Chain>
     ensures goes_on { GoesOn shared.old shared.new }
     ensures steady { Steady shared.old shared.new }
-    ensures gives { (language : LanguageValue) (call : Caller) (token : Lexeme) → excluded ≡ excludes_use token
-        → Gives chain_view (exec call (name_at (context_of language frame.now settings) (live_of frame.now)
+    ensures gives { (engine : EngineValue) (call : Caller) (token : Lexeme) → excluded ≡ excludes_use token
+        → Gives chain_view (exec call (name_at (context_of engine frame.now settings) (live_of frame.now)
         (rc_str_bytes name) pos token (state_of shared.old).library) (state_of shared.old)) result
         (state_of shared.new) }
 {

@@ -7,7 +7,7 @@ ghost use Rattle.rhai_base.specs.Uses.{uses_of};
 ghost use Rattle.rhai_reading.specs.Reading.{closure_end};
 ghost use Rattle.rhai_reading.specs.Running.{Caller, Gives, exec};
 ghost use Rattle.rhai_parser.specs.Frames.{context_of, live_of};
-ghost use Rattle.rhai_parser.specs.Languages.{LanguageValue};
+ghost use Rattle.rhai_parser.specs.Engines.{EngineValue};
 ghost use Rattle.rhai_parser.specs.Readers.{Covers, GoesOn, Reads, names_of, state_of};
 ghost use Rattle.rhai_parser.specs.Closures.{UsesAll, closure, closure_body, closure_parameters};
 ghost use Rattle.rhai_parser.specs.Rooms.{Ends, Stays, Steady, function_room};
@@ -36,20 +36,20 @@ impl<R: LentReaders> Reader<'_, R> {
         settings: ParseSettings,
         bars: Bars,
     ) -> ParseResult<Chain>
-        requires lent { Covers (R.lent self.now.readers) (closure self.now.language.now frame.now settings bars)
+        requires lent { Covers (R.lent self.now.readers) (closure self.now.engine.now frame.now settings bars)
             shared.old }
         ensures goes_on { GoesOn shared.old shared.new }
-        ensures stays { Stays self.now.language.now frame.now settings 0 shared.old shared.new }
-        ensures reads { Reads (closure self.now.language.now frame.now settings bars) chain_view shared.old result
+        ensures stays { Stays self.now.engine.now frame.now settings 0 shared.old shared.new }
+        ensures reads { Reads (closure self.now.engine.now frame.now settings bars) chain_view shared.old result
             shared.new }
     {
-        let alloc = self.language.alloc();
-        let limit = self.language.max_functions();
+        let alloc = self.engine.alloc();
+        let limit = self.engine.max_functions();
         let begun = shared
             .library
             .test_room(limit, frame.begun(), settings.pos)?;
         let names = next_closure_parameters(alloc, shared, bars)?;
-        let deeper = settings.in_closure(self.language.options()).level_up()?;
+        let deeper = settings.in_closure(self.engine.options()).level_up()?;
         let imports = frame.all_imports(alloc)?;
         let mut inner = frame.in_function(alloc, &imports, begun);
         declare_parameters(&mut inner, &names)?;
@@ -67,19 +67,19 @@ impl<R: LentReaders> Reader<'_, R> {
         frame: &mut Frame<'_>,
         settings: ParseSettings,
     ) -> ParseResult<Stmt>
-        requires lent { Covers (R.lent self.now.readers) (closure_body self.now.language.now frame.old settings)
+        requires lent { Covers (R.lent self.now.readers) (closure_body self.now.engine.now frame.old settings)
             shared.old }
         ensures goes_on { GoesOn shared.old shared.new }
-        ensures stays { Stays self.now.language.now frame.old settings
-            (2 + function_room self.now.language.now settings) shared.old shared.new }
-        ensures reads { Reads (closure_body self.now.language.now frame.old settings) statement_view shared.old
+        ensures stays { Stays self.now.engine.now frame.old settings
+            (2 + function_room self.now.engine.now settings) shared.old shared.new }
+        ensures reads { Reads (closure_body self.now.engine.now frame.old settings) statement_view shared.old
             result shared.new }
     {
         if let Some(end) = ends_here(shared.input)? {
             return Ok(Stmt::Noop(end));
         }
         self.readers
-            .parse_stmt(self.language, shared, frame, settings)
+            .parse_stmt(self.engine, shared, frame, settings)
     }
 }
 
@@ -112,8 +112,8 @@ fn use_captured(
 ) -> ParseResult<()>
     ensures goes_on { GoesOn shared.old shared.new }
     ensures steady { Steady shared.old shared.new }
-    ensures uses { (language : LanguageValue) → UsesAll (uses_of captured.now)
-        (context_of language frame.now settings) (live_of frame.now) (state_of shared.old) result
+    ensures uses { (engine : EngineValue) → UsesAll (uses_of captured.now)
+        (context_of engine frame.now settings) (live_of frame.now) (state_of shared.old) result
         (state_of shared.new) }
 {
     let closure = settings.has_flag(ParseSettingFlags::CLOSURE_SCOPE);
@@ -142,8 +142,8 @@ fn end_closure(
 ) -> ParseResult<Chain>
     ensures goes_on { GoesOn shared.old shared.new }
     ensures ends { Ends shared.old shared.new }
-    ensures gives { (language : LanguageValue) (call : Caller) → Gives chain_view (exec call (closure_end
-        (context_of language frame.now settings) (live_of frame.now) settings.pos (names_of names)
+    ensures gives { (engine : EngineValue) (call : Caller) → Gives chain_view (exec call (closure_end
+        (context_of engine frame.now settings) (live_of frame.now) settings.pos (names_of names)
         (statement_view body) (uses_of captured.items) (state_of shared.old).library) (state_of shared.old)) result
         (state_of shared.new) }
 {

@@ -32,15 +32,15 @@ impl<R: LentReaders> Reader<'_, R> {
         frame: &Frame<'_>,
         settings: ParseSettings,
     ) -> ParseResult<Vec<Expr>>
-        requires lent { Covers (R.lent self.now.readers) (elements self.now.language.now frame.now settings
+        requires lent { Covers (R.lent self.now.readers) (elements self.now.engine.now frame.now settings
             no_nodes) shared.old }
         ensures goes_on { GoesOn shared.old shared.new }
-        ensures stays { Stays self.now.language.now frame.now settings 0 shared.old shared.new }
-        ensures reads { Reads (elements self.now.language.now frame.now settings no_nodes) views_of shared.old result
+        ensures stays { Stays self.now.engine.now frame.now settings 0 shared.old shared.new }
+        ensures reads { Reads (elements self.now.engine.now frame.now settings no_nodes) views_of shared.old result
             shared.new }
     {
-        let limit = self.language.max_array_size();
-        let mut items = Vec::new(self.language.alloc());
+        let limit = self.engine.max_array_size();
+        let mut items = Vec::new(self.engine.alloc());
         loop {
             let (token, pos) = peek(shared.input)?;
             match item_place(token, limit, items.len()) {
@@ -49,19 +49,12 @@ impl<R: LentReaders> Reader<'_, R> {
                     return Ok(items);
                 }
                 ItemPlace::Item => {}
-                ItemPlace::Nothing => return Err(no_item(
-                    self.language.alloc(),
-                    limit,
-                    token,
-                    *pos,
-                )),
+                ItemPlace::Nothing => return Err(no_item(self.engine.alloc(), limit, token, *pos)),
             }
             let deeper = settings.level_up()?;
-            let item = self
-                .readers
-                .parse_expr(self.language, shared, frame, deeper)?;
+            let item = self.readers.parse_expr(self.engine, shared, frame, deeper)?;
             items.push(item)?;
-            if !list_continues(self.language.alloc(), shared.input, CommaList::Array)? {
+            if !list_continues(self.engine.alloc(), shared.input, CommaList::Array)? {
                 return Ok(items);
             }
         }
@@ -76,26 +69,24 @@ impl<R: LentReaders> Reader<'_, R> {
         frame: &Frame<'_>,
         settings: ParseSettings,
     ) -> ParseResult<Vec<(Ident, Expr)>>
-        requires lent { Covers (R.lent self.now.readers) (fields self.now.language.now frame.now settings
+        requires lent { Covers (R.lent self.now.readers) (fields self.now.engine.now frame.now settings
             no_properties) shared.old }
         ensures goes_on { GoesOn shared.old shared.new }
-        ensures stays { Stays self.now.language.now frame.now settings 0 shared.old shared.new }
-        ensures reads { Reads (fields self.now.language.now frame.now settings no_properties) properties_of shared.old
+        ensures stays { Stays self.now.engine.now frame.now settings 0 shared.old shared.new }
+        ensures reads { Reads (fields self.now.engine.now frame.now settings no_properties) properties_of shared.old
             result
             shared.new }
     {
-        let mut properties = NamedList::new(self.language.alloc());
+        let mut properties = NamedList::new(self.engine.alloc());
         loop {
-            let next = next_key(self.language, shared, settings, &properties)?;
+            let next = next_key(self.engine, shared, settings, &properties)?;
             let Some(key) = next else {
                 return Ok(properties.into_items());
             };
             let deeper = settings.level_up()?;
-            let value = self
-                .readers
-                .parse_expr(self.language, shared, frame, deeper)?;
-            properties.push(self.language.alloc(), (key, value))?;
-            if !list_continues(self.language.alloc(), shared.input, CommaList::Map)? {
+            let value = self.readers.parse_expr(self.engine, shared, frame, deeper)?;
+            properties.push(self.engine.alloc(), (key, value))?;
+            if !list_continues(self.engine.alloc(), shared.input, CommaList::Map)? {
                 return Ok(properties.into_items());
             }
         }
@@ -111,25 +102,25 @@ impl<R: LentReaders> Reader<'_, R> {
         settings: ParseSettings,
         first: RcStr,
     ) -> ParseResult<Vec<Expr>>
-        requires lent { Covers (R.lent self.now.readers) (segments self.now.language.now frame.now settings
+        requires lent { Covers (R.lent self.now.readers) (segments self.now.engine.now frame.now settings
             (added_text no_nodes (rc_str_bytes first) settings.pos)) shared.old }
         ensures goes_on { GoesOn shared.old shared.new }
-        ensures stays { Stays self.now.language.now frame.now settings 0 shared.old shared.new }
-        ensures reads { Reads (segments self.now.language.now frame.now settings
+        ensures stays { Stays self.now.engine.now frame.now settings 0 shared.old shared.new }
+        ensures reads { Reads (segments self.now.engine.now frame.now settings
             (added_text no_nodes (rc_str_bytes first)
             settings.pos)) views_of shared.old result shared.new }
     {
-        let mut segments = Vec::new(self.language.alloc());
+        let mut segments = Vec::new(self.engine.alloc());
         push_text(&mut segments, first, settings.pos)?;
         loop {
             let note = "to begin a block in this string";
-            let start = begin_block(self.language.alloc(), shared, note)?;
+            let start = begin_block(self.engine.alloc(), shared, note)?;
             let deeper = settings.level_up()?;
             let statements = nested!(shared, self.parse_block_inside(shared, frame, deeper))?;
-            let part = next_text(self.language.alloc(), shared)?;
+            let part = next_text(self.engine.alloc(), shared)?;
             let block = make_block(statements, start, part.end);
             push_segment(
-                self.language.alloc(),
+                self.engine.alloc(),
                 &mut segments,
                 block,
                 part.text,

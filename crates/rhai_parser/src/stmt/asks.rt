@@ -15,7 +15,7 @@ ghost use Rattle.rhai_reading.specs.Running.{Caller, Gives, Progress, exec};
 ghost use Rattle.rhai_parser.specs.Readers.{GoesOn, Reads, name_view, var_name};
 ghost use Rattle.rhai_parser.specs.Rooms.{Steady};
 
-use crate::language::Language;
+use crate::engine::Engine;
 use crate::shared::Shared;
 use rhai_base::leaves::statements::parse_var_name;
 use rhai_base::leaves::tokens::what_begins;
@@ -30,17 +30,17 @@ use std::rc::RcStr;
 /// The name of a definition, which is taken, with its position. Without shadowing, a name that a slot has is refused.
 #[tactic(auto, using(rhai_reading::proofs::Steps::step_var_name))]
 pub(crate) fn next_var_name(
-    language: &Language,
+    engine: &Engine,
     shared: &mut Shared<'_>,
     frame: &Frame<'_>,
     settings: ParseSettings,
 ) -> ParseResult<(RcStr, Position)>
     ensures goes_on { GoesOn shared.old shared.new }
     ensures steady { Steady shared.old shared.new }
-    ensures reads { Reads (var_name language.now frame.now settings) name_view shared.old result shared.new }
+    ensures reads { Reads (var_name engine.now frame.now settings) name_view shared.old result shared.new }
 {
     let (name, pos) = parse_var_name(shared.input)?;
-    frame.test_name(language.allow_shadowing(), &name, pos)?;
+    frame.test_name(engine.allow_shadowing(), &name, pos)?;
     Ok((name, pos))
 }
 

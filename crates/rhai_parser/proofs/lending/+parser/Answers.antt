@@ -10,18 +10,18 @@ falls is below same = omega (arith, is, below, same)
 
 pub parse_chain-parse_chain-requires : goal.parse_chain-parse_chain-requires
 parse_chain-parse_chain-requires t c =
-    let same = ap (need (expression c.args.language.now c.args.frame.now c.args.settings)) c.nested-enter.ensures.enters ∙ c.decreases in record {
+    let same = ap (need (expression c.args.engine.now c.args.frame.now c.args.settings)) c.nested-enter.ensures.enters ∙ c.decreases in record {
       lent = λ m below. (
-        λ language shared frame settings is. ((falls is below same, tt), λ result after told. told.1),
-        λ language shared frame settings is. ((falls is below same, tt), λ result after after_frame told. told.1),
+        λ engine shared frame settings is. ((falls is below same, tt), λ result after told. told.1),
+        λ engine shared frame settings is. ((falls is below same, tt), λ result after after_frame told. told.1),
       );
     }
 
 pub parse_stmt-parse_stmt-requires : goal.parse_stmt-parse_stmt-requires
 parse_stmt-parse_stmt-requires t c =
-    let same = ap (need (statement c.args.language.now c.args.frame.now c.args.settings)) c.nested-enter.ensures.enters ∙ c.decreases in record {
+    let same = ap (need (statement c.args.engine.now c.args.frame.now c.args.settings)) c.nested-enter.ensures.enters ∙ c.decreases in record {
       lent = λ m below. (
-        λ language shared frame settings is. ((falls is below same, tt), λ result after told. told.1),
-        λ language shared frame settings is. ((falls is below same, tt), λ result after after_frame told. told.1),
+        λ engine shared frame settings is. ((falls is below same, tt), λ result after told. told.1),
+        λ engine shared frame settings is. ((falls is below same, tt), λ result after after_frame told. told.1),
       );
     }

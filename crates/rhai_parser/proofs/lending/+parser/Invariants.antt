@@ -3,7 +3,7 @@ use Rattle.rhai_parser.specs.Readers.{expression, state_of, statement}
 use Rattle.rhai_parser.proofs.lending.+parser.Given as goal
 
 abbrev pub decreases-parse_chain : goal.decreases-parse_chain
-decreases-parse_chain l = need (expression l.language.now l.frame.now l.settings) (state_of l.shared.now)
+decreases-parse_chain l = need (expression l.engine.now l.frame.now l.settings) (state_of l.shared.now)
 
 abbrev pub decreases-parse_stmt : goal.decreases-parse_stmt
-decreases-parse_stmt l = need (statement l.language.now l.frame.now l.settings) (state_of l.shared.now)
+decreases-parse_stmt l = need (statement l.engine.now l.frame.now l.settings) (state_of l.shared.now)

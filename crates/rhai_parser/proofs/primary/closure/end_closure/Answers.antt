@@ -20,10 +20,10 @@ use Rattle.rhai_parser.proofs.ClosureLemmas.{added, not_added}
 use Rattle.rhai_parser.proofs.primary.closure.end_closure.Goals as goal
 
 pub returns-clause-gives : goal.returns-clause-gives
-returns-clause-gives c = λ language call.
+returns-clause-gives c = λ engine call.
     let us = uses_of c.args.captured.items in
     let w = live_of c.args.frame.now in
-    let context = context_of language c.args.frame.now c.args.settings in
+    let context = context_of engine c.args.frame.now c.args.settings in
     let at = c.args.settings.pos in
     let s = state_of c.args.shared.now in
     let t = state_of c.use_captured.new.shared in
@@ -39,15 +39,15 @@ returns-clause-gives c = λ language call.
     let new : is_new e.key t.library ≡ true = ap (λ (f : Ended). is_new f.key t.library) (sym is) ∙ search rules in
     let k = Know (closure_added at e x) in
     let uses : exec call (captured_on us context w k) s ≡ exec call k t =
-    ap (λ xs. exec call (captured_on (uses_of xs) context w k) s) (sym c.deref.ensures.value) ∙ c.in_ok-use_captured.ensures.uses language call k in
+    ap (λ xs. exec call (captured_on (uses_of xs) context w k) s) (sym c.deref.ensures.value) ∙ c.in_ok-use_captured.ensures.uses engine call k in
     uses ∙ added call at e x t new ∙ ap (λ y. Done y (adding e t)) (sym value ∙ sym c.from_value.ensures)
     ∙ ap (λ l. Done (chain_view c.from_value.result) (record t { library = l })) (ap (with_ended t.library) (sym is) ∙ sym c.in_ok-add.ensures.ok)
 
 pub returns-then-has-clause-gives : goal.returns-then-has-clause-gives
-returns-then-has-clause-gives c = λ language call.
+returns-then-has-clause-gives c = λ engine call.
     let us = uses_of c.args.captured.items in
     let w = live_of c.args.frame.now in
-    let context = context_of language c.args.frame.now c.args.settings in
+    let context = context_of engine c.args.frame.now c.args.settings in
     let at = c.args.settings.pos in
     let s = state_of c.args.shared.now in
     let t = state_of c.use_captured.new.shared in
@@ -61,7 +61,7 @@ returns-then-has-clause-gives c = λ language call.
     let copy : rc_str_bytes c.in_ok-key.key.name ≡ rc_str_bytes c.in_ok-clone-2.field-0 = search rules in
     let k = Know (closure_added at e x) in
     let uses : exec call (captured_on us context w k) s ≡ exec call k t =
-    ap (λ xs. exec call (captured_on (uses_of xs) context w k) s) (sym c.deref.ensures.value) ∙ c.in_ok-use_captured.ensures.uses language call k in (
+    ap (λ xs. exec call (captured_on (uses_of xs) context w k) s) (sym c.deref.ensures.value) ∙ c.in_ok-use_captured.ensures.uses engine call k in (
       λ told. uses ∙ not_added call at e x t there ∙ ap (λ (f : Ended). Refused (duplicate_of f.key at) t) (sym is)
           ∙ ap (λ n. Refused (refusal (cause.FnDuplicatedDefinition n c.in_ok-key.key.params) at) t) copy,
       search rules,

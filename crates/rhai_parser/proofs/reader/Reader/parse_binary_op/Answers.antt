@@ -9,6 +9,6 @@ use Rattle.rhai_parser.proofs.reader.Reader.parse_binary_op.Goals as goal
 
 pub returns-clause-reads : goal.returns-clause-reads
 returns-clause-reads g c =
-    let goal = binary_op c.args.self.now.language.now c.args.frame.now c.args.settings (position_of (chain_view c.args.lhs)) c.args.parent (chain_view c.args.lhs) in
+    let goal = binary_op c.args.self.now.engine.now c.args.frame.now c.args.settings (position_of (chain_view c.args.lhs)) c.args.parent (chain_view c.args.lhs) in
     gives_so chain_view c.parse_run.result (state_of c.parse_run.new.shared)
     (sym (binary_looked _ _ _ _ _ (state_of c.args.shared.now)) ∙ ap (result_of goal) (grind arith)) c.parse_run.ensures.reads

@@ -16,23 +16,23 @@ use Rattle.rhai_parser.proofs.reader.Reader.parse_closure.Goals as goal
 pub returns-in_err-names-clause-reads : goal.returns-in_err-names-clause-reads
 returns-in_err-names-clause-reads g c =
     let p = err_from_is_err_and c.from_residual-in_err-names.result c.from_residual-in_err-names.ensures.1 in
-    rw (p.1, p.2) (parameters_fail (context_of c.args.self.now.language.now c.args.frame.now c.args.settings) (live_of c.args.frame.now) c.args.settings.pos c.args.bars
+    rw (p.1, p.2) (parameters_fail (context_of c.args.self.now.engine.now c.args.frame.now c.args.settings) (live_of c.args.frame.now) c.args.settings.pos c.args.bars
     (state_of c.args.shared.now) (search rules) _ (state_of c.next_closure_parameters.new.shared) c.in_err-names.ensures.gives)
 
 pub returns-in_err-body-clause-reads : goal.returns-in_err-body-clause-reads
 returns-in_err-body-clause-reads g c =
     let p = err_from_is_err_and c.from_residual-in_err-body.result c.from_residual-in_err-body.ensures.1 in
-    let language = c.args.self.now.language.now in
-    let context = context_of language c.args.frame.now c.args.settings in
+    let engine = c.args.self.now.engine.now in
+    let context = context_of engine c.args.frame.now c.args.settings in
     let w = live_of c.args.frame.now in
     let frame = c.declare_parameters.new.frame in
-    let inside = context_of language frame c.in_ok-deeper.deeper in
+    let inside = context_of engine frame c.in_ok-deeper.deeper in
     let names = names_of c.in_ok-names.names in
     let begun : Begun context w c.args.settings.pos c.args.bars inside (live_of frame) names (state_of c.args.shared.now) (state_of c.next_closure_parameters.new.shared) = record {
       fits = search rules;
       parameters = c.in_ok-names.ensures.gives;
       room = search rules;
-      context = context_inside language c.args.frame.now frame c.args.settings c.in_ok-deeper.deeper (search rules) (search rules) (search rules) (search rules);
+      context = context_inside engine c.args.frame.now frame c.args.settings c.in_ok-deeper.deeper (search rules) (search rules) (search rules) (search rules);
       live = search rules;
       shorter = c.in_ok-names.ensures.goes_on.shorter;
     } in
@@ -41,11 +41,11 @@ returns-in_err-body-clause-reads g c =
 
 pub returns-clause-reads : goal.returns-clause-reads
 returns-clause-reads g c =
-    let language = c.args.self.now.language.now in
-    let context = context_of language c.args.frame.now c.args.settings in
+    let engine = c.args.self.now.engine.now in
+    let context = context_of engine c.args.frame.now c.args.settings in
     let w = live_of c.args.frame.now in
     let frame = c.declare_parameters.new.frame in
-    let inside = context_of language frame c.in_ok-deeper.deeper in
+    let inside = context_of engine frame c.in_ok-deeper.deeper in
     let names = names_of c.in_ok-names.names in
     let s = state_of c.args.shared.now in
     let t = state_of c.next_closure_parameters.new.shared in
@@ -54,7 +54,7 @@ returns-clause-reads g c =
       fits = search rules;
       parameters = c.in_ok-names.ensures.gives;
       room = search rules;
-      context = context_inside language c.args.frame.now frame c.args.settings c.in_ok-deeper.deeper (search rules) (search rules) (search rules) (search rules);
+      context = context_inside engine c.args.frame.now frame c.args.settings c.in_ok-deeper.deeper (search rules) (search rules) (search rules) (search rules);
       live = search rules;
       shorter = c.in_ok-names.ensures.goes_on.shorter;
     } in
@@ -64,11 +64,11 @@ returns-clause-reads g c =
     (ends_gives chain_view context w c.args.settings.pos c.args.bars names s t (statement_view c.in_ok-body.body) u
     (uses_of c.end_apart-captured.result.items) (state_of c.end_apart-captured.new.self) c.end_closure.result (state_of c.end_closure.new.shared)
     c.end_apart-captured.ensures.captured (c.end_apart-captured.ensures.back ∙ ap (λ us. with_captured us u) c.begin_apart-outer.ensures.outer)
-    (c.end_closure.ensures.gives language (guarded (Closure context w c.args.settings.pos c.args.bars) s)))
+    (c.end_closure.ensures.gives engine (guarded (Closure context w c.args.settings.pos c.args.bars) s)))
 
 pub returns-in_err-body-clause-stays : goal.returns-in_err-body-clause-stays
 returns-in_err-body-clause-stays g c =
-    let limit = c.args.self.now.language.now.max_functions in
+    let limit = c.args.self.now.engine.now.max_functions in
     let begun = c.args.frame.now.begun in
     record {
       nesting = grind (arith, no_function);
@@ -79,7 +79,7 @@ returns-in_err-body-clause-stays g c =
 
 pub returns-clause-stays : goal.returns-clause-stays
 returns-clause-stays g c =
-    let limit = c.args.self.now.language.now.max_functions in
+    let limit = c.args.self.now.engine.now.max_functions in
     let begun = c.args.frame.now.begun in
     record {
       nesting = grind (arith, no_function);

@@ -12,20 +12,20 @@ use Rattle.rhai_parser.proofs.reader.Reader.parse_documented_fn.Goals as goal
 
 pub returns-in-Function-clause-stays : goal.returns-in-Function-clause-stays
 returns-in-Function-clause-stays g c =
-    let same = room_same c.args.self.now.language.now c.at-settings.result c.args.settings c.at-settings.ensures.settings in
+    let same = room_same c.args.self.now.engine.now c.at-settings.result c.args.settings c.at-settings.ensures.settings in
     record { nesting = grind (arith, same); library = grind arith }
 
 pub returns-in-Private-clause-stays : goal.returns-in-Private-clause-stays
 returns-in-Private-clause-stays g c =
-    let same = room_same c.args.self.now.language.now c.at-settings.result c.args.settings c.at-settings.ensures.settings in
+    let same = room_same c.args.self.now.engine.now c.at-settings.result c.args.settings c.at-settings.ensures.settings in
     record { nesting = grind (arith, same); library = grind arith }
 
 pub returns-in-Function-clause-reads : goal.returns-in-Function-clause-reads
 returns-in-Function-clause-reads g c = λ h s within.
-    let language = c.args.self.now.language.now in
+    let engine = c.args.self.now.engine.now in
     let frame = c.args.frame.now in
-    let context = context_of language frame c.args.settings in
-    let inside = context_of language frame c.at-settings.result in
+    let context = context_of engine frame c.args.settings in
+    let inside = context_of engine frame c.at-settings.result in
     let first = comment_of c.in_ok-comment.comment in
     let comments = comments_of c.deref.result.now in
     let old = state_of c.args.shared.now in

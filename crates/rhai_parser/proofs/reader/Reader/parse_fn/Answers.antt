@@ -16,13 +16,13 @@ use Rattle.rhai_parser.proofs.reader.Reader.parse_fn.Goals as goal
 pub returns-in_err-key-clause-reads : goal.returns-in_err-key-clause-reads
 returns-in_err-key-clause-reads g c =
     let p = err_from_is_err_and c.from_residual-in_err-key.result c.from_residual-in_err-key.ensures.1 in
-    let context = context_of c.args.self.now.language.now c.args.frame.now c.args.settings in
-    let inside = context_of c.args.self.now.language.now c.in_function-inner.result c.in_ok-deeper.deeper in
+    let context = context_of c.args.self.now.engine.now c.args.frame.now c.args.settings in
+    let inside = context_of c.args.self.now.engine.now c.in_function-inner.result c.in_ok-deeper.deeper in
     let begun : Begun context (live_of c.args.frame.now) c.args.settings.pos inside c.in_ok-deeper.deeper.pos (state_of c.args.shared.now) = record {
       global = search rules;
       fits = search rules;
       room = search rules;
-      context = context_inside c.args.self.now.language.now c.args.frame.now c.in_function-inner.result c.args.settings c.in_ok-deeper.deeper (search rules) (search rules) (search rules) (search rules);
+      context = context_inside c.args.self.now.engine.now c.args.frame.now c.in_function-inner.result c.args.settings c.in_ok-deeper.deeper (search rules) (search rules) (search rules) (search rules);
       stands = search rules;
     } in
     rw (p.1, p.2) (function_fails context (live_of c.args.frame.now) (comments_of c.args.comments.now) c.args.first c.args.settings.pos c.args.private inside c.in_ok-deeper.deeper.pos (state_of c.args.shared.now) begun
@@ -30,13 +30,13 @@ returns-in_err-key-clause-reads g c =
 
 pub returns-clause-reads : goal.returns-clause-reads
 returns-clause-reads g c =
-    let context = context_of c.args.self.now.language.now c.args.frame.now c.args.settings in
-    let inside = context_of c.args.self.now.language.now c.in_function-inner.result c.in_ok-deeper.deeper in
+    let context = context_of c.args.self.now.engine.now c.args.frame.now c.args.settings in
+    let inside = context_of c.args.self.now.engine.now c.in_function-inner.result c.in_ok-deeper.deeper in
     let begun : Begun context (live_of c.args.frame.now) c.args.settings.pos inside c.in_ok-deeper.deeper.pos (state_of c.args.shared.now) = record {
       global = search rules;
       fits = search rules;
       room = search rules;
-      context = context_inside c.args.self.now.language.now c.args.frame.now c.in_function-inner.result c.args.settings c.in_ok-deeper.deeper (search rules) (search rules) (search rules) (search rules);
+      context = context_inside c.args.self.now.engine.now c.args.frame.now c.in_function-inner.result c.args.settings c.in_ok-deeper.deeper (search rules) (search rules) (search rules) (search rules);
       stands = search rules;
     } in
     let call = guarded (FunctionStatement context (live_of c.args.frame.now) (comments_of c.args.comments.now) c.args.first c.args.settings.pos c.args.private) (state_of c.args.shared.now) in
@@ -46,7 +46,7 @@ returns-clause-reads g c =
 
 pub returns-in_err-key-clause-stays : goal.returns-in_err-key-clause-stays
 returns-in_err-key-clause-stays g c =
-    let limit = c.args.self.now.language.now.max_functions in
+    let limit = c.args.self.now.engine.now.max_functions in
     let begun = c.args.frame.now.begun in
     record {
       nesting = grind (arith, rule.rooms);
@@ -57,7 +57,7 @@ returns-in_err-key-clause-stays g c =
 
 pub returns-clause-stays : goal.returns-clause-stays
 returns-clause-stays g c =
-    let limit = c.args.self.now.language.now.max_functions in
+    let limit = c.args.self.now.engine.now.max_functions in
     let begun = c.args.frame.now.begun in
     let ends = c.end_function.ensures.ends c.in_ok-key.ensures.named in
     record {

@@ -8,5 +8,5 @@ use Rattle.rhai_parser.proofs.ConstructReaders as rule
 
 pub returns-clause-reads : goal.returns-clause-reads
 returns-clause-reads g c =
-    let call = guarded (guard c.args.self.now.language.now c.args.frame.now c.args.settings) (state_of c.args.shared.now) in
+    let call = guarded (guard c.args.self.now.engine.now c.args.frame.now c.args.settings) (state_of c.args.shared.now) in
     gives_so view c.end_guard.result (state_of c.end_guard.new.shared) (grind (arith, rule.parse_guard)) (c.end_guard.ensures.gives call)

@@ -10,9 +10,9 @@ use Rattle.rhai_parser.proofs.reader.Reader.parse_interpolated_string.Given as g
 
 abbrev pub invariant-loop-segments : goal.invariant-loop-segments
 invariant-loop-segments g l = record {
-  same : result_of (segments l.fn.self.language.now l.fn.frame l.fn.settings (added_text no_nodes (rc_str_bytes l.fn.first) l.fn.settings.pos)) (state_of l.fn.shared) ≡ result_of (segments l.self.language.now l.frame l.settings (views_of l.segments)) (state_of l.shared);
+  same : result_of (segments l.fn.self.engine.now l.fn.frame l.fn.settings (added_text no_nodes (rc_str_bytes l.fn.first) l.fn.settings.pos)) (state_of l.fn.shared) ≡ result_of (segments l.self.engine.now l.frame l.settings (views_of l.segments)) (state_of l.shared);
   goes_on : GoesOn l.fn.shared l.shared;
-  stays : Stays l.self.language.now l.frame l.settings 0 l.fn.shared l.shared;
+  stays : Stays l.self.engine.now l.frame l.settings 0 l.fn.shared l.shared;
 }
 
 abbrev pub decreases-loop-segments : goal.decreases-loop-segments

@@ -8,5 +8,5 @@ use Rattle.rhai_parser.proofs.ConstructReaders as rule
 
 pub returns-clause-reads : goal.returns-clause-reads
 returns-clause-reads g c =
-    let call = guarded (iterated c.args.self.now.language.now c.args.frame.now c.args.settings) (state_of c.args.shared.now) in
+    let call = guarded (iterated c.args.self.now.engine.now c.args.frame.now c.args.settings) (state_of c.args.shared.now) in
     gives_so view c.end_iterated.result (state_of c.parse_expr.new.shared) (grind (arith, rule.parse_iterated)) (c.end_iterated.ensures.gives call _)

@@ -28,10 +28,10 @@ returns-in_ok-excluded-in-Name-clause-reads g c =
       readable_on = search rules;
       look_on = search rules;
     } in
-    let context = context_of c.args.self.now.language.now c.args.frame.now c.args.settings in
+    let context = context_of c.args.self.now.engine.now c.args.frame.now c.args.settings in
     let live = live_of c.args.frame.now in
     gives_so chain_view c.used_name.result (state_of c.used_name.new.shared) (named context live h)
-    (c.used_name.ensures.gives c.args.self.now.language.now (guarded (Primary context live) (state_of c.args.shared.now)) _ h.is_so)
+    (c.used_name.ensures.gives c.args.self.now.engine.now (guarded (Primary context live) (state_of c.args.shared.now)) _ h.is_so)
 
 pub returns-in_ok-called-in-Word-clause-reads : goal.returns-in_ok-called-in-Word-clause-reads
 returns-in_ok-called-in-Word-clause-reads g c =
@@ -50,7 +50,7 @@ returns-in_ok-called-in-Word-clause-reads g c =
 
 pub returns-in-Group-clause-reads : goal.returns-in-Group-clause-reads
 returns-in-Group-clause-reads g c =
-    let context = context_of c.args.self.now.language.now c.args.frame.now c.args.settings in
+    let context = context_of c.args.self.now.engine.now c.args.frame.now c.args.settings in
     let live = live_of c.args.frame.now in
     gives_so chain_view c.parse_compound.result (state_of c.parse_compound.new.shared)
     (sym (looked (Primary context live) _ (state_of c.args.shared.now) refl) ∙ ap (result_of (Primary context live)) (grind arith)) c.parse_compound.ensures.reads

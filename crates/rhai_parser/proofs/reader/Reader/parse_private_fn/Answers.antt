@@ -20,16 +20,16 @@ returns-in_err-match_token-clause-reads g c = λ h s within.
 
 pub returns-clause-reads : goal.returns-clause-reads
 returns-clause-reads g c = λ h s within.
-    let language = c.args.self.now.language.now in
+    let engine = c.args.self.now.engine.now in
     let frame = c.args.frame.now in
     let comments = comments_of c.args.comments.now in
-    let read = result_of (function_statement language frame c.at-inner.result comments c.args.settings.pos true) in
+    let read = result_of (function_statement engine frame c.at-inner.result comments c.args.settings.pos true) in
     let from = state_at c.args.shared.now (cursor_of c.match_token.new.input) in
-    let same : exec (guarded h s) (private_on (context_of language frame c.args.settings) (live_of frame) comments c.args.settings.pos) (state_of c.args.shared.now) ≡ nested read from = grind (arith, rule.parse_private_fn) in
+    let same : exec (guarded h s) (private_on (context_of engine frame c.args.settings) (live_of frame) comments c.args.settings.pos) (state_of c.args.shared.now) ≡ nested read from = grind (arith, rule.parse_private_fn) in
     let given = nested_gives (with_live statement_view frame) read from _ _ _ c.parse_fn.result c.nested-enter.ensures.enters c.parse_fn.ensures.reads c.nested-leave.ensures.leaves in
     gives_so (with_live statement_view frame) c.parse_fn.result (state_of c.nested-leave.new.self) same given
 
 pub returns-clause-stays : goal.returns-clause-stays
 returns-clause-stays g c =
-    let same = room_same c.args.self.now.language.now c.at-inner.result c.args.settings c.at-inner.ensures.settings in
+    let same = room_same c.args.self.now.engine.now c.at-inner.result c.args.settings c.at-inner.ensures.settings in
     record { nesting = grind (arith, same); library = grind arith }

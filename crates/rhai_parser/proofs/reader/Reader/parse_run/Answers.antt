@@ -23,15 +23,15 @@ loop-pending-init g c = record {
 pub returns-in_err-operator-clause-reads : goal.returns-in_err-operator-clause-reads
 returns-in_err-operator-clause-reads g c =
     let p = err_from_is_err_and c.from_residual.result c.from_residual.ensures.1 in
-    let h = c.in_err-operator.ensures.refused (context_of c.args.self.now.language.now c.args.frame.now c.loop-pending.run.settings) (live_of c.args.frame.now) c.loop-pending.run.settings.pos (chain_view c.loop-pending.run.lhs) (sym c.filter.ensures) in
+    let h = c.in_err-operator.ensures.refused (context_of c.args.self.now.engine.now c.args.frame.now c.loop-pending.run.settings) (live_of c.args.frame.now) c.loop-pending.run.settings.pos (chain_view c.loop-pending.run.lhs) (sym c.filter.ensures) in
     rw (p.1, p.2) (λ told. awaits_refused c.loop-pending.invariant.awaits (h.0 told), h.1)
 
 -- an operator goes on with the run
-found : (g : _) (c : In-Some g) → result_of (binary_op c.args.self.now.language.now c.args.frame.now c.loop-pending.run.settings c.loop-pending.run.settings.pos c.loop-pending.run.parent (chain_view c.loop-pending.run.lhs)) (state_of c.loop-pending.shared)
-    ≡ exec (guarded (binary_op c.args.self.now.language.now c.args.frame.now c.loop-pending.run.settings c.loop-pending.run.settings.pos c.loop-pending.run.parent (chain_view c.loop-pending.run.lhs)) (state_of c.loop-pending.shared))
-    (Peek (binary_on (context_of c.args.self.now.language.now c.args.frame.now c.loop-pending.run.settings) (live_of c.args.frame.now) c.loop-pending.run.settings.pos c.loop-pending.run.parent (chain_view c.loop-pending.run.lhs) c.in-Some.operator.strength)) (state_of c.next_in_run.new.shared)
+found : (g : _) (c : In-Some g) → result_of (binary_op c.args.self.now.engine.now c.args.frame.now c.loop-pending.run.settings c.loop-pending.run.settings.pos c.loop-pending.run.parent (chain_view c.loop-pending.run.lhs)) (state_of c.loop-pending.shared)
+    ≡ exec (guarded (binary_op c.args.self.now.engine.now c.args.frame.now c.loop-pending.run.settings c.loop-pending.run.settings.pos c.loop-pending.run.parent (chain_view c.loop-pending.run.lhs)) (state_of c.loop-pending.shared))
+    (Peek (binary_on (context_of c.args.self.now.engine.now c.args.frame.now c.loop-pending.run.settings) (live_of c.args.frame.now) c.loop-pending.run.settings.pos c.loop-pending.run.parent (chain_view c.loop-pending.run.lhs) c.in-Some.operator.strength)) (state_of c.next_in_run.new.shared)
 found g c =
-    let k = context_of c.args.self.now.language.now c.args.frame.now c.loop-pending.run.settings in
+    let k = context_of c.args.self.now.engine.now c.args.frame.now c.loop-pending.run.settings in
     let w = live_of c.args.frame.now in
     let at = c.loop-pending.run.settings.pos in
     let lhs = chain_view c.loop-pending.run.lhs in
@@ -39,10 +39,10 @@ found g c =
     ∙ ap (λ o. exec (guarded (BinaryOp k w at c.loop-pending.run.parent lhs) (state_of c.loop-pending.shared)) (run_at k w at c.loop-pending.run.parent lhs o) (state_of c.next_in_run.new.shared)) c.in-Some.is
 
 -- none does
-ended : (g : _) (c : In_default g) → result_of (binary_op c.args.self.now.language.now c.args.frame.now c.loop-pending.run.settings c.loop-pending.run.settings.pos c.loop-pending.run.parent (chain_view c.loop-pending.run.lhs)) (state_of c.loop-pending.shared)
+ended : (g : _) (c : In_default g) → result_of (binary_op c.args.self.now.engine.now c.args.frame.now c.loop-pending.run.settings c.loop-pending.run.settings.pos c.loop-pending.run.parent (chain_view c.loop-pending.run.lhs)) (state_of c.loop-pending.shared)
     ≡ Done (chain_view c.loop-pending.run.lhs) (state_of c.next_in_run.new.shared)
 ended g c =
-    let k = context_of c.args.self.now.language.now c.args.frame.now c.loop-pending.run.settings in
+    let k = context_of c.args.self.now.engine.now c.args.frame.now c.loop-pending.run.settings in
     let w = live_of c.args.frame.now in
     let at = c.loop-pending.run.settings.pos in
     let lhs = chain_view c.loop-pending.run.lhs in
@@ -53,7 +53,7 @@ ended g c =
 pub returns-in_err-outer-clause-reads : goal.returns-in_err-outer-clause-reads
 returns-in_err-outer-clause-reads g c =
     let p = err_from_is_err_and c.from_residual-in_err-outer.result c.from_residual-in_err-outer.ensures.1 in
-    let read = c.in_err-outer.ensures.reads (binary_op c.args.self.now.language.now c.args.frame.now c.loop-pending.run.settings c.loop-pending.run.settings.pos c.loop-pending.run.parent (chain_view c.loop-pending.run.lhs)) (state_of c.loop-pending.shared) c.in_ok-operator.ensures.goes_on.shorter in
+    let read = c.in_err-outer.ensures.reads (binary_op c.args.self.now.engine.now c.args.frame.now c.loop-pending.run.settings c.loop-pending.run.settings.pos c.loop-pending.run.parent (chain_view c.loop-pending.run.lhs)) (state_of c.loop-pending.shared) c.in_ok-operator.ensures.goes_on.shorter in
     rw (p.1, p.2) (
       λ told. awaits_refused c.loop-pending.invariant.awaits (right_refused _ _ _ _ _ c.in-Some.operator.strength _ (state_of c.next_in_run.new.shared) _ _ (found g (goal.at.returns-in_err-outer-clause-reads g c).In-Some) (read.0 told)),
       read.1,
@@ -65,8 +65,8 @@ loop-pending-preserved-in-Some g c =
     let side = c.in_ok-outer.side in
     let around = c.in_ok-outer.ensures.around in
     let raised = c.in_ok-outer.ensures.side in
-    let k = binary_op c.args.self.now.language.now c.args.frame.now c.loop-pending.run.settings c.loop-pending.run.settings.pos c.loop-pending.run.parent (chain_view c.loop-pending.run.lhs) in
-    let h : Pushes c.args.self.now.language.now c.args.frame.now c.args.settings c.loop-pending.run.settings side.settings c.loop-pending.run.parent (chain_view c.loop-pending.run.lhs) c.in-Some.operator.strength (chain_view side.lhs) outer (state_of c.loop-pending.shared) (state_of c.next_in_run.new.shared) (state_of c.parse_operator.new.shared) = record {
+    let k = binary_op c.args.self.now.engine.now c.args.frame.now c.loop-pending.run.settings c.loop-pending.run.settings.pos c.loop-pending.run.parent (chain_view c.loop-pending.run.lhs) in
+    let h : Pushes c.args.self.now.engine.now c.args.frame.now c.args.settings c.loop-pending.run.settings side.settings c.loop-pending.run.parent (chain_view c.loop-pending.run.lhs) c.in-Some.operator.strength (chain_view side.lhs) outer (state_of c.loop-pending.shared) (state_of c.next_in_run.new.shared) (state_of c.parse_operator.new.shared) = record {
       found = found g (goal.at.loop-pending-preserved-in-Some g c).In-Some;
       reads = c.in_ok-outer.ensures.reads k (state_of c.loop-pending.shared) c.in_ok-operator.ensures.goes_on.shorter;
       short = omega (arith, c.in_ok-outer.ensures.shorter, c.in_ok-operator.ensures.goes_on.shorter);

@@ -11,11 +11,11 @@ use Rattle.rhai_parser.proofs.reader.Reader.parse_run.Given as goal
 
 abbrev pub invariant-loop-pending : goal.invariant-loop-pending
 invariant-loop-pending g l = record {
-  awaits : Awaits l.self.language.now l.frame l.fn.settings (left (state_of l.shared).cursor.tokens) l.pending.items
-      (result_of (binary_op l.fn.self.language.now l.fn.frame l.fn.settings (position_of (chain_view l.fn.lhs)) l.fn.parent (chain_view l.fn.lhs)) (state_of l.fn.shared))
-      (result_of (binary_op l.self.language.now l.frame l.run.settings l.run.settings.pos l.run.parent (chain_view l.run.lhs)) (state_of l.shared));
+  awaits : Awaits l.self.engine.now l.frame l.fn.settings (left (state_of l.shared).cursor.tokens) l.pending.items
+      (result_of (binary_op l.fn.self.engine.now l.fn.frame l.fn.settings (position_of (chain_view l.fn.lhs)) l.fn.parent (chain_view l.fn.lhs)) (state_of l.fn.shared))
+      (result_of (binary_op l.self.engine.now l.frame l.run.settings l.run.settings.pos l.run.parent (chain_view l.run.lhs)) (state_of l.shared));
   goes_on : GoesOn l.fn.shared l.shared;
-  stays : Stays l.self.language.now l.frame l.fn.settings 5 l.fn.shared l.shared;
+  stays : Stays l.self.engine.now l.frame l.fn.settings 5 l.fn.shared l.shared;
   limit : l.run.settings.max_expr_depth ≡ l.fn.settings.max_expr_depth;
   less : 1 ≤ l.fn.settings.max_expr_depth → levels_left l.run.settings ≤ levels_left l.fn.settings;
 }

@@ -9,9 +9,9 @@ use Rattle.rhai_parser.proofs.reader.Reader.parse_statements.Given as goal
 
 abbrev pub invariant-loop-statements : goal.invariant-loop-statements
 invariant-loop-statements g l = record {
-  same : result_of (statements l.fn.self.language.now l.fn.frame l.fn.settings l.fn.closing no_statements) (state_of l.fn.shared) ≡ result_of (statements l.self.language.now l.frame l.settings l.closing (statements_of l.statements)) (state_of l.shared);
+  same : result_of (statements l.fn.self.engine.now l.fn.frame l.fn.settings l.fn.closing no_statements) (state_of l.fn.shared) ≡ result_of (statements l.self.engine.now l.frame l.settings l.closing (statements_of l.statements)) (state_of l.shared);
   goes_on : GoesOn l.fn.shared l.shared;
-  stays : Stays l.self.language.now l.fn.frame l.settings (2 + function_room l.self.language.now l.settings) l.fn.shared l.shared;
+  stays : Stays l.self.engine.now l.fn.frame l.settings (2 + function_room l.self.engine.now l.settings) l.fn.shared l.shared;
   place : SamePlace l.fn.frame l.frame;
 }
 
