@@ -1,12 +1,9 @@
 -- What a search from the latest slot or import has found so far.
-use Rattle.std.proofs.Common.{◌≡◌, ℕ, suc, zero, ◌+◌, ◌-◌, ◌<◌, ◌∙◌, Bool, true, false, not, ◌&&◌, ◌||◌, cond, List, [], ◌∷◌, Option, None, Some, unwrap_or, codes, length, map, get_or, drop, ap, sym, refl, arith}
+use Rattle.std.proofs.Common.{◌≡◌, ℕ, suc, zero, ◌+◌, ◌-◌, ◌<◌, ◌∙◌, Bool, true, false, not, ◌&&◌, ◌||◌, cond, List, [], ◌∷◌, Option, None, Some, unwrap_or, codes, length, map, drop, ap, sym, refl, arith}
 use Rattle.std.proofs.Math.Seq.{drop-cons}
 use Rattle.std.proofs.lemmas.List.{length-map}
 use Rattle.std.proofs.Common.{MatchOption, option_map}
 use Rattle.std.specs.Cmp.Lexicographic as texts
-use Rattle.std.specs.Rc.{rc_str_bytes}
-use Rattle.std.specs.declared.rc.RcStr.{RcStr}
-use Rattle.std.specs.declared.alloc.Global.{Global}
 use Rattle.std.specs.declared.num.NonZeroUsize.{NonZeroUsize}
 use Rattle.std.specs.List.{list_any}
 use Rattle.std.specs.Option.{option_or}
@@ -14,7 +11,6 @@ use Rattle.rhai_lower.specs.Texts.{Text, same_text}
 use Rattle.rhai_lower.specs.LatestNames.{latest_name}
 use Rattle.rhai_lower.specs.Slots.{SlotValue, slot_at, fresh_slot, latest}
 use Rattle.rhai_grammar.specs.Slots.{number, is_named, is_barrier, later_than, barrier_before}
-use Rattle.rhai_grammar.specs.Imports.{module_number}
 
 -- the slots from an index on: the one there, and those after it
 pub drop-slot : (slots : List SlotValue) (i k : ℕ) → k ≡ suc i → i < length slots → drop i slots ≡ slot_at slots i ∷ drop k slots
@@ -77,38 +73,6 @@ named-here name s h k = ap (λ b. b && not (is_barrier s)) h ∙ ap not k
 pub number-empty : (name : Text) → number name [] ≡ None
 unfolding number
 number-empty name = refl
-
--- the imports
-pub module-empty : (name : Text) → module_number name [] ≡ None
-unfolding module_number
-module-empty name = refl
-
-pub module-other : (name : Text) (imports : List Text) (i k : ℕ) → k ≡ suc i → i < length imports → same_text (get_or imports i []) name ≡ false → module_number name (drop k imports) ≡ None → module_number name (drop i imports) ≡ None
-unfolding module_number
-module-other name imports i k e l other none =
-    let split : drop i imports ≡ get_or imports i [] ∷ drop k imports = rw e (drop-cons imports i [] l) in
-    ap (module_number name) split
-    ∙ ap (λ o. option_or o (cond (same_text (get_or imports i []) name) (Some (length (drop k imports) + 1)) None)) none
-    ∙ ap (λ b. cond b (Some (length (drop k imports) + 1)) None) other
-
-pub module-here : (name : Text) (imports : List Text) (i : ℕ) → i < length imports → same_text (get_or imports i []) name ≡ true → module_number name (drop (suc i) imports) ≡ None → module_number name imports ≡ Some (length imports - i)
-unfolding module_number
-module-here name [] i l here none = absurd (omega arith)
-module-here name (t ∷ later) zero l here none =
-    let e : length later + 1 ≡ suc (length later) - 0 = omega arith in
-    ap (λ o. option_or o (cond (same_text t name) (Some (length later + 1)) None)) none
-    ∙ ap (λ b. cond b (Some (length later + 1)) None) here
-    ∙ ap Some e
-module-here name (t ∷ later) (suc i) l here none =
-    let e : length later - i ≡ suc (length later) - suc i = omega arith in
-    ap (λ o. option_or o (cond (same_text t name) (Some (length later + 1)) None)) (module-here name later i (omega arith) here none)
-    ∙ ap Some e
-
--- the text at an index of a list of texts
-pub text-at : (names : List (RcStr Global)) (i : ℕ) (x : RcStr Global) → i < length names → x ≡ get_or names i x → get_or (map rc_str_bytes names) i [] ≡ rc_str_bytes x
-text-at [] i x l e = absurd (omega arith)
-text-at (n ∷ names) zero x l e = ap rc_str_bytes (sym e)
-text-at (n ∷ names) (suc i) x l e = text-at names i x (omega arith) e
 
 -- a number that is not 0
 pub non-zero : (r : Option NonZeroUsize) (n : ℕ) → MatchOption r (n ≡ 0) (λ x. x.value ≡ n) → 0 < n → option_map (λ x. x.value) r ≡ Some n

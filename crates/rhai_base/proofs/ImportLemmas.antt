@@ -1,8 +1,11 @@
 -- The imports of a frame: those of the frames around it, and then its own.
-use Rattle.std.proofs.Common.{◌≡◌, ◌∙◌, ◌+◌, ◌-◌, ◌<◌, ◌≤◌, ◌++◌, ℕ, Bool, true, false, List, [], ◌∷◌, Option, Some, None, MatchOption, length, option_map, refl, sym, ap, arith, if◌then◌else◌}
-use Rattle.std.proofs.lemmas.List.{length-append}
+use Rattle.std.proofs.Common.{◌≡◌, ◌∙◌, ◌+◌, ◌-◌, ◌<◌, ◌≤◌, ◌++◌, ℕ, Bool, true, false, List, [], ◌∷◌, Option, Some, None, MatchOption, length, map, option_map, refl, sym, ap, arith, if◌then◌else◌}
+use Rattle.std.proofs.lemmas.List.{length-append, length-map}
 use Rattle.std.specs.Int.NonZero.{non_zero_usize_get}
 use Rattle.std.specs.Option.{option_or}
+use Rattle.std.specs.Rc.{rc_str_bytes}
+use Rattle.std.specs.declared.alloc.Global.{Global}
+use Rattle.std.specs.declared.rc.RcStr.{RcStr}
 use Rattle.std.specs.declared.num.NonZeroUsize.{NonZeroUsize}
 use Rattle.rhai_lower.specs.Texts.{Text, same_text}
 use Rattle.rhai_grammar.specs.Imports.{module_number}
@@ -64,12 +67,26 @@ module-latest name (t ∷ later) =
     ap (λ o. option_or o (if same_text t name then Some (length later + 1) else None)) (module-latest name later)
     ∙ number-step (latest_name name later) (same_text t name) (length later)
 
+-- no import of the name
+pub module-absent : (name : Text) (imports : List Text) → None ≡ latest_name name imports → module_number name imports ≡ None
+module-absent name imports e = module-latest name imports ∙ ap (option_map (λ i. length imports - i)) (sym e)
+
+-- the latest import is one of the imports
+pub import-below : (name : Text) (imports : List (RcStr Global)) (i : ℕ) → Some i ≡ latest_name name (map rc_str_bytes imports) → i < length imports
+import-below name imports i found =
+    let below = name-below name (map rc_str_bytes imports) i found in
+    let same = length-map imports rc_str_bytes in
+    omega (arith, below, same)
+
 -- the number of the latest import
-pub module-place : (r : Option NonZeroUsize) (name : Text) (imports : List Text) (len i : ℕ) → MatchOption r (len - i ≡ 0) (λ x. x.value ≡ len - i) → len ≡ length imports → Some i ≡ latest_name name imports → option_map non_zero_usize_get r ≡ module_number name imports
+pub module-place : (r : Option NonZeroUsize) (name : Text) (imports : List (RcStr Global)) (len i : ℕ) → MatchOption r (len - i ≡ 0) (λ x. x.value ≡ len - i) → len ≡ length imports → Some i ≡ latest_name name (map rc_str_bytes imports) → option_map non_zero_usize_get r ≡ module_number name (map rc_str_bytes imports)
 module-place r name imports len i m e found =
-    let below = name-below name imports i found in
+    let below = import-below name imports i found in
     let some : 0 < len - i = omega (arith, below, e) in
+    let all : len ≡ length (map rc_str_bytes imports) = e ∙ sym (length-map imports rc_str_bytes) in
     non-zero r (len - i) m some
-    ∙ ap (λ l. Some (l - i)) e
-    ∙ ap (option_map (λ i. length imports - i)) found
-    ∙ sym (module-latest name imports)
+    ∙ ap (λ l. Some (l - i)) all
+    ∙ ap (option_map (λ i. length (map rc_str_bytes imports) - i)) found
+    ∙ sym (module-latest name (map rc_str_bytes imports))
+
+pub ruleset imports = (module-absent, import-below)

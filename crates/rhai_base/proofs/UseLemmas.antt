@@ -1,7 +1,6 @@
 -- The names that a closure captures: one more.
 use Rattle.std.proofs.Common.{◌≡◌, false, List, [], ◌∷◌, ◌++◌, ap, length, map, ◌==◌, ◌∙◌, refl, sym}
 use Rattle.std.proofs.lemmas.List.{append-nil, map_push}
-use Rattle.std.specs.Rc.{rc_str_bytes}
 use Rattle.std.specs.declared.alloc.Global.{Global}
 use Rattle.std.specs.declared.rc.RcStr.{RcStr}
 use Rattle.rhai_lower.specs.declared.position.Position.{Position}

@@ -5,7 +5,6 @@ pub mod FlagNames
 pub mod Frames
 pub mod Index
 pub mod Libraries
-pub mod NamedLists
 pub mod Settings
 pub mod States
 pub mod Uses

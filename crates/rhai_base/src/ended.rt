@@ -8,7 +8,7 @@ ghost use Rattle.rhai_base.specs.Libraries.{Grows, ended, library_of};
 ghost use Rattle.rhai_base.specs.Settings.{too_many_functions};
 
 use crate::library::{FnLib, has_function};
-use crate::names::FnNames;
+use crate::library_index::LibraryIndex;
 use rhai_grammar::{FnKey, ParseError, ParseErrorType, ParseResult};
 use rhai_lower::{Position, ScriptFuncDef};
 use std::alloc::AllocError;
@@ -22,7 +22,7 @@ pub struct Library {
     // The functions by their keys.
     functions: FnLib,
     // The index of their names.
-    names: FnNames,
+    index: LibraryIndex,
 }
 
 impl Model for Library {
@@ -42,16 +42,16 @@ impl Model for Library {
 
     ghost view = { λ l. l.functions.entries };
 
-    ghost invariant = { λ l. Agrees l.names (keys_of l.functions.entries) };
+    ghost invariant = { λ l. Agrees l.index (keys_of l.functions.entries) };
 }
 
 impl Library {
     /// These functions, of which this is the index.
-    pub fn new(functions: FnLib, names: FnNames) -> Self
-        requires { Agrees names (keys_of functions.entries) }
+    pub fn new(functions: FnLib, index: LibraryIndex) -> Self
+        requires { Agrees index (keys_of functions.entries) }
         ensures { result ≡ functions.entries }
     {
-        Library { functions, names }
+        Library { functions, index }
     }
 
     /// The functions without the index.
@@ -66,7 +66,7 @@ impl Library {
     pub fn is_function(&self, name: &str) -> bool
         ensures { result ≡ is_function (library_of self.now) name.now }
     {
-        self.names.contains(name)
+        self.index.contains(name)
     }
 
     /// Whether a function has this key. Does not allocate.
@@ -106,7 +106,7 @@ impl Library {
     pub fn closure_count(&self) -> usize
         ensures { result ≡ closure_count (library_of self.now) }
     {
-        self.names.closure_count()
+        self.index.closure_count()
     }
 
     /// Appends a function. The caller has to prove that no function has its key yet. Returns `AllocError` if memory
@@ -118,6 +118,6 @@ impl Library {
         ensures err { OnErr result (self.new ≡ self.old) }
         ensures grows { Grows (library_of self.old) (library_of self.new) }
     {
-        self.names.add_function(&mut self.functions, key, function)
+        self.index.add_function(&mut self.functions, key, function)
     }
 }

@@ -19,12 +19,11 @@ ghost use Rattle.rhai_base.specs.Frames.{SamePlace, known_of};
 ghost use Rattle.rhai_base.specs.Libraries.{library_of};
 
 use crate::ended::Library;
-use crate::imports::Imports;
 use crate::known::Known;
-use crate::lookup::place_of;
+use crate::lookup::{import_place, place_of};
 use crate::slots::{define, export};
 use rhai_grammar::{ExprFilter, ParseError, ParseErrorType, ParseResult};
-use rhai_lower::{Position, Scope};
+use rhai_lower::{NamedList, Position, Scope};
 use std::alloc::{AllocError, Global};
 use std::marker::Model;
 use std::num::NonZeroUsize;
@@ -47,7 +46,7 @@ pub struct Frame<'p> {
     // The number of imports of all frames around this one.
     above: usize,
     // The imports of this block; in the outermost frame all imports.
-    imports: Imports,
+    imports: NamedList<RcStr>,
     // Which tokens the expressions in this block may contain.
     filter: ExprFilter,
     // What is known around the script.
@@ -57,7 +56,8 @@ pub struct Frame<'p> {
 }
 
 impl<'p> Model for Frame<'p> {
-    ghost use Rattle.std.specs.Prelude.{◌++◌, ◌+◌, length};
+    ghost use Rattle.std.specs.Prelude.{◌++◌, ◌+◌, length, map};
+    ghost use Rattle.std.specs.Rc.{rc_str_bytes};
     ghost use Rattle.rhai_base.specs.Frames.{FrameValue, IsCounted, known_of, outer_depth, outer_imports, outer_slots};
 
     ghost Value = { FrameValue };
@@ -66,7 +66,7 @@ impl<'p> Model for Frame<'p> {
       live = record {
         slots = outer_slots f.outer ++ f.stack;
         block = length (outer_slots f.outer) + f.block;
-        imports = outer_imports f.outer ++ f.imports;
+        imports = outer_imports f.outer ++ map rc_str_bytes f.imports;
       };
       depth = outer_depth f.outer;
       filter = f.filter;
@@ -74,7 +74,7 @@ impl<'p> Model for Frame<'p> {
       begun = f.begun;
     } };
 
-    ghost invariant = { λ f. IsCounted f.outer f.below f.stack f.above f.imports };
+    ghost invariant = { λ f. IsCounted f.outer f.below f.stack f.above (map rc_str_bytes f.imports) };
 
     ghost size = { λ v. v.depth };
 
@@ -111,7 +111,7 @@ impl<'p> Frame<'p> {
             stack,
             block,
             above,
-            imports: Imports::new(imports),
+            imports: NamedList::from_items(imports),
             filter,
             known,
             begun,
@@ -153,7 +153,7 @@ impl<'p> Frame<'p> {
             stack: Scope::new(alloc),
             block: 0,
             above: self.import_count(),
-            imports: Imports::new(Vec::new(alloc)),
+            imports: NamedList::new(alloc),
             filter,
             known: self.known,
             begun: self.begun,
@@ -201,7 +201,7 @@ impl<'p> Frame<'p> {
         if let Some(outer) = self.outer {
             outer.push_imports(all)?;
         }
-        push_names(all, self.imports.names())
+        push_names(all, self.imports.items())
     }
 
     /// How many functions and closures have begun around this frame. Does not allocate.
@@ -225,7 +225,7 @@ impl<'p> Frame<'p> {
         ensures slots { result.0 ≡ self.entry.live.slots }
         ensures imports { map rc_str_bytes result.1.items ≡ self.entry.live.imports }
     {
-        (self.stack, self.imports.into_names())
+        (self.stack, self.imports.into_items())
     }
 
     /// The number of the latest slot of the variable `name`, counted from 1 at the latest slot of all; none if no slot
@@ -338,7 +338,7 @@ impl<'p> Frame<'p> {
         let count = self.import_count();
         let mut frame = self;
         loop {
-            if let Some(place) = frame.imports.find(name) {
+            if let Some(place) = import_place(&frame.imports, name) {
                 return NonZeroUsize::new(count - frame.import_count() + place.get());
             }
             let Some(outer) = frame.outer else {

@@ -5,8 +5,7 @@ ghost use Rattle.rhai_lower.specs.Slots.{is_declared};
 ghost use Rattle.rhai_grammar.specs.Imports.{is_among};
 ghost use Rattle.rhai_base.specs.Frames.{known_of};
 
-use crate::named_list::is_named;
-use rhai_lower::Scope;
+use rhai_lower::{Scope, is_named};
 use std::rc::RcStr;
 
 /// What is known before a script defines or imports anything.

@@ -6,8 +6,7 @@ ghost use Rattle.rhai_lower.specs.View.{property_views, view};
 ghost use Rattle.rhai_grammar.specs.Beginnings.{value_of};
 ghost use Rattle.rhai_grammar.specs.Literals.{has_key};
 
-use crate::named_list::NamedList;
-use rhai_lower::{Expr, Ident, Position, Token};
+use rhai_lower::{Expr, Ident, NamedList, Position, Token};
 use std::alloc::AllocError;
 
 /// The node of a token at `pos` that is a value. The error is that there is no memory for it.
@@ -26,7 +25,6 @@ pub fn value_of(token: &Token, pos: Position) -> Result<Expr, AllocError>
 }
 
 /// Whether one of these properties has this key. Does not allocate. The time does not grow with the properties.
-#[tactic(auto, using(crate::proofs::LiteralLemmas::among_keys))]
 pub fn has_key(key: &str, properties: &NamedList<(Ident, Expr)>) -> bool
     ensures { result ≡ has_key key.now (property_views properties.now) }
 {

@@ -7,7 +7,7 @@ ghost use Rattle.rhai_grammar.specs.Slots.{number, barrier_before, IsLatest};
 ghost use Rattle.rhai_grammar.specs.Imports.{module_number};
 
 use crate::state::ParseState;
-use rhai_lower::Scope;
+use rhai_lower::{NamedList, Scope, find_latest};
 use std::num::NonZeroUsize;
 use std::rc::RcStr;
 
@@ -48,17 +48,24 @@ pub fn place_of(slots: &Scope, name: &str) -> Option<NonZeroUsize>
     NonZeroUsize::new(slots.len() - index)
 }
 
-/// The index of the latest import of this name, counted from 1 at the latest of all; none if no import has the name. It
-/// does not allocate.
-pub(crate) fn find_import(imports: &[RcStr], name: &str) -> Option<NonZeroUsize>
-    ensures { option_map (λ place. place.value) result ≡ module_number name.now (map rc_str_bytes imports.now) }
+/// The number of the latest import of this name, counted from 1 at the latest import of all; none if no import has the
+/// name. It does not allocate. Where one was added to many imports, the time does not grow with them.
+#[tactic(auto, using(crate::proofs::ImportLemmas::imports))]
+pub(crate) fn import_place(imports: &NamedList<RcStr>, name: &str) -> Option<NonZeroUsize>
+    ensures { option_map non_zero_usize_get result ≡ module_number name.now (map rc_str_bytes imports.now) }
 {
-    for i in (0..imports.len()).rev() {
-        if imports[i].as_str() == name {
-            return NonZeroUsize::new(imports.len() - i);
-        }
-    }
-    None
+    let index = imports.latest(name)?;
+    NonZeroUsize::new(imports.len() - index)
+}
+
+/// The number of the latest import of this name, as [`import_place`] gives it, by a walk from the latest import. It does
+/// not allocate.
+#[tactic(auto, using(crate::proofs::ImportLemmas::imports))]
+pub(crate) fn find_import(imports: &[RcStr], name: &str) -> Option<NonZeroUsize>
+    ensures { option_map non_zero_usize_get result ≡ module_number name.now (map rc_str_bytes imports.now) }
+{
+    let index = find_latest(imports, name)?;
+    NonZeroUsize::new(imports.len() - index)
 }
 
 impl<'a, 't, 'f> ParseState<'a, 't, 'f> {

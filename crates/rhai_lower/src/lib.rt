@@ -4,6 +4,7 @@
 
 pub mod ast;
 pub mod name_index;
+pub mod named_list;
 pub mod names;
 pub mod node;
 pub mod optimizer;
@@ -19,6 +20,7 @@ pub use ast::{
     VariableExpr,
 };
 pub use name_index::NameIndex;
+pub use named_list::{HasName, NamedList, find_latest, is_named};
 pub use names::{is_reserved_keyword_or_symbol, is_valid_function_name, is_valid_identifier};
 pub use node::{LinkFlags, RangeCase};
 pub use optimizer::OptimizationLevel;

@@ -8,8 +8,8 @@ ghost use Rattle.rhai_grammar.specs.Imports.{is_among};
 ghost use Rattle.rhai_parser.specs.Engines.{fresh_engine, with_bits, expr_settings};
 
 use bitflags::Flags;
-use rhai_base::{Known, LangOptions, ParseSettingFlags, ParseSettings, is_named};
-use rhai_lower::{Position, Scope};
+use rhai_base::{Known, LangOptions, ParseSettingFlags, ParseSettings};
+use rhai_lower::{Position, Scope, is_named};
 use std::alloc::{AllocError, Global};
 use std::marker::Model;
 use std::rc::RcStr;

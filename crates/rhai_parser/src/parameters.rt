@@ -14,9 +14,9 @@ ghost use Rattle.rhai_parser.specs.Rooms.{Steady};
 use crate::shared::Shared;
 use rhai_base::leaves::functions::take_parameter;
 use rhai_base::leaves::lists::list_continues;
-use rhai_base::{Frame, NamedList};
+use rhai_base::Frame;
 use rhai_grammar::{CommaList, ParseError, ParseErrorType, ParseResult};
-use rhai_lower::Position;
+use rhai_lower::{NamedList, Position};
 use std::alloc::{AllocError, Global};
 use std::rc::RcStr;
 
@@ -39,7 +39,7 @@ pub fn next_parameters(
             return Ok(names.into_items());
         };
         test_parameter(function, &names, &name, pos)?;
-        names.push(alloc, name)?;
+        names.push(name)?;
         if !list_continues(alloc, shared.input, list)? {
             return Ok(names.into_items());
         }

@@ -1,7 +1,7 @@
-//! Calls below the parser that allocate, each once. No contract says that memory is left. Each is made by a function
-//! that ends with `AllocError` where memory is refused, and two tests run it: one wants it to come to its end, with
-//! ample memory. The other, `.._refused`, lets it end early, and holds however memory is refused
-//! (tests/hostile/calls.py): what was asserted on the way has to hold all the same.
+//! Calls that allocate, each once: no contract says that memory is left. Each is made by a function that ends with
+//! `AllocError` where memory is refused, and two tests run it: one wants it to come to its end, with ample memory. The
+//! other, `.._refused`, lets it end early, and holds however memory is refused (tests/hostile/calls.py): what was
+//! asserted on the way has to hold all the same.
 
 ghost use Rattle.rhai_grammar.specs.Keys.{keys_of};
 ghost use Rattle.rhai_base.specs.Index.{Agrees};
@@ -9,11 +9,13 @@ ghost use Rattle.rhai_base.specs.Index.{Agrees};
 use rhai_base::captured::add_use;
 use rhai_base::closures::{closure_function, closure_value};
 use rhai_base::{
-    FnLib, FnNames, Frame, Known, Library, NamedList, add_function, functions, has_function,
+    FnLib, Frame, Known, Library, LibraryIndex, add_function, functions, has_function,
     kept_comments, make_anonymous_fn,
 };
 use rhai_grammar::{ExprFilter, FnKey, InputError, ParseError, ParseErrorType};
-use rhai_lower::{Expr, LexError, Position, Scope, ScriptFuncDef, Stmt, StmtBlock, Token};
+use rhai_lower::{
+    Expr, LexError, NamedList, Position, Scope, ScriptFuncDef, Stmt, StmtBlock, Token,
+};
 use std::alloc::{AllocError, Global};
 use std::process::Abort;
 use std::rc::{Rc, RcStr};
@@ -90,14 +92,9 @@ fn indexed_slots_refused(rt: HostRuntime) {
 }
 
 // Appends a name. Where memory is refused, the list is unchanged.
-fn append(
-    rt: &impl Abort,
-    alloc: Global,
-    names: &mut NamedList<RcStr>,
-    name: RcStr,
-) -> Result<(), AllocError> {
+fn append(rt: &impl Abort, names: &mut NamedList<RcStr>, name: RcStr) -> Result<(), AllocError> {
     let before = names.len();
-    if let Err(error) = names.push(alloc, name) {
+    if let Err(error) = names.push(name) {
         assert!(rt; names.len() == before);
         return Err(error);
     }
@@ -111,7 +108,7 @@ fn many_names(rt: &impl Abort, alloc: Global) -> Result<(), AllocError> {
     for n in 0..12 {
         let text = format!(in alloc; "name {n}")?;
         assert!(rt; !names.has_name(&text));
-        append(rt, alloc, &mut names, RcStr::from_str(alloc, &text)?)?;
+        append(rt, &mut names, RcStr::from_str(alloc, &text)?)?;
         assert!(rt; names.has_name(&text));
     }
     assert!(rt; names.into_items().len() == 12);
@@ -174,7 +171,7 @@ fn add(rt: &impl Abort, alloc: Global, lib: &mut FnLib, name: &str) -> Result<()
 fn add_named(
     rt: &impl Abort,
     alloc: Global,
-    names: &mut FnNames,
+    names: &mut LibraryIndex,
     lib: &mut FnLib,
     name: &str,
 ) -> Result<(), AllocError>
@@ -195,7 +192,7 @@ fn add_named(
 fn library(rt: &impl Abort, alloc: Global) -> Result<(), AllocError> {
     let mut lib = FnLib::new(alloc);
     add(rt, alloc, &mut lib, "f")?;
-    let mut names = FnNames::new(alloc, &lib)?;
+    let mut names = LibraryIndex::new(alloc, &lib)?;
     add_named(rt, alloc, &mut names, &mut lib, "g")?;
     functions(alloc, &lib)?;
     Ok(())
@@ -299,7 +296,7 @@ fn closures(rt: &impl Abort, alloc: Global) -> Result<(), AllocError> {
     )?;
     let (key, function) = closure_function(alloc, name, &captured, &[], empty_block(alloc))?;
     let lib = FnLib::new(alloc);
-    let names = FnNames::new(alloc, &lib)?;
+    let names = LibraryIndex::new(alloc, &lib)?;
     add_ended(rt, &mut Library::new(lib, names), key, function)
 }
 

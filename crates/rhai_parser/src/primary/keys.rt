@@ -12,9 +12,9 @@ ghost use Rattle.rhai_parser.specs.MapKeys.{KeyIs, KeyRefused};
 use rhai_base::cursor::{peek, skip};
 use rhai_base::leaves::keys::key_at;
 use rhai_base::literals::has_key;
-use rhai_base::{NamedList, ParseSettingFlags, ParseSettings};
+use rhai_base::{ParseSettingFlags, ParseSettings};
 use rhai_grammar::{ParseError, ParseErrorType, ParseResult};
-use rhai_lower::{Expr, Ident, TokenStream};
+use rhai_lower::{Expr, Ident, NamedList, TokenStream};
 use std::alloc::Global;
 
 /// The key of the property after these ones, which is taken; none where the `}` is, which is taken too. The settings

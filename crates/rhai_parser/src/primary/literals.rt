@@ -16,9 +16,9 @@ use rhai_base::cursor::{peek, skip};
 use rhai_base::leaves::items::item_place;
 use rhai_base::leaves::lists::list_continues;
 use rhai_base::leaves::refusals::no_item;
-use rhai_base::{Frame, NamedList, ParseSettings};
+use rhai_base::{Frame, ParseSettings};
 use rhai_grammar::{CommaList, ItemPlace, ParseResult};
-use rhai_lower::{Expr, Ident};
+use rhai_lower::{Expr, Ident, NamedList};
 use rhai_trees::{make_block, push_segment, push_text};
 use std::rc::RcStr;
 
@@ -85,7 +85,7 @@ impl<R: LentReaders> Reader<'_, R> {
             };
             let deeper = settings.level_up()?;
             let value = self.readers.parse_expr(self.engine, shared, frame, deeper)?;
-            properties.push(self.engine.alloc(), (key, value))?;
+            properties.push((key, value))?;
             if !list_continues(self.engine.alloc(), shared.input, CommaList::Map)? {
                 return Ok(properties.into_items());
             }

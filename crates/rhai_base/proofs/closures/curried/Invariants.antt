@@ -1,5 +1,5 @@
 -- The nodes so far, and those of the names from the index on, are all arguments.
-use Rattle.std.proofs.Common.{◌≡◌, ◌+◌, ◌∷◌, ◌++◌, drop, length, map}
+use Rattle.std.proofs.Common.{◌≡◌, ◌∷◌, ◌++◌, drop, map}
 use Rattle.rhai_lower.specs.View.{view}
 use Rattle.rhai_base.specs.Uses.{captured_node, uses_of}
 use Rattle.rhai_base.proofs.closures.curried.Given as goal

@@ -1,13 +1,14 @@
-use Rattle.std.proofs.Common.{◌≡◌, ◌≤◌, ◌+◌, ◌-◌, length, ap, arith}
+use Rattle.std.proofs.Common.{◌≡◌, ◌≤◌, ◌+◌, ◌-◌, length, map, ap, arith}
 use Rattle.std.proofs.lemmas.List.{length-append}
 use Rattle.std.specs.Int.NonZero.{non_zero_usize_get}
+use Rattle.std.specs.Rc.{rc_str_bytes}
 use Rattle.rhai_base.specs.Frames.{FrameValue, outer_imports}
 use Rattle.rhai_base.proofs.ImportLemmas.{import_further, import_here, module_inside}
 use Rattle.rhai_base.proofs.frame.Frame.find_module.Goals as goal
 
 pub overflow_add-count : goal.overflow_add-count
 overflow_add-count c =
-    let own = c.frame.inside.imports in
+    let own = map rc_str_bytes c.frame.inside.imports in
     let few = module_inside c.args.name.now own (non_zero_usize_get c.in-Some.place) c.in-Some.ensures in
     let sum = length-append (outer_imports c.frame.inside.outer) own in
     let same = ap (λ (f : FrameValue). length f.live.imports) c.frame.view_is in
@@ -15,13 +16,13 @@ overflow_add-count c =
 
 pub returns-in-Some : goal.returns-in-Some
 returns-in-Some c =
-    import_here c.new.result c.args.name.now c.args.self.now.live.imports c.loop-place.frame.now.live.imports (outer_imports c.frame.inside.outer) c.frame.inside.imports (c.import_count-count.result - length c.loop-place.frame.now.live.imports) (non_zero_usize_get c.in-Some.place)
+    import_here c.new.result c.args.name.now c.args.self.now.live.imports c.loop-place.frame.now.live.imports (outer_imports c.frame.inside.outer) (map rc_str_bytes c.frame.inside.imports) (c.import_count-count.result - length c.loop-place.frame.now.live.imports) (non_zero_usize_get c.in-Some.place)
     (ap (λ (f : FrameValue). f.live.imports) c.frame.view_is) c.loop-place.invariant.found c.in-Some.ensures (omega (arith, c.get.ensures.value, c.get.ensures.nonzero))
     (rw (← c.import_count.ensures, ← c.get.ensures.value) c.new.ensures)
 
 pub loop-place-preserved : goal.loop-place-preserved
 loop-place-preserved c =
-    let own = c.frame.inside.imports in
+    let own = map rc_str_bytes c.frame.inside.imports in
     let sum = length-append (outer_imports c.frame.inside.outer) own in
     let same = ap (λ (f : FrameValue). length f.live.imports) c.frame.view_is in
     let outer = ap outer_imports c.in-Some-outer.is in
