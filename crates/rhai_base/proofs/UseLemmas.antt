@@ -1,6 +1,7 @@
 -- The names that a closure captures: one more.
 use Rattle.std.proofs.Common.{◌≡◌, false, List, [], ◌∷◌, ◌++◌, ap, length, map, ◌==◌, ◌∙◌, refl, sym}
 use Rattle.std.proofs.lemmas.List.{append-nil, map_push}
+use Rattle.std.specs.Rc.{rc_str_bytes}
 use Rattle.std.specs.declared.alloc.Global.{Global}
 use Rattle.std.specs.declared.rc.RcStr.{RcStr}
 use Rattle.rhai_lower.specs.declared.position.Position.{Position}
@@ -10,11 +11,16 @@ use Rattle.rhai_lower.specs.Positions.{nowhere}
 use Rattle.rhai_lower.specs.View.{nodes_of}
 use Rattle.rhai_grammar.specs.Closures.{captured_nodes, closure_value, curry, shared_names}
 use Rattle.rhai_grammar.specs.Contexts.{Live}
-use Rattle.rhai_grammar.specs.Uses.{Use}
+use Rattle.rhai_grammar.specs.Uses.{Use, names_of}
 use Rattle.rhai_base.specs.Uses.{captured_node, use_of, uses_of}
 
 pub one_more : (us : List (RcStr Global × Position)) (u : RcStr Global × Position) → uses_of (us ++ u ∷ []) ≡ uses_of us ++ use_of u ∷ []
 one_more us u = map_push use_of us u
+
+-- the names of what is used
+pub used_names : (us : List (RcStr Global × Position)) → names_of (uses_of us) ≡ map (λ u. rc_str_bytes u.0) us
+used_names [] = refl
+used_names (u ∷ us) = ap (λ ns. rc_str_bytes u.0 ∷ ns) (used_names us)
 
 -- the nodes of the names that are captured
 pub captured_all : (slots : List SlotValue) (us : List Use) → captured_nodes slots us ≡ nodes_of (map (captured_node slots) us)

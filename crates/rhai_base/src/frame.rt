@@ -18,8 +18,8 @@ ghost use Rattle.rhai_lower.specs.Texts.{same_text};
 ghost use Rattle.rhai_base.specs.Frames.{SamePlace, known_of};
 ghost use Rattle.rhai_base.specs.Libraries.{library_of};
 
-use crate::ended::Library;
 use crate::known::Known;
+use crate::library::Library;
 use crate::lookup::{import_place, place_of};
 use crate::slots::{define, export};
 use rhai_grammar::{ExprFilter, ParseError, ParseErrorType, ParseResult};

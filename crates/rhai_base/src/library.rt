@@ -1,98 +1,123 @@
-//! `FnLib`: functions and closures by key, without an index of names.
+//! `Library`: a script's functions with an index of their names.
 
-ghost use Rattle.std.specs.Prelude.{◌≡◌, ◌↔◌, ◌++◌, ◌∷◌, [], true, false, IsTrue, OnOk, OnErr, IfOk, fold, map};
-ghost use Rattle.indexmap.specs.IndexMap.{values};
-ghost use Rattle.rhai_grammar.specs.Keys.{key_of, keys_of, same_key, fed_key, has_key, has_name, closures, is_closure};
+ghost use Rattle.std.specs.Prelude.{◌≡◌, ◌+◌, IfErr, IfOk, OnErr, OnOk, false, length, nat_lt, true};
+ghost use Rattle.rhai_grammar.specs.Keys.{has_key, key_of, keys_of};
+ghost use Rattle.rhai_grammar.specs.Libraries.{closure_count, is_function, keys_in, with_ended};
+ghost use Rattle.rhai_base.specs.Index.{Agrees};
+ghost use Rattle.rhai_base.specs.Libraries.{Grows, ended, library_of};
+ghost use Rattle.rhai_base.specs.Settings.{too_many_functions};
 
-use indexmap::IndexMap;
-use rhai_grammar::FnKey;
-use rhai_lower::ScriptFuncDef;
-use std::alloc::{AllocError, Global};
-use std::hash::{Hash, Hasher};
+use crate::fn_lib::{FnLib, has_function};
+use crate::library_index::LibraryIndex;
+use rhai_grammar::{FnKey, ParseError, ParseErrorType, ParseResult};
+use rhai_lower::{Position, ScriptFuncDef};
+use std::alloc::AllocError;
+use std::marker::Model;
 use std::rc::Rc;
 
-/// A script's functions and closures by their keys, in the order in which they end.
-pub type FnLib = IndexMap<FnKey, Rc<ScriptFuncDef>>;
-
-/// Whether two keys are of the same function: they have the same receiver type, name and number of parameters. Such
-/// keys have equal hashes. Does not allocate.
-pub fn is_same_key(left: &FnKey, right: &FnKey) -> bool
-    ensures value { result ≡ same_key (key_of left.now) (key_of right.now) }
-    ensures parts { IsTrue result ↔ (key_of left.now ≡ key_of right.now) }
-    ensures hashed { IsTrue result → fed_key (key_of left.now) ≡ fed_key (key_of right.now) }
-{
-    *left == *right
+/// The functions and closures of a script that have ended, in this order. Whether there is one of a name is found in a
+/// time that does not grow with their number.
+#[derive(Drop)]
+pub struct Library {
+    // The functions by their keys.
+    functions: FnLib,
+    // The index of their names.
+    index: LibraryIndex,
 }
 
-/// Feeds a key to a hasher: its receiver type, its name and the number of its parameters, and nothing else.
-pub fn hash_key<H: Hasher>(key: &FnKey, state: &mut H)
-    ensures { state.new ≡ fold H.write state.old (fed_key (key_of key.now)) }
-{
-    key.hash(state);
+impl Model for Library {
+    ghost use Rattle.std.specs.Prelude.{List};
+    ghost use Rattle.std.specs.Coded.{codes};
+    ghost use Rattle.std.specs.declared.alloc.Global.{Global};
+    ghost use Rattle.std.specs.declared.rc.Rc.{Rc};
+    ghost use Rattle.rhai_lower.specs.contracts.ast.ScriptFuncDef as function;
+    ghost use Rattle.rhai_lower.specs.declared.ast.ScriptFuncDef.{ScriptFuncDef};
+    ghost use Rattle.rhai_grammar.specs.Keys.{keys_of};
+    ghost use Rattle.rhai_grammar.specs.declared.key.FnKey.{FnKey};
+    ghost use Rattle.rhai_base.specs.Index.{Agrees};
+
+    ghost Value = { List (FnKey × Rc ScriptFuncDef Global) };
+
+    ghost coded = { Prim.hlevel (codes, function.the_row.coded) };
+
+    ghost view = { λ l. l.functions.entries };
+
+    ghost invariant = { λ l. Agrees l.index (keys_of l.functions.entries) };
 }
 
-/// Whether a function has this key. Does not allocate.
-pub fn has_function(lib: &FnLib, key: &FnKey) -> bool
-    ensures { result ≡ has_key (key_of key.now) (keys_of lib.now.entries) }
-{
-    lib.contains_key(key)
-}
-
-/// Appends a function. The caller has to prove that no function has its key yet. Returns `AllocError` if memory runs
-/// out; then nothing changes.
-pub fn add_function(
-    lib: &mut FnLib,
-    key: FnKey,
-    function: Rc<ScriptFuncDef>,
-) -> Result<(), AllocError>
-    requires { has_key (key_of key) (keys_of lib.old.entries) ≡ false }
-    ensures ok { OnOk result (lib.new.entries ≡ lib.old.entries ++ (key, function) ∷ []) }
-    ensures err { OnErr result (lib.new.entries ≡ lib.old.entries) }
-{
-    lib.insert(key, function)?;
-    Ok(())
-}
-
-/// All functions, in the order in which they ended. Returns `AllocError` if memory runs out.
-pub fn functions(alloc: Global, lib: &FnLib) -> Result<Vec<Rc<ScriptFuncDef>>, AllocError>
-    ensures { IfOk result (λ all. map (λ f. f.value) all.items ≡ map (λ f. f.value) (values lib.now)) }
-{
-    let mut all = Vec::new(alloc);
-    for function in lib.values() {
-        all.push(function.clone()?)?;
+impl Library {
+    /// These functions, of which this is the index.
+    pub fn new(functions: FnLib, index: LibraryIndex) -> Self
+        requires { Agrees index (keys_of functions.entries) }
+        ensures { result ≡ functions.entries }
+    {
+        Library { functions, index }
     }
-    Ok(all)
-}
 
-/// Whether a function or closure has this name. Does not allocate. Takes time linear in the number of functions.
-pub fn is_function_name(lib: &FnLib, name: &str) -> bool
-    ensures { result ≡ has_name name.now (keys_of lib.now.entries) }
-{
-    for key in lib.keys() {
-        if key.name.as_str() == name {
-            return true;
+    /// The functions without the index.
+    pub fn into_functions(self) -> FnLib
+        ensures { result.entries ≡ self }
+    {
+        self.functions
+    }
+
+    /// Whether a function or closure has this name. Does not allocate. The time does not grow with the library.
+    #[tactic(auto, using(crate::proofs::LibraryLemmas::same_keys))]
+    pub fn is_function(&self, name: &str) -> bool
+        ensures { result ≡ is_function (library_of self.now) name.now }
+    {
+        self.index.contains(name)
+    }
+
+    /// Whether a function has this key. Does not allocate.
+    #[tactic(auto, using(crate::proofs::LibraryLemmas::same_keys))]
+    pub fn has(&self, key: &FnKey) -> bool
+        ensures { result ≡ has_key (key_of key.now) (keys_in (library_of self.now)) }
+    {
+        has_function(&self.functions, key)
+    }
+
+    /// The number of functions and closures. Does not allocate, and takes constant time.
+    #[tactic(auto, using(crate::proofs::LibraryLemmas::as_many))]
+    pub fn len(&self) -> usize
+        ensures { result ≡ length (library_of self.now) }
+    {
+        self.functions.len()
+    }
+
+    /// Refuses one more function where there are `limit` already, with those that have begun around it. The result is
+    /// how many have begun around what is in it. The error is `TooManyFunctions` at `pos`. Does not allocate, and takes
+    /// constant time.
+    pub fn test_room(&self, limit: usize, begun: usize, pos: Position) -> ParseResult<usize>
+        ensures passes { IfOk result (λ inside. (nat_lt (length (library_of self.now) + begun) limit ≡ true)
+            × (inside ≡ begun + 1)) }
+        ensures refused { IfErr result (λ e. (nat_lt (length (library_of self.now) + begun) limit ≡ false)
+            × (e ≡ too_many_functions pos)) }
+    {
+        let ended = self.len();
+        if ended < limit && begun < limit - ended {
+            return Ok(begun + 1);
         }
+        Err(ParseError(ParseErrorType::TooManyFunctions, pos))
     }
-    false
-}
 
-/// The number of closures, which are the functions whose names begin with `anon$`. Does not allocate. Takes time linear
-/// in the number of functions.
-pub fn closure_count(lib: &FnLib) -> usize
-    ensures { result ≡ closures (keys_of lib.now.entries) }
-{
-    let mut count = 0;
-    for key in lib.keys() {
-        if is_closure_key(key) {
-            count += 1;
-        }
+    /// The number of closures. Does not allocate, and takes constant time.
+    #[tactic(auto, using(crate::proofs::LibraryLemmas::same_keys))]
+    pub fn closure_count(&self) -> usize
+        ensures { result ≡ closure_count (library_of self.now) }
+    {
+        self.index.closure_count()
     }
-    count
-}
 
-// Whether a key's name begins with `anon$`.
-pub(crate) fn is_closure_key(key: &FnKey) -> bool
-    ensures { result ≡ is_closure (key_of key.now) }
-{
-    key.name.as_str().as_bytes().starts_with(b"anon$")
+    /// Appends a function. The caller has to prove that no function has its key yet. Returns `AllocError` if memory
+    /// runs out; then nothing changes.
+    #[tactic(auto, using(crate::proofs::LibraryLemmas::added))]
+    pub fn add(&mut self, key: FnKey, function: Rc<ScriptFuncDef>) -> Result<(), AllocError>
+        requires { has_key (key_of key) (keys_in (library_of self.old)) ≡ false }
+        ensures ok { OnOk result (library_of self.new ≡ with_ended (library_of self.old) (ended key function)) }
+        ensures err { OnErr result (self.new ≡ self.old) }
+        ensures grows { Grows (library_of self.old) (library_of self.new) }
+    {
+        self.index.add_function(&mut self.functions, key, function)
+    }
 }

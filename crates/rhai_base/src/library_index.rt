@@ -5,7 +5,7 @@ ghost use Rattle.rhai_lower.specs.Texts.{Text, same_text};
 ghost use Rattle.rhai_grammar.specs.Keys.{key_of, keys_of, has_key};
 ghost use Rattle.rhai_base.specs.Index.{listed, is_listed, counted, Agrees};
 
-use crate::library::{FnLib, is_closure_key};
+use crate::fn_lib::{FnLib, is_closure_key};
 use indexmap::IndexSet;
 use rhai_grammar::FnKey;
 use rhai_lower::ScriptFuncDef;

@@ -5,7 +5,7 @@ ghost use Rattle.rhai_grammar.specs.declared.filter.ExprFilter.TheVariants.{All}
 ghost use Rattle.rhai_base.specs.Counts.{counts_of, none_yet};
 
 use crate::counts::ParseCounts;
-use crate::library::FnLib;
+use crate::fn_lib::FnLib;
 use rhai_grammar::ExprFilter;
 use rhai_lower::{Position, Scope, TokenStream};
 use std::alloc::Global;

@@ -16,9 +16,9 @@ ghost use Rattle.rhai_base.specs.Libraries.{library_of};
 ghost use Rattle.rhai_base.specs.Settings.{settings_of};
 ghost use Rattle.rhai_base.specs.Words.{name_result, word_result};
 
-use crate::ended::Library;
 use crate::flags::{LangOptions, ParseSettingFlags};
 use crate::frame::Frame;
+use crate::library::Library;
 use crate::settings::ParseSettings;
 use rhai_grammar::{InputError, ParseError, ParseErrorType, ParseResult};
 use rhai_lower::{

@@ -9,6 +9,7 @@ ghost use Rattle.rhai_lower.specs.NameIndexes.{Indexes, IsIndexed};
 
 use crate::ast::{Expr, Ident};
 use crate::name_index::NameIndex;
+use crate::position::Position;
 use std::alloc::{AllocError, Global};
 use std::marker::Model;
 use std::rc::RcStr;
@@ -29,6 +30,15 @@ impl HasName for RcStr {
 
     fn name(&self) -> &RcStr {
         self
+    }
+}
+
+/// The name of a use is the name that is used.
+impl HasName for (RcStr, Position) {
+    ghost text = { λ u. rc_str_bytes u.0 };
+
+    fn name(&self) -> &RcStr {
+        &self.0
     }
 }
 

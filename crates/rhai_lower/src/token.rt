@@ -208,7 +208,7 @@ pub enum Token {
 
 impl Token {
     /// The strength (precedence) of the token as a binary operator, from 30 (`||`) to 210 (`<<`); `None` if it is not a
-    /// binary operator. The table is in docs/GRAMMAR.md, "Strengths".
+    /// binary operator. The table is in docs/GRAMMAR.md, "The language on one page".
     pub fn precedence(&self) -> Option<u8>
         ensures { result ≡ strength_of self.now }
     {

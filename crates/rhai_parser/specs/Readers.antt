@@ -273,7 +273,7 @@ abbrev pub state_of : Shared → Progress
 state_of s = record {
   cursor = cursor_of s.input.now;
   library = library_of s.library.now;
-  captured = uses_of s.captured.now.items;
+  captured = uses_of s.captured.now;
   nesting = nesting_of s.counts;
 }
 

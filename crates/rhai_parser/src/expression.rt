@@ -27,7 +27,7 @@ use crate::shared::Shared;
 use rhai_base::{FnLib, Frame, Library, ParseCounts, ParseSettings, ParseState, functions};
 use rhai_grammar::ParseResult;
 use rhai_lower::optimizer::{OptimizationLevel, optimize_into_ast};
-use rhai_lower::{AST, Expr, Scope, Stmt, TokenStream};
+use rhai_lower::{AST, Expr, NamedList, Scope, Stmt, TokenStream};
 
 impl Engine {
     // The script of one expression and of all functions of a library, as the optimizer makes it.
@@ -75,7 +75,7 @@ impl Engine {
         ensures orderly { Holds self.now.max_functions frame.now.begun (library_of library.old)
             → Holds self.now.max_functions frame.now.begun (library_of library.new) }
     {
-        let mut captured = Vec::new(self.alloc());
+        let mut captured = NamedList::new(self.alloc());
         let mut shared = Shared {
             input,
             library,

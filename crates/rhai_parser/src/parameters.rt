@@ -12,9 +12,9 @@ ghost use Rattle.rhai_parser.specs.Readers.{GoesOn, Reads, names_of};
 ghost use Rattle.rhai_parser.specs.Rooms.{Steady};
 
 use crate::shared::Shared;
+use rhai_base::Frame;
 use rhai_base::leaves::functions::take_parameter;
 use rhai_base::leaves::lists::list_continues;
-use rhai_base::Frame;
 use rhai_grammar::{CommaList, ParseError, ParseErrorType, ParseResult};
 use rhai_lower::{NamedList, Position};
 use std::alloc::{AllocError, Global};

@@ -33,7 +33,9 @@ use rhai_base::{
 };
 use rhai_grammar::{Closing, ParseResult};
 use rhai_lower::optimizer::{OptimizationLevel, optimize_into_ast};
-use rhai_lower::{AST, Position, Scope, ScriptFuncDef, Stmt, StmtBlockContainer, TokenStream};
+use rhai_lower::{
+    AST, NamedList, Position, Scope, ScriptFuncDef, Stmt, StmtBlockContainer, TokenStream,
+};
 use std::mem;
 use std::rc::{Rc, RcStr};
 
@@ -87,7 +89,7 @@ impl Engine {
             → Holds self.now.max_functions frame.entry.begun (library_of library.new) }
     {
         let mut frame = frame;
-        let mut captured = Vec::new(self.alloc());
+        let mut captured = NamedList::new(self.alloc());
         let mut shared = Shared {
             input,
             library,

@@ -10,7 +10,7 @@ ghost use Rattle.rhai_parser.specs.Rooms.{Enters, Leaves, Steady};
 
 use rhai_base::captured::add_use;
 use rhai_base::{Library, ParseCounts};
-use rhai_lower::{Position, TokenStream};
+use rhai_lower::{NamedList, Position, TokenStream};
 use std::alloc::{AllocError, Global};
 use std::mem;
 use std::rc::RcStr;
@@ -23,7 +23,7 @@ pub struct Shared<'s> {
     /// The functions that have ended.
     pub library: &'s mut Library,
     /// The names that the closure around what is read has captured, each with the position of its first use.
-    pub captured: &'s mut Vec<(RcStr, Position)>,
+    pub captured: &'s mut NamedList<(RcStr, Position)>,
     /// How many readers are active.
     pub counts: ParseCounts,
 }
@@ -65,23 +65,23 @@ impl Shared<'_> {
 
     /// A closure begins, which has captured nothing. What the one around it has captured is handed over. Does not
     /// allocate.
-    pub fn begin_apart(&mut self, alloc: Global) -> Vec<(RcStr, Position)>
+    pub fn begin_apart(&mut self, alloc: Global) -> NamedList<(RcStr, Position)>
         ensures goes_on { GoesOn self.old self.new }
         ensures steady { Steady self.old self.new }
-        ensures outer { uses_of result.items ≡ (state_of self.old).captured }
+        ensures outer { uses_of result ≡ (state_of self.old).captured }
         ensures apart { state_of self.new ≡ with_captured [] (state_of self.old) }
     {
-        mem::replace(self.captured, Vec::new(alloc))
+        mem::replace(self.captured, NamedList::new(alloc))
     }
 
     /// A closure ends: what the one around it has captured is put back, and what this one has is handed over. Does not
     /// allocate.
-    pub fn end_apart(&mut self, outer: Vec<(RcStr, Position)>) -> Vec<(RcStr, Position)>
+    pub fn end_apart(&mut self, outer: NamedList<(RcStr, Position)>) -> Vec<(RcStr, Position)>
         ensures goes_on { GoesOn self.old self.new }
         ensures steady { Steady self.old self.new }
         ensures captured { uses_of result.items ≡ (state_of self.old).captured }
-        ensures back { state_of self.new ≡ with_captured (uses_of outer.items) (state_of self.old) }
+        ensures back { state_of self.new ≡ with_captured (uses_of outer) (state_of self.old) }
     {
-        mem::replace(self.captured, outer)
+        mem::replace(self.captured, outer).into_items()
     }
 }

@@ -19,12 +19,12 @@ returns-clause-reads c =
     let left = c.parse_statements-statements.new.shared in
     let view = with_live statements_of c.parse_statements-statements.new.frame in
     let from : List Use → Progress = λ us. record { cursor = cursor_of c.args.input.now; library = library_of c.args.library.now; captured = us; nesting = nesting_of c.args.counts.now } in
-    let none : uses_of c.new-captured.result.items ≡ [] = ap uses_of c.new-captured.ensures.items in
-    let read = subst (λ (e : EngineValue). Gives view (result_of (Script (context_of e c.args.frame c.args.settings) c.args.frame.live) (from (uses_of c.new-captured.result.items))) c.parse_statements-statements.result (state_of left))
+    let none : uses_of c.new-captured.result ≡ [] = ap uses_of c.new-captured.ensures in
+    let read = subst (λ (e : EngineValue). Gives view (result_of (Script (context_of e c.args.frame c.args.settings) c.args.frame.live) (from (uses_of c.new-captured.result))) c.parse_statements-statements.result (state_of left))
     c.engine.ensures c.parse_statements-statements.ensures.reads in
     let new = subst (λ us. Gives view (result_of (Script (context_of c.args.self.now c.args.frame c.args.settings) c.args.frame.live) (from us)) c.parse_statements-statements.result (state_of left)) none read in (
       c.parse_statements-statements.new.frame.live,
-      uses_of left.captured.now.items,
+      uses_of left.captured.now,
       search rules,
       search rules,
       search (rules, new),
@@ -39,5 +39,5 @@ pub returns-clause-returns : goal.returns-clause-returns
 returns-clause-returns c =
     let left = c.parse_statements-statements.new.shared in
     returns_read (with_live statements_of c.parse_statements-statements.new.frame) (context_of c.engine.result.now c.args.frame c.args.settings) c.args.frame.live
-    (record { cursor = cursor_of c.args.input.now; library = library_of c.args.library.now; captured = uses_of c.new-captured.result.items; nesting = nesting_of c.args.counts.now }) (state_of left)
+    (record { cursor = cursor_of c.args.input.now; library = library_of c.args.library.now; captured = uses_of c.new-captured.result; nesting = nesting_of c.args.counts.now }) (state_of left)
     (counts_of c.args.counts.now) (counts_of left.counts) c.parse_statements-statements.result refl refl c.parse_statements-statements.ensures.reads

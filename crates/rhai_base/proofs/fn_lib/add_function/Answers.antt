@@ -1,7 +1,7 @@
 use Rattle.std.proofs.Common.{◌∙◌}
 use Rattle.indexmap.proofs.CallerLemmas.{insert_entry-new}
 use Rattle.rhai_base.proofs.KeyLemmas.{equal_keys, found-key, absent}
-use Rattle.rhai_base.proofs.library.add_function.Goals as goal
+use Rattle.rhai_base.proofs.fn_lib.add_function.Goals as goal
 
 pub returns-clause-ok : goal.returns-clause-ok
 returns-clause-ok c =

@@ -1,7 +1,7 @@
 use Rattle.std.proofs.Common.{◌∙◌, ap, sym, map}
 use Rattle.rhai_grammar.specs.Keys.{has_name, key_of}
 use Rattle.rhai_base.proofs.KeyLemmas.{keys-shown}
-use Rattle.rhai_base.proofs.library.is_function_name.Goals as goal
+use Rattle.rhai_base.proofs.fn_lib.is_function_name.Goals as goal
 
 pub loop-key-init : goal.loop-key-init
 loop-key-init c =
