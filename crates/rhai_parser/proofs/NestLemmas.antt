@@ -35,18 +35,17 @@ use Rattle.std.proofs.lemmas.Bool.{ltb-false, ltb-true}
 use Rattle.rhai_reading.proofs.Grows.{Again, AgainSo, active_again}
 
 -- what the code's reader of a script leaves
-pub stays_read : (engine engine : EngineValue) (frame : FrameValue) (settings : ParseSettings) (old new : Shared)
-    → engine ≡ engine → Stays engine frame settings (2 + function_room engine settings) old new
+pub stays_read : (engine : EngineValue) (frame : FrameValue) (settings : ParseSettings) (old new : Shared)
+    → Stays engine frame settings (2 + function_room engine settings) old new
     → StaysWithin 1 engine settings (counts_of old.counts) (counts_of new.counts)
 unfolding IsWithin
-stays_read engine engine frame settings old new is h =
-    subst (λ e. StaysWithin 1 e settings (counts_of old.counts) (counts_of new.counts)) is (λ positive more.
+stays_read engine frame settings old new h positive more =
     let a = old.counts.active in
     let top = max old.counts.peak (a + 8 * (settings.max_expr_depth + engine.max_function_expr_depth + 1)) in
     let right = le-max_right old.counts.peak (a + 8 * (settings.max_expr_depth + engine.max_function_expr_depth + 1)) in
     let levels = gap_most settings.max_expr_depth settings.level in
     let function = function_room_most engine settings in
-    (h.nesting a top positive more (omega (arith, right, levels, function)) (le_refl a, le-max_left _ _)).1)
+    (h.nesting a top positive more (omega (arith, right, levels, function)) (le_refl a, le-max_left _ _)).1
 
 -- a library stays orderly in the state of an entry, from which its frame has how many have begun
 pub orderly_so : (engine : EngineValue) (begun here : ℕ) (old new : Library) → here ≡ begun

@@ -13,7 +13,6 @@ pub mod PlainPrimaries
 pub mod Loops
 pub mod Switches
 pub mod RareStatements
-pub mod Engines
 pub mod Starts
 pub mod Nesting
 pub mod Scripts

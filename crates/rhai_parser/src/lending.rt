@@ -49,11 +49,11 @@ where
         → S.post s.stmt engine shared frame settings result after after_frame
         → GoesOn shared.now after.now
         × (Stays engine.now frame.now settings (2 + function_room engine.now settings) shared.now after.now
-        × SamePlace frame.now after_frame.now
-        × Nests (statement engine.now frame.now settings) (with_live statement_view after_frame.now) shared.now result
+        × (SamePlace frame.now after_frame.now
+        × (Nests (statement engine.now frame.now settings) (with_live statement_view after_frame.now) shared.now result
         after.now
         × IfOk result (λ s. ends_itself (statement_view s) ≡ true
-        → left (state_of after.now).cursor.tokens + 1 ≤ left (state_of shared.now).cursor.tokens)))) };
+        → left (state_of after.now).cursor.tokens + 1 ≤ left (state_of shared.now).cursor.tokens)))))) };
 
     fn parse_chain(
         &self,

@@ -15,7 +15,6 @@ mod blocks;
 mod chain;
 mod construct;
 pub mod engine;
-mod engine;
 mod expr;
 mod expression;
 mod function;

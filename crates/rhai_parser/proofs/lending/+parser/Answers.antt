@@ -8,18 +8,18 @@ use Rattle.rhai_parser.proofs.lending.+parser.Goals as goal
 falls : {need left bound measure : ℕ} → need ≡ left → left < bound → bound ≡ measure → need < measure
 falls is below same = omega (arith, is, below, same)
 
-pub parse_chain-parse_chain-requires : goal.parse_chain-parse_chain-requires
-parse_chain-parse_chain-requires t c =
-    let same = ap (need (expression c.args.engine.now c.args.frame.now c.args.settings)) c.nested-enter.ensures.enters ∙ c.decreases in record {
+pub parse_chain-parse_chain-read-requires : goal.parse_chain-parse_chain-read-requires
+parse_chain-parse_chain-read-requires t c =
+    let same = ap (need (expression c.args.engine.now c.args.frame.now c.args.settings)) c.enter.ensures.enters ∙ c.decreases in record {
       lent = λ m below. (
         λ engine shared frame settings is. ((falls is below same, tt), λ result after told. told.1),
         λ engine shared frame settings is. ((falls is below same, tt), λ result after after_frame told. told.1),
       );
     }
 
-pub parse_stmt-parse_stmt-requires : goal.parse_stmt-parse_stmt-requires
-parse_stmt-parse_stmt-requires t c =
-    let same = ap (need (statement c.args.engine.now c.args.frame.now c.args.settings)) c.nested-enter.ensures.enters ∙ c.decreases in record {
+pub parse_stmt-parse_stmt-read-requires : goal.parse_stmt-parse_stmt-read-requires
+parse_stmt-parse_stmt-read-requires t c =
+    let same = ap (need (statement c.args.engine.now c.args.frame.now c.args.settings)) c.enter.ensures.enters ∙ c.decreases in record {
       lent = λ m below. (
         λ engine shared frame settings is. ((falls is below same, tt), λ result after told. told.1),
         λ engine shared frame settings is. ((falls is below same, tt), λ result after after_frame told. told.1),

@@ -8,7 +8,6 @@ use Rattle.rhai_base.specs.Uses.{uses_of}
 use Rattle.rhai_reading.specs.Reading.{Script}
 use Rattle.rhai_reading.specs.Running.{Gives, Progress, result_of}
 use Rattle.rhai_parser.specs.Frames.{context_of}
-use Rattle.rhai_parser.specs.Engines.{EngineValue}
 use Rattle.rhai_parser.specs.Readers.{nesting_of, state_of, statements_of, with_live}
 use Rattle.rhai_parser.specs.Nesting.{StaysWithin}
 use Rattle.rhai_parser.proofs.NestLemmas.{returns_read, stays_read}
@@ -20,9 +19,7 @@ returns-clause-reads c =
     let view = with_live statements_of c.parse_statements-statements.new.frame in
     let from : List Use → Progress = λ us. record { cursor = cursor_of c.args.input.now; library = library_of c.args.library.now; captured = us; nesting = nesting_of c.args.counts.now } in
     let none : uses_of c.new-captured.result ≡ [] = ap uses_of c.new-captured.ensures in
-    let read = subst (λ (e : EngineValue). Gives view (result_of (Script (context_of e c.args.frame c.args.settings) c.args.frame.live) (from (uses_of c.new-captured.result))) c.parse_statements-statements.result (state_of left))
-    c.engine.ensures c.parse_statements-statements.ensures.reads in
-    let new = subst (λ us. Gives view (result_of (Script (context_of c.args.self.now c.args.frame c.args.settings) c.args.frame.live) (from us)) c.parse_statements-statements.result (state_of left)) none read in (
+    let new = subst (λ us. Gives view (result_of (Script (context_of c.args.self.now c.args.frame c.args.settings) c.args.frame.live) (from us)) c.parse_statements-statements.result (state_of left)) none c.parse_statements-statements.ensures.reads in (
       c.parse_statements-statements.new.frame.live,
       uses_of left.captured.now,
       search rules,
@@ -32,12 +29,12 @@ returns-clause-reads c =
 
 pub returns-clause-stays : goal.returns-clause-stays
 returns-clause-stays c =
-    stays_read c.engine.result.now c.args.self.now c.args.frame c.args.settings _ c.parse_statements-statements.new.shared c.engine.ensures
+    stays_read c.args.self.now c.args.frame c.args.settings _ c.parse_statements-statements.new.shared
     c.parse_statements-statements.ensures.stays
 
 pub returns-clause-returns : goal.returns-clause-returns
 returns-clause-returns c =
     let left = c.parse_statements-statements.new.shared in
-    returns_read (with_live statements_of c.parse_statements-statements.new.frame) (context_of c.engine.result.now c.args.frame c.args.settings) c.args.frame.live
+    returns_read (with_live statements_of c.parse_statements-statements.new.frame) (context_of c.args.self.now c.args.frame c.args.settings) c.args.frame.live
     (record { cursor = cursor_of c.args.input.now; library = library_of c.args.library.now; captured = uses_of c.new-captured.result; nesting = nesting_of c.args.counts.now }) (state_of left)
     (counts_of c.args.counts.now) (counts_of left.counts) c.parse_statements-statements.result refl refl c.parse_statements-statements.ensures.reads

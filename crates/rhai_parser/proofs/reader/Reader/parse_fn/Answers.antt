@@ -26,7 +26,7 @@ returns-in_err-key-clause-reads g c =
       stands = search rules;
     } in
     rw (p.1, p.2) (function_fails context (live_of c.args.frame.now) (comments_of c.args.comments.now) c.args.first c.args.settings.pos c.args.private inside c.in_ok-deeper.deeper.pos (state_of c.args.shared.now) begun
-    _ (state_of c.nested-leave.new.self) (nested_gives ended_view _ _ _ _ _ (Err _) c.nested-enter.ensures.enters c.in_err-key.ensures.reads c.nested-leave.ensures.leaves))
+    _ (state_of c.leave.new.self) (nested_gives ended_view _ _ _ _ _ (Err _) c.enter.ensures.enters c.in_err-key.ensures.reads c.leave.ensures.leaves))
 
 pub returns-clause-reads : goal.returns-clause-reads
 returns-clause-reads g c =
@@ -41,7 +41,7 @@ returns-clause-reads g c =
     } in
     let call = guarded (FunctionStatement context (live_of c.args.frame.now) (comments_of c.args.comments.now) c.args.first c.args.settings.pos c.args.private) (state_of c.args.shared.now) in
     function_gives (with_live statement_view c.args.frame.now) context (live_of c.args.frame.now) (comments_of c.args.comments.now) c.args.first c.args.settings.pos c.args.private inside c.in_ok-deeper.deeper.pos (state_of c.args.shared.now) begun
-    (ended_view (c.in_ok-key.key, c.in_ok-key.function)) (state_of c.nested-leave.new.self) (nested_done _ _ c.nested-enter.ensures.enters c.in_ok-key.ensures.reads c.nested-leave.ensures.leaves)
+    (ended_view (c.in_ok-key.key, c.in_ok-key.function)) (state_of c.leave.new.self) (nested_done _ _ c.enter.ensures.enters c.in_ok-key.ensures.reads c.leave.ensures.leaves)
     c.end_function.result (state_of c.end_function.new.shared) (c.end_function.ensures.gives call (live_of c.args.frame.now))
 
 pub returns-in_err-key-clause-stays : goal.returns-in_err-key-clause-stays
