@@ -285,25 +285,27 @@ pub struct AST {
 }
 
 impl Drop for FnCallExpr {
-    // A run of left-associative operators nests in the first operands, as deep as it is long. A loop goes down these;
-    // the derived drop would overflow the stack.
+    // A run of operators nests in the first operands, as deep as it is long; a run of `**` in the last ones. A loop goes
+    // down these; the derived drop would overflow the stack.
     #[cycle(drop)]
     fn drop(mut self) {
         loop {
             let FnCallExpr {
                 mut args,
+                op_token,
                 name: _,
                 namespace: _,
                 script_args: _,
                 native_args: _,
                 capture_parent_scope: _,
-                op_token: _,
             } = self;
-            if args.is_empty() {
-                return;
-            }
-            match args.remove(0) {
-                Expr::FnCall(first, _) => self = Box::into_inner(first),
+            let deepest = match op_token {
+                Some(Token::PowerOf) => args.pop(),
+                _ if args.is_empty() => None,
+                _ => Some(args.remove(0)),
+            };
+            match deepest {
+                Some(Expr::FnCall(next, _)) => self = Box::into_inner(next),
                 _ => return,
             }
         }
