@@ -3,6 +3,8 @@ pub mod Kept
 pub mod Grows
 pub mod Dives
 pub mod Deep
+pub mod Streams
+pub mod Programs
 pub mod Joins
 pub mod Strengths
 pub mod Rules
