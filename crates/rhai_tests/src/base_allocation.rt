@@ -257,7 +257,7 @@ fn indexed_imports_refused(rt: HostRuntime) {
 // The names that a closure captures: one, used twice. Where memory is refused, none is added.
 fn captured(rt: &impl Abort, alloc: Global) -> Result<Vec<(RcStr, Position)>, AllocError> {
     let name = RcStr::from_str(alloc, "x")?;
-    let mut captured = Vec::new(alloc);
+    let mut captured = NamedList::new(alloc);
     for _ in 0..2 {
         let before = captured.len();
         if let Err(error) = add_use(&mut captured, &name, Position::NONE) {
@@ -266,7 +266,7 @@ fn captured(rt: &impl Abort, alloc: Global) -> Result<Vec<(RcStr, Position)>, Al
         }
     }
     assert!(rt; captured.len() == 1);
-    Ok(captured)
+    Ok(captured.into_items())
 }
 
 // Adds a function to a library. Where memory is refused, none is added.
