@@ -58,7 +58,7 @@ pub(crate) fn import_place(imports: &NamedList<RcStr>, name: &str) -> Option<Non
     NonZeroUsize::new(imports.len() - index)
 }
 
-/// The number of the latest import of this name, as [`import_place`] gives it, by a walk from the latest import. It does
+/// The number of the latest import of this name, as [`import_place`] gives it, by a walk from the latest import. Does
 /// not allocate.
 #[tactic(auto, using(crate::proofs::ImportLemmas::imports))]
 pub(crate) fn find_import(imports: &[RcStr], name: &str) -> Option<NonZeroUsize>

@@ -285,8 +285,8 @@ pub struct AST {
 }
 
 impl Drop for FnCallExpr {
-    // A run of operators nests in the first operands, as deep as it is long; a run of `**` in the last ones. A loop goes
-    // down these; the derived drop would overflow the stack.
+    // A run of operators nests in the first operands, as deep as it is long; a run of `**` in the last ones. A loop
+    // goes down these; the derived drop would overflow the stack.
     #[cycle(drop)]
     fn drop(mut self) {
         loop {
