@@ -23,6 +23,7 @@ sign_begins c _ e = absurd cc
 
 pub construct_begins : (c : Context) (k : Kind) → may_be_value c k ≡ true → begins c (beginning (Sign (construct_token k))) ≡ true
 construct_begins c construct.Try e = absurd cc
+construct_begins c construct.Defer e = absurd cc
 construct_begins c construct.Block e = e
 construct_begins c construct.If e = e
 construct_begins c construct.Switch e = e

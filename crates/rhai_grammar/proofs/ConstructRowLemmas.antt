@@ -7,7 +7,7 @@ use Rattle.rhai_grammar.specs.Causes.{refusal}
 use Rattle.rhai_grammar.specs.Rows.{between}
 use Rattle.rhai_grammar.specs.Settings.{one_more}
 use Rattle.rhai_grammar.specs.Slots.{number}
-use Rattle.rhai_grammar.specs.RowsOfConstructs.{ArmRow, BreakRow, DefaultRow, IntegerRow, LoopRow, PipeRow, arm_begun, arm_rest, integer_action, integer_rest, range_action, range_case}
+use Rattle.rhai_grammar.specs.RowsOfConstructs.{ArmRow, BreakRow, DefaultRow, DeferRow, IntegerRow, LoopRow, PipeRow, arm_begun, arm_rest, integer_action, integer_rest, range_action, range_case}
 
 pub loop_row : LoopRow
 unfolding one_more number
@@ -22,6 +22,14 @@ unfolding one_more
 break_row = record {
   missed = inr (refl, (refl, inr (refl, inl (refl, refl, refl, refl))));
   fits = (refl, (refl, (refl, (refl, (refl, (refl, (refl, (refl, (refl, refl)))))))));
+}
+
+pub defer_row : DeferRow
+unfolding one_more
+defer_row = record {
+  tree_is = refl;
+  missed = inr (refl, (refl, inr (refl, inr (refl, inr (refl, inr (refl, inr (refl, (refl, inr (refl, (refl, inr (refl, inl (refl, refl, refl, refl))))))))))));
+  fits = (refl, (refl, (refl, (refl, (refl, (refl, (refl, (refl, (refl, (refl, (refl, (refl, (refl, (refl, (refl, (refl, (refl, (refl, (refl, (refl, refl))))))))))))))))))));
 }
 
 pub arm_row : ArmRow

@@ -20,6 +20,7 @@ construct_ends (form.Loop opening body) w at = (refl, refl)
 construct_ends (form.Do opening body negated do_at guard) w at = (refl, refl)
 construct_ends (form.For names in_at over opening body) w at = (refl, refl)
 construct_ends (form.Try opening body catch_at name catch_opening handler) w at = (refl, refl)
+construct_ends (form.Defer opening body) w at = (refl, refl)
 
 pub tree_ends : (f : Statement) (w : Live) → ends_itself (statement_tree f w) ≡ needs_no_semicolon f
 tree_ends (form.EmptyStatement at) w = refl

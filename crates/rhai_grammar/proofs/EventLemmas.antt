@@ -249,6 +249,7 @@ mutual
   construct (form.Try opening f catch_at name catch_opening g) c w at k i =
       let inner = catch_live (caught_name (caught name)) w in
       tok (test (on (block f (level_up c) w _ i) (tok (on (caught_by name _) (tok (test (block g (level_up c) inner k i)))))))
+  construct (form.Defer opening f) c w at k i = tok (test (block f (level_up c) w k i))
 
   pub conditional : {q : Scope} (x : Conditional) (c : Context) (w : Live) (at : Position) (k : Demands) → Is q c
       → Does q (conditional_events x w) (W.conditional x c w at k) k

@@ -200,6 +200,7 @@ mutual
   construct (form.Try opening f catch_at name catch_opening g) c w at k h =
       let inner = catch_live (caught_name (caught name)) w in
       (refl, block f (level_up c) w _ (refl, caught_by name _ (refl, block g (level_up c) inner k h)))
+  construct (form.Defer opening f) c w at k h = (refl, block f (level_up c) w k h)
 
   conditional : (x : Conditional) (c : Context) (w : Live) (at : Position) (k : Demands) → IsFair k → IsFair (W.conditional x c w at k)
   conditional (form.Guarded guard opening f rest) c w at k h =

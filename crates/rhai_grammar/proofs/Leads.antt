@@ -367,6 +367,7 @@ mutual
   construct (form.Try opening f catch_at name catch_opening g) c w at k =
       let inner = catch_live (caught_name (caught name)) w in
       tok (test (on (block f (level_up c) w _) (tok (on (caught_by name _) (tok (test (block g (level_up c) inner k)))))))
+  construct (form.Defer opening f) c w at k = tok (test (block f (level_up c) w k))
 
   pub conditional : (x : Conditional) (c : Context) (w : Live) (at : Position) (k : Demands)
       → Leads code code (conditional_spelling x) (W.conditional x c w at k) k

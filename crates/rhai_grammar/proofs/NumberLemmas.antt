@@ -269,6 +269,7 @@ mutual
       let inner = catch_live (caught_name (caught name)) w in
       gets (λ h. (h.0, N.catches name, subst (λ ns. WellNumberedBlock ns (T.block_tree catch_opening g inner)) (N.handled name w) h.1))
       (tok (test (on (block f opening (level_up c) w _) (tok (past_it (caught_by name _) (tok (test (block g catch_opening (level_up c) inner k))))))))
+  construct (form.Defer opening f) c w at k = tok (test (block f opening (level_up c) w k))
 
   pub conditional : (x : Conditional) (c : Context) (w : Live) (at : Position) (k : Demands)
       → Gives (WellNumberedStatement (names w) (T.conditional_tree x w at)) (W.conditional x c w at k) k

@@ -115,6 +115,7 @@ construct (form.Loop opening body) w at names = refl
 construct (form.Do opening body negated do_at guard) w at names = refl
 construct (form.For x in_at over opening body) w at names = refl
 construct (form.Try opening body catch_at name catch_opening branch) w at names = refl
+construct (form.Defer opening body) w at names = refl
 
 pub after : (f : Statement) (w : Live) → names_after (T.statement_tree f w) (names_in w.slots) ≡ names_in (after_statement f w).slots
 after (form.EmptyStatement at) w = refl

@@ -258,6 +258,7 @@ mutual
       ∙ ap (λ b. node.try_catch (T.block_tree nowhere (shape.body_shape f) w) (node_shape (T.catch_node (T.caught name))) b nowhere) g
       ∙ ap (λ n. node.try_catch (T.block_tree nowhere (shape.body_shape f) w) n (T.block_tree nowhere (shape.body_shape x) (catch_live (T.caught_name (T.caught name)) w)) nowhere) (catch_variable name)
       ∙ ap (λ n. node.try_catch (T.block_tree nowhere (shape.body_shape f) w) (T.catch_node (T.caught (shape.catch_shape name))) (T.block_tree nowhere (shape.body_shape x) (catch_live n w)) nowhere) (sym h)
+  construct (form.Defer opening f) w at = let g = body opening f w in cc
 
   conditional : (x : Conditional) (w : Live) (at : Position) → shape.statement_shape (T.conditional_tree x w at) ≡ T.conditional_tree (shape.conditional_shape x) w nowhere
   conditional (form.Guarded guard opening f rest) w at =

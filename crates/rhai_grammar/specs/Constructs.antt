@@ -30,6 +30,7 @@ kind_of (form.Loop opening body) = construct.Loop
 kind_of (form.Do opening body negated at guard) = construct.Do
 kind_of (form.For names in_at over opening body) = construct.For
 kind_of (form.Try opening body catch_at name catch_opening branch) = construct.Try
+kind_of (form.Defer opening body) = construct.Defer
 
 -- the token that a construct begins with
 abbrev pub construct_token : Construct → Token
@@ -41,6 +42,7 @@ construct_token construct.Loop = token.Loop
 construct_token construct.Do = token.Do
 construct_token construct.For = token.For
 construct_token construct.Try = token.Try
+construct_token construct.Defer = token.Defer
 
 -- A construct may be a statement: a loop, where the engine lets scripts have loops.
 abbrev pub may_stand : Context → Construct → Bool
@@ -51,12 +53,13 @@ may_stand context construct.For = allows_looping context
 may_stand context _ = true
 
 -- A construct may be an operand: a block, `if` and `switch` by an option each; the loops by one that they share, where
--- the engine lets scripts have loops; `try` never.
+-- the engine lets scripts have loops; `try` and `defer` never.
 abbrev pub may_be_value : Context → Construct → Bool
 may_be_value context construct.Block = has_block_values context
 may_be_value context construct.If = has_if_values context
 may_be_value context construct.Switch = has_switch_values context
 may_be_value context construct.Try = false
+may_be_value context construct.Defer = false
 may_be_value context _ = has_loop_values context
 
 -- ---- tokens inside

@@ -113,6 +113,7 @@ abbrev mutual
   construct_depth (form.For names in_at f opening body) = max (1 + run_depth f) (1 + body_depth body)
   construct_depth (form.Try opening body catch_at name catch_opening handler) =
       max (1 + body_depth body) (1 + body_depth handler)
+  construct_depth (form.Defer opening body) = 1 + body_depth body
 
   pub conditional_depth : Conditional → ℕ
   conditional_depth (form.Guarded f opening body rest) =

@@ -14,6 +14,7 @@ ends_with_brace (form.Loop opening body) = true
 ends_with_brace (form.Do opening body negated do_at guard) = false
 ends_with_brace (form.For names in_at over opening body) = true
 ends_with_brace (form.Try opening body catch_at name catch_opening handler) = true
+ends_with_brace (form.Defer opening body) = true
 
 -- A statement that ends by itself: no `;` has to follow it. Such are a lone `;`, a construct but for `do`, and a
 -- function.

@@ -199,6 +199,7 @@ mutual
     For : LoopNames → (in_at : Position) (over : Run) (opening : Position) → Body → Construct
     Try : (opening : Position) → Body → (catch_at : Position) → CatchName → (catch_opening : Position) → Body
         → Construct
+    Defer : (opening : Position) → Body → Construct
 
   -- a guard with its block, after `if`, and what follows
   pub data Conditional : Type 0 where

@@ -128,6 +128,7 @@ is_keyword_sign token.Else = true
 is_keyword_sign token.Switch = true
 is_keyword_sign token.While = true
 is_keyword_sign token.Loop = true
+is_keyword_sign token.Defer = true
 is_keyword_sign token.Do = true
 is_keyword_sign token.Until = true
 is_keyword_sign token.For = true

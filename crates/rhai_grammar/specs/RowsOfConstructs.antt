@@ -89,6 +89,36 @@ pub record BreakRow : Type 0 where
       (refusal cause.LoopBreak (place 1 1)) code (between break_begun break_rest 7)
   pub fits : Met (whole_script break_form in_loop nothing_live) (unread break_tokens 7) (between break_tokens [] 7)
 
+-- ---- `defer`
+
+-- The block of `defer { break; }` is no loop's: the `break` is refused outside of a loop, and fits inside of one.
+abbrev pub defer_begun : List (Lexeme × ℕ)
+defer_begun = (Sign token.Defer, 1) ∷ (Sign token.LeftBrace, 7) ∷ (Sign token.Break, 9) ∷ []
+
+abbrev pub defer_rest : List (Lexeme × ℕ)
+defer_rest = (Sign token.SemiColon, 14) ∷ (Sign token.RightBrace, 16) ∷ []
+
+abbrev pub defer_tokens : List (Lexeme × ℕ)
+defer_tokens = defer_begun ++ defer_rest
+
+abbrev pub defer_form : Statements
+defer_form =
+    form.Standing (form.Compound (place 1 1) (form.Defer (place 1 7) (
+    form.Many (with_semicolon (form.Break (place 1 9) form.Absent) 14 form.NoStatement) (place 1 16))))
+    form.NoStatement
+
+abbrev pub defer_tree : node.Statements
+defer_tree =
+    node.one_statement (node.defer_statement (node.braces (
+    node.one_statement (node.break_loop node.absent true (place 1 9)) node.no_statements) (place 1 7) (place 1 16))
+    (place 1 1)) node.no_statements
+
+pub record DeferRow : Type 0 where
+  pub tree_is : statement_trees defer_form nothing_live ≡ defer_tree
+  pub missed : Missed (whole_script defer_form (depth 64) nothing_live) (unread defer_tokens 17)
+      (refusal cause.LoopBreak (place 1 9)) code (between defer_begun defer_rest 17)
+  pub fits : Met (whole_script defer_form in_loop nothing_live) (unread defer_tokens 17) (between defer_tokens [] 17)
+
 -- ---- `switch`
 
 -- a `switch` from the first column on as a whole script

@@ -82,6 +82,7 @@ abbrev mutual
   statement_shape (node.expression n) = node.expression (node_shape n)
   statement_shape (node.block_statement b) = node.block_statement (block_shape b)
   statement_shape (node.try_catch b n e p) = node.try_catch (block_shape b) (node_shape n) (block_shape e) nowhere
+  statement_shape (node.defer_statement b p) = node.defer_statement (block_shape b) nowhere
   statement_shape (node.break_loop v m p) = node.break_loop (optional_shape v) m nowhere
   statement_shape (node.return_statement v m p) = node.return_statement (optional_shape v) m nowhere
   statement_shape (node.import_statement n t p) = node.import_statement (node_shape n) t nowhere
@@ -260,6 +261,7 @@ abbrev mutual
       form.For (names_shape names) nowhere (run_shape over) nowhere (body_shape body)
   construct_shape (form.Try opening body catch_at name catch_opening handler) =
       form.Try nowhere (body_shape body) nowhere (catch_shape name) nowhere (body_shape handler)
+  construct_shape (form.Defer opening body) = form.Defer nowhere (body_shape body)
 
   pub conditional_shape : Conditional → Conditional
   conditional_shape (form.Guarded guard opening body rest) =

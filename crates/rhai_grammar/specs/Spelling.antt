@@ -224,6 +224,7 @@ abbrev mutual
   construct_spelling (form.Try opening body catch_at name catch_opening handler) =
       in_code (Sign LeftBrace) opening ∷ (body_spelling body ++ (in_code (Sign token.Catch) catch_at
       ∷ (catch_spelling name ++ (in_code (Sign LeftBrace) catch_opening ∷ body_spelling handler))))
+  construct_spelling (form.Defer opening body) = in_code (Sign LeftBrace) opening ∷ body_spelling body
 
   pub conditional_spelling : Conditional → List Taken
   conditional_spelling (form.Guarded guard opening body rest) =

@@ -14,6 +14,7 @@ use Rattle.rhai_lower.specs.Nodes.{position_of, noop, expression, assignment, bl
 use Rattle.rhai_lower.specs.Nodes.{braces, interpolated, no_statements, one_statement, var_statement}
 use Rattle.rhai_lower.specs.Nodes.{Optional, absent, block_of_one, break_loop, do_statement, for_statement}
 use Rattle.rhai_lower.specs.Nodes.{if_statement, made_block, present, return_statement, try_catch, while_statement}
+use Rattle.rhai_lower.specs.Nodes.{defer_statement}
 use Rattle.rhai_lower.specs.Nodes as node
 use Rattle.rhai_lower.specs.declared.position.Position.{Position}
 use Rattle.rhai_lower.specs.declared.token.Token.TheVariants.{Plus, UnaryMinus}
@@ -280,6 +281,7 @@ abbrev mutual
   construct_tree (form.Try opening body catch_at name catch_opening branch) live at =
       try_catch (block_tree opening body live) (catch_node (caught name))
       (block_tree catch_opening branch (catch_live (caught_name (caught name)) live)) at
+  construct_tree (form.Defer opening body) live at = defer_statement (block_tree opening body live) at
 
   pub conditional_tree : Conditional → Live → Position → node.Statement
   conditional_tree (form.Guarded guard opening body branch) live at =

@@ -163,6 +163,7 @@ abbrev mutual
       events over live ++ body_events body (loop_live (loop_name names) (counter_of names) live)
   construct_events (form.Try opening body catch_at name catch_opening handler) live =
       body_events body live ++ body_events handler (catch_live (caught_name (caught name)) live)
+  construct_events (form.Defer opening body) live = body_events body live
 
   pub conditional_events : Conditional → Live → List Event
   conditional_events (form.Guarded guard opening body branch) live =

@@ -326,6 +326,7 @@ abbrev mutual
       in_braces opening (block body) context live at (
       due_token due.Catch catch_at (catch_name name (
       in_braces catch_opening (block handler) context (catch_live (caught_name (caught name)) live) at more)))
+  construct (form.Defer opening body) context live at more = in_braces opening (block body) context live at more
 
   -- After `if`, which is at a position.
   pub conditional : Conditional → Context → Live → (at : Position) → Demands → Demands

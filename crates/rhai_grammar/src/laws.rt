@@ -10,7 +10,7 @@ ghost use Rattle.rhai_grammar.specs.Rows.{PairRow, RangedRow, SizedRow, SumRow};
 ghost use Rattle.rhai_grammar.specs.RowsOfChains.{CaptureRow, GroupedRow, JoinedRow, QuestionedRow};
 ghost use Rattle.rhai_grammar.specs.RowsOfClosures.{CaseRow, ClosureSumRow, DotRow, EmptyBodyRow, FunctionNameRow};
 ghost use Rattle.rhai_grammar.specs.RowsOfClosures.{MemberRow, NestedRow, SecondFunctionRow, SlotRow};
-ghost use Rattle.rhai_grammar.specs.RowsOfConstructs.{ArmRow, BreakRow, DefaultRow, IntegerRow, LoopRow, PipeRow};
+ghost use Rattle.rhai_grammar.specs.RowsOfConstructs.{ArmRow, BreakRow, DefaultRow, DeferRow, IntegerRow, LoopRow, PipeRow};
 ghost use Rattle.rhai_grammar.specs.RowsOfFunctions.{CommentRow, FunctionRow};
 ghost use Rattle.rhai_grammar.specs.RowsOfModules.{ExportedRow, TwiceRow};
 ghost use Rattle.rhai_grammar.specs.RowsOfStatements.{AgainRow, ConstantRow, LetRow, OpenBlockRow};
@@ -226,6 +226,13 @@ pub fn loop_row()
 #[tactic(auto, using(crate::proofs::ConstructRowLemmas::break_row))]
 pub fn break_row()
     ensures { BreakRow }
+{}
+
+/// `defer { break; }` is refused outside of a loop, at the `break`, and fits where the settings say that the script is in
+/// one.
+#[tactic(auto, using(crate::proofs::ConstructRowLemmas::defer_row))]
+pub fn defer_row()
+    ensures { DeferRow }
 {}
 
 /// In `let x = 1; switch 1 { 1 => let y = 2 } x` the definition in the arm is in a block of its own, and the last use

@@ -15,7 +15,7 @@ use Rattle.rhai_lower.specs.declared.token.Token.TheVariants.{RightShift, UnaryP
 use Rattle.rhai_lower.specs.declared.token.Token.TheVariants.{MinusAssign, MultiplyAssign, DivideAssign, ModuloAssign}
 use Rattle.rhai_lower.specs.declared.token.Token.TheVariants.{PowerOfAssign, LeftShiftAssign, RightShiftAssign}
 use Rattle.rhai_lower.specs.declared.token.Token.TheVariants.{AndAssign, OrAssign, XOrAssign, True, False, Let, Const}
-use Rattle.rhai_lower.specs.declared.token.Token.TheVariants.{If, Else, Switch, While, Loop, Do, Until, For, Break}
+use Rattle.rhai_lower.specs.declared.token.Token.TheVariants.{If, Else, Switch, While, Loop, Defer, Do, Until, For, Break}
 use Rattle.rhai_lower.specs.declared.token.Token.TheVariants.{Continue, Return, Throw, Try, Catch, Import, Export, As}
 use Rattle.rhai_lower.specs.declared.token.Token.TheVariants.{Fn, Private, EOF}
 
@@ -134,6 +134,7 @@ literal_of Else = codes "else"
 literal_of Switch = codes "switch"
 literal_of While = codes "while"
 literal_of Loop = codes "loop"
+literal_of Defer = codes "defer"
 literal_of Do = codes "do"
 literal_of Until = codes "until"
 literal_of For = codes "for"

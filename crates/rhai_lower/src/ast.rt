@@ -227,6 +227,8 @@ pub enum Stmt {
     Block(Box<StmtBlock>),
     /// `try`
     TryCatch(Box<FlowControl>, Position),
+    /// `defer`
+    Defer(Box<StmtBlock>, Position),
     /// `break` or `continue`
     BreakLoop {
         value: Option<Box<Expr>>,

@@ -174,6 +174,8 @@ pub enum Token {
     While,
     /// `loop`
     Loop,
+    /// `defer`
+    Defer,
     /// `do`
     Do,
     /// `until`
@@ -328,6 +330,7 @@ impl Token {
             Token::Switch => "switch",
             Token::While => "while",
             Token::Loop => "loop",
+            Token::Defer => "defer",
             Token::Do => "do",
             Token::Until => "until",
             Token::For => "for",

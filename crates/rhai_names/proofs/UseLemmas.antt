@@ -268,6 +268,7 @@ mutual
       let inner = catch_live (caught_name (caught name)) w in
       gets (λ h. both h.0 h.1)
       (tok (test (on (block f opening (level_up c) w _) (tok (past_it (caught_by name _) (tok (test (block g catch_opening (level_up c) inner k))))))))
+  construct (form.Defer opening f) c w at k = tok (test (block f opening (level_up c) w k))
 
   pub conditional : (x : Conditional) (c : Context) (w : Live) (at : Position) (k : Demands)
       → Gives (Reading (statement_mentions (T.conditional_tree x w at)) (E.conditional_events x w) (in_conditional x)) (W.conditional x c w at k) k

@@ -9,6 +9,7 @@ use Rattle.rhai_lower.specs.Nodes.{export_statement, expression, for_statement, 
 use Rattle.rhai_lower.specs.Nodes.{integer, interpolated, method_call, no_arms, no_cases, no_nodes, no_properties}
 use Rattle.rhai_lower.specs.Nodes.{no_statements, noop, object_map, one_arm, one_case, one_node, one_property}
 use Rattle.rhai_lower.specs.Nodes.{one_statement, pointer, present, property, return_statement, share, string}
+use Rattle.rhai_lower.specs.Nodes.{defer_statement}
 use Rattle.rhai_lower.specs.Nodes.{switch_statement, this, try_catch, unit, var_statement, variable, while_statement}
 use Rattle.rhai_lower.specs.Positions.{place}
 use Rattle.rhai_lower.specs.Texts.{Text, same_text}
@@ -80,6 +81,7 @@ unfoldable mutual
   statement_mentions (expression x) = mentions x
   statement_mentions (block_statement block) = block_mentions block
   statement_mentions (try_catch body name handler at) = block_mentions body ++ block_mentions handler
+  statement_mentions (defer_statement body at) = block_mentions body
   statement_mentions (break_loop value breaks at) = optional_mentions value
   statement_mentions (return_statement value throws at) = optional_mentions value
   statement_mentions (import_statement source name at) = mentions source

@@ -6,6 +6,7 @@ use Rattle.std.specs.declared.alloc.Global.{Global}
 use Rattle.std.specs.declared.rc.RcStr.{RcStr}
 use Rattle.rhai_lower.specs.Nodes.{Arms, Block, Cases, Node, Nodes, Optional, Properties, Statement, Statements}
 use Rattle.rhai_lower.specs.Nodes.{absent, array, assignment, block_statement, block_value, boolean, braces, break_loop}
+use Rattle.rhai_lower.specs.Nodes.{defer_statement}
 use Rattle.rhai_lower.specs.Nodes.{call, character, coalescing, conjunction, disjunction, do_statement, dot}
 use Rattle.rhai_lower.specs.Nodes.{export_statement, expression, for_statement, if_statement, import_statement, index}
 use Rattle.rhai_lower.specs.Nodes.{integer, interpolated, method_call, no_arms, no_cases, no_nodes, no_properties}
@@ -70,6 +71,7 @@ unfoldable mutual
   inside_statement (expression x) = inside x + 1
   inside_statement (block_statement block) = block_size block
   inside_statement (try_catch body name handler at) = block_size body + block_size handler
+  inside_statement (defer_statement body at) = block_size body
   inside_statement (break_loop value breaks at) = optional_size value
   inside_statement (return_statement value throws at) = optional_size value
   inside_statement (import_statement source name at) = inside source + 1

@@ -142,6 +142,7 @@ abbrev mutual
   in_construct (form.Do opening body negated at guard) = in_body body ++ in_run guard
   in_construct (form.For names in_at over opening body) = in_run over ++ in_body body
   in_construct (form.Try opening body catch_at name catch_opening handler) = in_body body ++ in_body handler
+  in_construct (form.Defer opening body) = in_body body
 
   pub in_conditional : Conditional → List WrittenFunction
   in_conditional (form.Guarded guard opening body branch) = in_run guard ++ (in_body body ++ in_branch branch)

@@ -247,7 +247,7 @@ impl<'a> Walk<'a> {
             Stmt::Var { value, .. } => self.push(Part::Expr(value)),
             Stmt::Import { path, .. } => self.push(Part::Expr(path)),
             Stmt::Expr(expr) => self.push(Part::Expr(expr)),
-            Stmt::Block(block) => self.push_block(block),
+            Stmt::Block(block) | Stmt::Defer(block, _) => self.push_block(block),
             Stmt::BreakLoop {
                 value: Some(value),
                 ..

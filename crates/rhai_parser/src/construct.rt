@@ -1,9 +1,9 @@
-//! Readers of conditions, loops, and `try`.
+//! Readers of conditions, loops, `try` and `defer`.
 
 pub(crate) mod control;
 
 ghost use Rattle.rhai_lower.specs.View.{block_view, statement_view, view};
-ghost use Rattle.rhai_grammar.specs.declared.role.Construct.TheVariants.{Do, For, Loop, Try, While};
+ghost use Rattle.rhai_grammar.specs.declared.role.Construct.TheVariants.{Defer, Do, For, Loop, Try, While};
 ghost use Rattle.rhai_parser.specs.Readers.{Covers, GoesOn, Reads, braced, branch, conditional, construct};
 ghost use Rattle.rhai_parser.specs.Readers.{guard, iterated};
 ghost use Rattle.rhai_parser.specs.Rooms.{Stays};
@@ -22,7 +22,7 @@ use rhai_base::{Frame, ParseSettings};
 use rhai_grammar::{Construct, DueToken, ParseResult};
 use rhai_lower::{Expr, Position, Stmt, StmtBlock};
 use rhai_trees::{
-    make_block_statement, make_do, make_for, make_if, make_try, make_while, no_block,
+    make_block_statement, make_defer, make_do, make_for, make_if, make_try, make_while, no_block,
 };
 
 impl<R: LentReaders> Reader<'_, R> {
@@ -54,6 +54,7 @@ impl<R: LentReaders> Reader<'_, R> {
             Construct::Do => self.parse_do(shared, frame, settings),
             Construct::For => self.parse_for(shared, frame, settings),
             Construct::Try => self.parse_try(shared, frame, settings),
+            Construct::Defer => self.parse_defer(shared, frame, settings),
             Construct::Switch => self.parse_switch(shared, frame, settings),
         }
     }
@@ -304,5 +305,25 @@ impl<R: LentReaders> Reader<'_, R> {
         let inner = catch_frame(self.language.alloc(), frame, &name)?;
         let handler = nested!(shared, self.parse_braces(shared, &inner, settings))?;
         Ok(make_try(self.language.alloc(), body, name, handler, settings.pos)?)
+    }
+
+    /// Reads a `defer` after its keyword, where the settings stand. Its block is no loop's.
+    #[tactic(auto, using(crate::proofs::ConstructReaders::parse_defer))]
+    fn parse_defer(
+        &self,
+        shared: &mut Shared<'_>,
+        frame: &Frame<'_>,
+        settings: ParseSettings,
+    ) -> ParseResult<Stmt>
+        requires lent { Covers (R.lent self.now.readers) (construct self.now.language.now frame.now settings Defer)
+            shared.old }
+        ensures goes_on { GoesOn shared.old shared.new }
+        ensures stays { Stays self.now.language.now frame.now settings 4 shared.old shared.new }
+        ensures reads { Reads (construct self.now.language.now frame.now settings Defer) statement_view shared.old
+            result
+            shared.new }
+    {
+        let body = nested!(shared, self.parse_braces(shared, frame, settings))?;
+        Ok(make_defer(self.language.alloc(), body, settings.pos)?)
     }
 }

@@ -1,9 +1,11 @@
 //! `Lent`: the readers of expressions and of statements, lent to the reader of scripts.
 
-ghost use Rattle.std.specs.Prelude.{◌≡◌, ◌+◌};
+ghost use Rattle.std.specs.Prelude.{◌≡◌, ◌≤◌, ◌+◌, IfOk, true};
 ghost use Rattle.rhai_lower.specs.Nodes.{no_statements};
 ghost use Rattle.rhai_lower.specs.View.{statement_view, view};
 ghost use Rattle.rhai_base.specs.Frames.{SamePlace};
+ghost use Rattle.rhai_grammar.specs.Cursors.{left};
+ghost use Rattle.rhai_grammar.specs.Statements.{ends_itself};
 ghost use Rattle.rhai_reading.specs.Running.{need};
 ghost use Rattle.rhai_parser.specs.Readers.{GoesOn, Nests, Reads, expression, state_of};
 ghost use Rattle.rhai_parser.specs.Readers.{statement, statements, statements_of, whole, with_live};
@@ -43,11 +45,15 @@ where
         × ((language : _) (shared : _) (frame : _) (settings : _)
         → need (statement language.now frame.now settings) (state_of shared.now) ≡ n
         → S.pre s.stmt language shared frame settings
-        × ((result : _) (after : _) (left : _) → S.post s.stmt language shared frame settings result after left
+        × ((result : _) (after : _) (after_frame : _)
+        → S.post s.stmt language shared frame settings result after after_frame
         → GoesOn shared.now after.now
         × (Stays language.now frame.now settings (2 + function_room language.now settings) shared.now after.now
-        × Nests (statement language.now frame.now settings) (with_live statement_view left.now) shared.now result
-        after.now))) };
+        × SamePlace frame.now after_frame.now
+        × Nests (statement language.now frame.now settings) (with_live statement_view after_frame.now) shared.now result
+        after.now
+        × IfOk result (λ s. ends_itself (statement_view s) ≡ true
+        → left (state_of after.now).cursor.tokens + 1 ≤ left (state_of shared.now).cursor.tokens)))) };
 
     fn parse_chain(
         &self,
@@ -103,8 +109,11 @@ fn parse_stmt(
     ensures goes_on { GoesOn shared.old shared.new }
     ensures stays { Stays language.now frame.old settings
         (2 + function_room language.now settings) shared.old shared.new }
+    ensures place { SamePlace frame.old frame.new }
     ensures reads { Nests (statement language.now frame.old settings) (with_live statement_view frame.new) shared.old
         result shared.new }
+    ensures takes { IfOk result (λ s. ends_itself (statement_view s) ≡ true
+        → left (state_of shared.new).cursor.tokens + 1 ≤ left (state_of shared.old).cursor.tokens) }
 {
     let readers = Lent {
         chain: parse_chain,

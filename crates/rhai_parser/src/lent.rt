@@ -1,8 +1,11 @@
 //! `LentReaders`: what readers read for each other.
 
-ghost use Rattle.std.specs.Prelude.{ℕ, ◌+◌};
+ghost use Rattle.std.specs.Prelude.{◌≡◌, ◌≤◌, ℕ, ◌+◌, IfOk, true};
 ghost use Rattle.rhai_lower.specs.View.{statement_view, view};
 ghost use Rattle.rhai_parser.specs.Readers.{GoesOn, Nests, expression, state_of, statement, with_live};
+ghost use Rattle.rhai_base.specs.Frames.{SamePlace};
+ghost use Rattle.rhai_grammar.specs.Cursors.{left};
+ghost use Rattle.rhai_grammar.specs.Statements.{ends_itself};
 ghost use Rattle.rhai_reading.specs.Running.{need};
 ghost use Rattle.rhai_parser.specs.Rooms.{Stays, function_room};
 ghost use Rattle.rhai_trees.specs.Chains.{chain_view};
@@ -63,6 +66,9 @@ pub trait LentReaders {
         ensures goes_on { GoesOn shared.old shared.new }
         ensures stays { Stays language.now frame.old settings
             (2 + function_room language.now settings) shared.old shared.new }
+        ensures place { SamePlace frame.old frame.new }
         ensures reads { Nests (statement language.now frame.old settings) (with_live statement_view frame.new)
-            shared.old result shared.new };
+            shared.old result shared.new }
+        ensures takes { IfOk result (λ s. ends_itself (statement_view s) ≡ true
+            → left (state_of shared.new).cursor.tokens + 1 ≤ left (state_of shared.old).cursor.tokens) };
 }

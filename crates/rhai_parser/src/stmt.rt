@@ -63,7 +63,9 @@ impl<R: LentReaders> Reader<'_, R> {
             if list_ends(self.language.alloc(), shared.input, closing)? {
                 return Ok(statements);
             }
-            let statement = nested!(shared, self.parse_stmt(shared, frame, settings))?;
+            let statement = self
+                .readers
+                .parse_stmt(self.language, shared, frame, settings)?;
             let ended = ends_itself(&statement);
             push_statement(&mut statements, statement)?;
             if ended {

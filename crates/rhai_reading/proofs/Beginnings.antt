@@ -159,6 +159,7 @@ starts (Sign token.Loop) p = refl
 starts (Sign token.Do) p = refl
 starts (Sign token.For) p = refl
 starts (Sign token.Try) p = refl
+starts (Sign token.Defer) p = refl
 starts (Sign token.Let) p = refl
 starts (Sign token.Const) p = refl
 starts (Sign token.Return) p = refl
@@ -214,6 +215,7 @@ started c s e =
 pub starts_value : (c : Context) (k : Kind) → may_be_value c k ≡ true
     → beginning (Sign (construct_token k)) ≡ begin.Construct k
 starts_value c kind.Try e = absurd cc
+starts_value c kind.Defer e = absurd cc
 starts_value c kind.Block e = refl
 starts_value c kind.If e = refl
 starts_value c kind.Switch e = refl
@@ -231,6 +233,7 @@ any_construct_starts kind.Loop = refl
 any_construct_starts kind.Do = refl
 any_construct_starts kind.For = refl
 any_construct_starts kind.Try = refl
+any_construct_starts kind.Defer = refl
 
 pub starts_construct : (c : Context) (k : Kind) → may_stand c k ≡ true
     → statement_start c (Sign (construct_token k)) ≡ start.Construct k

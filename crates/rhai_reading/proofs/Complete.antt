@@ -167,6 +167,7 @@ mutual
   construct (form.For names in_at f opening g) = B.for names in_at f opening g (expression f (run f)) (block g)
   construct (form.Try opening g pos name handler_at h) =
       B.try opening g pos name handler_at h (block g) (block h)
+  construct (form.Defer opening g) = B.defer opening g (block g)
 
   conditional : (x : Conditional) → ConditionalRead x
   conditional (form.Guarded f opening g rest) =

@@ -7,7 +7,7 @@ use Rattle.rhai_lower.specs.Nodes.{Node, unit}
 use Rattle.rhai_lower.specs.Nodes.{noop, expression, assignment}
 use Rattle.rhai_lower.specs.Nodes.{block_statement, no_statements, one_statement, absent}
 use Rattle.rhai_lower.specs.Nodes.{made_block, break_loop, do_statement, for_statement}
-use Rattle.rhai_lower.specs.Nodes.{return_statement, try_catch, while_statement}
+use Rattle.rhai_lower.specs.Nodes.{defer_statement, return_statement, try_catch, while_statement}
 use Rattle.rhai_lower.specs.Nodes as node
 use Rattle.rhai_lower.specs.Positions.{nowhere}
 use Rattle.rhai_lower.specs.declared.position.Position.{Position}
@@ -198,6 +198,7 @@ inside_construct context live at kind.Try =
     Call (Braced context live at) (λ b. Call Catch (λ name.
     Call (Braced context (catch_live (caught_name name) live) at) (λ handler.
     Ret (try_catch b (catch_node name) handler at))))
+inside_construct context live at kind.Defer = Call (Braced context live at) (λ b. Ret (defer_statement b at))
 
 -- after a guard, which may be refused
 abbrev pub guard_on : Node → Option Refusal → Prog Node

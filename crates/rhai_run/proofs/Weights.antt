@@ -1,6 +1,6 @@
 -- What is still to be printed has a weight, which gets less. What stands in the place of an item has less in it.
 use Rattle.std.proofs.Common.{ℕ, ◌+◌, ◌<◌, ◌≡◌, List, [], ◌∷◌, ◌++◌, arith}
-use Rattle.rhai_lower.specs.Nodes.{Arms, Block, Cases, Node, Nodes, Optional, Properties, Statement, Statements, absent, array, assignment, block_statement, block_value, boolean, braces, break_loop, call, character, coalescing, conjunction, disjunction, do_statement, dot, export_statement, expression, for_statement, if_statement, import_statement, index, integer, interpolated, method_call, no_arms, no_nodes, no_properties, no_statements, noop, object_map, one_arm, one_node, one_property, one_statement, pointer, present, property, return_statement, share, string, switch_statement, this, try_catch, unit, var_statement, variable, while_statement}
+use Rattle.rhai_lower.specs.Nodes.{Arms, Block, Cases, Node, Nodes, Optional, Properties, Statement, Statements, absent, array, assignment, block_statement, block_value, boolean, braces, break_loop, call, character, coalescing, conjunction, disjunction, defer_statement, do_statement, dot, export_statement, expression, for_statement, if_statement, import_statement, index, integer, interpolated, method_call, no_arms, no_nodes, no_properties, no_statements, noop, object_map, one_arm, one_node, one_property, one_statement, pointer, present, property, return_statement, share, string, switch_statement, this, try_catch, unit, var_statement, variable, while_statement}
 use Rattle.rhai_run.specs.Orders.{Item, node, nodes, properties, statement, statements, block, arms, ways, after_statement, deeper, statement_parts, after_item, node_parts}
 
 -- One for each node and each list, and what is in them.
@@ -53,6 +53,7 @@ unfoldable mutual
   statement_weight (block_statement b) = block_weight b + 1
   statement_weight (try_catch body name branch at) =
       (block_weight body + (node_weight name + block_weight branch)) + 1
+  statement_weight (defer_statement body at) = block_weight body + 1
   statement_weight (break_loop value breaks at) = optional_weight value + 1
   statement_weight (return_statement value throws at) = optional_weight value + 1
   statement_weight (import_statement path name at) = node_weight path + 1
@@ -124,6 +125,7 @@ statement_parts-less d (assignment op target value at) = omega arith
 statement_parts-less d (expression x) = omega arith
 statement_parts-less d (block_statement b) = omega arith
 statement_parts-less d (try_catch body name branch at) = omega arith
+statement_parts-less d (defer_statement body at) = omega arith
 statement_parts-less d (break_loop absent breaks at) = omega arith
 statement_parts-less d (break_loop (present x) breaks at) = omega arith
 statement_parts-less d (return_statement absent throws at) = omega arith
@@ -152,6 +154,7 @@ statement-less d (var_statement name value place constant exported at) =
 statement-less d (assignment op target value at) = statement_parts-less (deeper d) (assignment op target value at)
 statement-less d (expression x) = statement_parts-less (deeper d) (expression x)
 statement-less d (try_catch body name branch at) = statement_parts-less (deeper d) (try_catch body name branch at)
+statement-less d (defer_statement body at) = statement_parts-less (deeper d) (defer_statement body at)
 statement-less d (break_loop value breaks at) = statement_parts-less (deeper d) (break_loop value breaks at)
 statement-less d (return_statement value throws at) = statement_parts-less (deeper d) (return_statement value throws at)
 statement-less d (import_statement path name at) = statement_parts-less (deeper d) (import_statement path name at)

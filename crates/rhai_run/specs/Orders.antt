@@ -3,6 +3,7 @@
 use Rattle.std.specs.Prelude.{◌≡◌, ℕ, ◌+◌, ◌-◌, ◌^◌, List, [], ◌∷◌, ◌++◌, min, map, reverse, refl}
 use Rattle.rhai_lower.specs.Nodes.{Arms, Block, Cases, Node, Nodes, Optional, Properties, Statement, Statements}
 use Rattle.rhai_lower.specs.Nodes.{absent, array, assignment, block_statement, block_value, boolean, braces, break_loop}
+use Rattle.rhai_lower.specs.Nodes.{defer_statement}
 use Rattle.rhai_lower.specs.Nodes.{call, character, coalescing, conjunction, disjunction, do_statement, dot}
 use Rattle.rhai_lower.specs.Nodes.{export_statement, expression, for_statement, if_statement, import_statement, index}
 use Rattle.rhai_lower.specs.Nodes.{integer, interpolated, method_call, no_arms, no_cases, no_nodes, no_properties}
@@ -96,6 +97,7 @@ statement_parts d (assignment op target value at) = node d target ∷ node d val
 statement_parts d (expression x) = node d x ∷ []
 statement_parts d (block_statement b) = []
 statement_parts d (try_catch body name branch at) = block d body ∷ node d name ∷ block d branch ∷ []
+statement_parts d (defer_statement body at) = block d body ∷ []
 statement_parts d (break_loop value breaks at) = optional_parts d value
 statement_parts d (return_statement value throws at) = optional_parts d value
 statement_parts d (import_statement path name at) = node d path ∷ []

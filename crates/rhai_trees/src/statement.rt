@@ -31,6 +31,7 @@ pub fn ends_itself(statement: &Stmt) -> bool
         | Stmt::While(_, _)
         | Stmt::For(_, _)
         | Stmt::Block(_)
+        | Stmt::Defer(_, _)
         | Stmt::TryCatch(_, _) => true,
         _ => false,
     }

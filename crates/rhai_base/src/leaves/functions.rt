@@ -154,6 +154,7 @@ fn is_keyword(token: &Token) -> bool
             | Token::Switch
             | Token::While
             | Token::Loop
+            | Token::Defer
             | Token::Do
             | Token::Until
             | Token::For

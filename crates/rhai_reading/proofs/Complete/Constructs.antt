@@ -144,6 +144,9 @@ for names in_at f opening g expression reads c w at k s t b m =
     part (iterated f expression c w _ u t l n) (λ v a i.
     part (in_braces (in_form opening g) reads (loop_body c) inner at k v t a i) (λ x d j. ret j))))
 
+pub defer : (opening : Position) (g : Body) → BodyRead g → ConstructRead (form.Defer opening g)
+defer opening g reads c w at k s t b m = part (in_braces (in_form opening g) reads c w at k s t b m) (λ u l n. ret n)
+
 pub try : (opening : Position) (g : Body) (pos : Position) (name : CatchName) (handler_at : Position) (h : Body)
     → BodyRead g → BodyRead h → ConstructRead (form.Try opening g pos name handler_at h)
 try opening g pos name handler_at h reads handles c w at k s t b m =

@@ -226,3 +226,6 @@ module _ {call : Histories} (ih : AllSound call) (c : Context) (w : Live) (at : 
       let inner = catch_live (caught_name (caught e.name)) w in
       ends {v = λ x. node.try_catch (block_tree h.opening h.body w) (catch_node (caught e.name)) x at}
       (ih.of (R.Braced c inner at) u d) (λ f. f) (λ v f. refl) (λ f k o r. r)))
+  construct kind.Defer =
+      ends {v = λ x. node.defer_statement x at} (ih.of (R.Braced c w at) s b)
+      (λ h. record { construct = form.Defer h.opening h.body; is = refl }) (λ v h. refl) (λ h k o r. r)

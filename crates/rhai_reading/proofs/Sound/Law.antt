@@ -211,6 +211,7 @@ any_construct kind.For =
     record { construct = form.For (form.Variable [] nowhere) nowhere any_run nowhere any_body; is = refl }
 any_construct kind.Try =
     record { construct = form.Try nowhere any_body nowhere form.NoName nowhere any_body; is = refl }
+any_construct kind.Defer = record { construct = form.Defer nowhere any_body; is = refl }
 
 abbrev pub any_definition : DefinitionForm
 any_definition = record { name = record { name = []; at = nowhere }; value = form.NoValue }

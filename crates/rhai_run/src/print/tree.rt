@@ -178,6 +178,7 @@ impl<'a> Printer<'a> {
             Stmt::Import { path, .. } => self.push(depth, Part::Expr(path)),
             Stmt::Expr(expr) => self.push(depth, Part::Expr(expr)),
             Stmt::TryCatch(control, _) => self.push_try(depth, control),
+            Stmt::Defer(block, _) => self.push(depth, Part::Block(block)),
             Stmt::BreakLoop {
                 value: Some(value),
                 ..

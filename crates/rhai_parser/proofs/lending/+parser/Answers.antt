@@ -13,7 +13,7 @@ parse_chain-parse_chain-requires t c =
     let same = ap (need (expression c.args.language.now c.args.frame.now c.args.settings)) c.nested-enter.ensures.enters ∙ c.decreases in record {
       lent = λ m below. (
         λ language shared frame settings is. ((falls is below same, tt), λ result after told. told.1),
-        λ language shared frame settings is. ((falls is below same, tt), λ result after left told. told.1),
+        λ language shared frame settings is. ((falls is below same, tt), λ result after after_frame told. told.1),
       );
     }
 
@@ -22,6 +22,6 @@ parse_stmt-parse_stmt-requires t c =
     let same = ap (need (statement c.args.language.now c.args.frame.now c.args.settings)) c.nested-enter.ensures.enters ∙ c.decreases in record {
       lent = λ m below. (
         λ language shared frame settings is. ((falls is below same, tt), λ result after told. told.1),
-        λ language shared frame settings is. ((falls is below same, tt), λ result after left told. told.1),
+        λ language shared frame settings is. ((falls is below same, tt), λ result after after_frame told. told.1),
       );
     }

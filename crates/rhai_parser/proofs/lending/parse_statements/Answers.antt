@@ -4,6 +4,6 @@ pub parse_statements-requires : goal.parse_statements-requires
 parse_statements-requires c = record {
   lent = λ m below. (
     λ language shared frame settings is. (tt, λ result after told. told.1),
-    λ language shared frame settings is. (tt, λ result after left told. told.1),
+    λ language shared frame settings is. (tt, λ result after after_frame told. told.1),
   );
 }
