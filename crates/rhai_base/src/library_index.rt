@@ -1,4 +1,4 @@
-//! `FnNames`: an index of the names in a library. The time of a look-up does not grow with the library.
+//! `LibraryIndex`: an index of the names in a library. The time of a look-up does not grow with the library.
 
 ghost use Rattle.std.specs.Prelude.{◌≡◌, ◌+◌, ◌||◌, ◌++◌, ◌∷◌, [], false, if◌then◌else◌, OnOk, OnErr, IfOk};
 ghost use Rattle.rhai_lower.specs.Texts.{Text, same_text};
