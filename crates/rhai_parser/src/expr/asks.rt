@@ -21,6 +21,7 @@ ghost use Rattle.rhai_reading.specs.Running.{Caller, Gives, Progress, asked, exe
 ghost use Rattle.rhai_parser.specs.Readers.{GoesOn, Reads, state_of};
 ghost use Rattle.rhai_parser.specs.NextOperators.{operator_pair};
 ghost use Rattle.rhai_parser.specs.ExprViews.{linked};
+ghost use Rattle.rhai_parser.specs.Runs.{NextIs};
 ghost use Rattle.rhai_parser.specs.Rooms.{Steady};
 
 use crate::shared::Shared;
@@ -29,7 +30,7 @@ use rhai_base::leaves::operators;
 use rhai_base::leaves::operators::Operator;
 use rhai_base::{Frame, ParseSettings, modules, words};
 use rhai_grammar::{DueToken, ExprFilter, ParseResult};
-use rhai_lower::{Expr, Position, Token, VariableExpr};
+use rhai_lower::{Expr, Position, StringsInterner, Token, VariableExpr};
 use rhai_trees::{Chain, Link, make_unary, test_index};
 use std::alloc::Global;
 
@@ -42,6 +43,7 @@ pub(crate) fn next_operator(
     ensures goes_on { GoesOn shared.old shared.new }
     ensures steady { Steady shared.old shared.new }
     ensures reads { Reads (NextOperator filter) (option_map operator_pair) shared.old result shared.new }
+    ensures next { IfOk result (λ o. NextIs filter o (state_of shared.new)) }
     ensures after { state_of shared.new ≡ looking (state_of shared.old) }
     ensures some { IfOk result (λ o. IsSome o → is_end (asked (state_of shared.old)).lexeme ≡ false) }
     ensures readable { OnOk result (is_memory (asked (state_of shared.old)).lexeme ≡ false) }
@@ -113,6 +115,21 @@ pub(crate) fn test_module(
     }
 }
 
+/// An operand without links. Where it has a path, the module that this begins with is tested.
+#[inline(always)]
+pub(crate) fn end_plain(
+    frame: &Frame<'_>,
+    settings: ParseSettings,
+    operand: Chain,
+) -> ParseResult<Chain>
+    ensures gives { (call : Caller) (t : Progress) (context : Context) → context.settings ≡ settings_of settings
+        → context.known ≡ frame.now.known → Gives chain_view (exec call (tested (chain_view operand)
+        (module_fault context frame.now.live (chain_view operand))) t) result t }
+{
+    test_module(frame, settings, &operand)?;
+    Ok(operand)
+}
+
 /// An operand with its links. Where it has a path, the module that this begins with is tested.
 pub(crate) fn end_operand(
     frame: &Frame<'_>,
@@ -132,6 +149,7 @@ pub(crate) fn end_operand(
 #[tactic(auto, using(rhai_trees::proofs::LinkedLemmas::sign_value))]
 pub(crate) fn sign_operand(
     alloc: Global,
+    interner: &mut StringsInterner,
     sign: Token,
     pos: Position,
     operand: Chain,
@@ -140,6 +158,6 @@ pub(crate) fn sign_operand(
     ensures nowhere { IfErr result MemoryIsNowhere }
 {
     let operand = operand.nest(alloc)?;
-    let signed = make_unary(alloc, sign, pos, operand)?;
+    let signed = make_unary(alloc, interner, sign, pos, operand)?;
     Ok(Chain::from_value(alloc, signed))
 }

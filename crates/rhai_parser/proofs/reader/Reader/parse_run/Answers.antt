@@ -14,48 +14,45 @@ use Rattle.rhai_parser.proofs.reader.Reader.parse_run.Goals.{In-Some, In_default
 pub loop-pending-init : goal.loop-pending-init
 loop-pending-init g c = record {
   awaits = nothing_waits _ _ _ c.new-pending.ensures.items c.at.ensures.settings (c.at.ensures.position ∙ c.position.ensures);
+  next = c.requires.next;
+  readable = c.requires.readable;
+  more = c.requires.more;
   goes_on = search rules;
   stays = search rules;
   limit = search rules;
   less = grind arith;
 }
 
-pub returns-in_err-operator-clause-reads : goal.returns-in_err-operator-clause-reads
-returns-in_err-operator-clause-reads g c =
-    let p = err_from_is_err_and c.from_residual.result c.from_residual.ensures.1 in
-    let h = c.in_err-operator.ensures.refused (context_of c.args.self.now.engine.now c.args.frame.now c.loop-pending.run.settings) (live_of c.args.frame.now) c.loop-pending.run.settings.pos (chain_view c.loop-pending.run.lhs) (sym c.filter.ensures) in
-    rw (p.1, p.2) (λ told. awaits_refused c.loop-pending.invariant.awaits (h.0 told), h.1)
-
 -- an operator goes on with the run
 found : (g : _) (c : In-Some g) → result_of (binary_op c.args.self.now.engine.now c.args.frame.now c.loop-pending.run.settings c.loop-pending.run.settings.pos c.loop-pending.run.parent (chain_view c.loop-pending.run.lhs)) (state_of c.loop-pending.shared)
     ≡ exec (guarded (binary_op c.args.self.now.engine.now c.args.frame.now c.loop-pending.run.settings c.loop-pending.run.settings.pos c.loop-pending.run.parent (chain_view c.loop-pending.run.lhs)) (state_of c.loop-pending.shared))
-    (Peek (binary_on (context_of c.args.self.now.engine.now c.args.frame.now c.loop-pending.run.settings) (live_of c.args.frame.now) c.loop-pending.run.settings.pos c.loop-pending.run.parent (chain_view c.loop-pending.run.lhs) c.in-Some.operator.strength)) (state_of c.next_in_run.new.shared)
+    (Peek (binary_on (context_of c.args.self.now.engine.now c.args.frame.now c.loop-pending.run.settings) (live_of c.args.frame.now) c.loop-pending.run.settings.pos c.loop-pending.run.parent (chain_view c.loop-pending.run.lhs) c.in-Some.operator.strength)) (state_of c.loop-pending.shared)
 found g c =
     let k = context_of c.args.self.now.engine.now c.args.frame.now c.loop-pending.run.settings in
     let w = live_of c.args.frame.now in
     let at = c.loop-pending.run.settings.pos in
     let lhs = chain_view c.loop-pending.run.lhs in
-    c.in_ok-operator.ensures.found k w at lhs (sym c.filter.ensures)
-    ∙ ap (λ o. exec (guarded (BinaryOp k w at c.loop-pending.run.parent lhs) (state_of c.loop-pending.shared)) (run_at k w at c.loop-pending.run.parent lhs o) (state_of c.next_in_run.new.shared)) c.in-Some.is
+    c.loop-pending.invariant.next k w at c.loop-pending.run.parent lhs refl
+    ∙ ap (λ o. exec (guarded (BinaryOp k w at c.loop-pending.run.parent lhs) (state_of c.loop-pending.shared)) (run_at k w at c.loop-pending.run.parent lhs o) (state_of c.loop-pending.shared)) (sym c.in_run.ensures ∙ c.in-Some.is)
 
 -- none does
 ended : (g : _) (c : In_default g) → result_of (binary_op c.args.self.now.engine.now c.args.frame.now c.loop-pending.run.settings c.loop-pending.run.settings.pos c.loop-pending.run.parent (chain_view c.loop-pending.run.lhs)) (state_of c.loop-pending.shared)
-    ≡ Done (chain_view c.loop-pending.run.lhs) (state_of c.next_in_run.new.shared)
+    ≡ Done (chain_view c.loop-pending.run.lhs) (state_of c.loop-pending.shared)
 ended g c =
     let k = context_of c.args.self.now.engine.now c.args.frame.now c.loop-pending.run.settings in
     let w = live_of c.args.frame.now in
     let at = c.loop-pending.run.settings.pos in
     let lhs = chain_view c.loop-pending.run.lhs in
-    let none : c.in_ok-operator.operator ≡ None = search rules in
-    c.in_ok-operator.ensures.found k w at lhs (sym c.filter.ensures)
-    ∙ ap (λ o. exec (guarded (BinaryOp k w at c.loop-pending.run.parent lhs) (state_of c.loop-pending.shared)) (run_at k w at c.loop-pending.run.parent lhs o) (state_of c.next_in_run.new.shared)) none
+    let none : c.in_run.result ≡ None = search rules in
+    c.loop-pending.invariant.next k w at c.loop-pending.run.parent lhs refl
+    ∙ ap (λ o. exec (guarded (BinaryOp k w at c.loop-pending.run.parent lhs) (state_of c.loop-pending.shared)) (run_at k w at c.loop-pending.run.parent lhs o) (state_of c.loop-pending.shared)) (sym c.in_run.ensures ∙ none)
 
 pub returns-in_err-outer-clause-reads : goal.returns-in_err-outer-clause-reads
 returns-in_err-outer-clause-reads g c =
     let p = err_from_is_err_and c.from_residual-in_err-outer.result c.from_residual-in_err-outer.ensures.1 in
-    let read = c.in_err-outer.ensures.reads (binary_op c.args.self.now.engine.now c.args.frame.now c.loop-pending.run.settings c.loop-pending.run.settings.pos c.loop-pending.run.parent (chain_view c.loop-pending.run.lhs)) (state_of c.loop-pending.shared) c.in_ok-operator.ensures.goes_on.shorter in
+    let read = c.in_err-outer.ensures.reads (binary_op c.args.self.now.engine.now c.args.frame.now c.loop-pending.run.settings c.loop-pending.run.settings.pos c.loop-pending.run.parent (chain_view c.loop-pending.run.lhs)) (state_of c.loop-pending.shared) (omega (arith)) in
     rw (p.1, p.2) (
-      λ told. awaits_refused c.loop-pending.invariant.awaits (right_refused _ _ _ _ _ c.in-Some.operator.strength _ (state_of c.next_in_run.new.shared) _ _ (found g (goal.at.returns-in_err-outer-clause-reads g c).In-Some) (read.0 told)),
+      λ told. awaits_refused c.loop-pending.invariant.awaits (right_refused _ _ _ _ _ c.in-Some.operator.strength _ (state_of c.loop-pending.shared) _ _ (found g (goal.at.returns-in_err-outer-clause-reads g c).In-Some) (read.0 told)),
       read.1,
     )
 
@@ -66,10 +63,10 @@ loop-pending-preserved-in-Some g c =
     let around = c.in_ok-outer.ensures.around in
     let raised = c.in_ok-outer.ensures.side in
     let k = binary_op c.args.self.now.engine.now c.args.frame.now c.loop-pending.run.settings c.loop-pending.run.settings.pos c.loop-pending.run.parent (chain_view c.loop-pending.run.lhs) in
-    let h : Pushes c.args.self.now.engine.now c.args.frame.now c.args.settings c.loop-pending.run.settings side.settings c.loop-pending.run.parent (chain_view c.loop-pending.run.lhs) c.in-Some.operator.strength (chain_view side.lhs) outer (state_of c.loop-pending.shared) (state_of c.next_in_run.new.shared) (state_of c.parse_operator.new.shared) = record {
+    let h : Pushes c.args.self.now.engine.now c.args.frame.now c.args.settings c.loop-pending.run.settings side.settings c.loop-pending.run.parent (chain_view c.loop-pending.run.lhs) c.in-Some.operator.strength (chain_view side.lhs) outer (state_of c.loop-pending.shared) (state_of c.loop-pending.shared) (state_of c.parse_operator.new.shared) = record {
       found = found g (goal.at.loop-pending-preserved-in-Some g c).In-Some;
-      reads = c.in_ok-outer.ensures.reads k (state_of c.loop-pending.shared) c.in_ok-operator.ensures.goes_on.shorter;
-      short = omega (arith, c.in_ok-outer.ensures.shorter, c.in_ok-operator.ensures.goes_on.shorter);
+      reads = c.in_ok-outer.ensures.reads k (state_of c.loop-pending.shared) (omega (arith));
+      short = c.in_ok-outer.ensures.shorter;
       left_side = ap chain_view around.0;
       outer = around.1;
       side_raised = raised.2.1;
@@ -81,6 +78,9 @@ loop-pending-preserved-in-Some g c =
     } in
     record {
       awaits = pushed_as h raised.0 c.loop-pending.invariant.awaits c.in_ok-push.ensures.items;
+      next = c.in_ok-outer.ensures.next;
+      readable = c.in_ok-outer.ensures.readable;
+      more = c.in_ok-outer.ensures.more;
       goes_on = search rules;
       stays = grind arith;
       limit = raised.1.limit ∙ c.loop-pending.invariant.limit;
@@ -107,7 +107,10 @@ loop-pending-preserved g c =
     let read = ended g (goal.at.loop-pending-preserved g c).In_default in
     let rest = c.in_ok-run.ensures.rest in
     record {
-      awaits = popped_as c.loop-pending.invariant.awaits _ _ _ _ last read rest.1 rest.0 c.in_ok-operator.ensures.goes_on.shorter c.in_ok-run.ensures.answers;
+      awaits = popped_as c.loop-pending.invariant.awaits _ _ _ _ last read rest.1 rest.0 (omega (arith)) c.in_ok-run.ensures.answers;
+      next = c.loop-pending.invariant.next;
+      readable = c.loop-pending.invariant.readable;
+      more = c.loop-pending.invariant.more;
       goes_on = search rules;
       stays = grind arith;
       limit = ap (λ (d : ParseSettings). d.max_expr_depth) rest.1 ∙ popped_limit c.loop-pending.invariant.awaits _ _ _ _ last read;
