@@ -61,6 +61,10 @@ abbrev pub head_at : Lexeme → Position → Prog (Option Text × Text)
 head_at lexeme at =
     if is_type lexeme then Take (Peek (owner_at lexeme at)) else Fail (refusal (no_function_name lexeme) at)
 
+-- its name, with the type of its objects, if it has one
+abbrev pub function_head : Prog (Option Text × Text)
+function_head = Peek head_at
+
 -- ---- the parameters
 
 -- where a parameter may be
