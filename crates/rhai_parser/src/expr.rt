@@ -20,13 +20,12 @@ ghost use Rattle.rhai_parser.specs.Readers.{right_operand, state_of, views_of};
 ghost use Rattle.rhai_parser.specs.Rooms.{Stays};
 ghost use Rattle.rhai_trees.specs.Chains.{chain_view};
 
-use crate::expr::asks::{as_variable, end_operand, end_plain, sign_operand};
+use crate::expr::asks::{as_variable, end_operand, end_plain, ends_here, sign_operand};
 use crate::expr::paths::{NamedOperand, named_operand};
 use crate::lent::LentReaders;
 use crate::reader::Reader;
 use crate::shared::Shared;
 use rhai_base::cursor::{peek, skip, take};
-use rhai_base::leaves::links::ends_operand;
 use rhai_base::leaves::lists::{closes_list, list_continues};
 use rhai_base::leaves::refusals::missing;
 use rhai_base::leaves::tokens::{excludes_use, is_no_argument, is_sign, what_operand};
@@ -242,7 +241,7 @@ impl<R: LentReaders> Reader<'_, R> {
     {
         peek(shared.input)?;
         let primary = nested!(shared, self.parse_primary(shared, frame, settings))?;
-        if !ends_operand(shared.input)? {
+        if !ends_here(shared)? {
             return self.parse_ends(shared, frame, settings, primary);
         }
         nested!(shared, self.pass_postfix(shared, frame, settings, &primary));

@@ -2,6 +2,7 @@
 //! of an operand.
 
 ghost use Rattle.std.specs.Prelude.{◌≡◌, IfErr, IfOk, IsSome, None, OnOk, Some, false, option_map};
+ghost use Rattle.rhai_base.specs.OperandEnds.{ends_operand};
 ghost use Rattle.rhai_base.specs.Settings.{settings_of};
 ghost use Rattle.rhai_lower.specs.Lexemes.{lexeme};
 ghost use Rattle.rhai_lower.specs.Nodes.{variable};
@@ -26,13 +27,14 @@ ghost use Rattle.rhai_parser.specs.Rooms.{Steady};
 
 use crate::shared::Shared;
 use rhai_base::leaves::due::match_token;
+use rhai_base::leaves::links::ends_operand;
 use rhai_base::leaves::operators;
 use rhai_base::leaves::operators::Operator;
 use rhai_base::{Frame, ParseSettings, modules, words};
 use rhai_grammar::{DueToken, ExprFilter, ParseResult};
 use rhai_lower::{Expr, Position, StringsInterner, Token, VariableExpr};
 use rhai_trees::{Chain, Link, make_unary, test_index};
-use std::alloc::Global;
+use std::alloc::{AllocError, Global};
 
 /// The operator that stands after an operand, if there is one that the filter lets pass; its token stays.
 pub(crate) fn next_operator(
@@ -113,6 +115,19 @@ pub(crate) fn test_module(
         Some(value) => modules::test_module(frame, settings, value),
         None => Ok(()),
     }
+}
+
+/// Whether an operand ends before the next token, which stays. The error comes where the tokenizer ran out of memory at
+/// that token.
+#[inline(always)]
+pub(crate) fn ends_here(shared: &mut Shared<'_>) -> Result<bool, AllocError>
+    ensures goes_on { GoesOn shared.old shared.new }
+    ensures steady { Steady shared.old shared.new }
+    ensures value { IfOk result (λ ends. ends ≡ ends_operand (asked (state_of shared.old)).lexeme) }
+    ensures after { state_of shared.new ≡ looking (state_of shared.old) }
+    ensures readable { OnOk result (is_memory (asked (state_of shared.old)).lexeme ≡ false) }
+{
+    ends_operand(shared.input)
 }
 
 /// An operand without links. Where it has a path, the module that this begins with is tested.

@@ -11,8 +11,8 @@ use Rattle.rhai_parser.specs.Runs.{NextIs}
 use Rattle.rhai_parser.proofs.RunLemmas.{Awaits}
 use Rattle.rhai_parser.proofs.reader.Reader.parse_run.Given as goal
 
-abbrev pub invariant-loop-pending : goal.invariant-loop-pending
-invariant-loop-pending g l = record {
+abbrev pub invariant-loop-operator : goal.invariant-loop-operator
+invariant-loop-operator g l = record {
   awaits : Awaits l.self.engine.now l.frame l.fn.settings (left (state_of l.shared).cursor.tokens) l.pending.items
       (result_of (binary_op l.fn.self.engine.now l.fn.frame l.fn.settings (position_of (chain_view l.fn.lhs)) l.fn.parent (chain_view l.fn.lhs)) (state_of l.fn.shared))
       (result_of (binary_op l.self.engine.now l.frame l.run.settings l.run.settings.pos l.run.parent (chain_view l.run.lhs)) (state_of l.shared));
@@ -26,5 +26,5 @@ invariant-loop-pending g l = record {
 }
 
 -- An operator that is taken leaves a token less, and waits; where one that waits is joined, one waits no more.
-abbrev pub decreases-loop-pending : goal.decreases-loop-pending
-decreases-loop-pending g l = 2 * left (state_of l.shared).cursor.tokens + length l.pending.items
+abbrev pub decreases-loop-operator : goal.decreases-loop-operator
+decreases-loop-operator g l = 2 * left (state_of l.shared).cursor.tokens + length l.pending.items
