@@ -1,3 +1,4 @@
+pub mod Terms
 pub mod Steps
 pub mod Kept
 pub mod Grows

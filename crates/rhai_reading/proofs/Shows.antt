@@ -25,6 +25,8 @@ use Rattle.rhai_reading.specs.Reading.{Goal, Val, Prog, Ret, Fail, Peek, Take, T
 use Rattle.rhai_reading.specs.Histories.{State, Outcome, Done, Refused, Unfinished, after_brace, and_then, exec, looking, recast}
 use Rattle.rhai_reading.proofs.Joins.{cursor}
 use Rattle.rhai_reading.proofs.Rules.{at}
+use Rattle.rhai_reading.proofs.Terms.{runs_inline}
+use Rattle.rhai_reading.specs.Goals.{inline}
 use Rattle.rhai_reading.proofs.Looks.{op_at, pos_at}
 use Rattle.rhai_reading.proofs.Paths.{Fits, Aim, Way, here, literally, literally_lost, lost, Passes, Astray, Lost}
 use Rattle.rhai_reading.proofs.Recasts.{for_memory, not_at_last}
@@ -205,18 +207,26 @@ module _ {A : Type 0} {call : Histories} {Q : A → Point → Type 0} {N : Refus
   after k Unfinished h refused done = tt
 
   -- a reader, and what comes after it
-  pub called : {g : Goal} {P : Val g → Point → Type 0} {M : Refusal → State → Type 0} {k : Val g → Prog A} {s : Point}
+  pub goal : {g : Goal} {P : Val g → Point → Type 0} {M : Refusal → State → Type 0} {k : Val g → Prog A} {s : Point}
       {b : Bool} → Tells P M (call g (at s b))
       → ((e : Refusal) (t : State) → M e t → N e t)
       → ((x : Val g) (t : Point) (b : Bool) → P x t → Shows call Q N (k x) t b) → Shows call Q N (Call g k) s b
-  called {k = k} h refused done = record { shown = after k _ h.told refused done }
+  goal {k = k} h refused done = record { shown = after k _ h.told refused done }
 
   -- a reader whose refusals are recast, and what comes after it
-  pub called_literal : {g : Goal} {P : Val g → Point → Type 0} {M : Refusal → State → Type 0} {k : Val g → Prog A}
+  pub goal_literal : {g : Goal} {P : Val g → Point → Type 0} {M : Refusal → State → Type 0} {k : Val g → Prog A}
       {s : Point} {b : Bool} → Tells P M (recast (call g (at s b)))
       → ((e : Refusal) (t : State) → M e t → N e t)
       → ((x : Val g) (t : Point) (b : Bool) → P x t → Shows call Q N (k x) t b) → Shows call Q N (CallLiteral g k) s b
-  called_literal {k = k} h refused done = record { shown = after k _ h.told refused done }
+  goal_literal {k = k} h refused done = record { shown = after k _ h.told refused done }
+
+  -- a term, and what comes after it
+  pub term : {B : Type 0} {P : B → Point → Type 0} {M : Refusal → State → Type 0} {p : Prog B} {k : B → Prog A}
+      {s : Point} {b : Bool} → Shows call P M p s b → ((e : Refusal) (t : State) → M e t → N e t)
+      → ((x : B) (t : Point) (b : Bool) → P x t → Shows call Q N (k x) t b) → Shows call Q N (inline p k) s b
+  term {p = p} {k = k} {s = s} {b = b} h refused done = record {
+    shown = subst (Ensures Q N) (sym (runs_inline H.steps call k p (at s b))) (after k _ h.shown refused done);
+  }
 
   after_apart : {B : Type 0} {P : B → Point → Type 0} {M : Refusal → State → Type 0} (us : List Use)
       (k : B → List Use → Prog A) (o : Outcome B) → Ensures P M o → ((e : Refusal) (t : State) → M e t → N e t)
@@ -230,17 +240,17 @@ module _ {A : Type 0} {call : Histories} {Q : A → Point → Type 0} {N : Refus
   after_apart us k Unfinished h refused done = tt
 
   -- a reader in a closure of its own, and what comes after it
-  pub called_apart : {g : Goal} {P : Val g → Point → Type 0} {M : Refusal → State → Type 0}
+  pub goal_apart : {g : Goal} {P : Val g → Point → Type 0} {M : Refusal → State → Type 0}
       {k : Val g → List Use → Prog A} {s : Point} {b : Bool} → Tells P M (call g (at (apart s) b))
       → ((e : Refusal) (t : State) → M e t → N e t)
       → ((x : Val g) (t : Point) (b : Bool) → P x t → Shows call Q N (k x t.captured) (with_captured s.captured t) b)
       → Shows call Q N (CallApart g k) s b
-  called_apart {k = k} {s = s} h refused done = record { shown = after_apart s.captured k _ h.told refused done }
+  goal_apart {k = k} {s = s} h refused done = record { shown = after_apart s.captured k _ h.told refused done }
 
 -- a reader at the end
 pub tail : {call : Histories} (g : Goal) {Q : Val g → Point → Type 0} {N : Refusal → State → Type 0} {s : Point}
     {b : Bool} → Tells Q N (call g (at s b)) → Shows call Q N (Call g (λ x. Ret x)) s b
-tail g h = called h (λ e t r. r) (λ x t b r. ret r)
+tail g h = goal h (λ e t r. r) (λ x t b r. ret r)
 
 -- what is recast is the refusal of a part that is demanded literally
 recast_told : {F A : Type 0} (L : Kind F A) (s : Point) (o : Outcome A) → Ensures (Read L s) (Halts L s) o
@@ -262,6 +272,10 @@ recast_told L s (Refused e t) h = λ w.
     }
 recast_told L s Unfinished h = tt
 
+pub literally_told : {F A : Type 0} {L : Kind F A} {s : Point} {o : Outcome A} → Answers L s o
+    → Answers (literal L) s (recast o)
+literally_told {L = L} {s = s} {o = o} h = record { told = recast_told L s o h.told }
+
 -- a form was read
 module _ {A F : Type 0} {call : Histories} {K : Kind F A} {from : Point} {N : Refusal → State → Type 0} where
   pub gives : (f : F) {x : A} {s : Point} {b : Bool} → K.tree s f ≡ x
@@ -271,6 +285,13 @@ module _ {A F : Type 0} {call : Histories} {K : Kind F A} {from : Point} {N : Re
   pub done : (f : F) {s : Point} {b : Bool} → ((k : Demands) (o : Aim) → Way k s o → Way (K.demands f k) from o)
       → Shows call (Read K from) N (Ret (K.tree s f)) s b
   done f way = gives f refl way
+
+-- What a reader or a term shows of a part, from where what comes after it is shown.
+abbrev pub Opens : {A B G : Type 0} → Histories → Kind G B → Point → (A → Point → Type 0)
+    → (Refusal → State → Type 0) → (B → Prog A) → Prog A → Point → Bool → Type 0
+Opens call L u Q N k p s b =
+    ((e : Refusal) (t : State) → Halts L u e t → N e t)
+    → ((x : _) (t : Point) (b : Bool) → Read L u x t → Shows call Q N (k x) t b) → Shows call Q N p s b
 
 -- a form may miss a demand
 module _ {A F B : Type 0} {call : Histories} {Q : A → Point → Type 0} {K : Kind F B} {from : Point} where
@@ -305,27 +326,14 @@ module _ {A F B : Type 0} {call : Histories} {Q : A → Point → Type 0} {K : K
   check t f way on = either t on (λ no_. refuse f (way no_))
 
   -- a form is read as a part of another one, from where it begins
-  pub part : {G : Type 0} {g : Goal} {L : Kind G (Val g)} {k : Val g → Prog A} {s u : Point} {b : Bool}
-      → Answers L u (call g (at s b))
+  pub part : {C G : Type 0} {L : Kind G C} {p : Prog A} {k : C → Prog A} {s u : Point} {b : Bool}
+      → Opens call L u Q (Halts K from) k p s b
       → (wrap : G → F) → ((f : G) (k : Demands) (o : Aim) → ((j : Demands) → Way (L.demands f j) u o)
       → Way (K.demands (wrap f) k) from o)
       → ((f : G) (t : Point) (b : Bool) → Passed L f u t → Shows call Q (Halts K from) (k (L.tree t f)) t b)
-      → Shows call Q (Halts K from) (Call g k) s b
-  part {k = k} h wrap way on =
-      called h (λ e t r. record { form = wrap r.form; stops = way r.form _ _ (λ j. r.stops); last = r.last })
-      (λ x t b r. subst (λ y. Shows call Q (Halts K from) (k y) t b) r.is (on r.form t b r.passes))
-
-  -- such a part whose refusals are recast: its demands stand in the whole as literal ones
-  pub part_literal : {G : Type 0} {g : Goal} {L : Kind G (Val g)} {k : Val g → Prog A} {s u : Point} {b : Bool}
-      → Answers L u (call g (at s b))
-      → (wrap : G → F)
-      → ((f : G) (k : Demands) (o : Aim) → ((j : Demands) → Way (Literally (L.demands f Nothing) ▸ j) u o)
-      → Way (K.demands (wrap f) k) from o)
-      → ((f : G) (t : Point) (b : Bool) → Passed (literal L) f u t → Shows call Q (Halts K from) (k (L.tree t f)) t b)
-      → Shows call Q (Halts K from) (CallLiteral g k) s b
-  part_literal {L = L} {k = k} {u = u} h wrap way on =
-      called_literal (record { told = recast_told L u _ h.told })
-      (λ e t r. record { form = wrap r.form; stops = way r.form _ _ (λ j. r.stops); last = r.last })
+      → Shows call Q (Halts K from) p s b
+  part {k = k} opens wrap way on =
+      opens (λ e t r. record { form = wrap r.form; stops = way r.form _ _ (λ j. r.stops); last = r.last })
       (λ x t b r. subst (λ y. Shows call Q (Halts K from) (k y) t b) r.is (on r.form t b r.passes))
 
   -- such a part in a closure of its own
@@ -337,7 +345,7 @@ module _ {A F B : Type 0} {call : Histories} {Q : A → Point → Type 0} {K : K
       → Shows call Q (Halts K from) (k (L.tree t f) t.captured) (with_captured s.captured t) b)
       → Shows call Q (Halts K from) (CallApart g k) s b
   part_apart {k = k} {s = s} h wrap way on =
-      called_apart h (λ e t r. record { form = wrap r.form; stops = way r.form _ e _ _ (λ j. r.stops); last = r.last })
+      goal_apart h (λ e t r. record { form = wrap r.form; stops = way r.form _ e _ _ (λ j. r.stops); last = r.last })
       (λ x t b r. subst (λ y. Shows call Q (Halts K from) (k y t.captured) (with_captured s.captured t) b) r.is
       (on r.form t b r.passes))
 
@@ -364,43 +372,21 @@ rest wrap same way h = record { shown = rest_by _ _ _ _ wrap same way _ h.shown 
 
 module _ {A F H : Type 0} {call : Histories} {K : Kind F A} {from : Point} where
   -- a form is read as the next part, and the rest of the whole is still to be read
-  pub first : {G : Type 0} {g : Goal} {L : Kind G (Val g)} {R : G → H → Demands → Demands} {k : Val g → Prog A}
-      {s u : Point} {b : Bool} → Answers L u (call g (at s b))
+  pub first : {C G : Type 0} {L : Kind G C} {R : G → H → Demands → Demands} {p : Prog A} {k : C → Prog A}
+      {s u : Point} {b : Bool} → Opens call L u (Read K from) (Halts K from) k p s b
       → (wrap : G → H → F) (any : H) → ((f : G) (h : H) (k : Demands) (o : Aim) → Way (L.demands f (R f h k)) u o
       → Way (K.demands (wrap f h) k) from o)
       → ((f : G) (t : Point) (b : Bool) → Goes call (record { tree = λ t h. K.tree t (wrap f h); demands = R f }) t
-      (k (L.tree t f)) t b) → Goes call K from (Call g k) s b
-  first h wrap any way on =
-      part h (λ f. wrap f any) (λ f k o r. way f any k o (r _))
-      (λ f t b G. rest (wrap f) (λ t g. refl) (λ g k o r. way f g k o (G.on r)) (on f t b))
-
-  -- such a part whose refusals are recast
-  pub first_literal : {G : Type 0} {g : Goal} {L : Kind G (Val g)} {R : G → H → Demands → Demands} {k : Val g → Prog A}
-      {s u : Point} {b : Bool} → Answers L u (call g (at s b))
-      → (wrap : G → H → F) (any : H)
-      → ((f : G) (h : H) (k : Demands) (o : Aim) → Way (Literally (L.demands f Nothing) ▸ R f h k) u o
-      → Way (K.demands (wrap f h) k) from o)
-      → ((f : G) (t : Point) (b : Bool) → Goes call (record { tree = λ t h. K.tree t (wrap f h); demands = R f }) t
-      (k (L.tree t f)) t b) → Goes call K from (CallLiteral g k) s b
-  first_literal h wrap any way on =
-      part_literal h (λ f. wrap f any) (λ f k o r. way f any k o (r _))
+      (k (L.tree t f)) t b) → Goes call K from p s b
+  first opens wrap any way on =
+      part opens (λ f. wrap f any) (λ f k o r. way f any k o (r _))
       (λ f t b G. rest (wrap f) (λ t g. refl) (λ g k o r. way f g k o (G.on r)) (on f t b))
 
 -- a form is read as the last part
-pub ends : {A F G : Type 0} {call : Histories} {K : Kind F A} {from : Point} {g : Goal} {L : Kind G (Val g)}
-    {v : Val g → A} {s u : Point} {b : Bool} → Answers L u (call g (at s b))
+pub ends : {A C F G : Type 0} {call : Histories} {K : Kind F A} {from : Point} {L : Kind G C} {p : Prog A}
+    {v : C → A} {s u : Point} {b : Bool} → Opens call L u (Read K from) (Halts K from) (λ x. Ret (v x)) p s b
     → (wrap : G → F) → ((t : Point) (f : G) → K.tree t (wrap f) ≡ v (L.tree t f))
     → ((f : G) (k : Demands) (o : Aim) → Way (L.demands f k) u o → Way (K.demands (wrap f) k) from o)
-    → Goes call K from (Call g (λ x. Ret (v x))) s b
-ends h wrap same way =
-    part h wrap (λ f k o r. way f k o (r k)) (λ f t b G. gives (wrap f) (same t f) (λ k o r. way f k o (G.on r)))
-
--- such a part whose refusals are recast
-pub ends_literal : {A F G : Type 0} {call : Histories} {K : Kind F A} {from : Point} {g : Goal} {L : Kind G (Val g)}
-    {v : Val g → A} {s u : Point} {b : Bool} → Answers L u (call g (at s b))
-    → (wrap : G → F) → ((t : Point) (f : G) → K.tree t (wrap f) ≡ v (L.tree t f))
-    → ((f : G) (k : Demands) (o : Aim) → Way (Literally (L.demands f Nothing) ▸ k) u o
-    → Way (K.demands (wrap f) k) from o)
-    → Goes call K from (CallLiteral g (λ x. Ret (v x))) s b
-ends_literal h wrap same way =
-    part_literal h wrap (λ f k o r. way f k o (r k)) (λ f t b G. gives (wrap f) (same t f) (λ k o r. way f k o (G.on r)))
+    → Goes call K from p s b
+ends opens wrap same way =
+    part opens wrap (λ f k o r. way f k o (r k)) (λ f t b G. gives (wrap f) (same t f) (λ k o r. way f k o (G.on r)))

@@ -247,6 +247,20 @@ pub data Prog (A : Type 0) : Type 0 where
 
 -- ---- terms that several readers have
 
+-- what a term gives, and what comes after it
+unfoldable pub inline : {A B : Type 0} → Prog B → (B → Prog A) → Prog A
+inline (Ret x) rest = rest x
+inline (Fail e) rest = Fail e
+inline (Peek k) rest = Peek (λ lexeme at. inline (k lexeme at) rest)
+inline (Take p) rest = Take (inline p rest)
+inline (TakeText k) rest = TakeText (λ end lexeme at. inline (k end lexeme at) rest)
+inline (Know k) rest = Know (λ library. inline (k library) rest)
+inline (Add ended p) rest = Add ended (inline p rest)
+inline (Note captures u p) rest = Note captures u (inline p rest)
+inline (Call goal k) rest = Call goal (λ v. inline (k v) rest)
+inline (CallLiteral goal k) rest = CallLiteral goal (λ v. inline (k v) rest)
+inline (CallApart goal k) rest = CallApart goal (λ v captured. inline (k v captured) rest)
+
 -- the level is raised, or that is refused at a position
 abbrev pub raised : {A : Type 0} → Context → Position → (Context → Prog A) → Prog A
 raised context at rest = if has_room context then rest (level_up context) else Fail (refusal cause.ExprTooDeep at)

@@ -33,7 +33,7 @@ use Rattle.rhai_reading.proofs.Dues.{closed, expect_name, separated}
 use Rattle.rhai_reading.proofs.Lists.{added, added_last}
 use Rattle.rhai_reading.proofs.Looks.{op_at, pos_at}
 use Rattle.rhai_reading.proofs.Paths.{Aim, Way, ◌▹◌}
-use Rattle.rhai_reading.proofs.Shows.{Histories, Goes, blamed, wrong, fine, fails, take, look, either, gives, done, halt, refuse}
+use Rattle.rhai_reading.proofs.Shows.{goal, Histories, Goes, blamed, wrong, fine, fails, take, look, either, gives, done, halt, refuse}
 use Rattle.rhai_reading.proofs.Shows.{raise, part, ends, Passed}
 use Rattle.rhai_reading.proofs.FormKinds.{Enclosed, Closed, Listing, enclosed_of, enclosed_trees, CallForm, By, call_of}
 use Rattle.rhai_reading.proofs.FormKinds.{call_answer, tree_before, bases, callings, primaries, items, enclosed}
@@ -77,7 +77,7 @@ module _ {call : Histories} (ih : AllSound call) (c : Context) (w : Live) (name 
       list : calling (op_at u) ≡ calls_by.List
           → Goes call (callings c w name qualified) s (R.list_on c w name (is_some bang)) u b
       list e =
-          take (ends (ih.of (R.Arguments c w name) (past code u) false) (λ l. By bang (with_paren (pos_at u) l))
+          take (ends (goal (ih.of (R.Arguments c w name) (past code u) false)) (λ l. By bang (with_paren (pos_at u) l))
           (λ t l. ap (λ (ns : Nodes). (is_some bang, ns)) (paren_trees w (pos_at u) l))
           (λ l k o r. lead _ _ _ (paren l _ c w _ _ (called u e) r)))
 
@@ -144,7 +144,7 @@ module _ {call : Histories} (ih : AllSound call) (w : Live) where
       look (λ m. take (expect_name (form_of [] nowhere form.NoPath)
       (λ n p. R.path_on w (qualified w.imports x n p)) (λ none k. v ▹ here ▹ none.way) (λ name.
       look (λ n. either (qualifies (op_at u))
-      (λ more. ends (ih.of (R.Path w y) u true named more) (λ f. form_of (text_of (op_at t)) (pos_at t) (path_of f))
+      (λ more. ends (goal (ih.of (R.Path w y) u true named more)) (λ f. form_of (text_of (op_at t)) (pos_at t) (path_of f))
       (λ a f. refl) (λ f k o r. v ▹ here ▹ name ▹ r))
       (λ none. done (form_of (text_of (op_at t)) (pos_at t) form.NoPath)
       (λ k o r. v ▹ here ▹ name ▹ fine n (rw (named, none)) ▹ r))))))
@@ -189,7 +189,7 @@ module _ {call : Histories} (ih : AllSound call) (c : Context) (w : Live) (place
         R.tested (call_tree x a.0 a.1) (module_fault c w x))) t true
     call_read on =
         let x = path_tree names w.imports (primary_tree p w true) in
-        part (ih.of (R.Called c w (position_of x) (is_qualified x)) t true on) (with_call p names)
+        part (goal (ih.of (R.Called c w (position_of x) (is_qualified x)) t true on)) (with_call p names)
         (λ f k o r. lead f k o (r _)) (λ f u b H.
         tested (bases c w place) from (with_call p names f) (module_fault c w x) (module_early c w x)
         (with_call_tree p names w f) (λ k o r. lead f k o (H.on r)))
@@ -200,7 +200,7 @@ module _ {call : Histories} (ih : AllSound call) (c : Context) (w : Live) (place
         → Goes call (bases c w place) from (R.Call (R.Path w (primary_tree p w true))
         (λ y. R.Peek (λ m pos. R.call_at c w y m))) s true
     scoped v is =
-        part (ih.of (R.Path w (primary_tree p w true)) s true v is) (λ f. form.Plain p (path_of f))
+        part (goal (ih.of (R.Path w (primary_tree p w true)) s true v is)) (λ f. form.Plain p (path_of f))
         (λ f k o r. G.on (r _)) (λ f t b H.
         let x = path_tree (path_of f) w.imports (primary_tree p w true) in
         let named = path_variable (path_of f) w.imports (primary_tree p w true) v in
@@ -260,19 +260,19 @@ module _ {call : Histories} (ih : AllSound call) (c : Context) (w : Live) where
       (λ close. take (done (Closed (pos_at s)) (λ k o r. closed lists.Arguments s close ▹ r)))
       (λ due.
       raise c (Listing any_items) (λ high k. fine m (rw (some, due)) ▹ fails high) (λ below.
-      ends (ih.of (R.Items (level_up c) w no_nodes) s true) Listing (λ t l. refl)
+      ends (goal (ih.of (R.Items (level_up c) w no_nodes) s true)) Listing (λ t l. refl)
       (λ l k o r. fine m (rw (some, due)) ▹ below ▹ r)))))
 
   pub item_list : (before : Nodes) (s : Point) (b : Bool)
       → Goes call (items c w before) s (body (R.Items c w before)) s b
   item_list before s b =
-      part (ih.of (R.Expression c w) s b) (λ f. form.Last f nowhere) (λ f k o r. r _) (λ f t a G.
+      part (goal (ih.of (R.Expression c w) s b)) (λ f. form.Last f nowhere) (λ f k o r. r _) (λ f t a G.
       let ns = with_node before (tree f w) in
       separated lists.Arguments (form.Last f nowhere) (λ other k. G.on other.way)
       (λ comma. look (λ m. either (is_close (after_part lists.Arguments (op_at (past code t))))
       (λ close. take (gives (form.Trailing f (pos_at t) (pos_at (past code t))) (sym (added_last before (tree f w)))
       (λ k o r. G.on (comma ▹ closed lists.Arguments (past code t) close ▹ r))))
-      (λ more. ends (ih.of (R.Items c w ns) (past code t) true) (form.More f (pos_at t))
+      (λ more. ends (goal (ih.of (R.Items c w ns) (past code t) true)) (form.More f (pos_at t))
       (λ v l. sym (added before (tree f w) (item_trees l w)))
       (λ l k o r. G.on (comma ▹ fine m (rw more) ▹ r)))))
       (λ close. gives (form.Last f (pos_at t)) (sym (added_last before (tree f w))) (λ k o r. G.on (close ▹ r))))

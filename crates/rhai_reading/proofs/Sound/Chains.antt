@@ -36,7 +36,7 @@ use Rattle.rhai_reading.proofs.Dues.{expect}
 use Rattle.rhai_reading.proofs.Lists.{spot_after_one_more}
 use Rattle.rhai_reading.proofs.Looks.{op_at, pos_at}
 use Rattle.rhai_reading.proofs.Paths.{Fits, Aim, Way, ◌▹◌, Lost}
-use Rattle.rhai_reading.proofs.Shows.{Histories, Goes, Kind, ill, blamed, fine, fails, take, look, either, gives, done}
+use Rattle.rhai_reading.proofs.Shows.{goal, Histories, Goes, Kind, ill, blamed, fine, fails, take, look, either, gives, done}
 use Rattle.rhai_reading.proofs.Shows.{refuse, halt, raise, part, first, ends, Passed}
 use Rattle.rhai_reading.proofs.FormKinds.{expressions, CallForm, By, call_answer, links, indices, MemberForm, AProperty}
 use Rattle.rhai_reading.proofs.FormKinds.{AMethod, member_of, member_tree, members}
@@ -125,7 +125,7 @@ module _ {call : Histories} (ih : AllSound call) (c : Context) (w : Live) where
   pub index : (indexed : Option Node) (s : Point) (b : Bool)
       → Goes call (indices c w indexed) s (body (R.Index c w indexed)) s b
   index indexed s b =
-      part (ih.of (R.Expression c w) s b) (λ f. record { index = f; closing = nowhere }) (λ f k o r. r _)
+      part (goal (ih.of (R.Expression c w) s b)) (λ f. record { index = f; closing = nowhere }) (λ f k o r. r _)
       (λ f t a G. index_by indexed s f t a G (index_refusal indexed (tree f w)) refl)
 
   pub member : (s : Point) (b : Bool) → is_member (member_place (op_at s)) ≡ true
@@ -135,7 +135,7 @@ module _ {call : Histories} (ih : AllSound call) (c : Context) (w : Live) where
       let pos = pos_at s in
       let t = past code s in
       look (λ m. take (look (λ n. either (calls (op_at t))
-      (λ on. ends (ih.of (R.Called c w pos false) t true on) (AMethod name is pos) (λ u f. method_is w name is pos f)
+      (λ on. ends (goal (ih.of (R.Called c w pos false) t true on)) (AMethod name is pos) (λ u f. method_is w name is pos f)
       (λ f k o r. refl ▹ fine n (rw on) ▹ r))
       (λ off. either (is_name name)
       (λ named. either (qualifies (op_at t))
@@ -176,9 +176,9 @@ module _ {call : Histories} (ih : AllSound call) (w : Live) (q : LinkSpot) (s : 
       let due : Fits V.member_due t = fine m (rw e) in
       raise q.settings (form.Property (op_at s) (pos_at s) [] nowhere form.NoLink)
       (λ high k. dot ▹ refl ▹ due ▹ fails high) (λ below.
-      first (ih.of (R.Member (level_up q.settings) w) t true (ap is_member e)) (with_member (op_at s) (pos_at s)) form.NoLink
+      first (goal (ih.of (R.Member (level_up q.settings) w) t true (ap is_member e))) (with_member (op_at s) (pos_at s)) form.NoLink
       (dot_way dot due below) (λ f u a.
-      ends (ih.of (R.Links w (spot_after_dot q (member_link (op_at s) (pos_at s) (member_tree w f)))) u a) (λ rest. rest)
+      ends (goal (ih.of (R.Links w (spot_after_dot q (member_link (op_at s) (pos_at s) (member_tree w f)))) u a)) (λ rest. rest)
       (λ v rest. member_links w (op_at s) (pos_at s) q.before f rest) (λ rest k o r. r)))
   dot_by dot (NoMember why) e m =
       refuse (form.Property (op_at s) (pos_at s) [] nowhere form.NoLink) (λ k. dot ▹ refl ▹ ill m (rw e))
@@ -190,10 +190,10 @@ module _ {call : Histories} (ih : AllSound call) (w : Live) (q : LinkSpot) (s : 
       let any = form.Bracket (op_at s) (pos_at s) any_run nowhere form.NoLink in
       take (raise q.brackets any (λ high k. bracket ▹ refl ▹ fails high)
       (λ below. raise (level_up q.brackets) any (λ high k. bracket ▹ refl ▹ below ▹ fails high) (λ deeper.
-      first (ih.of (R.Index (level_up (level_up q.brackets)) w q.indexed) (past code s) false)
+      first (goal (ih.of (R.Index (level_up (level_up q.brackets)) w q.indexed) (past code s) false))
       (λ f rest. form.Bracket (op_at s) (pos_at s) f.index f.closing rest) form.NoLink
       (λ f rest k o r. bracket ▹ refl ▹ below ▹ deeper ▹ r) (λ f u a.
-      ends (ih.of (R.Links w (spot_after_bracket q (bracket_link (op_at s) (pos_at s) (tree f.index w)))) u a)
+      ends (goal (ih.of (R.Links w (spot_after_bracket q (bracket_link (op_at s) (pos_at s) (tree f.index w)))) u a))
       (λ rest. rest) (λ v rest. sym (spot_after_one_more q.before _ (link_list rest w))) (λ rest k o r. r)))))
   links_by link.Dot e m = take (look (λ n. dot_by (ap is_dot e) (member_place (op_at (past code s))) refl n))
   links_by link.Nothing e m =

@@ -26,7 +26,7 @@ use Rattle.rhai_reading.proofs.ClosureKinds.{head_of, unclosed}
 use Rattle.rhai_reading.proofs.Looks.{op_at, pos_at}
 use Rattle.rhai_reading.proofs.Paths as path
 use Rattle.rhai_reading.proofs.Paths.{Aim, Lost, Way, ◌▹◌, apart_lost, here, lost}
-use Rattle.rhai_reading.proofs.Shows.{Goes, Halts, Histories, Kind, Shows, add, done, either, ends, fails, fine, know, look}
+use Rattle.rhai_reading.proofs.Shows.{goal, Goes, Halts, Histories, Kind, Shows, add, done, either, ends, fails, fine, know, look}
 use Rattle.rhai_reading.proofs.Shows.{note, part, part_apart, raise, test}
 use Rattle.rhai_reading.proofs.Sound.Law.{AllSound}
 
@@ -62,7 +62,7 @@ module _ {call : Histories} (ih : AllSound call) (c : Context) (w : Live) (s : P
   closure_body b =
       look (λ m. either (is_end (op_at s))
       (λ end. done (form.NoBody (pos_at s)) (λ k o r. end_is (op_at s) (pos_at s) end ▹ r))
-      (λ other. ends {v = λ f. f.0} (ih.of (R.Statement c w) s true) form.Runs (λ t f. refl)
+      (λ other. ends {v = λ f. f.0} (goal (ih.of (R.Statement c w) s true)) form.Runs (λ t f. refl)
       (λ f k o r. fine {v = runs} m (rw other) ▹ r)))
 
 -- ---- the whole
@@ -94,7 +94,7 @@ module _ {call : Histories} (ih : AllSound call) (c : Context) (w : Live) (at : 
       → Goes call (closures c w at by) s (R.closure_by c w at by) s b
   after_bars bars.Pair s b room = ending ih c w at bars.Pair s room tt s b (λ k o r. r)
   after_bars bars.List s b room =
-      part (ih.of (R.Parameters lists.ClosureParameters [] []) s b) (λ x. unclosed bars.List x any_closure_body)
+      part (goal (ih.of (R.Parameters lists.ClosureParameters [] []) s b)) (λ x. unclosed bars.List x any_closure_body)
       (λ x k o r. room ▹ r _)
       (λ x t a G. ending ih c w at bars.List s room x t a (λ k o r. G.on r))
 

@@ -30,7 +30,7 @@ use Rattle.rhai_reading.proofs.ConstructKinds.{braced, branches, catches, condit
 use Rattle.rhai_reading.proofs.ConstructKinds.{BracedForm, CatchForm, DoForm, LoopForm, iterated_values, loops}
 use Rattle.rhai_reading.proofs.Looks.{op_at, pos_at}
 use Rattle.rhai_reading.proofs.Paths.{Fits, ◌▹◌}
-use Rattle.rhai_reading.proofs.Shows.{Histories, Goes, Passed, done, either, ends, fails, fine, first, halt, ill, look, part}
+use Rattle.rhai_reading.proofs.Shows.{goal, Histories, Goes, Passed, done, either, ends, fails, fine, first, halt, ill, look, part}
 use Rattle.rhai_reading.proofs.Shows.{raise, refuse, take, wrong}
 use Rattle.rhai_reading.proofs.Sound.Chains.{Early, early, faulted, tested, unfaulted}
 use Rattle.rhai_reading.proofs.Sound.Law.{AllSound, any_arms, any_body, any_braced, any_catch, any_conditional, any_do_end, any_loop}
@@ -63,14 +63,14 @@ module _ {call : Histories} (ih : AllSound call) (c : Context) (w : Live) (s : P
   guard b =
       look (λ m. either (is_due due.LeftBrace (op_at s)) (λ brace. refuse any_run (λ k. ill m (rw brace))) (λ none.
       let begins : Fits guard_begins s = fine m (rw none) in
-      part (ih.of (R.Expression c w) s true) (λ f. f) (λ f k o r. begins ▹ r _)
+      part (goal (ih.of (R.Expression c w) s true)) (λ f. f) (λ f k o r. begins ▹ r _)
       (λ f t a G. guard_by f t a begins G (guard_fault (tree f w)) refl)))
 
   pub iterated : (b : Bool) → Goes call (iterated_values c w) s (body (R.Iterated c w)) s b
   iterated b =
       look (λ m. either (is_due due.LeftBrace (op_at s)) (λ brace. refuse any_run (λ k. ill m (rw brace))) (λ none.
       let begins : Fits guard_begins s = fine m (rw none) in
-      part (ih.of (R.Expression c w) s true) (λ f. f) (λ f k o r. begins ▹ r _)
+      part (goal (ih.of (R.Expression c w) s true)) (λ f. f) (λ f k o r. begins ▹ r _)
       (λ f t a G. tested (iterated_values c w) s f (iterated_fault (tree f w)) (iterated_early (tree f w)) refl
       (λ k o r. begins ▹ G.on r))))
 
@@ -78,18 +78,18 @@ module _ {call : Histories} (ih : AllSound call) (c : Context) (w : Live) (s : P
 
   pub in_braces : (at : Position) (b : Bool) → Goes call (braced c w at) s (body (R.Braced c w at)) s b
   in_braces at b =
-      first (ih.of R.BlockStart s b) (λ p f. record { opening = p; body = f }) any_body (λ p f k o r. r) (λ p t a.
+      first (goal (ih.of R.BlockStart s b)) (λ p f. record { opening = p; body = f }) any_body (λ p f k o r. r) (λ p t a.
       raise c any_body (λ high k. fails high) (λ below.
-      ends (ih.of (R.Block (level_up c) w p) t a) (λ f. f) (λ v f. refl) (λ f k o r. below ▹ r)))
+      ends (goal (ih.of (R.Block (level_up c) w p) t a)) (λ f. f) (λ v f. refl) (λ f k o r. below ▹ r)))
 
   -- ---- `if`
 
   pub conditional : (at : Position) (b : Bool) → Goes call (conditionals c w at) s (body (R.Conditional c w at)) s b
   conditional at b =
-      first (ih.of (R.Guard c w) s b) (λ f (h : BracedForm × form.Branch). form.Guarded f h.0.opening h.0.body h.1)
+      first (goal (ih.of (R.Guard c w) s b)) (λ f (h : BracedForm × form.Branch). form.Guarded f h.0.opening h.0.body h.1)
       (any_braced, form.NoElse) (λ f h k o r. r) (λ f t a.
-      first (ih.of (R.Braced c w at) t a) (λ x y. (x, y)) form.NoElse (λ x y k o r. r) (λ x u d.
-      ends {v = λ e. node.if_statement (tree f w) (block_tree x.opening x.body w) e at} (ih.of (R.Branch c w at) u d)
+      first (goal (ih.of (R.Braced c w at) t a)) (λ x y. (x, y)) form.NoElse (λ x y k o r. r) (λ x u d.
+      ends {v = λ e. node.if_statement (tree f w) (block_tree x.opening x.body w) e at} (goal (ih.of (R.Branch c w at) u d))
       (λ y. y) (λ v y. refl) (λ y k o r. r)))
 
   pub branch : (at : Position) (b : Bool) → Goes call (branches c w at) s (body (R.Branch c w at)) s b
@@ -102,9 +102,9 @@ module _ {call : Histories} (ih : AllSound call) (c : Context) (w : Live) (s : P
       (λ again.
       let there = stands due.If (op_at t) (pos_at t) again in
       take (raise c (form.ElseIf (pos_at s) (pos_at t) any_conditional) (λ high k. here ▹ there ▹ fails high) (λ below.
-      ends {v = node.made_block} (ih.of (R.Conditional (level_up c) w (pos_at t)) (past code t) false)
+      ends {v = node.made_block} (goal (ih.of (R.Conditional (level_up c) w (pos_at t)) (past code t) false))
       (form.ElseIf (pos_at s) (pos_at t)) (λ v f. refl) (λ f k o r. here ▹ there ▹ below ▹ r))))
-      (λ none. ends (ih.of (R.Braced c w at) t true) (λ f. form.Else (pos_at s) f.opening f.body) (λ v f. refl)
+      (λ none. ends (goal (ih.of (R.Braced c w at) t true)) (λ f. form.Else (pos_at s) f.opening f.body) (λ v f. refl)
       (λ f k o r. here ▹ fine n (rw none) ▹ r)))))
       (λ none. done form.NoElse (λ k o r. fine m (rw none) ▹ r)))
 
@@ -181,48 +181,48 @@ module _ (call : Histories) (s : Point) where
 module _ {call : Histories} (ih : AllSound call) (c : Context) (w : Live) (at : Position) (s : Point) (b : Bool) where
   pub construct : (k : Kind) → Goes call (constructs c w at k) s (body (R.Construct c w at k)) s b
   construct kind.Block =
-      ends {v = node.block_statement} (ih.of (R.Block c w at) s b) (λ f. record { construct = form.Block f; is = refl })
+      ends {v = node.block_statement} (goal (ih.of (R.Block c w at) s b)) (λ f. record { construct = form.Block f; is = refl })
       (λ v f. refl) (λ f k o r. r)
   construct kind.If =
-      ends (ih.of (R.Conditional c w at) s b) (λ f. record { construct = form.If f; is = refl }) (λ v f. refl)
+      ends (goal (ih.of (R.Conditional c w at) s b)) (λ f. record { construct = form.If f; is = refl }) (λ v f. refl)
       (λ f k o r. r)
   construct kind.Switch =
-      first (ih.of (R.Expression c w) s b)
+      first (goal (ih.of (R.Expression c w) s b))
       (λ f (h : Position × form.Arms). record { construct = form.Switch f h.0 h.1; is = refl }) (nowhere, any_arms)
       (λ f h k o r. r) (λ f t a.
       expect due.LeftBrace (nowhere, any_arms) (λ missing k. missing.way) (λ opens.
-      ends {v = λ all. switch_tree (tree f w) all at} (ih.of (R.Arms c w nothing_collected) (past code t) false)
+      ends {v = λ all. switch_tree (tree f w) all at} (goal (ih.of (R.Arms c w nothing_collected) (past code t) false))
       (λ list. (pos_at t, list)) (λ v list. refl) (λ list k o r. opens ▹ r)))
   construct kind.While =
-      first (ih.of (R.Guard c w) s b)
+      first (goal (ih.of (R.Guard c w) s b))
       (λ f (h : BracedForm). record { construct = form.While f h.opening h.body; is = refl }) any_braced (λ f h k o r. r)
-      (λ f t a. ends {v = λ x. node.while_statement (tree f w) x at} (ih.of (R.Braced (loop_body c) w at) t a) (λ h. h)
+      (λ f t a. ends {v = λ x. node.while_statement (tree f w) x at} (goal (ih.of (R.Braced (loop_body c) w at) t a)) (λ h. h)
       (λ v h. refl) (λ h k o r. r))
   construct kind.Loop =
-      ends {v = λ x. node.while_statement (node.unit nowhere) x at} (ih.of (R.Braced (loop_body c) w at) s b)
+      ends {v = λ x. node.while_statement (node.unit nowhere) x at} (goal (ih.of (R.Braced (loop_body c) w at) s b))
       (λ h. record { construct = form.Loop h.opening h.body; is = refl }) (λ v h. refl) (λ h k o r. r)
   construct kind.Do =
-      first (ih.of (R.Braced (loop_body c) w at) s b)
+      first (goal (ih.of (R.Braced (loop_body c) w at) s b))
       (λ h (f : DoForm × Run). record { construct = form.Do h.opening h.body f.0.negated f.0.at f.1; is = refl })
       (any_do_end, any_run) (λ h f k o r. r) (λ h t a.
-      first (ih.of R.DoEnd t a) (λ e f. (e, f)) any_run (λ e f k o r. r) (λ e u d.
-      ends {v = λ x. node.do_statement x (block_tree h.opening h.body w) e.negated at} (ih.of (R.Guard c w) u d) (λ f. f)
+      first (goal (ih.of R.DoEnd t a)) (λ e f. (e, f)) any_run (λ e f k o r. r) (λ e u d.
+      ends {v = λ x. node.do_statement x (block_tree h.opening h.body w) e.negated at} (goal (ih.of (R.Guard c w) u d)) (λ f. f)
       (λ v f. refl) (λ f k o r. r)))
   construct kind.For =
-      first (ih.of R.LoopNames s b) (λ n (f : Run × BracedForm). record {
+      first (goal (ih.of R.LoopNames s b)) (λ n (f : Run × BracedForm). record {
         construct = form.For n.names n.in_at f.0 f.1.opening f.1.body;
         is = refl;
       }) (any_run, any_braced) (λ n f k o r. r) (λ n t a.
       let inner = loop_live (loop_name n.names) (counter_of n.names) w in
-      first (ih.of (R.Iterated c w) t a) (λ f h. (f, h)) any_braced (λ f h k o r. r) (λ f u d.
+      first (goal (ih.of (R.Iterated c w) t a)) (λ f h. (f, h)) any_braced (λ f h k o r. r) (λ f u d.
       ends {v = λ x. node.for_statement (loop_name n.names) (counter_of n.names) (tree f w) x at}
-      (ih.of (R.Braced (loop_body c) inner at) u d) (λ h. h) (λ v h. refl) (λ h k o r. r)))
+      (goal (ih.of (R.Braced (loop_body c) inner at) u d)) (λ h. h) (λ v h. refl) (λ h k o r. r)))
   construct kind.Try =
-      first (ih.of (R.Braced c w at) s b) (λ h (f : CatchForm × BracedForm). record {
+      first (goal (ih.of (R.Braced c w at) s b)) (λ h (f : CatchForm × BracedForm). record {
         construct = form.Try h.opening h.body f.0.at f.0.name f.1.opening f.1.body;
         is = refl;
       }) (any_catch, any_braced) (λ h f k o r. r) (λ h t a.
-      first (ih.of R.Catch t a) (λ e f. (e, f)) any_braced (λ e f k o r. r) (λ e u d.
+      first (goal (ih.of R.Catch t a)) (λ e f. (e, f)) any_braced (λ e f k o r. r) (λ e u d.
       let inner = catch_live (caught_name (caught e.name)) w in
       ends {v = λ x. node.try_catch (block_tree h.opening h.body w) (catch_node (caught e.name)) x at}
-      (ih.of (R.Braced c inner at) u d) (λ f. f) (λ v f. refl) (λ f k o r. r)))
+      (goal (ih.of (R.Braced c inner at) u d)) (λ f. f) (λ v f. refl) (λ f k o r. r)))

@@ -36,7 +36,7 @@ use Rattle.rhai_reading.proofs.FunctionKinds.{CommentsRead, FunctionForm, HeadFo
 use Rattle.rhai_reading.proofs.FunctionKinds.{function_statements, functions, heads, parameter_lists, parameters}
 use Rattle.rhai_reading.proofs.Looks.{op_at, pos_at}
 use Rattle.rhai_reading.proofs.Paths.{◌▹◌, lost}
-use Rattle.rhai_reading.proofs.Shows.{Histories, Goes, Shows, add, blamed, called, check, done, either, ends, fails, fine}
+use Rattle.rhai_reading.proofs.Shows.{Histories, Goes, Shows, add, blamed, goal, check, done, either, ends, fails, fine}
 use Rattle.rhai_reading.proofs.Shows.{first, halt, over, ret}
 use Rattle.rhai_reading.proofs.Shows.{know, look, part, raise, refuse, take, test, wrong}
 use Rattle.rhai_reading.proofs.Sound.Law.{AllSound, any_body, any_braced}
@@ -52,7 +52,7 @@ module _ {call : Histories} (ih : AllSound call) (before : List Comment) (c : Co
         look (λ m. either (is_comment (op_at s))
         (λ is.
         let here = comment_is (op_at s) (pos_at s) is in
-        take (called (ih.of (R.Comments (before ++ x ∷ [])) (past code s) false c start) (λ e u r. r) (λ xs t d r. ret (record {
+        take (goal (ih.of (R.Comments (before ++ x ∷ [])) (past code s) false c start) (λ e u r. r) (λ xs t d r. ret (record {
           rest = x ∷ r.rest;
           is = sym (append_assoc before (x ∷ []) r.rest) ∙ r.is;
           passes = over (λ k o way. here ▹ r.passes.on way);
@@ -130,7 +130,7 @@ module _ {call : Histories} (ih : AllSound call) (function : Text) (s : Point) w
       → Goes call (parameter_lists function) s (R.parameters_at function (op_at s) (pos_at s) v) s true
   list_by calls_by.Pair e m = take (done (form.EmptyParameters (pos_at s)) (λ k o r. called_by s e ▹ r))
   list_by calls_by.List e m =
-      take (ends (ih.of (R.Parameters lists.Parameters function []) (past code s) false) (form.ListedParameters (pos_at s))
+      take (ends (goal (ih.of (R.Parameters lists.Parameters function []) (past code s) false)) (form.ListedParameters (pos_at s))
       (λ v x. refl) (λ x k o r. called_by s e ▹ r))
   list_by calls_by.Bang e m = refuse any_list (λ k. wrong m (rw e))
   list_by calls_by.Nothing e m = refuse any_list (λ k. wrong m (rw e))
@@ -152,7 +152,7 @@ module _ {call : Histories} (ih : AllSound call) (parts : CommaList) (function :
         (λ fresh.
         let new = ap not fresh in
         separated parts (last nowhere) (λ other k. here ▹ new ▹ other.way)
-        (λ comma. ends (ih.of (R.Parameters parts function (before ++ name ∷ [])) (past code t) false)
+        (λ comma. ends (goal (ih.of (R.Parameters parts function (before ++ name ∷ [])) (past code t) false))
         (form.Parameter name (pos_at s) (pos_at t)) (λ v x. refl) (λ x k o r. here ▹ new ▹ comma ▹ r))
         (λ close. done (last (pos_at t)) (λ k o r. here ▹ new ▹ close ▹ r))))
     parameter_by place.Nothing e m = refuse (form.NoParameter nowhere) (λ k. wrong m (rw e))
@@ -172,15 +172,15 @@ module _ {call : Histories} (ih : AllSound call) (c : Context) (comments : List 
   pub function : (b : Bool)
       → Goes call (functions c comments at is_private) s (body (R.Function c comments at is_private)) s b
   function b =
-      first (ih.of R.FunctionHead s b) (λ h (f : ParameterList × BracedForm). with_parts h f.0 f.1)
+      first (goal (ih.of R.FunctionHead s b)) (λ h (f : ParameterList × BracedForm). with_parts h f.0 f.1)
       (any_list, any_braced) (λ h f k o r. r) (λ h t a.
-      first (ih.of (R.ParameterList h.name) t a) (λ x f. (x, f)) any_braced (λ x f k o r. r) (λ x u d.
+      first (goal (ih.of (R.ParameterList h.name) t a)) (λ x f. (x, f)) any_braced (λ x f k o r. r) (λ x u d.
       let opens : Body → BracedForm = λ f. record { opening = pos_at u; body = f } in
       look (λ m. check (is_due due.LeftBrace (op_at u)) any_braced (λ other k. wrong m (rw other)) (λ is.
       let here = stands due.LeftBrace (op_at u) (pos_at u) is in
       take (raise c (opens any_body) (λ high k. here ▹ fails high) (λ below.
       ends {v = ended_function comments is_private (owner_of h.owner) h.name (parameter_names x)}
-      (ih.of (R.Block (level_up c) (parameters_live (parameter_names x)) (pos_at u)) (past code u) false) opens
+      (goal (ih.of (R.Block (level_up c) (parameters_live (parameter_names x)) (pos_at u)) (past code u) false)) opens
       (λ v f. refl) (λ f k o r. here ▹ below ▹ r)))))))
 
 module _ {call : Histories} (ih : AllSound call) (c : Context) (w : Live) (comments : List Comment)
@@ -193,7 +193,7 @@ module _ {call : Histories} (ih : AllSound call) (c : Context) (w : Live) (comme
       test (is_global c) any_function refl (λ out k. fails out) (λ global.
       know (test (may_begin c s.library) any_function refl (λ many k. global ▹ lost (many, refl)) (λ room.
       raise inner any_function (λ high k. global ▹ room ▹ fails high) (λ below.
-      part (ih.of (R.Function (level_up inner) comments at is_private) s b) (λ f. f) (λ f k o r. global ▹ room ▹ below ▹ r _)
+      part (goal (ih.of (R.Function (level_up inner) comments at is_private) s b)) (λ f. f) (λ f k o r. global ▹ room ▹ below ▹ r _)
       (λ f t a G. know (test (is_new (function_of comments is_private f).key t.library) f refl
       (λ old k. global ▹ room ▹ below ▹ G.on (lost (old, refl)))
       (λ new. add (done f (λ k o r. global ▹ room ▹ below ▹ G.on (new ▹ tt ▹ r))))))))))

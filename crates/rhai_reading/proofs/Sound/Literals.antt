@@ -32,7 +32,7 @@ use Rattle.rhai_reading.proofs.Lists.{added, added_last, added_none, one_more_no
 use Rattle.rhai_reading.proofs.Lists.{no_property, segment_added, segment_last}
 use Rattle.rhai_reading.proofs.Looks.{op_at, pos_at}
 use Rattle.rhai_reading.proofs.Paths.{Fits, Aim, Way, lost, ◌▹◌}
-use Rattle.rhai_reading.proofs.Shows.{Histories, Goes, wrong, ill, fine, fails, take, look, either, gives, done, refuse}
+use Rattle.rhai_reading.proofs.Shows.{goal, Histories, Goes, wrong, ill, fine, fails, take, look, either, gives, done, refuse}
 use Rattle.rhai_reading.proofs.Shows.{halt, lost_to, raise, part, ends, text_at, text_taken, Passed}
 use Rattle.rhai_reading.proofs.FormKinds.{elements, fields, KeyForm, NoMore, Keyed, key_answer, key_of, next_keys}
 use Rattle.rhai_reading.proofs.FormKinds.{block_starts, InsideForm, ManyInside, SingleInside, TextForm, body_form, inside_of, insides}
@@ -50,11 +50,11 @@ module _ {call : Histories} (ih : AllSound call) (c : Context) (w : Live) (openi
   element_by place.Item e m =
       let begins : Fits (V.item_due c.sizes.array (node_count before)) s = fine m (rw e) in
       raise c (form.LastElement any_run nowhere) (λ high k. begins ▹ fails high) (λ below.
-      part (ih.of (R.Expression (level_up c) w) s true) (λ f. form.LastElement f nowhere) (λ f k o r. begins ▹ below ▹ r _)
+      part (goal (ih.of (R.Expression (level_up c) w) s true)) (λ f. form.LastElement f nowhere) (λ f k o r. begins ▹ below ▹ r _)
       (λ f t a G.
       let ns = with_node before (tree f w) in
       separated lists.Array (form.LastElement f nowhere) (λ other k. begins ▹ below ▹ G.on other.way)
-      (λ comma. ends (ih.of (R.Elements c w opening ns) (past code t) false) (form.Element f (pos_at t))
+      (λ comma. ends (goal (ih.of (R.Elements c w opening ns) (past code t) false)) (form.Element f (pos_at t))
       (λ v l. sym (added before (tree f w) (element_trees l w)))
       (λ l k o r. begins ▹ below ▹ G.on (comma ▹ subst
       (λ n. Way (W.elements l n c w opening k) (past code t) o) (one_more_node before (tree f w)) r)))
@@ -103,11 +103,11 @@ module _ {call : Histories} (ih : AllSound call) (c : Context) (w : Live) (openi
   field_by (NoMore closing) t b K = gives (form.NoField closing) (no_property before) (λ k o r. K.on r)
   field_by (Keyed key pos colon) t b K =
       raise c (form.LastField key pos colon any_run nowhere) (λ high k. K.on (fails high)) (λ below.
-      part (ih.of (R.Expression (level_up c) w) t b) (λ f. form.LastField key pos colon f nowhere)
+      part (goal (ih.of (R.Expression (level_up c) w) t b)) (λ f. form.LastField key pos colon f nowhere)
       (λ f k o r. K.on (below ▹ r _)) (λ f u a G.
       let ps = with_property before (text_of key) pos (tree f w) in
       separated lists.Map (form.LastField key pos colon f nowhere) (λ other k. K.on (below ▹ G.on other.way))
-      (λ comma. ends (ih.of (R.Fields c w opening ps) (past code u) false) (form.Field key pos colon f (pos_at u))
+      (λ comma. ends (goal (ih.of (R.Fields c w opening ps) (past code u) false)) (form.Field key pos colon f (pos_at u))
       (λ v l. sym (added_property before (text_of key) pos (tree f w) (field_trees l w)))
       (λ l k o r. K.on (below ▹ G.on (comma ▹ r))))
       (λ close. gives (form.LastField key pos colon f (pos_at u))
@@ -115,7 +115,7 @@ module _ {call : Histories} (ih : AllSound call) (c : Context) (w : Live) (openi
       (λ k o r. K.on (below ▹ G.on (close ▹ r))))))
 
   pub field_list : (b : Bool) → Goes call (fields c w opening before) s (body (R.Fields c w opening before)) s b
-  field_list b = part (ih.of (R.NextKey c before) s b) with_key key_way field_by
+  field_list b = part (goal (ih.of (R.NextKey c before) s b)) with_key key_way field_by
 
 -- ---- interpolated strings
 
@@ -196,7 +196,7 @@ module _ {call : Histories} (ih : AllSound call) (c : Context) (w : Live) (start
       (λ b. Way (W.due_token due.RightBrace x.closing (Tok text (item (text_token b x.content) x.at) text_due ▸ k)) t o)
       e (H.on r))))
   texted false f p v x t u b e brace below G H =
-      ends (ih.of (R.Segments c w start (with_block p f x.closing x.content x.at)) u b)
+      ends (goal (ih.of (R.Segments c w start (with_block p f x.closing x.content x.at)) u b))
       (segment_form false p (body_form f x.closing) x.content x.at)
       (λ z list. segment_is false p f x.closing x.content x.at list
       ∙ sym (segment_added before (block_of p f x.closing) x.content x.at (segment_trees list w)))
@@ -209,15 +209,15 @@ module _ {call : Histories} (ih : AllSound call) (c : Context) (w : Live) (start
       (R.segment_on c w start p before) u a
   segment_from p u a B =
       raise c (form.LastSegment p any_body [] nowhere) (λ high k. B.on (fails high)) (λ below.
-      part (ih.of (R.Inside (level_up c) w) u a)
+      part (goal (ih.of (R.Inside (level_up c) w) u a))
       (λ f. segment_form true p (body_form f nowhere) [] nowhere any_segments)
       (λ f k o r. segment_way true f nowhere [] nowhere any_segments c w start k B below (r _)) (λ f t a G.
-      part (ih.of R.TextAfter t a)
+      part (goal (ih.of R.TextAfter t a))
       (λ x. segment_form x.last p (body_form f x.closing) x.content x.at any_segments)
       (λ x k o r. segment_way x.last f x.closing x.content x.at any_segments c w start k B below (G.on (r _)))
       (λ x v d H. texted x.last f p u x t v d refl B below G H)))
 
   pub segment_list : (b : Bool) → Goes call (segments c w start before) s (body (R.Segments c w start before)) s b
   segment_list b =
-      part (ih.of R.BlockStart s b) (λ p. form.LastSegment p any_body [] nowhere) (λ p k o r. r _)
+      part (goal (ih.of R.BlockStart s b)) (λ p. form.LastSegment p any_body [] nowhere) (λ p k o r. r _)
       (λ p u a B. segment_from p u a B)

@@ -42,7 +42,7 @@ use Rattle.rhai_grammar.specs.Closures.{bars_token}
 use Rattle.rhai_grammar.specs.Starts.{may_be_closure}
 use Rattle.rhai_grammar.specs.declared.role.Bars.{Bars}
 use Rattle.rhai_grammar.specs.declared.role.Bars.TheVariants as bars
-use Rattle.rhai_reading.proofs.Shows.{note}
+use Rattle.rhai_reading.proofs.Shows.{goal, note}
 use Rattle.rhai_grammar.specs.Modules.{captures_use}
 use Rattle.rhai_grammar.specs.Trees.{name_tree}
 use Rattle.rhai_reading.specs.Reading.{body}
@@ -60,10 +60,10 @@ module _ {call : Histories} (ih : AllSound call) (c : Context) (w : Live) (place
   closure_by : (by : Bars) → next_at code s ≡ item (Sign (bars_token by)) (pos_at s) → may_be_closure c by ≡ true
       → Goes call (primaries c w place) s (R.Call (R.Closure c w (pos_at s) by) R.Ret) (past code s) false
   closure_by bars.Pair here can =
-      ends (ih.of (R.Closure c w (pos_at s) bars.Pair) (past code s) false) (closure_form bars.Pair (pos_at s))
+      ends (goal (ih.of (R.Closure c w (pos_at s) bars.Pair) (past code s) false)) (closure_form bars.Pair (pos_at s))
       (λ t f. refl) (λ f k o r. can ▹ here ▹ r)
   closure_by bars.List here can =
-      ends (ih.of (R.Closure c w (pos_at s) bars.List) (past code s) false) (closure_form bars.List (pos_at s))
+      ends (goal (ih.of (R.Closure c w (pos_at s) bars.List) (past code s) false)) (closure_form bars.List (pos_at s))
       (λ t f. refl) (λ f k o r. can ▹ here ▹ r)
 
   named_by : beginning (op_at s) ≡ begin.Name → is_memory (op_at (past code s)) ≡ false
@@ -104,26 +104,26 @@ module _ {call : Histories} (ih : AllSound call) (c : Context) (w : Live) (place
   primary_by begin.Group e written sign m =
       let here = begun s e in
       take (raise c (form.Group (pos_at s) any_run nowhere) (λ high k. here ▹ fails high) (λ below.
-      first (ih.of (R.Expression (level_up c) w) (past code s) false) (form.Group (pos_at s)) nowhere
+      first (goal (ih.of (R.Expression (level_up c) w) (past code s) false)) (form.Group (pos_at s)) nowhere
       (λ f p k o r. here ▹ below ▹ r) (λ f t b.
       expect due.RightParen nowhere (λ missing k. missing.way) (λ close.
       done (pos_at t) (λ k o r. close ▹ r)))))
   primary_by begin.Array e written sign m =
       let here = begun s e in
       take (raise c (form.Array (pos_at s) (form.NoElement nowhere)) (λ high k. here ▹ fails high) (λ below.
-      ends (ih.of (R.Elements (level_up c) w (pos_at s) no_nodes) (past code s) false) (form.Array (pos_at s))
+      ends (goal (ih.of (R.Elements (level_up c) w (pos_at s) no_nodes) (past code s) false)) (form.Array (pos_at s))
       (λ t list. refl) (λ list k o r. here ▹ below ▹ r)))
   primary_by begin.Map e written sign m =
       let here = begun s e in
       take (raise c (form.Map (pos_at s) (form.NoField nowhere)) (λ high k. here ▹ fails high) (λ below.
-      ends (ih.of (R.Fields (level_up c) w (pos_at s) no_properties) (past code s) false) (form.Map (pos_at s))
+      ends (goal (ih.of (R.Fields (level_up c) w (pos_at s) no_properties) (past code s) false)) (form.Map (pos_at s))
       (λ t list. refl) (λ list k o r. here ▹ below ▹ r)))
   primary_by begin.Interpolated e written sign m =
       let here = begun s e in
       let t = text_of (op_at s) in
       take (raise c (form.Interpolated t (pos_at s) any_segments) (λ high k. here ▹ fails high) (λ below.
       ends {v = λ ns. interpolated ns (pos_at s)}
-      (ih.of (R.Segments (level_up c) w (pos_at s) (added_text no_nodes t (pos_at s))) (past code s) false)
+      (goal (ih.of (R.Segments (level_up c) w (pos_at s) (added_text no_nodes t (pos_at s))) (past code s) false))
       (form.Interpolated t (pos_at s))
       (λ v list. ap (λ ns. interpolated ns (pos_at s)) (sym (first_text t (pos_at s) (segment_trees list w))))
       (λ list k o r. here ▹ below ▹ r)))
@@ -137,7 +137,7 @@ module _ {call : Histories} (ih : AllSound call) (c : Context) (w : Live) (place
       (λ value. take (raise c any (λ high k. may (any_construct kind) value ▹ here (any_construct kind) ▹ fails high) (λ below.
       raise (level_up c) any (λ high k. may (any_construct kind) value ▹ here (any_construct kind) ▹ below ▹ fails high) (λ deeper.
       ends {v = λ f. block_value (made_block f)}
-      (ih.of (R.Construct (level_up (level_up c)) w (pos_at s) kind) (past code s) false)
+      (goal (ih.of (R.Construct (level_up (level_up c)) w (pos_at s) kind) (past code s) false))
       (λ f. form.CompoundValue (pos_at s) f.construct)
       (λ t f. refl) (λ f k o r. may f value ▹ here f ▹ below ▹ deeper ▹ r)))))
       (λ none. refuse any_primary (λ k. refl ▹ wrong m (rw (written, e, none))))
@@ -162,11 +162,11 @@ module _ {call : Histories} (ih : AllSound call) (c : Context) (w : Live) (place
       (λ x. R.Call (R.Postfix c w x) (λ y. R.Call (R.Links w (spot_after_operand c y))
       (λ ls. R.tested (chained y ls) (module_fault c w y))))) s true
   unsigned written sign =
-      part (ih.of (R.Primary c w) s true place written sign)
+      part (goal (ih.of (R.Primary c w) s true place written sign))
       (λ x. form.Linked (form.Plain x form.NoPath) form.NoLink) (λ x k o r. r _) (λ x t b G.
-      first (ih.of (R.Postfix c w (tree_before w t x)) t b place s x refl G) form.Linked form.NoLink
+      first (goal (ih.of (R.Postfix c w (tree_before w t x)) t b place s x refl G)) form.Linked form.NoLink
       (λ y list k o r. r) (λ y u a.
-      part (ih.of (R.Links w (spot_after_operand c (base_tree y w))) u a) (λ list. list) (λ list k o r. r _)
+      part (goal (ih.of (R.Links w (spot_after_operand c (base_tree y w))) u a)) (λ list. list) (λ list k o r. r _)
       (λ list v d H.
       tested (linked y) u list (module_fault c w (base_tree y w)) (module_early c w (base_tree y w)) refl
       (λ k o r. H.on r))))
@@ -176,7 +176,7 @@ module _ {call : Histories} (ih : AllSound call) (c : Context) (w : Live) (place
   operand_by begin.Sign e written =
       let sign = ap is_sign e in
       take (raise c (form.Signed (op_at s) (pos_at s) any_operand) (λ high k. sign ▹ refl ▹ fails high) (λ below.
-      first (ih.of (R.Operand (level_up c) w) (past code s) false Elsewhere refl)
+      first (goal (ih.of (R.Operand (level_up c) w) (past code s) false Elsewhere refl))
       (λ x (h : Unit {0}). form.Signed (op_at s) (pos_at s) x) tt (λ x h k o r. sign ▹ refl ▹ below ▹ r) (λ x t b.
       test (sign_holds (op_at s) (operand_tree x w)) tt refl (λ least k. fails least) (λ holds.
       done tt (λ k o r. holds ▹ r)))))
@@ -187,9 +187,9 @@ module _ {call : Histories} (ih : AllSound call) (c : Context) (w : Live) (place
       → Goes call (operands c w place) s (R.right_at c w (pos_at s) v) s true
   starts_by first.Omitted e m = done (form.NoOperand (op_at s) (pos_at s)) (λ k o r. ap is_omitted e ▹ refl ▹ r)
   starts_by first.Jump e m =
-      ends {v = λ f. block_value (made_block f.0)} (ih.of (R.Statement (below_global c) (in_block w)) s true) form.Jump
+      ends {v = λ f. block_value (made_block f.0)} (goal (ih.of (R.Statement (below_global c) (in_block w)) s true)) form.Jump
       (λ v f. refl) (λ f k o r. fine m (rw e) ▹ r)
-  starts_by first.Written e m = ends (ih.of (R.Operand c w) s true place e) (λ x. x) (λ v x. refl) (λ x k o r. r)
+  starts_by first.Written e m = ends (goal (ih.of (R.Operand c w) s true place e)) (λ x. x) (λ v x. refl) (λ x k o r. r)
 
   pub operand : (b : Bool) → operand_start place (op_at s) ≡ first.Written
       → Goes call (operands c w place) s (body (R.Operand c w)) s b

@@ -28,7 +28,7 @@ use Rattle.rhai_reading.proofs.Strengths.{Sensible, sensible, next_continues, ri
 use Rattle.rhai_reading.proofs.Looks.{op_at, pos_at, follower_at, operator_in, climb, fine as known_fine}
 use Rattle.rhai_reading.proofs.Paths.{Astray, Fits, Fails, Aim, Way, ◌▹◌, lost, Lost}
 use Rattle.rhai_reading.proofs.Shows.{Histories, over, Shows, Halts, fine, fails, ret, take, look, either, test, raise}
-use Rattle.rhai_reading.proofs.Shows.{called, tail, part, lost_at, Kind, Passed}
+use Rattle.rhai_reading.proofs.Shows.{goal, tail, part, lost_at, Kind, Passed}
 use Rattle.rhai_reading.proofs.FormKinds.{runs}
 use Rattle.rhai_reading.proofs.Sound.Law.{AllSound, TopEnds, Suits, Stands, RunRead}
 
@@ -115,7 +115,7 @@ module _ {call : Histories} (ih : AllSound call) where
       → Shows call Q (Halts K from) (Call (R.BinaryOp c w pos m lhs) k) s b
   run_part {K = K} {from = from} {Q = Q} {k = k} {s = s} {b = b} q start L live is high same suits ended stands wrap
       way on =
-      called (ih.of (R.BinaryOp _ _ _ _ _) s b q start L live is high same suits ended stands)
+      goal (ih.of (R.BinaryOp _ _ _ _ _) s b q start L live is high same suits ended stands)
       (λ e t r. record { form = wrap r.form; stops = way r.form _ _ (λ j. r.stops); last = r.last })
       (λ x t a r. subst (λ y. Shows call Q (Halts K from) (k y) t a) r.is (on r.form t a r.passes r.off r.known))
 
@@ -128,7 +128,7 @@ module _ {call : Histories} (ih : AllSound call) where
       → Shows call Q (Halts K from) (k (operator_in (follower_at filter s))) s a)
       → Shows call Q (Halts K from) (Call (R.NextOperator filter) k) s b
   operator_part {K = K} {from = from} {Q = Q} {k = k} {s = s} {b = b} filter f way on =
-      called (ih.of (R.NextOperator filter) s b) (λ e t r. let stops = subst
+      goal (ih.of (R.NextOperator filter) s b) (λ e t r. let stops = subst
       (λ u. (k : Demands) → Way (K.demands f k) from (Lost e u)) (sym r.2)
       (way e r.0) in let asks = subst
       (λ n. (k : Demands) → Way (K.demands f k) from (Astray e n t.point)) (sym r.1) stops in
@@ -151,7 +151,7 @@ module _ {call : Histories} (ih : AllSound call) where
         let inner = u.settings.filter in
         let n = strength (follower_at filter s) in
         let q2 = right_side op u w in
-        take (part (ih.of (R.RightOperand u.settings w (place_after op)) (past code s) false) (λ x. binary (Just x))
+        take (part (goal (ih.of (R.RightOperand u.settings w (place_after op)) (past code s) false)) (λ x. binary (Just x))
         (λ x k o r. h.right (Just x) k o (r _)) (λ x t a X.
         operator_part inner (binary (Just x)) (λ e r k. h.right (Just x) k _ (X.on (lost r))) (λ known c.
         raise u.settings (binary (Just x)) (λ high k. h.right (Just x) k _ (X.on (known ▹ fails high))) (λ below.

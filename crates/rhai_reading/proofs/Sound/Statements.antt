@@ -56,7 +56,7 @@ use Rattle.rhai_reading.proofs.Lists.{kept_statement, last_kept, no_statement}
 use Rattle.rhai_reading.proofs.Looks.{op_at, pos_at}
 use Rattle.rhai_reading.proofs.Paths.{Aim, Fits, Passes, Way, ◌▹◌}
 use Rattle.rhai_reading.proofs.Shows.{Histories, Goes, ill, wrong, fine, fails, take, look, either, gives, done, refuse}
-use Rattle.rhai_reading.proofs.Shows.{blamed_at, called, halt, test, raise, part, first, ends, Passed}
+use Rattle.rhai_reading.proofs.Shows.{blamed_at, goal, halt, test, raise, part, first, ends, Passed}
 use Rattle.rhai_reading.proofs.Sound.Chains.{Early, early_if, early_or, tested}
 use Rattle.rhai_reading.proofs.Sound.Law.{AllSound, any_construct, any_run}
 use Rattle.rhai_grammar.specs.Constructs.{construct_token, kind_of, may_stand}
@@ -100,10 +100,10 @@ target_early constant op at x = value_early (is_constant x) (position_of x)
 module _ {call : Histories} (ih : AllSound call) (c : Context) (w : Live) (s : Point) where
   pub evaluated : (b : Bool) → Goes call (expr_statements c w) s (body (R.ExprStatement c w)) s b
   evaluated b =
-      part (ih.of (R.Expression c w) s b) form.Evaluate (λ f k o r. r _) (λ f t a G.
+      part (goal (ih.of (R.Expression c w) s b)) form.Evaluate (λ f k o r. r _) (λ f t a G.
       let constant = is_constant_use w.slots (tree f w) in
       look (λ m. either (is_assignment (op_at t))
-      (λ is. take (part (ih.of (R.Expression c w) (past code t) false) (form.Assign f (op_at t) (pos_at t))
+      (λ is. take (part (goal (ih.of (R.Expression c w) (past code t) false)) (form.Assign f (op_at t) (pos_at t))
       (λ x k o r. G.on (is ▹ refl ▹ r _))
       (λ x u d H. tested (expr_statements c w) s (form.Assign f (op_at t) (pos_at t) x)
       (target_fault constant (op_at t) (pos_at t) (tree f w)) (target_early constant (op_at t) (pos_at t) (tree f w)) refl
@@ -125,22 +125,22 @@ module _ {call : Histories} (ih : AllSound call) (c : Context) (w : Live) (s : P
   initializer at b =
       look (λ m. either (is_equals (op_at s))
       (λ is. take (raise c (form.Valued (pos_at s) any_run) (λ high k. equals_is (op_at s) (pos_at s) is ▹ fails high)
-      (λ below. ends (ih.of (R.Expression (level_up c) w) (past code s) false) (form.Valued (pos_at s)) (λ v f. refl)
+      (λ below. ends (goal (ih.of (R.Expression (level_up c) w) (past code s) false)) (form.Valued (pos_at s)) (λ v f. refl)
       (λ f k o r. equals_is (op_at s) (pos_at s) is ▹ below ▹ r))))
       (λ none. done form.NoValue (λ k o r. fine m (rw none) ▹ r)))
 
   pub definition : (at : Position) (constant exported : Bool) (b : Bool)
       → Goes call (definitions c w at constant exported) s (body (R.Definition c w at constant exported)) s b
   definition at constant exported b =
-      first (ih.of (R.VarName c w) s b) (λ f x. record { name = f; value = x }) form.NoValue (λ f x k o r. r) (λ f t a.
+      first (goal (ih.of (R.VarName c w) s b)) (λ f x. record { name = f; value = x }) form.NoValue (λ f x k o r. r) (λ f t a.
       ends {v = λ x. (definition_tree constant exported at f.name x w, walk.defined_as exported f.name constant w)}
-      (ih.of (R.Initializer c w at) t a) (λ x. x) (λ v x. refl) (λ x k o r. r))
+      (goal (ih.of (R.Initializer c w at) t a)) (λ x. x) (λ v x. refl) (λ x k o r. r))
 
   defined : (constant : Bool) → next_at code s ≡ item (Sign (V.keyword_of constant)) (pos_at s)
       → Goes call (statements c w) s (R.definition_on c w (pos_at s) constant) s true
   defined constant here =
       take (raise c (form.Define constant (pos_at s) [] nowhere form.NoValue) (λ high k. here ▹ fails high) (λ below.
-      ends (ih.of (R.Definition (level_up c) w (pos_at s) constant false) (past code s) false)
+      ends (goal (ih.of (R.Definition (level_up c) w (pos_at s) constant false) (past code s) false))
       (definition_of constant (pos_at s))
       (λ v f. refl) (λ f k o r. here ▹ below ▹ r)))
 
@@ -148,9 +148,9 @@ module _ {call : Histories} (ih : AllSound call) (c : Context) (w : Live) (s : P
 
   pub import : (at : Position) (b : Bool) → Goes call (imports c w at) s (body (R.Import c w at)) s b
   import at b =
-      first (ih.of (R.Expression c w) s b) (λ f (x : Alias). record { source = f; other = x }) form.NoAlias
+      first (goal (ih.of (R.Expression c w) s b)) (λ f (x : Alias). record { source = f; other = x }) form.NoAlias
       (λ f x k o r. r) (λ f t a.
-      ends {v = λ x. (import_tree (tree f w) x at, walk.imported x w)} (ih.of R.Alias t a) (λ x. x) (λ v x. refl)
+      ends {v = λ x. (import_tree (tree f w) x at, walk.imported x w)} (goal (ih.of R.Alias t a)) (λ x. x) (λ v x. refl)
       (λ x k o r. r))
 
   export_by : (at : Position) (v : Option Bool) → V.defines (op_at s) ≡ v → is_memory (op_at s) ≡ false
@@ -159,13 +159,13 @@ module _ {call : Histories} (ih : AllSound call) (c : Context) (w : Live) (s : P
       let begins : Fits V.exports_definition s = fine m (rw e) in
       let here = defines_is (op_at s) (pos_at s) constant e in
       raise c (ExportDefinition constant (pos_at s) any_definition) (λ high k. begins ▹ fails high) (λ below.
-      take (ends (ih.of (R.Definition (level_up c) w (pos_at s) constant true) (past code s) false)
+      take (ends (goal (ih.of (R.Definition (level_up c) w (pos_at s) constant true) (past code s) false))
       (ExportDefinition constant (pos_at s)) (λ v f. refl) (λ f k o r. begins ▹ below ▹ here ▹ r)))
   export_by at None e m =
       look (λ n. either (is_name (op_at s))
       (λ named. take (
       ends {v = λ x. (export_tree (text_of (op_at s)) x at, walk.exported (text_of (op_at s)) (unwrap_or x (text_of (op_at s))) w)}
-      (ih.of R.Alias (past code s) false) (ExportName (text_of (op_at s)) (pos_at s)) (λ v x. refl)
+      (goal (ih.of R.Alias (past code s) false)) (ExportName (text_of (op_at s)) (pos_at s)) (λ v x. refl)
       (λ x k o r. name_is (op_at s) (pos_at s) named ▹ r)))
       (λ other. refuse (ExportName [] nowhere form.NoAlias) (λ k. wrong m (rw (e, no_name (op_at s) other)))))
 
@@ -179,7 +179,7 @@ module _ {call : Histories} (ih : AllSound call) (c : Context) (w : Live) (s : P
   jump_by pos true e m =
       let follows : Fits (value_follows c) s = fine m (rw e) in
       raise c (form.Present any_run) (λ high k. follows ▹ fails high) (λ below.
-      ends (ih.of (R.Expression (level_up c) w) s true) form.Present (λ v f. refl) (λ f k o r. follows ▹ below ▹ r))
+      ends (goal (ih.of (R.Expression (level_up c) w) s true)) form.Present (λ v f. refl) (λ f k o r. follows ▹ below ▹ r))
   jump_by pos false e m =
       let none : Fits (no_value_follows c) s = fine m (rw e) in
       raise c form.Absent (λ high k. none ▹ fails high) (λ below. done form.Absent (λ k o r. none ▹ below ▹ r))
@@ -191,7 +191,7 @@ module _ {call : Histories} (ih : AllSound call) (c : Context) (w : Live) (s : P
       → Goes call (statements c w) s (R.jump_on c w (pos_at s) throws) s true
   jumped throws here =
       take (ends {v = λ value. (node.return_statement value throws (pos_at s), w)}
-      (ih.of (R.Jump c w (pos_at s)) (past code s) false) (form.Return throws (pos_at s)) (λ v f. refl)
+      (goal (ih.of (R.Jump c w (pos_at s)) (past code s) false)) (form.Return throws (pos_at s)) (λ v f. refl)
       (λ f k o r. here ▹ r))
 
   -- ---- statements
@@ -210,7 +210,7 @@ module _ {call : Histories} (ih : AllSound call) (c : Context) (w : Live) (s : P
       → Way (W.statement (function_form xs None (pos_at t) f) c w k) s o)
       → Goes call (statements c w) s (R.fn_on c w xs (pos_at t)) t true
   fn_from t xs here way =
-      take (ends (ih.of (R.FunctionStatement c w xs (pos_at t) (pos_at t) false) (past code t) false)
+      take (ends (goal (ih.of (R.FunctionStatement c w xs (pos_at t) (pos_at t) false) (past code t) false))
       (function_form xs None (pos_at t)) (λ v f. refl) (λ f k o r. way f k o (here ▹ r)))
 
   private_from : (t : Point) (xs : List Comment) → next_at code t ≡ item (Sign token.Private) (pos_at t)
@@ -223,7 +223,7 @@ module _ {call : Histories} (ih : AllSound call) (c : Context) (w : Live) (s : P
       let u = past code t in
       take (look (λ n. expect due.Fn (function_form xs (Some (pos_at t)) nowhere any_function)
       (λ missing k. way nowhere any_function k _ (here ▹ missing.way)) (λ is.
-      ends (ih.of (R.FunctionStatement c w xs (pos_at t) (pos_at u) true) (past code u) false)
+      ends (goal (ih.of (R.FunctionStatement c w xs (pos_at t) (pos_at u) true) (past code u) false))
       (function_form xs (Some (pos_at t)) (pos_at u)) (λ v f. refl) (λ f k o r. way (pos_at u) f k o (here ▹ is ▹ r)))))
 
   -- the token after doc comments, of which the first one is here
@@ -256,7 +256,7 @@ module _ {call : Histories} (ih : AllSound call) (c : Context) (w : Live) (s : P
       λ f. of_kind (λ j. next_at code s ≡ item (Sign (construct_token j)) (pos_at s)) f (started c s e).1 in
       take (raise c (form.Compound (pos_at s) any.construct) (λ high k. may any ▹ here any ▹ fails high) (λ below.
       raise (level_up c) (form.Compound (pos_at s) any.construct) (λ high k. may any ▹ here any ▹ below ▹ fails high) (λ deeper.
-      ends {v = λ f. (f, w)} (ih.of (R.Construct (level_up (level_up c)) w (pos_at s) kind) (past code s) false)
+      ends {v = λ f. (f, w)} (goal (ih.of (R.Construct (level_up (level_up c)) w (pos_at s) kind) (past code s) false))
       (λ f. form.Compound (pos_at s) f.construct)
       (λ v f. refl) (λ f k o r. may f ▹ here f ▹ below ▹ deeper ▹ r))))
   statement_by start.Let e m = defined false (started c s e).1
@@ -266,7 +266,7 @@ module _ {call : Histories} (ih : AllSound call) (c : Context) (w : Live) (s : P
   statement_by start.Break e m =
       let h = started c s e in
       take (test (is_in_loop c) (form.Break (pos_at s) form.Absent) refl (λ out k. h.0 ▹ h.1 ▹ fails out) (λ within.
-      ends {v = λ value. (node.break_loop value true (pos_at s), w)} (ih.of (R.Jump c w (pos_at s)) (past code s) false)
+      ends {v = λ value. (node.break_loop value true (pos_at s), w)} (goal (ih.of (R.Jump c w (pos_at s)) (past code s) false))
       (form.Break (pos_at s)) (λ v f. refl) (λ f k o r. h.0 ▹ h.1 ▹ within ▹ r)))
   statement_by start.Continue e m =
       let h = started c s e in
@@ -277,14 +277,14 @@ module _ {call : Histories} (ih : AllSound call) (c : Context) (w : Live) (s : P
       let any = form.Import (pos_at s) any_run form.NoAlias in
       take (raise c any (λ high k. here ▹ fails high) (λ below.
       raise (level_up c) any (λ high k. here ▹ below ▹ fails high) (λ deeper.
-      ends (ih.of (R.Import (level_up (level_up c)) w (pos_at s)) (past code s) false)
+      ends (goal (ih.of (R.Import (level_up (level_up c)) w (pos_at s)) (past code s) false))
       (λ f. form.Import (pos_at s) f.source f.other) (λ v f. refl) (λ f k o r. here ▹ below ▹ deeper ▹ r))))
   statement_by start.Export e m =
       let here = (started c s e).1 in
       let any = form.Export (pos_at s) [] nowhere form.NoAlias in
       take (test (is_global c) any refl (λ out k. here ▹ fails out) (λ global.
       raise c any (λ high k. here ▹ global ▹ fails high) (λ below.
-      ends (ih.of (R.Export (level_up c) w (pos_at s)) (past code s) false) (export_form (pos_at s)) (λ v f. refl)
+      ends (goal (ih.of (R.Export (level_up c) w (pos_at s)) (past code s) false)) (export_form (pos_at s)) (λ v f. refl)
       (export_way here global below))))
   statement_by start.Function e m = fn_from s [] (started c s e).1 (λ f k o r. r)
   statement_by start.Private e m = private_from s [] (started c s e).1 (λ at f k o r. r)
@@ -293,14 +293,14 @@ module _ {call : Histories} (ih : AllSound call) (c : Context) (w : Live) (s : P
       let x = R.comment_of (op_at s) (pos_at s) in
       look (λ n. take (test (is_global c) (function_form (x ∷ []) None nowhere any_function) refl
       (λ below k. here ▹ fails below)
-      (λ global. called (ih.of (R.Comments (x ∷ [])) (past code s) false c (pos_at s)) (λ e u r. absurd r) (λ xs t d r.
+      (λ global. goal (ih.of (R.Comments (x ∷ [])) (past code s) false c (pos_at s)) (λ e u r. absurd r) (λ xs t d r.
       subst (λ ys. Goes call (statements c w) s (R.Peek (λ l p. R.documented_at c w (pos_at s) ys p (V.statement_start c l))) t d)
       r.is
       (look (λ p. documented_by r.rest t here global r.passes r.ended (V.statement_start c (op_at t)) refl p))))))
   statement_by start.Expression e m =
       let begins : Fits (V.expression_begins c) s = fine m (rw e) in
       raise c (form.Expression (form.Evaluate any_run)) (λ high k. begins ▹ ill m (rw high)) (λ below.
-      ends (ih.of (R.ExprStatement (level_up c) w) s true) form.Expression (λ v f. refl)
+      ends (goal (ih.of (R.ExprStatement (level_up c) w) s true)) form.Expression (λ v f. refl)
       (λ f k o r. begins ▹ fine m (rw below) ▹ r))
 
   pub statement : (b : Bool) → Goes call (statements c w) s (body (R.Statement c w)) s b
@@ -330,8 +330,8 @@ module _ {call : Histories} (ih : AllSound call) (closing : Closing) (c : Contex
       (R.separated_at closing c (walk.after_statement f w) (with_kept before (statement_tree f w)) (op_at t) (pos_at t) v)
       t true
   separated_by f t begins G open_ after.SemiColon e m =
-      take (ends (ih.of (R.Statements closing c (walk.after_statement f w) (with_kept before (statement_tree f w)))
-      (past code t) false) (form.WithSemicolon f (pos_at t))
+      take (ends (goal (ih.of (R.Statements closing c (walk.after_statement f w) (with_kept before (statement_tree f w)))
+      (past code t) false)) (form.WithSemicolon f (pos_at t))
       (λ v l. ap (λ fs. (fs, walk.after_statements l (walk.after_statement f w))) (sym (kept_statement before
       (statement_tree f w) (statement_trees l (walk.after_statement f w)))))
       (λ l k o r. begins ▹ G.on (ap not open_ ▹ separated closing t e ▹ r)))
@@ -348,9 +348,9 @@ module _ {call : Histories} (ih : AllSound call) (closing : Closing) (c : Contex
       gives form.NoStatement (ap (λ fs. (fs, w)) (no_statement before)) (λ k o r. fine m (rw e) ▹ r)
   list_by place.Statement e m =
       let begins : Fits (V.statement_begins closing) s = fine m (rw e) in
-      part (ih.of (R.Statement c w) s true) form.LastStatement (λ f k o r. begins ▹ r _) (λ f t a G.
+      part (goal (ih.of (R.Statement c w) s true)) form.LastStatement (λ f k o r. begins ▹ r _) (λ f t a G.
       either (V.ends_itself (statement_tree f w))
-      (λ itself. ends (ih.of (R.Statements closing c (walk.after_statement f w) (with_kept before (statement_tree f w))) t a)
+      (λ itself. ends (goal (ih.of (R.Statements closing c (walk.after_statement f w) (with_kept before (statement_tree f w))) t a))
       (form.Standing f)
       (λ v l. ap (λ fs. (fs, walk.after_statements l (walk.after_statement f w))) (sym (kept_statement before
       (statement_tree f w) (statement_trees l (walk.after_statement f w)))))
@@ -374,10 +374,10 @@ module _ {call : Histories} (ih : AllSound call) (c : Context) (w : Live) (s : P
   inside_by : (single : Bool) → has_single_blocks c ≡ single → (b : Bool)
       → Goes call (insides c w) s (R.inside_on c w single) s b
   inside_by true e b =
-      ends {v = λ f. node.one_statement f node.no_statements} (ih.of (R.ExprStatement c w) s b) SingleInside
+      ends {v = λ f. node.one_statement f node.no_statements} (goal (ih.of (R.ExprStatement c w) s b)) SingleInside
       (λ v f. refl) (λ f k o r. e ▹ r)
   inside_by false e b =
-      ends {v = λ fs. fs.0} (ih.of (R.Statements Brace (below_global c) (in_block w) node.no_statements) s b) ManyInside
+      ends {v = λ fs. fs.0} (goal (ih.of (R.Statements Brace (below_global c) (in_block w) node.no_statements) s b)) ManyInside
       (λ v f. refl) (λ f k o r. ap not e ▹ r)
 
   pub inside : (b : Bool) → Goes call (insides c w) s (body (R.Inside c w)) s b
@@ -392,5 +392,5 @@ body_way (SingleInside x) c w closing k r = r
 pub block : {call : Histories} → AllSound call → (c : Context) (w : Live) (at : Position) (s : Point) (b : Bool)
     → Goes call (blocks c w at) s (body (R.Block c w at)) s b
 block ih c w at s b =
-    first (ih.of (R.Inside c w) s b) body_form nowhere (λ f p k o r. body_way f c w p k r) (λ f t a.
-    ends (ih.of (R.BlockEnd at (inside_statements w f)) t a) (λ p. p) (λ v p. inside_block at f p w) (λ p k o r. r))
+    first (goal (ih.of (R.Inside c w) s b)) body_form nowhere (λ f p k o r. body_way f c w p k r) (λ f t a.
+    ends (goal (ih.of (R.BlockEnd at (inside_statements w f)) t a)) (λ p. p) (λ v p. inside_block at f p w) (λ p k o r. r))

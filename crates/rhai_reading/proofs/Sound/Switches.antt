@@ -36,8 +36,8 @@ use Rattle.rhai_reading.proofs.Dues.{expect, followed, stands}
 use Rattle.rhai_reading.proofs.Lists.{added, added_last}
 use Rattle.rhai_reading.proofs.Looks.{op_at, pos_at}
 use Rattle.rhai_reading.proofs.Paths.{Fits, ◌▹◌, lost}
-use Rattle.rhai_reading.proofs.Shows.{Histories, Goes, Kind, done, either, ends, fine, first, gives, halt, ill, look}
-use Rattle.rhai_reading.proofs.Shows.{ends_literal, lost_at, part, refuse, take, wrong}
+use Rattle.rhai_reading.proofs.Shows.{goal_literal, literally_told, goal, Histories, Goes, Kind, done, either, ends, fine, first, gives, halt, ill, look}
+use Rattle.rhai_reading.proofs.Shows.{ends, lost_at, part, refuse, take, wrong}
 use Rattle.rhai_reading.proofs.SwitchKinds.{ArmForm, DefaultForm, actions, arm_ends, arm_lists, arms_with_cases, case_guards}
 use Rattle.rhai_reading.proofs.SwitchKinds.{cases, default_arms, default_ends, one_cases}
 use Rattle.rhai_reading.proofs.Sound.Chains.{Early, early, early_if, early_or, faulted, unfaulted}
@@ -71,14 +71,14 @@ some_action _ e = refl
 module _ {call : Histories} (ih : AllSound call) (c : Context) (w : Live) (s : Point) where
   pub one_case : (b : Bool) → Goes call (one_cases c w) s (body (R.Case c w)) s b
   one_case b =
-      ends_literal (ih.of (R.Expression (in_case c) (in_block w)) s b) (λ f. f) (λ t f. refl) (λ f k o r. r)
+      ends (goal_literal (literally_told (ih.of (R.Expression (in_case c) (in_block w)) s b))) (λ f. f) (λ t f. refl) (λ f k o r. r)
 
   pub case_list : (before : Nodes) (b : Bool) → Goes call (cases c w before) s (body (R.Cases c w before)) s b
   case_list before b =
-      part (ih.of (R.Case c w) s b) form.LastCase (λ f k o r. r _) (λ f t a G.
+      part (goal (ih.of (R.Case c w) s b)) form.LastCase (λ f k o r. r _) (λ f t a G.
       let x = tree f (in_block w) in
       look (λ m. either (is_due due.Pipe (op_at t))
-      (λ is. take (ends (ih.of (R.Cases c w (with_node before x)) (past code t) false) (form.Case f (pos_at t))
+      (λ is. take (ends (goal (ih.of (R.Cases c w (with_node before x)) (past code t) false)) (form.Case f (pos_at t))
       (λ v xs. sym (added before x (case_trees xs w)))
       (λ xs k o r. G.on (stands due.Pipe (op_at t) (pos_at t) is ▹ r))))
       (λ none. gives (form.LastCase f) (sym (added_last before x)) (λ k o r. G.on (fine m (rw none) ▹ r)))))
@@ -86,19 +86,19 @@ module _ {call : Histories} (ih : AllSound call) (c : Context) (w : Live) (s : P
   pub case_guard : (b : Bool) → Goes call (case_guards c w) s (body (R.CaseGuard c w)) s b
   case_guard b =
       look (λ m. either (is_due due.If (op_at s))
-      (λ is. take (ends (ih.of (R.Guard c w) (past code s) false) (form.Guard (pos_at s)) (λ v f. refl)
+      (λ is. take (ends (goal (ih.of (R.Guard c w) (past code s) false)) (form.Guard (pos_at s)) (λ v f. refl)
       (λ f k o r. stands due.If (op_at s) (pos_at s) is ▹ r)))
       (λ none. done form.NoGuard (λ k o r. fine m (rw none) ▹ r)))
 
   action_by : (single : Bool) → has_single_blocks c ≡ single → (b : Bool)
       → Goes call (actions c w) s (R.action_on c w single) s b
   action_by true e b =
-      ends {v = λ x. (x, false)} (ih.of (R.Expression c w) s b) form.Gives (λ v f. refl) (λ f k o r. e ▹ r)
+      ends {v = λ x. (x, false)} (goal (ih.of (R.Expression c w) s b)) form.Gives (λ v f. refl) (λ f k o r. e ▹ r)
   action_by false e b =
       look (λ m. either (is_end (op_at s))
       (λ end. refuse any_action (λ k. ap not e ▹ ill m (no_action (op_at s) end)))
       (λ more. ends {v = λ f. (node.block_value (node.made_block f.0), ends_arm f.0)}
-      (ih.of (R.Statement (below_global c) (in_block w)) s true) form.Does
+      (goal (ih.of (R.Statement (below_global c) (in_block w)) s true)) form.Does
       (λ v f. ap (λ itself. (action_tree (form.Does f) w, itself)) (sym (tree_ends_arm f (in_block w))))
       (λ f k o r. ap not e ▹ fine m (some_action (op_at s) more) ▹ r)))
 
@@ -159,20 +159,20 @@ module _ {call : Histories} (ih : AllSound call) (c : Context) (w : Live) (befor
       (action_tree does w, action_ends does) v) t b
   arm_by xs guard does t b None e =
       ends {v = λ end. (case_trees xs w, guard_tree guard w, action_tree does w)}
-      (ih.of (R.ArmEnd (action_ends does)) t b) (λ comma. comma) (λ v comma. refl) (λ comma k o r. unfaulted e r)
+      (goal (ih.of (R.ArmEnd (action_ends does)) t b)) (λ comma. comma) (λ v comma. refl) (λ comma k o r. unfaulted e r)
   arm_by xs guard does t b (Some d) e =
       halt None (early _ d (fault_early (S.arm_count before.arms) before (case_trees xs w)) e) (λ k. faulted _ e)
 
   pub one_arm : (b : Bool) → Goes call (arms_with_cases c w before) s (body (R.Arm c w before)) s b
   one_arm b =
       first {R = λ xs h k. W.case_guard h.0 c w (W.due_token due.DoubleArrow h.1.0 (W.action h.1.1.0 c w (
-      (left xs h.0 h.1.1.0).demands h.1.1.1 k)))} (ih.of (R.Cases c w no_nodes) s b)
+      (left xs h.0 h.1.1.0).demands h.1.1.1 k)))} (goal (ih.of (R.Cases c w no_nodes) s b))
       (λ xs (h : CaseGuard × (Position × (Action × Option Position))). arm_form xs h.0 h.1.0 h.1.1.0 h.1.1.1)
       (form.NoGuard, (nowhere, (any_action, None))) (λ xs h k o r. r) (λ xs t a.
-      first (ih.of (R.CaseGuard c w) t a) (λ guard h. (guard, h)) (nowhere, (any_action, None))
+      first (goal (ih.of (R.CaseGuard c w) t a)) (λ guard h. (guard, h)) (nowhere, (any_action, None))
       (λ guard h k o r. r) (λ guard u d.
       expect due.DoubleArrow (nowhere, (any_action, None)) (λ missing k. missing.way) (λ arrow.
-      first (ih.of (R.Action c w) (past code u) false) (λ does h. (pos_at u, (does, h))) None
+      first (goal (ih.of (R.Action c w) (past code u) false)) (λ does h. (pos_at u, (does, h))) None
       (λ does h k o r. arrow ▹ r) (λ does v x.
       arm_by xs guard does v x (arm_fault before (case_trees xs w)) refl))))
 
@@ -180,13 +180,13 @@ module _ {call : Histories} (ih : AllSound call) (c : Context) (w : Live) (befor
       → Goes call (arm_lists c w before) s (R.arms_at c w before (op_at s) (pos_at s) v) s true
   arms_by arm.Case e m =
       let begins : Fits arm_begins s = fine m (ap S.arm_begins_at e) in
-      first (ih.of (R.Arm c w before) s true) (λ f rest. form.Arm f.cases f.guard f.arrow f.action f.comma rest) any_arms
+      first (goal (ih.of (R.Arm c w before) s true)) (λ f rest. form.Arm f.cases f.guard f.arrow f.action f.comma rest) any_arms
       (λ f rest k o r. begins ▹ r) (λ f t a.
-      ends (ih.of (R.Arms c w (with_arm_collected before (case_trees f.cases w) (guard_tree f.guard w)
-      (action_tree f.action w))) t a) (λ rest. rest) (λ v rest. refl) (λ rest k o r. r))
+      ends (goal (ih.of (R.Arms c w (with_arm_collected before (case_trees f.cases w) (guard_tree f.guard w)
+      (action_tree f.action w))) t a)) (λ rest. rest) (λ v rest. refl) (λ rest k o r. r))
   arms_by arm.Default e m =
       let here = armed s e in
-      take (ends {v = λ x. with_default_collected before x} (ih.of (R.DefaultArm c w (pos_at s)) (past code s) false)
+      take (ends {v = λ x. with_default_collected before x} (goal (ih.of (R.DefaultArm c w (pos_at s)) (past code s) false))
       (λ f. form.DefaultArm (pos_at s) f.arrow f.action f.comma f.closing) (λ v f. refl) (λ f k o r. here ▹ r))
   arms_by arm.Close e m = take (done (form.NoArm (pos_at s)) (λ k o r. armed s e ▹ r))
   arms_by arm.Nothing e m = refuse any_arms (λ k. wrong m (ap (S.arms_end_at (op_at s)) e))
@@ -202,10 +202,10 @@ module _ {call : Histories} (ih : AllSound call) (c : Context) (w : Live) (defau
       (λ none.
       let open_ : Fits unguarded s = fine m (rw none) in
       expect due.DoubleArrow any_default (λ missing k. open_ ▹ missing.way) (λ arrow.
-      first (ih.of (R.Action c w) (past code s) false)
+      first (goal (ih.of (R.Action c w) (past code s) false))
       (λ does (h : Option Position × Position). default_form (pos_at s) does h.0 h.1) (None, nowhere)
       (λ does h k o r. open_ ▹ arrow ▹ r) (λ does u a.
-      first (ih.of (R.ArmEnd (action_ends does)) u a) (λ comma closing. (comma, closing)) nowhere
+      first (goal (ih.of (R.ArmEnd (action_ends does)) u a)) (λ comma closing. (comma, closing)) nowhere
       (λ comma closing k o r. r) (λ comma v d.
-      ends {v = λ x. action_tree does w} (ih.of (R.DefaultEnd default) v d)
+      ends {v = λ x. action_tree does w} (goal (ih.of (R.DefaultEnd default) v d))
       (λ closing. closing) (λ x closing. refl) (λ closing k o r. r))))))
