@@ -13,11 +13,12 @@ use Rattle.rhai_reading.specs.Histories.{Done, Runs}
 use Rattle.rhai_reading.specs.Nesting.{is_counted}
 use Rattle.rhai_reading.specs.Reading.{Goal, Val, Prog, Ret, Peek, Take, TakeText, Know, Add, Note, Call, CallLiteral}
 use Rattle.rhai_reading.specs.Reading.{CallApart, body}
+use Rattle.rhai_reading.specs.Goals.{inline}
 use Rattle.rhai_reading.proofs.Dives.{Dives, dives_add, dives_apart, dives_call, dives_counted, dives_know}
-use Rattle.rhai_reading.proofs.Dives.{dives_literal, dives_note, dives_peek, dives_ret, dives_take, dives_text}
+use Rattle.rhai_reading.proofs.Dives.{dives_literal, dives_note, dives_peek, dives_ret, dives_take, dives_term, dives_text}
 use Rattle.rhai_reading.proofs.Dives.{shallower}
 use Rattle.rhai_reading.proofs.Rules.{runs_add, runs_call, runs_call_apart, runs_call_literal, runs_know, runs_note}
-use Rattle.rhai_reading.proofs.Rules.{runs_peek, runs_ret, runs_take, runs_text}
+use Rattle.rhai_reading.proofs.Rules.{runs_peek, runs_ret, runs_take, runs_term, runs_text}
 
 -- p comes to o. Where the peak was z above the readers that are active, it is D z above them then.
 pub record Deep {A : Type 0} (D : ℕ → ℕ) (p : Prog A) (s : State) (o : Outcome A) : Type 0 where
@@ -77,6 +78,11 @@ module _ {A : Type 0} {D E : ℕ → ℕ} (g : Goal) where
       → Deep D (body g) (with_captured [] s) (Done v t)
       → Deep E (k v t.point.captured) (with_captured s.point.captured t) o → Deep (λ z. E (D z)) (CallApart g k) s o
   deep_apart k a b = record { runs = runs_call_apart g k a.runs b.runs; dives = dives_apart a.runs a.dives b.dives }
+
+-- a term, and what comes after it
+pub deep_term : {A B : Type 0} {D E : ℕ → ℕ} (p : Prog B) (k : B → Prog A) {s t : State} {v : B} {o : Outcome A}
+    → Deep D p s (Done v t) → Deep E (k v) t o → Deep (λ z. E (D z)) (inline p k) s o
+deep_term p k a b = record { runs = runs_term p k a.runs b.runs; dives = dives_term k a.runs a.dives b.dives }
 
 module _ {A : Type 0} {E : ℕ → ℕ} (d : ℕ) (g : Goal) (is : is_counted g ≡ true) where
   -- a part whose reader is one deeper than it is

@@ -15,16 +15,18 @@ use Rattle.rhai_grammar.specs.Uses.{noted, Use}
 use Rattle.rhai_grammar.specs.Cursors as C
 use Rattle.rhai_reading.specs.Histories as H
 use Rattle.rhai_reading.specs.Histories.{State, Runs}
-use Rattle.rhai_reading.proofs.Joins.{Finished, Rest, flat, forget, level_calls, rest, unnested}
+use Rattle.rhai_reading.proofs.Joins.{Finished, Rest, flat, forget, level_calls, term_calls, rest, unnested}
 use Rattle.rhai_lower.specs.declared.token.Token.TheVariants.{LeftParen}
 use Rattle.rhai_reading.specs.Nesting.{Nesting, entered, is_counted}
 use Rattle.rhai_reading.specs.Running.{Caller, Done, Out, Progress, Refused, Unfinished, after_brace, and_then, asked}
 use Rattle.rhai_reading.specs.Running.{adding, entering, exec, left_so, level, looking, need, nested, only_less, recast}
-use Rattle.rhai_reading.specs.Running.{result_of, taking, with_captured, text_from}
+use Rattle.rhai_reading.specs.Goals.{inline}
+use Rattle.rhai_reading.proofs.Terms.{runs_inline}
+use Rattle.rhai_reading.specs.Running.{result_of, steps, taking, with_captured, text_from}
 use Rattle.rhai_lower.specs.declared.token.Token.TheVariants as token
 use Rattle.rhai_grammar.specs.Libraries.{Ended, Library, with_ended}
 use Rattle.rhai_grammar.specs.Beginnings.{unexpected}
-use Rattle.rhai_reading.proofs.Grows.{AllGrow, Goes, Grows, GrowsSo, call_grows, goes_less, less_grows, level_grows}
+use Rattle.rhai_reading.proofs.Grows.{AllGrow, Goes, Grows, GrowsSo, call_grows, exec_grows, goes_less, less_grows, level_grows}
 use Rattle.rhai_reading.proofs.Grows.{one_deeper, recast_grows}
 
 -- ---- what is run, and how high the peak is then
@@ -302,6 +304,20 @@ module _ {A : Type 0} {g : Goal} {v : Val g} {s w : State} {D E : ℕ → ℕ} w
         (recast_grows a 0 _ (call_grows (only_less (level n) h u) (all_grow n h u) g (is_counted g) a 0 t (go_on a t.nesting go)))
         (recast_high (a + y) _ (counted_dives g r (is_counted g) is d le n h u t a z e go k));
   }
+
+-- a term, and what comes after it
+pub dives_term : {A B : Type 0} {p : Prog B} (q : B → Prog A) {v : B} {s w : State} {D E : ℕ → ℕ}
+    → Runs p s (H.Done v w) → Dives D p s → Dives E (q v) w → Dives (λ z. E (D z)) (inline p q) s
+dives_term {A} {B} {p} q {v} {s} {w} {D} {E} runs r on = record {
+  dives = λ n h u t a z e go k.
+      let call = only_less (level n) h u in
+      let m = n + runs.depth in
+      subst (High (a + E (D z))) (sym (runs_inline steps call q p t))
+      (then_high v w a (a + D z) (a + E (D z)) (exec call p t) (λ x t. exec call (q x) t)
+      (λ t e go k. on.dives n h u t a (D z) e go k)
+      (came v w (exec call p t) (λ d. ap forget (sym (runs.same m (omega arith))) ∙ term_calls n m (omega arith) h u p s t e d))
+      (exec_grows call (all_grow n h u) a 0 p t (go_on a t.nesting go)) (r.dives n h u t a z e go k));
+}
 
 -- a part in a closure of its own
 pub dives_apart : {A : Type 0} {g : Goal} {v : Val g} {s w : State} {D E : ℕ → ℕ} {q : Val g → List Use → Prog A}

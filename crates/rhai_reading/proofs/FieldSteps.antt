@@ -11,22 +11,22 @@ use Rattle.rhai_grammar.specs.Contexts.{Context, Live, has_room, level_up}
 use Rattle.rhai_grammar.specs.Cursors.{left}
 use Rattle.rhai_reading.specs.Running.{Progress, asked, looking, taking}
 use Rattle.rhai_grammar.specs.Delivered.{is_memory}
-use Rattle.rhai_reading.specs.Reading.{Ret, Fail, Call, Expression, Fields, NextKey, part_next, field_next, field_on}
+use Rattle.rhai_reading.specs.Reading.{Ret, Fail, Call, Expression, Fields, part_next, field_key, field_next, field_on}
 use Rattle.rhai_reading.specs.Running as R
-use Rattle.rhai_reading.specs.Running.{exec, guarded, nested, result_of}
+use Rattle.rhai_reading.specs.Running.{Caller, exec, guarded, nested, result_of}
+use Rattle.rhai_reading.proofs.Terms.{runs_inline}
 use Rattle.rhai_reading.proofs.Steps.{and_then_done, guarded_is, nested_is, step_fields}
 
 -- the equation of the properties of an object map, with the key as the code asks for it
 pub step_fields_key : (c : Context) (w : Live) (at : Position) (before : Properties) (s : Progress)
-    → result_of (Fields c w at before) s ≡ R.and_then (result_of (NextKey c before) s) (λ v t. exec (guarded (Fields c w at before) s) (field_on c w at before v) t)
+    → result_of (Fields c w at before) s ≡ R.and_then (exec (guarded (Fields c w at before) s) (field_key c before) s) (λ v t. exec (guarded (Fields c w at before) s) (field_on c w at before v) t)
 step_fields_key c w at before s =
-    let g = Fields c w at before in
     step_fields c w at before s
-    ∙ ap (λ o. R.and_then o (λ v t. exec (guarded g s) (field_on c w at before v) t)) (guarded_is g s (NextKey c before) s (omega arith))
+    ∙ runs_inline R.steps (guarded (Fields c w at before) s) (field_on c w at before) (field_key c before) s
 
 -- From s a property with this key and the value x stands, and a comma after it, after which the code is at t.
 pub record TakesField (c : Context) (w : Live) (before : Properties) (key : Text × Position) (x : Node) (s s1 s2 : Progress) : Type 0 where
-  pub key_read : result_of (NextKey c before) s ≡ R.Done (Some key) s1
+  pub key_read : (call : Caller) → exec call (field_key c before) s ≡ R.Done (Some key) s1
   pub room : has_room c ≡ true
   pub value : nested (result_of (Expression (level_up c) w)) s1 ≡ R.Done x s2
   pub readable : is_memory (asked s2).lexeme ≡ false
@@ -42,7 +42,7 @@ field_taken c w opening before key x s s1 s2 h =
     let inner = nested_is g s (Expression (level_up c) w) s1 (omega (arith, h.after_key)) ∙ h.value in
     let on = Fields c w opening ps in
     step_fields_key c w opening before s
-    ∙ ap (λ o. R.and_then o (λ v u. exec call (field_on c w opening before v) u)) h.key_read
+    ∙ ap (λ o. R.and_then o (λ v u. exec call (field_on c w opening before v) u)) (h.key_read call)
     ∙ ap (λ b. exec call (if b then Call (Expression (level_up c) w) (λ y. field_next c w opening (with_property before key.0 key.1 y)) else Fail (refusal ExprTooDeep opening)) s1) h.room
     ∙ ap (λ o. R.and_then o (λ y u. exec call (field_next c w opening (with_property before key.0 key.1 y)) u)) inner
     ∙ ap (λ m. if m then R.Refused out_of_memory (looking s2) else exec call (part_next lists.Map (Call on Ret) (Ret ps) (asked s2).lexeme (asked s2).at (after_part lists.Map (asked s2).lexeme)) (looking s2)) h.readable
@@ -53,7 +53,7 @@ field_taken c w opening before key x s s1 s2 h =
 
 -- The same as the code takes it: each step leaves a cursor, and none leaves more tokens than there were.
 pub record FieldTaken (c d : Context) (w : Live) (before after : Properties) (key : Text × Position) (x : Node) (s s1 s2 t : Progress) : Type 0 where
-  pub key_read : result_of (NextKey c before) s ≡ R.Done (Some key) s1
+  pub key_read : (call : Caller) → exec call (field_key c before) s ≡ R.Done (Some key) s1
   pub key_short : left s1.cursor.tokens ≤ left s.cursor.tokens
   pub room : has_room c ≡ true
   pub deeper : d ≡ level_up c

@@ -4,11 +4,11 @@ use Rattle.std.proofs.Common.{if◌then◌else◌, inl, inr}
 use Rattle.std.proofs.lemmas.Bool.{ltb-false, ltb-true}
 use Rattle.std.specs.Prelude.{◌⊎◌}
 use Rattle.rhai_grammar.specs.Settings.{one_more}
-use Rattle.rhai_reading.specs.Reading.{Goal}
+use Rattle.rhai_reading.specs.Reading.{Prog, Goal}
 use Rattle.rhai_reading.specs.Nesting.{Nesting, entered, left_one}
-use Rattle.rhai_reading.proofs.Kept.{AllKeep, KeptSo, call_keeps, less_keeps, level_keeps, recast_keeps}
+use Rattle.rhai_reading.proofs.Kept.{exec_keeps, AllKeep, KeptSo, call_keeps, less_keeps, level_keeps, recast_keeps}
 use Rattle.std.proofs.Math.Nat.{min-le_left}
-use Rattle.rhai_reading.specs.Running.{Caller, Done, Out, Progress, Refused, Unfinished}
+use Rattle.rhai_reading.specs.Running.{exec, Caller, Done, Out, Progress, Refused, Unfinished}
 use Rattle.rhai_reading.specs.Running.{level, need, nested, only_less, recast, result_of}
 
 -- The peak is the greatest number that there is, or this many readers are active.
@@ -65,6 +65,10 @@ pub call_grows : (call : Caller) → AllGrow call → (g : Goal) (count : Bool) 
     → GrowsSo a m (if count then nested (call g) s else call g s)
 call_grows call all g count a m s h =
     call_keeps (λ b. Grows b m) (λ b n. enters b m n) (leave m) call (of m call all) g count a s h
+
+pub exec_grows : {A : Type 0} (call : Caller) → AllGrow call → (a m : ℕ) (p : Prog A) (s : Progress)
+    → Grows a m s.nesting → GrowsSo a m (exec call p s)
+exec_grows call all a m p s h = exec_keeps (λ b. Grows b m) (λ b n. enters b m n) (leave m) call (of m call all) a p s h
 
 pub recast_grows : {A : Type 0} (a m : ℕ) (o : Out A) → GrowsSo a m o → GrowsSo a m (recast o)
 recast_grows a m o h = recast_keeps (λ b. Grows b m) (λ b n. enters b m n) (leave m) a o h

@@ -1,5 +1,5 @@
 -- Several steps as one: the `}` of an interpolated block, with the text after it.
-use Rattle.std.proofs.Common.{◌≡◌, Bool, true, false, refl, ◌∙◌, if◌then◌else◌}
+use Rattle.std.proofs.Common.{◌≡◌, Bool, true, false, refl, if◌then◌else◌}
 use Rattle.rhai_lower.specs.Lexemes.{text_of}
 use Rattle.rhai_grammar.specs.Beginnings.{unexpected}
 use Rattle.rhai_grammar.specs.Causes.{refusal}
@@ -8,10 +8,9 @@ use Rattle.rhai_grammar.specs.Delivered.{is_memory}
 use Rattle.rhai_grammar.specs.DueTokens.{is_due, not_due}
 use Rattle.rhai_grammar.specs.Interpolations.{is_last_text, is_text}
 use Rattle.rhai_grammar.specs.declared.due.DueToken.TheVariants.{RightBrace}
-use Rattle.rhai_reading.specs.Reading.{TextAfter}
 use Rattle.rhai_reading.specs.Running as R
-use Rattle.rhai_reading.specs.Running.{exec, guarded, result_of, text_from}
-use Rattle.rhai_reading.proofs.Steps.{step_text_after}
+use Rattle.rhai_reading.specs.Running.{Caller, exec, text_from}
+use Rattle.rhai_reading.specs.Reading.{text_after}
 
 -- the two choices
 chosen : {A : Type 0} (m c : Bool) (x y : R.Out A) {z w : R.Out A} → m ≡ false → c ≡ true → z ≡ w
@@ -25,31 +24,29 @@ refused true c x z e f = absurd cc
 refused false true x z e f = absurd cc
 refused false false x z e f = refl
 
-pub text_read : (s : Progress) → is_memory (asked s).lexeme ≡ false → is_due RightBrace (asked s).lexeme ≡ true
+pub text_read : (call : Caller) (s : Progress) → is_memory (asked s).lexeme ≡ false → is_due RightBrace (asked s).lexeme ≡ true
     → is_memory (asked (after_brace s)).lexeme ≡ false → is_text (asked (after_brace s)).lexeme ≡ true
-    → result_of TextAfter s ≡ R.Done (
+    → exec call text_after s ≡ R.Done (
       (asked s).at,
       text_of (asked (after_brace s)).lexeme,
       is_last_text (asked (after_brace s)).lexeme,
       (asked (after_brace s)).at,
     ) (taking (after_brace s))
-text_read s m brace n is =
+text_read call s m brace n is =
     let t = after_brace s in
-    step_text_after s
-    ∙ chosen (is_memory (asked s).lexeme) (is_due RightBrace (asked s).lexeme) _ _ m brace
+    chosen (is_memory (asked s).lexeme) (is_due RightBrace (asked s).lexeme) _ _ m brace
     (chosen (is_memory (asked t).lexeme) (is_text (asked t).lexeme) _ _ n is refl)
 
-pub text_missing : (s : Progress) → is_memory (asked s).lexeme ≡ false → is_due RightBrace (asked s).lexeme ≡ true
+pub text_missing : (call : Caller) (s : Progress) → is_memory (asked s).lexeme ≡ false → is_due RightBrace (asked s).lexeme ≡ true
     → is_memory (asked (after_brace s)).lexeme ≡ false → is_text (asked (after_brace s)).lexeme ≡ false
-    → result_of TextAfter s ≡ R.Refused (refusal (unexpected (asked (after_brace s)).lexeme)
+    → exec call text_after s ≡ R.Refused (refusal (unexpected (asked (after_brace s)).lexeme)
     (asked (after_brace s)).at) (looking (after_brace s))
-text_missing s m brace n none =
+text_missing call s m brace n none =
     let t = after_brace s in
-    step_text_after s
-    ∙ chosen (is_memory (asked s).lexeme) (is_due RightBrace (asked s).lexeme) _ _ m brace
+    chosen (is_memory (asked s).lexeme) (is_due RightBrace (asked s).lexeme) _ _ m brace
     (refused (is_memory (asked t).lexeme) (is_text (asked t).lexeme) _ _ n none)
 
-pub brace_missing : (s : Progress) → is_memory (asked s).lexeme ≡ false → is_due RightBrace (asked s).lexeme ≡ false
-    → result_of TextAfter s ≡ R.Refused (refusal (not_due RightBrace (asked s).lexeme) (asked s).at) (looking s)
-brace_missing s m none =
-    step_text_after s ∙ refused (is_memory (asked s).lexeme) (is_due RightBrace (asked s).lexeme) _ _ m none
+pub brace_missing : (call : Caller) (s : Progress) → is_memory (asked s).lexeme ≡ false → is_due RightBrace (asked s).lexeme ≡ false
+    → exec call text_after s ≡ R.Refused (refusal (not_due RightBrace (asked s).lexeme) (asked s).at) (looking s)
+brace_missing call s m none =
+    refused (is_memory (asked s).lexeme) (is_due RightBrace (asked s).lexeme) _ _ m none

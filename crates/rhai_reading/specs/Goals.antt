@@ -9,7 +9,6 @@ use Rattle.rhai_grammar.specs.Causes.{Refusal, refusal}
 use Rattle.rhai_grammar.specs.Comments.{Comment}
 use Rattle.rhai_grammar.specs.DueTokens.{is_due, not_due}
 use Rattle.rhai_grammar.specs.declared.due.DueToken.{DueToken}
-use Rattle.rhai_grammar.specs.declared.filter.ExprFilter.{ExprFilter}
 use Rattle.rhai_grammar.specs.Contexts.{Context, Live, has_room, level_up}
 use Rattle.rhai_grammar.specs.declared.list.AfterPart.{AfterPart}
 use Rattle.rhai_grammar.specs.declared.list.AfterPart.TheVariants as after
@@ -67,20 +66,12 @@ pub data Goal : Type 0 where
   Fields : Context → Live → (at : Position) (before : Properties) → Goal
   -- the blocks and texts of an interpolated string, after these segments; start is its first text
   Segments : Context → Live → (start : Position) (before : Nodes) → Goal
-  -- the `}` of a block in an interpolated string, and the text after it
-  TextAfter : Goal
   -- what follows `return`, `throw` or `break`, which is at a position: a value, or nothing
   Jump : Context → Live → (at : Position) → Goal
-  -- the key of one more property, with its colon; none where the `}` is
-  NextKey : Context → (before : Properties) → Goal
-  -- what stands after an operand under a filter: an operator's strength, and whether equal ones group to the right
-  NextOperator : ExprFilter → Goal
   -- the operators after a left operand that go on with a run of this strength; at is where the next raise is refused
   BinaryOp : Context → Live → (at : Position) (parent : ℕ) (lhs : Node) → Goal
   -- an expression or an assignment
   ExprStatement : Context → Live → Goal
-  -- the name of a definition
-  VarName : Context → Live → Goal
   -- the value of a definition, which is unit where it is absent; at is where the raise of its level is refused
   Initializer : Context → Live → (at : Position) → Goal
   -- a definition after its keyword, which is at a position
@@ -89,19 +80,13 @@ pub data Goal : Type 0 where
   Import : Context → Live → (at : Position) → Goal
   -- what follows `export`, which is at a position
   Export : Context → Live → (at : Position) → Goal
-  -- another name, after `as`, if there is one
-  Alias : Goal
   Statement : Context → Live → Goal
   -- the statements of a list, after these, up to the token that closes it
   Statements : Closing → Context → Live → (before : node.Statements) → Goal
-  -- the `{` of a block
-  BlockStart : Goal
   -- the statements of a block, up to its `}`
   Inside : Context → Live → Goal
   -- a block after its `{`, which is at a position
   Block : Context → Live → (at : Position) → Goal
-  -- the `}` of a block of these statements
-  BlockEnd : (at : Position) (statements : node.Statements) → Goal
   -- a construct of this kind after its first token, which is at a position
   Construct : Context → Live → (at : Position) → Kind → Goal
   -- a block from its `{`, of a construct that is at a position
@@ -114,12 +99,6 @@ pub data Goal : Type 0 where
   Conditional : Context → Live → (at : Position) → Goal
   -- what follows the block of an `if`, which is at a position
   Branch : Context → Live → (at : Position) → Goal
-  -- the variables of `for`, and its `in`
-  LoopNames : Goal
-  -- `catch`, and its variable
-  Catch : Goal
-  -- the `while` or `until` after the block of `do`
-  DoEnd : Goal
   -- the arms of `switch`, after those that were collected, up to the `}`
   Arms : Context → Live → (before : Collected) → Goal
   -- an arm with cases, after those that were collected
@@ -134,10 +113,6 @@ pub data Goal : Type 0 where
   CaseGuard : Context → Live → Goal
   -- what an arm does, and whether it needs no comma after it
   Action : Context → Live → Goal
-  -- what follows an arm: a comma, or what may stand there without one, if the arm needs none
-  ArmEnd : (itself : Bool) → Goal
-  -- the `}` after the default arm, whose `_` is at a position
-  DefaultEnd : (default : Position) → Goal
   -- the doc comments that follow, after these
   Comments : (before : List Comment) → Goal
   -- a function with these doc comments after its `fn`, which is at a position, as a statement whose `private` or `fn`
@@ -145,10 +120,6 @@ pub data Goal : Type 0 where
   FunctionStatement : Context → Live → List Comment → (first at : Position) (is_private : Bool) → Goal
   -- a function with these doc comments, under its own settings, up to the end of its body
   Function : Context → List Comment → (at : Position) (is_private : Bool) → Goal
-  -- its name, with the type of its objects, if it has one
-  FunctionHead : Goal
-  -- its parameters, after its name
-  ParameterList : (function : Text) → Goal
   -- the parameters of a function or of a closure, up to what closes them, after these
   Parameters : (parts : CommaList) (function : Text) (before : List Text) → Goal
   -- a closure after its first token, which is at a position
@@ -178,33 +149,23 @@ Val (Items context live before) = Nodes
 Val (Elements context live at before) = Nodes
 Val (Fields context live at before) = Properties
 Val (Segments context live start before) = Nodes
-Val TextAfter = Position × Text × Bool × Position
 Val (Jump context live at) = Optional
-Val (NextKey context before) = Option (Text × Position)
-Val (NextOperator filter) = Option (ℕ × Bool)
 Val (BinaryOp context live at parent lhs) = Node
 Val (ExprStatement context live) = node.Statement
-Val (VarName context live) = Text × Position
 Val (Initializer context live at) = Node
 Val (Definition context live at constant exported) = node.Statement × Live
 Val (Import context live at) = node.Statement × Live
 Val (Export context live at) = node.Statement × Live
-Val Alias = Option Text
 Val (Statement context live) = node.Statement × Live
 Val (Statements closing context live before) = node.Statements × Live
-Val BlockStart = Position
 Val (Inside context live) = node.Statements
 Val (Block context live at) = node.Block
-Val (BlockEnd at fs) = node.Block
 Val (Construct context live at kind) = node.Statement
 Val (Braced context live at) = node.Block
 Val (Guard context live) = Node
 Val (Iterated context live) = Node
 Val (Conditional context live at) = node.Statement
 Val (Branch context live at) = node.Block
-Val LoopNames = Text × Option Text
-Val Catch = Option (Text × Position)
-Val DoEnd = Bool
 Val (Arms context live before) = Collected
 Val (Arm context live before) = Nodes × Node × Node
 Val (DefaultArm context live default) = Node
@@ -212,13 +173,9 @@ Val (Cases context live before) = Nodes
 Val (Case context live) = Node
 Val (CaseGuard context live) = Node
 Val (Action context live) = Node × Bool
-Val (ArmEnd itself) = Unit {0}
-Val (DefaultEnd default) = Unit {0}
 Val (Comments before) = List Comment
 Val (FunctionStatement context live comments first at is_private) = node.Statement × Live
 Val (Function context comments at is_private) = Ended
-Val FunctionHead = Option Text × Text
-Val (ParameterList function) = List Text
 Val (Parameters parts function before) = List Text
 Val (Closure context live at bars) = Node
 Val (ClosureBody context live) = node.Statement

@@ -19,7 +19,7 @@ use Rattle.rhai_grammar.specs.Settings.{is_in_function}
 use Rattle.rhai_grammar.specs.declared.due.DueToken.TheVariants as due
 use Rattle.rhai_grammar.specs.Contexts.{Context, Live, below_global, full, has_single_blocks, in_block}
 use Rattle.rhai_grammar.specs.Contexts.{in_case}
-use Rattle.rhai_grammar.specs.Constructs.{do_end, guard_fault, iterated_fault, may_be_value}
+use Rattle.rhai_grammar.specs.Constructs.{guard_fault, iterated_fault, may_be_value}
 use Rattle.rhai_grammar.specs.Definitions.{defined_as}
 use Rattle.rhai_grammar.specs.Modules.{is_qualified, may_use, module_fault, qualified}
 use Rattle.rhai_grammar.specs.Statements.{defines, statement_place, statement_start}
@@ -49,31 +49,32 @@ use Rattle.rhai_grammar.specs.declared.role.OperandStart.{OperandStart}
 use Rattle.rhai_grammar.specs.declared.role.OperandStart.TheVariants as first
 use Rattle.rhai_grammar.specs.Functions.{parameter_place}
 use Rattle.rhai_grammar.specs.Switches.{arm_fault, arm_place}
+use Rattle.rhai_grammar.specs.declared.filter.ExprFilter.{ExprFilter}
 use Rattle.rhai_grammar.specs.Signs.{signed, sign_holds, malformed}
 use Rattle.rhai_grammar.specs.Operators.{operator_tree, boolean_holds, mismatched}
 use Rattle.rhai_grammar.specs.Strengths.{Follower, Operator, Unknown, Other, follower_of}
 use Rattle.rhai_grammar.specs.Trees.{name_tree, variable_of, is_variable, node_count, call_tree, bracket_link}
 use Rattle.rhai_grammar.specs.Trees.{definition_tree, member_link, method_tree}
 pub use Rattle.rhai_reading.specs.Goals.{Goal, Whole, Expression, Operand, Primary, Called, Links, Index, Member}
-pub use Rattle.rhai_reading.specs.Goals.{Postfix, Arguments, Items, Elements, Fields, Segments, TextAfter, Jump}
-pub use Rattle.rhai_reading.specs.Goals.{NextKey, NextOperator, BinaryOp, ExprStatement, VarName, Initializer}
-pub use Rattle.rhai_reading.specs.Goals.{Definition, Statement, Statements, BlockStart, Inside, Block, BlockEnd}
-pub use Rattle.rhai_reading.specs.Goals.{Branch, Braced, Catch, Conditional, Construct, DoEnd, Guard, Iterated}
-pub use Rattle.rhai_reading.specs.Goals.{Alias, Export, Import, LoopNames, Path, RightOperand}
-pub use Rattle.rhai_reading.specs.Goals.{Action, Arm, ArmEnd, Arms, Case, CaseGuard, Cases, DefaultArm}
-pub use Rattle.rhai_reading.specs.Goals.{Comments, DefaultEnd, Function, FunctionHead, FunctionStatement, ParameterList}
+pub use Rattle.rhai_reading.specs.Goals.{Postfix, Arguments, Items, Elements, Fields, Segments, Jump}
+pub use Rattle.rhai_reading.specs.Goals.{BinaryOp, ExprStatement, Initializer}
+pub use Rattle.rhai_reading.specs.Goals.{Definition, Statement, Statements, Inside, Block}
+pub use Rattle.rhai_reading.specs.Goals.{Branch, Braced, Conditional, Construct, Guard, Iterated}
+pub use Rattle.rhai_reading.specs.Goals.{Export, Import, Path, RightOperand}
+pub use Rattle.rhai_reading.specs.Goals.{Action, Arm, Arms, Case, CaseGuard, Cases, DefaultArm}
+pub use Rattle.rhai_reading.specs.Goals.{Comments, Function, FunctionStatement}
 pub use Rattle.rhai_reading.specs.Goals.{Closure, ClosureBody, Parameters, Script, Val}
 pub use Rattle.rhai_reading.specs.Goals.{Ret, Fail, Peek, Take, TakeText, Know, Add, Note, Call, CallLiteral, CallApart}
 pub use Rattle.rhai_reading.specs.Goals.{Prog}
-pub use Rattle.rhai_reading.specs.Goals.{after_a_part, construct_on, match_name, match_token, part_next, raised, tested}
-pub use Rattle.rhai_reading.specs.ReadingStatements.{evaluated_at, var_name_at, value_at, definition_on}
+pub use Rattle.rhai_reading.specs.Goals.{inline, after_a_part, construct_on, match_name, match_token, part_next, raised, tested}
+pub use Rattle.rhai_reading.specs.ReadingStatements.{evaluated_at, var_name, var_name_at, value_at, definition_on}
 pub use Rattle.rhai_reading.specs.ReadingStatements.{jump_on, loop_at, statement_at, separated_at, statements_on}
 pub use Rattle.rhai_reading.specs.ReadingStatements.{documented, documented_at, fn_on, private_on}
 pub use Rattle.rhai_reading.specs.ReadingStatements.{statements_at, inside_on, inside_construct, guard_on}
 pub use Rattle.rhai_reading.specs.ReadingStatements.{no_brace, else_at, branch_at, counted_on}
-pub use Rattle.rhai_reading.specs.ReadingStatements.{first_of_two, loop_names_at, catch_at, do_end_at}
-pub use Rattle.rhai_reading.specs.ReadingStatements.{alias_at, export_at, export_on, global_at, import_on}
-pub use Rattle.rhai_reading.specs.ReadingFunctions.{comment_of, comments_at}
+pub use Rattle.rhai_reading.specs.ReadingStatements.{first_of_two, loop_names_at, catch_at, catch_name, do_end_at, end_of_do, loop_names}
+pub use Rattle.rhai_reading.specs.ReadingStatements.{alias, alias_at, export_at, export_on, global_at, import_on}
+pub use Rattle.rhai_reading.specs.ReadingFunctions.{comment_of, comments_at, function_head, parameter_list}
 pub use Rattle.rhai_reading.specs.ReadingFunctions.{function_at, function_body_at, function_end, function_on, head_at}
 pub use Rattle.rhai_reading.specs.ReadingClosures.{captured_on, closure_added, closure_at, closure_body_at, closure_by}
 pub use Rattle.rhai_reading.specs.ReadingClosures.{closure_end, closure_on}
@@ -81,7 +82,7 @@ use Rattle.rhai_grammar.specs.Modules.{captures_use}
 use Rattle.rhai_grammar.specs.Starts.{may_be_closure}
 pub use Rattle.rhai_reading.specs.ReadingFunctions.{named_at, owner_at, parameter_at, parameters_at}
 pub use Rattle.rhai_reading.specs.ReadingSwitches.{cases_at, case_guard_at, action_at, action_on, arm_end_at}
-pub use Rattle.rhai_reading.specs.ReadingSwitches.{default_end_at, arm_on, default_at, default_on, arms_at}
+pub use Rattle.rhai_reading.specs.ReadingSwitches.{arm_end, default_end, default_end_at, arm_on, default_at, default_on, arms_at}
 
 -- ---- each reader
 
@@ -130,6 +131,18 @@ primary_at context live lexeme at begin.Sign = Fail (refusal (unexpected lexeme)
 primary_at context live lexeme at begin.Range = Ret (integer (lib.IntN.pos 0) at)
 primary_at context live lexeme at begin.Nothing = Fail (refusal (no_operand lexeme) at)
 
+-- the `{` of a block
+abbrev pub block_start : Prog Position
+block_start = Peek (λ lexeme at. match_token due.LeftBrace (Ret at))
+
+-- the `}` of a block of these statements
+abbrev pub block_end : (at : Position) → (statements : node.Statements) → Prog node.Block
+block_end at fs = Peek (λ lexeme end. match_token due.RightBrace (Ret (braces fs at end)))
+
+-- the `}` of a block in an interpolated string, and the text after it
+abbrev pub text_after : Prog (Position × Text × Bool × Position)
+text_after = TakeText (λ end lexeme at. Ret (end, text_of lexeme, is_last_text lexeme, at))
+
 -- after the `{` of a block in an interpolated string: the block, and the text after it
 abbrev pub text_on : Context → Live → (start opening : Position) → Nodes → node.Statements
     → Position × Text × Bool × Position → Prog Nodes
@@ -141,7 +154,7 @@ text_on context live start opening before fs part =
 abbrev pub segment_on : Context → Live → (start opening : Position) → Nodes → Prog Nodes
 segment_on context live start opening before =
     raised context start (λ deeper. Call (Inside deeper live) (λ fs.
-    Call TextAfter (text_on context live start opening before fs)))
+    inline text_after (text_on context live start opening before fs)))
 
 -- after `return`, `throw` or `break`
 abbrev pub jump_at : Context → Live → (at : Position) → (valued : Bool) → Prog Optional
@@ -254,6 +267,10 @@ key_on context before at (AKey key) =
     else match_token due.Colon (Peek (room_at context before key at)))
 key_on context before at (NoKey why) = Fail (refusal why at)
 
+-- the key of one more property, with its colon; none where the `}` is
+abbrev pub field_key : Context → (before : Properties) → Prog (Option (Text × Position))
+field_key context before = Peek (λ lexeme at. key_on context before at (next_key context.settings before lexeme))
+
 -- after a value
 abbrev pub field_next : Context → Live → (opening : Position) → Properties → Prog Properties
 field_next context live opening ps = after_a_part lists.Map (Call (Fields context live opening ps) Ret) (Ret ps)
@@ -309,6 +326,10 @@ next_operator_at at (Operator n right) = Ret (Some (n, right))
 next_operator_at at (Unknown t) = Fail (refusal (cause.UnknownOperator t) at)
 next_operator_at at Other = Ret None
 
+-- what stands after an operand under a filter: an operator's strength, and whether equal ones group to the right
+abbrev pub next_operator : ExprFilter → Prog (Option (ℕ × Bool))
+next_operator filter = Peek (λ lexeme at. next_operator_at at (follower_of filter lexeme))
+
 -- after an operator's right side
 abbrev pub binary_next : Context → Live → ℕ → Node → Lexeme → Position → Node → Prog Node
 binary_next context live parent lhs op pos rhs =
@@ -320,7 +341,7 @@ binary_next context live parent lhs op pos rhs =
 -- after an operator's right operand: the tighter run that begins there, if one does
 abbrev pub binary_right : Context → Live → Position → ℕ → Node → ℕ → Lexeme → Position → Node → Prog Node
 binary_right context live at parent lhs strength op pos rhs =
-    Call (NextOperator context.filter) (λ next. raised context at (λ deeper.
+    inline (next_operator context.filter) (λ next. raised context at (λ deeper.
     Call (BinaryOp deeper live (position_of rhs) strength rhs) (binary_next deeper live parent lhs op pos)))
 
 -- after an operator
@@ -354,41 +375,31 @@ body (Items context live before) = Call (Expression context live) (λ x. items_a
 body (Elements context live opening before) =
     Peek (λ lexeme at.
     element_at context live opening before lexeme at (item_place context.sizes.array (node_count before) lexeme))
-body (Fields context live opening before) = Call (NextKey context before) (field_on context live opening before)
-body (Segments context live start before) = Call BlockStart (λ opening. segment_on context live start opening before)
-body TextAfter = TakeText (λ end lexeme at. Ret (end, text_of lexeme, is_last_text lexeme, at))
+body (Fields context live opening before) = inline (field_key context before) (field_on context live opening before)
+body (Segments context live start before) = inline block_start (λ opening. segment_on context live start opening before)
 body (Jump context live at) = Peek (λ lexeme pos. jump_at context live at (starts context lexeme))
-body (NextKey context before) = Peek (λ lexeme at. key_on context before at (next_key context.settings before lexeme))
-body (NextOperator filter) = Peek (λ lexeme at. next_operator_at at (follower_of filter lexeme))
-body (BinaryOp context live at parent lhs) = Call (NextOperator context.filter) (binary_at context live at parent lhs)
+body (BinaryOp context live at parent lhs) = inline (next_operator context.filter) (binary_at context live at parent lhs)
 body (ExprStatement context live) = Call (Expression context live) (λ x. Peek (evaluated_at context live x))
-body (VarName context live) = Peek (var_name_at context live)
 body (Initializer context live at) = Peek (value_at context live at)
 body (Definition context live at constant exported) =
-    Call (VarName context live) (λ name. Call (Initializer context live at) (λ x.
+    inline (var_name context live) (λ name. Call (Initializer context live at) (λ x.
     Ret (definition_tree constant exported at name.0 x live, defined_as exported name.0 constant live)))
-body (Import context live at) = Call (Expression context live) (λ x. Call Alias (import_on live at x))
+body (Import context live at) = Call (Expression context live) (λ x. inline alias (import_on live at x))
 body (Export context live at) = Peek (λ lexeme pos. export_at context live at pos (defines lexeme))
-body Alias = Peek (λ lexeme at. alias_at lexeme)
 body (Statement context live) = Peek (λ lexeme at. statement_at context live at (statement_start context lexeme))
 body (Statements closing context live before) =
     Peek (λ lexeme at. statements_at closing context live before lexeme at (statement_place closing lexeme))
-body BlockStart = Peek (λ lexeme at. match_token due.LeftBrace (Ret at))
 body (Inside context live) = inside_on context live (has_single_blocks context)
-body (Block context live at) = Call (Inside context live) (λ fs. Call (BlockEnd at fs) Ret)
-body (BlockEnd at fs) = Peek (λ lexeme end. match_token due.RightBrace (Ret (braces fs at end)))
+body (Block context live at) = Call (Inside context live) (λ fs. inline (block_end at fs) Ret)
 body (Construct context live at kind) = inside_construct context live at kind
 body (Braced context live at) =
-    Call BlockStart (λ opening. raised context at (λ deeper. Call (Block deeper live opening) Ret))
+    inline block_start (λ opening. raised context at (λ deeper. Call (Block deeper live opening) Ret))
 body (Guard context live) = no_brace (Call (Expression context live) (λ x. guard_on x (guard_fault x)))
 body (Iterated context live) = no_brace (Call (Expression context live) (λ x. tested x (iterated_fault x)))
 body (Conditional context live at) =
     Call (Guard context live) (λ guard. Call (Braced context live at) (λ block.
     Call (Branch context live at) (λ branch. Ret (if_statement guard block branch at))))
 body (Branch context live at) = Peek (λ lexeme pos. branch_at context live at lexeme)
-body LoopNames = Peek (λ lexeme at. loop_names_at lexeme)
-body Catch = match_token due.Catch (Peek (λ lexeme at. catch_at lexeme))
-body DoEnd = Peek (λ lexeme at. do_end_at lexeme at (do_end lexeme))
 body (Arms context live before) = Peek (λ lexeme at. arms_at context live before lexeme at (arm_place lexeme))
 body (Arm context live before) =
     Call (Cases context live no_nodes) (λ xs. Call (CaseGuard context live) (λ guard. match_token due.DoubleArrow (
@@ -399,16 +410,12 @@ body (Cases context live before) =
 body (Case context live) = CallLiteral (Expression (in_case context) (in_block live)) Ret
 body (CaseGuard context live) = Peek (λ lexeme at. case_guard_at context live lexeme)
 body (Action context live) = action_on context live (has_single_blocks context)
-body (ArmEnd itself) = Peek (λ lexeme at. arm_end_at itself lexeme at (after_part lists.Arms lexeme))
-body (DefaultEnd default) = Peek (λ lexeme at. default_end_at default lexeme at (arm_place lexeme))
 body (Comments before) = Peek (comments_at before)
 body (FunctionStatement context live comments first at is_private) =
     function_at context live comments first at is_private
 body (Function context comments at is_private) =
-    Call FunctionHead (λ head. Call (ParameterList head.1) (λ names.
+    inline function_head (λ head. inline (parameter_list head.1) (λ names.
     Peek (function_body_at context comments at is_private head names)))
-body FunctionHead = Peek head_at
-body (ParameterList function) = Peek (λ lexeme at. parameters_at function lexeme at (calling lexeme))
 body (Parameters parts function before) =
     Peek (λ lexeme at. parameter_at parts function before lexeme at (parameter_place parts lexeme))
 body (Closure context live at bars) = Know (closure_at context live at bars)

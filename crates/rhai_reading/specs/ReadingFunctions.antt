@@ -5,7 +5,7 @@ use Rattle.rhai_lower.specs.Lexemes.{Lexeme, text_of}
 use Rattle.rhai_lower.specs.Nodes as node
 use Rattle.rhai_lower.specs.Nodes.{noop}
 use Rattle.rhai_lower.specs.declared.position.Position.{Position}
-use Rattle.rhai_grammar.specs.Beginnings.{is_name}
+use Rattle.rhai_grammar.specs.Beginnings.{calling, is_name}
 use Rattle.rhai_grammar.specs.Causes as cause
 use Rattle.rhai_grammar.specs.Causes.{refusal}
 use Rattle.rhai_grammar.specs.Comments.{Comment}
@@ -61,6 +61,10 @@ abbrev pub head_at : Lexeme → Position → Prog (Option Text × Text)
 head_at lexeme at =
     if is_type lexeme then Take (Peek (owner_at lexeme at)) else Fail (refusal (no_function_name lexeme) at)
 
+-- its name, with the type of its objects, if it has one
+abbrev pub function_head : Prog (Option Text × Text)
+function_head = Peek head_at
+
 -- ---- the parameters
 
 -- where a parameter may be
@@ -79,6 +83,10 @@ abbrev pub parameters_at : (function : Text) → Lexeme → Position → Calling
 parameters_at function lexeme at calls_by.Pair = Take (Ret [])
 parameters_at function lexeme at calls_by.List = Take (Call (Parameters lists.Parameters function []) Ret)
 parameters_at function lexeme at _ = Fail (refusal (no_parameters function lexeme) at)
+
+-- its parameters, after its name
+abbrev pub parameter_list : (function : Text) → Prog (List Text)
+parameter_list function = Peek (λ lexeme at. parameters_at function lexeme at (calling lexeme))
 
 -- ---- the body
 

@@ -16,7 +16,7 @@ use Rattle.rhai_grammar.specs.Causes.{Refusal, refusal}
 use Rattle.rhai_grammar.specs.Comments.{Comment}
 use Rattle.rhai_grammar.specs.declared.due.DueToken.TheVariants as due
 use Rattle.rhai_grammar.specs.Contexts.{Context, Live, below_global, in_block, is_global, is_in_loop, loop_body}
-use Rattle.rhai_grammar.specs.Constructs.{guard_expected, no_assignment}
+use Rattle.rhai_grammar.specs.Constructs.{do_end, guard_expected, no_assignment}
 use Rattle.rhai_grammar.specs.Definitions.{catch_live, exported, imported, loop_live, may_define}
 use Rattle.rhai_grammar.specs.DueTokens.{is_due}
 use Rattle.rhai_grammar.specs.declared.role.Construct.{Construct as Kind}
@@ -40,9 +40,9 @@ use Rattle.rhai_reading.specs.Goals.{construct_on, Expression}
 use Rattle.rhai_reading.specs.Goals.{Jump}
 use Rattle.rhai_reading.specs.Goals.{ExprStatement}
 use Rattle.rhai_reading.specs.Goals.{Definition, Statement, Statements, Block}
-use Rattle.rhai_reading.specs.Goals.{Arms, Braced, Catch, Conditional, DoEnd, Guard, Iterated}
-use Rattle.rhai_reading.specs.Goals.{Alias, Comments, Export, FunctionStatement, Import, LoopNames}
-use Rattle.rhai_reading.specs.Goals.{Ret, Fail, Peek, Take, Call, Prog}
+use Rattle.rhai_reading.specs.Goals.{Arms, Braced, Conditional, Guard, Iterated}
+use Rattle.rhai_reading.specs.Goals.{Comments, Export, FunctionStatement, Import}
+use Rattle.rhai_reading.specs.Goals.{Ret, Fail, Peek, Take, Call, Prog, inline}
 use Rattle.rhai_reading.specs.Goals.{match_name, match_token, raised, tested}
 use Rattle.rhai_reading.specs.ReadingFunctions.{comment_of}
 
@@ -60,6 +60,10 @@ var_name_at context live lexeme at =
     else Fail (refusal (cause.VariableExists (text_of lexeme)) at))
     else Fail (refusal (no_variable lexeme) at)
 
+-- the name of a definition
+abbrev pub var_name : Context → Live → Prog (Text × Position)
+var_name context live = Peek (var_name_at context live)
+
 -- after the name of a definition
 abbrev pub value_at : Context → Live → Position → Lexeme → Position → Prog Node
 value_at context live at lexeme pos =
@@ -75,6 +79,10 @@ definition_on context live at constant =
 abbrev pub alias_at : Lexeme → Prog (Option Text)
 alias_at lexeme = if is_due due.As lexeme then Take (match_name (λ name at. Ret (Some name))) else Ret None
 
+-- another name, after `as`, if there is one
+abbrev pub alias : Prog (Option Text)
+alias = Peek (λ lexeme at. alias_at lexeme)
+
 -- after the module of an import
 abbrev pub import_on : Live → Position → Node → Option Text → Prog (node.Statement × Live)
 import_on live at x other = Ret (import_tree x other at, imported other live)
@@ -87,7 +95,7 @@ export_on live at name other = Ret (export_tree name other at, exported name (un
 abbrev pub export_at : Context → Live → Position → Position → Option Bool → Prog (node.Statement × Live)
 export_at context live at pos (Some constant) =
     raised context at (λ deeper. Take (Call (Definition deeper live pos constant true) Ret))
-export_at context live at pos None = match_name (λ name name_at. Call Alias (export_on live at name))
+export_at context live at pos None = match_name (λ name name_at. inline alias (export_on live at name))
 
 -- `export` stands at the global level
 abbrev pub global_at : {A : Type 0} → Context → Position → Prog A → Prog A
@@ -177,28 +185,6 @@ inside_on context live false =
 
 -- ---- constructs
 
-abbrev pub inside_construct : Context → Live → Position → Kind → Prog node.Statement
-inside_construct context live at kind.Block = Call (Block context live at) (λ b. Ret (block_statement b))
-inside_construct context live at kind.If = Call (Conditional context live at) Ret
-inside_construct context live at kind.Switch =
-    Call (Expression context live) (λ x. match_token due.LeftBrace (Call (Arms context live nothing_collected) (λ all.
-    Ret (switch_tree x all at))))
-inside_construct context live at kind.While =
-    Call (Guard context live) (λ x. Call (Braced (loop_body context) live at) (λ b. Ret (while_statement x b at)))
-inside_construct context live at kind.Loop =
-    Call (Braced (loop_body context) live at) (λ b. Ret (while_statement (unit nowhere) b at))
-inside_construct context live at kind.Do =
-    Call (Braced (loop_body context) live at) (λ b. Call DoEnd (λ negated. Call (Guard context live) (λ x.
-    Ret (do_statement x b negated at))))
-inside_construct context live at kind.For =
-    Call LoopNames (λ names. Call (Iterated context live) (λ x.
-    Call (Braced (loop_body context) (loop_live names.0 names.1 live) at) (λ b.
-    Ret (for_statement names.0 names.1 x b at))))
-inside_construct context live at kind.Try =
-    Call (Braced context live at) (λ b. Call Catch (λ name.
-    Call (Braced context (catch_live (caught_name name) live) at) (λ handler.
-    Ret (try_catch b (catch_node name) handler at))))
-
 -- after a guard, which may be refused
 abbrev pub guard_on : Node → Option Refusal → Prog Node
 guard_on x None = Peek (λ lexeme at. if is_due due.Equals lexeme then Fail (refusal no_assignment at) else Ret x)
@@ -236,6 +222,10 @@ loop_names_at lexeme =
     if is_due due.LeftParen lexeme then Take (match_name first_of_two)
     else match_name (λ name at. match_token due.In (Ret (name, None)))
 
+-- the variables of `for`, and its `in`
+abbrev pub loop_names : Prog (Text × Option Text)
+loop_names = Peek (λ lexeme at. loop_names_at lexeme)
+
 -- after `catch`
 abbrev pub catch_at : Lexeme → Prog (Option (Text × Position))
 catch_at lexeme =
@@ -243,7 +233,37 @@ catch_at lexeme =
     match_token due.RightParen (Ret (Some (name, at)))))
     else Ret None
 
+-- `catch`, and its variable
+abbrev pub catch_name : Prog (Option (Text × Position))
+catch_name = match_token due.Catch (Peek (λ lexeme at. catch_at lexeme))
+
 -- after the block of `do`
 abbrev pub do_end_at : Lexeme → Position → Option Bool → Prog Bool
 do_end_at lexeme at None = Fail (refusal (missing (codes "while") lexeme) at)
 do_end_at lexeme at (Some negated) = Take (Ret negated)
+
+-- the `while` or `until` after the block of `do`
+abbrev pub end_of_do : Prog Bool
+end_of_do = Peek (λ lexeme at. do_end_at lexeme at (do_end lexeme))
+
+abbrev pub inside_construct : Context → Live → Position → Kind → Prog node.Statement
+inside_construct context live at kind.Block = Call (Block context live at) (λ b. Ret (block_statement b))
+inside_construct context live at kind.If = Call (Conditional context live at) Ret
+inside_construct context live at kind.Switch =
+    Call (Expression context live) (λ x. match_token due.LeftBrace (Call (Arms context live nothing_collected) (λ all.
+    Ret (switch_tree x all at))))
+inside_construct context live at kind.While =
+    Call (Guard context live) (λ x. Call (Braced (loop_body context) live at) (λ b. Ret (while_statement x b at)))
+inside_construct context live at kind.Loop =
+    Call (Braced (loop_body context) live at) (λ b. Ret (while_statement (unit nowhere) b at))
+inside_construct context live at kind.Do =
+    Call (Braced (loop_body context) live at) (λ b. inline end_of_do (λ negated. Call (Guard context live) (λ x.
+    Ret (do_statement x b negated at))))
+inside_construct context live at kind.For =
+    inline loop_names (λ names. Call (Iterated context live) (λ x.
+    Call (Braced (loop_body context) (loop_live names.0 names.1 live) at) (λ b.
+    Ret (for_statement names.0 names.1 x b at))))
+inside_construct context live at kind.Try =
+    Call (Braced context live at) (λ b. inline catch_name (λ name.
+    Call (Braced context (catch_live (caught_name name) live) at) (λ handler.
+    Ret (try_catch b (catch_node name) handler at))))

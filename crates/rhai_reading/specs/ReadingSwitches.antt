@@ -6,11 +6,11 @@ use Rattle.rhai_lower.specs.declared.position.Position.{Position}
 use Rattle.rhai_grammar.specs.Beginnings.{missing}
 use Rattle.rhai_grammar.specs.Causes as cause
 use Rattle.rhai_grammar.specs.Causes.{Refusal, refusal}
-use Rattle.rhai_grammar.specs.CommaLists.{not_after}
+use Rattle.rhai_grammar.specs.CommaLists.{after_part, not_after}
 use Rattle.rhai_grammar.specs.Contexts.{Context, Live, below_global, in_block}
 use Rattle.rhai_grammar.specs.Delivered.{is_end}
 use Rattle.rhai_grammar.specs.DueTokens.{is_due}
-use Rattle.rhai_grammar.specs.Switches.{Collected, ends_arm, no_guard, with_arm_collected}
+use Rattle.rhai_grammar.specs.Switches.{Collected, arm_place, ends_arm, no_guard, with_arm_collected}
 use Rattle.rhai_grammar.specs.Switches.{with_default_collected}
 use Rattle.rhai_grammar.specs.declared.due.DueToken.TheVariants as due
 use Rattle.rhai_grammar.specs.declared.list.AfterPart.{AfterPart}
@@ -18,9 +18,9 @@ use Rattle.rhai_grammar.specs.declared.list.AfterPart.TheVariants as after
 use Rattle.rhai_grammar.specs.declared.list.CommaList.TheVariants as lists
 use Rattle.rhai_grammar.specs.declared.role.ArmPlace.{ArmPlace}
 use Rattle.rhai_grammar.specs.declared.role.ArmPlace.TheVariants as arm
-use Rattle.rhai_reading.specs.Goals.{Action, Arm, ArmEnd, Arms, Cases, DefaultArm, DefaultEnd, Expression}
+use Rattle.rhai_reading.specs.Goals.{Action, Arm, Arms, Cases, DefaultArm, Expression}
 use Rattle.rhai_reading.specs.Goals.{Guard, Statement}
-use Rattle.rhai_reading.specs.Goals.{Prog, Ret, Fail, Peek, Take, Call, match_token}
+use Rattle.rhai_reading.specs.Goals.{Prog, Ret, Fail, Peek, Take, Call, inline, match_token}
 
 -- after the case of an arm, of which it has these so far
 abbrev pub cases_at : Context → Live → Nodes → Lexeme → Prog Nodes
@@ -48,20 +48,28 @@ arm_end_at itself lexeme at after.Comma = Take (Ret tt)
 arm_end_at itself lexeme at after.Close = Ret tt
 arm_end_at itself lexeme at after.Nothing = if itself then Ret tt else Fail (refusal (not_after lists.Arms lexeme) at)
 
+-- what follows an arm: a comma, or what may stand there without one, if the arm needs none
+abbrev pub arm_end : (itself : Bool) → Prog (Unit {0})
+arm_end itself = Peek (λ lexeme at. arm_end_at itself lexeme at (after_part lists.Arms lexeme))
+
 -- after the default arm, whose `_` is at a position
 abbrev pub default_end_at : (default : Position) → Lexeme → Position → ArmPlace → Prog (Unit {0})
 default_end_at default lexeme at arm.Close = Take (Ret tt)
 default_end_at default lexeme at arm.Nothing = Fail (refusal (missing (codes "}") lexeme) at)
 default_end_at default lexeme at _ = Fail (refusal cause.WrongSwitchDefaultCase default)
 
+-- the `}` after the default arm, whose `_` is at a position
+abbrev pub default_end : (default : Position) → Prog (Unit {0})
+default_end default = Peek (λ lexeme at. default_end_at default lexeme at (arm_place lexeme))
+
 -- after what an arm with cases does; one of these may be refused
 abbrev pub arm_on : Nodes → (guard : Node) → Node × Bool → Option Refusal → Prog (Nodes × Node × Node)
-arm_on xs guard does None = Call (ArmEnd does.1) (λ end. Ret (xs, guard, does.0))
+arm_on xs guard does None = inline (arm_end does.1) (λ end. Ret (xs, guard, does.0))
 arm_on xs guard does (Some e) = Fail e
 
 -- after what the default arm does, whose `_` is at a position
 abbrev pub default_on : Node × Bool → (default : Position) → Prog Node
-default_on does default = Call (ArmEnd does.1) (λ end. Call (DefaultEnd default) (λ close. Ret does.0))
+default_on does default = inline (arm_end does.1) (λ end. inline (default_end default) (λ close. Ret does.0))
 
 -- after the `_` of the default arm, which is at a position
 abbrev pub default_at : Context → Live → (default : Position) → Lexeme → Position → Prog Node

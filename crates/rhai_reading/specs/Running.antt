@@ -15,15 +15,15 @@ use Rattle.rhai_reading.specs.Moves.{Moves, Outcome}
 use Rattle.rhai_reading.specs.Nesting.{Nesting, entered, is_counted, left_one}
 pub use Rattle.rhai_reading.specs.Moves.{Done, Refused, Unfinished, and_then, recast}
 use Rattle.rhai_reading.specs.Reading.{Goal, Whole, Expression, Operand, Primary, Postfix, Arguments, Items, Elements}
-use Rattle.rhai_reading.specs.Reading.{Fields, NextKey, Called, Links, Index, Member, NextOperator, BinaryOp, Val}
-use Rattle.rhai_reading.specs.Reading.{ExprStatement, VarName, Initializer, Definition, Statement, Statements, Block}
-use Rattle.rhai_reading.specs.Reading.{BlockEnd, BlockStart, Inside, Jump, Prog, Segments, TextAfter}
-use Rattle.rhai_reading.specs.Reading.{Alias, Export, Import, Path}
-use Rattle.rhai_reading.specs.Reading.{Branch, Braced, Catch, Conditional, Construct, DoEnd, Guard, Iterated, LoopNames}
-use Rattle.rhai_reading.specs.Reading.{Action, Arm, ArmEnd, Arms, Case, CaseGuard, Cases, DefaultArm, DefaultEnd}
+use Rattle.rhai_reading.specs.Reading.{Fields, Called, Links, Index, Member, BinaryOp, Val}
+use Rattle.rhai_reading.specs.Reading.{ExprStatement, Initializer, Definition, Statement, Statements, Block}
+use Rattle.rhai_reading.specs.Reading.{Inside, Jump, Prog, Segments}
+use Rattle.rhai_reading.specs.Reading.{Export, Import, Path}
+use Rattle.rhai_reading.specs.Reading.{Branch, Braced, Conditional, Construct, Guard, Iterated}
+use Rattle.rhai_reading.specs.Reading.{Action, Arm, Arms, Case, CaseGuard, Cases, DefaultArm}
 use Rattle.rhai_reading.specs.Reading.{RightOperand}
-use Rattle.rhai_reading.specs.Reading.{Closure, ClosureBody, Comments, Function, FunctionHead, FunctionStatement}
-use Rattle.rhai_reading.specs.Reading.{ParameterList, Parameters}
+use Rattle.rhai_reading.specs.Reading.{Closure, ClosureBody, Comments, Function, FunctionStatement}
+use Rattle.rhai_reading.specs.Reading.{Parameters}
 use Rattle.rhai_reading.specs.Reading.{Prog, body}
 
 -- What is left of a stream, the functions that have ended, the names that the closure around has captured, and how
@@ -108,38 +108,28 @@ rank (Items context live before) = 4
 rank (Elements context live at before) = 4
 rank (Fields context live at before) = 4
 rank (Segments context live start before) = 1
-rank TextAfter = 0
 rank (Jump context live at) = 4
-rank (NextKey context before) = 0
 rank (Called context live at qualified) = 0
 rank (Path live x) = 0
 rank (Links live spot) = 1
 rank (Index context live indexed) = 4
 rank (Member context live) = 0
-rank (NextOperator filter) = 0
 rank (BinaryOp context live at parent lhs) = 1
 rank (ExprStatement context live) = 4
-rank (VarName context live) = 0
 rank (Initializer context live at) = 0
 rank (Definition context live at constant exported) = 1
 rank (Import context live at) = 4
 rank (Export context live at) = 1
-rank Alias = 0
 rank (Statement context live) = 5
 rank (Statements closing context live before) = 6
-rank BlockStart = 0
 rank (Inside context live) = 7
 rank (Block context live at) = 8
-rank (BlockEnd at fs) = 0
 rank (Construct context live at kind) = 9
 rank (Braced context live at) = 1
 rank (Guard context live) = 4
 rank (Iterated context live) = 4
 rank (Conditional context live at) = 5
 rank (Branch context live at) = 2
-rank LoopNames = 0
-rank Catch = 0
-rank DoEnd = 0
 rank (Arms context live before) = 7
 rank (Arm context live before) = 6
 rank (DefaultArm context live default) = 0
@@ -147,13 +137,9 @@ rank (Cases context live before) = 5
 rank (Case context live) = 4
 rank (CaseGuard context live) = 0
 rank (Action context live) = 6
-rank (ArmEnd itself) = 0
-rank (DefaultEnd default) = 0
 rank (Comments before) = 0
 rank (FunctionStatement context live comments first at is_private) = 2
 rank (Function context comments at is_private) = 1
-rank FunctionHead = 0
-rank (ParameterList function) = 0
 rank (Parameters parts function before) = 0
 rank (Closure context live at bars) = 7
 rank (ClosureBody context live) = 6

@@ -59,7 +59,7 @@ uncalled_end c w x {s = s} m =
 
 -- the names of a path
 more_names : (w : Live) (x : Node) (colons : Position) (name : Text) (pos : Position) (rest : Path)
-    → is_variable x ≡ true → IsFlat (R.Path w x) (paths w x)
+    → is_variable x ≡ true → IsFlat (body (R.Path w x)) (paths w x)
     (record { colons = colons; name = name; at = pos; more = rest })
 more_names w x colons name pos form.NoPath v k s t b m =
     let y = qualified w.imports x name pos in

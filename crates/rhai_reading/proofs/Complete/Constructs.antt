@@ -26,7 +26,7 @@ use Rattle.rhai_reading.proofs.Complete.Statements.{block_start}
 use Rattle.rhai_reading.proofs.ConstructKinds.{BracedForm, CatchForm, DoForm, LoopForm, braced, catches, do_ends, guards}
 use Rattle.rhai_reading.proofs.ConstructKinds.{iterated_values, loops}
 use Rattle.rhai_reading.proofs.Looks.{no_other, no_wrong, op_at}
-use Rattle.rhai_reading.proofs.Reaches.{Reaches, deeper, enough, due as due_now, if_false, if_true, next, part, peek, ret, seen, take}
+use Rattle.rhai_reading.proofs.Reaches.{Reaches, deeper, enough, due as due_now, if_false, if_true, next, part, peek, ret, seen, take, term}
 use Rattle.rhai_reading.proofs.Strengths.{not_true}
 
 -- ---- guards
@@ -52,7 +52,7 @@ iterated f reads c w k s t b m =
 pub in_braces : (f : BracedForm) → BodyRead f.body → (c : Context) (w : Live) (at : Position)
     → IsRead (1 + body_depth f.body) (R.Braced c w at) (braced c w at) f
 in_braces f reads c w at k s t b m =
-    part (block_start f.opening (W.raise_at c at (W.block f.body (level_up c) w k)) s t b m) (λ u l n. if_true _ n.0
+    term _ (block_start f.opening (W.raise_at c at (W.block f.body (level_up c) w k)) s t b m) (λ u l n. if_true _ n.0
     (deeper _ refl (reads (level_up c) w f.opening k u t l n.1) (λ v a i. ret i)))
 
 abbrev in_form : (opening : Position) → Body → BracedForm
@@ -60,10 +60,10 @@ in_form opening f = record { opening = opening; body = f }
 
 -- ---- names
 
-pub loop_names : (f : LoopForm) → IsFlat R.LoopNames loops f
+pub loop_names : (f : LoopForm) → IsFlat R.loop_names loops f
 loop_names f k s t b m = by f.names f.in_at k s t b m
   where
-    by : (x : LoopNames) (in_at : Position) → IsFlat R.LoopNames loops (record { names = x; in_at = in_at })
+    by : (x : LoopNames) (in_at : Position) → IsFlat R.loop_names loops (record { names = x; in_at = in_at })
     by (form.Variable name at) in_at k s t b m =
         peek m.0 refl (due_now m.0 refl refl (due_now m.1.0 refl refl (ret m.1.1)))
     by (form.Counted opening name at comma counter counter_at closing) in_at k s t b m =
@@ -71,10 +71,10 @@ loop_names f k s t b m = by f.names f.in_at k s t b m
         (if_false _ (not_true _ m.1.1.1.1.0) (due_now m.1.1.1.1.1.0 refl refl (due_now m.1.1.1.1.1.1.0 refl refl
         (ret m.1.1.1.1.1.1.1)))))))
 
-pub catch_name : (f : CatchForm) → IsFlat R.Catch catches f
+pub catch_name : (f : CatchForm) → IsFlat R.catch_name catches f
 catch_name f k s t b m = by f.at f.name k s t b m
   where
-    by : (pos : Position) (x : CatchName) → IsFlat R.Catch catches (record { at = pos; name = x })
+    by : (pos : Position) (x : CatchName) → IsFlat R.catch_name catches (record { at = pos; name = x })
     by pos form.NoName k s t b m =
         due_now m.0 refl refl (next (absent due.LeftParen) m.1.0 (λ e.
         if_false _ (no_other (is_due due.LeftParen (op_at (past code s))) e).0 (ret m.1.1)))
@@ -82,7 +82,7 @@ catch_name f k s t b m = by f.at f.name k s t b m
         due_now m.0 refl refl (due_now m.1.0 refl refl (due_now m.1.1.0 refl refl (due_now m.1.1.1.0 refl refl
         (ret m.1.1.1.1))))
 
-pub end_of_do : (f : DoForm) → IsFlat R.DoEnd do_ends f
+pub end_of_do : (f : DoForm) → IsFlat R.end_of_do do_ends f
 end_of_do f k s t b m =
     let l = Sign (do_token f.negated) in
     peek m.0 refl (seen (ends_do f.negated) (R.do_end_at l f.at) (take m.0 refl (ret m.1)))
@@ -133,14 +133,14 @@ pub do_while : (opening : Position) (g : Body) (negated : Bool) (pos : Position)
     → ConstructRead (form.Do opening g negated pos f)
 do_while opening g negated pos f reads expression c w at k s t b m =
     enough (λ z. omega arith) (part (in_braces (in_form opening g) reads (loop_body c) w at _ s t b m) (λ u l n.
-    part (end_of_do (record { negated = negated; at = pos }) (W.as_guard (W.run f) (tree f w) c w k) u t l n) (λ v a i.
+    term _ (end_of_do (record { negated = negated; at = pos }) (W.as_guard (W.run f) (tree f w) c w k) u t l n) (λ v a i.
     part (guard f expression c w k v t a i) (λ x d j. ret j))))
 
 pub for : (names : LoopNames) (in_at : Position) (f : Run) (opening : Position) (g : Body) → ExpressionRead f
     → BodyRead g → ConstructRead (form.For names in_at f opening g)
 for names in_at f opening g expression reads c w at k s t b m =
     let inner = loop_live (loop_name names) (counter_of names) w in
-    enough (λ z. omega arith) (part (loop_names (record { names = names; in_at = in_at }) _ s t b m) (λ u l n.
+    enough (λ z. omega arith) (term _ (loop_names (record { names = names; in_at = in_at }) _ s t b m) (λ u l n.
     part (iterated f expression c w _ u t l n) (λ v a i.
     part (in_braces (in_form opening g) reads (loop_body c) inner at k v t a i) (λ x d j. ret j))))
 
@@ -149,5 +149,5 @@ pub try : (opening : Position) (g : Body) (pos : Position) (name : CatchName) (h
 try opening g pos name handler_at h reads handles c w at k s t b m =
     let inner = catch_live (caught_name (caught name)) w in
     enough (λ z. omega arith) (part (in_braces (in_form opening g) reads c w at _ s t b m) (λ u l n.
-    part (catch_name (record { at = pos; name = name }) _ u t l n) (λ v a i.
+    term _ (catch_name (record { at = pos; name = name }) _ u t l n) (λ v a i.
     part (in_braces (in_form handler_at h) handles c inner at k v t a i) (λ x d j. ret j))))

@@ -30,7 +30,7 @@ use Rattle.rhai_reading.proofs.Complete.Law.{BodyRead, IsFlat, IsRead, Statement
 use Rattle.rhai_reading.proofs.FunctionKinds.{FunctionForm, HeadForm, function_of, function_statements, functions, heads}
 use Rattle.rhai_reading.proofs.FunctionKinds.{parameter_lists, parameters}
 use Rattle.rhai_reading.proofs.Looks.{no_other, op_at}
-use Rattle.rhai_reading.proofs.Reaches.{Reaches, deeper, add, due as due_now, gives, if_false, if_true, know, look, next, part}
+use Rattle.rhai_reading.proofs.Reaches.{term, Reaches, deeper, add, due as due_now, gives, if_false, if_true, know, look, next, part}
 use Rattle.rhai_reading.proofs.Reaches.{peek, ret, take}
 use Rattle.rhai_reading.proofs.Strengths.{not_true}
 use Rattle.rhai_reading.proofs.Tokens.{readable}
@@ -41,10 +41,10 @@ no_blame : (b : Bool) (why : Refusal) → (if b then Fine else Blames why) ≡ F
 no_blame true why e = refl
 no_blame false why e = absurd cc
 
-pub head : (f : HeadForm) → IsFlat R.FunctionHead heads f
+pub head : (f : HeadForm) → IsFlat R.function_head heads f
 head f k s t b m = by f.owner f.name f.at k s t b m
   where
-    by : (x : Owner) (name : Text) (at : Position) → IsFlat R.FunctionHead heads (record { owner = x; name = name; at = at })
+    by : (x : Owner) (name : Text) (at : Position) → IsFlat R.function_head heads (record { owner = x; name = name; at = at })
     by form.NoOwner name at k s t b m =
         due_now m.0 refl refl (next (untyped name at) m.1.0 (λ e.
         let alone = no_other (is_due due.Period (op_at (past code s))) e in
@@ -85,7 +85,7 @@ list_goes_on lists.Parameters on end at = refl
 list_goes_on lists.ClosureParameters on end at = refl
 
 pub parameter_rest : (x : Parameters) (parts : CommaList) (function : Text) (before : List Text)
-    → IsFlat (R.Parameters parts function before) (parameters parts function before) x
+    → IsFlat (body (R.Parameters parts function before)) (parameters parts function before) x
 parameter_rest (form.NoParameter closing) parts function before k s t b m =
     due_now m.0 refl (end_taken parts function before closing) (ret m.1)
 parameter_rest (form.LastParameter name at closing) parts function before k s t b m =
@@ -97,7 +97,7 @@ parameter_rest (form.Parameter name at comma rest) parts function before k s t b
     (λ u l n. ret n))))
 
 pub parameter_list : (x : ParameterList) (function : Text)
-    → IsFlat (R.ParameterList function) (parameter_lists function) x
+    → IsFlat (R.parameter_list function) (parameter_lists function) x
 parameter_list (form.EmptyParameters at) function k s t b m = due_now m.0 refl refl (ret m.1)
 parameter_list (form.ListedParameters opening list) function k s t b m =
     due_now m.0 refl refl (part (parameter_rest list lists.Parameters function [] k (past code s) t false m.1) (λ u l n. ret n))
@@ -108,8 +108,8 @@ pub function : (f : FunctionForm) → BodyRead f.body → (c : Context) (comment
     (is_private : Bool)
     → IsRead (1 + body_depth f.body) (R.Function c comments at is_private) (functions c comments at is_private) f
 function f reads c comments at is_private k s t b m =
-    part (head f.head _ s t b m) (λ u l n.
-    part (parameter_list f.list f.head.name _ u t l n) (λ v a i.
+    term _ (head f.head _ s t b m) (λ u l n.
+    term _ (parameter_list f.list f.head.name _ u t l n) (λ v a i.
     due_now i.0 refl refl (if_true _ i.1.0
     (deeper _ refl (reads (level_up c) (parameters_live (parameter_names f.list)) f.opening k (past code v) t false i.1.1)
     (λ x d j. ret j)))))

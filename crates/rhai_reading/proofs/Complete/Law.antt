@@ -120,17 +120,17 @@ pub record Reads (f : Run) (q : Spot) (k : Demands) (s : Point) (b : Bool) (t : 
 -- ---- the laws
 
 -- a form is read as what it is
-abbrev pub IsReadSo : {F : Type 0} → (D : ℕ → ℕ) (g : Goal) → Kind F (Val g) → F → Type 0
-IsReadSo D g K f =
-    (k : Demands) (s t : Point) (b : Bool) → Met (K.demands f k) s t → Reaches D (body g) s b (K.tree t f) k t
+abbrev pub IsReadSo : {F A : Type 0} → (D : ℕ → ℕ) → Prog A → Kind F A → F → Type 0
+IsReadSo D p K f =
+    (k : Demands) (s t : Point) (b : Bool) → Met (K.demands f k) s t → Reaches D p s b (K.tree t f) k t
 
 -- and its parts lie as deep as this
 abbrev pub IsRead : {F : Type 0} → (depth : ℕ) (g : Goal) → Kind F (Val g) → F → Type 0
-IsRead depth g K f = IsReadSo (λ z. max depth z) g K f
+IsRead depth g K f = IsReadSo (λ z. max depth z) (body g) K f
 
 -- or it has none
-abbrev pub IsFlat : {F : Type 0} → (g : Goal) → Kind F (Val g) → F → Type 0
-IsFlat g K f = IsReadSo (λ z. z) g K f
+abbrev pub IsFlat : {F A : Type 0} → Prog A → Kind F A → F → Type 0
+IsFlat p K f = IsReadSo (λ z. z) p K f
 
 abbrev pub ExpressionRead : Run → Type 0
 ExpressionRead f = (c : Context) (w : Live) → IsRead (run_depth f) (R.Expression c w) (expressions c w) f

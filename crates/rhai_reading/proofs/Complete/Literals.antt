@@ -20,7 +20,7 @@ use Rattle.rhai_reading.specs.Reading.{body}
 use Rattle.rhai_reading.proofs.Lists.{added, added_last, added_none, one_more_node, added_property, last_property}
 use Rattle.rhai_reading.proofs.Lists.{no_property}
 use Rattle.rhai_reading.proofs.Tokens.{item_is, key_is, readable}
-use Rattle.rhai_reading.proofs.Reaches.{Reaches, deeper, enough, seen, next, ret, gives, peek, take, due, if_true, if_false, part}
+use Rattle.rhai_reading.proofs.Reaches.{term, Reaches, deeper, enough, seen, next, ret, gives, peek, take, due, if_true, if_false, part}
 use Rattle.rhai_reading.proofs.Strengths.{not_true}
 use Rattle.rhai_reading.proofs.Looks.{op_at, pos_at, no_wrong}
 use Rattle.rhai_reading.proofs.Complete.Law.{PrimaryRead, ElementsRead, FieldsRead, ExpressionRead}
@@ -67,7 +67,7 @@ module _ (c : Context) (w : Live) (opening : Position) (before : Properties) (ke
     {colon : Position} (k : Demands) {s t : Point} {b : Bool} where
   -- a property up to its colon
   next_key : Met (W.field key pos colon before c opening k) s t
-      → Reaches (λ z. z) (body (R.NextKey c before)) s b (Some (text_of key, pos)) (W.raise_at c opening k) t
+      → Reaches (λ z. z) (R.field_key c before) s b (Some (text_of key, pos)) (W.raise_at c opening k) t
   next_key m =
       let can = readable (λ l. is_key (V.next_key c.settings before l)) (λ f. refl) key m.0 in
       peek m.1.0 can (seen (key_is (quoted_keys c.settings) (property_count before == 0) key m.0) (R.key_on c before pos)
@@ -78,12 +78,12 @@ module _ (c : Context) (w : Live) (opening : Position) (before : Properties) (ke
 
 pub no_field : (closing : Position) → FieldsRead (form.NoField closing)
 no_field closing c w opening before k s t b m =
-    enough (λ z. omega arith) (part (due m.0 refl refl (ret m.1)) (λ u l n. gives (sym (no_property before)) n))
+    enough (λ z. omega arith) (term _ (due m.0 refl refl (ret m.1)) (λ u l n. gives (sym (no_property before)) n))
 
 pub last_field : (key : Lexeme) (pos colon : Position) (f : Run) (closing : Position) → ExpressionRead f
     → FieldsRead (form.LastField key pos colon f closing)
 last_field key pos colon f closing expression c w opening before k s t b m =
-    part (next_key c w opening before key pos (W.expression f (level_up c) w
+    term _ (next_key c w opening before key pos (W.expression f (level_up c) w
     (W.closed_at lists.Map closing k)) m) (λ u l n.
     if_true _ n.0 (deeper _ refl (expression (level_up c) w _ u t l n.1)
     (λ v a i. due i.0 refl refl (gives (last_property before (text_of key) pos (tree f w)) i.1))))
@@ -92,7 +92,7 @@ pub more_fields : (key : Lexeme) (pos colon : Position) (f : Run) (comma : Posit
     → FieldsRead rest → FieldsRead (form.Field key pos colon f comma rest)
 more_fields key pos colon f comma rest expression fields c w opening before k s t b m =
     let ps = with_property before (text_of key) pos (tree f w) in
-    enough (λ z. omega arith) (part (next_key c w opening before key pos (W.expression f (level_up c) w
+    enough (λ z. omega arith) (term _ (next_key c w opening before key pos (W.expression f (level_up c) w
     (W.comma_at lists.Map comma (W.fields rest ps c w opening k))) m) (λ u l n.
     if_true _ n.0 (deeper _ refl (expression (level_up c) w _ u t l n.1) (λ v a i. due i.0 refl refl
     (part (fields c w opening ps k (past code v) t false i.1)

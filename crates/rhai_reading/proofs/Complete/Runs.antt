@@ -21,14 +21,14 @@ use Rattle.rhai_grammar.specs.Spots.{left_fits, place_of}
 use Rattle.rhai_grammar.specs.Verdicts.{operator_known, room_due, end_due}
 use Rattle.rhai_grammar.specs.Starts.{place_after}
 use Rattle.rhai_reading.specs.Reading as R
-use Rattle.rhai_reading.specs.Reading.{Goal, Whole, Expression, NextOperator, BinaryOp, Prog, Ret, Fail, Take, Call}
+use Rattle.rhai_reading.specs.Reading.{Goal, Whole, Expression, BinaryOp, Prog, Ret, Fail, Take, Call}
 use Rattle.rhai_reading.specs.Reading.{continues, next_operator_at, operand_by, primary_at, list_on, called_at, bang_at}
 use Rattle.rhai_reading.specs.Reading.{binary_at, binary_on, binary_next, body}
 use Rattle.rhai_reading.specs.Histories.{State, Outcome, Done}
 use Rattle.rhai_grammar.specs.Depths.{operand_depth}
 use Rattle.rhai_grammar.specs.Written as W
 use Rattle.rhai_reading.proofs.Rules.{at}
-use Rattle.rhai_reading.proofs.Deep.{Deep, deep_call, deep_else, deep_look, deep_peek, deep_ret, deep_tail, deep_take, deep_then}
+use Rattle.rhai_reading.proofs.Deep.{deep_term, Deep, deep_call, deep_else, deep_look, deep_peek, deep_ret, deep_tail, deep_take, deep_then}
 use Rattle.rhai_reading.proofs.Complete.Law.{Begins, FirstRead, OperandRead, RunRead, Shut, Agrees, Top, Entered, begins, Reads}
 use Rattle.rhai_reading.proofs.Looks.{follower_at, operator_in, climb, fine}
 use Rattle.rhai_reading.proofs.Strengths.{sensible, next_continues, right_is, left_is, left_down, not_true}
@@ -37,7 +37,7 @@ use Rattle.rhai_reading.proofs.Tokens.{operator_readable}
 -- what stands after an operand is looked at
 pub next_operator : (filter : ExprFilter) (s : Point) (b : Bool)
     → verdict (operator_known filter) (next_at code s).lexeme ≡ Fine
-    → Deep (λ z. z) (body (NextOperator filter)) (at s b) (Done (operator_in (follower_at filter s)) (at s true))
+    → Deep (λ z. z) (R.next_operator filter) (at s b) (Done (operator_in (follower_at filter s)) (at s true))
 next_operator filter s b e =
     let f = fine (operator_known filter) (next_at code s).lexeme e in
     deep_look f.0 (known (follower_at filter s) f.1)
@@ -83,8 +83,8 @@ pub climb_stops : (filter : ExprFilter) (w : Live) (h : Height) → h.settings.f
     → Deep (λ z. z) (body (climb h w p x)) (at s b) (Done x (at s true))
 climb_stops filter w h same p x s b known e =
     let next = binary_at h.settings w h.at p x in
-    subst (λ f. Deep (λ z. z) (Call (NextOperator f) next) (at s b) (Done x (at s true))) (sym same)
-    (deep_call (NextOperator filter) next (next_operator filter s b known)
+    subst (λ f. Deep (λ z. z) (R.inline (R.next_operator f) next) (at s b) (Done x (at s true))) (sym same)
+    (deep_term (R.next_operator filter) next (next_operator filter s b known)
     (stops h.settings w h.at p x s (follower_at filter s) e))
 
 -- ---- operators
@@ -130,8 +130,8 @@ goes filter w h same p x op pos s D o stands is on r b =
     let next = binary_at h.settings w h.at p x in
     let some : operator_in (follower_at filter s) ≡ Some (strength v, is_right v) = ap
     (λ (i : Item). operator_in (follower_of filter i.lexeme)) stands ∙ in_operator v is in
-    subst (λ f. Deep D (Call (NextOperator f) next) (at s b) o) (sym same)
-    (deep_call (NextOperator filter) next (next_operator filter s b (known_at filter op pos s stands is))
+    subst (λ f. Deep D (R.inline (R.next_operator f) next) (at s b) o) (sym same)
+    (deep_term (R.next_operator filter) next (next_operator filter s b (known_at filter op pos s stands is))
     (subst (λ v. Deep D (binary_at h.settings w h.at p x v) (at s true) o) (sym some)
     (deep_then (Ret x) (goes_sides p v on) (deep_peek (item op pos) stands (operator_readable filter op is) r))))
 
@@ -168,7 +168,7 @@ step q even op pos l r k p s t E v e is on stands right shut stop h b =
     goes filter w u same p x op pos s (λ z. E (right.others (max right.here z))) (Done v e) stands is on
     (deep_take (item op pos) stands (operator_readable filter op is)
     (deep_call (R.RightOperand u.settings w (place_after op)) _ right.operand
-    (deep_call (NextOperator inner) _ (next_operator inner right.rest right.looked right.known_rest)
+    (deep_term (R.next_operator inner) _ (next_operator inner right.rest right.looked right.known_rest)
     (deep_then (Fail (refusal cause.ExprTooDeep u.at)) right.entered
     (deep_call (climb (begins side right.first) w n right.first) (binary_next (level_up u.settings) w p x op pos) tighter
     (deep_then _ right.met.1.0 (deep_then _ right.met.1.1.0

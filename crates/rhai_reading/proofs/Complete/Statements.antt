@@ -46,7 +46,7 @@ use Rattle.rhai_reading.proofs.Complete.Law.{InsideRead, JumpRead, SegmentsRead,
 use Rattle.rhai_reading.proofs.FormKinds.{NameForm, aliases, block_ends, block_starts, definitions, inside_of, inside_statements, text_afters, text_token, var_names}
 use Rattle.rhai_reading.proofs.Lists.{first_text, kept_statement, last_kept, no_statement, segment_added, segment_last}
 use Rattle.rhai_reading.proofs.Looks.{op_at, pos_at, fine, no_other, or_wrong}
-use Rattle.rhai_reading.proofs.Reaches.{Reaches, deeper, enough, seen, next, ret, gives, peek, take, text_taken, due, if_true, if_false, part}
+use Rattle.rhai_reading.proofs.Reaches.{term, Reaches, deeper, enough, seen, next, ret, gives, peek, take, text_taken, due, if_true, if_false, part}
 use Rattle.rhai_reading.proofs.Strengths.{not_true}
 use Rattle.rhai_reading.proofs.Tokens.{readable}
 
@@ -89,7 +89,7 @@ assign f op at value target assigned c w k s t b m =
 
 -- ---- definitions
 
-pub var_name : (c : Context) (w : Live) (f : NameForm) → IsFlat (R.VarName c w) (var_names c w) f
+pub var_name : (c : Context) (w : Live) (f : NameForm) → IsFlat (R.var_name c w) (var_names c w) f
 var_name c w f k s t b m = due m.0 refl refl (if_true _ m.1.0 (ret m.1.1))
 
 pub no_value : InitializerRead form.NoValue
@@ -123,7 +123,7 @@ definition : (c : Context) (w : Live) (at : Position) (constant exported : Bool)
     → IsRead (initializer_depth value) (R.Definition c w at constant exported) (definitions c w at constant exported)
     (record { name = name; value = value })
 definition c w at constant exported name value reads k s t b m =
-    part (var_name c w name _ s t b m) (λ u l n. part (reads c w at k u t l n) (λ v a i. ret i))
+    term _ (var_name c w name _ s t b m) (λ u l n. part (reads c w at k u t l n) (λ v a i. ret i))
 
 pub define : (constant : Bool) (at : Position) (name : Text) (name_at : Position) (value : Initializer)
     → InitializerRead value → StatementRead (form.Define constant at name name_at value)
@@ -137,7 +137,7 @@ define constant at name name_at value reads c w k s t b m =
 abbrev two_up : Context → Context
 two_up c = level_up (level_up c)
 
-other_name : (x : Alias) → IsFlat R.Alias aliases x
+other_name : (x : Alias) → IsFlat R.alias aliases x
 other_name form.NoAlias k s t b m =
     next (without due.As) m.0 (λ e. if_false _ (no_other (is_due due.As (op_at s)) e).0 (ret m.1))
 other_name (form.As as_at name at) k s t b m = due m.0 refl refl (due m.1.0 refl refl (ret m.1.1))
@@ -146,7 +146,7 @@ pub import : (at : Position) (f : Run) (other : Alias) → ExpressionRead f → 
 import at f other expression c w k s t b m =
     due m.0 refl refl (if_true _ m.1.0 (if_true _ m.1.1.0
     (part (deeper _ refl (expression (two_up c) w _ (past code s) t false m.1.1.1)
-    (λ u l n. part (other_name other k u t l n) (λ v a i. ret i))) (λ u l n. ret n))))
+    (λ u l n. term _ (other_name other k u t l n) (λ v a i. ret i))) (λ u l n. ret n))))
 
 pub export : (at : Position) (name : Text) (name_at : Position) (other : Alias)
     → StatementRead (form.Export at name name_at other)
@@ -154,7 +154,7 @@ export at name name_at other c w k s t b m =
     let u = past code s in
     enough (λ z. omega arith) (due m.0 refl refl (if_true _ m.1.0 (if_true _ m.1.1.0
     (part (peek m.1.1.1.0 refl (due m.1.1.1.0 refl refl
-    (part (other_name other k (past code u) t false m.1.1.1.1) (λ v a i. ret i)))) (λ v a i. ret i)))))
+    (term _ (other_name other k (past code u) t false m.1.1.1.1) (λ v a i. ret i)))) (λ v a i. ret i)))))
 
 pub export_defined : (at : Position) (constant : Bool) (keyword : Position) (name : Text) (name_at : Position)
     (value : Initializer) → InitializerRead value
@@ -245,7 +245,7 @@ standing f rest reads more closing c w before k s t b m =
 -- ---- blocks
 
 block_end : (at : Position) (fs : node.Statements) (closing : Position)
-    → IsFlat (R.BlockEnd at fs) (block_ends at fs) closing
+    → IsFlat (R.block_end at fs) (block_ends at fs) closing
 block_end at fs closing k s t b m = peek m.0 refl (due m.0 refl refl (ret m.1))
 
 pub many : (fs : Statements) (closing : Position) → StatementsRead fs → InsideRead (form.Many fs closing)
@@ -270,7 +270,7 @@ body_tree opening (form.Single x closing) w = refl
 pub block : (f : Body) → InsideRead f → BodyRead f
 block f inside c w at k s t b m =
     part (inside c w _ s t b (body_met f c w k s t m))
-    (λ u l n. part (block_end at (inside_statements w (inside_part f)) (closing_at f) k u t l n)
+    (λ u l n. term _ (block_end at (inside_statements w (inside_part f)) (closing_at f) k u t l n)
     (λ v a i. gives (body_tree at f w) i))
 
 pub compound_value : (pos : Position) (x : Construct) → ConstructRead x → PrimaryRead (form.CompoundValue pos x)
@@ -283,10 +283,10 @@ compound_value pos x reads c w o called k s t b m behind =
 
 -- ---- interpolated strings
 
-pub block_start : (opening : Position) → IsFlat R.BlockStart block_starts opening
+pub block_start : (opening : Position) → IsFlat R.block_start block_starts opening
 block_start opening k s t b m = peek m.0 refl (due m.0 refl refl (ret m.1))
 
-text_read : (last : Bool) (closing : Position) (content : Text) (at : Position) → IsFlat R.TextAfter text_afters
+text_read : (last : Bool) (closing : Position) (content : Text) (at : Position) → IsFlat R.text_after text_afters
     (record { closing = closing; content = content; last = last; at = at })
 text_read true closing content at k s t b m = text_taken m.0 m.1.0 refl (ret m.1.1)
 text_read false closing content at k s t b m = text_taken m.0 m.1.0 refl (ret m.1.1)
@@ -300,10 +300,10 @@ module _ (opening : Position) (f : Body) (content : Text) (at : Position) (insid
       (inside_statements w (inside_part f)) (closing_at f, content, last, at)) u l all k t)
       → Reaches (λ z. E (max (1 + body_depth f) z)) (body (R.Segments c w start before)) s b all k t
   segment last j m on =
-      part (block_start opening (W.raise_at c start (W.block f (level_up c) w
+      term _ (block_start opening (W.raise_at c start (W.block f (level_up c) w
       (Tok text (item (text_token last content) at) text_due ▸ j))) s t b m) (λ v a h. if_true _ h.0
       (deeper _ refl (inside (level_up c) w _ v t a (body_met f (level_up c) w _ v t h.1))
-      (λ u l n. part (text_read last (closing_at f) content at _ u t l n) on)))
+      (λ u l n. term _ (text_read last (closing_at f) content at _ u t l n) on)))
 
 pub last_segment : (opening : Position) (f : Body) (content : Text) (at : Position) → InsideRead f
     → SegmentsRead (form.LastSegment opening f content at)

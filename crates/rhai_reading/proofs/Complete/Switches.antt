@@ -31,12 +31,13 @@ use Rattle.rhai_grammar.specs.declared.role.ArmPlace.{ArmPlace}
 use Rattle.rhai_grammar.specs.declared.role.ArmPlace.TheVariants as arm
 use Rattle.rhai_grammar.proofs.EndLemmas.{tree_ends_arm}
 use Rattle.rhai_reading.specs.Reading as R
+use Rattle.rhai_reading.specs.Reading.{body}
 use Rattle.rhai_reading.proofs.Complete.Constructs.{guard}
 use Rattle.rhai_reading.proofs.Complete.Law.{ActionRead, ArmsRead, CaseGuardRead, CasesRead, ConstructRead, ExpressionRead, IsFlat, IsRead, IsReadSo}
 use Rattle.rhai_reading.proofs.Complete.Law.{StatementRead}
 use Rattle.rhai_reading.proofs.Lists.{added, added_last}
 use Rattle.rhai_reading.proofs.Looks.{no_other, no_wrong, op_at, or_wrong, pos_at}
-use Rattle.rhai_reading.proofs.Reaches.{Reaches, deeper, enough, due as due_now, gives, if_false, if_true, next, part, part_literal, ret, seen}
+use Rattle.rhai_reading.proofs.Reaches.{term, Reaches, deeper, enough, due as due_now, gives, if_false, if_true, next, part, part_literal, ret, seen}
 use Rattle.rhai_reading.proofs.Strengths.{not_true}
 use Rattle.rhai_reading.proofs.SwitchKinds.{arm_ends, arms_with_cases, default_arms, default_ends, one_cases}
 
@@ -90,7 +91,7 @@ gives_value f expression c w k s t b m =
 
 -- ---- after an arm
 
-arm_end : (itself : Bool) (comma : Option Position) → IsFlat (R.ArmEnd itself) (arm_ends itself) comma
+arm_end : (itself : Bool) (comma : Option Position) → IsFlat (R.arm_end itself) (arm_ends itself) comma
 arm_end itself (Some comma) k s t b m = due_now m.0 refl refl (ret m.1)
 arm_end itself None k s t b m = next (S.arm_ends itself) m.0 (λ e. by (after_part lists.Arms (op_at s)) e)
   where
@@ -100,7 +101,7 @@ arm_end itself None k s t b m = next (S.arm_ends itself) m.0 (λ e. by (after_pa
     by after.Close e = ret m.1
     by after.Nothing e = if_true _ (or_wrong itself _ e) (ret m.1)
 
-default_end : (default closing : Position) → IsFlat (R.DefaultEnd default) (default_ends default) closing
+default_end : (default closing : Position) → IsFlat (R.default_end default) (default_ends default) closing
 default_end default closing k s t b m = due_now m.0 refl refl (ret m.1)
 
 -- ---- arms
@@ -110,7 +111,7 @@ no_arm closing c w before k s t b m = enough (λ z. omega arith) (due_now m.0 re
 
 one_arm : (xs : Cases) (f : CaseGuard) (arrow : Position) (x : Action) (comma : Option Position) → CasesRead xs
     → CaseGuardRead f → ActionRead x → (c : Context) (w : Live) (before : Collected)
-    → IsReadSo (λ z. max (action_depth x) (max (case_guard_depth f) (max (cases_depth xs) z))) (R.Arm c w before) (arms_with_cases c w before)
+    → IsReadSo (λ z. max (action_depth x) (max (case_guard_depth f) (max (cases_depth xs) z))) (body (R.Arm c w before)) (arms_with_cases c w before)
     (record { cases = xs; guard = f; arrow = arrow; action = x; comma = comma })
 one_arm xs f arrow x comma read_cases read_guard read_action c w before k s t b m =
     part (read_cases c w no_nodes _ s t b m) (λ u l n.
@@ -121,7 +122,7 @@ one_arm xs f arrow x comma read_cases read_guard read_action c w before k s t b 
     fits : (v : Option Refusal) (u : Point) (l : Bool) → Met (unfaulted v (W.separated comma (action_ends x) k)) u t
         → Reaches (λ z. z) (R.arm_on (case_trees xs w) (guard_tree f w) (action_tree x w, action_ends x) v) u l
         (case_trees xs w, guard_tree f w, action_tree x w) k t
-    fits None u l n = part (arm_end (action_ends x) comma k u t l n) (λ v a i. ret i)
+    fits None u l n = term _ (arm_end (action_ends x) comma k u t l n) (λ v a i. ret i)
     fits (Some e) u l n = let h = n.0 in absurd cc
 
 pub an_arm : (xs : Cases) (f : CaseGuard) (arrow : Position) (x : Action) (comma : Option Position) (rest : Arms)
@@ -139,8 +140,8 @@ one_default pos arrow x comma closing read_action c w k s t b m =
     next unguarded m.0 (λ e.
     if_false _ (no_wrong (is_due due.If (op_at s)) cause.WrongSwitchCaseCondition e).0
     (due_now m.1.0 refl refl (part (read_action c w _ (past code s) t false m.1.1) (λ u l n.
-    part (arm_end (action_ends x) comma _ u t l n) (λ v a i.
-    part (default_end pos closing k v t a i) (λ y d j. ret j))))))
+    term _ (arm_end (action_ends x) comma _ u t l n) (λ v a i.
+    term _ (default_end pos closing k v t a i) (λ y d j. ret j))))))
 
 pub default_arm : (pos arrow : Position) (x : Action) (comma : Option Position) (closing : Position) → ActionRead x
     → ArmsRead (form.DefaultArm pos arrow x comma closing)

@@ -13,7 +13,7 @@ use Rattle.rhai_grammar.specs.Spots.{height_after}
 use Rattle.rhai_grammar.specs.Written.{ended}
 use Rattle.rhai_grammar.specs.Verdicts.{run_ends, operator_known, room_due, end_due}
 use Rattle.rhai_reading.specs.Reading as R
-use Rattle.rhai_reading.specs.Reading.{Goal, Whole, Expression, NextOperator, BinaryOp, Prog, Ret, Fail, Take, Call}
+use Rattle.rhai_reading.specs.Reading.{Goal, Whole, Expression, BinaryOp, Prog, Ret, Fail, Take, Call}
 use Rattle.rhai_reading.specs.Reading.{continues, next_operator_at, operand_by, primary_at, list_on, called_at, bang_at}
 use Rattle.rhai_reading.specs.Reading.{binary_at, binary_on, binary_next, body}
 use Rattle.rhai_reading.specs.Histories.{Done}

@@ -30,9 +30,10 @@ use Rattle.rhai_reading.proofs.ConstructKinds.{braced, branches, catches, condit
 use Rattle.rhai_reading.proofs.ConstructKinds.{BracedForm, CatchForm, DoForm, LoopForm, iterated_values, loops}
 use Rattle.rhai_reading.proofs.Looks.{op_at, pos_at}
 use Rattle.rhai_reading.proofs.Paths.{Fits, ◌▹◌}
-use Rattle.rhai_reading.proofs.Shows.{goal, Histories, Goes, Passed, done, either, ends, fails, fine, first, halt, ill, look, part}
+use Rattle.rhai_reading.proofs.Shows.{goal, term, Histories, Goes, Passed, done, either, ends, fails, fine, first, halt, ill, look, part}
 use Rattle.rhai_reading.proofs.Shows.{raise, refuse, take, wrong}
 use Rattle.rhai_reading.proofs.Sound.Chains.{Early, early, faulted, tested, unfaulted}
+use Rattle.rhai_reading.proofs.Sound.Literals.{block_start}
 use Rattle.rhai_reading.proofs.Sound.Law.{AllSound, any_arms, any_body, any_braced, any_catch, any_conditional, any_do_end, any_loop}
 use Rattle.rhai_reading.proofs.Sound.Law.{any_run}
 
@@ -78,7 +79,7 @@ module _ {call : Histories} (ih : AllSound call) (c : Context) (w : Live) (s : P
 
   pub in_braces : (at : Position) (b : Bool) → Goes call (braced c w at) s (body (R.Braced c w at)) s b
   in_braces at b =
-      first (goal (ih.of R.BlockStart s b)) (λ p f. record { opening = p; body = f }) any_body (λ p f k o r. r) (λ p t a.
+      first (term (block_start call s b)) (λ p f. record { opening = p; body = f }) any_body (λ p f k o r. r) (λ p t a.
       raise c any_body (λ high k. fails high) (λ below.
       ends (goal (ih.of (R.Block (level_up c) w p) t a)) (λ f. f) (λ v f. refl) (λ f k o r. below ▹ r)))
 
@@ -118,7 +119,7 @@ counted s t comma counter counter_at closing in_at = record {
 }
 
 module _ (call : Histories) (s : Point) where
-  pub loop_names : (b : Bool) → Goes call loops s (body R.LoopNames) s b
+  pub loop_names : (b : Bool) → Goes call loops s R.loop_names s b
   loop_names b =
       let t = past code s in
       let u = past code t in
@@ -150,7 +151,7 @@ module _ (call : Histories) (s : Point) where
       done (one (pos_at t)) (λ k o r. name ▹ is ▹ r))))
       (λ other. refuse any_loop (λ k. wrong n (rw (none, no_name (op_at s) other)))))))
 
-  pub catch_name : (b : Bool) → Goes call catches s (body R.Catch) s b
+  pub catch_name : (b : Bool) → Goes call catches s R.catch_name s b
   catch_name b =
       let t = past code s in
       let u = past code t in
@@ -173,7 +174,7 @@ module _ (call : Histories) (s : Point) where
   do_end_by (Some negated) e m =
       take (done (record { negated = negated; at = pos_at s }) (λ k o r. do_is (op_at s) (pos_at s) negated e ▹ r))
 
-  pub end_of_do : (b : Bool) → Goes call do_ends s (body R.DoEnd) s b
+  pub end_of_do : (b : Bool) → Goes call do_ends s R.end_of_do s b
   end_of_do b = look (λ m. do_end_by (do_end (op_at s)) refl m)
 
 -- ---- each construct
@@ -205,11 +206,11 @@ module _ {call : Histories} (ih : AllSound call) (c : Context) (w : Live) (at : 
       first (goal (ih.of (R.Braced (loop_body c) w at) s b))
       (λ h (f : DoForm × Run). record { construct = form.Do h.opening h.body f.0.negated f.0.at f.1; is = refl })
       (any_do_end, any_run) (λ h f k o r. r) (λ h t a.
-      first (goal (ih.of R.DoEnd t a)) (λ e f. (e, f)) any_run (λ e f k o r. r) (λ e u d.
+      first (term (end_of_do call t a)) (λ e f. (e, f)) any_run (λ e f k o r. r) (λ e u d.
       ends {v = λ x. node.do_statement x (block_tree h.opening h.body w) e.negated at} (goal (ih.of (R.Guard c w) u d)) (λ f. f)
       (λ v f. refl) (λ f k o r. r)))
   construct kind.For =
-      first (goal (ih.of R.LoopNames s b)) (λ n (f : Run × BracedForm). record {
+      first (term (loop_names call s b)) (λ n (f : Run × BracedForm). record {
         construct = form.For n.names n.in_at f.0 f.1.opening f.1.body;
         is = refl;
       }) (any_run, any_braced) (λ n f k o r. r) (λ n t a.
@@ -222,7 +223,7 @@ module _ {call : Histories} (ih : AllSound call) (c : Context) (w : Live) (at : 
         construct = form.Try h.opening h.body f.0.at f.0.name f.1.opening f.1.body;
         is = refl;
       }) (any_catch, any_braced) (λ h f k o r. r) (λ h t a.
-      first (goal (ih.of R.Catch t a)) (λ e f. (e, f)) any_braced (λ e f k o r. r) (λ e u d.
+      first (term (catch_name call t a)) (λ e f. (e, f)) any_braced (λ e f k o r. r) (λ e u d.
       let inner = catch_live (caught_name (caught e.name)) w in
       ends {v = λ x. node.try_catch (block_tree h.opening h.body w) (catch_node (caught e.name)) x at}
       (goal (ih.of (R.Braced c inner at) u d)) (λ f. f) (λ v f. refl) (λ f k o r. r)))

@@ -36,7 +36,7 @@ use Rattle.rhai_reading.proofs.FunctionKinds.{CommentsRead, FunctionForm, HeadFo
 use Rattle.rhai_reading.proofs.FunctionKinds.{function_statements, functions, heads, parameter_lists, parameters}
 use Rattle.rhai_reading.proofs.Looks.{op_at, pos_at}
 use Rattle.rhai_reading.proofs.Paths.{◌▹◌, lost}
-use Rattle.rhai_reading.proofs.Shows.{Histories, Goes, Shows, add, blamed, goal, check, done, either, ends, fails, fine}
+use Rattle.rhai_reading.proofs.Shows.{term, Histories, Goes, Shows, add, blamed, goal, check, done, either, ends, fails, fine}
 use Rattle.rhai_reading.proofs.Shows.{first, halt, over, ret}
 use Rattle.rhai_reading.proofs.Shows.{know, look, part, raise, refuse, take, test, wrong}
 use Rattle.rhai_reading.proofs.Sound.Law.{AllSound, any_body, any_braced}
@@ -112,7 +112,7 @@ module _ (call : Histories) (s : Point) where
       (λ bad. halt (alone s) refl
       (λ k. here ▹ blamed {v = v} {s = past code s} {e = refusal cause.FnMissingName (pos_at s)} m (rw (none, bad))))
 
-  pub head : (b : Bool) → Goes call heads s (body R.FunctionHead) s b
+  pub head : (b : Bool) → Goes call heads s R.function_head s b
   head b =
       let t = past code s in
       look (λ m. check (is_type (op_at s)) any_head (λ other k.
@@ -135,7 +135,7 @@ module _ {call : Histories} (ih : AllSound call) (function : Text) (s : Point) w
   list_by calls_by.Bang e m = refuse any_list (λ k. wrong m (rw e))
   list_by calls_by.Nothing e m = refuse any_list (λ k. wrong m (rw e))
 
-  pub parameter_list : (b : Bool) → Goes call (parameter_lists function) s (body (R.ParameterList function)) s b
+  pub parameter_list : (b : Bool) → Goes call (parameter_lists function) s (R.parameter_list function) s b
   parameter_list b = look (λ m. list_by (calling (op_at s)) refl m)
 
 module _ {call : Histories} (ih : AllSound call) (parts : CommaList) (function : Text) (before : List Text) (s : Point)
@@ -172,9 +172,9 @@ module _ {call : Histories} (ih : AllSound call) (c : Context) (comments : List 
   pub function : (b : Bool)
       → Goes call (functions c comments at is_private) s (body (R.Function c comments at is_private)) s b
   function b =
-      first (goal (ih.of R.FunctionHead s b)) (λ h (f : ParameterList × BracedForm). with_parts h f.0 f.1)
+      first (term (head call s b)) (λ h (f : ParameterList × BracedForm). with_parts h f.0 f.1)
       (any_list, any_braced) (λ h f k o r. r) (λ h t a.
-      first (goal (ih.of (R.ParameterList h.name) t a)) (λ x f. (x, f)) any_braced (λ x f k o r. r) (λ x u d.
+      first (term (parameter_list ih h.name t a)) (λ x f. (x, f)) any_braced (λ x f k o r. r) (λ x u d.
       let opens : Body → BracedForm = λ f. record { opening = pos_at u; body = f } in
       look (λ m. check (is_due due.LeftBrace (op_at u)) any_braced (λ other k. wrong m (rw other)) (λ is.
       let here = stands due.LeftBrace (op_at u) (pos_at u) is in

@@ -1,5 +1,5 @@
 -- What each reader shows.
-use Rattle.rhai_reading.proofs.FunctionKinds.{CommentsRead, function_statements, functions, heads, parameter_lists, parameters}
+use Rattle.rhai_reading.proofs.FunctionKinds.{CommentsRead, function_statements, functions, parameters}
 use Rattle.rhai_reading.proofs.ClosureKinds.{closure_bodies, closures}
 use Rattle.std.proofs.Common.{◌≡◌, ℕ, Bool, true, false, None, [], refl}
 use Rattle.rhai_lower.specs.Lexemes.{Lexeme, Integer}
@@ -7,7 +7,7 @@ use Rattle.rhai_lower.specs.Positions.{nowhere}
 use Rattle.rhai_lower.specs.declared.position.Position.{Position}
 use Rattle.rhai_lower.specs.Nodes.{Node}
 use Rattle.rhai_grammar.specs.Causes.{Refusal}
-use Rattle.rhai_grammar.specs.Delivered.{code, Point}
+use Rattle.rhai_grammar.specs.Delivered.{Point}
 use Rattle.rhai_grammar.specs.Seen.{StandsAtLast}
 use Rattle.rhai_grammar.specs.Contexts.{Context, Live}
 use Rattle.rhai_grammar.specs.Beginnings.{beginning, is_sign, calls, member_place, is_member, qualifies}
@@ -33,15 +33,15 @@ use Rattle.rhai_reading.proofs.Joins.{cursor}
 use Rattle.rhai_reading.proofs.Rules.{at}
 use Rattle.rhai_reading.proofs.Strengths.{next_continues}
 use Rattle.rhai_reading.proofs.FormKinds.{runs, operands, primaries, tree_before, bases, expressions, enclosed, items}
-use Rattle.rhai_reading.proofs.FormKinds.{callings, elements, fields, next_keys, links, indices, members}
-use Rattle.rhai_reading.proofs.FormKinds.{expr_statements, var_names, initializers, statements, statement_lists, blocks}
-use Rattle.rhai_reading.proofs.FormKinds.{block_ends, block_starts, definitions, insides, jump_values, segments, text_afters}
-use Rattle.rhai_reading.proofs.ConstructKinds.{BracedForm, CatchForm, DoForm, LoopForm, OfKind, braced, branches, catches}
-use Rattle.rhai_reading.proofs.ConstructKinds.{conditionals, constructs, do_ends, guards, iterated_values, loops}
-use Rattle.rhai_reading.proofs.FormKinds.{DefinitionForm, aliases, exports, imports, paths}
-use Rattle.rhai_reading.proofs.SwitchKinds.{actions, arm_ends, arm_lists, case_guards, cases, default_ends}
+use Rattle.rhai_reading.proofs.FormKinds.{callings, elements, fields, links, indices, members}
+use Rattle.rhai_reading.proofs.FormKinds.{expr_statements, initializers, statements, statement_lists, blocks}
+use Rattle.rhai_reading.proofs.FormKinds.{definitions, insides, jump_values, segments}
+use Rattle.rhai_reading.proofs.ConstructKinds.{BracedForm, CatchForm, DoForm, LoopForm, OfKind, braced, branches}
+use Rattle.rhai_reading.proofs.ConstructKinds.{conditionals, constructs, guards, iterated_values}
+use Rattle.rhai_reading.proofs.FormKinds.{DefinitionForm, exports, imports, paths}
+use Rattle.rhai_reading.proofs.SwitchKinds.{actions, arm_lists, case_guards, cases}
 use Rattle.rhai_reading.proofs.SwitchKinds.{DefaultForm, arms_with_cases, default_arms, one_cases}
-use Rattle.rhai_reading.proofs.Looks.{op_at, follower_at, operator_in}
+use Rattle.rhai_reading.proofs.Looks.{op_at, follower_at}
 use Rattle.rhai_reading.proofs.Paths.{Fits, Fails, Way, Lost}
 use Rattle.rhai_reading.proofs.Shows.{Histories, Ensures, Tells, Halts, Answers, Passed}
 
@@ -103,39 +103,27 @@ Sound (R.Items c w before) s o = Answers (items c w before) s o
 Sound (R.Elements c w opening before) s o = Answers (elements c w opening before) s o
 Sound (R.Fields c w opening before) s o = Answers (fields c w opening before) s o
 Sound (R.Segments c w start before) s o = Answers (segments c w start before) s o
-Sound R.TextAfter s o = Answers text_afters s o
 Sound (R.Jump c w pos) s o = Answers (jump_values c w pos) s o
-Sound (R.NextKey c before) s o = Answers (next_keys c before) s o
-Sound (R.NextOperator filter) s o =
-    Tells (λ v t. (t ≡ s) × (v ≡ operator_in (follower_at filter s)) × Fits (operator_known filter) s)
-    (λ e u. Fails (Next (operator_known filter)) s e × (u.mode ≡ code) × (u.point ≡ s) × StandsAtLast e (cursor u)) o
 Sound (R.BinaryOp c w pos p lhs) s o =
     (q : Spot) (from : Point) (L : Run) → q.live ≡ w → tree L q.live ≡ lhs
     → height_after q L ≡ record { settings = c; at = pos } → filter_of q ≡ c.filter → Suits (filter_of q) p q.side
     → TopEnds (filter_of q) L (follower_at (filter_of q) s) → Stands q from L s
     → Tells (RunRead q p from) (Halts (runs q) from) o
 Sound (R.ExprStatement c w) s o = Answers (expr_statements c w) s o
-Sound (R.VarName c w) s o = Answers (var_names c w) s o
 Sound (R.Initializer c w pos) s o = Answers (initializers c w pos) s o
 Sound (R.Definition c w pos constant exported) s o = Answers (definitions c w pos constant exported) s o
 Sound (R.Import c w pos) s o = Answers (imports c w pos) s o
 Sound (R.Export c w pos) s o = Answers (exports c w pos) s o
-Sound R.Alias s o = Answers aliases s o
 Sound (R.Statement c w) s o = Answers (statements c w) s o
 Sound (R.Statements closing c w before) s o = Answers (statement_lists closing c w before) s o
-Sound R.BlockStart s o = Answers block_starts s o
 Sound (R.Inside c w) s o = Answers (insides c w) s o
 Sound (R.Block c w opening) s o = Answers (blocks c w opening) s o
-Sound (R.BlockEnd opening fs) s o = Answers (block_ends opening fs) s o
 Sound (R.Construct c w at kind) s o = Answers (constructs c w at kind) s o
 Sound (R.Braced c w at) s o = Answers (braced c w at) s o
 Sound (R.Guard c w) s o = Answers (guards c w) s o
 Sound (R.Iterated c w) s o = Answers (iterated_values c w) s o
 Sound (R.Conditional c w at) s o = Answers (conditionals c w at) s o
 Sound (R.Branch c w at) s o = Answers (branches c w at) s o
-Sound R.LoopNames s o = Answers loops s o
-Sound R.Catch s o = Answers catches s o
-Sound R.DoEnd s o = Answers do_ends s o
 Sound (R.Arms c w before) s o = Answers (arm_lists c w before) s o
 Sound (R.Case c w) s o = Answers (one_cases c w) s o
 Sound (R.Arm c w before) s o = Answers (arms_with_cases c w before) s o
@@ -143,15 +131,11 @@ Sound (R.DefaultArm c w default) s o = Answers (default_arms c w default) s o
 Sound (R.Cases c w before) s o = Answers (cases c w before) s o
 Sound (R.CaseGuard c w) s o = Answers (case_guards c w) s o
 Sound (R.Action c w) s o = Answers (actions c w) s o
-Sound (R.ArmEnd itself) s o = Answers (arm_ends itself) s o
-Sound (R.DefaultEnd default) s o = Answers (default_ends default) s o
 Sound (R.Comments before) s o =
     (c : Context) (start : Position) → Tells (CommentsRead c start before s) (λ e u. ⊥) o
 Sound (R.FunctionStatement c w comments from at is_private) s o =
     Answers (function_statements c w comments from at is_private) s o
 Sound (R.Function c comments at is_private) s o = Answers (functions c comments at is_private) s o
-Sound R.FunctionHead s o = Answers heads s o
-Sound (R.ParameterList function) s o = Answers (parameter_lists function) s o
 Sound (R.Parameters parts function before) s o = Answers (parameters parts function before) s o
 Sound (R.Closure c w at by) s o = Answers (closures c w at by) s o
 Sound (R.ClosureBody c w) s o = Answers (closure_bodies c w) s o

@@ -32,7 +32,7 @@ use Rattle.rhai_reading.proofs.Lists.{added, added_last, added_none, one_more_no
 use Rattle.rhai_reading.proofs.Lists.{no_property, segment_added, segment_last}
 use Rattle.rhai_reading.proofs.Looks.{op_at, pos_at}
 use Rattle.rhai_reading.proofs.Paths.{Fits, Aim, Way, lost, ◌▹◌}
-use Rattle.rhai_reading.proofs.Shows.{goal, Histories, Goes, wrong, ill, fine, fails, take, look, either, gives, done, refuse}
+use Rattle.rhai_reading.proofs.Shows.{term, goal, Histories, Goes, wrong, ill, fine, fails, take, look, either, gives, done, refuse}
 use Rattle.rhai_reading.proofs.Shows.{halt, lost_to, raise, part, ends, text_at, text_taken, Passed}
 use Rattle.rhai_reading.proofs.FormKinds.{elements, fields, KeyForm, NoMore, Keyed, key_answer, key_of, next_keys}
 use Rattle.rhai_reading.proofs.FormKinds.{block_starts, InsideForm, ManyInside, SingleInside, TextForm, body_form, inside_of, insides}
@@ -83,7 +83,7 @@ module _ (call : Histories) (c : Context) (before : Properties) (s : Point) wher
       (λ room. done (here (pos_at t)) (λ k o r. is ▹ refl ▹ new ▹ colon ▹ fine m (rw room) ▹ r)))))))
   key_by (NoKey why) e m = refuse (NoMore nowhere) (λ k. wrong m (rw e))
 
-  pub next_key : (b : Bool) → Goes call (next_keys c before) s (body (R.NextKey c before)) s b
+  pub next_key : (b : Bool) → Goes call (next_keys c before) s (R.field_key c before) s b
   next_key b = look (λ m. key_by (V.next_key c.settings before (op_at s)) refl m)
 
 -- an object map of which that is missing which comes behind a key
@@ -115,16 +115,16 @@ module _ {call : Histories} (ih : AllSound call) (c : Context) (w : Live) (openi
       (λ k o r. K.on (below ▹ G.on (close ▹ r))))))
 
   pub field_list : (b : Bool) → Goes call (fields c w opening before) s (body (R.Fields c w opening before)) s b
-  field_list b = part (goal (ih.of (R.NextKey c before) s b)) with_key key_way field_by
+  field_list b = part (term (next_key call c before s b)) with_key key_way field_by
 
 -- ---- interpolated strings
 
-pub block_start : (call : Histories) (s : Point) (b : Bool) → Goes call block_starts s (body R.BlockStart) s b
+pub block_start : (call : Histories) (s : Point) (b : Bool) → Goes call block_starts s R.block_start s b
 block_start call s b =
     look (λ m. expect due.LeftBrace nowhere (λ missing k. missing.way) (λ brace.
     done (pos_at s) (λ k o r. brace ▹ r)))
 
-pub text_after : (call : Histories) (s : Point) (b : Bool) → Goes call text_afters s (body R.TextAfter) s b
+pub text_after : (call : Histories) (s : Point) (b : Bool) → Goes call text_afters s R.text_after s b
 text_after call s b = text_taken
     (λ m none. record {
       form = record { closing = nowhere; content = []; last = true; at = nowhere };
@@ -212,12 +212,12 @@ module _ {call : Histories} (ih : AllSound call) (c : Context) (w : Live) (start
       part (goal (ih.of (R.Inside (level_up c) w) u a))
       (λ f. segment_form true p (body_form f nowhere) [] nowhere any_segments)
       (λ f k o r. segment_way true f nowhere [] nowhere any_segments c w start k B below (r _)) (λ f t a G.
-      part (goal (ih.of R.TextAfter t a))
+      part (term (text_after call t a))
       (λ x. segment_form x.last p (body_form f x.closing) x.content x.at any_segments)
       (λ x k o r. segment_way x.last f x.closing x.content x.at any_segments c w start k B below (G.on (r _)))
       (λ x v d H. texted x.last f p u x t v d refl B below G H)))
 
   pub segment_list : (b : Bool) → Goes call (segments c w start before) s (body (R.Segments c w start before)) s b
   segment_list b =
-      part (goal (ih.of R.BlockStart s b)) (λ p. form.LastSegment p any_body [] nowhere) (λ p k o r. r _)
+      part (term (block_start call s b)) (λ p. form.LastSegment p any_body [] nowhere) (λ p k o r. r _)
       (λ p u a B. segment_from p u a B)

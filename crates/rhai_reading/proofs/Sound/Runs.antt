@@ -27,7 +27,7 @@ use Rattle.rhai_reading.proofs.Joins.{cursor}
 use Rattle.rhai_reading.proofs.Strengths.{Sensible, sensible, next_continues, right_is, left_is, goes_operator, true_not}
 use Rattle.rhai_reading.proofs.Looks.{op_at, pos_at, follower_at, operator_in, climb, fine as known_fine}
 use Rattle.rhai_reading.proofs.Paths.{Astray, Fits, Fails, Aim, Way, ◌▹◌, lost, Lost}
-use Rattle.rhai_reading.proofs.Shows.{Histories, over, Shows, Halts, fine, fails, ret, take, look, either, test, raise}
+use Rattle.rhai_reading.proofs.Shows.{term, Histories, over, Shows, Halts, fine, fails, ret, take, look, either, test, raise}
 use Rattle.rhai_reading.proofs.Shows.{goal, tail, part, lost_at, Kind, Passed}
 use Rattle.rhai_reading.proofs.FormKinds.{runs}
 use Rattle.rhai_reading.proofs.Sound.Law.{AllSound, TopEnds, Suits, Stands, RunRead}
@@ -37,7 +37,7 @@ use Rattle.rhai_reading.proofs.Sound.Law.{AllSound, TopEnds, Suits, Stands, RunR
 pub next_operator : (call : Histories) (filter : ExprFilter) (s : Point) (b : Bool)
     → Shows call (λ v t. (t ≡ s) × (v ≡ operator_in (follower_at filter s)) × Fits (operator_known filter) s)
     (λ e u. Fails (Next (operator_known filter)) s e × (u.mode ≡ code) × (u.point ≡ s) × StandsAtLast e (cursor u))
-    (body (R.NextOperator filter)) s b
+    (R.next_operator filter) s b
 next_operator call filter s b = look (λ m. by (follower_at filter s) refl m)
   where
     by : (v : Follower) → follower_at filter s ≡ v → is_memory (op_at s) ≡ false
@@ -121,14 +121,14 @@ module _ {call : Histories} (ih : AllSound call) where
 
   -- what stands after an operand, as a part of a form
   operator_part : {F B : Type 0} {K : Kind F B} {from : Point} {A : Type 0} {Q : A → Point → Type 0}
-      {k : Option (ℕ × Bool) → Prog A} {s : Point} {b : Bool} (filter : ExprFilter) (f : F)
+      {s : Point} {b : Bool} (filter : ExprFilter) (k : Option (ℕ × Bool) → Prog A) (f : F)
       → ((e : Refusal) → Fails (Next (operator_known filter)) s e → (k : Demands)
       → Way (K.demands f k) from (Lost e s))
       → (Fits (operator_known filter) s → (a : Bool)
       → Shows call Q (Halts K from) (k (operator_in (follower_at filter s))) s a)
-      → Shows call Q (Halts K from) (Call (R.NextOperator filter) k) s b
-  operator_part {K = K} {from = from} {Q = Q} {k = k} {s = s} {b = b} filter f way on =
-      goal (ih.of (R.NextOperator filter) s b) (λ e t r. let stops = subst
+      → Shows call Q (Halts K from) (R.inline (R.next_operator filter) k) s b
+  operator_part {K = K} {from = from} {Q = Q} {s = s} {b = b} filter k f way on =
+      term (next_operator call filter s b) (λ e t r. let stops = subst
       (λ u. (k : Demands) → Way (K.demands f k) from (Lost e u)) (sym r.2)
       (way e r.0) in let asks = subst
       (λ n. (k : Demands) → Way (K.demands f k) from (Astray e n t.point)) (sym r.1) stops in
@@ -153,7 +153,7 @@ module _ {call : Histories} (ih : AllSound call) where
         let q2 = right_side op u w in
         take (part (goal (ih.of (R.RightOperand u.settings w (place_after op)) (past code s) false)) (λ x. binary (Just x))
         (λ x k o r. h.right (Just x) k o (r _)) (λ x t a X.
-        operator_part inner (binary (Just x)) (λ e r k. h.right (Just x) k _ (X.on (lost r))) (λ known c.
+        operator_part inner _ (binary (Just x)) (λ e r k. h.right (Just x) k _ (X.on (lost r))) (λ known c.
         raise u.settings (binary (Just x)) (λ high k. h.right (Just x) k _ (X.on (known ▹ fails high))) (λ below.
         run_part q2 (past code s) (Just x) refl refl refl refl (right_suits filter inner same op u h.is) tt
         (record {
@@ -218,8 +218,8 @@ module _ {call : Histories} (ih : AllSound call) where
     run_from b ended stands =
         let u = height_after q L in
         subst (λ f. Shows call (RunRead q p from) (Halts (runs q) from)
-        (Call (R.NextOperator f) (binary_at u.settings q.live u.at p (tree L q.live))) s b) same
-        (operator_part (filter_of q) L stands.stops (λ known a.
+        (R.inline (R.next_operator f) (binary_at u.settings q.live u.at p (tree L q.live))) s b) same
+        (operator_part (filter_of q) _ L stands.stops (λ known a.
         run_at (follower_at (filter_of q) s) a refl known ended stands))
 
   pub run : (c : Context) (w : Live) (pos : Position) (p : ℕ) (lhs : Node) (s : Point) (b : Bool) (q : Spot)

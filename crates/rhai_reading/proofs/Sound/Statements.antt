@@ -55,7 +55,7 @@ use Rattle.rhai_grammar.specs.Written as W
 use Rattle.rhai_reading.proofs.Lists.{kept_statement, last_kept, no_statement}
 use Rattle.rhai_reading.proofs.Looks.{op_at, pos_at}
 use Rattle.rhai_reading.proofs.Paths.{Aim, Fits, Passes, Way, ◌▹◌}
-use Rattle.rhai_reading.proofs.Shows.{Histories, Goes, ill, wrong, fine, fails, take, look, either, gives, done, refuse}
+use Rattle.rhai_reading.proofs.Shows.{term, Histories, Goes, ill, wrong, fine, fails, take, look, either, gives, done, refuse}
 use Rattle.rhai_reading.proofs.Shows.{blamed_at, goal, halt, test, raise, part, first, ends, Passed}
 use Rattle.rhai_reading.proofs.Sound.Chains.{Early, early_if, early_or, tested}
 use Rattle.rhai_reading.proofs.Sound.Law.{AllSound, any_construct, any_run}
@@ -95,6 +95,19 @@ target_early constant op at (node.disjunction ns p) = early_if (is_equals op) _ 
 target_early constant op at (node.coalescing ns p) = early_if (is_equals op) _ (Some (invalid p)) refl refl
 target_early constant op at x = value_early (is_constant x) (position_of x)
 
+-- ---- another name
+
+module _ (call : Histories) (s : Point) where
+  pub other_name : (b : Bool) → Goes call aliases s R.alias s b
+  other_name b =
+      let t = past code s in
+      look (λ m. either (is_due due.As (op_at s))
+      (λ is.
+      let here = stands due.As (op_at s) (pos_at s) is in
+      take (expect_name (form.As (pos_at s) [] nowhere) (λ name at. R.Ret (Some name)) (λ none k. here ▹ none.way)
+      (λ name. done (form.As (pos_at s) (text_of (op_at t)) (pos_at t)) (λ k o r. here ▹ name ▹ r))))
+      (λ none. done form.NoAlias (λ k o r. fine m (rw none) ▹ r)))
+
 -- ---- expressions and assignments
 
 module _ {call : Histories} (ih : AllSound call) (c : Context) (w : Live) (s : Point) where
@@ -112,7 +125,7 @@ module _ {call : Histories} (ih : AllSound call) (c : Context) (w : Live) (s : P
 
   -- ---- definitions
 
-  pub var_name : (b : Bool) → Goes call (var_names c w) s (body (R.VarName c w)) s b
+  pub var_name : (b : Bool) → Goes call (var_names c w) s (R.var_name c w) s b
   var_name b =
       let here : NameForm = record { name = text_of (op_at s); at = pos_at s } in
       look (λ m. either (is_name (op_at s))
@@ -132,7 +145,7 @@ module _ {call : Histories} (ih : AllSound call) (c : Context) (w : Live) (s : P
   pub definition : (at : Position) (constant exported : Bool) (b : Bool)
       → Goes call (definitions c w at constant exported) s (body (R.Definition c w at constant exported)) s b
   definition at constant exported b =
-      first (goal (ih.of (R.VarName c w) s b)) (λ f x. record { name = f; value = x }) form.NoValue (λ f x k o r. r) (λ f t a.
+      first (term (var_name b)) (λ f x. record { name = f; value = x }) form.NoValue (λ f x k o r. r) (λ f t a.
       ends {v = λ x. (definition_tree constant exported at f.name x w, walk.defined_as exported f.name constant w)}
       (goal (ih.of (R.Initializer c w at) t a)) (λ x. x) (λ v x. refl) (λ x k o r. r))
 
@@ -150,7 +163,7 @@ module _ {call : Histories} (ih : AllSound call) (c : Context) (w : Live) (s : P
   import at b =
       first (goal (ih.of (R.Expression c w) s b)) (λ f (x : Alias). record { source = f; other = x }) form.NoAlias
       (λ f x k o r. r) (λ f t a.
-      ends {v = λ x. (import_tree (tree f w) x at, walk.imported x w)} (goal (ih.of R.Alias t a)) (λ x. x) (λ v x. refl)
+      ends {v = λ x. (import_tree (tree f w) x at, walk.imported x w)} (term (other_name call t a)) (λ x. x) (λ v x. refl)
       (λ x k o r. r))
 
   export_by : (at : Position) (v : Option Bool) → V.defines (op_at s) ≡ v → is_memory (op_at s) ≡ false
@@ -165,7 +178,7 @@ module _ {call : Histories} (ih : AllSound call) (c : Context) (w : Live) (s : P
       look (λ n. either (is_name (op_at s))
       (λ named. take (
       ends {v = λ x. (export_tree (text_of (op_at s)) x at, walk.exported (text_of (op_at s)) (unwrap_or x (text_of (op_at s))) w)}
-      (goal (ih.of R.Alias (past code s) false)) (ExportName (text_of (op_at s)) (pos_at s)) (λ v x. refl)
+      (term (other_name call (past code s) false)) (ExportName (text_of (op_at s)) (pos_at s)) (λ v x. refl)
       (λ x k o r. name_is (op_at s) (pos_at s) named ▹ r)))
       (λ other. refuse (ExportName [] nowhere form.NoAlias) (λ k. wrong m (rw (e, no_name (op_at s) other)))))
 
@@ -306,17 +319,6 @@ module _ {call : Histories} (ih : AllSound call) (c : Context) (w : Live) (s : P
   pub statement : (b : Bool) → Goes call (statements c w) s (body (R.Statement c w)) s b
   statement b = look (λ m. statement_by (V.statement_start c (op_at s)) refl m)
 
-module _ (call : Histories) (s : Point) where
-  pub other_name : (b : Bool) → Goes call aliases s (body R.Alias) s b
-  other_name b =
-      let t = past code s in
-      look (λ m. either (is_due due.As (op_at s))
-      (λ is.
-      let here = stands due.As (op_at s) (pos_at s) is in
-      take (expect_name (form.As (pos_at s) [] nowhere) (λ name at. R.Ret (Some name)) (λ none k. here ▹ none.way)
-      (λ name. done (form.As (pos_at s) (text_of (op_at t)) (pos_at t)) (λ k o r. here ▹ name ▹ r))))
-      (λ none. done form.NoAlias (λ k o r. fine m (rw none) ▹ r)))
-
 -- ---- lists of statements
 
 module _ {call : Histories} (ih : AllSound call) (closing : Closing) (c : Context) (w : Live)
@@ -365,7 +367,7 @@ module _ {call : Histories} (ih : AllSound call) (closing : Closing) (c : Contex
 -- ---- blocks
 
 pub block_end : (call : Histories) (at : Position) (fs : node.Statements) (s : Point) (b : Bool)
-    → Goes call (block_ends at fs) s (body (R.BlockEnd at fs)) s b
+    → Goes call (block_ends at fs) s (R.block_end at fs) s b
 block_end call at fs s b =
     look (λ m. expect due.RightBrace nowhere (λ missing k. missing.way) (λ close.
     done (pos_at s) (λ k o r. close ▹ r)))
@@ -393,4 +395,4 @@ pub block : {call : Histories} → AllSound call → (c : Context) (w : Live) (a
     → Goes call (blocks c w at) s (body (R.Block c w at)) s b
 block ih c w at s b =
     first (goal (ih.of (R.Inside c w) s b)) body_form nowhere (λ f p k o r. body_way f c w p k r) (λ f t a.
-    ends (goal (ih.of (R.BlockEnd at (inside_statements w f)) t a)) (λ p. p) (λ v p. inside_block at f p w) (λ p k o r. r))
+    ends (term (block_end _ at (inside_statements w f) t a)) (λ p. p) (λ v p. inside_block at f p w) (λ p k o r. r))

@@ -36,7 +36,7 @@ use Rattle.rhai_reading.proofs.Dues.{expect, followed, stands}
 use Rattle.rhai_reading.proofs.Lists.{added, added_last}
 use Rattle.rhai_reading.proofs.Looks.{op_at, pos_at}
 use Rattle.rhai_reading.proofs.Paths.{Fits, ◌▹◌, lost}
-use Rattle.rhai_reading.proofs.Shows.{goal_literal, literally_told, goal, Histories, Goes, Kind, done, either, ends, fine, first, gives, halt, ill, look}
+use Rattle.rhai_reading.proofs.Shows.{term, goal_literal, literally_told, goal, Histories, Goes, Kind, done, either, ends, fine, first, gives, halt, ill, look}
 use Rattle.rhai_reading.proofs.Shows.{ends, lost_at, part, refuse, take, wrong}
 use Rattle.rhai_reading.proofs.SwitchKinds.{ArmForm, DefaultForm, actions, arm_ends, arm_lists, arms_with_cases, case_guards}
 use Rattle.rhai_reading.proofs.SwitchKinds.{cases, default_arms, default_ends, one_cases}
@@ -116,7 +116,7 @@ module _ (call : Histories) (itself : Bool) (s : Point) where
       either itself (λ ends. done None (λ k o r. fine m (rw (e, ends)) ▹ r))
       (λ open_. refuse None (λ k. ill m (rw (e, open_))))
 
-  pub arm_end : (b : Bool) → Goes call (arm_ends itself) s (body (R.ArmEnd itself)) s b
+  pub arm_end : (b : Bool) → Goes call (arm_ends itself) s (R.arm_end itself) s b
   arm_end b = look (λ m. arm_end_by (after_part lists.Arms (op_at s)) refl m)
 
 module _ (call : Histories) (default : Position) (s : Point) where
@@ -131,7 +131,7 @@ module _ (call : Histories) (default : Position) (s : Point) where
       halt nowhere refl
       (λ k. lost (lost_at (S.default_ends default) s _ _ m (ap (S.default_ends_at default (op_at s)) e) refl))
 
-  pub default_end : (b : Bool) → Goes call (default_ends default) s (body (R.DefaultEnd default)) s b
+  pub default_end : (b : Bool) → Goes call (default_ends default) s (R.default_end default) s b
   default_end b = look (λ m. default_end_by (arm_place (op_at s)) refl m)
 
 -- ---- arms
@@ -159,7 +159,7 @@ module _ {call : Histories} (ih : AllSound call) (c : Context) (w : Live) (befor
       (action_tree does w, action_ends does) v) t b
   arm_by xs guard does t b None e =
       ends {v = λ end. (case_trees xs w, guard_tree guard w, action_tree does w)}
-      (goal (ih.of (R.ArmEnd (action_ends does)) t b)) (λ comma. comma) (λ v comma. refl) (λ comma k o r. unfaulted e r)
+      (term (arm_end call (action_ends does) t b)) (λ comma. comma) (λ v comma. refl) (λ comma k o r. unfaulted e r)
   arm_by xs guard does t b (Some d) e =
       halt None (early _ d (fault_early (S.arm_count before.arms) before (case_trees xs w)) e) (λ k. faulted _ e)
 
@@ -205,7 +205,7 @@ module _ {call : Histories} (ih : AllSound call) (c : Context) (w : Live) (defau
       first (goal (ih.of (R.Action c w) (past code s) false))
       (λ does (h : Option Position × Position). default_form (pos_at s) does h.0 h.1) (None, nowhere)
       (λ does h k o r. open_ ▹ arrow ▹ r) (λ does u a.
-      first (goal (ih.of (R.ArmEnd (action_ends does)) u a)) (λ comma closing. (comma, closing)) nowhere
+      first (term (arm_end call (action_ends does) u a)) (λ comma closing. (comma, closing)) nowhere
       (λ comma closing k o r. r) (λ comma v d.
-      ends {v = λ x. action_tree does w} (goal (ih.of (R.DefaultEnd default) v d))
+      ends {v = λ x. action_tree does w} (term (default_end call default v d))
       (λ closing. closing) (λ x closing. refl) (λ closing k o r. r))))))
