@@ -84,6 +84,7 @@ step ih (R.Comments before) s b = λ c start. tells (Y.further_comments ih befor
 step ih (R.FunctionStatement c w comments from at is_private) s b =
     tells (Y.function_statement ih c w comments from at is_private s b)
 step ih (R.Function c comments at is_private) s b = tells (Y.function ih c comments at is_private s b)
+step ih (R.ParameterList function) s b = tells (Y.parameter_list ih function s b)
 step ih (R.Parameters parts function before) s b = tells (Y.parameters_of ih parts function before s b)
 step ih (R.Closure c w at by) s b = tells (Z.closure ih c w at by s b)
 step ih (R.ClosureBody c w) s b = tells (Z.closure_body ih c w s b)

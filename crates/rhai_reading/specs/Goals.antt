@@ -120,6 +120,8 @@ pub data Goal : Type 0 where
   FunctionStatement : Context → Live → List Comment → (first at : Position) (is_private : Bool) → Goal
   -- a function with these doc comments, under its own settings, up to the end of its body
   Function : Context → List Comment → (at : Position) (is_private : Bool) → Goal
+  -- its parameters, after its name
+  ParameterList : (function : Text) → Goal
   -- the parameters of a function or of a closure, up to what closes them, after these
   Parameters : (parts : CommaList) (function : Text) (before : List Text) → Goal
   -- a closure after its first token, which is at a position
@@ -176,6 +178,7 @@ Val (Action context live) = Node × Bool
 Val (Comments before) = List Comment
 Val (FunctionStatement context live comments first at is_private) = node.Statement × Live
 Val (Function context comments at is_private) = Ended
+Val (ParameterList function) = List Text
 Val (Parameters parts function before) = List Text
 Val (Closure context live at bars) = Node
 Val (ClosureBody context live) = node.Statement

@@ -62,7 +62,7 @@ pub use Rattle.rhai_reading.specs.Goals.{Definition, Statement, Statements, Insi
 pub use Rattle.rhai_reading.specs.Goals.{Branch, Braced, Conditional, Construct, Guard, Iterated}
 pub use Rattle.rhai_reading.specs.Goals.{Export, Import, Path, RightOperand}
 pub use Rattle.rhai_reading.specs.Goals.{Action, Arm, Arms, Case, CaseGuard, Cases, DefaultArm}
-pub use Rattle.rhai_reading.specs.Goals.{Comments, Function, FunctionStatement}
+pub use Rattle.rhai_reading.specs.Goals.{Comments, Function, FunctionStatement, ParameterList}
 pub use Rattle.rhai_reading.specs.Goals.{Closure, ClosureBody, Parameters, Script, Val}
 pub use Rattle.rhai_reading.specs.Goals.{Ret, Fail, Peek, Take, TakeText, Know, Add, Note, Call, CallLiteral, CallApart}
 pub use Rattle.rhai_reading.specs.Goals.{Prog}
@@ -74,7 +74,7 @@ pub use Rattle.rhai_reading.specs.ReadingStatements.{statements_at, inside_on, i
 pub use Rattle.rhai_reading.specs.ReadingStatements.{no_brace, else_at, branch_at, counted_on}
 pub use Rattle.rhai_reading.specs.ReadingStatements.{first_of_two, loop_names_at, catch_at, catch_name, do_end_at, end_of_do, loop_names}
 pub use Rattle.rhai_reading.specs.ReadingStatements.{alias, alias_at, export_at, export_on, global_at, import_on}
-pub use Rattle.rhai_reading.specs.ReadingFunctions.{comment_of, comments_at, function_head, parameter_list}
+pub use Rattle.rhai_reading.specs.ReadingFunctions.{comment_of, comments_at, function_head}
 pub use Rattle.rhai_reading.specs.ReadingFunctions.{function_at, function_body_at, function_end, function_on, head_at}
 pub use Rattle.rhai_reading.specs.ReadingClosures.{captured_on, closure_added, closure_at, closure_body_at, closure_by}
 pub use Rattle.rhai_reading.specs.ReadingClosures.{closure_end, closure_on}
@@ -414,8 +414,9 @@ body (Comments before) = Peek (comments_at before)
 body (FunctionStatement context live comments first at is_private) =
     function_at context live comments first at is_private
 body (Function context comments at is_private) =
-    inline function_head (λ head. inline (parameter_list head.1) (λ names.
+    inline function_head (λ head. Call (ParameterList head.1) (λ names.
     Peek (function_body_at context comments at is_private head names)))
+body (ParameterList function) = Peek (λ lexeme at. parameters_at function lexeme at (calling lexeme))
 body (Parameters parts function before) =
     Peek (λ lexeme at. parameter_at parts function before lexeme at (parameter_place parts lexeme))
 body (Closure context live at bars) = Know (closure_at context live at bars)

@@ -5,7 +5,7 @@ use Rattle.rhai_lower.specs.Lexemes.{Lexeme, text_of}
 use Rattle.rhai_lower.specs.Nodes as node
 use Rattle.rhai_lower.specs.Nodes.{noop}
 use Rattle.rhai_lower.specs.declared.position.Position.{Position}
-use Rattle.rhai_grammar.specs.Beginnings.{calling, is_name}
+use Rattle.rhai_grammar.specs.Beginnings.{is_name}
 use Rattle.rhai_grammar.specs.Causes as cause
 use Rattle.rhai_grammar.specs.Causes.{refusal}
 use Rattle.rhai_grammar.specs.Comments.{Comment}
@@ -83,10 +83,6 @@ abbrev pub parameters_at : (function : Text) → Lexeme → Position → Calling
 parameters_at function lexeme at calls_by.Pair = Take (Ret [])
 parameters_at function lexeme at calls_by.List = Take (Call (Parameters lists.Parameters function []) Ret)
 parameters_at function lexeme at _ = Fail (refusal (no_parameters function lexeme) at)
-
--- its parameters, after its name
-abbrev pub parameter_list : (function : Text) → Prog (List Text)
-parameter_list function = Peek (λ lexeme at. parameters_at function lexeme at (calling lexeme))
 
 -- ---- the body
 

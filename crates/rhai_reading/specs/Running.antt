@@ -23,7 +23,7 @@ use Rattle.rhai_reading.specs.Reading.{Branch, Braced, Conditional, Construct, G
 use Rattle.rhai_reading.specs.Reading.{Action, Arm, Arms, Case, CaseGuard, Cases, DefaultArm}
 use Rattle.rhai_reading.specs.Reading.{RightOperand}
 use Rattle.rhai_reading.specs.Reading.{Closure, ClosureBody, Comments, Function, FunctionStatement}
-use Rattle.rhai_reading.specs.Reading.{Parameters}
+use Rattle.rhai_reading.specs.Reading.{ParameterList, Parameters}
 use Rattle.rhai_reading.specs.Reading.{Prog, body}
 
 -- What is left of a stream, the functions that have ended, the names that the closure around has captured, and how
@@ -140,6 +140,7 @@ rank (Action context live) = 6
 rank (Comments before) = 0
 rank (FunctionStatement context live comments first at is_private) = 2
 rank (Function context comments at is_private) = 1
+rank (ParameterList function) = 0
 rank (Parameters parts function before) = 0
 rank (Closure context live at bars) = 7
 rank (ClosureBody context live) = 6

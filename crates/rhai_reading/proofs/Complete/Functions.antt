@@ -97,7 +97,7 @@ parameter_rest (form.Parameter name at comma rest) parts function before k s t b
     (λ u l n. ret n))))
 
 pub parameter_list : (x : ParameterList) (function : Text)
-    → IsFlat (R.parameter_list function) (parameter_lists function) x
+    → IsFlat (body (R.ParameterList function)) (parameter_lists function) x
 parameter_list (form.EmptyParameters at) function k s t b m = due_now m.0 refl refl (ret m.1)
 parameter_list (form.ListedParameters opening list) function k s t b m =
     due_now m.0 refl refl (part (parameter_rest list lists.Parameters function [] k (past code s) t false m.1) (λ u l n. ret n))
@@ -109,7 +109,7 @@ pub function : (f : FunctionForm) → BodyRead f.body → (c : Context) (comment
     → IsRead (1 + body_depth f.body) (R.Function c comments at is_private) (functions c comments at is_private) f
 function f reads c comments at is_private k s t b m =
     term _ (head f.head _ s t b m) (λ u l n.
-    term _ (parameter_list f.list f.head.name _ u t l n) (λ v a i.
+    part (parameter_list f.list f.head.name _ u t l n) (λ v a i.
     due_now i.0 refl refl (if_true _ i.1.0
     (deeper _ refl (reads (level_up c) (parameters_live (parameter_names f.list)) f.opening k (past code v) t false i.1.1)
     (λ x d j. ret j)))))

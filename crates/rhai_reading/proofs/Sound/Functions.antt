@@ -135,7 +135,7 @@ module _ {call : Histories} (ih : AllSound call) (function : Text) (s : Point) w
   list_by calls_by.Bang e m = refuse any_list (λ k. wrong m (rw e))
   list_by calls_by.Nothing e m = refuse any_list (λ k. wrong m (rw e))
 
-  pub parameter_list : (b : Bool) → Goes call (parameter_lists function) s (R.parameter_list function) s b
+  pub parameter_list : (b : Bool) → Goes call (parameter_lists function) s (body (R.ParameterList function)) s b
   parameter_list b = look (λ m. list_by (calling (op_at s)) refl m)
 
 module _ {call : Histories} (ih : AllSound call) (parts : CommaList) (function : Text) (before : List Text) (s : Point)
@@ -174,7 +174,7 @@ module _ {call : Histories} (ih : AllSound call) (c : Context) (comments : List 
   function b =
       first (term (head call s b)) (λ h (f : ParameterList × BracedForm). with_parts h f.0 f.1)
       (any_list, any_braced) (λ h f k o r. r) (λ h t a.
-      first (term (parameter_list ih h.name t a)) (λ x f. (x, f)) any_braced (λ x f k o r. r) (λ x u d.
+      first (goal (ih.of (R.ParameterList h.name) t a)) (λ x f. (x, f)) any_braced (λ x f k o r. r) (λ x u d.
       let opens : Body → BracedForm = λ f. record { opening = pos_at u; body = f } in
       look (λ m. check (is_due due.LeftBrace (op_at u)) any_braced (λ other k. wrong m (rw other)) (λ is.
       let here = stands due.LeftBrace (op_at u) (pos_at u) is in

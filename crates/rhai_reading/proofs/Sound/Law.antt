@@ -1,5 +1,5 @@
 -- What each reader shows.
-use Rattle.rhai_reading.proofs.FunctionKinds.{CommentsRead, function_statements, functions, parameters}
+use Rattle.rhai_reading.proofs.FunctionKinds.{CommentsRead, function_statements, functions, parameter_lists, parameters}
 use Rattle.rhai_reading.proofs.ClosureKinds.{closure_bodies, closures}
 use Rattle.std.proofs.Common.{◌≡◌, ℕ, Bool, true, false, None, [], refl}
 use Rattle.rhai_lower.specs.Lexemes.{Lexeme, Integer}
@@ -136,6 +136,7 @@ Sound (R.Comments before) s o =
 Sound (R.FunctionStatement c w comments from at is_private) s o =
     Answers (function_statements c w comments from at is_private) s o
 Sound (R.Function c comments at is_private) s o = Answers (functions c comments at is_private) s o
+Sound (R.ParameterList function) s o = Answers (parameter_lists function) s o
 Sound (R.Parameters parts function before) s o = Answers (parameters parts function before) s o
 Sound (R.Closure c w at by) s o = Answers (closures c w at by) s o
 Sound (R.ClosureBody c w) s o = Answers (closure_bodies c w) s o
