@@ -11,16 +11,19 @@ use Rattle.rhai_grammar.specs.Spots.{LinkSpot}
 use Rattle.rhai_lower.specs.Nodes.{Node}
 use Rattle.rhai_lower.specs.declared.position.Position.{Position}
 use Rattle.rhai_grammar.specs.declared.filter.ExprFilter.{ExprFilter}
-use Rattle.rhai_reading.specs.Reading.{BinaryOp, Goal, Links, NextOperator, Peek, Postfix, Prog, Ret, Val, binary_at, body, postfix_at}
-use Rattle.rhai_reading.specs.Running.{Done, Progress, Refused, Unfinished, and_then, asked, exec, guarded, looking, need, only_less, result_of}
-use Rattle.rhai_reading.proofs.Steps.{looked, run_step}
+use Rattle.rhai_reading.specs.Reading.{BinaryOp, Goal, Links, Peek, Postfix, Prog, Ret, Val, binary_at, body, next_operator, postfix_at}
+use Rattle.rhai_reading.specs.Running.{Done, Progress, Refused, Unfinished, and_then, asked, exec, guarded, looking, need, only_less, result_of, steps}
+use Rattle.rhai_reading.proofs.Terms.{runs_inline}
+use Rattle.rhai_reading.proofs.Steps.{run_step}
 
 pub binary_looked : (c : Context) (w : Live) (at : Position) (parent : ℕ) (x : Node) (s : Progress) → result_of (BinaryOp c w at parent x) (looking s) ≡ result_of (BinaryOp c w at parent x) s
 unfolding guarded only_less
 binary_looked c w at parent x s =
     let goal = BinaryOp c w at parent x in
+    let on = binary_at c w at parent x in
     run_step goal (looking s)
-    ∙ ap (λ o. and_then (if nat_lt (need (NextOperator c.filter) s) (need goal s) then o else Unfinished) (λ next t. exec (guarded goal s) (binary_at c w at parent x next) t)) (looked (NextOperator c.filter) _ s refl)
+    ∙ runs_inline steps (guarded goal (looking s)) on (next_operator c.filter) (looking s)
+    ∙ sym (runs_inline steps (guarded goal s) on (next_operator c.filter) s)
     ∙ sym (run_step goal s)
 
 -- a reader that looks at the next token, and has read what it reads

@@ -19,10 +19,9 @@ use Rattle.rhai_trees.proofs.LinkedLemmas.{given_where, this_value, variable_val
 use Rattle.rhai_trees.specs.Linked.{is_linked}
 use Rattle.rhai_grammar.specs.declared.role.Beginning.TheVariants as begin
 use Rattle.rhai_grammar.specs.Uses.{Use, noted}
-use Rattle.rhai_reading.specs.Reading.{Ret, Fail, Know, Note, Primary, name_at, word_at, Peek, NextKey, match_token, key_on, room_at}
+use Rattle.rhai_reading.specs.Reading.{Ret, Fail, Know, Note, Primary, name_at, word_at, Peek, field_key, match_token, key_on, room_at}
 use Rattle.rhai_reading.specs.Running as R
 use Rattle.rhai_reading.specs.Running.{Caller, Progress, asked, exec, guarded, looking, result_of, taking, with_captured}
-use Rattle.rhai_reading.proofs.Steps.{step_next_key}
 use Rattle.rhai_base.specs.Words.{name_result, no_this, word_result}
 use Rattle.rhai_grammar.specs.declared.due.DueToken.TheVariants as due
 use Rattle.rhai_grammar.specs.Literals.{KeyPlace, FieldsEnd, AKey, NoKey, has_key}
@@ -119,9 +118,8 @@ refused_at call c before s (AKey key) e t readable h =
     ∙ ap (λ u. R.Refused e (at s u)) (sym h.2)
 
 -- a key that is refused
-pub key_refused : (c : Context) (before : Properties) (s : Progress) (t : Cursor) (e : Refusal) → is_memory (asked s).lexeme ≡ false → KeyRefused before s.cursor (next_key c.settings before (asked s).lexeme) e t → result_of (NextKey c before) s ≡ R.Refused e (at s t)
-key_refused c before s t e readable h =
-    let k = NextKey c before in
-    step_next_key c before s
-    ∙ ap (λ m. if m then R.Refused out_of_memory (looking s) else exec (guarded k s) (key_on c before (asked s).at (next_key c.settings before (asked s).lexeme)) (looking s)) readable
-    ∙ refused_at (guarded k s) c before s (next_key c.settings before (asked s).lexeme) e t readable h
+pub key_refused : (call : Caller) (c : Context) (before : Properties) (s : Progress) (t : Cursor) (e : Refusal) → is_memory (asked s).lexeme ≡ false → KeyRefused before s.cursor (next_key c.settings before (asked s).lexeme) e t → exec call (field_key c before) s ≡ R.Refused e (at s t)
+unfolding field_key
+key_refused call c before s t e readable h =
+    ap (λ m. if m then R.Refused out_of_memory (looking s) else exec call (key_on c before (asked s).at (next_key c.settings before (asked s).lexeme)) (looking s)) readable
+    ∙ refused_at call c before s (next_key c.settings before (asked s).lexeme) e t readable h

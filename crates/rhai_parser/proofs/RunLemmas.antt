@@ -14,10 +14,11 @@ use Rattle.rhai_grammar.specs.Starts.{place_after}
 use Rattle.rhai_base.specs.Frames.{FrameValue}
 use Rattle.rhai_base.specs.Settings.{levels_left, settings_of}
 use Rattle.rhai_base.specs.declared.settings.ParseSettings.{ParseSettings}
-use Rattle.rhai_reading.specs.Reading.{BinaryOp, Call, Fail, NextOperator, Peek, Prog, Ret, RightOperand, binary_next, binary_on, binary_right, raised}
+use Rattle.rhai_reading.specs.Reading.{BinaryOp, Call, Fail, Peek, Prog, Ret, RightOperand, binary_next, binary_on, binary_right, inline, next_operator, raised}
 use Rattle.rhai_reading.specs.Running as R
 use Rattle.rhai_reading.specs.Running.{Caller, Progress, asked, exec, guarded, looking, nested, result_of, taking}
 use Rattle.rhai_reading.proofs.Outcomes.{binary_done, binary_refused}
+use Rattle.rhai_reading.proofs.Terms.{runs_inline}
 use Rattle.rhai_reading.proofs.Steps.{and_then_done, guarded_is}
 use Rattle.rhai_parser.specs.Frames.{context_of, live_of}
 use Rattle.rhai_parser.specs.Engines.{EngineValue}
@@ -55,10 +56,12 @@ side_first call c w at parent lhs n s =
     let behind = behind_side call c w parent lhs n in
     let raise : (x : Node) (u : Progress) → exec call (raised c at (λ d. Call (BinaryOp d w (position_of x) n x) (binary_next d w parent lhs op pos))) u ≡ R.and_then (exec call (raised c at (λ d. Ret (op, pos, x))) u) behind =
     λ x u. where_room call (has_room c) (Call (BinaryOp (level_up c) w (position_of x) n x) (binary_next (level_up c) w parent lhs op pos)) (Ret (op, pos, x)) (refusal ExprTooDeep at) u behind refl in
-    let look : (x : Node) (t : Progress) → exec call (binary_right c w at parent lhs n op pos x) t ≡ R.and_then (exec call (Call (NextOperator c.filter) (λ next. raised c at (λ d. Ret (op, pos, x)))) t) behind =
-    λ x t. regrouped (call (NextOperator c.filter) t) _ (λ next u. exec call (raised c at (λ d. Ret (op, pos, x))) u) behind (λ next u. raise x u) in
+    let look : (x : Node) (t : Progress) → exec call (binary_right c w at parent lhs n op pos x) t ≡ R.and_then (exec call (inline (next_operator c.filter) (λ next. raised c at (λ d. Ret (op, pos, x)))) t) behind =
+    λ x t. runs_inline R.steps call (λ next. raised c at (λ d. Call (BinaryOp d w (position_of x) n x) (binary_next d w parent lhs op pos))) (next_operator c.filter) t
+    ∙ regrouped (exec call (next_operator c.filter) t) _ (λ next u. exec call (raised c at (λ d. Ret (op, pos, x))) u) behind (λ next u. raise x u)
+    ∙ ap (λ o. R.and_then o behind) (sym (runs_inline R.steps call (λ next. raised c at (λ d. Ret (op, pos, x))) (next_operator c.filter) t)) in
     unless_out (is_memory op) (looking s) (looking s) _ _ behind
-    (regrouped (nested (call (RightOperand c w (place_after op))) (taking s)) _ (λ x t. exec call (Call (NextOperator c.filter) (λ next. raised c at (λ d. Ret (op, pos, x)))) t) behind look)
+    (regrouped (nested (call (RightOperand c w (place_after op))) (taking s)) _ (λ x t. exec call (inline (next_operator c.filter) (λ next. raised c at (λ d. Ret (op, pos, x)))) t) behind look)
 
 -- What is refused on the right of an operator is refused by the run around.
 pub right_refused : (c : Context) (w : Live) (at : Position) (parent : ℕ) (lhs : Node) (n : ℕ) (s s1 t : Progress) (e : Refusal) → result_of (BinaryOp c w at parent lhs) s ≡ exec (guarded (BinaryOp c w at parent lhs) s) (Peek (binary_on c w at parent lhs n)) s1

@@ -11,10 +11,9 @@ use Rattle.rhai_grammar.specs.Switches.{arm_place, default_ends_at}
 use Rattle.rhai_grammar.specs.declared.error.ParseError.{ParseError}
 use Rattle.rhai_grammar.specs.declared.role.ArmPlace.{ArmPlace}
 use Rattle.rhai_grammar.specs.declared.role.ArmPlace.TheVariants as arm
-use Rattle.rhai_reading.specs.Reading.{DefaultEnd, default_end_at}
+use Rattle.rhai_reading.specs.Reading.{default_end, default_end_at}
 use Rattle.rhai_reading.specs.Running as R
-use Rattle.rhai_reading.specs.Running.{Caller, Fails, Gives, Progress, and_then, asked, exec, guarded, looking, recast, result_of, taking}
-use Rattle.rhai_reading.proofs.Steps.{step_default_end}
+use Rattle.rhai_reading.specs.Running.{Caller, Fails, Gives, Progress, and_then, asked, exec, looking, recast, taking}
 use Rattle.rhai_base.specs.Arms.{EndsDefault}
 
 not_memory : (a b : Bool) → (a ≡ true → b ≡ true) → b ≡ false → a ≡ false
@@ -45,31 +44,27 @@ refused_end call default l at arm.Nothing e t h = ap (λ d. R.Refused d t) (sym 
 refused_end call default l at arm.Case e t h = ap (λ d. R.Refused d t) (sym h)
 refused_end call default l at arm.Default e t h = ap (λ d. R.Refused d t) (sym h)
 
-looked : (default : Position) (s : Progress) → is_memory (asked s).lexeme ≡ false → result_of (DefaultEnd default) s
-    ≡ exec (guarded (DefaultEnd default) s)
-    (default_end_at default (asked s).lexeme (asked s).at (arm_place (asked s).lexeme)) (looking s)
-looked default s readable =
-    let call = guarded (DefaultEnd default) s in
+looked : (call : Caller) (default : Position) (s : Progress) → is_memory (asked s).lexeme ≡ false
+    → exec call (default_end default) s
+    ≡ exec call (default_end_at default (asked s).lexeme (asked s).at (arm_place (asked s).lexeme)) (looking s)
+looked call default s readable =
     let l = (asked s).lexeme in
-    step_default_end default s
-    ∙ ap (λ m. if m then R.Refused out_of_memory (looking s) else exec call (default_end_at default l (asked s).at (arm_place l)) (looking s)) readable
+    ap (λ m. if m then R.Refused out_of_memory (looking s) else exec call (default_end_at default l (asked s).at (arm_place l)) (looking s)) readable
 
 -- what the code answers after the default arm, as the reading program gives it
-pub default_end_given : (default : Position) (s : Progress) (t : Cursor) (r : Result (Unit {0}) ParseError) → EndsDefault default s.cursor r t
-    → IfErr r MemoryIsNowhere → Gives (λ u. tt) (result_of (DefaultEnd default) s) r (at s t)
-default_end_given default s t (Ok u) h nowhere =
-    let call = guarded (DefaultEnd default) s in
+pub default_end_given : (call : Caller) (default : Position) (s : Progress) (t : Cursor) (r : Result (Unit {0}) ParseError) → EndsDefault default s.cursor r t
+    → IfErr r MemoryIsNowhere → Gives (λ u. tt) (exec call (default_end default) s) r (at s t)
+default_end_given call default s t (Ok u) h nowhere =
     let l = (asked s).lexeme in
-    looked default s h.1
+    looked call default s h.1
     ∙ ap (λ p. exec call (default_end_at default l (asked s).at p) (looking s)) h.0
     ∙ ap (λ m. if m then R.Refused out_of_memory (looking (looking s)) else R.Done tt (taking s)) h.1
     ∙ ap (λ u. R.Done tt (at s u)) (sym h.2)
-default_end_given default s t (Err e) h nowhere = (
+default_end_given call default s t (Err e) h nowhere = (
   λ told. (
-      let call = guarded (DefaultEnd default) s in
-      let l = (asked s).lexeme in
+        let l = (asked s).lexeme in
       let g = h told in
-      looked default s g.1
+      looked call default s g.1
       ∙ refused_end call default l (asked s).at (arm_place l) (refusal_of e) (looking s) g.0
       ∙ ap (λ u. R.Refused (refusal_of e) (at s u)) (sym g.2)),
   nowhere,

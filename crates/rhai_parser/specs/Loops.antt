@@ -2,14 +2,8 @@
 use Rattle.std.specs.Prelude.{Option, option_map}
 use Rattle.std.specs.Rc.{rc_str_bytes}
 use Rattle.rhai_lower.specs.Texts.{Text}
-use Rattle.rhai_reading.specs.Reading as reading
-use Rattle.rhai_reading.specs.Reading.{Goal}
 use Rattle.rhai_parser.specs.declared.construct.control.LoopNames.{LoopNames}
 
 -- the variables of `for`
 abbrev pub loop_view : LoopNames → Text × Option Text
 loop_view names = (rc_str_bytes names.name, option_map rc_str_bytes names.counter)
-
--- the variables of `for`, and its `in`
-abbrev pub loop_names : Goal
-loop_names = reading.LoopNames

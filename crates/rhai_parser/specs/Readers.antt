@@ -24,8 +24,8 @@ use Rattle.rhai_grammar.specs.Spots.{spot_after_operand}
 use Rattle.rhai_grammar.specs.Switches.{Collected}
 use Rattle.rhai_grammar.specs.declared.error.ParseError.{ParseError}
 use Rattle.rhai_reading.specs.Reading as reading
-use Rattle.rhai_reading.specs.Reading.{Goal, Val}
-use Rattle.rhai_reading.specs.Running.{Gives, Progress, need, nested, result_of}
+use Rattle.rhai_reading.specs.Reading.{Goal, Prog, Val}
+use Rattle.rhai_reading.specs.Running.{Caller, Gives, Progress, exec, need, nested, result_of}
 use Rattle.rhai_reading.specs.Nesting.{Nesting}
 use Rattle.rhai_base.specs.Comments.{comments_of}
 use Rattle.rhai_base.specs.Counts.{counts_of}
@@ -120,8 +120,8 @@ abbrev pub expr_statement : EngineValue → FrameValue → ParseSettings → Goa
 expr_statement engine frame settings = reading.ExprStatement (context_of engine frame settings) (live_of frame)
 
 -- the name of a definition
-abbrev pub var_name : EngineValue → FrameValue → ParseSettings → Goal
-var_name engine frame settings = reading.VarName (context_of engine frame settings) (live_of frame)
+abbrev pub var_name : EngineValue → FrameValue → ParseSettings → Prog (Text × Position)
+var_name engine frame settings = reading.var_name (context_of engine frame settings) (live_of frame)
 
 -- the value of a definition
 abbrev pub initializer : EngineValue → FrameValue → ParseSettings → Goal
@@ -297,6 +297,10 @@ pub record GoesOn (old new : Shared) : Type 0 where
 -- What a reader returned, seen by view, is what the goal gives, and so is what it left; unless memory ran out.
 abbrev pub Reads : {X : Type 0} (g : Goal) → (X → Val g) → Shared → Result X ParseError → Shared → Type 0
 Reads g view old result new = Gives view (result_of g (state_of old)) result (state_of new)
+
+-- The same of a term, whatever its calls would do.
+abbrev pub Does : {X A : Type 0} → Prog A → (X → A) → Shared → Result X ParseError → Shared → Type 0
+Does p view old result new = (call : Caller) → Gives view (exec call p (state_of old)) result (state_of new)
 
 -- The same of a reader that counts: it is entered and left.
 abbrev pub Nests : {X : Type 0} (g : Goal) → (X → Val g) → Shared → Result X ParseError → Shared → Type 0

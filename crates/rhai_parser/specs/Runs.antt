@@ -6,7 +6,8 @@ use Rattle.rhai_lower.specs.declared.position.Position.{Position}
 use Rattle.rhai_trees.specs.Chains.{chain_view}
 use Rattle.rhai_grammar.specs.Contexts.{Context, Live}
 use Rattle.rhai_grammar.specs.Starts.{place_after}
-use Rattle.rhai_reading.specs.Reading.{Call, NextOperator, Peek, Prog, Ret, RightOperand, Take, binary_on, raised}
+use Rattle.rhai_reading.specs.Reading.{Call, Peek, Prog, Ret, RightOperand, Take, binary_on, inline, next_operator}
+use Rattle.rhai_reading.specs.Reading.{raised}
 use Rattle.rhai_base.specs.declared.leaves.operators.Operator.{Operator}
 use Rattle.rhai_parser.specs.declared.expr.runs.Pending.{Pending}
 use Rattle.rhai_parser.specs.declared.expr.runs.Run.{Run}
@@ -21,7 +22,7 @@ run_at context live at parent lhs (Some operator) = Peek (binary_on context live
 abbrev pub right_side : Context → Live → Position → Prog (Lexeme × Position × Node)
 right_side context live at =
     Peek (λ op pos. Take (Call (RightOperand context live (place_after op)) (λ rhs.
-    Call (NextOperator context.filter) (λ next. raised context at (λ deeper. Ret (op, pos, rhs))))))
+    inline (next_operator context.filter) (λ next. raised context at (λ deeper. Ret (op, pos, rhs))))))
 
 abbrev pub side_view : Pending × Run → Lexeme × Position × Node
 side_view r = (lexeme r.0.op_token, r.0.pos, chain_view r.1.lhs)

@@ -3,8 +3,8 @@
 ghost use Rattle.std.specs.Prelude.{◌+◌, ◌≤◌, OnOk};
 ghost use Rattle.rhai_lower.specs.View.{block_view};
 ghost use Rattle.rhai_grammar.specs.Cursors.{left};
-ghost use Rattle.rhai_parser.specs.Readers.{Covers, GoesOn, Reads, block, state_of, statements_of};
-ghost use Rattle.rhai_reading.specs.Reading.{BlockEnd, BlockStart};
+ghost use Rattle.rhai_parser.specs.Readers.{Covers, Does, GoesOn, Reads, block, state_of, statements_of};
+ghost use Rattle.rhai_reading.specs.Reading.{block_end, block_start};
 ghost use Rattle.rhai_parser.specs.Rooms.{Stays, Steady};
 
 use crate::lent::LentReaders;
@@ -19,11 +19,10 @@ use rhai_trees::make_block;
 use std::alloc::Global;
 
 /// The position of the `{` that begins a block, which is taken. `note` tells people what it is for.
-#[tactic(auto, using(rhai_reading::proofs::Steps::step_block_start))]
 pub fn begin_block(alloc: Global, shared: &mut Shared<'_>, note: &str) -> ParseResult<Position>
     ensures goes_on { GoesOn shared.old shared.new }
     ensures steady { Steady shared.old shared.new }
-    ensures reads { Reads BlockStart (λ p. p) shared.old result shared.new }
+    ensures reads { Does block_start (λ p. p) shared.old result shared.new }
     ensures shrinks { OnOk result (left (state_of shared.new).cursor.tokens + 1
         ≤ left (state_of shared.old).cursor.tokens) }
 {
@@ -34,7 +33,6 @@ pub fn begin_block(alloc: Global, shared: &mut Shared<'_>, note: &str) -> ParseR
 }
 
 /// A block of these statements, from its `{` at `start` to its `}`, which is taken.
-#[tactic(auto, using(rhai_reading::proofs::Steps::step_block_end))]
 pub fn end_block(
     alloc: Global,
     shared: &mut Shared<'_>,
@@ -43,7 +41,7 @@ pub fn end_block(
 ) -> ParseResult<StmtBlock>
     ensures goes_on { GoesOn shared.old shared.new }
     ensures steady { Steady shared.old shared.new }
-    ensures reads { Reads (BlockEnd start (statements_of statements)) block_view shared.old result shared.new }
+    ensures reads { Does (block_end start (statements_of statements)) block_view shared.old result shared.new }
 {
     let (_, end) = peek(shared.input)?;
     let end = *end;

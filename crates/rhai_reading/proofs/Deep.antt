@@ -15,7 +15,8 @@ use Rattle.rhai_reading.specs.Reading.{Goal, Val, Prog, Ret, Peek, Take, TakeTex
 use Rattle.rhai_reading.specs.Reading.{CallApart, body}
 use Rattle.rhai_reading.specs.Goals.{inline}
 use Rattle.rhai_reading.proofs.Dives.{Dives, dives_add, dives_apart, dives_call, dives_counted, dives_know}
-use Rattle.rhai_reading.proofs.Dives.{dives_literal, dives_note, dives_peek, dives_ret, dives_take, dives_term, dives_text}
+use Rattle.rhai_reading.proofs.Dives.{dives_literal, dives_note, dives_peek, dives_ret, dives_take, dives_term}
+use Rattle.rhai_reading.proofs.Dives.{dives_text}
 use Rattle.rhai_reading.proofs.Dives.{shallower}
 use Rattle.rhai_reading.proofs.Rules.{runs_add, runs_call, runs_call_apart, runs_call_literal, runs_know, runs_note}
 use Rattle.rhai_reading.proofs.Rules.{runs_peek, runs_ret, runs_take, runs_term, runs_text}

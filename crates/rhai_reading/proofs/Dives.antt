@@ -26,7 +26,8 @@ use Rattle.rhai_reading.specs.Running.{result_of, steps, taking, with_captured, 
 use Rattle.rhai_lower.specs.declared.token.Token.TheVariants as token
 use Rattle.rhai_grammar.specs.Libraries.{Ended, Library, with_ended}
 use Rattle.rhai_grammar.specs.Beginnings.{unexpected}
-use Rattle.rhai_reading.proofs.Grows.{AllGrow, Goes, Grows, GrowsSo, call_grows, exec_grows, goes_less, less_grows, level_grows}
+use Rattle.rhai_reading.proofs.Grows.{AllGrow, Goes, Grows, GrowsSo, call_grows, exec_grows, goes_less, less_grows}
+use Rattle.rhai_reading.proofs.Grows.{level_grows}
 use Rattle.rhai_reading.proofs.Grows.{one_deeper, recast_grows}
 
 -- ---- what is run, and how high the peak is then
@@ -315,7 +316,8 @@ dives_term {A} {B} {p} q {v} {s} {w} {D} {E} runs r on = record {
       subst (High (a + E (D z))) (sym (runs_inline steps call q p t))
       (then_high v w a (a + D z) (a + E (D z)) (exec call p t) (λ x t. exec call (q x) t)
       (λ t e go k. on.dives n h u t a (D z) e go k)
-      (came v w (exec call p t) (λ d. ap forget (sym (runs.same m (omega arith))) ∙ term_calls n m (omega arith) h u p s t e d))
+      (came v w (exec call p t) (λ d. ap forget (sym (runs.same m (omega arith))) ∙ term_calls n m
+      (omega arith) h u p s t e d))
       (exec_grows call (all_grow n h u) a 0 p t (go_on a t.nesting go)) (r.dives n h u t a z e go k));
 }
 

@@ -19,7 +19,8 @@ use Rattle.rhai_reading.proofs.Steps.{and_then_done, guarded_is, nested_is, step
 
 -- the equation of the properties of an object map, with the key as the code asks for it
 pub step_fields_key : (c : Context) (w : Live) (at : Position) (before : Properties) (s : Progress)
-    → result_of (Fields c w at before) s ≡ R.and_then (exec (guarded (Fields c w at before) s) (field_key c before) s) (λ v t. exec (guarded (Fields c w at before) s) (field_on c w at before v) t)
+    → result_of (Fields c w at before) s ≡ R.and_then (exec (guarded (Fields c w at before) s)
+    (field_key c before) s) (λ v t. exec (guarded (Fields c w at before) s) (field_on c w at before v) t)
 step_fields_key c w at before s =
     step_fields c w at before s
     ∙ runs_inline R.steps (guarded (Fields c w at before) s) (field_on c w at before) (field_key c before) s

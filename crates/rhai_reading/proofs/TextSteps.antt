@@ -24,7 +24,8 @@ refused true c x z e f = absurd cc
 refused false true x z e f = absurd cc
 refused false false x z e f = refl
 
-pub text_read : (call : Caller) (s : Progress) → is_memory (asked s).lexeme ≡ false → is_due RightBrace (asked s).lexeme ≡ true
+pub text_read : (call : Caller) (s : Progress) → is_memory (asked s).lexeme ≡ false
+    → is_due RightBrace (asked s).lexeme ≡ true
     → is_memory (asked (after_brace s)).lexeme ≡ false → is_text (asked (after_brace s)).lexeme ≡ true
     → exec call text_after s ≡ R.Done (
       (asked s).at,
@@ -37,7 +38,8 @@ text_read call s m brace n is =
     chosen (is_memory (asked s).lexeme) (is_due RightBrace (asked s).lexeme) _ _ m brace
     (chosen (is_memory (asked t).lexeme) (is_text (asked t).lexeme) _ _ n is refl)
 
-pub text_missing : (call : Caller) (s : Progress) → is_memory (asked s).lexeme ≡ false → is_due RightBrace (asked s).lexeme ≡ true
+pub text_missing : (call : Caller) (s : Progress) → is_memory (asked s).lexeme ≡ false
+    → is_due RightBrace (asked s).lexeme ≡ true
     → is_memory (asked (after_brace s)).lexeme ≡ false → is_text (asked (after_brace s)).lexeme ≡ false
     → exec call text_after s ≡ R.Refused (refusal (unexpected (asked (after_brace s)).lexeme)
     (asked (after_brace s)).at) (looking (after_brace s))
@@ -46,7 +48,8 @@ text_missing call s m brace n none =
     chosen (is_memory (asked s).lexeme) (is_due RightBrace (asked s).lexeme) _ _ m brace
     (refused (is_memory (asked t).lexeme) (is_text (asked t).lexeme) _ _ n none)
 
-pub brace_missing : (call : Caller) (s : Progress) → is_memory (asked s).lexeme ≡ false → is_due RightBrace (asked s).lexeme ≡ false
+pub brace_missing : (call : Caller) (s : Progress) → is_memory (asked s).lexeme ≡ false
+    → is_due RightBrace (asked s).lexeme ≡ false
     → exec call text_after s ≡ R.Refused (refusal (not_due RightBrace (asked s).lexeme) (asked s).at) (looking s)
 brace_missing call s m none =
     refused (is_memory (asked s).lexeme) (is_due RightBrace (asked s).lexeme) _ _ m none

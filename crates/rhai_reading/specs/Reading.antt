@@ -66,13 +66,15 @@ pub use Rattle.rhai_reading.specs.Goals.{Comments, Function, FunctionStatement, 
 pub use Rattle.rhai_reading.specs.Goals.{Closure, ClosureBody, Parameters, Script, Val}
 pub use Rattle.rhai_reading.specs.Goals.{Ret, Fail, Peek, Take, TakeText, Know, Add, Note, Call, CallLiteral, CallApart}
 pub use Rattle.rhai_reading.specs.Goals.{Prog}
-pub use Rattle.rhai_reading.specs.Goals.{inline, after_a_part, construct_on, match_name, match_token, part_next, raised, tested}
+pub use Rattle.rhai_reading.specs.Goals.{inline, after_a_part, construct_on, match_name, match_token, part_next, raised}
+pub use Rattle.rhai_reading.specs.Goals.{tested}
 pub use Rattle.rhai_reading.specs.ReadingStatements.{evaluated_at, var_name, var_name_at, value_at, definition_on}
 pub use Rattle.rhai_reading.specs.ReadingStatements.{jump_on, loop_at, statement_at, separated_at, statements_on}
 pub use Rattle.rhai_reading.specs.ReadingStatements.{documented, documented_at, fn_on, private_on}
 pub use Rattle.rhai_reading.specs.ReadingStatements.{statements_at, inside_on, inside_construct, guard_on}
 pub use Rattle.rhai_reading.specs.ReadingStatements.{no_brace, else_at, branch_at, counted_on}
-pub use Rattle.rhai_reading.specs.ReadingStatements.{first_of_two, loop_names_at, catch_at, catch_name, do_end_at, end_of_do, loop_names}
+pub use Rattle.rhai_reading.specs.ReadingStatements.{first_of_two, loop_names_at, catch_at, catch_name, do_end_at}
+pub use Rattle.rhai_reading.specs.ReadingStatements.{end_of_do, loop_names}
 pub use Rattle.rhai_reading.specs.ReadingStatements.{alias, alias_at, export_at, export_on, global_at, import_on}
 pub use Rattle.rhai_reading.specs.ReadingFunctions.{comment_of, comments_at, function_head}
 pub use Rattle.rhai_reading.specs.ReadingFunctions.{function_at, function_body_at, function_end, function_on, head_at}
@@ -82,7 +84,8 @@ use Rattle.rhai_grammar.specs.Modules.{captures_use}
 use Rattle.rhai_grammar.specs.Starts.{may_be_closure}
 pub use Rattle.rhai_reading.specs.ReadingFunctions.{named_at, owner_at, parameter_at, parameters_at}
 pub use Rattle.rhai_reading.specs.ReadingSwitches.{cases_at, case_guard_at, action_at, action_on, arm_end_at}
-pub use Rattle.rhai_reading.specs.ReadingSwitches.{arm_end, default_end, default_end_at, arm_on, default_at, default_on, arms_at}
+pub use Rattle.rhai_reading.specs.ReadingSwitches.{arm_end, default_end, default_end_at, arm_on, default_at, default_on}
+pub use Rattle.rhai_reading.specs.ReadingSwitches.{arms_at}
 
 -- ---- each reader
 
@@ -268,7 +271,7 @@ key_on context before at (AKey key) =
 key_on context before at (NoKey why) = Fail (refusal why at)
 
 -- the key of one more property, with its colon; none where the `}` is
-abbrev pub field_key : Context → (before : Properties) → Prog (Option (Text × Position))
+unfoldable pub field_key : Context → (before : Properties) → Prog (Option (Text × Position))
 field_key context before = Peek (λ lexeme at. key_on context before at (next_key context.settings before lexeme))
 
 -- after a value
@@ -378,7 +381,8 @@ body (Elements context live opening before) =
 body (Fields context live opening before) = inline (field_key context before) (field_on context live opening before)
 body (Segments context live start before) = inline block_start (λ opening. segment_on context live start opening before)
 body (Jump context live at) = Peek (λ lexeme pos. jump_at context live at (starts context lexeme))
-body (BinaryOp context live at parent lhs) = inline (next_operator context.filter) (binary_at context live at parent lhs)
+body (BinaryOp context live at parent lhs) =
+    inline (next_operator context.filter) (binary_at context live at parent lhs)
 body (ExprStatement context live) = Call (Expression context live) (λ x. Peek (evaluated_at context live x))
 body (Initializer context live at) = Peek (value_at context live at)
 body (Definition context live at constant exported) =

@@ -8,10 +8,11 @@ ghost use Rattle.rhai_grammar.specs.Constructs.{guard_fault, iterated_fault};
 ghost use Rattle.rhai_grammar.specs.Cursors.{left};
 ghost use Rattle.rhai_grammar.specs.Definitions.{catch_live, loop_live};
 ghost use Rattle.rhai_grammar.specs.Trees.{caught_name};
-ghost use Rattle.rhai_reading.specs.Reading.{Catch, DoEnd, counted_on, first_of_two, guard_on, match_name, tested};
+ghost use Rattle.rhai_reading.specs.Reading.{catch_name, counted_on, end_of_do, first_of_two, guard_on};
+ghost use Rattle.rhai_reading.specs.Reading.{loop_names, match_name, tested};
 ghost use Rattle.rhai_reading.specs.Running.{Caller, Gives, Progress, exec};
-ghost use Rattle.rhai_parser.specs.Loops.{loop_names, loop_view};
-ghost use Rattle.rhai_parser.specs.Readers.{GoesOn, Reads, name_view, state_of};
+ghost use Rattle.rhai_parser.specs.Loops.{loop_view};
+ghost use Rattle.rhai_parser.specs.Readers.{Does, GoesOn, name_view, state_of};
 ghost use Rattle.rhai_parser.specs.Rooms.{Steady};
 
 use crate::shared::Shared;
@@ -73,11 +74,10 @@ fn two_names(alloc: Global, shared: &mut Shared<'_>) -> ParseResult<LoopNames>
 }
 
 /// The variables of a `for` loop, and the `in` after them; all are taken.
-#[tactic(auto, using(rhai_reading::proofs::Steps::step_loop_names))]
 pub(crate) fn next_loop_names(alloc: Global, shared: &mut Shared<'_>) -> ParseResult<LoopNames>
     ensures goes_on { GoesOn shared.old shared.new }
     ensures steady { Steady shared.old shared.new }
-    ensures reads { Reads loop_names loop_view shared.old result shared.new }
+    ensures reads { Does loop_names loop_view shared.old result shared.new }
 {
     if pass_token(shared.input, DueToken::LeftParen)? {
         return two_names(alloc, shared);
@@ -92,11 +92,10 @@ pub(crate) fn next_loop_names(alloc: Global, shared: &mut Shared<'_>) -> ParseRe
 }
 
 /// The end of a `do`: whether it is `until`, which negates the guard.
-#[tactic(auto, using(rhai_reading::proofs::Steps::step_do_end))]
 pub(crate) fn next_do_end(alloc: Global, shared: &mut Shared<'_>) -> ParseResult<bool>
     ensures goes_on { GoesOn shared.old shared.new }
     ensures steady { Steady shared.old shared.new }
-    ensures reads { Reads DoEnd (λ negated. negated) shared.old result shared.new }
+    ensures reads { Does end_of_do (λ negated. negated) shared.old result shared.new }
     ensures shrinks { OnOk result (left (state_of shared.new).cursor.tokens + 1
         ≤ left (state_of shared.old).cursor.tokens) }
 {
@@ -104,14 +103,13 @@ pub(crate) fn next_do_end(alloc: Global, shared: &mut Shared<'_>) -> ParseResult
 }
 
 /// The `catch` of a `try`, with its variable, if it has one; all are taken.
-#[tactic(auto, using(rhai_reading::proofs::Steps::step_catch))]
 pub(crate) fn next_catch(
     alloc: Global,
     shared: &mut Shared<'_>,
 ) -> ParseResult<Option<(RcStr, Position)>>
     ensures goes_on { GoesOn shared.old shared.new }
     ensures steady { Steady shared.old shared.new }
-    ensures reads { Reads Catch (option_map name_view) shared.old result shared.new }
+    ensures reads { Does catch_name (option_map name_view) shared.old result shared.new }
 {
     match_token(
         alloc,

@@ -11,14 +11,14 @@ ghost use Rattle.rhai_grammar.specs.Causes.{MemoryIsNowhere, is_for_memory, refu
 ghost use Rattle.rhai_grammar.specs.Chains.{chained, index_refusal};
 ghost use Rattle.rhai_grammar.specs.Contexts.{Context};
 ghost use Rattle.rhai_grammar.specs.Delivered.{is_end, is_memory};
-ghost use Rattle.rhai_reading.specs.Reading.{NextOperator};
+ghost use Rattle.rhai_reading.specs.Reading.{next_operator};
 ghost use Rattle.rhai_grammar.specs.Modules.{module_fault};
 ghost use Rattle.rhai_grammar.specs.Signs.{sign_result};
 ghost use Rattle.rhai_grammar.specs.Trees.{is_variable};
 ghost use Rattle.rhai_trees.specs.Chains.{chain_view};
 ghost use Rattle.rhai_reading.specs.Reading.{index_on, tested};
 ghost use Rattle.rhai_reading.specs.Running.{Caller, Gives, Progress, asked, exec, looking};
-ghost use Rattle.rhai_parser.specs.Readers.{GoesOn, Reads, state_of};
+ghost use Rattle.rhai_parser.specs.Readers.{Does, GoesOn, state_of};
 ghost use Rattle.rhai_parser.specs.NextOperators.{operator_pair};
 ghost use Rattle.rhai_parser.specs.ExprViews.{linked};
 ghost use Rattle.rhai_parser.specs.Rooms.{Steady};
@@ -41,7 +41,7 @@ pub(crate) fn next_operator(
 ) -> ParseResult<Option<Operator>>
     ensures goes_on { GoesOn shared.old shared.new }
     ensures steady { Steady shared.old shared.new }
-    ensures reads { Reads (NextOperator filter) (option_map operator_pair) shared.old result shared.new }
+    ensures reads { Does (next_operator filter) (option_map operator_pair) shared.old result shared.new }
     ensures after { state_of shared.new ≡ looking (state_of shared.old) }
     ensures some { IfOk result (λ o. IsSome o → is_end (asked (state_of shared.old)).lexeme ≡ false) }
     ensures readable { OnOk result (is_memory (asked (state_of shared.old)).lexeme ≡ false) }

@@ -12,8 +12,9 @@ ghost use Rattle.rhai_grammar.specs.Cursors.{left};
 ghost use Rattle.rhai_grammar.specs.Delivered.{is_end, is_memory};
 ghost use Rattle.rhai_grammar.specs.Operators.{operator_result};
 ghost use Rattle.rhai_base.specs.Settings.{IsDeeper, Raises};
-ghost use Rattle.rhai_reading.specs.Reading.{BinaryOp, Goal, NextOperator};
-ghost use Rattle.rhai_reading.specs.Running.{Fails, Gives, Progress, asked, exec, guarded, looking, result_of};
+ghost use Rattle.rhai_reading.specs.Reading.{BinaryOp, Goal};
+ghost use Rattle.rhai_reading.specs.Running.{Fails, Gives, Progress, asked, exec, guarded, looking, result_of, work};
+ghost use Rattle.rhai_parser.specs.Bounds.{UpTo};
 ghost use Rattle.rhai_parser.specs.Frames.{context_of, live_of};
 ghost use Rattle.rhai_parser.specs.Readers.{Covers, GoesOn, Reads, binary_op, state_of};
 ghost use Rattle.rhai_parser.specs.Rooms.{Stays, Steady};
@@ -116,7 +117,7 @@ impl<R: LentReaders> Reader<'_, R> {
     ) -> ParseResult<(Pending, Run)>
         requires readable { is_memory (asked (state_of shared.old)).lexeme ≡ false }
         requires more { is_end (asked (state_of shared.old)).lexeme ≡ false }
-        requires lent { Covers (R.lent self.now.readers) (NextOperator frame.now.filter) shared.old }
+        requires lent { UpTo (R.lent self.now.readers) (work (left (state_of shared.old).cursor.tokens) 0) }
         ensures goes_on { GoesOn shared.old shared.new }
         ensures shorter { OnOk result (left (state_of shared.new).cursor.tokens + 1
             ≤ left (state_of shared.old).cursor.tokens) }

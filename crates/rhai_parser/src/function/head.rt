@@ -4,8 +4,8 @@ ghost use Rattle.std.specs.Prelude.{◌≡◌, ◌∷◌, [], IfOk, true};
 ghost use Rattle.std.specs.Rc.{rc_str_bytes};
 ghost use Rattle.rhai_grammar.specs.Functions.{names_function};
 ghost use Rattle.rhai_base.specs.Comments.{comment_of};
-ghost use Rattle.rhai_reading.specs.Reading.{Comments, FunctionHead, ParameterList};
-ghost use Rattle.rhai_parser.specs.Readers.{GoesOn, Reads, comments_view, head_view, names_of};
+ghost use Rattle.rhai_reading.specs.Reading.{Comments, ParameterList, function_head};
+ghost use Rattle.rhai_parser.specs.Readers.{Does, GoesOn, Reads, comments_view, head_view, names_of};
 ghost use Rattle.rhai_parser.specs.Rooms.{Steady};
 
 use crate::parameters::next_parameters;
@@ -41,14 +41,13 @@ pub(crate) fn next_comments(
 }
 
 /// The name of a function after its `fn`, with the type of its objects, if it has one; all are taken.
-#[tactic(auto, using(rhai_reading::proofs::Steps::step_function_head))]
 pub(crate) fn next_head(
     alloc: Global,
     shared: &mut Shared<'_>,
 ) -> ParseResult<(Option<RcStr>, RcStr)>
     ensures goes_on { GoesOn shared.old shared.new }
     ensures steady { Steady shared.old shared.new }
-    ensures reads { Reads FunctionHead head_view shared.old result shared.new }
+    ensures reads { Does function_head head_view shared.old result shared.new }
     ensures named { IfOk result (λ head. names_function (rc_str_bytes head.1) ≡ true) }
 {
     let (text, named, pos) = take_type(shared.input)?;

@@ -9,7 +9,7 @@ ghost use Rattle.rhai_base.specs.Frames.{FrameValue};
 ghost use Rattle.rhai_base.specs.Settings.{settings_of};
 ghost use Rattle.rhai_base.specs.Words.{word_result};
 ghost use Rattle.rhai_trees.specs.Chains.{chain_view};
-ghost use Rattle.rhai_reading.specs.Reading.{NextKey, TextAfter};
+ghost use Rattle.rhai_reading.specs.Reading.{field_key, text_after};
 ghost use Rattle.std.specs.Rc.{rc_str_bytes};
 ghost use Rattle.rhai_lower.specs.Lexemes.{Lexeme};
 ghost use Rattle.rhai_grammar.specs.Beginnings.{excludes_use};
@@ -17,7 +17,7 @@ ghost use Rattle.rhai_reading.specs.Reading.{name_at};
 ghost use Rattle.rhai_reading.specs.Running.{Caller, Gives, exec};
 ghost use Rattle.rhai_parser.specs.Frames.{context_of, live_of};
 ghost use Rattle.rhai_parser.specs.Engines.{EngineValue};
-ghost use Rattle.rhai_parser.specs.Readers.{GoesOn, Reads, state_of};
+ghost use Rattle.rhai_parser.specs.Readers.{Does, GoesOn, state_of};
 ghost use Rattle.rhai_parser.specs.PrimaryViews.{text_view};
 ghost use Rattle.rhai_parser.specs.Rooms.{Steady};
 
@@ -37,7 +37,7 @@ use std::rc::RcStr;
 
 /// The key of the property after these ones, with its `:`, and a look at the value that is due; none where the `}` is,
 /// which is taken. The engine limits how many properties the literal has.
-#[tactic(auto, using(rhai_reading::proofs::Steps::step_next_key, crate::proofs::KeyLemmas::count_properties))]
+#[tactic(auto, using(crate::proofs::KeyLemmas::count_properties), unfolding(rhai_reading::specs::Reading::field_key))]
 pub(crate) fn next_key(
     engine: &Engine,
     shared: &mut Shared<'_>,
@@ -46,7 +46,7 @@ pub(crate) fn next_key(
 ) -> ParseResult<Option<Ident>>
     ensures goes_on { GoesOn shared.old shared.new }
     ensures steady { Steady shared.old shared.new }
-    ensures reads { (frame : FrameValue) → Reads (NextKey (context_of engine.now frame settings)
+    ensures reads { (frame : FrameValue) → Does (field_key (context_of engine.now frame settings)
         (property_views properties.now)) (option_map written) shared.old result shared.new }
 {
     let alloc = engine.alloc();
@@ -118,7 +118,7 @@ pub(crate) fn used_word(
 pub(crate) fn next_text(alloc: Global, shared: &mut Shared<'_>) -> ParseResult<TextPart>
     ensures goes_on { GoesOn shared.old shared.new }
     ensures steady { Steady shared.old shared.new }
-    ensures reads { Reads TextAfter text_view shared.old result shared.new }
+    ensures reads { Does text_after text_view shared.old result shared.new }
     ensures shrinks { OnOk result (left (state_of shared.new).cursor.tokens + 1
         ≤ left (state_of shared.old).cursor.tokens) }
 {

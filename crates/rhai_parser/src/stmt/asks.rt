@@ -12,7 +12,7 @@ ghost use Rattle.rhai_grammar.specs.Targets.{is_constant_use, target_fault, upda
 ghost use Rattle.rhai_base.specs.Settings.{settings_of};
 ghost use Rattle.rhai_reading.specs.Reading.{tested};
 ghost use Rattle.rhai_reading.specs.Running.{Caller, Gives, Progress, exec};
-ghost use Rattle.rhai_parser.specs.Readers.{GoesOn, Reads, name_view, var_name};
+ghost use Rattle.rhai_parser.specs.Readers.{Does, GoesOn, name_view, var_name};
 ghost use Rattle.rhai_parser.specs.Rooms.{Steady};
 
 use crate::engine::Engine;
@@ -28,7 +28,6 @@ use std::alloc::Global;
 use std::rc::RcStr;
 
 /// The name of a definition, which is taken, with its position. Without shadowing, a name that a slot has is refused.
-#[tactic(auto, using(rhai_reading::proofs::Steps::step_var_name))]
 pub(crate) fn next_var_name(
     engine: &Engine,
     shared: &mut Shared<'_>,
@@ -37,7 +36,7 @@ pub(crate) fn next_var_name(
 ) -> ParseResult<(RcStr, Position)>
     ensures goes_on { GoesOn shared.old shared.new }
     ensures steady { Steady shared.old shared.new }
-    ensures reads { Reads (var_name engine.now frame.now settings) name_view shared.old result shared.new }
+    ensures reads { Does (var_name engine.now frame.now settings) name_view shared.old result shared.new }
 {
     let (name, pos) = parse_var_name(shared.input)?;
     frame.test_name(engine.allow_shadowing(), &name, pos)?;

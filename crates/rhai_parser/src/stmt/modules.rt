@@ -7,8 +7,8 @@ ghost use Rattle.rhai_lower.specs.Nodes.{variable};
 ghost use Rattle.rhai_lower.specs.View.{statement_view};
 ghost use Rattle.rhai_grammar.specs.Definitions.{defined_as, exported, reused};
 ghost use Rattle.rhai_grammar.specs.Trees.{export_tree};
-ghost use Rattle.rhai_reading.specs.Reading.{Alias};
-ghost use Rattle.rhai_parser.specs.Readers.{GoesOn, Reads};
+ghost use Rattle.rhai_reading.specs.Reading.{alias};
+ghost use Rattle.rhai_parser.specs.Readers.{Does, GoesOn};
 ghost use Rattle.rhai_base.specs.Frames.{SamePlace};
 ghost use Rattle.rhai_parser.specs.Rooms.{Steady};
 
@@ -24,11 +24,10 @@ use std::num::NonZeroUsize;
 use std::rc::RcStr;
 
 /// The name after `as`, if that comes next; both are taken.
-#[tactic(auto, using(rhai_reading::proofs::Steps::step_alias))]
 pub(crate) fn next_alias(shared: &mut Shared<'_>) -> ParseResult<Option<RcStr>>
     ensures goes_on { GoesOn shared.old shared.new }
     ensures steady { Steady shared.old shared.new }
-    ensures reads { Reads Alias (option_map rc_str_bytes) shared.old result shared.new }
+    ensures reads { Does alias (option_map rc_str_bytes) shared.old result shared.new }
 {
     if !pass_token(shared.input, DueToken::As)? {
         return Ok(None);

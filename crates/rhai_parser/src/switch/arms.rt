@@ -7,9 +7,9 @@ ghost use Rattle.rhai_lower.specs.View.{statement_view, view};
 ghost use Rattle.rhai_grammar.specs.Causes.{MemoryIsNowhere, is_for_memory};
 ghost use Rattle.rhai_grammar.specs.Cursors.{left};
 ghost use Rattle.rhai_grammar.specs.Switches.{arm_fault, ends_arm};
-ghost use Rattle.rhai_reading.specs.Reading.{ArmEnd, DefaultEnd, arm_on, default_on};
-ghost use Rattle.rhai_reading.specs.Running.{Caller, Done, Gives, Out, Progress, and_then, exec, recast, result_of};
-ghost use Rattle.rhai_parser.specs.Readers.{GoesOn, Reads, state_of, views_of};
+ghost use Rattle.rhai_reading.specs.Reading.{arm_end, arm_on, default_end, default_on};
+ghost use Rattle.rhai_reading.specs.Running.{Done, Gives, Out, Progress, and_then, recast};
+ghost use Rattle.rhai_parser.specs.Readers.{Does, GoesOn, views_of};
 ghost use Rattle.rhai_parser.specs.Switches.{action_view, arm_view};
 ghost use Rattle.rhai_trees.specs.Arms.{arms_view};
 ghost use Rattle.rhai_parser.specs.Rooms.{Steady};
@@ -67,17 +67,15 @@ pub(crate) fn end_statement_action(alloc: Global, statement: Stmt) -> ParseResul
 
 /// Goes on after an arm: takes the comma, if there is one. Without one, only the `}` may stand there, or anything if
 /// the arm needs none, which `ends` says; that stays.
-#[tactic(auto, using(rhai_reading::proofs::Steps::step_arm_end))]
 pub(crate) fn next_arm_end(alloc: Global, shared: &mut Shared<'_>, ends: bool) -> ParseResult<()>
     ensures goes_on { GoesOn shared.old shared.new }
     ensures steady { Steady shared.old shared.new }
-    ensures reads { Reads (ArmEnd ends) (λ u. tt) shared.old result shared.new }
+    ensures reads { Does (arm_end ends) (λ u. tt) shared.old result shared.new }
 {
     arm_continues(alloc, shared.input, ends)
 }
 
 /// The `}` after the default arm, whose `_` is at `default`, which is taken.
-#[tactic(auto, using(rhai_reading::proofs::Steps::step_default_end))]
 pub(crate) fn next_default_end(
     alloc: Global,
     shared: &mut Shared<'_>,
@@ -85,12 +83,13 @@ pub(crate) fn next_default_end(
 ) -> ParseResult<()>
     ensures goes_on { GoesOn shared.old shared.new }
     ensures steady { Steady shared.old shared.new }
-    ensures reads { Reads (DefaultEnd default) (λ u. tt) shared.old result shared.new }
+    ensures reads { Does (default_end default) (λ u. tt) shared.old result shared.new }
 {
     default_ends(alloc, shared.input, default)
 }
 
 /// An arm of these parts, whose cases are tested after these arms; the comma after it is taken.
+#[tactic(auto, using(rhai_reading::proofs::Terms::runs_inline))]
 pub(crate) fn end_arm(
     alloc: Global,
     shared: &mut Shared<'_>,
@@ -101,10 +100,8 @@ pub(crate) fn end_arm(
 ) -> ParseResult<Arm>
     ensures goes_on { GoesOn shared.old shared.new }
     ensures steady { Steady shared.old shared.new }
-    ensures gives { (call : Caller) → call (ArmEnd does.ends) (state_of shared.old)
-        ≡ result_of (ArmEnd does.ends) (state_of shared.old)
-        → Gives arm_view (exec call (arm_on (views_of cases) (view guard) (action_view does)
-        (arm_fault (arms_view before.now) (views_of cases))) (state_of shared.old)) result (state_of shared.new) }
+    ensures gives { Does (arm_on (views_of cases) (view guard) (action_view does)
+        (arm_fault (arms_view before.now) (views_of cases))) arm_view shared.old result shared.new }
 {
     test_cases(alloc, before, &cases)?;
     next_arm_end(alloc, shared, does.ends)?;
@@ -117,6 +114,7 @@ pub(crate) fn end_arm(
 }
 
 /// What the default arm does, whose `_` is at `default`; a comma after it is taken, and the `}` of the `switch`.
+#[tactic(auto, using(rhai_reading::proofs::Terms::runs_inline))]
 pub(crate) fn end_default(
     alloc: Global,
     shared: &mut Shared<'_>,
@@ -125,12 +123,7 @@ pub(crate) fn end_default(
 ) -> ParseResult<Expr>
     ensures goes_on { GoesOn shared.old shared.new }
     ensures steady { Steady shared.old shared.new }
-    ensures gives { (call : Caller) → call (ArmEnd does.ends) (state_of shared.old)
-        ≡ result_of (ArmEnd does.ends) (state_of shared.old)
-        → ((t : Progress) → left t.cursor.tokens ≤ left (state_of shared.old).cursor.tokens
-        → call (DefaultEnd default) t ≡ result_of (DefaultEnd default) t)
-        → Gives view (exec call (default_on (action_view does) default) (state_of shared.old)) result
-        (state_of shared.new) }
+    ensures gives { Does (default_on (action_view does) default) view shared.old result shared.new }
 {
     next_arm_end(alloc, shared, does.ends)?;
     next_default_end(alloc, shared, default)?;

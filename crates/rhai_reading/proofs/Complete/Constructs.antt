@@ -26,7 +26,8 @@ use Rattle.rhai_reading.proofs.Complete.Statements.{block_start}
 use Rattle.rhai_reading.proofs.ConstructKinds.{BracedForm, CatchForm, DoForm, LoopForm, braced, catches, do_ends, guards}
 use Rattle.rhai_reading.proofs.ConstructKinds.{iterated_values, loops}
 use Rattle.rhai_reading.proofs.Looks.{no_other, no_wrong, op_at}
-use Rattle.rhai_reading.proofs.Reaches.{Reaches, deeper, enough, due as due_now, if_false, if_true, next, part, peek, ret, seen, take, term}
+use Rattle.rhai_reading.proofs.Reaches.{Reaches, deeper, enough, due as due_now, if_false, if_true, next, part, peek}
+use Rattle.rhai_reading.proofs.Reaches.{ret, seen, take, term}
 use Rattle.rhai_reading.proofs.Strengths.{not_true}
 
 -- ---- guards
@@ -133,7 +134,8 @@ pub do_while : (opening : Position) (g : Body) (negated : Bool) (pos : Position)
     → ConstructRead (form.Do opening g negated pos f)
 do_while opening g negated pos f reads expression c w at k s t b m =
     enough (λ z. omega arith) (part (in_braces (in_form opening g) reads (loop_body c) w at _ s t b m) (λ u l n.
-    term _ (end_of_do (record { negated = negated; at = pos }) (W.as_guard (W.run f) (tree f w) c w k) u t l n) (λ v a i.
+    term _ (end_of_do (record { negated = negated; at = pos }) (W.as_guard (W.run f) (tree f w) c w k) u t l n)
+    (λ v a i.
     part (guard f expression c w k v t a i) (λ x d j. ret j))))
 
 pub for : (names : LoopNames) (in_at : Position) (f : Run) (opening : Position) (g : Body) → ExpressionRead f

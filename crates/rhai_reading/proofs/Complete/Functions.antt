@@ -30,7 +30,8 @@ use Rattle.rhai_reading.proofs.Complete.Law.{BodyRead, IsFlat, IsRead, Statement
 use Rattle.rhai_reading.proofs.FunctionKinds.{FunctionForm, HeadForm, function_of, function_statements, functions, heads}
 use Rattle.rhai_reading.proofs.FunctionKinds.{parameter_lists, parameters}
 use Rattle.rhai_reading.proofs.Looks.{no_other, op_at}
-use Rattle.rhai_reading.proofs.Reaches.{term, Reaches, deeper, add, due as due_now, gives, if_false, if_true, know, look, next, part}
+use Rattle.rhai_reading.proofs.Reaches.{term, Reaches, deeper, add, due as due_now, gives, if_false, if_true, know}
+use Rattle.rhai_reading.proofs.Reaches.{look, next, part}
 use Rattle.rhai_reading.proofs.Reaches.{peek, ret, take}
 use Rattle.rhai_reading.proofs.Strengths.{not_true}
 use Rattle.rhai_reading.proofs.Tokens.{readable}
@@ -44,7 +45,8 @@ no_blame false why e = absurd cc
 pub head : (f : HeadForm) → IsFlat R.function_head heads f
 head f k s t b m = by f.owner f.name f.at k s t b m
   where
-    by : (x : Owner) (name : Text) (at : Position) → IsFlat R.function_head heads (record { owner = x; name = name; at = at })
+    by : (x : Owner) (name : Text) (at : Position)
+        → IsFlat R.function_head heads (record { owner = x; name = name; at = at })
     by form.NoOwner name at k s t b m =
         due_now m.0 refl refl (next (untyped name at) m.1.0 (λ e.
         let alone = no_other (is_due due.Period (op_at (past code s))) e in

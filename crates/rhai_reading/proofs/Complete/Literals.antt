@@ -1,4 +1,5 @@
 -- Arrays and object maps: the steps to what is written.
+use Rattle.rhai_reading.specs.Reading.{field_key}
 use Rattle.std.proofs.Common.{◌≡◌, ℕ, ◌+◌, max, arith, Bool, true, false, Some, refl, sym, subst}
 use Rattle.std.specs.Prelude.{◌==◌}
 use Rattle.rhai_lower.specs.Lexemes.{Lexeme, text_of}
@@ -20,7 +21,8 @@ use Rattle.rhai_reading.specs.Reading.{body}
 use Rattle.rhai_reading.proofs.Lists.{added, added_last, added_none, one_more_node, added_property, last_property}
 use Rattle.rhai_reading.proofs.Lists.{no_property}
 use Rattle.rhai_reading.proofs.Tokens.{item_is, key_is, readable}
-use Rattle.rhai_reading.proofs.Reaches.{term, Reaches, deeper, enough, seen, next, ret, gives, peek, take, due, if_true, if_false, part}
+use Rattle.rhai_reading.proofs.Reaches.{term, Reaches, deeper, enough, seen, next, ret, gives, peek, take, due, if_true}
+use Rattle.rhai_reading.proofs.Reaches.{if_false, part}
 use Rattle.rhai_reading.proofs.Strengths.{not_true}
 use Rattle.rhai_reading.proofs.Looks.{op_at, pos_at, no_wrong}
 use Rattle.rhai_reading.proofs.Complete.Law.{PrimaryRead, ElementsRead, FieldsRead, ExpressionRead}
@@ -68,6 +70,7 @@ module _ (c : Context) (w : Live) (opening : Position) (before : Properties) (ke
   -- a property up to its colon
   next_key : Met (W.field key pos colon before c opening k) s t
       → Reaches (λ z. z) (R.field_key c before) s b (Some (text_of key, pos)) (W.raise_at c opening k) t
+  unfolding field_key
   next_key m =
       let can = readable (λ l. is_key (V.next_key c.settings before l)) (λ f. refl) key m.0 in
       peek m.1.0 can (seen (key_is (quoted_keys c.settings) (property_count before == 0) key m.0) (R.key_on c before pos)
@@ -77,6 +80,7 @@ module _ (c : Context) (w : Live) (opening : Position) (before : Properties) (ke
       (ret m.1.1.1.1.1)))))))
 
 pub no_field : (closing : Position) → FieldsRead (form.NoField closing)
+unfolding field_key
 no_field closing c w opening before k s t b m =
     enough (λ z. omega arith) (term _ (due m.0 refl refl (ret m.1)) (λ u l n. gives (sym (no_property before)) n))
 

@@ -28,7 +28,8 @@ use Rattle.rhai_reading.specs.Histories.{State, Outcome, Done}
 use Rattle.rhai_grammar.specs.Depths.{operand_depth}
 use Rattle.rhai_grammar.specs.Written as W
 use Rattle.rhai_reading.proofs.Rules.{at}
-use Rattle.rhai_reading.proofs.Deep.{deep_term, Deep, deep_call, deep_else, deep_look, deep_peek, deep_ret, deep_tail, deep_take, deep_then}
+use Rattle.rhai_reading.proofs.Deep.{deep_term, Deep, deep_call, deep_else, deep_look, deep_peek, deep_ret, deep_tail}
+use Rattle.rhai_reading.proofs.Deep.{deep_take, deep_then}
 use Rattle.rhai_reading.proofs.Complete.Law.{Begins, FirstRead, OperandRead, RunRead, Shut, Agrees, Top, Entered, begins, Reads}
 use Rattle.rhai_reading.proofs.Looks.{follower_at, operator_in, climb, fine}
 use Rattle.rhai_reading.proofs.Strengths.{sensible, next_continues, right_is, left_is, left_down, not_true}

@@ -46,7 +46,8 @@ use Rattle.rhai_reading.proofs.Complete.Law.{InsideRead, JumpRead, SegmentsRead,
 use Rattle.rhai_reading.proofs.FormKinds.{NameForm, aliases, block_ends, block_starts, definitions, inside_of, inside_statements, text_afters, text_token, var_names}
 use Rattle.rhai_reading.proofs.Lists.{first_text, kept_statement, last_kept, no_statement, segment_added, segment_last}
 use Rattle.rhai_reading.proofs.Looks.{op_at, pos_at, fine, no_other, or_wrong}
-use Rattle.rhai_reading.proofs.Reaches.{term, Reaches, deeper, enough, seen, next, ret, gives, peek, take, text_taken, due, if_true, if_false, part}
+use Rattle.rhai_reading.proofs.Reaches.{term, Reaches, deeper, enough, seen, next, ret, gives, peek, take, text_taken}
+use Rattle.rhai_reading.proofs.Reaches.{due, if_true, if_false, part}
 use Rattle.rhai_reading.proofs.Strengths.{not_true}
 use Rattle.rhai_reading.proofs.Tokens.{readable}
 

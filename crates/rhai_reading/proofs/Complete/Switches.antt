@@ -37,7 +37,8 @@ use Rattle.rhai_reading.proofs.Complete.Law.{ActionRead, ArmsRead, CaseGuardRead
 use Rattle.rhai_reading.proofs.Complete.Law.{StatementRead}
 use Rattle.rhai_reading.proofs.Lists.{added, added_last}
 use Rattle.rhai_reading.proofs.Looks.{no_other, no_wrong, op_at, or_wrong, pos_at}
-use Rattle.rhai_reading.proofs.Reaches.{term, Reaches, deeper, enough, due as due_now, gives, if_false, if_true, next, part, part_literal, ret, seen}
+use Rattle.rhai_reading.proofs.Reaches.{term, Reaches, deeper, enough, due as due_now, gives, if_false, if_true, next}
+use Rattle.rhai_reading.proofs.Reaches.{part, part_literal, ret, seen}
 use Rattle.rhai_reading.proofs.Strengths.{not_true}
 use Rattle.rhai_reading.proofs.SwitchKinds.{arm_ends, arms_with_cases, default_arms, default_ends, one_cases}
 
@@ -111,7 +112,8 @@ no_arm closing c w before k s t b m = enough (λ z. omega arith) (due_now m.0 re
 
 one_arm : (xs : Cases) (f : CaseGuard) (arrow : Position) (x : Action) (comma : Option Position) → CasesRead xs
     → CaseGuardRead f → ActionRead x → (c : Context) (w : Live) (before : Collected)
-    → IsReadSo (λ z. max (action_depth x) (max (case_guard_depth f) (max (cases_depth xs) z))) (body (R.Arm c w before)) (arms_with_cases c w before)
+    → IsReadSo (λ z. max (action_depth x) (max (case_guard_depth f) (max (cases_depth xs) z))) (body
+    (R.Arm c w before)) (arms_with_cases c w before)
     (record { cases = xs; guard = f; arrow = arrow; action = x; comma = comma })
 one_arm xs f arrow x comma read_cases read_guard read_action c w before k s t b m =
     part (read_cases c w no_nodes _ s t b m) (λ u l n.

@@ -33,7 +33,8 @@ use Rattle.rhai_reading.proofs.Dues.{closed, expect_name, separated}
 use Rattle.rhai_reading.proofs.Lists.{added, added_last}
 use Rattle.rhai_reading.proofs.Looks.{op_at, pos_at}
 use Rattle.rhai_reading.proofs.Paths.{Aim, Way, ◌▹◌}
-use Rattle.rhai_reading.proofs.Shows.{goal, Histories, Goes, blamed, wrong, fine, fails, take, look, either, gives, done, halt, refuse}
+use Rattle.rhai_reading.proofs.Shows.{goal, Histories, Goes, blamed, wrong, fine, fails, take, look, either, gives}
+use Rattle.rhai_reading.proofs.Shows.{done, halt, refuse}
 use Rattle.rhai_reading.proofs.Shows.{raise, part, ends, Passed}
 use Rattle.rhai_reading.proofs.FormKinds.{Enclosed, Closed, Listing, enclosed_of, enclosed_trees, CallForm, By, call_of}
 use Rattle.rhai_reading.proofs.FormKinds.{call_answer, tree_before, bases, callings, primaries, items, enclosed}
@@ -144,7 +145,8 @@ module _ {call : Histories} (ih : AllSound call) (w : Live) where
       look (λ m. take (expect_name (form_of [] nowhere form.NoPath)
       (λ n p. R.path_on w (qualified w.imports x n p)) (λ none k. v ▹ here ▹ none.way) (λ name.
       look (λ n. either (qualifies (op_at u))
-      (λ more. ends (goal (ih.of (R.Path w y) u true named more)) (λ f. form_of (text_of (op_at t)) (pos_at t) (path_of f))
+      (λ more. ends (goal (ih.of (R.Path w y) u true named more)) (λ f. form_of (text_of (op_at t)) (pos_at t)
+      (path_of f))
       (λ a f. refl) (λ f k o r. v ▹ here ▹ name ▹ r))
       (λ none. done (form_of (text_of (op_at t)) (pos_at t) form.NoPath)
       (λ k o r. v ▹ here ▹ name ▹ fine n (rw (named, none)) ▹ r))))))

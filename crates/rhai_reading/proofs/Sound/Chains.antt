@@ -36,7 +36,8 @@ use Rattle.rhai_reading.proofs.Dues.{expect}
 use Rattle.rhai_reading.proofs.Lists.{spot_after_one_more}
 use Rattle.rhai_reading.proofs.Looks.{op_at, pos_at}
 use Rattle.rhai_reading.proofs.Paths.{Fits, Aim, Way, ◌▹◌, Lost}
-use Rattle.rhai_reading.proofs.Shows.{goal, Histories, Goes, Kind, ill, blamed, fine, fails, take, look, either, gives, done}
+use Rattle.rhai_reading.proofs.Shows.{goal, Histories, Goes, Kind, ill, blamed, fine, fails, take, look, either, gives}
+use Rattle.rhai_reading.proofs.Shows.{done}
 use Rattle.rhai_reading.proofs.Shows.{refuse, halt, raise, part, first, ends, Passed}
 use Rattle.rhai_reading.proofs.FormKinds.{expressions, CallForm, By, call_answer, links, indices, MemberForm, AProperty}
 use Rattle.rhai_reading.proofs.FormKinds.{AMethod, member_of, member_tree, members}
@@ -135,7 +136,8 @@ module _ {call : Histories} (ih : AllSound call) (c : Context) (w : Live) where
       let pos = pos_at s in
       let t = past code s in
       look (λ m. take (look (λ n. either (calls (op_at t))
-      (λ on. ends (goal (ih.of (R.Called c w pos false) t true on)) (AMethod name is pos) (λ u f. method_is w name is pos f)
+      (λ on. ends (goal (ih.of (R.Called c w pos false) t true on)) (AMethod name is pos)
+      (λ u f. method_is w name is pos f)
       (λ f k o r. refl ▹ fine n (rw on) ▹ r))
       (λ off. either (is_name name)
       (λ named. either (qualifies (op_at t))
@@ -176,9 +178,11 @@ module _ {call : Histories} (ih : AllSound call) (w : Live) (q : LinkSpot) (s : 
       let due : Fits V.member_due t = fine m (rw e) in
       raise q.settings (form.Property (op_at s) (pos_at s) [] nowhere form.NoLink)
       (λ high k. dot ▹ refl ▹ due ▹ fails high) (λ below.
-      first (goal (ih.of (R.Member (level_up q.settings) w) t true (ap is_member e))) (with_member (op_at s) (pos_at s)) form.NoLink
+      first (goal (ih.of (R.Member (level_up q.settings) w) t true (ap is_member e))) (with_member (op_at s)
+      (pos_at s)) form.NoLink
       (dot_way dot due below) (λ f u a.
-      ends (goal (ih.of (R.Links w (spot_after_dot q (member_link (op_at s) (pos_at s) (member_tree w f)))) u a)) (λ rest. rest)
+      ends (goal (ih.of (R.Links w (spot_after_dot q (member_link (op_at s) (pos_at s) (member_tree w f)))) u a))
+      (λ rest. rest)
       (λ v rest. member_links w (op_at s) (pos_at s) q.before f rest) (λ rest k o r. r)))
   dot_by dot (NoMember why) e m =
       refuse (form.Property (op_at s) (pos_at s) [] nowhere form.NoLink) (λ k. dot ▹ refl ▹ ill m (rw e))

@@ -26,7 +26,8 @@ use Rattle.rhai_reading.proofs.ClosureKinds.{head_of, unclosed}
 use Rattle.rhai_reading.proofs.Looks.{op_at, pos_at}
 use Rattle.rhai_reading.proofs.Paths as path
 use Rattle.rhai_reading.proofs.Paths.{Aim, Lost, Way, ◌▹◌, apart_lost, here, lost}
-use Rattle.rhai_reading.proofs.Shows.{goal, Goes, Halts, Histories, Kind, Shows, add, done, either, ends, fails, fine, know, look}
+use Rattle.rhai_reading.proofs.Shows.{goal, Goes, Halts, Histories, Kind, Shows, add, done, either, ends, fails, fine}
+use Rattle.rhai_reading.proofs.Shows.{know, look}
 use Rattle.rhai_reading.proofs.Shows.{note, part, part_apart, raise, test}
 use Rattle.rhai_reading.proofs.Sound.Law.{AllSound}
 

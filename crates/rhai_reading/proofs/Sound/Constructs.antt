@@ -30,7 +30,8 @@ use Rattle.rhai_reading.proofs.ConstructKinds.{braced, branches, catches, condit
 use Rattle.rhai_reading.proofs.ConstructKinds.{BracedForm, CatchForm, DoForm, LoopForm, iterated_values, loops}
 use Rattle.rhai_reading.proofs.Looks.{op_at, pos_at}
 use Rattle.rhai_reading.proofs.Paths.{Fits, ◌▹◌}
-use Rattle.rhai_reading.proofs.Shows.{goal, term, Histories, Goes, Passed, done, either, ends, fails, fine, first, halt, ill, look, part}
+use Rattle.rhai_reading.proofs.Shows.{goal, term, Histories, Goes, Passed, done, either, ends, fails, fine, first, halt}
+use Rattle.rhai_reading.proofs.Shows.{ill, look, part}
 use Rattle.rhai_reading.proofs.Shows.{raise, refuse, take, wrong}
 use Rattle.rhai_reading.proofs.Sound.Chains.{Early, early, faulted, tested, unfaulted}
 use Rattle.rhai_reading.proofs.Sound.Literals.{block_start}
@@ -87,10 +88,12 @@ module _ {call : Histories} (ih : AllSound call) (c : Context) (w : Live) (s : P
 
   pub conditional : (at : Position) (b : Bool) → Goes call (conditionals c w at) s (body (R.Conditional c w at)) s b
   conditional at b =
-      first (goal (ih.of (R.Guard c w) s b)) (λ f (h : BracedForm × form.Branch). form.Guarded f h.0.opening h.0.body h.1)
+      first (goal (ih.of (R.Guard c w) s b)) (λ f
+      (h : BracedForm × form.Branch). form.Guarded f h.0.opening h.0.body h.1)
       (any_braced, form.NoElse) (λ f h k o r. r) (λ f t a.
       first (goal (ih.of (R.Braced c w at) t a)) (λ x y. (x, y)) form.NoElse (λ x y k o r. r) (λ x u d.
-      ends {v = λ e. node.if_statement (tree f w) (block_tree x.opening x.body w) e at} (goal (ih.of (R.Branch c w at) u d))
+      ends {v = λ e. node.if_statement (tree f w) (block_tree x.opening x.body w) e at} (goal (ih.of
+      (R.Branch c w at) u d))
       (λ y. y) (λ v y. refl) (λ y k o r. r)))
 
   pub branch : (at : Position) (b : Bool) → Goes call (branches c w at) s (body (R.Branch c w at)) s b
@@ -182,7 +185,8 @@ module _ (call : Histories) (s : Point) where
 module _ {call : Histories} (ih : AllSound call) (c : Context) (w : Live) (at : Position) (s : Point) (b : Bool) where
   pub construct : (k : Kind) → Goes call (constructs c w at k) s (body (R.Construct c w at k)) s b
   construct kind.Block =
-      ends {v = node.block_statement} (goal (ih.of (R.Block c w at) s b)) (λ f. record { construct = form.Block f; is = refl })
+      ends {v = node.block_statement} (goal (ih.of (R.Block c w at) s b))
+      (λ f. record { construct = form.Block f; is = refl })
       (λ v f. refl) (λ f k o r. r)
   construct kind.If =
       ends (goal (ih.of (R.Conditional c w at) s b)) (λ f. record { construct = form.If f; is = refl }) (λ v f. refl)
@@ -197,7 +201,8 @@ module _ {call : Histories} (ih : AllSound call) (c : Context) (w : Live) (at : 
   construct kind.While =
       first (goal (ih.of (R.Guard c w) s b))
       (λ f (h : BracedForm). record { construct = form.While f h.opening h.body; is = refl }) any_braced (λ f h k o r. r)
-      (λ f t a. ends {v = λ x. node.while_statement (tree f w) x at} (goal (ih.of (R.Braced (loop_body c) w at) t a)) (λ h. h)
+      (λ f t a. ends {v = λ x. node.while_statement (tree f w) x at} (goal (ih.of (R.Braced (loop_body c) w at) t a))
+      (λ h. h)
       (λ v h. refl) (λ h k o r. r))
   construct kind.Loop =
       ends {v = λ x. node.while_statement (node.unit nowhere) x at} (goal (ih.of (R.Braced (loop_body c) w at) s b))
@@ -207,7 +212,8 @@ module _ {call : Histories} (ih : AllSound call) (c : Context) (w : Live) (at : 
       (λ h (f : DoForm × Run). record { construct = form.Do h.opening h.body f.0.negated f.0.at f.1; is = refl })
       (any_do_end, any_run) (λ h f k o r. r) (λ h t a.
       first (term (end_of_do call t a)) (λ e f. (e, f)) any_run (λ e f k o r. r) (λ e u d.
-      ends {v = λ x. node.do_statement x (block_tree h.opening h.body w) e.negated at} (goal (ih.of (R.Guard c w) u d)) (λ f. f)
+      ends {v = λ x. node.do_statement x (block_tree h.opening h.body w) e.negated at} (goal (ih.of
+      (R.Guard c w) u d)) (λ f. f)
       (λ v f. refl) (λ f k o r. r)))
   construct kind.For =
       first (term (loop_names call s b)) (λ n (f : Run × BracedForm). record {

@@ -36,7 +36,8 @@ use Rattle.rhai_reading.proofs.FunctionKinds.{CommentsRead, FunctionForm, HeadFo
 use Rattle.rhai_reading.proofs.FunctionKinds.{function_statements, functions, heads, parameter_lists, parameters}
 use Rattle.rhai_reading.proofs.Looks.{op_at, pos_at}
 use Rattle.rhai_reading.proofs.Paths.{◌▹◌, lost}
-use Rattle.rhai_reading.proofs.Shows.{term, Histories, Goes, Shows, add, blamed, goal, check, done, either, ends, fails, fine}
+use Rattle.rhai_reading.proofs.Shows.{term, Histories, Goes, Shows, add, blamed, goal, check, done, either, ends, fails}
+use Rattle.rhai_reading.proofs.Shows.{fine}
 use Rattle.rhai_reading.proofs.Shows.{first, halt, over, ret}
 use Rattle.rhai_reading.proofs.Shows.{know, look, part, raise, refuse, take, test, wrong}
 use Rattle.rhai_reading.proofs.Sound.Law.{AllSound, any_body, any_braced}
@@ -52,7 +53,8 @@ module _ {call : Histories} (ih : AllSound call) (before : List Comment) (c : Co
         look (λ m. either (is_comment (op_at s))
         (λ is.
         let here = comment_is (op_at s) (pos_at s) is in
-        take (goal (ih.of (R.Comments (before ++ x ∷ [])) (past code s) false c start) (λ e u r. r) (λ xs t d r. ret (record {
+        take (goal (ih.of (R.Comments (before ++ x ∷ [])) (past code s) false c start) (λ e u r. r) (λ xs t d r. ret
+        (record {
           rest = x ∷ r.rest;
           is = sym (append_assoc before (x ∷ []) r.rest) ∙ r.is;
           passes = over (λ k o way. here ▹ r.passes.on way);
@@ -130,7 +132,8 @@ module _ {call : Histories} (ih : AllSound call) (function : Text) (s : Point) w
       → Goes call (parameter_lists function) s (R.parameters_at function (op_at s) (pos_at s) v) s true
   list_by calls_by.Pair e m = take (done (form.EmptyParameters (pos_at s)) (λ k o r. called_by s e ▹ r))
   list_by calls_by.List e m =
-      take (ends (goal (ih.of (R.Parameters lists.Parameters function []) (past code s) false)) (form.ListedParameters (pos_at s))
+      take (ends (goal (ih.of (R.Parameters lists.Parameters function []) (past code s) false))
+      (form.ListedParameters (pos_at s))
       (λ v x. refl) (λ x k o r. called_by s e ▹ r))
   list_by calls_by.Bang e m = refuse any_list (λ k. wrong m (rw e))
   list_by calls_by.Nothing e m = refuse any_list (λ k. wrong m (rw e))
@@ -193,7 +196,8 @@ module _ {call : Histories} (ih : AllSound call) (c : Context) (w : Live) (comme
       test (is_global c) any_function refl (λ out k. fails out) (λ global.
       know (test (may_begin c s.library) any_function refl (λ many k. global ▹ lost (many, refl)) (λ room.
       raise inner any_function (λ high k. global ▹ room ▹ fails high) (λ below.
-      part (goal (ih.of (R.Function (level_up inner) comments at is_private) s b)) (λ f. f) (λ f k o r. global ▹ room ▹ below ▹ r _)
+      part (goal (ih.of (R.Function (level_up inner) comments at is_private) s b)) (λ f. f)
+      (λ f k o r. global ▹ room ▹ below ▹ r _)
       (λ f t a G. know (test (is_new (function_of comments is_private f).key t.library) f refl
       (λ old k. global ▹ room ▹ below ▹ G.on (lost (old, refl)))
       (λ new. add (done f (λ k o r. global ▹ room ▹ below ▹ G.on (new ▹ tt ▹ r))))))))))

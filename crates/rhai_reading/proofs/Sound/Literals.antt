@@ -1,4 +1,5 @@
 -- Arrays and object maps.
+use Rattle.rhai_reading.specs.Reading.{field_key}
 use Rattle.std.proofs.Common.{◌≡◌, Bool, true, false, [], refl, sym, ap, ◌∙◌, subst, if◌then◌else◌}
 use Rattle.std.specs.Prelude.{not}
 use Rattle.rhai_lower.specs.Lexemes.{text_of}
@@ -32,7 +33,8 @@ use Rattle.rhai_reading.proofs.Lists.{added, added_last, added_none, one_more_no
 use Rattle.rhai_reading.proofs.Lists.{no_property, segment_added, segment_last}
 use Rattle.rhai_reading.proofs.Looks.{op_at, pos_at}
 use Rattle.rhai_reading.proofs.Paths.{Fits, Aim, Way, lost, ◌▹◌}
-use Rattle.rhai_reading.proofs.Shows.{term, goal, Histories, Goes, wrong, ill, fine, fails, take, look, either, gives, done, refuse}
+use Rattle.rhai_reading.proofs.Shows.{term, goal, Histories, Goes, wrong, ill, fine, fails, take, look, either, gives}
+use Rattle.rhai_reading.proofs.Shows.{done, refuse}
 use Rattle.rhai_reading.proofs.Shows.{halt, lost_to, raise, part, ends, text_at, text_taken, Passed}
 use Rattle.rhai_reading.proofs.FormKinds.{elements, fields, KeyForm, NoMore, Keyed, key_answer, key_of, next_keys}
 use Rattle.rhai_reading.proofs.FormKinds.{block_starts, InsideForm, ManyInside, SingleInside, TextForm, body_form, inside_of, insides}
@@ -50,7 +52,8 @@ module _ {call : Histories} (ih : AllSound call) (c : Context) (w : Live) (openi
   element_by place.Item e m =
       let begins : Fits (V.item_due c.sizes.array (node_count before)) s = fine m (rw e) in
       raise c (form.LastElement any_run nowhere) (λ high k. begins ▹ fails high) (λ below.
-      part (goal (ih.of (R.Expression (level_up c) w) s true)) (λ f. form.LastElement f nowhere) (λ f k o r. begins ▹ below ▹ r _)
+      part (goal (ih.of (R.Expression (level_up c) w) s true)) (λ f. form.LastElement f nowhere)
+      (λ f k o r. begins ▹ below ▹ r _)
       (λ f t a G.
       let ns = with_node before (tree f w) in
       separated lists.Array (form.LastElement f nowhere) (λ other k. begins ▹ below ▹ G.on other.way)
@@ -84,6 +87,7 @@ module _ (call : Histories) (c : Context) (before : Properties) (s : Point) wher
   key_by (NoKey why) e m = refuse (NoMore nowhere) (λ k. wrong m (rw e))
 
   pub next_key : (b : Bool) → Goes call (next_keys c before) s (R.field_key c before) s b
+  unfolding field_key
   next_key b = look (λ m. key_by (V.next_key c.settings before (op_at s)) refl m)
 
 -- an object map of which that is missing which comes behind a key
@@ -107,7 +111,8 @@ module _ {call : Histories} (ih : AllSound call) (c : Context) (w : Live) (openi
       (λ f k o r. K.on (below ▹ r _)) (λ f u a G.
       let ps = with_property before (text_of key) pos (tree f w) in
       separated lists.Map (form.LastField key pos colon f nowhere) (λ other k. K.on (below ▹ G.on other.way))
-      (λ comma. ends (goal (ih.of (R.Fields c w opening ps) (past code u) false)) (form.Field key pos colon f (pos_at u))
+      (λ comma. ends (goal (ih.of (R.Fields c w opening ps) (past code u) false)) (form.Field key pos colon f
+      (pos_at u))
       (λ v l. sym (added_property before (text_of key) pos (tree f w) (field_trees l w)))
       (λ l k o r. K.on (below ▹ G.on (comma ▹ r))))
       (λ close. gives (form.LastField key pos colon f (pos_at u))

@@ -187,7 +187,8 @@ module _ {call : Histories} (ih : AllSound call) (c : Context) (w : Live) (place
       → Goes call (operands c w place) s (R.right_at c w (pos_at s) v) s true
   starts_by first.Omitted e m = done (form.NoOperand (op_at s) (pos_at s)) (λ k o r. ap is_omitted e ▹ refl ▹ r)
   starts_by first.Jump e m =
-      ends {v = λ f. block_value (made_block f.0)} (goal (ih.of (R.Statement (below_global c) (in_block w)) s true)) form.Jump
+      ends {v = λ f. block_value (made_block f.0)} (goal (ih.of (R.Statement (below_global c)
+      (in_block w)) s true)) form.Jump
       (λ v f. refl) (λ f k o r. fine m (rw e) ▹ r)
   starts_by first.Written e m = ends (goal (ih.of (R.Operand c w) s true place e)) (λ x. x) (λ v x. refl) (λ x k o r. r)
 

@@ -27,7 +27,8 @@ use Rattle.rhai_reading.proofs.Joins.{cursor}
 use Rattle.rhai_reading.proofs.Strengths.{Sensible, sensible, next_continues, right_is, left_is, goes_operator, true_not}
 use Rattle.rhai_reading.proofs.Looks.{op_at, pos_at, follower_at, operator_in, climb, fine as known_fine}
 use Rattle.rhai_reading.proofs.Paths.{Astray, Fits, Fails, Aim, Way, ◌▹◌, lost, Lost}
-use Rattle.rhai_reading.proofs.Shows.{term, Histories, over, Shows, Halts, fine, fails, ret, take, look, either, test, raise}
+use Rattle.rhai_reading.proofs.Shows.{term, Histories, over, Shows, Halts, fine, fails, ret, take, look, either, test}
+use Rattle.rhai_reading.proofs.Shows.{raise}
 use Rattle.rhai_reading.proofs.Shows.{goal, tail, part, lost_at, Kind, Passed}
 use Rattle.rhai_reading.proofs.FormKinds.{runs}
 use Rattle.rhai_reading.proofs.Sound.Law.{AllSound, TopEnds, Suits, Stands, RunRead}
@@ -151,7 +152,8 @@ module _ {call : Histories} (ih : AllSound call) where
         let inner = u.settings.filter in
         let n = strength (follower_at filter s) in
         let q2 = right_side op u w in
-        take (part (goal (ih.of (R.RightOperand u.settings w (place_after op)) (past code s) false)) (λ x. binary (Just x))
+        take (part (goal (ih.of (R.RightOperand u.settings w (place_after op)) (past code s) false)) (λ x. binary
+        (Just x))
         (λ x k o r. h.right (Just x) k o (r _)) (λ x t a X.
         operator_part inner _ (binary (Just x)) (λ e r k. h.right (Just x) k _ (X.on (lost r))) (λ known c.
         raise u.settings (binary (Just x)) (λ high k. h.right (Just x) k _ (X.on (known ▹ fails high))) (λ below.

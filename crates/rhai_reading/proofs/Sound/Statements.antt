@@ -55,7 +55,8 @@ use Rattle.rhai_grammar.specs.Written as W
 use Rattle.rhai_reading.proofs.Lists.{kept_statement, last_kept, no_statement}
 use Rattle.rhai_reading.proofs.Looks.{op_at, pos_at}
 use Rattle.rhai_reading.proofs.Paths.{Aim, Fits, Passes, Way, ◌▹◌}
-use Rattle.rhai_reading.proofs.Shows.{term, Histories, Goes, ill, wrong, fine, fails, take, look, either, gives, done, refuse}
+use Rattle.rhai_reading.proofs.Shows.{term, Histories, Goes, ill, wrong, fine, fails, take, look, either, gives, done}
+use Rattle.rhai_reading.proofs.Shows.{refuse}
 use Rattle.rhai_reading.proofs.Shows.{blamed_at, goal, halt, test, raise, part, first, ends, Passed}
 use Rattle.rhai_reading.proofs.Sound.Chains.{Early, early_if, early_or, tested}
 use Rattle.rhai_reading.proofs.Sound.Law.{AllSound, any_construct, any_run}
@@ -138,7 +139,8 @@ module _ {call : Histories} (ih : AllSound call) (c : Context) (w : Live) (s : P
   initializer at b =
       look (λ m. either (is_equals (op_at s))
       (λ is. take (raise c (form.Valued (pos_at s) any_run) (λ high k. equals_is (op_at s) (pos_at s) is ▹ fails high)
-      (λ below. ends (goal (ih.of (R.Expression (level_up c) w) (past code s) false)) (form.Valued (pos_at s)) (λ v f. refl)
+      (λ below. ends (goal (ih.of (R.Expression (level_up c) w) (past code s) false)) (form.Valued (pos_at s))
+      (λ v f. refl)
       (λ f k o r. equals_is (op_at s) (pos_at s) is ▹ below ▹ r))))
       (λ none. done form.NoValue (λ k o r. fine m (rw none) ▹ r)))
 
@@ -163,7 +165,8 @@ module _ {call : Histories} (ih : AllSound call) (c : Context) (w : Live) (s : P
   import at b =
       first (goal (ih.of (R.Expression c w) s b)) (λ f (x : Alias). record { source = f; other = x }) form.NoAlias
       (λ f x k o r. r) (λ f t a.
-      ends {v = λ x. (import_tree (tree f w) x at, walk.imported x w)} (term (other_name call t a)) (λ x. x) (λ v x. refl)
+      ends {v = λ x. (import_tree (tree f w) x at, walk.imported x w)} (term (other_name call t a)) (λ x. x)
+      (λ v x. refl)
       (λ x k o r. r))
 
   export_by : (at : Position) (v : Option Bool) → V.defines (op_at s) ≡ v → is_memory (op_at s) ≡ false
@@ -192,7 +195,8 @@ module _ {call : Histories} (ih : AllSound call) (c : Context) (w : Live) (s : P
   jump_by pos true e m =
       let follows : Fits (value_follows c) s = fine m (rw e) in
       raise c (form.Present any_run) (λ high k. follows ▹ fails high) (λ below.
-      ends (goal (ih.of (R.Expression (level_up c) w) s true)) form.Present (λ v f. refl) (λ f k o r. follows ▹ below ▹ r))
+      ends (goal (ih.of (R.Expression (level_up c) w) s true)) form.Present (λ v f. refl)
+      (λ f k o r. follows ▹ below ▹ r))
   jump_by pos false e m =
       let none : Fits (no_value_follows c) s = fine m (rw e) in
       raise c form.Absent (λ high k. none ▹ fails high) (λ below. done form.Absent (λ k o r. none ▹ below ▹ r))
@@ -279,7 +283,8 @@ module _ {call : Histories} (ih : AllSound call) (c : Context) (w : Live) (s : P
   statement_by start.Break e m =
       let h = started c s e in
       take (test (is_in_loop c) (form.Break (pos_at s) form.Absent) refl (λ out k. h.0 ▹ h.1 ▹ fails out) (λ within.
-      ends {v = λ value. (node.break_loop value true (pos_at s), w)} (goal (ih.of (R.Jump c w (pos_at s)) (past code s) false))
+      ends {v = λ value. (node.break_loop value true (pos_at s), w)} (goal (ih.of (R.Jump c w (pos_at s))
+      (past code s) false))
       (form.Break (pos_at s)) (λ v f. refl) (λ f k o r. h.0 ▹ h.1 ▹ within ▹ r)))
   statement_by start.Continue e m =
       let h = started c s e in
@@ -297,7 +302,8 @@ module _ {call : Histories} (ih : AllSound call) (c : Context) (w : Live) (s : P
       let any = form.Export (pos_at s) [] nowhere form.NoAlias in
       take (test (is_global c) any refl (λ out k. here ▹ fails out) (λ global.
       raise c any (λ high k. here ▹ global ▹ fails high) (λ below.
-      ends (goal (ih.of (R.Export (level_up c) w (pos_at s)) (past code s) false)) (export_form (pos_at s)) (λ v f. refl)
+      ends (goal (ih.of (R.Export (level_up c) w (pos_at s)) (past code s) false)) (export_form (pos_at s))
+      (λ v f. refl)
       (export_way here global below))))
   statement_by start.Function e m = fn_from s [] (started c s e).1 (λ f k o r. r)
   statement_by start.Private e m = private_from s [] (started c s e).1 (λ at f k o r. r)
@@ -332,7 +338,8 @@ module _ {call : Histories} (ih : AllSound call) (closing : Closing) (c : Contex
       (R.separated_at closing c (walk.after_statement f w) (with_kept before (statement_tree f w)) (op_at t) (pos_at t) v)
       t true
   separated_by f t begins G open_ after.SemiColon e m =
-      take (ends (goal (ih.of (R.Statements closing c (walk.after_statement f w) (with_kept before (statement_tree f w)))
+      take (ends (goal (ih.of (R.Statements closing c (walk.after_statement f w) (with_kept before
+      (statement_tree f w)))
       (past code t) false)) (form.WithSemicolon f (pos_at t))
       (λ v l. ap (λ fs. (fs, walk.after_statements l (walk.after_statement f w))) (sym (kept_statement before
       (statement_tree f w) (statement_trees l (walk.after_statement f w)))))
@@ -352,7 +359,8 @@ module _ {call : Histories} (ih : AllSound call) (closing : Closing) (c : Contex
       let begins : Fits (V.statement_begins closing) s = fine m (rw e) in
       part (goal (ih.of (R.Statement c w) s true)) form.LastStatement (λ f k o r. begins ▹ r _) (λ f t a G.
       either (V.ends_itself (statement_tree f w))
-      (λ itself. ends (goal (ih.of (R.Statements closing c (walk.after_statement f w) (with_kept before (statement_tree f w))) t a))
+      (λ itself. ends (goal (ih.of (R.Statements closing c (walk.after_statement f w) (with_kept before
+      (statement_tree f w))) t a))
       (form.Standing f)
       (λ v l. ap (λ fs. (fs, walk.after_statements l (walk.after_statement f w))) (sym (kept_statement before
       (statement_tree f w) (statement_trees l (walk.after_statement f w)))))
@@ -379,7 +387,8 @@ module _ {call : Histories} (ih : AllSound call) (c : Context) (w : Live) (s : P
       ends {v = λ f. node.one_statement f node.no_statements} (goal (ih.of (R.ExprStatement c w) s b)) SingleInside
       (λ v f. refl) (λ f k o r. e ▹ r)
   inside_by false e b =
-      ends {v = λ fs. fs.0} (goal (ih.of (R.Statements Brace (below_global c) (in_block w) node.no_statements) s b)) ManyInside
+      ends {v = λ fs. fs.0} (goal (ih.of (R.Statements Brace (below_global c)
+      (in_block w) node.no_statements) s b)) ManyInside
       (λ v f. refl) (λ f k o r. ap not e ▹ r)
 
   pub inside : (b : Bool) → Goes call (insides c w) s (body (R.Inside c w)) s b

@@ -36,7 +36,8 @@ use Rattle.rhai_reading.proofs.Dues.{expect, followed, stands}
 use Rattle.rhai_reading.proofs.Lists.{added, added_last}
 use Rattle.rhai_reading.proofs.Looks.{op_at, pos_at}
 use Rattle.rhai_reading.proofs.Paths.{Fits, ◌▹◌, lost}
-use Rattle.rhai_reading.proofs.Shows.{term, goal_literal, literally_told, goal, Histories, Goes, Kind, done, either, ends, fine, first, gives, halt, ill, look}
+use Rattle.rhai_reading.proofs.Shows.{term, goal_literal, literally_told, goal, Histories, Goes, Kind, done, either}
+use Rattle.rhai_reading.proofs.Shows.{ends, fine, first, gives, halt, ill, look}
 use Rattle.rhai_reading.proofs.Shows.{ends, lost_at, part, refuse, take, wrong}
 use Rattle.rhai_reading.proofs.SwitchKinds.{ArmForm, DefaultForm, actions, arm_ends, arm_lists, arms_with_cases, case_guards}
 use Rattle.rhai_reading.proofs.SwitchKinds.{cases, default_arms, default_ends, one_cases}
@@ -71,7 +72,8 @@ some_action _ e = refl
 module _ {call : Histories} (ih : AllSound call) (c : Context) (w : Live) (s : Point) where
   pub one_case : (b : Bool) → Goes call (one_cases c w) s (body (R.Case c w)) s b
   one_case b =
-      ends (goal_literal (literally_told (ih.of (R.Expression (in_case c) (in_block w)) s b))) (λ f. f) (λ t f. refl) (λ f k o r. r)
+      ends (goal_literal (literally_told (ih.of (R.Expression (in_case c) (in_block w)) s b))) (λ f. f) (λ t f. refl)
+      (λ f k o r. r)
 
   pub case_list : (before : Nodes) (b : Bool) → Goes call (cases c w before) s (body (R.Cases c w before)) s b
   case_list before b =
@@ -180,13 +182,15 @@ module _ {call : Histories} (ih : AllSound call) (c : Context) (w : Live) (befor
       → Goes call (arm_lists c w before) s (R.arms_at c w before (op_at s) (pos_at s) v) s true
   arms_by arm.Case e m =
       let begins : Fits arm_begins s = fine m (ap S.arm_begins_at e) in
-      first (goal (ih.of (R.Arm c w before) s true)) (λ f rest. form.Arm f.cases f.guard f.arrow f.action f.comma rest) any_arms
+      first (goal (ih.of (R.Arm c w before) s true))
+      (λ f rest. form.Arm f.cases f.guard f.arrow f.action f.comma rest) any_arms
       (λ f rest k o r. begins ▹ r) (λ f t a.
       ends (goal (ih.of (R.Arms c w (with_arm_collected before (case_trees f.cases w) (guard_tree f.guard w)
       (action_tree f.action w))) t a)) (λ rest. rest) (λ v rest. refl) (λ rest k o r. r))
   arms_by arm.Default e m =
       let here = armed s e in
-      take (ends {v = λ x. with_default_collected before x} (goal (ih.of (R.DefaultArm c w (pos_at s)) (past code s) false))
+      take (ends {v = λ x. with_default_collected before x} (goal (ih.of (R.DefaultArm c w (pos_at s))
+      (past code s) false))
       (λ f. form.DefaultArm (pos_at s) f.arrow f.action f.comma f.closing) (λ v f. refl) (λ f k o r. here ▹ r))
   arms_by arm.Close e m = take (done (form.NoArm (pos_at s)) (λ k o r. armed s e ▹ r))
   arms_by arm.Nothing e m = refuse any_arms (λ k. wrong m (ap (S.arms_end_at (op_at s)) e))

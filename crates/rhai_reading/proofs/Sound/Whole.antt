@@ -20,7 +20,8 @@ use Rattle.rhai_reading.proofs.Rules.{at}
 use Rattle.rhai_reading.proofs.Strengths.{Sensible, sensible, next_continues, outer}
 use Rattle.rhai_reading.proofs.Looks.{op_at, follower_at, fine as known_fine}
 use Rattle.rhai_reading.proofs.Paths.{Fits, ◌▹◌, here, lost, Way, To, reached}
-use Rattle.rhai_reading.proofs.Shows.{goal, Histories, Ensures, Answers, Shows, Halts, Goes, ill, fine, over, ret, look, raise, check}
+use Rattle.rhai_reading.proofs.Shows.{goal, Histories, Ensures, Answers, Shows, Halts, Goes, ill, fine, over, ret, look}
+use Rattle.rhai_reading.proofs.Shows.{raise, check}
 use Rattle.rhai_reading.proofs.Shows.{part}
 use Rattle.rhai_reading.proofs.FormKinds.{expressions, statement_lists, wholes}
 use Rattle.rhai_lower.specs.Nodes as node
@@ -47,7 +48,8 @@ module _ {call : Histories} (ih : AllSound call) (c : Context) (w : Live) (s : P
   pub expression : (b : Bool) → Goes call (expressions c w) s (body (R.Expression c w)) s b
   expression b = look (λ m.
       raise c any_run (λ high k. ill m (rw high)) (λ below.
-      part (goal (ih.of (R.Operand (level_up c) w) s true Elsewhere refl)) Just (λ x k o r. fine m (rw below) ▹ r _) (λ x t a X.
+      part (goal (ih.of (R.Operand (level_up c) w) s true Elsewhere refl)) Just (λ x k o r. fine m (rw below) ▹ r _)
+      (λ x t a X.
       run_part ih (outermost (level_up c) w) s (Just x) refl refl refl refl (λ l e. refl) tt
       (record { passes = λ known. over (λ k o r. X.on (known ▹ r)); stops = λ e r k. X.on (lost r) })
       (λ f. f) (λ f k o r. fine m (rw below) ▹ r _) (λ f u d G off known.

@@ -1,12 +1,9 @@
 use Rattle.std.proofs.Common.{arith}
-use Rattle.rhai_parser.specs.Loops.{loop_names, loop_view}
+use Rattle.rhai_parser.specs.Loops.{loop_view}
 use Rattle.rhai_parser.proofs.Given.{gives_so}
 use Rattle.rhai_parser.specs.Readers.{state_of}
-use Rattle.rhai_reading.specs.Running.{guarded}
-use Rattle.rhai_reading.proofs.Steps.{step_loop_names}
 use Rattle.rhai_parser.proofs.construct.control.next_loop_names.Goals as goal
 
 pub returns-then-branch-clause-reads : goal.returns-then-branch-clause-reads
 returns-then-branch-clause-reads c =
-    let call = guarded loop_names (state_of c.args.shared.now) in
-    gives_so loop_view c.two_names.result (state_of c.two_names.new.shared) (grind (arith, step_loop_names)) (c.two_names.ensures.gives call)
+    λ call. gives_so loop_view c.two_names.result (state_of c.two_names.new.shared) (grind arith) (c.two_names.ensures.gives call)

@@ -6,4 +6,4 @@ use Rattle.rhai_parser.proofs.expr.asks.next_operator.Goals as goal
 pub returns-clause-reads : goal.returns-clause-reads
 returns-clause-reads c =
     let h = c.next_operator.ensures in
-    next_given _ (state_of c.args.shared.now) _ c.next_operator.result h.found h.refused h.nowhere (ap (state_at c.args.shared.now) h.after) h.readable
+    λ call. next_given call _ (state_of c.args.shared.now) _ c.next_operator.result h.found h.refused h.nowhere (ap (state_at c.args.shared.now) h.after) h.readable

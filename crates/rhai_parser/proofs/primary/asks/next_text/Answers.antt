@@ -4,4 +4,4 @@ use Rattle.rhai_parser.proofs.primary.asks.next_text.Goals as goal
 
 pub returns-clause-reads : goal.returns-clause-reads
 returns-clause-reads c =
-    let h = c.end_interpolation.ensures in text_given (state_of c.args.shared.now) _ c.end_interpolation.result h.interpolates h.nowhere
+    let h = c.end_interpolation.ensures in λ call. text_given call (state_of c.args.shared.now) _ c.end_interpolation.result h.interpolates h.nowhere

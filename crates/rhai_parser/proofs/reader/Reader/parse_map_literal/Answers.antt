@@ -12,7 +12,7 @@ pub loop-properties-preserved : goal.loop-properties-preserved
 loop-properties-preserved g c =
     let taken : FieldTaken (context_of c.args.self.now.engine.now c.args.frame.now c.args.settings) (context_of c.args.self.now.engine.now c.args.frame.now c.in_ok-deeper.deeper) (live_of c.args.frame.now) (property_views c.loop-properties.properties) (property_views c.push.new.self) (rc_str_bytes c.in-Some.key.name, c.in-Some.key.pos) (view c.in_ok-value.value)
     (state_of c.loop-properties.shared) (state_of c.next_key.new.shared) (state_of c.parse_expr.new.shared) (state_at c.parse_expr.new.shared (cursor_of c.list_continues.new.input)) = record {
-      key_read = search rules;
+      key_read = λ call. search rules;
       key_short = search rules;
       room = search rules;
       deeper = search rules;
