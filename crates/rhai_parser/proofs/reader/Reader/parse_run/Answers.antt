@@ -1,4 +1,4 @@
-use Rattle.std.proofs.Common.{rules, ap, arith, sym, ◌∙◌, ◌≡◌, ◌++◌, ◌∷◌, [], None}
+use Rattle.std.proofs.Common.{rules, ap, arith, refl, sym, ◌∙◌, ◌≡◌, ◌++◌, ◌∷◌, [], None}
 use Rattle.std.proofs.lemmas.Result.{err_from_is_err_and}
 use Rattle.rhai_trees.specs.Chains.{chain_view}
 use Rattle.rhai_reading.specs.Reading.{BinaryOp, Peek, binary_on}
@@ -49,7 +49,7 @@ ended g c =
 
 pub returns-in_err-outer-clause-reads : goal.returns-in_err-outer-clause-reads
 returns-in_err-outer-clause-reads g c =
-    let p = err_from_is_err_and c.from_residual-in_err-outer.result c.from_residual-in_err-outer.ensures.1 in
+    let p = err_from_is_err_and c.from_residual.result c.from_residual.ensures.1 in
     let read = c.in_err-outer.ensures.reads (binary_op c.args.self.now.engine.now c.args.frame.now c.loop-operator.run.settings c.loop-operator.run.settings.pos c.loop-operator.run.parent (chain_view c.loop-operator.run.lhs)) (state_of c.loop-operator.shared) (omega (arith)) in
     rw (p.1, p.2) (
       λ told. awaits_refused c.loop-operator.invariant.awaits (right_refused _ _ _ _ _ c.in-Some.operator.strength _ (state_of c.loop-operator.shared) _ _ (found g (goal.at.returns-in_err-outer-clause-reads g c).In-Some) (read.0 told)),
