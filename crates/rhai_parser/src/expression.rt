@@ -27,7 +27,7 @@ use crate::shared::Shared;
 use rhai_base::{FnLib, Frame, Library, ParseCounts, ParseSettings, ParseState, functions};
 use rhai_grammar::ParseResult;
 use rhai_lower::optimizer::{OptimizationLevel, optimize_into_ast};
-use rhai_lower::{AST, Expr, NamedList, Scope, Stmt, TokenStream};
+use rhai_lower::{AST, Expr, NamedList, Scope, Stmt, StringsInterner, TokenStream};
 
 impl Engine {
     // The script of one expression and of all functions of a library, as the optimizer makes it.
@@ -80,6 +80,7 @@ impl Engine {
             input,
             library,
             captured: &mut captured,
+            interner: StringsInterner::new(self.alloc()),
             counts: *counts,
         };
         let expr = parse_whole_expr(self, &mut shared, frame, settings);

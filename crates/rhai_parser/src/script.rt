@@ -34,7 +34,8 @@ use rhai_base::{
 use rhai_grammar::{Closing, ParseResult};
 use rhai_lower::optimizer::{OptimizationLevel, optimize_into_ast};
 use rhai_lower::{
-    AST, NamedList, Position, Scope, ScriptFuncDef, Stmt, StmtBlockContainer, TokenStream,
+    AST, NamedList, Position, Scope, ScriptFuncDef, Stmt, StmtBlockContainer, StringsInterner,
+    TokenStream,
 };
 use std::mem;
 use std::rc::{Rc, RcStr};
@@ -94,6 +95,7 @@ impl Engine {
             input,
             library,
             captured: &mut captured,
+            interner: StringsInterner::new(self.alloc()),
             counts: *counts,
         };
         let statements = parse_statements(

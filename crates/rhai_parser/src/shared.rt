@@ -10,7 +10,7 @@ ghost use Rattle.rhai_parser.specs.Rooms.{Enters, Leaves, Steady};
 
 use rhai_base::captured::add_use;
 use rhai_base::{Library, ParseCounts};
-use rhai_lower::{NamedList, Position, TokenStream};
+use rhai_lower::{NamedList, Position, StringsInterner, TokenStream};
 use std::alloc::{AllocError, Global};
 use std::mem;
 use std::rc::RcStr;
@@ -24,6 +24,8 @@ pub struct Shared<'s> {
     pub library: &'s mut Library,
     /// The names that the closure around what is read has captured, each with the position of its first use.
     pub captured: &'s mut NamedList<(RcStr, Position)>,
+    /// The names of operators that calls share.
+    pub interner: StringsInterner,
     /// How many readers are active.
     pub counts: ParseCounts,
 }

@@ -7,7 +7,7 @@ ghost use Rattle.rhai_lower.specs.View.{view, views};
 ghost use Rattle.rhai_grammar.specs.Operators.{contains_call};
 ghost use Rattle.rhai_trees.specs.Views.{native_called};
 
-use rhai_lower::{Expr, FnCallExpr, Namespace, Position, Token};
+use rhai_lower::{Expr, FnCallExpr, Namespace, Position, StringsInterner, Token};
 use std::alloc::{AllocError, Global};
 use std::rc::RcStr;
 
@@ -15,6 +15,7 @@ use std::rc::RcStr;
 #[tactic(auto, using(rhai_lower::proofs::Views::view_call))]
 pub(crate) fn native_call(
     alloc: Global,
+    interner: &mut StringsInterner,
     op_token: Token,
     pos: Position,
     args: Vec<Expr>,
@@ -23,7 +24,7 @@ pub(crate) fn native_call(
         ≡ call (native_called (lexeme op_token) (length args.items)) (views args.items) pos) }
 {
     let call = FnCallExpr {
-        name: op_token.text(alloc)?,
+        name: interner.text(alloc, &op_token)?,
         namespace: Namespace {
             path: Vec::new(alloc),
             index: None,

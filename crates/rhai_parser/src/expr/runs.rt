@@ -4,20 +4,19 @@
 ghost use Rattle.std.specs.Prelude.{◌≡◌, ◌+◌, ◌≤◌, IfErr, IfOk, IsSome, OnOk, false};
 ghost use Rattle.rhai_trees.specs.Chains.{chain_view};
 ghost use Rattle.rhai_lower.specs.Lexemes.{lexeme};
-ghost use Rattle.rhai_lower.specs.Nodes.{Node, position_of};
+ghost use Rattle.rhai_lower.specs.Nodes.{position_of};
 ghost use Rattle.rhai_grammar.specs.Answers.{Answers};
 ghost use Rattle.rhai_grammar.specs.Causes.{MemoryIsNowhere};
-ghost use Rattle.rhai_grammar.specs.Contexts.{Context, Live};
 ghost use Rattle.rhai_grammar.specs.Cursors.{left};
 ghost use Rattle.rhai_grammar.specs.Delivered.{is_end, is_memory};
 ghost use Rattle.rhai_grammar.specs.Operators.{operator_result};
 ghost use Rattle.rhai_base.specs.Settings.{IsDeeper, Raises};
-ghost use Rattle.rhai_reading.specs.Reading.{BinaryOp, Goal, NextOperator};
-ghost use Rattle.rhai_reading.specs.Running.{Fails, Gives, Progress, asked, exec, guarded, looking, result_of};
+ghost use Rattle.rhai_reading.specs.Reading.{Goal, NextOperator};
+ghost use Rattle.rhai_reading.specs.Running.{Gives, Progress, asked, exec, guarded};
 ghost use Rattle.rhai_parser.specs.Frames.{context_of, live_of};
 ghost use Rattle.rhai_parser.specs.Readers.{Covers, GoesOn, Reads, binary_op, state_of};
-ghost use Rattle.rhai_parser.specs.Rooms.{Stays, Steady};
-ghost use Rattle.rhai_parser.specs.Runs.{right_side, run_at, side_view};
+ghost use Rattle.rhai_parser.specs.Rooms.{Stays};
+ghost use Rattle.rhai_parser.specs.Runs.{NextIs, in_run, right_side, side_view};
 
 use crate::expr::asks::next_operator;
 use crate::lent::LentReaders;
@@ -27,8 +26,8 @@ use rhai_base::cursor::take;
 use rhai_base::leaves::operators::Operator;
 use rhai_base::leaves::tokens::place_after;
 use rhai_base::{Frame, ParseSettings};
-use rhai_grammar::{ExprFilter, ParseResult};
-use rhai_lower::{Position, Token};
+use rhai_grammar::ParseResult;
+use rhai_lower::{Position, StringsInterner, Token};
 use rhai_trees::{Chain, make_binary};
 use std::alloc::Global;
 
@@ -37,10 +36,10 @@ use std::alloc::Global;
 pub(crate) struct Run {
     /// What is read, the left operand of the operator that may follow.
     pub lhs: Chain,
-    /// The strength of the operator on whose right the run stands.
-    pub parent: u8,
     /// The settings of the operators that follow. A raise of their level is refused where these stand.
     pub settings: ParseSettings,
+    /// The strength of the operator on whose right the run stands.
+    pub parent: u8,
 }
 
 /// An operator whose right side is being read.
@@ -57,7 +56,12 @@ pub(crate) struct Pending {
 impl Pending {
     // Joins the operands, of which the right one is read now. The result is the run that the operator stands in.
     #[tactic(auto, using(rhai_trees::proofs::LinkedLemmas::operator_value))]
-    fn join(self, alloc: Global, rhs: Chain) -> ParseResult<Run>
+    fn join(
+        self,
+        alloc: Global,
+        interner: &mut StringsInterner,
+        rhs: Chain,
+    ) -> ParseResult<Run>
         ensures answers { Answers (λ r. chain_view r.lhs) (operator_result (lexeme self.op_token) self.pos
             (chain_view self.around.lhs) (chain_view rhs)) result }
         ensures rest { IfOk result (λ r. (r.parent ≡ self.around.parent) × (r.settings ≡ self.around.settings)) }
@@ -66,46 +70,25 @@ impl Pending {
         let around = self.around;
         let lhs = around.lhs.nest(alloc)?;
         let rhs = rhs.nest(alloc)?;
-        let tree = make_binary(alloc, self.op_token, self.pos, lhs, rhs)?;
+        let tree = make_binary(alloc, interner, self.op_token, self.pos, lhs, rhs)?;
         let lhs = Chain::from_value(alloc, tree);
         Ok(Run { lhs, ..around })
     }
 }
 
-/// The operator that comes next, if it goes on with a run on the right of one of strength `parent`; its token stays.
-#[tactic(auto, using(crate::proofs::ExprReaders::next_in_run))]
-pub(crate) fn next_in_run(
-    alloc: Global,
-    filter: ExprFilter,
-    shared: &mut Shared<'_>,
-    parent: u8,
-) -> ParseResult<Option<Operator>>
-    ensures goes_on { GoesOn shared.old shared.new }
-    ensures steady { Steady shared.old shared.new }
-    ensures after { state_of shared.new ≡ looking (state_of shared.old) }
-    ensures some { IfOk result (λ o. IsSome o → is_end (asked (state_of shared.old)).lexeme ≡ false) }
-    ensures readable { OnOk result (is_memory (asked (state_of shared.old)).lexeme ≡ false) }
-    ensures found { (c : Context) (w : Live) (at : Position) (lhs : Node) → c.filter ≡ filter → IfOk result (λ o.
-        result_of (BinaryOp c w at parent lhs) (state_of shared.old)
-        ≡ exec (guarded (BinaryOp c w at parent lhs) (state_of shared.old)) (run_at c w at parent lhs o)
-        (state_of shared.new)) }
-    ensures refused { (c : Context) (w : Live) (at : Position) (lhs : Node) → c.filter ≡ filter
-        → IfErr result (λ e.
-        Fails (result_of (BinaryOp c w at parent lhs) (state_of shared.old)) e (state_of shared.new)) }
+// The operator that comes next, if it goes on with a run on the right of one of strength `parent`.
+fn in_run(next: Option<Operator>, parent: u8) -> Option<Operator>
+    ensures { result ≡ in_run parent next }
 {
-    let Some(operator) = next_operator(alloc, filter, shared)? else {
-        return Ok(None);
-    };
-    if operator.continues(parent) {
-        Ok(Some(operator))
-    } else {
-        Ok(None)
+    match next {
+        Some(operator) if operator.continues(parent) => Some(operator),
+        _ => None,
     }
 }
 
 impl<R: LentReaders> Reader<'_, R> {
     /// Reads the operator that comes next, which the caller has seen, and the operand after it, which begins a run on
-    /// its right. A reserved symbol after the operand is refused before the level is raised.
+    /// its right. The result names the operator after that too, if there is one; its token stays. A reserved symbol after the operand is refused before the level is raised.
     #[tactic(auto, using(crate::proofs::ExprReaders::parse_operator))]
     fn parse_operator(
         &self,
@@ -113,7 +96,7 @@ impl<R: LentReaders> Reader<'_, R> {
         frame: &Frame<'_>,
         run: Run,
         strength: u8,
-    ) -> ParseResult<(Pending, Run)>
+    ) -> ParseResult<(Pending, Run, Option<Operator>)>
         requires readable { is_memory (asked (state_of shared.old)).lexeme ≡ false }
         requires more { is_end (asked (state_of shared.old)).lexeme ≡ false }
         requires lent { Covers (R.lent self.now.readers) (NextOperator frame.now.filter) shared.old }
@@ -126,6 +109,9 @@ impl<R: LentReaders> Reader<'_, R> {
         ensures side { IfOk result (λ r. (r.1.parent ≡ strength)
             × IsDeeper run.settings r.1.settings
             × Raises run.settings (position_of (chain_view r.1.lhs)) (Ok r.1.settings)) }
+        ensures next { IfOk result (λ r. NextIs frame.now.filter r.2 (state_of shared.new)) }
+        ensures readable { OnOk result (is_memory (asked (state_of shared.new)).lexeme ≡ false) }
+        ensures more { IfOk result (λ r. IsSome r.2 → is_end (asked (state_of shared.new)).lexeme ≡ false) }
         ensures reads { (g : Goal) (s : Progress)
             → left (state_of shared.old).cursor.tokens ≤ left s.cursor.tokens
             → Gives side_view (exec (guarded g s) (right_side
@@ -139,7 +125,7 @@ impl<R: LentReaders> Reader<'_, R> {
             shared,
             self.parse_right_operand(shared, frame, settings, place)
         )?;
-        next_operator(self.engine.alloc(), frame.filter(), shared)?;
+        let next = next_operator(self.engine.alloc(), frame.filter(), shared)?;
         let deeper = settings.level_up_in_run(pos)?;
         let side = Run {
             settings: deeper.side.at(lhs.position()),
@@ -157,6 +143,7 @@ impl<R: LentReaders> Reader<'_, R> {
                 pos,
             },
             side,
+            next,
         ))
     }
 
@@ -178,18 +165,18 @@ impl<R: LentReaders> Reader<'_, R> {
         ensures reads { Reads (binary_op self.now.engine.now frame.now settings (position_of (chain_view lhs)) parent
             (chain_view lhs)) chain_view shared.old result shared.new }
     {
-        let operator = next_in_run(self.engine.alloc(), frame.filter(), shared, parent)?;
-        if operator.is_none() {
+        let next = next_operator(self.engine.alloc(), frame.filter(), shared)?;
+        if in_run(next, parent).is_none() {
             return Ok(lhs);
         }
-        self.parse_run(shared, frame, settings, parent, lhs)
+        self.parse_run(shared, frame, settings, parent, lhs, next)
     }
 
-    // The same, where there is such an operator. It is apart, since a function clears all the places that it has when
+    // The same, where there is such an operator, `next`. It is apart, since a function clears all the places that it has when
     // it begins, and most operands have no operator after them. A raise of the level is refused at `lhs`, and from the
     // first operator on at the one before.
     #[inline(never)]
-    #[tactic(auto, using(crate::proofs::ExprReaders::parse_binary_op))]
+    #[tactic(auto, using(crate::proofs::ExprReaders::parse_run))]
     fn parse_run(
         &self,
         shared: &mut Shared<'_>,
@@ -197,7 +184,11 @@ impl<R: LentReaders> Reader<'_, R> {
         settings: ParseSettings,
         parent: u8,
         lhs: Chain,
+        next: Option<Operator>,
     ) -> ParseResult<Chain>
+        requires next { NextIs frame.now.filter next (state_of shared.old) }
+        requires readable { is_memory (asked (state_of shared.old)).lexeme ≡ false }
+        requires more { IsSome next → is_end (asked (state_of shared.old)).lexeme ≡ false }
         requires lent { Covers (R.lent self.now.readers) (binary_op self.now.engine.now frame.now settings
             (position_of (chain_view lhs)) parent (chain_view lhs)) shared.old }
         ensures goes_on { GoesOn shared.old shared.new }
@@ -206,6 +197,7 @@ impl<R: LentReaders> Reader<'_, R> {
             (chain_view lhs)) chain_view shared.old result shared.new }
     {
         let alloc = self.engine.alloc();
+        let mut next = next;
         let mut run = Run {
             settings: settings.at(lhs.position()),
             parent,
@@ -213,16 +205,17 @@ impl<R: LentReaders> Reader<'_, R> {
         };
         let mut pending = Vec::new(alloc);
         loop {
-            let operator = next_in_run(alloc, frame.filter(), shared, run.parent)?;
-            if let Some(operator) = operator {
-                let (outer, side) = self.parse_operator(shared, frame, run, operator.strength)?;
+            if let Some(operator) = in_run(next, run.parent) {
+                let (outer, side, after) =
+                    self.parse_operator(shared, frame, run, operator.strength)?;
                 pending.push(outer)?;
                 run = side;
+                next = after;
             } else {
                 let Some(outer) = pending.pop() else {
                     return Ok(run.lhs);
                 };
-                run = outer.join(alloc, run.lhs)?;
+                run = outer.join(alloc, &mut shared.interner, run.lhs)?;
             }
         }
     }
