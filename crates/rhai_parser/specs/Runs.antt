@@ -11,8 +11,7 @@ use Rattle.rhai_reading.specs.Running.{Progress, exec, guarded, result_of}
 use Rattle.rhai_grammar.specs.declared.filter.ExprFilter.{ExprFilter}
 use Rattle.rhai_base.specs.Operators.{continues}
 use Rattle.rhai_base.specs.declared.leaves.operators.Operator.{Operator}
-use Rattle.rhai_parser.specs.declared.expr.runs.Pending.{Pending}
-use Rattle.rhai_parser.specs.declared.expr.runs.Run.{Run}
+use Rattle.rhai_parser.specs.declared.expr.runs.Side.{Side}
 
 -- how a run goes on, by the operator of it that comes next, if one does
 abbrev pub run_at : Context → Live → Position → ℕ → Node → Option Operator → Prog Node
@@ -37,5 +36,5 @@ right_side context live at =
     Peek (λ op pos. Take (Call (RightOperand context live (place_after op)) (λ rhs.
     Call (NextOperator context.filter) (λ next. raised context at (λ deeper. Ret (op, pos, rhs))))))
 
-abbrev pub side_view : Pending × Run × Option Operator → Lexeme × Position × Node
-side_view r = (lexeme r.0.op_token, r.0.pos, chain_view r.1.lhs)
+abbrev pub side_view : Side → Lexeme × Position × Node
+side_view side = (lexeme side.op_token, side.pos, chain_view side.rhs)

@@ -219,7 +219,13 @@ impl<R: LentReaders> Reader<'_, R> {
         let (sign, pos) = take(shared.input);
         let settings = settings.at(pos).level_up()?;
         let operand = nested!(shared, self.parse_unary(shared, frame, settings))?;
-        sign_operand(self.engine.alloc(), &mut shared.interner, sign, pos, operand)
+        sign_operand(
+            self.engine.alloc(),
+            &mut shared.interner,
+            sign,
+            pos,
+            operand,
+        )
     }
 
     /// Reads a written operand without a sign, with its call and its links. The caller has seen that no sign comes
@@ -263,8 +269,7 @@ impl<R: LentReaders> Reader<'_, R> {
         requires ends { ends_operand (asked (state_of shared.now)).lexeme ≡ true }
         ensures reads { result_of (postfix self.now.engine.now frame.now settings (chain_view operand.now))
             (state_of shared.now) ≡ Done (chain_view operand.now) (state_of shared.now) }
-    {
-    }
+    {}
 
     // No link follows an operand before this token.
     #[inline(always)]
@@ -280,8 +285,7 @@ impl<R: LentReaders> Reader<'_, R> {
         requires ends { ends_operand (asked (state_of shared.now)).lexeme ≡ true }
         ensures reads { result_of (links self.now.engine.now frame.now settings (chain_view operand.now))
             (state_of shared.now) ≡ Done [] (state_of shared.now) }
-    {
-    }
+    {}
 
     // Reads what calls an operand, and its links. Few operands have them, and a function clears all the places that it
     // has when it begins; so they are apart.

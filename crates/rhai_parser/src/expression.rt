@@ -75,11 +75,10 @@ impl Engine {
         ensures orderly { Holds self.now.max_functions frame.now.begun (library_of library.old)
             → Holds self.now.max_functions frame.now.begun (library_of library.new) }
     {
-        let mut captured = NamedList::new(self.alloc());
         let mut shared = Shared {
             input,
             library,
-            captured: &mut captured,
+            captured: NamedList::new(self.alloc()),
             interner: StringsInterner::new(self.alloc()),
             counts: *counts,
         };

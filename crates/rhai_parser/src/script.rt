@@ -90,11 +90,10 @@ impl Engine {
             → Holds self.now.max_functions frame.entry.begun (library_of library.new) }
     {
         let mut frame = frame;
-        let mut captured = NamedList::new(self.alloc());
         let mut shared = Shared {
             input,
             library,
-            captured: &mut captured,
+            captured: NamedList::new(self.alloc()),
             interner: StringsInterner::new(self.alloc()),
             counts: *counts,
         };

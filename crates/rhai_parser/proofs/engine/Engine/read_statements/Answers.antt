@@ -21,7 +21,7 @@ returns-clause-reads c =
     let none : uses_of c.new-captured.result ≡ [] = ap uses_of c.new-captured.ensures in
     let new = subst (λ us. Gives view (result_of (Script (context_of c.args.self.now c.args.frame c.args.settings) c.args.frame.live) (from us)) c.parse_statements-statements.result (state_of left)) none c.parse_statements-statements.ensures.reads in (
       c.parse_statements-statements.new.frame.live,
-      uses_of left.captured.now,
+      uses_of left.captured,
       search rules,
       search rules,
       search (rules, new),
