@@ -42,7 +42,7 @@ impl Engine {
         ensures script { Accepts constants.entry level (view expr) (library_of lib.now.entries) result }
         ensures nowhere { IfErr result MemoryIsNowhere }
     {
-        let statement = Stmt::Expr(Box::new(self.alloc(), expr)?);
+        let statement = Stmt::Expr(expr);
         let statements = vec![in self.alloc(); statement]?;
         let functions = functions(self.alloc(), lib)?;
         Ok(optimize_into_ast(self.alloc(), constants, statements, functions, level)?)

@@ -12,6 +12,7 @@ use std::alloc::{AllocError, Global};
 use std::rc::RcStr;
 
 /// The native-only call of an operator or sign, at position `pos`. Returns `AllocError` if memory runs out.
+#[inline(always)]
 #[tactic(auto, using(rhai_lower::proofs::Views::view_call))]
 pub(crate) fn native_call(
     alloc: Global,

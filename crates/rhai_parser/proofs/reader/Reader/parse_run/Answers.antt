@@ -58,9 +58,9 @@ pushes g c =
     record {
       found = run_goes_on (context_of c.args.self.now.engine.now c.args.frame.now run.settings) (live_of c.args.frame.now) run.settings.pos run.parent (chain_view run.lhs) s c.loop-operator.next c.loop-operator.invariant.next c.in-Some.operator (sym c.in_run.ensures ∙ c.in-Some.is);
       reads = c.in_ok-side.ensures.reads (binary_op c.args.self.now.engine.now c.args.frame.now run.settings run.settings.pos run.parent (chain_view run.lhs)) s (omega (arith))
-      ∙ ap (λ (o : Token). Done (lexeme o, side.pos, chain_view side.rhs) t) (sym is.operator.0)
-      ∙ ap (λ (at : Position). Done (lexeme outer.op_token, at, chain_view side.rhs) t) (sym is.operator.1)
-      ∙ ap (λ (x : Chain). Done (lexeme outer.op_token, outer.pos, chain_view x) t) (sym is.side.0);
+          ∙ ap (λ (o : Token). Done (lexeme o, side.pos, chain_view side.rhs) t) (sym is.operator.0)
+          ∙ ap (λ (at : Position). Done (lexeme outer.op_token, at, chain_view side.rhs) t) (sym is.operator.1)
+          ∙ ap (λ (x : Chain). Done (lexeme outer.op_token, outer.pos, chain_view x) t) (sym is.side.0);
       short = c.in_ok-side.ensures.shorter;
       left_side = ap chain_view is.around.0;
       outer = is.around.1;
