@@ -1,15 +1,11 @@
 -- What begins a part of an operand begins an operand.
 use Rattle.std.proofs.Common.{◌≡◌, true, refl}
-use Rattle.rhai_lower.specs.Lexemes.{Sign}
+use Rattle.rhai_grammar.specs.Prelude.{Sign, beginning, is_range, is_sign, is_value, construct_token, may_be_value}
+use Rattle.rhai_grammar.specs.Prelude.{Context, bars_token, begins, may_be_closure}
 use Rattle.rhai_grammar.specs.declared.role.Beginning.{Beginning}
 use Rattle.rhai_grammar.specs.declared.role.Beginning.TheVariants as begin
 use Rattle.rhai_grammar.specs.declared.role.Construct.{Construct as Kind}
 use Rattle.rhai_grammar.specs.declared.role.Construct.TheVariants as construct
-use Rattle.rhai_grammar.specs.Beginnings.{beginning, is_range, is_sign, is_value}
-use Rattle.rhai_grammar.specs.Constructs.{construct_token, may_be_value}
-use Rattle.rhai_grammar.specs.Contexts.{Context}
-use Rattle.rhai_grammar.specs.Closures.{bars_token}
-use Rattle.rhai_grammar.specs.Starts.{begins, may_be_closure}
 use Rattle.rhai_grammar.specs.declared.role.Bars.{Bars}
 use Rattle.rhai_grammar.specs.declared.role.Bars.TheVariants as bars
 

@@ -1,21 +1,14 @@
 -- What closures capture, by what happens in their bodies.
 use Rattle.std.proofs.Common.{inl, inr, ◌≡◌, ℕ, Bool, true, false, ◌++◌, List, [], ◌∷◌, refl, sym, ap, ◌∙◌}
-use Rattle.rhai_lower.specs.Slots.{SlotValue}
-use Rattle.rhai_grammar.specs.Causes.{Refusal}
+use Rattle.rhai_grammar.specs.Prelude.{SlotValue, Refusal, declared_names, in_closure, Context, Live, level_up, Mode}
+use Rattle.rhai_grammar.specs.Prelude.{Point, code, past, Demands, Met, Missed, Nothing, ClosureBody, ClosureHead, Run}
+use Rattle.rhai_grammar.specs.Prelude.{Statements, parameters_live, Ended, closure_count, closure_tree, Use, Event}
+use Rattle.rhai_grammar.specs.Prelude.{HoldsFirst, HasEnded, Used, ended_in, ends_only, events, free_uses}
+use Rattle.rhai_grammar.specs.Prelude.{script_events, statement_events, used_at}
 use Rattle.rhai_grammar.specs.ClosureLaws.{CapturedAreFreeUses, FormsLeaveTheirEvents}
-use Rattle.rhai_grammar.specs.Closures.{declared_names, in_closure}
-use Rattle.rhai_grammar.specs.Contexts.{Context, Live, level_up}
 use Rattle.rhai_grammar.specs.Delivered as D
-use Rattle.rhai_grammar.specs.Delivered.{Mode, Point, code, past, with_captured}
-use Rattle.rhai_grammar.specs.Demands.{Demands, Met, Missed, Nothing}
 use Rattle.rhai_grammar.specs.Forms as form
-use Rattle.rhai_grammar.specs.Forms.{ClosureBody, ClosureHead, Run, Statements}
-use Rattle.rhai_grammar.specs.Functions.{parameters_live}
-use Rattle.rhai_grammar.specs.Libraries.{Ended, closure_count}
-use Rattle.rhai_grammar.specs.Trees.{closure_tree}
-use Rattle.rhai_grammar.specs.Uses.{Use}
-use Rattle.rhai_grammar.specs.UsesOfForms.{Event, HoldsFirst, HasEnded, Used, ended_in, ends_only, events, first_uses, free_uses}
-use Rattle.rhai_grammar.specs.UsesOfForms.{own_events, script_events, statement_events, used_at, uses_in}
+use Rattle.rhai_grammar.specs.UsesOfForms.{first_uses, own_events, uses_in}
 use Rattle.rhai_grammar.specs.Written as W
 use Rattle.rhai_grammar.specs.declared.role.Closing.TheVariants.{EndMark}
 use Rattle.rhai_grammar.specs.declared.role.OperandPlace.{OperandPlace}

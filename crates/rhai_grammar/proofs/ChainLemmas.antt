@@ -1,13 +1,9 @@
 -- A tree determines the chain that it nests.
 use Rattle.std.proofs.Common.{◌≡◌, Bool, true, false, List, [], ◌∷◌, ◌++◌, append_assoc, refl, ap, ◌∙◌, sym}
-use Rattle.rhai_lower.specs.Nodes.{Node, dot, index}
-use Rattle.rhai_lower.specs.declared.position.Position.{Position}
-use Rattle.rhai_grammar.specs.Chains.{Bracket, Chain, Dotted, Link, LinkKind, chain_of, chained, is_last, link_node, nest}
-use Rattle.rhai_grammar.specs.Contexts.{Live}
+use Rattle.rhai_grammar.specs.Prelude.{Node, Position, Bracket, Chain, Dotted, Link, LinkKind, chain_of, chained}
+use Rattle.rhai_grammar.specs.Prelude.{is_last, link_node, nest, Live, Base, Links, base_tree, link_list, node_shape}
+use Rattle.rhai_lower.specs.Nodes.{dot, index}
 use Rattle.rhai_grammar.specs.Forms as form
-use Rattle.rhai_grammar.specs.Forms.{Base, Links}
-use Rattle.rhai_grammar.specs.Trees.{base_tree, link_list}
-use Rattle.rhai_grammar.specs.Shapes.{node_shape}
 use Rattle.rhai_grammar.specs.Laws.{ChainsAreJoined, followed}
 use Rattle.rhai_grammar.proofs.ShapeLemmas.{trees_keep_shape}
 

@@ -1,30 +1,22 @@
 -- What closures capture, and what becomes of it.
-use Rattle.std.proofs.Common.{◌≡◌, ◌⊎◌, inl, inr, ℕ, Bool, true, false, not, ◌||◌, ◌&&◌, ◌++◌, List, [], ◌∷◌, length, map, refl, sym, ap, ◌∙◌, subst, append-nil, append_assoc, if◌then◌else◌}
+use Rattle.std.proofs.Common.{◌≡◌, ◌⊎◌, inl, inr, ℕ, Bool, true, false, not, ◌||◌, ◌&&◌, ◌++◌, List, [], ◌∷◌, length}
+use Rattle.std.proofs.Common.{map, refl, sym, ap, ◌∙◌, subst, append-nil, append_assoc, if◌then◌else◌}
 use Rattle.std.specs.Option.{is_some}
 use Rattle.std.specs.Prelude.{Option}
 use Rattle.std.proofs.lemmas.List.{map-append}
 use Rattle.std.proofs.lemmas.List.Folds.{list_any-append}
 use Rattle.std.specs.Cmp.Lexicographic as L
-use Rattle.rhai_lower.specs.Texts.{Text, same_text}
-use Rattle.rhai_lower.specs.declared.position.Position.{Position}
-use Rattle.rhai_lower.specs.Slots.{SlotValue}
+use Rattle.rhai_grammar.specs.Prelude.{Text, same_text, Position, SlotValue, bars_at, captured_nodes, declared_names}
+use Rattle.rhai_grammar.specs.Prelude.{in_closure, shared_names, Context, Live, level_up, Point, adding, code, next_at}
+use Rattle.rhai_grammar.specs.Prelude.{past, capturing, with_captured, Adds, Ahead, Apart, Captures, Demands, Literally}
+use Rattle.rhai_grammar.specs.Prelude.{Met, Next, Nothing, Shape, Test, TestIn, Tok, Uses, ◌▸◌, ClosureBody}
+use Rattle.rhai_grammar.specs.Prelude.{ClosureHead, parameters_live, is_among, Ended, Library, is_function, keys_in}
+use Rattle.rhai_grammar.specs.Prelude.{with_ended, is_captured, number, closure_tree, Use, names_of, noted}
 use Rattle.rhai_grammar.specs.ClosureLaws.{AreDistinct, CapturedAreUsed, ParametersAreCaptured, names_in}
-use Rattle.rhai_grammar.specs.Closures.{bars_at, captured_nodes, declared_names, in_closure, shared_names}
-use Rattle.rhai_grammar.specs.Contexts.{Context, Live, level_up}
 use Rattle.rhai_grammar.specs.Delivered as D
-use Rattle.rhai_grammar.specs.Delivered.{Point, adding, code, next_at, past, capturing, with_captured}
-use Rattle.rhai_grammar.specs.Demands.{Adds, Ahead, Apart, Captures, Demands, Literally, Met, Next, Nothing, Shape, Test, TestIn, Tok, Uses, ◌▸◌}
 use Rattle.rhai_grammar.specs.Forms as form
-use Rattle.rhai_grammar.specs.Forms.{ClosureBody, ClosureHead}
-use Rattle.rhai_grammar.specs.Functions.{parameters_live}
-use Rattle.rhai_grammar.specs.Imports.{is_among}
 use Rattle.rhai_grammar.specs.Keys.{has_name}
-use Rattle.rhai_grammar.specs.Libraries.{Ended, Library, is_function, keys_in, with_ended}
-use Rattle.rhai_grammar.specs.Modules.{is_captured}
 use Rattle.rhai_grammar.specs.Settings as S
-use Rattle.rhai_grammar.specs.Slots.{number}
-use Rattle.rhai_grammar.specs.Trees.{closure_tree}
-use Rattle.rhai_grammar.specs.Uses.{Use, names_of, noted}
 use Rattle.rhai_grammar.specs.Written as W
 use Rattle.rhai_grammar.specs.declared.role.OperandPlace.{OperandPlace}
 use Rattle.rhai_grammar.proofs.Leads as leads

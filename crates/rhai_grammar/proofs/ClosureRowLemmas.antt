@@ -1,10 +1,8 @@
 -- The worked rows of closures, by evaluation.
 use Rattle.std.proofs.Common.{inl, inr, refl}
-use Rattle.rhai_grammar.specs.Closures.{last_hex_digits}
-use Rattle.rhai_grammar.specs.Functions.{names_function}
-use Rattle.rhai_grammar.specs.Settings.{one_more}
-use Rattle.rhai_grammar.specs.Slots.{number}
-use Rattle.rhai_grammar.specs.RowsOfClosures.{CaseRow, ClosureSumRow, DotRow, EmptyBodyRow, FunctionNameRow, MemberRow, NestedRow, SecondFunctionRow, SlotRow}
+use Rattle.rhai_grammar.specs.Prelude.{last_hex_digits, names_function, one_more, number}
+use Rattle.rhai_grammar.specs.RowsOfClosures.{CaseRow, ClosureSumRow, DotRow, EmptyBodyRow, FunctionNameRow, MemberRow}
+use Rattle.rhai_grammar.specs.RowsOfClosures.{NestedRow, SecondFunctionRow, SlotRow}
 
 pub member_row : MemberRow
 unfolding one_more number

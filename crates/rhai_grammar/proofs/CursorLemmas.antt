@@ -2,9 +2,8 @@
 use Rattle.std.proofs.Common.{◌≡◌, ◌+◌, ◌≤◌, Bool, true, false, List, [], ◌∷◌, refl, arith}
 use Rattle.rhai_lower.specs.Streams as S
 use Rattle.rhai_lower.specs.Streams.{Ask}
-use Rattle.rhai_lower.specs.declared.position.Position.{Position}
-use Rattle.rhai_grammar.specs.Delivered.{ask, later, is_end}
-use Rattle.rhai_grammar.specs.Cursors.{item_of, delivered, mode_by, left}
+use Rattle.rhai_grammar.specs.Prelude.{Position, ask, later, is_end, left}
+use Rattle.rhai_grammar.specs.Cursors.{item_of, delivered, mode_by}
 
 -- the token that the code's stream gives is that of the delivered stream
 pub asked_item : (asks : List Ask) (end : Position) (m : Bool) → ask (mode_by m) (delivered asks end) ≡ item_of (S.first_of_asks asks end m)

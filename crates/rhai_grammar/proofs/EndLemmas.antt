@@ -1,13 +1,9 @@
 -- A form ends by itself where its tree does.
 use Rattle.std.proofs.Common.{◌≡◌, refl}
-use Rattle.rhai_lower.specs.declared.position.Position.{Position}
-use Rattle.rhai_grammar.specs.Contexts.{Live}
-use Rattle.rhai_grammar.specs.Ends.{ends_with_brace, needs_no_semicolon, statement_ends_arm}
+use Rattle.rhai_grammar.specs.Prelude.{Position, Live, needs_no_semicolon, Construct, Statement, ends_itself, ends_arm}
+use Rattle.rhai_grammar.specs.Prelude.{construct_tree, statement_tree}
+use Rattle.rhai_grammar.specs.Ends.{ends_with_brace, statement_ends_arm}
 use Rattle.rhai_grammar.specs.Forms as form
-use Rattle.rhai_grammar.specs.Forms.{Construct, Statement}
-use Rattle.rhai_grammar.specs.Statements.{ends_itself}
-use Rattle.rhai_grammar.specs.Switches.{ends_arm}
-use Rattle.rhai_grammar.specs.Trees.{construct_tree, statement_tree}
 
 -- by a brace, as a statement and as what an arm does
 construct_ends : (x : Construct) (w : Live) (at : Position) → (ends_itself (construct_tree x w at) ≡ ends_with_brace x)

@@ -1,11 +1,8 @@
 -- The worked rows under the settings of the entries, by evaluation.
 use Rattle.std.proofs.Common.{inl, inr, refl}
-use Rattle.rhai_grammar.specs.Comments.{kept_after, kept_comments}
-use Rattle.rhai_grammar.specs.Functions.{names_function}
-use Rattle.rhai_grammar.specs.Imports.{module_number}
-use Rattle.rhai_grammar.specs.RowsOfEntries.{ChainsEnter, ClosuresEnter, EqualFunctionsEnter, ImportsEnter, LoopEnters, RangesEnter, ScopesEnter, StringEnters, SumsEnter}
-use Rattle.rhai_grammar.specs.Settings.{one_more}
-use Rattle.rhai_grammar.specs.Slots.{number}
+use Rattle.rhai_grammar.specs.Prelude.{kept_after, kept_comments, names_function, module_number, one_more, number}
+use Rattle.rhai_grammar.specs.RowsOfEntries.{ChainsEnter, ClosuresEnter, EqualFunctionsEnter, ImportsEnter, LoopEnters}
+use Rattle.rhai_grammar.specs.RowsOfEntries.{RangesEnter, ScopesEnter, StringEnters, SumsEnter}
 
 pub sums_enter : SumsEnter
 unfolding one_more

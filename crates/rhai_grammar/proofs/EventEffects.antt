@@ -1,10 +1,10 @@
 -- What events leave: functions that have ended, and captured names.
-use Rattle.std.proofs.Common.{◌≡◌, ◌&&◌, ◌++◌, Bool, true, false, List, [], ◌∷◌, refl, sym, ap, ◌∙◌, append-nil, append_assoc, if◌then◌else◌, subst}
+use Rattle.std.proofs.Common.{◌≡◌, ◌&&◌, ◌++◌, Bool, true, false, List, [], ◌∷◌, refl, sym, ap, ◌∙◌, append-nil}
+use Rattle.std.proofs.Common.{append_assoc, if◌then◌else◌, subst}
 use Rattle.std.specs.List.{fold}
-use Rattle.rhai_lower.specs.Slots.{SlotValue}
-use Rattle.rhai_grammar.specs.Libraries.{Library, with_ended}
-use Rattle.rhai_grammar.specs.Uses.{Use, noted, with_use}
-use Rattle.rhai_grammar.specs.UsesOfForms.{as_called, Event, HoldsFirst, HasEnded, Used, ended_in, ends_only, free_uses, is_free, used_at}
+use Rattle.rhai_grammar.specs.Prelude.{SlotValue, Library, with_ended, Use, noted, as_called, Event, HoldsFirst}
+use Rattle.rhai_grammar.specs.Prelude.{HasEnded, Used, ended_in, ends_only, free_uses, is_free, used_at}
+use Rattle.rhai_grammar.specs.Uses.{with_use}
 
 -- the functions after events
 abbrev pub library_after : List Event → Library → Library

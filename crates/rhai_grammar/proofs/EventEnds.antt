@@ -1,36 +1,27 @@
 -- Where functions and closures end.
-use Rattle.std.proofs.Common.{◌≡◌, ◌⊎◌, inl, inr, ℕ, ◌+◌, ◌<◌, ◌^◌, Bool, true, false, ◌++◌, List, [], ◌∷◌, length, refl, sym, ap, ◌∙◌, subst, append_assoc, length-append, append-nil, arith, nat_lt}
-use Rattle.std.proofs.lemmas.Bool.{and_parts, ltb-true}
-use Rattle.std.proofs.lemmas.List.{length-map, take-append-drop}
+use Rattle.std.proofs.Common.{◌≡◌, ◌⊎◌, inl, inr, ℕ, ◌+◌, Bool, true, false, ◌++◌, List, [], ◌∷◌, length, refl, sym, ap}
+use Rattle.std.proofs.Common.{◌∙◌, subst, nat_lt}
+use Rattle.std.proofs.lemmas.Bool.{and_parts}
+use Rattle.std.proofs.lemmas.List.{take-append-drop}
 use Rattle.std.proofs.lemmas.List.Folds.{list_all-append}
-use Rattle.std.proofs.lemmas.List.Sums.{count_by-le-length}
 use Rattle.std.specs.Cmp.Lexicographic as L
 use Rattle.std.specs.List.{list_all, starts_with}
 use Rattle.std.specs.Prelude.{Option, codes, drop, nat_eq, not, take, if◌then◌else◌}
-use Rattle.rhai_lower.specs.Slots.{SlotValue}
-use Rattle.rhai_lower.specs.Lexemes.{Lexeme}
-use Rattle.rhai_lower.specs.Names.{begins_with_letter, first_but_underscore, is_identifier, is_reserved, is_word}
-use Rattle.rhai_lower.specs.Texts.{Text}
-use Rattle.rhai_lower.specs.declared.position.Position.{Position}
-use Rattle.rhai_grammar.specs.Causes.{FnMissingName, Refusal, refusal}
-use Rattle.rhai_grammar.specs.Closures.{closure_name}
-use Rattle.rhai_grammar.specs.Contexts.{Context}
+use Rattle.rhai_grammar.specs.Prelude.{SlotValue, Lexeme, is_identifier, Text, Position, Refusal, refusal, closure_name}
+use Rattle.rhai_grammar.specs.Prelude.{Context, Mode, Point, adding, code, is_memory, next_at, with_captured, Adds}
+use Rattle.rhai_grammar.specs.Prelude.{Apart, Blames, Demands, Fine, Met, Missed, Next, Nothing, Otherwise, Test}
+use Rattle.rhai_grammar.specs.Prelude.{TestIn, verdict, ◌▸◌, is_due, Owner, is_new, may_begin, names_function, untyped}
+use Rattle.rhai_grammar.specs.Prelude.{is_closure, Ended, Library, closure_count, with_ended, IsNumbered, IsOrderly}
+use Rattle.rhai_grammar.specs.Prelude.{Use, HoldsFirst, ended_in, Event, HasEnded, ends_only, used_at}
+use Rattle.rhai_lower.specs.Names.{begins_with_letter, first_but_underscore, is_reserved, is_word}
+use Rattle.rhai_grammar.specs.Causes.{FnMissingName}
 use Rattle.rhai_grammar.specs.Delivered as D
-use Rattle.rhai_grammar.specs.Delivered.{Mode, Point, adding, code, is_memory, next_at, with_captured}
-use Rattle.rhai_grammar.specs.Demands.{Adds, Apart, Blames, Demands, Fine, Met, Missed, Next, Nothing, Otherwise, Test, TestIn, verdict, ◌▸◌}
-use Rattle.rhai_grammar.specs.DueTokens.{is_due}
 use Rattle.rhai_grammar.specs.Forms as form
-use Rattle.rhai_grammar.specs.Forms.{Owner}
-use Rattle.rhai_grammar.specs.Functions.{is_new, may_begin, names_function, untyped}
-use Rattle.rhai_grammar.specs.Keys.{is_closure}
-use Rattle.rhai_grammar.specs.Libraries.{Ended, Library, closure_count, keys_in, with_ended}
-use Rattle.rhai_grammar.specs.NumberedLibraries.{AreNew, IsNumbered, IsOrderly}
-use Rattle.rhai_grammar.specs.Uses.{Use}
-use Rattle.rhai_grammar.specs.UsesOfForms.{HoldsFirst, ended_in, Event, HasEnded, ends_only, used_at}
 use Rattle.rhai_grammar.specs.Written as W
 use Rattle.rhai_grammar.specs.declared.due.DueToken.TheVariants as due
-use Rattle.rhai_grammar.proofs.EventEffects.{holds_front, holds_later, holds_own, captured_after, captured_ends, captured_on, captured_outside, library_after}
-use Rattle.rhai_grammar.proofs.EventEffects.{library_ends, library_on, library_used}
+use Rattle.rhai_grammar.proofs.EventEffects.{holds_front, holds_later, holds_own, captured_after, captured_ends}
+use Rattle.rhai_grammar.proofs.EventEffects.{captured_on, captured_outside, library_after, library_ends, library_on}
+use Rattle.rhai_grammar.proofs.EventEffects.{library_used}
 use Rattle.rhai_grammar.proofs.EventSteps.{Does, Is, Orderly, Reached, Scope, Stops, deeper, shape, stop, tok}
 use Rattle.rhai_grammar.proofs.LibraryLemmas.{closure_added, function_added}
 use Rattle.rhai_grammar.proofs.LibrarySteps.{few_closures, one_begins, one_ends, one_stops}

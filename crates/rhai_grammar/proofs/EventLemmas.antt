@@ -1,38 +1,27 @@
 -- What happens along the demands of each form.
 use Rattle.std.proofs.Common.{◌≡◌, ℕ, ◌+◌, Bool, true, false, List, Option, length, refl}
 use Rattle.std.specs.Prelude.{Some, None}
-use Rattle.rhai_lower.specs.Lexemes.{Lexeme, text_of}
-use Rattle.rhai_lower.specs.Nodes.{Properties, no_properties, position_of, property, with_property}
-use Rattle.rhai_lower.specs.Texts.{Text}
-use Rattle.rhai_lower.specs.declared.position.Position.{Position}
-use Rattle.rhai_grammar.specs.Chains.{index_refusal, last_fault}
-use Rattle.rhai_grammar.specs.Closures.{declared_names, in_closure}
-use Rattle.rhai_grammar.specs.Contexts.{Context, Live, below_global, in_block, in_case, level_up, loop_body}
-use Rattle.rhai_grammar.specs.Definitions.{after_statement, catch_live, loop_live}
-use Rattle.rhai_grammar.specs.Delivered.{item}
-use Rattle.rhai_grammar.specs.Comments.{Comment}
-use Rattle.rhai_grammar.specs.Demands.{Demands, Nothing, Verdict}
+use Rattle.rhai_grammar.specs.Prelude.{Lexeme, text_of, Properties, no_properties, position_of, property, with_property}
+use Rattle.rhai_grammar.specs.Prelude.{Text, Position, index_refusal, last_fault, declared_names, in_closure, Context}
+use Rattle.rhai_grammar.specs.Prelude.{Live, below_global, in_block, in_case, level_up, loop_body, after_statement}
+use Rattle.rhai_grammar.specs.Prelude.{catch_live, loop_live, item, Comment, Demands, Nothing, Verdict, Action}
+use Rattle.rhai_grammar.specs.Prelude.{Arguments, Arms, Base, Body, Branch, CaseGuard, Cases, ClosureBody, Conditional}
+use Rattle.rhai_grammar.specs.Prelude.{Construct, Elements, ExprStatement, Fields, Initializer, Items, JumpValue, Links}
+use Rattle.rhai_grammar.specs.Prelude.{Operand, Owner, ParameterList, Primary, Run, Segments, Statement, Statements}
+use Rattle.rhai_grammar.specs.Prelude.{in_function, names_function, owner_of, parameter_names, parameters_live}
+use Rattle.rhai_grammar.specs.Prelude.{is_qualified, is_scoped, module_fault, LinkSpot, Spot, height_after, place_of}
+use Rattle.rhai_grammar.specs.Prelude.{right_side, spot_after_bracket, spot_after_dot, spot_after_operand, action_ends}
+use Rattle.rhai_grammar.specs.Prelude.{Collected, arm_fault, nothing_collected, with_arm_collected, is_constant_use}
+use Rattle.rhai_grammar.specs.Prelude.{target_fault, action_tree, argument_trees, base_tree, bracket_link, case_trees}
+use Rattle.rhai_grammar.specs.Prelude.{caught, caught_name, counter_of, guard_tree, loop_name, member_link}
+use Rattle.rhai_grammar.specs.Prelude.{function_tree, method_tree, named_tree, primary_tree, tree, events}
+use Rattle.rhai_grammar.specs.Prelude.{primary_events, script_events, statement_events, ends_only, used_at}
 use Rattle.rhai_grammar.specs.Forms as form
-use Rattle.rhai_grammar.specs.Forms.{Action, Alias, Arguments, Arms, Base, Body, Branch, CaseGuard, Cases, CatchName}
-use Rattle.rhai_grammar.specs.Forms.{ClosureBody, ClosureHead, Conditional, Construct, Elements, ExprStatement, Fields}
-use Rattle.rhai_grammar.specs.Forms.{Initializer, Items, JumpValue, Links, LoopNames, Operand, Owner, ParameterList}
-use Rattle.rhai_grammar.specs.Forms.{Parameters, Path, Primary, Run, Segments, Statement, Statements}
-use Rattle.rhai_grammar.specs.Functions.{in_function, names_function, owner_of, parameter_names, parameters_live}
-use Rattle.rhai_grammar.specs.Modules.{is_qualified, is_scoped, module_fault}
-use Rattle.rhai_grammar.specs.Spots.{LinkSpot, Spot, height_after, place_of}
-use Rattle.rhai_grammar.specs.Spots.{right_side, spot_after_bracket, spot_after_dot, spot_after_operand}
-use Rattle.rhai_grammar.specs.Ends.{action_ends}
-use Rattle.rhai_grammar.specs.Switches.{Collected, arm_fault, nothing_collected, with_arm_collected}
-use Rattle.rhai_grammar.specs.Targets.{is_constant_use, target_fault}
-use Rattle.rhai_grammar.specs.Trees.{action_tree, argument_trees, base_tree, bracket_link, case_trees, caught}
-use Rattle.rhai_grammar.specs.Trees.{caught_name, counter_of, guard_tree, loop_name, member_link}
-use Rattle.rhai_grammar.specs.Trees.{function_tree, method_tree, named_tree, primary_tree, tree}
-use Rattle.rhai_grammar.specs.UsesOfForms.{action_events, argument_events, arm_events, base_events}
-use Rattle.rhai_grammar.specs.UsesOfForms.{body_events, branch_events, case_events, closure_events, conditional_events}
-use Rattle.rhai_grammar.specs.UsesOfForms.{construct_events, element_events, evaluation_events, events, field_events}
+use Rattle.rhai_grammar.specs.UsesOfForms.{action_events, argument_events, arm_events, base_events, body_events}
+use Rattle.rhai_grammar.specs.UsesOfForms.{branch_events, case_events, closure_events, conditional_events}
+use Rattle.rhai_grammar.specs.UsesOfForms.{construct_events, element_events, evaluation_events, field_events}
 use Rattle.rhai_grammar.specs.UsesOfForms.{guard_events, item_events, jump_events, link_events, operand_events}
-use Rattle.rhai_grammar.specs.UsesOfForms.{primary_events, script_events, segment_events, statement_events}
-use Rattle.rhai_grammar.specs.UsesOfForms.{ends_only, used_at, value_events}
+use Rattle.rhai_grammar.specs.UsesOfForms.{segment_events, value_events}
 use Rattle.rhai_grammar.specs.Verdicts as V
 use Rattle.rhai_grammar.specs.Written as W
 use Rattle.rhai_grammar.specs.declared.role.Closing.{Closing}
@@ -40,12 +29,13 @@ use Rattle.rhai_grammar.specs.declared.role.Closing.TheVariants.{Brace}
 use Rattle.rhai_grammar.specs.declared.role.OperandPlace.{OperandPlace}
 use Rattle.rhai_grammar.specs.declared.role.OperandPlace.TheVariants as place
 use Rattle.rhai_grammar.proofs.EventEnds.{closure_runs, dead_name, ended, function_runs, no_closure}
-use Rattle.rhai_grammar.proofs.EventSteps.{Does, Is, Scope, ahead, all_of, called, deeper, here, is_below, is_closure, is_in_loop}
-use Rattle.rhai_grammar.proofs.EventSteps.{is_no_closure, literally, next, on, regrouped, shape, test, test_in, tok}
+use Rattle.rhai_grammar.proofs.EventSteps.{Does, Is, Scope, ahead, all_of, called, deeper, here, is_below, is_closure}
+use Rattle.rhai_grammar.proofs.EventSteps.{is_in_loop, is_no_closure, literally, next, on, regrouped, shape, test}
+use Rattle.rhai_grammar.proofs.EventSteps.{test_in, tok}
 use Rattle.rhai_grammar.proofs.EventParts.{Follows, bang_follows, banged, call_follows, captured_names, caught_by}
-use Rattle.rhai_grammar.proofs.EventParts.{closure_parameters, comments_at, expressed, function_at, function_name, guarded}
-use Rattle.rhai_grammar.proofs.EventParts.{iterated, named, other_name, parameter_list, path, plain_follows, raised}
-use Rattle.rhai_grammar.proofs.EventParts.{separated, unfaulted, unused, used}
+use Rattle.rhai_grammar.proofs.EventParts.{closure_parameters, comments_at, expressed, function_at, function_name}
+use Rattle.rhai_grammar.proofs.EventParts.{guarded, iterated, named, other_name, parameter_list, path, plain_follows}
+use Rattle.rhai_grammar.proofs.EventParts.{raised, separated, unfaulted, unused, used}
 
 -- ---- forms
 

@@ -1,40 +1,25 @@
 -- What happens along the demands of the parts of forms: names, and what uses none.
-use Rattle.std.proofs.Common.{◌≡◌, ◌⊎◌, inl, inr, Bool, true, false, ◌&&◌, ◌||◌, not, List, [], ◌∷◌, ◌++◌, refl, ap, ◌∙◌, if◌then◌else◌}
+use Rattle.std.proofs.Common.{◌≡◌, ◌⊎◌, inl, inr, Bool, true, false, ◌&&◌, ◌||◌, not, List, [], ◌∷◌, ◌++◌, refl, ap}
+use Rattle.std.proofs.Common.{◌∙◌, if◌then◌else◌}
 use Rattle.std.specs.Prelude.{Option, Some, None}
-use Rattle.rhai_lower.specs.Lexemes.{Lexeme, Sign}
-use Rattle.rhai_lower.specs.Nodes.{Node}
-use Rattle.rhai_lower.specs.Texts.{Text}
-use Rattle.rhai_lower.specs.declared.position.Position.{Position}
+use Rattle.rhai_grammar.specs.Prelude.{Lexeme, Sign, Node, Text, Position, calls, excludes_use, qualifies, guard_fault}
+use Rattle.rhai_grammar.specs.Prelude.{iterated_fault, Context, Live, level_up, Mode, Item, Point, capturing, code}
+use Rattle.rhai_grammar.specs.Prelude.{is_memory, item, next_at, past, Comment, Missed, Demands, Fine, Met, Next}
+use Rattle.rhai_grammar.specs.Prelude.{Otherwise, Shape, Tok, Verdict, verdict, ◌▸◌, Alias, Arguments, CatchName}
+use Rattle.rhai_grammar.specs.Prelude.{ClosureHead, LoopNames, Owner, ParameterList, Parameters, Path, Primary, Run}
+use Rattle.rhai_grammar.specs.Prelude.{captures_use, is_captured, is_scoped, qualified, Outermost, RightOf, Side}
+use Rattle.rhai_grammar.specs.Prelude.{outermost, is_variable, named_tree, primary_tree, tree, Refusal, Use, noted}
+use Rattle.rhai_grammar.specs.Prelude.{Event, is_free, primary_events, used_at}
 use Rattle.rhai_lower.specs.declared.token.Token.TheVariants as token
-use Rattle.rhai_grammar.specs.Beginnings.{calls, excludes_use, qualifies}
-use Rattle.rhai_grammar.specs.Constructs.{guard_fault, iterated_fault}
-use Rattle.rhai_grammar.specs.Contexts.{Context, Live, level_up}
-use Rattle.rhai_grammar.specs.Delivered.{Mode, Item, Point, capturing, code, is_memory, item, next_at, past}
-use Rattle.rhai_grammar.specs.Comments.{Comment}
-use Rattle.rhai_grammar.specs.Demands.{Missed, Demands, Fine, Met, Next, Otherwise, Shape, Tok, Verdict, verdict, ◌▸◌}
 use Rattle.rhai_grammar.specs.Forms as form
-use Rattle.rhai_grammar.specs.Forms.{Action, Alias, Arguments, Arms, Base, Body, Branch, CaseGuard, Cases, CatchName}
-use Rattle.rhai_grammar.specs.Forms.{ClosureBody, ClosureHead, Conditional, Construct, Elements, ExprStatement, Fields}
-use Rattle.rhai_grammar.specs.Forms.{Initializer, Items, JumpValue, Links, LoopNames, Operand, Owner, ParameterList}
-use Rattle.rhai_grammar.specs.Forms.{Parameters, Path, Primary, Run, Segments, Statement, Statements}
-use Rattle.rhai_grammar.specs.Modules.{captures_use, is_captured, is_scoped, qualified}
 use Rattle.rhai_grammar.specs.Settings as S
-use Rattle.rhai_grammar.specs.Spots.{Outermost, RightOf, Side, outermost}
-use Rattle.rhai_grammar.specs.Trees.{is_variable}
-use Rattle.rhai_grammar.specs.Trees.{named_tree, primary_tree, tree}
-use Rattle.rhai_grammar.specs.Causes.{Refusal}
-use Rattle.rhai_grammar.specs.Uses.{Use, noted}
-use Rattle.rhai_grammar.specs.UsesOfForms.{Event}
-use Rattle.rhai_grammar.specs.UsesOfForms.{is_free}
-use Rattle.rhai_grammar.specs.UsesOfForms.{primary_events, used_at}
 use Rattle.rhai_grammar.specs.Verdicts as V
 use Rattle.rhai_grammar.specs.Written as W
 use Rattle.rhai_grammar.specs.declared.list.CommaList.{CommaList}
 use Rattle.rhai_grammar.specs.declared.list.CommaList.TheVariants as lists
 use Rattle.rhai_grammar.specs.declared.role.OperandPlace.{OperandPlace}
-use Rattle.rhai_grammar.proofs.EventSteps.{Does, Is, Reached, Scope, Stops, stop, all_of, captures, here}
-use Rattle.rhai_grammar.proofs.EventSteps.{next, on, shape, test}
-use Rattle.rhai_grammar.proofs.EventSteps.{tok, unfaulted_by}
+use Rattle.rhai_grammar.proofs.EventSteps.{Does, Is, Reached, Scope, Stops, stop, all_of, captures, here, next, on}
+use Rattle.rhai_grammar.proofs.EventSteps.{shape, test, tok, unfaulted_by}
 
 -- ---- what no names are used in
 

@@ -1,24 +1,19 @@
 -- How demands lead to others with what happens along them.
-use Rattle.std.proofs.Common.{◌≡◌, ◌⊎◌, inl, inr, ℕ, ◌+◌, Bool, true, false, ◌&&◌, ◌++◌, List, [], ◌∷◌, refl, sym, ap, ◌∙◌, subst, append-nil, append_assoc, arith}
+use Rattle.std.proofs.Common.{◌≡◌, ◌⊎◌, inl, inr, ℕ, ◌+◌, Bool, true, false, ◌&&◌, ◌++◌, List, [], ◌∷◌, refl, sym, ap}
+use Rattle.std.proofs.Common.{◌∙◌, subst, append-nil, append_assoc, arith}
 use Rattle.std.proofs.lemmas.Nat.{and_assoc, and_or_apart}
 use Rattle.std.specs.Int.Bits.{and_zero_r}
 use Rattle.std.specs.Int.RustNames.{bit_and}
 use Rattle.std.specs.Prelude.{◌==◌, Option, Some, None}
-use Rattle.rhai_lower.specs.Lexemes.{Lexeme}
-use Rattle.rhai_grammar.specs.Causes.{Refusal}
-use Rattle.rhai_grammar.specs.Closures.{in_closure}
-use Rattle.rhai_grammar.specs.Contexts.{Context, Live, below_global, loop_body}
-use Rattle.rhai_grammar.specs.Delivered.{Mode, Item, Point, capturing, past}
-use Rattle.rhai_grammar.specs.Demands.{Ahead, Captures, Demands, Literally, Met, Missed, Next, Nothing, Shape, Test, TestIn, Tok, Verdict, ◌▸◌}
-use Rattle.rhai_grammar.specs.Functions.{in_function}
-use Rattle.rhai_grammar.specs.Libraries.{Library}
-use Rattle.rhai_grammar.specs.Modules.{is_captured}
-use Rattle.rhai_grammar.specs.NumberedLibraries.{IsOrderly}
+use Rattle.rhai_grammar.specs.Prelude.{Lexeme, Refusal, in_closure, Context, Live, below_global, loop_body, Mode, Item}
+use Rattle.rhai_grammar.specs.Prelude.{Point, capturing, past, Ahead, Captures, Demands, Literally, Met, Missed, Next}
+use Rattle.rhai_grammar.specs.Prelude.{Nothing, Shape, Test, TestIn, Tok, Verdict, ◌▸◌, in_function, Library}
+use Rattle.rhai_grammar.specs.Prelude.{is_captured, IsOrderly, Use, noted, HoldsFirst, ended_in, as_called, Event, Used}
+use Rattle.rhai_grammar.specs.Prelude.{is_free}
 use Rattle.rhai_grammar.specs.Settings as S
-use Rattle.rhai_grammar.specs.Uses.{Use, noted}
-use Rattle.rhai_grammar.specs.UsesOfForms.{HoldsFirst, ended_in, as_called, Event, Used, is_free}
 use Rattle.rhai_grammar.specs.Written as W
-use Rattle.rhai_grammar.proofs.EventEffects.{holds_called, holds_front, holds_later, holds_none, captured_after, captured_called, library_called, captured_on, library_after, library_on}
+use Rattle.rhai_grammar.proofs.EventEffects.{holds_called, holds_front, holds_later, holds_none, captured_after}
+use Rattle.rhai_grammar.proofs.EventEffects.{captured_called, library_called, captured_on, library_after, library_on}
 
 -- What of a context matters here: whether it is that of a closure, how many functions have begun around, and how many
 -- there may be.

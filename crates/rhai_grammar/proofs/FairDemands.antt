@@ -1,12 +1,11 @@
 -- Fair demands that are met are not missed.
 use Rattle.std.proofs.Common.{◌≡◌, false, sym, ◌∙◌, ap, subst, inl, inr}
-use Rattle.rhai_lower.specs.Lexemes.{Lexeme}
-use Rattle.rhai_lower.specs.declared.position.Position.{Position}
-use Rattle.rhai_grammar.specs.Causes.{Refusal}
+use Rattle.rhai_grammar.specs.Prelude.{Lexeme, Position, Refusal, Item, Mode, Point, adding, apart, capturing}
+use Rattle.rhai_grammar.specs.Prelude.{with_captured, next_at, past, ◌▸◌, Apart, Captures, Uses, Ahead, Blames, Adds}
+use Rattle.rhai_grammar.specs.Prelude.{Demands, TestIn, Fine, Literally, Met, Missed, Next, Nothing, Otherwise, Shape}
+use Rattle.rhai_grammar.specs.Prelude.{Test, Tok, Verdict, Wrong, verdict, IsFair, is_refused}
 use Rattle.rhai_grammar.specs.Delivered as M
-use Rattle.rhai_grammar.specs.Delivered.{Item, Mode, Point, adding, apart, capturing, with_captured, is_memory, next_at, past}
-use Rattle.rhai_grammar.specs.Demands.{◌▸◌, Apart, Captures, Uses, Ahead, Blames, Adds, Demands, TestIn, Fine, Literally, Met, Missed, Next, Nothing, Otherwise, Refused, Refuses, Shape, Test, Tok, Verdict, Wrong, verdict}
-use Rattle.rhai_grammar.specs.Laws.{IsFair, is_refused}
+use Rattle.rhai_grammar.specs.Demands.{Refused, Refuses}
 
 unrefused : (v : Verdict) (at : Position) (e : Refusal) → is_refused v ≡ false → Refuses v at e → ⊥
 unrefused (Wrong cause) at e h r = absurd cc

@@ -1,48 +1,39 @@
 -- No token is both required and refused at one place.
 use Rattle.std.proofs.Common.{◌≡◌, ℕ, ◌+◌, true, false, refl}
 use Rattle.std.specs.Prelude.{Some, None}
-use Rattle.rhai_lower.specs.Nodes.{Properties, no_properties, position_of, property, with_property}
-use Rattle.rhai_lower.specs.Lexemes.{Lexeme, Interpolated, Name, Reserved, Sign, text_of}
-use Rattle.rhai_lower.specs.declared.position.Position.{Position}
+use Rattle.rhai_grammar.specs.Prelude.{Properties, no_properties, position_of, property, with_property, Lexeme}
+use Rattle.rhai_grammar.specs.Prelude.{Interpolated, Name, Reserved, Sign, text_of, Position, in_function}
+use Rattle.rhai_grammar.specs.Prelude.{parameter_names, parameters_live, beginning, construct_token, iterated_fault}
+use Rattle.rhai_grammar.specs.Prelude.{kind_of, jump_token, operand_start, index_refusal, last_fault, Context, Live}
+use Rattle.rhai_grammar.specs.Prelude.{in_block, level_up, loop_body, is_memory, Demands, Nothing, Verdict, verdict}
+use Rattle.rhai_grammar.specs.Prelude.{Arguments, Base, Body, Branch, Conditional, Construct, Elements, ExprStatement}
+use Rattle.rhai_grammar.specs.Prelude.{Fields, Initializer, Items, JumpValue, Links, Operand, Primary, Run, Segments}
+use Rattle.rhai_grammar.specs.Prelude.{Statement, Statements, after_statement, catch_live, loop_live, is_constant_use}
+use Rattle.rhai_grammar.specs.Prelude.{target_fault, IsFair, is_refused, argument_trees, base_tree, bracket_link}
+use Rattle.rhai_grammar.specs.Prelude.{caught, caught_name, counter_of, loop_name, member_link, method_tree}
+use Rattle.rhai_grammar.specs.Prelude.{primary_tree, tree, below_global, in_case, is_qualified, is_scoped, module_fault}
+use Rattle.rhai_grammar.specs.Prelude.{named_tree, Action, Arms, CaseGuard, Cases, action_ends, Collected, arm_fault}
+use Rattle.rhai_grammar.specs.Prelude.{nothing_collected, with_arm_collected, action_tree, case_trees, guard_tree}
+use Rattle.rhai_grammar.specs.Prelude.{operands_fit, LinkSpot, Spot, spot_after_bracket, spot_after_dot, filter_of}
+use Rattle.rhai_grammar.specs.Prelude.{spot_after_operand, height_after, outermost, place_of, right_side, ClosureBody}
+use Rattle.rhai_grammar.specs.Prelude.{bars_of, bars_token, declared_names, in_closure}
 use Rattle.rhai_lower.specs.declared.token.Token.TheVariants as token
-use Rattle.rhai_grammar.specs.Forms.{Owner, ParameterList, Parameters}
-use Rattle.rhai_grammar.specs.Functions.{in_function, parameter_names, parameters_live}
-use Rattle.rhai_grammar.specs.Beginnings.{beginning}
-use Rattle.rhai_grammar.specs.Constructs.{construct_token, iterated_fault, kind_of}
-use Rattle.rhai_grammar.specs.Starts.{jump_token, operand_start}
 use Rattle.rhai_grammar.specs.declared.role.OperandPlace.{OperandPlace}
 use Rattle.rhai_grammar.specs.declared.role.OperandPlace.TheVariants as place
-use Rattle.rhai_grammar.specs.Chains.{index_refusal, last_fault}
-use Rattle.rhai_grammar.specs.Contexts.{Context, Live, in_block, level_up, loop_body}
-use Rattle.rhai_grammar.specs.Delivered.{is_memory}
-use Rattle.rhai_grammar.specs.Demands.{Demands, Nothing, Verdict, verdict}
 use Rattle.rhai_grammar.specs.Forms as form
-use Rattle.rhai_grammar.specs.Forms.{Arguments, Base, Body, Branch, CatchName, Conditional, Construct, Elements, ExprStatement, Fields, Initializer, Items, JumpValue, Links, LoopNames, Operand, Primary, Run, Segments, Statement, Statements}
-use Rattle.rhai_grammar.specs.Definitions.{after_statement, catch_live, loop_live}
 use Rattle.rhai_grammar.specs.Statements as S
-use Rattle.rhai_grammar.specs.Targets.{is_constant_use, target_fault}
 use Rattle.rhai_grammar.specs.declared.role.Closing.{Closing}
 use Rattle.rhai_grammar.specs.declared.role.Closing.TheVariants.{Brace, EndMark}
-use Rattle.rhai_grammar.specs.Laws.{FormsAreFair, IsFair, is_refused}
-use Rattle.rhai_grammar.specs.Trees.{argument_trees, base_tree, bracket_link, caught, caught_name, counter_of, loop_name, member_link, method_tree, primary_tree, tree}
-use Rattle.rhai_grammar.specs.Contexts.{below_global, in_case}
-use Rattle.rhai_grammar.specs.Forms.{Alias, Path}
-use Rattle.rhai_grammar.specs.Modules.{is_qualified, is_scoped, module_fault}
-use Rattle.rhai_grammar.specs.Trees.{named_tree}
-use Rattle.rhai_grammar.specs.Forms.{Action, Arms, CaseGuard, Cases}
-use Rattle.rhai_grammar.specs.Ends.{action_ends}
-use Rattle.rhai_grammar.specs.Switches.{Collected, arm_fault, nothing_collected, with_arm_collected}
-use Rattle.rhai_grammar.specs.Trees.{action_tree, case_trees, guard_tree}
+use Rattle.rhai_grammar.specs.Laws.{FormsAreFair}
 use Rattle.rhai_grammar.specs.Verdicts as V
 use Rattle.rhai_grammar.specs.Written as W
-use Rattle.rhai_grammar.specs.Written.{operands_fit}
-use Rattle.rhai_grammar.specs.Spots.{LinkSpot, Spot, spot_after_bracket, spot_after_dot}
-use Rattle.rhai_grammar.specs.Spots.{filter_of, spot_after_operand, height_after, outermost, place_of, right_side}
-use Rattle.rhai_grammar.proofs.BeginningLemmas.{closure_begins, value_begins, sign_begins, construct_begins, range_begins}
-use Rattle.rhai_grammar.specs.Forms.{ClosureBody, ClosureHead}
-use Rattle.rhai_grammar.specs.Closures.{bars_of, bars_token, declared_names, in_closure}
+use Rattle.rhai_grammar.proofs.BeginningLemmas.{closure_begins, value_begins, sign_begins, construct_begins}
+use Rattle.rhai_grammar.proofs.BeginningLemmas.{range_begins}
 use Rattle.rhai_grammar.proofs.FairDemands.{met_or_missed}
-use Rattle.rhai_grammar.proofs.FairParts.{unless, anything, operand_due, omitted_due, key_due, semicolon_due, unfaulted, raised, guarded, do_ends, path, banged, other_name, named, caught_by, comments_at, function_at, function_name, parameter_list, closure_parameters, captured_names, separated}
+use Rattle.rhai_grammar.proofs.FairParts.{unless, anything, operand_due, omitted_due, key_due, semicolon_due, unfaulted}
+use Rattle.rhai_grammar.proofs.FairParts.{raised, guarded, do_ends, path, banged, other_name, named, caught_by}
+use Rattle.rhai_grammar.proofs.FairParts.{comments_at, function_at, function_name, parameter_list, closure_parameters}
+use Rattle.rhai_grammar.proofs.FairParts.{captured_names, separated}
 
 mutual
   primary : (x : Primary) (c : Context) (w : Live) (p : OperandPlace) (k : Demands) → IsFair k → IsFair (W.primary x c w p k)

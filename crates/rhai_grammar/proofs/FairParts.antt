@@ -1,47 +1,24 @@
 -- Fair parts: single tokens, and what holds no form. No token is both required and refused at one place.
-use Rattle.std.proofs.Common.{◌≡◌, Bool, true, false, refl, ap, if◌then◌else◌}
-use Rattle.std.specs.Prelude.{Option, Some, None}
-use Rattle.rhai_lower.specs.Lexemes.{Lexeme, Sign, String}
-use Rattle.rhai_lower.specs.declared.position.Position.{Position}
+use Rattle.std.proofs.Common.{◌≡◌, Bool, true, false, refl, ap, if◌then◌else◌, [], ◌∷◌, ◌++◌}
+use Rattle.std.specs.Prelude.{Option, Some, None, List}
+use Rattle.rhai_grammar.specs.Prelude.{Lexeme, Sign, String, Position, Text, Owner, ParameterList, Parameters}
+use Rattle.rhai_grammar.specs.Prelude.{after_type, is_type, no_function_name, type_or_name_due, beginning, no_operand}
+use Rattle.rhai_grammar.specs.Prelude.{do_end_due, do_token, guard_fault, begins, is_omitted, operand_start, Refusal}
+use Rattle.rhai_grammar.specs.Prelude.{Context, Live, level_up, is_memory, closing_of, Comment, Demands, Otherwise}
+use Rattle.rhai_grammar.specs.Prelude.{Verdict, Wrong, verdict, CatchName, LoopNames, Run, IsFair, is_refused, KeyPlace}
+use Rattle.rhai_grammar.specs.Prelude.{NoKey, is_key, tree, Alias, Path, qualified, Node, Outermost, RightOf, Side}
+use Rattle.rhai_grammar.specs.Prelude.{outermost, ClosureHead, Use}
 use Rattle.rhai_lower.specs.declared.token.Token.TheVariants as token
-use Rattle.rhai_lower.specs.Texts.{Text}
-use Rattle.std.proofs.Common.{[], ◌∷◌, ◌++◌}
-use Rattle.rhai_grammar.specs.Forms.{Owner, ParameterList, Parameters}
-use Rattle.rhai_grammar.specs.Functions.{after_type, is_type, no_function_name, type_or_name_due}
-use Rattle.rhai_grammar.specs.Beginnings.{beginning, no_operand}
-use Rattle.rhai_grammar.specs.Constructs.{do_end_due, do_token, guard_fault}
-use Rattle.rhai_grammar.specs.Starts.{begins, is_omitted, operand_start}
 use Rattle.rhai_grammar.specs.declared.role.OperandPlace.{OperandPlace}
 use Rattle.rhai_grammar.specs.declared.role.OperandStart.{OperandStart}
 use Rattle.rhai_grammar.specs.declared.role.OperandStart.TheVariants as start
-use Rattle.rhai_grammar.specs.Causes.{Refusal}
-use Rattle.rhai_grammar.specs.Contexts.{Context, Live, level_up}
-use Rattle.rhai_grammar.specs.Delivered.{is_memory}
-use Rattle.rhai_grammar.specs.CommaLists.{closing_of}
 use Rattle.rhai_grammar.specs.Functions.{parameter_due}
-use Rattle.rhai_grammar.specs.Comments.{Comment}
-use Rattle.rhai_grammar.specs.Demands.{Demands, Otherwise, Verdict, Wrong, verdict}
 use Rattle.rhai_grammar.specs.Forms as form
-use Rattle.rhai_grammar.specs.Forms.{Arguments, Base, Body, Branch, CatchName, Conditional, Construct, Elements, ExprStatement, Fields, Initializer, Items, JumpValue, Links, LoopNames, Operand, Primary, Run, Segments, Statement, Statements}
 use Rattle.rhai_grammar.specs.Statements as S
 use Rattle.rhai_grammar.specs.declared.role.Closing.{Closing}
 use Rattle.rhai_grammar.specs.declared.role.Closing.TheVariants.{Brace, EndMark}
-use Rattle.rhai_grammar.specs.Laws.{IsFair, is_refused}
-use Rattle.rhai_grammar.specs.Literals.{KeyPlace, NoKey, is_key}
-use Rattle.rhai_grammar.specs.Trees.{tree}
-use Rattle.rhai_grammar.specs.Forms.{Alias, Path}
-use Rattle.rhai_grammar.specs.Modules.{qualified}
-use Rattle.rhai_lower.specs.Nodes.{Node}
-use Rattle.rhai_lower.specs.Texts.{Text}
-use Rattle.std.specs.Prelude.{List}
-use Rattle.rhai_grammar.specs.Forms.{Action, Arms, CaseGuard, Cases}
 use Rattle.rhai_grammar.specs.Verdicts as V
 use Rattle.rhai_grammar.specs.Written as W
-use Rattle.rhai_grammar.specs.Written.{operands_fit}
-use Rattle.rhai_grammar.specs.Spots.{Outermost, RightOf, Side}
-use Rattle.rhai_grammar.specs.Spots.{outermost}
-use Rattle.rhai_grammar.specs.Forms.{ClosureBody, ClosureHead}
-use Rattle.rhai_grammar.specs.Uses.{Use}
 use Rattle.rhai_grammar.specs.declared.list.CommaList.{CommaList}
 use Rattle.rhai_grammar.specs.declared.list.CommaList.TheVariants as lists
 

@@ -1,9 +1,6 @@
 -- The worked rows of functions, by evaluation.
 use Rattle.std.proofs.Common.{refl, inl, inr}
-use Rattle.rhai_grammar.specs.Comments.{kept_after, kept_comments}
-use Rattle.rhai_grammar.specs.Functions.{names_function}
-use Rattle.rhai_grammar.specs.Settings.{one_more}
-use Rattle.rhai_grammar.specs.Slots.{number}
+use Rattle.rhai_grammar.specs.Prelude.{kept_after, kept_comments, names_function, one_more, number}
 use Rattle.rhai_grammar.specs.RowsOfFunctions.{CommentRow, FunctionRow}
 
 pub function_row : FunctionRow

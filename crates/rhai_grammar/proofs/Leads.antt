@@ -1,58 +1,39 @@
 -- A form's demands lead over its spelling to what follows. It is one induction over all forms.
 use Rattle.std.proofs.Common.{◌≡◌, ℕ, ◌+◌, Bool, true, false, List, [], ◌∷◌, ◌++◌, append-nil, append_assoc, sym, subst}
 use Rattle.std.specs.Prelude.{Option, Some, None}
-use Rattle.rhai_lower.specs.Lexemes.{Lexeme, Sign, text_of, Name}
-use Rattle.rhai_lower.specs.Nodes.{Properties, no_properties, position_of, property, with_property}
-use Rattle.rhai_lower.specs.declared.position.Position.{Position}
-use Rattle.rhai_lower.specs.declared.token.Token.TheVariants.{EOF}
-use Rattle.rhai_lower.specs.Texts.{Text}
+use Rattle.rhai_grammar.specs.Prelude.{Lexeme, Sign, text_of, Name, Properties, no_properties, position_of, property}
+use Rattle.rhai_grammar.specs.Prelude.{with_property, Position, Text, Owner, ParameterList, Parameters, in_function}
+use Rattle.rhai_grammar.specs.Prelude.{parameter_names, parameters_live, Comment, Refusal, index_refusal, last_fault}
+use Rattle.rhai_grammar.specs.Prelude.{guard_fault, iterated_fault, Context, Live, in_block, level_up, loop_body}
+use Rattle.rhai_grammar.specs.Prelude.{after_statement, catch_live, loop_live, Mode, code, Item, Taken, ◌▸◌, Adds}
+use Rattle.rhai_grammar.specs.Prelude.{Ahead, Apart, Captures, Uses, Demands, Literally, Next, Nothing, Shape, Test}
+use Rattle.rhai_grammar.specs.Prelude.{TestIn, Tok, Verdict, Ended, Library, Arguments, Base, Body, Elements}
+use Rattle.rhai_grammar.specs.Prelude.{ExprStatement, Fields, Initializer, Items, Links, Branch, CatchName, Conditional}
+use Rattle.rhai_grammar.specs.Prelude.{Construct, JumpValue, LoopNames, Operand, Primary, Run, Segments, Statement}
+use Rattle.rhai_grammar.specs.Prelude.{Statements, script_spelling, spelling, LinkSpot, Outermost, RightOf, Side, Spot}
+use Rattle.rhai_grammar.specs.Prelude.{height_after, outermost, place_of, right_side, spot_after_bracket}
+use Rattle.rhai_grammar.specs.Prelude.{spot_after_dot, spot_after_operand, is_constant_use, target_fault}
+use Rattle.rhai_grammar.specs.Prelude.{argument_trees, base_tree, bracket_link, member_link, method_tree, primary_tree}
+use Rattle.rhai_grammar.specs.Prelude.{caught, caught_name, counter_of, loop_name, tree, below_global, in_case, Alias}
+use Rattle.rhai_grammar.specs.Prelude.{Path, is_qualified, is_scoped, module_fault, qualified, named_tree, Node, Action}
+use Rattle.rhai_grammar.specs.Prelude.{Arms, CaseGuard, Cases, ClosureBody, ClosureHead, declared_names, in_closure}
+use Rattle.rhai_grammar.specs.Prelude.{Use, action_ends, Collected, arm_fault, nothing_collected, with_arm_collected}
+use Rattle.rhai_grammar.specs.Prelude.{action_tree, case_trees, guard_tree}
 use Rattle.rhai_lower.specs.declared.token.Token.TheVariants as token
-use Rattle.rhai_grammar.specs.Forms.{Owner, ParameterList, Parameters}
-use Rattle.rhai_grammar.specs.Functions.{in_function, parameter_names, parameters_live}
-use Rattle.rhai_grammar.specs.Comments.{Comment}
-use Rattle.rhai_grammar.specs.Spelling.{comment_spelling, in_code, owner_spelling, parameter_list_spelling, parameter_spelling, private_spelling}
+use Rattle.rhai_grammar.specs.Spelling.{comment_spelling, in_code, owner_spelling, parameter_list_spelling}
+use Rattle.rhai_grammar.specs.Spelling.{parameter_spelling, private_spelling, argument_spelling, base_spelling}
+use Rattle.rhai_grammar.specs.Spelling.{body_spelling, element_spelling, evaluation_spelling, field_spelling}
+use Rattle.rhai_grammar.specs.Spelling.{initializer_spelling, item_spelling, jump_spelling, link_spelling}
+use Rattle.rhai_grammar.specs.Spelling.{operand_spelling, primary_spelling, segment_spelling, branch_spelling}
+use Rattle.rhai_grammar.specs.Spelling.{catch_spelling, conditional_spelling, construct_spelling, names_spelling}
+use Rattle.rhai_grammar.specs.Spelling.{statement_spelling, alias_spelling, path_spelling, closure_body_spelling}
+use Rattle.rhai_grammar.specs.Spelling.{closure_parameter_spelling, action_spelling, arm_spelling, case_spelling}
+use Rattle.rhai_grammar.specs.Spelling.{comma_spelling, guard_spelling}
 use Rattle.rhai_grammar.specs.declared.role.OperandPlace.{OperandPlace}
 use Rattle.rhai_grammar.specs.declared.role.OperandPlace.TheVariants as place
-use Rattle.rhai_grammar.specs.Causes.{Refusal}
-use Rattle.rhai_grammar.specs.Chains.{index_refusal, last_fault}
-use Rattle.rhai_grammar.specs.Constructs.{guard_fault, iterated_fault}
-use Rattle.rhai_grammar.specs.Contexts.{Context, Live, in_block, level_up, loop_body}
-use Rattle.rhai_grammar.specs.Definitions.{after_statement, catch_live, loop_live}
-use Rattle.rhai_grammar.specs.Delivered.{Mode, code, Item, Taken}
-use Rattle.rhai_grammar.specs.Demands.{◌▸◌, Adds, Ahead, Apart, Captures, Uses, Demands, Literally, Next, Nothing, Shape, Test, TestIn, Tok, Verdict}
-use Rattle.rhai_grammar.specs.Libraries.{Ended, Library}
 use Rattle.rhai_grammar.specs.Forms as form
-use Rattle.rhai_grammar.specs.Forms.{Arguments, Base, Body, Elements, ExprStatement, Fields, Initializer, Items, Links}
-use Rattle.rhai_grammar.specs.Forms.{Branch, CatchName, Conditional, Construct, JumpValue, LoopNames, Operand, Primary}
-use Rattle.rhai_grammar.specs.Forms.{Run, Segments, Statement, Statements}
-use Rattle.rhai_grammar.specs.Spelling.{argument_spelling, base_spelling, body_spelling, element_spelling}
-use Rattle.rhai_grammar.specs.Spelling.{evaluation_spelling, field_spelling, initializer_spelling, item_spelling}
-use Rattle.rhai_grammar.specs.Spelling.{jump_spelling, link_spelling, operand_spelling, primary_spelling, script_spelling, segment_spelling, spelling}
-use Rattle.rhai_grammar.specs.Spelling.{branch_spelling, catch_spelling, conditional_spelling, construct_spelling}
-use Rattle.rhai_grammar.specs.Spelling.{names_spelling, statement_spelling}
-use Rattle.rhai_grammar.specs.Spots.{LinkSpot, Outermost, RightOf, Side, Spot, height_after, outermost, place_of}
-use Rattle.rhai_grammar.specs.Spots.{right_side, spot_after_bracket, spot_after_dot, spot_after_operand}
-use Rattle.rhai_grammar.specs.Targets.{is_constant_use, target_fault}
-use Rattle.rhai_grammar.specs.Trees.{argument_trees, base_tree, bracket_link, member_link, method_tree, primary_tree}
-use Rattle.rhai_grammar.specs.Trees.{caught, caught_name, counter_of, loop_name, tree}
-use Rattle.rhai_grammar.specs.Contexts.{below_global, in_case}
-use Rattle.rhai_grammar.specs.Forms.{Alias, Path}
-use Rattle.rhai_grammar.specs.Modules.{is_qualified, is_scoped, module_fault, qualified}
-use Rattle.rhai_grammar.specs.Spelling.{alias_spelling, path_spelling}
-use Rattle.rhai_grammar.specs.Trees.{named_tree}
-use Rattle.rhai_lower.specs.Nodes.{Node}
-use Rattle.rhai_lower.specs.Texts.{Text}
-use Rattle.rhai_grammar.specs.Forms.{Action, Arms, CaseGuard, Cases}
-use Rattle.rhai_grammar.specs.Forms.{ClosureBody, ClosureHead}
-use Rattle.rhai_grammar.specs.Closures.{declared_names, in_closure}
-use Rattle.rhai_grammar.specs.Spelling.{closure_body_spelling, closure_parameter_spelling}
-use Rattle.rhai_grammar.specs.Uses.{Use}
 use Rattle.rhai_grammar.specs.declared.list.CommaList.{CommaList}
 use Rattle.rhai_grammar.specs.declared.list.CommaList.TheVariants as lists
-use Rattle.rhai_grammar.specs.Spelling.{action_spelling, arm_spelling, case_spelling, comma_spelling, guard_spelling}
-use Rattle.rhai_grammar.specs.Ends.{action_ends}
-use Rattle.rhai_grammar.specs.Switches.{Collected, arm_fault, nothing_collected, with_arm_collected}
-use Rattle.rhai_grammar.specs.Trees.{action_tree, case_trees, guard_tree}
 use Rattle.rhai_grammar.specs.Verdicts as V
 use Rattle.rhai_grammar.specs.Written as W
 use Rattle.rhai_grammar.specs.declared.role.Closing.{Closing}

@@ -1,5 +1,7 @@
 -- The names of closures, and numbered libraries.
-use Rattle.std.proofs.Common.{◌≡◌, ◌⊎◌, inl, inr, ℕ, zero, suc, ◌+◌, ◌/◌, ◌%◌, ◌^◌, ◌<◌, cond, Bool, true, false, not, nat_lt, nat_eq, ◌&&◌, ◌||◌, List, [], ◌∷◌, ◌++◌, refl, sym, ap, ◌∙◌, subst, arith, zero-add, if◌then◌else◌}
+use Rattle.std.proofs.Common.{◌≡◌, ◌⊎◌, inl, inr, ℕ, zero, suc, ◌+◌, ◌/◌, ◌%◌, ◌^◌, ◌<◌, cond, Bool, true, false, not}
+use Rattle.std.proofs.Common.{nat_lt, nat_eq, ◌&&◌, ◌||◌, List, [], ◌∷◌, ◌++◌, refl, sym, ap, ◌∙◌, subst, arith}
+use Rattle.std.proofs.Common.{zero-add, if◌then◌else◌}
 use Rattle.std.proofs.lemmas.Bool.{ltb-false, ltb-true}
 use Rattle.std.proofs.lemmas.List.{map-append}
 use Rattle.std.proofs.lemmas.List.Elements.{Contains-append_cases, Contains-append_right}
@@ -7,13 +9,12 @@ use Rattle.std.proofs.lemmas.List.Sums.{sum_by-append}
 use Rattle.std.specs.Cmp.Lexicographic as L
 use Rattle.std.specs.List.{Contains, list_any}
 use Rattle.std.specs.Prelude.{count_by}
-use Rattle.rhai_lower.specs.Texts.{Text, same_text}
-use Rattle.rhai_grammar.specs.Closures.{closure_name, hex_digit, last_hex_digits}
-use Rattle.rhai_grammar.specs.Functions.{is_new}
-use Rattle.rhai_grammar.specs.Keys.{Key, closures, is_closure, same_key, same_type}
-use Rattle.rhai_grammar.specs.Libraries.{Ended, Library, closure_count, is_function, keys_in, with_ended}
+use Rattle.rhai_grammar.specs.Prelude.{Text, same_text, closure_name, last_hex_digits, is_new, is_closure, Ended}
+use Rattle.rhai_grammar.specs.Prelude.{Library, closure_count, is_function, keys_in, with_ended, IsNumbered}
+use Rattle.rhai_grammar.specs.Closures.{hex_digit}
+use Rattle.rhai_grammar.specs.Keys.{Key, closures, same_key, same_type}
 use Rattle.rhai_grammar.specs.LibraryLaws.{NumbersAreKept}
-use Rattle.rhai_grammar.specs.NumberedLibraries.{IsNumbered, bearers}
+use Rattle.rhai_grammar.specs.NumberedLibraries.{bearers}
 use Rattle.rhai_grammar.proofs.SlotLemmas.{same}
 
 -- ---- names

@@ -1,12 +1,11 @@
 -- What is kept of an orderly library as functions begin and end.
-use Rattle.std.proofs.Common.{◌≡◌, ℕ, ◌+◌, ◌<◌, ◌^◌, true, ◌++◌, [], ◌∷◌, length, sym, ap, ◌∙◌, append_assoc, length-append, append-nil, arith, nat_lt}
+use Rattle.std.proofs.Common.{◌≡◌, ℕ, ◌+◌, ◌<◌, ◌^◌, true, ◌++◌, [], ◌∷◌, length, sym, ap, ◌∙◌, append_assoc}
+use Rattle.std.proofs.Common.{length-append, append-nil, arith, nat_lt}
 use Rattle.std.proofs.lemmas.Bool.{ltb-true}
 use Rattle.std.proofs.lemmas.List.{length-map}
 use Rattle.std.proofs.lemmas.List.Sums.{count_by-le-length}
-use Rattle.rhai_grammar.specs.Functions.{is_new}
-use Rattle.rhai_grammar.specs.Keys.{is_closure}
-use Rattle.rhai_grammar.specs.Libraries.{Ended, Library, closure_count, keys_in, with_ended}
-use Rattle.rhai_grammar.specs.NumberedLibraries.{AreNew, IsNumbered, IsOrderly}
+use Rattle.rhai_grammar.specs.Prelude.{is_new, is_closure, Ended, Library, closure_count, keys_in, with_ended, AreNew}
+use Rattle.rhai_grammar.specs.Prelude.{IsNumbered, IsOrderly}
 
 new_last : (before library : Library) (x : Ended) → AreNew before library → is_new x.key (before ++ library) ≡ true
     → AreNew before (library ++ x ∷ [])

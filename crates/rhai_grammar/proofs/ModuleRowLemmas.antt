@@ -1,8 +1,6 @@
 -- The worked rows of modules, by evaluation.
 use Rattle.std.proofs.Common.{refl}
-use Rattle.rhai_grammar.specs.Imports.{module_number}
-use Rattle.rhai_grammar.specs.Settings.{one_more}
-use Rattle.rhai_grammar.specs.Slots.{number}
+use Rattle.rhai_grammar.specs.Prelude.{module_number, one_more, number}
 use Rattle.rhai_grammar.specs.RowsOfModules.{ExportedRow, TwiceRow}
 
 pub twice_row : TwiceRow

@@ -1,33 +1,29 @@
 -- The numbers in the trees of forms that fit are right.
 use Rattle.std.proofs.Common.{◌≡◌, ℕ, ◌+◌, Bool, true, false, List, [], refl, subst}
 use Rattle.std.specs.Prelude.{Option, Some, None}
-use Rattle.rhai_lower.specs.Lexemes.{Lexeme, text_of}
+use Rattle.rhai_grammar.specs.Prelude.{Lexeme, text_of, Properties, made_block, no_properties, position_of, property}
+use Rattle.rhai_grammar.specs.Prelude.{with_property, Text, Position, index_refusal, last_fault, bars_at}
+use Rattle.rhai_grammar.specs.Prelude.{declared_names, in_closure, Context, Live, below_global, in_block, in_case}
+use Rattle.rhai_grammar.specs.Prelude.{level_up, loop_body, after_statement, catch_live, loop_live, reused, Point, code}
+use Rattle.rhai_grammar.specs.Prelude.{next_at, past, Comment, Demands, Fine, Met, Nothing, Verdict, verdict, Action}
+use Rattle.rhai_grammar.specs.Prelude.{Arguments, Arms, Base, Body, Branch, CaseGuard, Cases, ClosureBody, ClosureHead}
+use Rattle.rhai_grammar.specs.Prelude.{Conditional, Construct, Elements, ExprStatement, Fields, Initializer, Items}
+use Rattle.rhai_grammar.specs.Prelude.{JumpValue, Links, Operand, Owner, ParameterList, Primary, Run, Segments}
+use Rattle.rhai_grammar.specs.Prelude.{Statement, Statements, in_function, parameter_names, parameters_live}
+use Rattle.rhai_grammar.specs.Prelude.{is_qualified, module_fault, joining, effect, plain_sign, LinkSpot, Spot}
+use Rattle.rhai_grammar.specs.Prelude.{height_after, place_of, right_side, spot_after_bracket, spot_after_dot}
+use Rattle.rhai_grammar.specs.Prelude.{spot_after_operand, action_ends, Collected, arm_fault, nothing_collected}
+use Rattle.rhai_grammar.specs.Prelude.{with_arm_collected, is_constant_use, target_fault, AllWellNumbered, WellNumbered}
+use Rattle.rhai_grammar.specs.Prelude.{WellNumberedBlock, WellNumberedFunction, WellNumberedStatement}
+use Rattle.rhai_grammar.specs.Prelude.{WellNumberedStatements, WellNumberedLibrary, names_in, slots_of, action_tree}
+use Rattle.rhai_grammar.specs.Prelude.{argument_trees, base_tree, bracket_link, case_trees, caught, caught_name}
+use Rattle.rhai_grammar.specs.Prelude.{closure_tree, counter_of, function_tree, guard_tree, loop_name, member_link}
+use Rattle.rhai_grammar.specs.Prelude.{method_tree, named_tree, primary_tree, tree, Use, names_of}
 use Rattle.rhai_lower.specs.Nodes as node
-use Rattle.rhai_lower.specs.Nodes.{Properties, made_block, no_properties, position_of, property, with_property}
-use Rattle.rhai_lower.specs.Texts.{Text}
-use Rattle.rhai_lower.specs.declared.position.Position.{Position}
-use Rattle.rhai_grammar.specs.Chains.{index_refusal, last_fault}
-use Rattle.rhai_grammar.specs.Closures.{bars_at, declared_names, in_closure}
-use Rattle.rhai_grammar.specs.Contexts.{Context, Live, below_global, in_block, in_case, level_up, loop_body}
-use Rattle.rhai_grammar.specs.Definitions.{after_statement, catch_live, loop_live, reused}
-use Rattle.rhai_grammar.specs.Delivered.{Point, code, next_at, past}
-use Rattle.rhai_grammar.specs.Comments.{Comment}
-use Rattle.rhai_grammar.specs.Demands.{Demands, Fine, Met, Nothing, Verdict, verdict}
 use Rattle.rhai_grammar.specs.Forms as form
-use Rattle.rhai_grammar.specs.Forms.{Action, Arguments, Arms, Base, Body, Branch, CaseGuard, Cases, ClosureBody, ClosureHead, Conditional, Construct, Elements, ExprStatement, Fields, Initializer, Items, JumpValue, Links, Operand, Owner, ParameterList, Primary, Run, Segments, Statement, Statements}
-use Rattle.rhai_grammar.specs.Functions.{in_function, parameter_names, parameters_live}
-use Rattle.rhai_grammar.specs.Modules.{is_qualified, module_fault}
-use Rattle.rhai_grammar.specs.Operators.{joining}
-use Rattle.rhai_grammar.specs.Signs.{effect, plain_sign}
 use Rattle.rhai_grammar.specs.SlotLaws.{TreesAreWellNumbered}
-use Rattle.rhai_grammar.specs.Spots.{LinkSpot, Spot, height_after, place_of, right_side, spot_after_bracket, spot_after_dot, spot_after_operand}
-use Rattle.rhai_grammar.specs.Ends.{action_ends}
-use Rattle.rhai_grammar.specs.Switches.{Collected, arm_fault, nothing_collected, with_arm_collected}
-use Rattle.rhai_grammar.specs.Targets.{is_constant_use, target_fault}
-use Rattle.rhai_grammar.specs.TreeNumbers.{AllWellNumbered, WellNumbered, WellNumberedBlock, WellNumberedFunction, WellNumberedOptional, WellNumberedProperties, WellNumberedStatement, WellNumberedStatements, WellNumberedLibrary, names_in, slots_of}
+use Rattle.rhai_grammar.specs.TreeNumbers.{WellNumberedOptional, WellNumberedProperties}
 use Rattle.rhai_grammar.specs.Trees as T
-use Rattle.rhai_grammar.specs.Trees.{action_tree, argument_trees, base_tree, bracket_link, case_trees, caught, caught_name, closure_tree, counter_of, function_tree, guard_tree, loop_name, member_link, method_tree, named_tree, primary_tree, tree}
-use Rattle.rhai_grammar.specs.Uses.{Use, names_of}
 use Rattle.rhai_grammar.specs.Verdicts as V
 use Rattle.rhai_grammar.specs.Written as W
 use Rattle.rhai_grammar.specs.declared.role.Closing.{Closing}
@@ -37,7 +33,11 @@ use Rattle.rhai_grammar.specs.declared.role.OperandPlace.TheVariants as place
 use Rattle.rhai_grammar.proofs.NumberSteps as N
 use Rattle.rhai_grammar.proofs.NumberSteps.{AllLinks, IsCollected}
 use Rattle.rhai_grammar.proofs.SlotLemmas.{latest_number}
-use Rattle.rhai_grammar.proofs.NumberWays.{Gives, adds, ahead, apart_from, banged, captured_names, caught_by, closure_parameters, comments_at, expressed, function_at, function_name, gets, guarded, here, iterated, literally, named, next, on, other_name, parameter_list, past_it, path, raised, separated, shape, test, test_in, then, tok, unfaulted, up_to, uses}
+use Rattle.rhai_grammar.proofs.NumberWays.{Gives, adds, ahead, apart_from, banged, captured_names, caught_by}
+use Rattle.rhai_grammar.proofs.NumberWays.{closure_parameters, comments_at, expressed, function_at, function_name, gets}
+use Rattle.rhai_grammar.proofs.NumberWays.{guarded, here, iterated, literally, named, next, on, other_name}
+use Rattle.rhai_grammar.proofs.NumberWays.{parameter_list, past_it, path, raised, separated, shape, test, test_in, then}
+use Rattle.rhai_grammar.proofs.NumberWays.{tok, unfaulted, up_to, uses}
 
 -- the names that are live
 abbrev names : Live → List Text

@@ -1,36 +1,27 @@
 -- What trees are made of keeps the numbers in them right.
-use Rattle.std.proofs.Common.{◌≡◌, ◌∙◌, ℕ, suc, zero, ◌-◌, Bool, true, false, ◌&&◌, List, [], ◌∷◌, ◌++◌, Option, Some, None, length, refl, sym, ap, subst, if◌then◌else◌}
+use Rattle.std.proofs.Common.{◌≡◌, ◌∙◌, ℕ, suc, zero, ◌-◌, Bool, true, false, ◌&&◌, List, [], ◌∷◌, ◌++◌, Option, Some}
+use Rattle.std.proofs.Common.{None, length, refl, sym, ap, subst, if◌then◌else◌}
 use Rattle.std.proofs.lemmas.List.{map-append}
-use Rattle.rhai_lower.specs.Texts.{Text}
-use Rattle.rhai_lower.specs.Lexemes.{Lexeme}
+use Rattle.rhai_grammar.specs.Prelude.{Text, Lexeme, Node, Nodes, made_block, Position, SlotValue, fresh_slot}
+use Rattle.rhai_grammar.specs.Prelude.{with_alias, with_constant, calls, is_this, may_be_called, value_of, Refusal}
+use Rattle.rhai_grammar.specs.Prelude.{Bracket, Chain, Dotted, Link, LinkKind, chain_of, chained, is_last, link_node}
+use Rattle.rhai_grammar.specs.Prelude.{nest, captured_nodes, closure_node, shared_names, Context, Live, after_statement}
+use Rattle.rhai_grammar.specs.Prelude.{after_statements, catch_live, define_at, export_at, is_in_block, loop_live}
+use Rattle.rhai_grammar.specs.Prelude.{reused, is_memory, Blames, Fine, Otherwise, verdict, Statement, Statements}
+use Rattle.rhai_grammar.specs.Prelude.{with_text, path_tree, qualified, joined, joined_tree, part, is_in_function}
+use Rattle.rhai_grammar.specs.Prelude.{affected, number, Collected, with_arm_collected, with_case, with_cases}
+use Rattle.rhai_grammar.specs.Prelude.{with_default_collected, with_value, same_value, AllWellNumbered, WellNumbered}
+use Rattle.rhai_grammar.specs.Prelude.{WellNumberedBlock, WellNumberedStatement, WellNumberedStatements, names_in}
+use Rattle.rhai_grammar.specs.Prelude.{slots_of, is_variable, Use}
 use Rattle.rhai_lower.specs.Nodes as node
-use Rattle.rhai_lower.specs.Nodes.{Arms, Cases, Node, Nodes, made_block}
-use Rattle.rhai_lower.specs.declared.position.Position.{Position}
+use Rattle.rhai_lower.specs.Nodes.{Arms, Cases}
 use Rattle.rhai_lower.specs.declared.token.Token.TheVariants as token
-use Rattle.rhai_lower.specs.Slots.{SlotValue, fresh_slot, with_alias, with_constant}
-use Rattle.rhai_grammar.specs.Beginnings.{calls, is_this, may_be_called, value_of}
-use Rattle.rhai_grammar.specs.Causes.{Refusal}
-use Rattle.rhai_grammar.specs.Chains.{Bracket, Chain, Dotted, Link, LinkKind, chain_of, chained, is_last, link_node, nest}
-use Rattle.rhai_grammar.specs.Closures.{captured_nodes, closure_node, shared_names}
-use Rattle.rhai_grammar.specs.Contexts.{Context, Live}
-use Rattle.rhai_grammar.specs.Definitions.{after_statement, after_statements, catch_live, define_at, export_at, is_in_block, loop_live, reused}
-use Rattle.rhai_grammar.specs.Delivered.{is_memory}
-use Rattle.rhai_grammar.specs.Demands.{Blames, Fine, Otherwise, verdict}
 use Rattle.rhai_grammar.specs.Forms as form
-use Rattle.rhai_grammar.specs.Forms.{Statement, Statements}
-use Rattle.rhai_grammar.specs.Interpolations.{with_text}
-use Rattle.rhai_grammar.specs.Modules.{path_tree, qualified}
 use Rattle.rhai_grammar.specs.Operators as O
-use Rattle.rhai_grammar.specs.Operators.{Part, joined, joined_tree, list_of_parts, part}
-use Rattle.rhai_grammar.specs.Settings.{is_in_function}
-use Rattle.rhai_grammar.specs.Signs.{affected}
-use Rattle.rhai_grammar.specs.Slots.{number}
-use Rattle.rhai_grammar.specs.Switches.{Collected, with_arm_collected, with_case, with_cases, with_default_collected, with_value}
-use Rattle.rhai_grammar.specs.CaseValues.{same_value}
-use Rattle.rhai_grammar.specs.TreeNumbers.{AllWellNumbered, AreWellShared, IsHandled, IsReused, WellNumbered, WellNumberedArms, WellNumberedBlock, WellNumberedCases, WellNumberedStatement, WellNumberedStatements, has_path, names_after, names_after_all, names_in, names_in_handler, names_in_loop, number_among, slots_of}
+use Rattle.rhai_grammar.specs.TreeNumbers.{AreWellShared, IsHandled, IsReused, WellNumberedArms, WellNumberedCases}
+use Rattle.rhai_grammar.specs.TreeNumbers.{has_path, names_after, names_after_all, names_in_handler, names_in_loop}
+use Rattle.rhai_grammar.specs.TreeNumbers.{number_among}
 use Rattle.rhai_grammar.specs.Trees as T
-use Rattle.rhai_grammar.specs.Trees.{is_variable}
-use Rattle.rhai_grammar.specs.Uses.{Use}
 use Rattle.rhai_grammar.specs.Verdicts as V
 use Rattle.rhai_grammar.specs.declared.role.Effect.{Effect}
 use Rattle.rhai_grammar.specs.declared.role.Effect.TheVariants.{Negates, Keeps}

@@ -1,27 +1,17 @@
 -- Met demands keep numbers right in functions that end. They also give a fact about a form.
 use Rattle.std.proofs.Common.{◌≡◌, ℕ, Bool, true, false, List, [], ◌∷◌, ◌++◌, subst}
 use Rattle.std.specs.Prelude.{Option, Some, None}
-use Rattle.rhai_lower.specs.Lexemes.{Lexeme}
-use Rattle.rhai_lower.specs.Texts.{Text}
-use Rattle.rhai_lower.specs.declared.position.Position.{Position}
-use Rattle.rhai_grammar.specs.Causes.{Refusal}
-use Rattle.rhai_grammar.specs.Constructs.{guard_fault, iterated_fault}
-use Rattle.rhai_grammar.specs.Contexts.{Context, Live, level_up}
-use Rattle.rhai_grammar.specs.Delivered.{Item, Mode, Point, adding, apart, capturing, code, next_at, past, with_captured}
-use Rattle.rhai_grammar.specs.Comments.{Comment}
-use Rattle.rhai_grammar.specs.Demands.{Adds, Ahead, Apart, Captures, Demands, Literally, Met, Next, Nothing, Shape, Test, TestIn, Tok, Uses, Verdict, ◌▸◌}
+use Rattle.rhai_grammar.specs.Prelude.{Lexeme, Text, Position, Refusal, guard_fault, iterated_fault, Context, Live}
+use Rattle.rhai_grammar.specs.Prelude.{level_up, Item, Mode, Point, adding, apart, capturing, code, next_at, past}
+use Rattle.rhai_grammar.specs.Prelude.{with_captured, Comment, Adds, Ahead, Apart, Captures, Demands, Literally, Met}
+use Rattle.rhai_grammar.specs.Prelude.{Next, Nothing, Shape, Test, TestIn, Tok, Uses, Verdict, ◌▸◌, Alias, CatchName}
+use Rattle.rhai_grammar.specs.Prelude.{ClosureHead, LoopNames, Owner, ParameterList, Parameters, Path, Run, Ended}
+use Rattle.rhai_grammar.specs.Prelude.{Library, with_ended, qualified, Outermost, RightOf, Side, outermost}
+use Rattle.rhai_grammar.specs.Prelude.{WellNumberedFunction, WellNumberedLibrary, tree, Use, Node}
 use Rattle.rhai_grammar.specs.Forms as form
-use Rattle.rhai_grammar.specs.Forms.{Alias, CatchName, ClosureHead, LoopNames, Owner, ParameterList, Parameters, Path, Run}
-use Rattle.rhai_grammar.specs.Libraries.{Ended, Library, with_ended}
-use Rattle.rhai_grammar.specs.Modules.{qualified}
-use Rattle.rhai_grammar.specs.Spots.{Outermost, RightOf, Side, outermost}
-use Rattle.rhai_grammar.specs.TreeNumbers.{WellNumberedFunction, WellNumberedLibrary}
-use Rattle.rhai_grammar.specs.Trees.{tree}
-use Rattle.rhai_grammar.specs.Uses.{Use}
 use Rattle.rhai_grammar.specs.Written as W
 use Rattle.rhai_grammar.specs.declared.list.CommaList.{CommaList}
 use Rattle.rhai_grammar.specs.declared.list.CommaList.TheVariants as lists
-use Rattle.rhai_lower.specs.Nodes.{Node}
 
 -- Some demands are met from a point on; the functions up to there are well numbered if those before were.
 pub record Passed (before : Library) (k : Demands) (t : Point) : Type 0 where

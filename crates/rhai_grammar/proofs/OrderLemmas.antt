@@ -1,19 +1,10 @@
 -- Functions stay within the limit, and each key is there once.
 use Rattle.std.proofs.Common.{◌≡◌, inl, inr, ℕ, ◌+◌, true, List, refl, sym, ap, ◌∙◌, subst, arith}
-use Rattle.rhai_grammar.specs.Causes.{Refusal}
-use Rattle.rhai_grammar.specs.Closures.{closure_name, declared_names, in_closure}
-use Rattle.rhai_grammar.specs.Contexts.{Context, Live, level_up}
+use Rattle.rhai_grammar.specs.Prelude.{Refusal, closure_name, declared_names, in_closure, Context, Live, level_up, Mode}
+use Rattle.rhai_grammar.specs.Prelude.{Point, with_captured, Demands, Met, Missed, Nothing, ClosureBody, ClosureHead}
+use Rattle.rhai_grammar.specs.Prelude.{is_new, parameters_live, closure_count, IsOrderly, closure_tree, Use, Event}
 use Rattle.rhai_grammar.specs.Delivered as D
-use Rattle.rhai_grammar.specs.Delivered.{Mode, Point, with_captured}
-use Rattle.rhai_grammar.specs.Demands.{Demands, Met, Missed, Nothing}
-use Rattle.rhai_grammar.specs.Forms.{ClosureBody, ClosureHead}
-use Rattle.rhai_grammar.specs.Functions.{is_new, parameters_live}
-use Rattle.rhai_grammar.specs.Libraries.{closure_count}
 use Rattle.rhai_grammar.specs.LibraryLaws.{LibrariesStayOrderly, up_to_key}
-use Rattle.rhai_grammar.specs.NumberedLibraries.{IsOrderly}
-use Rattle.rhai_grammar.specs.Trees.{closure_tree}
-use Rattle.rhai_grammar.specs.Uses.{Use}
-use Rattle.rhai_grammar.specs.UsesOfForms.{Event}
 use Rattle.rhai_grammar.proofs.CaptureLemmas.{whole_expression, whole_script}
 use Rattle.rhai_grammar.proofs.EventEffects.{library_used}
 use Rattle.rhai_grammar.proofs.EventLemmas as happens

@@ -1,8 +1,8 @@
 -- The worked rows, by evaluation.
 use Rattle.std.proofs.Common.{refl, inl, inr}
-use Rattle.rhai_grammar.specs.Settings.{one_more}
-use Rattle.rhai_grammar.specs.Slots.{number}
-use Rattle.rhai_grammar.specs.Rows.{SumRow, PairRow, FlatRow, LateRow, OpenRow, MinusRow, EndedRow, CallRow, RangedRow, SizedRow}
+use Rattle.rhai_grammar.specs.Prelude.{one_more, number}
+use Rattle.rhai_grammar.specs.Rows.{SumRow, PairRow, FlatRow, LateRow, OpenRow, MinusRow, EndedRow, CallRow, RangedRow}
+use Rattle.rhai_grammar.specs.Rows.{SizedRow}
 use Rattle.rhai_grammar.specs.RowsOfChains.{GroupedRow, JoinedRow, QuestionedRow, CaptureRow}
 
 pub sum_row : SumRow

@@ -1,7 +1,6 @@
 -- What tokens taken one after the other give and leave.
 use Rattle.std.proofs.Common.{◌≡◌, List, [], ◌∷◌, ◌++◌, refl}
-use Rattle.rhai_grammar.specs.Delivered.{Tokens, Taken, later}
-use Rattle.rhai_grammar.specs.Seen.{Gives, leads, latest_first}
+use Rattle.rhai_grammar.specs.Prelude.{Tokens, Taken, later, Gives, leads, latest_first}
 
 pub leads_on : (a b : List Taken) (s : Tokens) → leads (a ++ b) s ≡ leads b (leads a s)
 leads_on [] b s = refl

@@ -1,34 +1,25 @@
 -- Trees are equal up to positions if their forms are.
-use Rattle.std.proofs.Common.{◌≡◌, Bool, true, [], ◌∷◌, refl, sym, ap, ◌∙◌}
+use Rattle.std.proofs.Common.{◌≡◌, Bool, true, [], ◌∷◌, refl, sym, ap, ◌∙◌, ℕ, List, ◌++◌, length}
 use Rattle.std.specs.Prelude.{Option, unwrap_or}
 use Rattle.std.specs.Option.{is_some}
-use Rattle.rhai_lower.specs.Texts.{Text}
-use Rattle.rhai_lower.specs.Positions.{nowhere}
-use Rattle.rhai_lower.specs.Lexemes.{text_of}
+use Rattle.rhai_grammar.specs.Prelude.{Text, nowhere, text_of, Nodes, Position, is_this, Live, in_block, Action}
+use Rattle.rhai_grammar.specs.Prelude.{Arguments, Arms, Base, Body, Branch, CaseGuard, Cases, Conditional, Construct}
+use Rattle.rhai_grammar.specs.Prelude.{Elements, ExprStatement, Fields, Initializer, Items, JumpValue, Links, Operand}
+use Rattle.rhai_grammar.specs.Prelude.{Primary, Run, Segments, Statement, Statements, after_statement, alias_of}
+use Rattle.rhai_grammar.specs.Prelude.{catch_live, exported, imported, loop_live, is_scoped, path_tree, with_text}
+use Rattle.rhai_grammar.specs.Prelude.{bars_at, captured_nodes, closure_node, declared_names, shared_names, names_after}
+use Rattle.rhai_grammar.specs.Prelude.{Use, names_of, joining, node_shape, nodes_shape, effect, plain_sign, signed}
+use Rattle.rhai_grammar.specs.Prelude.{Collected, nothing_collected, switch_tree, with_arm_collected}
+use Rattle.rhai_grammar.specs.Prelude.{with_default_collected, argument_trees, base_tree, link_list, operand_tree}
+use Rattle.rhai_grammar.specs.Prelude.{primary_tree, tree}
 use Rattle.rhai_lower.specs.Nodes as node
-use Rattle.rhai_lower.specs.Nodes.{Nodes}
-use Rattle.rhai_lower.specs.declared.position.Position.{Position}
-use Rattle.rhai_grammar.specs.Beginnings.{is_this}
-use Rattle.rhai_grammar.specs.Contexts.{Live, in_block}
 use Rattle.rhai_grammar.specs.Forms as form
-use Rattle.rhai_grammar.specs.Forms.{Action, Arguments, Arms, Base, Body, Branch, CaseGuard, Cases, Conditional, Construct, Elements, ExprStatement, Fields, Initializer, Items, JumpValue, Links, Operand, Primary, Run, Segments, Statement, Statements}
-use Rattle.rhai_grammar.specs.Definitions.{after_statement, alias_of, catch_live, exported, imported, loop_live}
-use Rattle.rhai_grammar.specs.Modules.{is_scoped, path_tree}
-use Rattle.rhai_grammar.specs.Interpolations.{with_text}
 use Rattle.rhai_grammar.specs.Laws.{TreesKeepShape}
-use Rattle.rhai_grammar.specs.Closures.{bars_at, captured_nodes, closure_node, declared_names, shared_names}
-use Rattle.rhai_grammar.specs.Functions.{names_after}
-use Rattle.rhai_grammar.specs.Uses.{Use, names_of}
-use Rattle.std.proofs.Common.{ℕ, List, ◌++◌, length}
-use Rattle.rhai_grammar.specs.Operators.{joining}
 use Rattle.rhai_grammar.specs.Shapes as shape
-use Rattle.rhai_grammar.specs.Shapes.{node_shape, nodes_shape}
-use Rattle.rhai_grammar.specs.Signs.{effect, plain_sign, signed}
-use Rattle.rhai_grammar.specs.Switches.{Collected, nothing_collected, switch_tree, with_arm_collected, with_default_collected}
 use Rattle.rhai_grammar.specs.Trees as T
 use Rattle.rhai_grammar.proofs.SwitchLemmas.{arm, collected_shape, default_arm}
-use Rattle.rhai_grammar.specs.Trees.{argument_trees, base_tree, link_list, operand_tree, primary_tree, tree}
-use Rattle.rhai_grammar.proofs.ShapeSteps.{value, word, name, stands, bang, call, method, scoped, has_names, sign_effect, list, join_tree, link_shapes, last, chains}
+use Rattle.rhai_grammar.proofs.ShapeSteps.{value, word, name, stands, bang, call, method, scoped, has_names}
+use Rattle.rhai_grammar.proofs.ShapeSteps.{sign_effect, list, join_tree, link_shapes, last, chains}
 
 kept : (f : node.Statement) (rest : node.Statements) → shape.statements_shape (T.kept f rest) ≡ T.kept (shape.statement_shape f) (shape.statements_shape rest)
 kept (node.noop p) rest = refl

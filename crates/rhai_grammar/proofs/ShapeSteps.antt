@@ -2,31 +2,24 @@
 use Rattle.std.proofs.Common.{◌≡◌, Bool, true, false, List, [], ◌∷◌, ◌++◌, refl, sym, ap, ◌∙◌, if◌then◌else◌}
 use Rattle.std.specs.Prelude.{Option, Some, None}
 use Rattle.std.specs.Option.{is_some}
-use Rattle.rhai_lower.specs.Texts.{Text}
-use Rattle.rhai_lower.specs.Positions.{nowhere}
-use Rattle.rhai_lower.specs.Lexemes.{Lexeme, Sign}
+use Rattle.rhai_grammar.specs.Prelude.{Text, nowhere, Lexeme, Sign, Node, Nodes, position_of, Position, value_of}
+use Rattle.rhai_grammar.specs.Prelude.{Bracket, Chain, Dotted, Link, LinkKind, chain_of, chained, is_last, link_node}
+use Rattle.rhai_grammar.specs.Prelude.{nest, is_scoped, path_tree, qualified, Part, joined, joined_tree, list_of_parts}
+use Rattle.rhai_grammar.specs.Prelude.{part, node_shape, nodes_shape, affected, call_tree, method_tree, node_count}
 use Rattle.rhai_lower.specs.Nodes as node
-use Rattle.rhai_lower.specs.Nodes.{Node, Nodes, position_of}
-use Rattle.rhai_lower.specs.declared.position.Position.{Position}
 use Rattle.rhai_lower.specs.declared.token.Token.TheVariants as token
-use Rattle.rhai_grammar.specs.Beginnings.{value_of}
-use Rattle.rhai_grammar.specs.Chains.{Bracket, Chain, Dotted, Link, LinkKind, chain_of, chained, is_last, link_node, nest}
 use Rattle.rhai_grammar.specs.Forms as form
-use Rattle.rhai_grammar.specs.Forms.{Items}
-use Rattle.rhai_grammar.specs.Modules.{is_scoped, path_tree, qualified, root_of}
+use Rattle.rhai_grammar.specs.Modules.{root_of}
 use Rattle.rhai_grammar.specs.Operators as O
-use Rattle.rhai_grammar.specs.Operators.{Part, joined, joined_tree, list_of_parts, part}
 use Rattle.rhai_grammar.specs.Shapes as shape
-use Rattle.rhai_grammar.specs.Shapes.{bang_shape, node_shape, nodes_shape}
+use Rattle.rhai_grammar.specs.Shapes.{bang_shape}
 use Rattle.rhai_grammar.specs.declared.role.Effect.{Effect}
 use Rattle.rhai_grammar.specs.declared.role.Effect.TheVariants.{Keeps, Negates}
 use Rattle.rhai_grammar.specs.declared.role.ListKind.{ListKind}
 use Rattle.rhai_grammar.specs.declared.role.ListKind.TheVariants as lists
 use Rattle.rhai_grammar.specs.declared.role.Joining.{Joining}
 use Rattle.rhai_grammar.specs.declared.role.Joining.TheVariants as joins
-use Rattle.rhai_grammar.specs.Signs.{affected}
 use Rattle.rhai_grammar.specs.Trees as T
-use Rattle.rhai_grammar.specs.Trees.{call_tree, method_tree, node_count}
 
 -- ---- operands
 

@@ -1,22 +1,23 @@
 -- Which slot a name refers to, and what a definition does to the slots.
-use Rattle.std.proofs.Common.{◌≡◌, ◌∙◌, ◌⊎◌, inl, inr, ℕ, suc, zero, ◌+◌, ◌-◌, ◌<◌, ◌≤◌, cond, Bool, true, false, not, nat_lt, List, [], ◌∷◌, ◌++◌, Option, Some, None, unwrap_or, codes, nat_eq, length, take, refl, sym, ap, subst, arith, if◌then◌else◌}
+use Rattle.std.proofs.Common.{◌≡◌, ◌∙◌, ◌⊎◌, inl, inr, ℕ, suc, zero, ◌+◌, ◌-◌, ◌<◌, ◌≤◌, cond, Bool, true, false, not}
+use Rattle.std.proofs.Common.{nat_lt, List, [], ◌∷◌, ◌++◌, Option, Some, None, unwrap_or, codes, nat_eq, length, take}
+use Rattle.std.proofs.Common.{refl, sym, ap, subst, arith, if◌then◌else◌}
 use Rattle.std.proofs.lemmas.Bool.{and_from, and_parts, eq-eqb, le-ltb, ltb-false, not-true}
-use Rattle.std.proofs.lemmas.List.{get_or-set_same, length-append, length-set, take-append-le, take-set-le, take-take, take_all}
+use Rattle.std.proofs.lemmas.List.{get_or-set_same, length-append, length-set, take-append-le, take-set-le, take-take}
+use Rattle.std.proofs.lemmas.List.{take_all}
 use Rattle.std.proofs.Math.Seq.{get_or-append_seam}
 use Rattle.std.specs.Cmp.Lexicographic as L
 use Rattle.std.specs.Option.{option_or}
-use Rattle.rhai_lower.specs.Texts.{Text, same_text}
-use Rattle.rhai_lower.specs.Names.{is_identifier}
-use Rattle.rhai_lower.specs.Slots.{SlotValue, fresh_slot, slot_at, with_alias, with_constant, with_slot}
-use Rattle.rhai_lower.specs.declared.position.Position.{Position}
-use Rattle.rhai_grammar.specs.Contexts.{Live, in_block}
-use Rattle.rhai_grammar.specs.Definitions.{after_statement, after_statements, alias_of, catch_live, define, define_at, export_at, is_exported, is_in_block, is_reusable, loop_live, reused, reused_at}
+use Rattle.rhai_grammar.specs.Prelude.{Text, same_text, is_identifier, SlotValue, fresh_slot, with_alias, with_constant}
+use Rattle.rhai_grammar.specs.Prelude.{Position, Live, in_block, after_statement, after_statements, alias_of}
+use Rattle.rhai_grammar.specs.Prelude.{catch_live, define_at, export_at, is_in_block, loop_live, reused, Statement}
+use Rattle.rhai_grammar.specs.Prelude.{Statements, number, primary_tree, variable_of}
+use Rattle.rhai_lower.specs.Slots.{slot_at, with_slot}
+use Rattle.rhai_grammar.specs.Definitions.{define, is_exported, is_reusable, reused_at}
 use Rattle.rhai_grammar.specs.Forms as form
-use Rattle.rhai_grammar.specs.Forms.{Statement, Statements}
 use Rattle.rhai_grammar.specs.SlotLaws.{IsDefined, IsReusable, NoSlot, NumberedSlot, Reuse, ScopesClose}
-use Rattle.rhai_grammar.specs.Slots.{IsLatest, is_barrier, is_named, number, slot_from_latest}
+use Rattle.rhai_grammar.specs.Slots.{IsLatest, is_barrier, is_named, slot_from_latest}
 use Rattle.rhai_grammar.specs.Targets.{slot_of}
-use Rattle.rhai_grammar.specs.Trees.{primary_tree, variable_of}
 
 -- ---- the number of a name refers to its latest slot
 

@@ -1,39 +1,28 @@
 -- Spelling, as a projection of what forms demand.
-use Rattle.std.proofs.Common.{◌≡◌, Bool, true, false, List, [], ◌∷◌, ◌++◌, rules, refl, sym, ap, ◌∙◌, subst, if◌then◌else◌}
+use Rattle.std.proofs.Common.{◌≡◌, Bool, true, false, List, [], ◌∷◌, ◌++◌, rules, refl, sym, ap, ◌∙◌, subst}
+use Rattle.std.proofs.Common.{if◌then◌else◌}
 use Rattle.std.specs.Prelude.{IsTrue}
 use Rattle.std.proofs.lemmas.List.Elements.{All-head, All-tail}
-use Rattle.rhai_lower.specs.Lexemes.{Lexeme, Sign, lexeme}
-use Rattle.rhai_lower.specs.Entries.{may_be_delivered, token_may_be_delivered}
-use Rattle.rhai_lower.specs.Entries.{in_code as in_code_mode}
-use Rattle.rhai_lower.specs.declared.position.Position.{Position}
+use Rattle.rhai_grammar.specs.Prelude.{Lexeme, Sign, Position, Token, Cause, unexpected, Mode, Point, Tokens, Ends}
+use Rattle.rhai_grammar.specs.Prelude.{Then, Taken, adding, ask, later, past, next_at, is_end, is_memory, Gives, leads}
+use Rattle.rhai_grammar.specs.Prelude.{Context, Live, level_up, Run, spelling, Verdict, Fine, Wrong, Otherwise, Demands}
+use Rattle.rhai_grammar.specs.Prelude.{Nothing, Met, end_due, outermost, after_statement, verdict, Statements}
+use Rattle.rhai_grammar.specs.Prelude.{script_spelling, capturing, with_captured}
+use Rattle.rhai_lower.specs.Lexemes.{lexeme}
+use Rattle.rhai_lower.specs.Entries.{may_be_delivered, token_may_be_delivered, in_code as in_code_mode}
 use Rattle.rhai_lower.specs.declared.stream.Entry.{Entry}
-use Rattle.rhai_lower.specs.declared.token.Token.{Token}
 use Rattle.rhai_lower.specs.declared.token.Token.TheVariants as token
-use Rattle.rhai_grammar.specs.Causes.{Cause}
-use Rattle.rhai_grammar.specs.Beginnings.{unexpected}
 use Rattle.rhai_grammar.specs.Delivered as M
-use Rattle.rhai_grammar.specs.Delivered.{Mode, Point, Tokens, Ends, Then, Taken, adding, ask, later, past, next_at, is_end, is_memory}
-use Rattle.rhai_grammar.specs.Seen.{Gives, leads}
-use Rattle.rhai_grammar.specs.Contexts.{Context, Live, level_up}
 use Rattle.rhai_grammar.specs.Forms as form
-use Rattle.rhai_grammar.specs.Forms.{Primary, Base, Links, Operand, Arguments, Items, Elements, Fields, Run}
-use Rattle.rhai_grammar.specs.Spelling.{spelling, is_deliverable, IsDelivered}
-use Rattle.rhai_grammar.specs.Demands.{Verdict, Fine, Wrong, Otherwise, Demands, Nothing, Met}
+use Rattle.rhai_grammar.specs.Spelling.{is_deliverable, IsDelivered}
 use Rattle.rhai_grammar.specs.Written as W
-use Rattle.rhai_grammar.specs.Written.{raise_after, operands_fit}
-use Rattle.rhai_grammar.specs.Verdicts.{end_due}
-use Rattle.rhai_grammar.specs.Spots.{outermost}
 use Rattle.rhai_grammar.specs.Laws.{EntriesAreDelivered, FormsAreSpelled, StreamsAreWhole}
-use Rattle.rhai_grammar.specs.Definitions.{after_statement}
-use Rattle.rhai_grammar.specs.Demands.{verdict}
-use Rattle.rhai_grammar.specs.Forms.{Statements}
-use Rattle.rhai_grammar.specs.Spelling.{script_spelling}
 use Rattle.rhai_grammar.specs.Statements as S
 use Rattle.rhai_grammar.specs.declared.role.Closing.TheVariants.{EndMark}
 use Rattle.rhai_grammar.proofs.Leads as L
 use Rattle.rhai_grammar.proofs.SeenLemmas.{both, leads_on}
-use Rattle.rhai_grammar.specs.Delivered.{capturing, with_captured}
-use Rattle.rhai_grammar.proofs.Leads.{Leads, adds, apart, captures, uses, ahead, all_of, expressed, here, literally, next, on, shape, test, test_in, tok}
+use Rattle.rhai_grammar.proofs.Leads.{Leads, adds, apart, captures, uses, ahead, all_of, expressed, here, literally}
+use Rattle.rhai_grammar.proofs.Leads.{next, on, shape, test, test_in, tok}
 
 -- the tokens taken from one point of a stream to another
 abbrev Way : List Taken → Tokens → Tokens → Type 0

@@ -1,30 +1,22 @@
 -- Which tokens begin an expression.
-use Rattle.std.proofs.Common.{◌≡◌, ◌⊎◌, inl, inr, ℕ, Bool, true, false, not, List, [], ◌∷◌, ◌++◌, None, Some, pos, refl, sym, ap, subst, if◌then◌else◌}
-use Rattle.rhai_lower.specs.Texts.{Text}
-use Rattle.rhai_lower.specs.Positions.{place}
-use Rattle.rhai_lower.specs.Lexemes.{Lexeme, Character, Comment, Faulty, Integer, Interpolated, Name, Reserved, Sign, String}
-use Rattle.rhai_lower.specs.declared.position.Position.{Position}
-use Rattle.rhai_lower.specs.declared.token.Token.{Token}
+use Rattle.std.proofs.Common.{◌≡◌, ◌⊎◌, inl, inr, ℕ, Bool, true, false, not, List, [], ◌∷◌, ◌++◌, None, Some, pos, refl}
+use Rattle.std.proofs.Common.{sym, ap, subst, if◌then◌else◌}
+use Rattle.rhai_grammar.specs.Prelude.{Text, place, Lexeme, Faulty, Integer, Interpolated, Name, Reserved, Sign, String}
+use Rattle.rhai_grammar.specs.Prelude.{Position, Token, beginning, construct_token, kind_of, Context, Live}
+use Rattle.rhai_grammar.specs.Prelude.{has_single_blocks, level_up, loop_body, code, text, is_memory, item, next_at}
+use Rattle.rhai_grammar.specs.Prelude.{past, Ends, Point, Then, Tokens, Demands, Fine, Met, Nothing, Otherwise, Base}
+use Rattle.rhai_grammar.specs.Prelude.{Body, Operand, Primary, Run, outermost, begins, starts, bars_at, bars_of}
+use Rattle.rhai_grammar.specs.Prelude.{bars_token, adding, apart, may_begin, may_be_closure, closure_tree}
+use Rattle.rhai_lower.specs.Lexemes.{Character, Comment}
 use Rattle.rhai_lower.specs.declared.token.Token.TheVariants as token
 use Rattle.rhai_grammar.specs.declared.role.OperandPlace.TheVariants.{Elsewhere}
-use Rattle.rhai_grammar.specs.Beginnings.{beginning}
-use Rattle.rhai_grammar.specs.Constructs.{construct_token, kind_of}
-use Rattle.rhai_grammar.specs.Contexts.{Context, Live, has_block_values, has_if_values, has_loop_values, has_single_blocks, has_switch_values, level_up, loop_body}
-use Rattle.rhai_grammar.specs.Delivered.{code, text, is_memory, item, next_at, past, Ends, Point, Then, Tokens}
-use Rattle.rhai_grammar.specs.Demands.{Demands, Fine, Met, Nothing, Otherwise}
+use Rattle.rhai_grammar.specs.Contexts.{has_block_values, has_if_values, has_loop_values, has_switch_values}
 use Rattle.rhai_grammar.specs.Forms as form
-use Rattle.rhai_grammar.specs.Forms.{Base, Body, Operand, Primary, Run}
-use Rattle.rhai_grammar.specs.Spots.{outermost}
 use Rattle.rhai_grammar.specs.StartLaws.{IsBegun, StartsOfExpressions, is_added}
-use Rattle.rhai_grammar.specs.Starts.{begins, starts}
 use Rattle.rhai_grammar.specs.Written as W
-use Rattle.rhai_grammar.specs.Closures.{bars_at, bars_of, bars_token}
-use Rattle.rhai_grammar.specs.Delivered.{adding, apart}
-use Rattle.rhai_grammar.specs.Functions.{may_begin}
-use Rattle.rhai_grammar.specs.Starts.{may_be_closure}
-use Rattle.rhai_grammar.specs.Trees.{closure_tree}
 use Rattle.rhai_grammar.specs.declared.role.Bars.TheVariants as bars
-use Rattle.rhai_grammar.proofs.BeginningLemmas.{closure_begins, value_begins, sign_begins, construct_begins, range_begins}
+use Rattle.rhai_grammar.proofs.BeginningLemmas.{closure_begins, value_begins, sign_begins, construct_begins}
+use Rattle.rhai_grammar.proofs.BeginningLemmas.{range_begins}
 
 -- ---- an expression that fits begins with a token that begins one
 

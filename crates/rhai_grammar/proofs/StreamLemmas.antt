@@ -1,16 +1,12 @@
 -- A form that fits on one stream fits wherever it is spelled.
-use Rattle.std.proofs.Common.{◌≡◌, List, ◌++◌}
-use Rattle.std.proofs.Common.{refl, sym, ap, ◌∙◌, subst}
-use Rattle.rhai_lower.specs.Lexemes.{Lexeme}
+use Rattle.std.proofs.Common.{◌≡◌, List, ◌++◌, refl, sym, ap, ◌∙◌, subst, Bool}
+use Rattle.rhai_grammar.specs.Prelude.{Lexeme, closure_count, capturing, with_captured, code, Item, Mode, Point, Taken}
+use Rattle.rhai_grammar.specs.Prelude.{Tokens, adding, ask, next_at, past, Demands, Fine, Met, Nothing, Verdict}
+use Rattle.rhai_grammar.specs.Prelude.{verdict, with_ended, Gives, leads}
 use Rattle.rhai_grammar.specs.Delivered as D
-use Rattle.std.proofs.Common.{Bool}
-use Rattle.rhai_grammar.specs.Libraries.{closure_count}
-use Rattle.rhai_grammar.specs.Delivered.{capturing, with_captured, code, Item, Mode, Point, Taken, Tokens, adding, ask, is_end, next_at, past}
-use Rattle.rhai_grammar.specs.Demands.{Demands, Fine, Met, Nothing, Verdict, verdict}
-use Rattle.rhai_grammar.specs.Libraries.{with_ended}
 use Rattle.rhai_grammar.specs.Laws.{FormsFitWhereverSpelled}
-use Rattle.rhai_grammar.specs.Seen.{Gives, leads}
-use Rattle.rhai_grammar.proofs.Leads.{Leads, adds, apart, captures, uses, ahead, here, literally, next, shape, test, test_in, tok}
+use Rattle.rhai_grammar.proofs.Leads.{Leads, adds, apart, captures, uses, ahead, here, literally, next, shape, test}
+use Rattle.rhai_grammar.proofs.Leads.{test_in, tok}
 use Rattle.rhai_grammar.proofs.SeenLemmas.{first_part, last_part, leads_on}
 use Rattle.rhai_grammar.proofs.SpellingLemmas.{are_spelled, expression_leads, script_leads}
 

@@ -1,7 +1,6 @@
 -- The worked rows of interpolated strings and of jumps, by evaluation.
 use Rattle.std.proofs.Common.{refl, inl, inr}
-use Rattle.rhai_grammar.specs.Settings.{one_more}
-use Rattle.rhai_grammar.specs.Slots.{number}
+use Rattle.rhai_grammar.specs.Prelude.{one_more, number}
 use Rattle.rhai_grammar.specs.RowsOfStrings.{StringRow, JumpRow, ReturnRow}
 
 pub string_row : StringRow

@@ -1,14 +1,16 @@
 -- What the arms of a `switch` give, up to positions.
 use Rattle.std.proofs.Common.{◌≡◌, ℕ, Bool, true, false, ◌&&◌, [], ◌∷◌, ◌++◌, refl, sym, ap, ◌∙◌, if◌then◌else◌}
 use Rattle.std.specs.Prelude.{◌==◌, Option, Some}
-use Rattle.rhai_lower.specs.Texts.{Text, same_text}
+use Rattle.rhai_grammar.specs.Prelude.{Text, same_text, Node, Nodes, Properties, same_value, has_key, property_count}
+use Rattle.rhai_grammar.specs.Prelude.{node_shape, nodes_shape, Collected, with_arm_collected, with_case, with_cases}
+use Rattle.rhai_grammar.specs.Prelude.{with_default_collected, with_value}
 use Rattle.rhai_lower.specs.Nodes as node
-use Rattle.rhai_lower.specs.Nodes.{Arms, Cases, Node, Nodes, Properties}
-use Rattle.rhai_grammar.specs.CaseValues.{inclusion, property_value, range_end, range_of, range_over, range_start, same_properties, same_value, same_values}
-use Rattle.rhai_grammar.specs.Literals.{has_key, property_count}
-use Rattle.rhai_grammar.specs.Shapes.{arms_shape, cases_shape, node_shape, nodes_shape, properties_shape}
+use Rattle.rhai_lower.specs.Nodes.{Arms, Cases}
+use Rattle.rhai_grammar.specs.CaseValues.{inclusion, property_value, range_end, range_of, range_over, range_start}
+use Rattle.rhai_grammar.specs.CaseValues.{same_properties, same_values}
+use Rattle.rhai_grammar.specs.Shapes.{arms_shape, cases_shape, properties_shape}
 use Rattle.rhai_grammar.specs.Switches as S
-use Rattle.rhai_grammar.specs.Switches.{Collected, arm_count, listed_range, with_arm_collected, with_case, with_cases, with_default_collected, with_value}
+use Rattle.rhai_grammar.specs.Switches.{arm_count, listed_range}
 
 -- ---- values
 

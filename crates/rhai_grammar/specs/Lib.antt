@@ -60,3 +60,4 @@ pub mod TreeNumbers
 pub mod NumberedLibraries
 pub mod LibraryLaws
 pub mod Imports
+pub mod Prelude

@@ -1,41 +1,31 @@
 -- Which token it is, by its role.
 use Rattle.std.proofs.Common.{◌≡◌, ℕ, Bool, true, false, refl, ap, ◌∙◌, subst, if◌then◌else◌}
-use Rattle.rhai_lower.specs.Lexemes.{Comment, Lexeme, Interpolated, Name, Reserved, Sign, String, text_of}
-use Rattle.rhai_grammar.specs.Interpolations.{is_last_text, is_text}
-use Rattle.rhai_grammar.specs.Starts.{jump_token}
+use Rattle.rhai_grammar.specs.Prelude.{Lexeme, Interpolated, Name, Reserved, Sign, String, text_of, is_last_text}
+use Rattle.rhai_grammar.specs.Prelude.{is_text, jump_token, Position, refusal, bars_token, full, code, Item, item}
+use Rattle.rhai_grammar.specs.Prelude.{Point, next_at, Blames, Wrong, beginning, calling, is_name, member_place}
+use Rattle.rhai_grammar.specs.Prelude.{is_member, qualifies, item_place, KeyPlace, FieldsEnd, AKey, key_place}
+use Rattle.rhai_grammar.specs.Prelude.{is_equals, is_comment, defines, keyword_of, name_due, no_variable}
+use Rattle.rhai_grammar.specs.Prelude.{token_after_statement, statement_start, construct_token, do_end, do_token}
+use Rattle.rhai_grammar.specs.Prelude.{may_be_value, may_stand, Context, allows_looping, is_memory, arm_place}
+use Rattle.rhai_lower.specs.Lexemes.{Comment}
 use Rattle.std.specs.Prelude.{Some}
 use Rattle.rhai_reading.proofs.FormKinds.{text_token}
-use Rattle.rhai_lower.specs.declared.position.Position.{Position}
 use Rattle.rhai_lower.specs.declared.token.Token.TheVariants as token
 use Rattle.rhai_grammar.specs.Causes as cause
-use Rattle.rhai_grammar.specs.Causes.{refusal}
-use Rattle.rhai_grammar.specs.Closures.{bars_token}
-use Rattle.rhai_grammar.specs.Contexts.{full}
-use Rattle.rhai_grammar.specs.Delivered.{code, Item, item, Point, next_at}
-use Rattle.rhai_grammar.specs.Demands.{Blames, Wrong}
 use Rattle.rhai_grammar.specs.declared.role.Beginning.{Beginning}
 use Rattle.rhai_grammar.specs.declared.role.Beginning.TheVariants as begin
 use Rattle.rhai_grammar.specs.declared.role.Calling.{Calling}
 use Rattle.rhai_grammar.specs.declared.role.Calling.TheVariants as calls_by
 use Rattle.rhai_grammar.specs.declared.role.ItemPlace.{ItemPlace}
 use Rattle.rhai_grammar.specs.declared.role.ItemPlace.TheVariants as place
-use Rattle.rhai_grammar.specs.Beginnings.{beginning, calling, is_name, member_place, is_member, qualifies}
-use Rattle.rhai_grammar.specs.Literals.{item_place, KeyPlace, FieldsEnd, AKey, key_place}
 use Rattle.rhai_grammar.specs.Verdicts.{no_method}
-use Rattle.rhai_grammar.specs.Targets.{is_equals}
-use Rattle.rhai_grammar.specs.Statements.{is_comment, allowed_start, any_start, defines, keyword_of, name_due, no_variable}
-use Rattle.rhai_grammar.specs.Statements.{token_after_statement}
-use Rattle.rhai_grammar.specs.Statements.{statement_start}
-use Rattle.rhai_grammar.specs.Constructs.{construct_token, do_end, do_token, may_be_value, may_stand}
-use Rattle.rhai_grammar.specs.Contexts.{Context, allows_looping}
-use Rattle.rhai_grammar.specs.Delivered.{is_memory}
+use Rattle.rhai_grammar.specs.Statements.{allowed_start, any_start}
 use Rattle.rhai_grammar.specs.declared.role.Construct.{Construct as Kind}
 use Rattle.rhai_grammar.specs.declared.role.Construct.TheVariants as kind
 use Rattle.rhai_grammar.specs.declared.role.AfterStatement.{AfterStatement}
 use Rattle.rhai_grammar.specs.declared.role.AfterStatement.TheVariants as after
 use Rattle.rhai_grammar.specs.declared.role.Closing.{Closing}
 use Rattle.rhai_grammar.specs.declared.role.Closing.TheVariants.{Brace, EndMark}
-use Rattle.rhai_grammar.specs.Switches.{arm_place}
 use Rattle.rhai_grammar.specs.declared.role.ArmPlace.{ArmPlace}
 use Rattle.rhai_grammar.specs.declared.role.ArmPlace.TheVariants as arm
 use Rattle.rhai_grammar.specs.declared.role.StatementStart.{StatementStart}

@@ -1,20 +1,14 @@
 -- Several steps as one: a dot with its member, a bracket with its index.
-use Rattle.std.proofs.Common.{◌≡◌, ◌+◌, ◌≤◌, true, false, None, [], ◌∷◌, ◌++◌, sym, ap, ◌∙◌, subst, arith, if◌then◌else◌}
-use Rattle.rhai_lower.specs.Lexemes.{Lexeme}
-use Rattle.rhai_lower.specs.Nodes.{Node}
-use Rattle.rhai_lower.specs.declared.position.Position.{Position}
+use Rattle.std.proofs.Common.{◌≡◌, ◌+◌, ◌≤◌, true, false, None, [], ◌∷◌, ◌++◌, sym, ap, ◌∙◌, subst, arith}
+use Rattle.std.proofs.Common.{if◌then◌else◌}
+use Rattle.rhai_grammar.specs.Prelude.{Lexeme, Node, Position, AMember, linking, member_place, refusal, ExprTooDeep}
+use Rattle.rhai_grammar.specs.Prelude.{out_of_memory, Context, Live, has_room, level_up, left, Item, item, is_end}
+use Rattle.rhai_grammar.specs.Prelude.{is_memory, bracket_link, member_link, LinkSpot, spot_after_bracket}
+use Rattle.rhai_grammar.specs.Prelude.{spot_after_dot}
 use Rattle.rhai_grammar.specs.declared.role.Linking.TheVariants as link
-use Rattle.rhai_grammar.specs.Beginnings.{AMember, linking, member_place}
-use Rattle.rhai_grammar.specs.Causes.{refusal, ExprTooDeep, out_of_memory}
-use Rattle.rhai_grammar.specs.Contexts.{Context, Live, has_room, level_up}
-use Rattle.rhai_grammar.specs.Cursors.{left}
-use Rattle.rhai_reading.specs.Running.{Progress, asked, looking, taking}
-use Rattle.rhai_grammar.specs.Delivered.{Item, item, is_end, is_memory}
-use Rattle.rhai_grammar.specs.Trees.{bracket_link, member_link}
-use Rattle.rhai_grammar.specs.Spots.{LinkSpot, spot_after_bracket, spot_after_dot}
+use Rattle.rhai_reading.specs.Running.{Progress, asked, looking, taking, exec, guarded, nested, result_of}
 use Rattle.rhai_reading.specs.Reading.{Fail, Ret, Call, Index, Links, Member, dot_at, links_at, raised}
 use Rattle.rhai_reading.specs.Running as R
-use Rattle.rhai_reading.specs.Running.{exec, guarded, nested, result_of}
 use Rattle.rhai_reading.proofs.Steps.{and_then_done, guarded_is, nested_is, step_links}
 
 -- From s a dot stands, whose member x ends at t.

@@ -1,15 +1,9 @@
 -- The forms of closures that each reader reads, with their trees and demands.
 use Rattle.std.proofs.Common.{ℕ, List, []}
 use Rattle.rhai_lower.specs.Nodes as node
-use Rattle.rhai_lower.specs.Nodes.{Node}
-use Rattle.rhai_lower.specs.Positions.{nowhere}
-use Rattle.rhai_lower.specs.declared.position.Position.{Position}
-use Rattle.rhai_grammar.specs.Closures.{closure_node, declared_names}
-use Rattle.rhai_grammar.specs.Contexts.{Context, Live}
+use Rattle.rhai_grammar.specs.Prelude.{Node, nowhere, Position, closure_node, declared_names, Context, Live}
+use Rattle.rhai_grammar.specs.Prelude.{ClosureBody, ClosureHead, Parameters, Primary, body_tree, closure_tree, Use}
 use Rattle.rhai_grammar.specs.Forms as form
-use Rattle.rhai_grammar.specs.Forms.{ClosureBody, ClosureHead, Parameters, Primary}
-use Rattle.rhai_grammar.specs.Trees.{body_tree, closure_tree}
-use Rattle.rhai_grammar.specs.Uses.{Use}
 use Rattle.rhai_grammar.specs.Written as W
 use Rattle.rhai_grammar.specs.declared.role.Bars.{Bars}
 use Rattle.rhai_grammar.specs.declared.role.Bars.TheVariants as bars

@@ -13,35 +13,26 @@ pub mod Closures
 pub mod Whole
 use Rattle.rhai_reading.proofs.Complete.Functions as Y
 use Rattle.rhai_reading.proofs.Complete.Closures as Z
-use Rattle.rhai_grammar.specs.Forms.{ClosureBody}
-use Rattle.rhai_reading.proofs.Complete.Law.{ClosureBodyRead, FirstRead}
+use Rattle.rhai_grammar.specs.Prelude.{ClosureBody, Point, Context, Live, Primary, Base, Links, Operand, Arguments}
+use Rattle.rhai_grammar.specs.Prelude.{Items, Elements, Fields, Run, Just, Binary, statement_trees, tree, Met, Nothing}
+use Rattle.rhai_grammar.specs.Prelude.{after_statements, no_statements, run_depth, statements_depth, Body, Branch}
+use Rattle.rhai_grammar.specs.Prelude.{Conditional, Construct, ExprStatement, Initializer, JumpValue, Action, Arms}
+use Rattle.rhai_grammar.specs.Prelude.{CaseGuard, Cases, Segments, Statement}
+use Rattle.rhai_reading.proofs.Complete.Law.{ClosureBodyRead, FirstRead, PrimaryRead, BaseRead, LinksRead, OperandRead}
+use Rattle.rhai_reading.proofs.Complete.Law.{ArgumentsRead, ItemsRead, ElementsRead, FieldsRead, RunRead}
+use Rattle.rhai_reading.proofs.Complete.Law.{ExprStatementRead, InitializerRead, StatementRead, StatementsRead}
+use Rattle.rhai_reading.proofs.Complete.Law.{BodyRead, ActionRead, ArmsRead, CaseGuardRead, CasesRead, BranchRead}
+use Rattle.rhai_reading.proofs.Complete.Law.{ConditionalRead, ConstructRead, InsideRead, JumpRead, SegmentsRead}
 use Rattle.std.proofs.Common.{Bool, true, ◌+◌, max}
-use Rattle.rhai_grammar.specs.Delivered.{Point}
-use Rattle.rhai_grammar.specs.Contexts.{Context, Live}
 use Rattle.rhai_grammar.specs.Forms as form
-use Rattle.rhai_grammar.specs.Forms.{Primary, Base, Links, Operand, Arguments, Items, Elements, Fields, Run, Just}
-use Rattle.rhai_grammar.specs.Forms.{Binary}
-use Rattle.rhai_grammar.specs.Trees.{statement_trees, tree}
-use Rattle.rhai_grammar.specs.Demands.{Met, Nothing}
-use Rattle.rhai_grammar.specs.Definitions.{after_statements}
 use Rattle.rhai_grammar.specs.declared.role.Closing.TheVariants.{EndMark}
-use Rattle.rhai_lower.specs.Nodes.{no_statements}
 use Rattle.rhai_reading.proofs.Reaches.{reached_end}
 use Rattle.rhai_grammar.specs.Written as W
 use Rattle.rhai_reading.specs.Reading as R
 use Rattle.rhai_reading.specs.Reading.{body}
 use Rattle.rhai_reading.specs.Histories.{Done}
 use Rattle.rhai_reading.proofs.Deep.{Deep}
-use Rattle.rhai_grammar.specs.Depths.{run_depth, statements_depth}
 use Rattle.rhai_reading.proofs.Rules.{at}
-use Rattle.rhai_reading.proofs.Complete.Law.{PrimaryRead, BaseRead, LinksRead, OperandRead, ArgumentsRead, ItemsRead}
-use Rattle.rhai_reading.proofs.Complete.Law.{ElementsRead, FieldsRead, RunRead}
-use Rattle.rhai_reading.proofs.Complete.Law.{ExprStatementRead, InitializerRead, StatementRead, StatementsRead, BodyRead}
-use Rattle.rhai_grammar.specs.Forms.{Body, Branch, Conditional, Construct, ExprStatement, Initializer, JumpValue}
-use Rattle.rhai_grammar.specs.Forms.{Action, Arms, CaseGuard, Cases, Segments, Statement}
-use Rattle.rhai_reading.proofs.Complete.Law.{ActionRead, ArmsRead, CaseGuardRead, CasesRead}
-use Rattle.rhai_reading.proofs.Complete.Law.{BranchRead, ConditionalRead, ConstructRead, InsideRead, JumpRead}
-use Rattle.rhai_reading.proofs.Complete.Law.{SegmentsRead}
 use Rattle.rhai_reading.proofs.Complete.Operands as O
 use Rattle.rhai_reading.proofs.Complete.Calls as C
 use Rattle.rhai_reading.proofs.Complete.Literals as L

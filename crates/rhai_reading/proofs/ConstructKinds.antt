@@ -1,24 +1,14 @@
 -- The forms of constructs that each reader reads, with their trees and demands.
 use Rattle.std.proofs.Common.{◌≡◌, Bool, subst, sym}
 use Rattle.std.specs.Prelude.{Option}
-use Rattle.rhai_lower.specs.Texts.{Text}
-use Rattle.rhai_lower.specs.Lexemes.{Sign}
-use Rattle.rhai_lower.specs.Nodes.{Node}
-use Rattle.rhai_lower.specs.declared.position.Position.{Position}
+use Rattle.rhai_grammar.specs.Prelude.{Text, Sign, Node, Position, code, item, Context, Live, Run, tree, ◌▸◌, Tok, Body}
+use Rattle.rhai_grammar.specs.Prelude.{Branch, CatchName, Conditional, Construct, LoopNames, do_end_due, do_token}
+use Rattle.rhai_grammar.specs.Prelude.{kind_of, block_tree, caught, construct_tree, counter_of, loop_name}
 use Rattle.rhai_grammar.specs.declared.due.DueToken.TheVariants as due
-use Rattle.rhai_grammar.specs.Delivered.{code, item}
-use Rattle.rhai_grammar.specs.Contexts.{Context, Live}
-use Rattle.rhai_grammar.specs.Forms.{Run}
-use Rattle.rhai_grammar.specs.Trees.{tree}
-use Rattle.rhai_grammar.specs.Demands.{◌▸◌, Tok}
 use Rattle.rhai_grammar.specs.Written as W
 use Rattle.rhai_lower.specs.Nodes as node
-use Rattle.rhai_grammar.specs.Forms.{Body, Branch, CatchName, Conditional, Construct}
-use Rattle.rhai_grammar.specs.Forms.{LoopNames}
-use Rattle.rhai_grammar.specs.Constructs.{do_end_due, do_token, kind_of}
 use Rattle.rhai_grammar.specs.declared.role.Construct.{Construct as ConstructKind}
-use Rattle.rhai_grammar.specs.Trees.{block_tree, branch_tree, caught, conditional_tree, construct_tree, counter_of}
-use Rattle.rhai_grammar.specs.Trees.{loop_name}
+use Rattle.rhai_grammar.specs.Trees.{branch_tree, conditional_tree}
 use Rattle.rhai_reading.proofs.Shows.{Kind}
 
 abbrev pub guards : Context → Live → Kind Run Node

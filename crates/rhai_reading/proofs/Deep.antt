@@ -1,13 +1,9 @@
 -- How a reader runs, and how deep it is, step by step. Nothing here speaks of the grammar.
 use Rattle.std.proofs.Common.{◌≡◌, ℕ, ◌+◌, ◌≤◌, Bool, true, false, max, refl, sym, subst, List, [], arith}
 use Rattle.std.proofs.Common.{if◌then◌else◌}
-use Rattle.rhai_lower.specs.Lexemes.{Lexeme, Sign}
-use Rattle.rhai_lower.specs.declared.position.Position.{Position}
+use Rattle.rhai_grammar.specs.Prelude.{Lexeme, Sign, Position, Item, item, is_memory, is_text, Ended, Library, Use}
+use Rattle.rhai_grammar.specs.Prelude.{noted}
 use Rattle.rhai_lower.specs.declared.token.Token.TheVariants as token
-use Rattle.rhai_grammar.specs.Delivered.{Item, item, is_memory}
-use Rattle.rhai_grammar.specs.Interpolations.{is_text}
-use Rattle.rhai_grammar.specs.Libraries.{Ended, Library}
-use Rattle.rhai_grammar.specs.Uses.{Use, noted}
 use Rattle.rhai_reading.specs.Histories.{State, adding, after_brace, asked, looking, taking, with_captured, Outcome}
 use Rattle.rhai_reading.specs.Histories.{Done, Runs}
 use Rattle.rhai_reading.specs.Nesting.{is_counted}

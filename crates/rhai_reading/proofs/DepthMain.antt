@@ -1,13 +1,9 @@
 -- The nesting bound from below, in terms of forms. After acceptance readers were nested at least as deeply as the form
 -- is deep.
-use Rattle.std.proofs.Common.{◌≡◌, ℕ, ◌+◌, ◌≤◌, max, inr, refl, subst}
-use Rattle.std.proofs.Common.{arith}
+use Rattle.std.proofs.Common.{◌≡◌, ℕ, ◌+◌, ◌≤◌, max, inr, refl, subst, arith}
 use Rattle.rhai_lower.specs.Nodes as node
-use Rattle.rhai_lower.specs.Nodes.{Node}
-use Rattle.rhai_grammar.specs.Contexts.{Context, Live}
-use Rattle.rhai_grammar.specs.Depths.{run_depth, statements_depth}
-use Rattle.rhai_grammar.specs.Forms.{Run, Statements}
-use Rattle.rhai_grammar.specs.Promises.{IsWritten, expressions, scripts}
+use Rattle.rhai_grammar.specs.Prelude.{Node, Context, Live, run_depth, statements_depth, Run, Statements, IsWritten}
+use Rattle.rhai_grammar.specs.Prelude.{expressions, scripts}
 use Rattle.rhai_reading.specs.Nesting.{Nesting, entered}
 use Rattle.rhai_reading.specs.Reading.{Goal, Script, Val, Whole, body}
 use Rattle.rhai_reading.specs.Running.{Done, Progress, entering, nested, result_of}

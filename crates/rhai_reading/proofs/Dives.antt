@@ -2,16 +2,11 @@
 use Rattle.std.proofs.Common.{◌≡◌, ℕ, zero, suc, ◌+◌, ◌-◌, ◌^◌, ◌≤◌, Bool, true, false, max, sym, ap, subst, ◌∙◌, arith}
 use Rattle.std.proofs.Common.{nat_lt, if◌then◌else◌, inl, inr, List, []}
 use Rattle.std.specs.Prelude.{◌⊎◌}
-use Rattle.rhai_lower.specs.Lexemes.{Lexeme, Sign}
-use Rattle.rhai_lower.specs.declared.position.Position.{Position}
-use Rattle.rhai_grammar.specs.Delivered.{is_memory, Item, item}
-use Rattle.rhai_grammar.specs.DueTokens.{is_due, not_due}
-use Rattle.rhai_grammar.specs.Interpolations.{is_text}
+use Rattle.rhai_grammar.specs.Prelude.{Lexeme, Sign, Position, is_memory, Item, item, is_due, not_due, is_text}
+use Rattle.rhai_grammar.specs.Prelude.{out_of_memory, refusal, noted, Use, Ended, Library, with_ended, unexpected}
 use Rattle.rhai_grammar.specs.declared.due.DueToken.TheVariants.{RightBrace}
 use Rattle.rhai_reading.specs.Reading.{Goal, Val, Prog, Ret, Peek, Take, TakeText, Know, Add, Note, Call, CallLiteral}
 use Rattle.rhai_reading.specs.Reading.{CallApart, body}
-use Rattle.rhai_grammar.specs.Causes.{out_of_memory, refusal}
-use Rattle.rhai_grammar.specs.Uses.{noted, Use}
 use Rattle.rhai_grammar.specs.Cursors as C
 use Rattle.rhai_reading.specs.Histories as H
 use Rattle.rhai_reading.specs.Histories.{State, Runs}
@@ -22,8 +17,6 @@ use Rattle.rhai_reading.specs.Running.{Caller, Done, Out, Progress, Refused, Unf
 use Rattle.rhai_reading.specs.Running.{adding, entering, exec, left_so, level, looking, need, nested, only_less, recast}
 use Rattle.rhai_reading.specs.Running.{result_of, taking, with_captured, text_from}
 use Rattle.rhai_lower.specs.declared.token.Token.TheVariants as token
-use Rattle.rhai_grammar.specs.Libraries.{Ended, Library, with_ended}
-use Rattle.rhai_grammar.specs.Beginnings.{unexpected}
 use Rattle.rhai_reading.proofs.Grows.{AllGrow, Goes, Grows, GrowsSo, call_grows, goes_less, less_grows, level_grows}
 use Rattle.rhai_reading.proofs.Grows.{one_deeper, recast_grows}
 

@@ -1,19 +1,14 @@
 -- Soundness of due tokens, and of commas in lists. The rules hold whatever the token and the list are.
-use Rattle.rhai_grammar.specs.Functions.{parameter_place, place_by}
+use Rattle.rhai_grammar.specs.Prelude.{parameter_place, Lexeme, Name, Sign, text_of, Text, is_name, name_due}
+use Rattle.rhai_grammar.specs.Prelude.{no_variable, Position, refusal, closing_of, after_part, is_close, not_after}
+use Rattle.rhai_grammar.specs.Prelude.{code, Item, item, Point, next_at, past, is_memory, Demands, Tok, ◌▸◌, is_due}
+use Rattle.rhai_grammar.specs.Prelude.{not_due}
+use Rattle.rhai_grammar.specs.Functions.{place_by}
 use Rattle.rhai_grammar.specs.declared.role.ItemPlace.{ItemPlace}
 use Rattle.rhai_grammar.specs.declared.role.ItemPlace.TheVariants as place
 use Rattle.std.proofs.Common.{◌≡◌, Bool, true, false, refl, subst}
-use Rattle.rhai_lower.specs.Lexemes.{Lexeme, Name, Sign, text_of}
-use Rattle.rhai_lower.specs.Texts.{Text}
-use Rattle.rhai_grammar.specs.Beginnings.{is_name}
-use Rattle.rhai_grammar.specs.Statements.{name_due, no_variable}
-use Rattle.rhai_lower.specs.declared.position.Position.{Position}
 use Rattle.rhai_lower.specs.declared.token.Token.TheVariants as token
-use Rattle.rhai_grammar.specs.Causes.{refusal}
-use Rattle.rhai_grammar.specs.CommaLists.{closing_of, after_part, is_close, not_after}
-use Rattle.rhai_grammar.specs.Delivered.{code, Item, item, Point, next_at, past, is_memory}
-use Rattle.rhai_grammar.specs.Demands.{Demands, Tok, ◌▸◌}
-use Rattle.rhai_grammar.specs.DueTokens.{token_of, is_due, not_due}
+use Rattle.rhai_grammar.specs.DueTokens.{token_of}
 use Rattle.rhai_grammar.specs.declared.due.DueToken.{DueToken}
 use Rattle.rhai_grammar.specs.declared.due.DueToken.TheVariants as due
 use Rattle.rhai_grammar.specs.declared.list.AfterPart.{AfterPart}

@@ -1,19 +1,12 @@
 -- Several steps as one: a property's key, and a property with its comma.
 use Rattle.std.proofs.Common.{◌≡◌, ◌+◌, ◌≤◌, true, false, Some, sym, ap, ◌∙◌, subst, arith, if◌then◌else◌}
-use Rattle.rhai_lower.specs.Texts.{Text}
-use Rattle.rhai_lower.specs.Nodes.{Node, Properties, with_property}
-use Rattle.rhai_lower.specs.declared.position.Position.{Position}
-use Rattle.rhai_grammar.specs.CommaLists.{after_part}
+use Rattle.rhai_grammar.specs.Prelude.{Text, Node, Properties, with_property, Position, after_part, ExprTooDeep}
+use Rattle.rhai_grammar.specs.Prelude.{refusal, out_of_memory, Context, Live, has_room, level_up, left, is_memory}
 use Rattle.rhai_grammar.specs.declared.list.AfterPart.TheVariants.{Comma}
 use Rattle.rhai_grammar.specs.declared.list.CommaList.TheVariants as lists
-use Rattle.rhai_grammar.specs.Causes.{ExprTooDeep, refusal, out_of_memory}
-use Rattle.rhai_grammar.specs.Contexts.{Context, Live, has_room, level_up}
-use Rattle.rhai_grammar.specs.Cursors.{left}
-use Rattle.rhai_reading.specs.Running.{Progress, asked, looking, taking}
-use Rattle.rhai_grammar.specs.Delivered.{is_memory}
+use Rattle.rhai_reading.specs.Running.{Progress, asked, looking, taking, exec, guarded, nested, result_of}
 use Rattle.rhai_reading.specs.Reading.{Ret, Fail, Call, Expression, Fields, NextKey, part_next, field_next, field_on}
 use Rattle.rhai_reading.specs.Running as R
-use Rattle.rhai_reading.specs.Running.{exec, guarded, nested, result_of}
 use Rattle.rhai_reading.proofs.Steps.{and_then_done, guarded_is, nested_is, step_fields}
 
 -- the equation of the properties of an object map, with the key as the code asks for it

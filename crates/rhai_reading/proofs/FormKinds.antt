@@ -2,40 +2,28 @@
 use Rattle.std.proofs.Common.{◌≡◌, Bool, true, false, List, ◌++◌}
 use Rattle.std.specs.Prelude.{Option, Some, None, not}
 use Rattle.std.specs.Option.{is_some}
-use Rattle.rhai_lower.specs.Texts.{Text}
-use Rattle.rhai_lower.specs.Lexemes.{Lexeme, Interpolated, Name, Sign, String, text_of}
-use Rattle.rhai_lower.specs.Nodes.{Node, Nodes, no_nodes, Properties, property}
-use Rattle.rhai_lower.specs.declared.position.Position.{Position}
+use Rattle.rhai_grammar.specs.Prelude.{Text, Lexeme, Interpolated, Name, Sign, String, text_of, Node, Nodes, no_nodes}
+use Rattle.rhai_grammar.specs.Prelude.{Properties, property, Position, refusal, code, text, item, Point, Context, Live}
+use Rattle.rhai_grammar.specs.Prelude.{below_global, has_single_blocks, in_block, level_up, excludes_use, member_place}
+use Rattle.rhai_grammar.specs.Prelude.{is_member, is_key, has_key, property_count, Link, index_refusal, joined, Primary}
+use Rattle.rhai_grammar.specs.Prelude.{Base, Links, Operand, Arguments, Items, Elements, Fields, Run, primary_tree}
+use Rattle.rhai_grammar.specs.Prelude.{base_tree, link_list, operand_tree, argument_trees, item_trees, element_trees}
+use Rattle.rhai_grammar.specs.Prelude.{field_trees, tree, node_count, method_tree, Demands, ◌▸◌, Tok, Next, Test, Shape}
+use Rattle.rhai_grammar.specs.Prelude.{LinkSpot, Spot, Body, ExprStatement, Initializer, Alias, JumpValue, Path}
+use Rattle.rhai_grammar.specs.Prelude.{Segments, Statement, Statements, after_statement, after_statements, alias_of}
+use Rattle.rhai_grammar.specs.Prelude.{defined_as, imported, path_tree, keyword_of, definition_tree, import_tree}
+use Rattle.rhai_grammar.specs.Prelude.{block_tree, segment_trees, statement_tree, statement_trees, text_due}
 use Rattle.rhai_lower.specs.declared.token.Token.TheVariants as token
 use Rattle.rhai_grammar.specs.declared.due.DueToken.TheVariants as due
 use Rattle.rhai_grammar.specs.Causes as cause
-use Rattle.rhai_grammar.specs.Causes.{refusal}
-use Rattle.rhai_grammar.specs.Delivered.{code, text, item, Point}
-use Rattle.rhai_grammar.specs.Contexts.{Context, Live, below_global, has_single_blocks, in_block, level_up}
-use Rattle.rhai_grammar.specs.Beginnings.{excludes_use, member_place, is_member}
-use Rattle.rhai_grammar.specs.Literals.{is_key, has_key, property_count}
-use Rattle.rhai_grammar.specs.Chains.{Link, index_refusal}
-use Rattle.rhai_grammar.specs.Operators.{joined}
-use Rattle.rhai_grammar.specs.Forms.{Primary, Base, Links, Operand, Arguments, Items, Elements, Fields, Run}
-use Rattle.rhai_grammar.specs.Trees.{primary_tree, base_tree, link_list, operand_tree, argument_trees, item_trees}
-use Rattle.rhai_grammar.specs.Trees.{element_trees, field_trees, tree, node_count, method_tree}
-use Rattle.rhai_grammar.specs.Demands.{Demands, ◌▸◌, Tok, Next, Test, Shape}
 use Rattle.rhai_grammar.specs.Verdicts as V
 use Rattle.rhai_grammar.specs.Written as W
-use Rattle.rhai_grammar.specs.Spots.{LinkSpot, Spot}
 use Rattle.rhai_lower.specs.Nodes as node
 use Rattle.rhai_grammar.specs.Forms as form
-use Rattle.rhai_grammar.specs.Forms.{Body, ExprStatement, Initializer}
-use Rattle.rhai_grammar.specs.Forms.{Alias, JumpValue, Path, Segments, Statement, Statements}
-use Rattle.rhai_grammar.specs.Definitions.{after_statement, after_statements, alias_of, defined_as, imported}
-use Rattle.rhai_grammar.specs.Modules.{path_tree}
-use Rattle.rhai_grammar.specs.Statements.{exported_due, exports_definition, keyword_of}
-use Rattle.rhai_grammar.specs.Trees.{definition_tree, import_tree}
-use Rattle.rhai_grammar.specs.Trees.{block_tree, jump_result}
-use Rattle.rhai_grammar.specs.Trees.{segment_trees, statement_of, statement_tree, statement_trees, value_tree}
+use Rattle.rhai_grammar.specs.Statements.{exported_due, exports_definition}
+use Rattle.rhai_grammar.specs.Trees.{jump_result, statement_of, value_tree}
 use Rattle.rhai_grammar.specs.declared.role.Closing.{Closing}
 use Rattle.rhai_grammar.specs.declared.role.Closing.TheVariants.{Brace}
-use Rattle.rhai_grammar.specs.Interpolations.{text_due}
 use Rattle.rhai_grammar.specs.declared.role.OperandPlace.{OperandPlace}
 use Rattle.rhai_reading.proofs.Lists.{joined_properties, joined_statements}
 use Rattle.rhai_reading.proofs.Looks.{op_at}

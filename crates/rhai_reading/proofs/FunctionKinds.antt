@@ -1,26 +1,15 @@
 -- The forms of functions that each reader reads, with their trees and demands.
 use Rattle.std.proofs.Common.{◌≡◌, Bool, false, Option, List, [], ◌++◌}
-use Rattle.rhai_lower.specs.Texts.{Text}
-use Rattle.rhai_lower.specs.Lexemes.{Sign}
+use Rattle.rhai_grammar.specs.Prelude.{Text, Sign, noop, nowhere, Position, refusal, Comment, Context, Live, is_global}
+use Rattle.rhai_grammar.specs.Prelude.{level_up, code, item, Point, Demands, Test, TestIn, Tok, ◌▸◌, Body, Owner}
+use Rattle.rhai_grammar.specs.Prelude.{ParameterList, Parameters, ended_function, in_function, may_begin, names_after}
+use Rattle.rhai_grammar.specs.Prelude.{owner_of, parameter_names, parameters_live, Ended, is_comment, block_tree}
 use Rattle.rhai_lower.specs.Nodes as node
-use Rattle.rhai_lower.specs.Nodes.{noop}
-use Rattle.rhai_lower.specs.Positions.{nowhere}
-use Rattle.rhai_lower.specs.declared.position.Position.{Position}
 use Rattle.rhai_lower.specs.declared.token.Token.TheVariants as token
 use Rattle.rhai_grammar.specs.Causes as cause
-use Rattle.rhai_grammar.specs.Causes.{refusal}
-use Rattle.rhai_grammar.specs.Comments.{Comment}
-use Rattle.rhai_grammar.specs.Contexts.{Context, Live, is_global, level_up}
-use Rattle.rhai_grammar.specs.Delivered.{code, item, Point}
-use Rattle.rhai_grammar.specs.Demands.{Demands, Test, TestIn, Tok, ◌▸◌}
 use Rattle.rhai_grammar.specs.Forms as form
-use Rattle.rhai_grammar.specs.Forms.{Body, Owner, ParameterList, Parameters}
-use Rattle.rhai_grammar.specs.Functions.{body_due, ended_function, in_function, may_begin, names_after, owner_of}
-use Rattle.rhai_grammar.specs.Functions.{parameter_names, parameters_live}
-use Rattle.rhai_grammar.specs.Libraries.{Ended}
-use Rattle.rhai_grammar.specs.Statements.{is_comment}
+use Rattle.rhai_grammar.specs.Functions.{body_due}
 use Rattle.rhai_grammar.specs.declared.list.CommaList.{CommaList}
-use Rattle.rhai_grammar.specs.Trees.{block_tree}
 use Rattle.rhai_grammar.specs.Written as W
 use Rattle.rhai_reading.proofs.Looks.{op_at}
 use Rattle.rhai_reading.proofs.Paths.{Passes}

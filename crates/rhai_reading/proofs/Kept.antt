@@ -1,14 +1,10 @@
 -- What a run keeps of how readers are nested. It keeps what a reader keeps that is entered and left. Nothing here
 -- speaks of the grammar.
-use Rattle.std.proofs.Common.{ℕ, zero, suc, ◌+◌, Bool, true, false, nat_lt}
-use Rattle.std.proofs.Common.{if◌then◌else◌, []}
-use Rattle.rhai_grammar.specs.Delivered.{is_memory}
-use Rattle.rhai_grammar.specs.DueTokens.{is_due}
-use Rattle.rhai_grammar.specs.Interpolations.{is_text}
+use Rattle.std.proofs.Common.{ℕ, zero, suc, ◌+◌, Bool, true, false, nat_lt, if◌then◌else◌, []}
+use Rattle.rhai_grammar.specs.Prelude.{is_memory, is_due, is_text, noted}
 use Rattle.rhai_grammar.specs.declared.due.DueToken.TheVariants.{RightBrace}
 use Rattle.rhai_reading.specs.Reading.{Goal, Prog, Ret, Fail, Peek, Take, TakeText, Know, Add, Note, Call, CallLiteral}
 use Rattle.rhai_reading.specs.Reading.{CallApart, body}
-use Rattle.rhai_grammar.specs.Uses.{noted}
 use Rattle.rhai_reading.specs.Nesting.{Nesting, entered, is_counted, left_one}
 use Rattle.rhai_reading.specs.Running.{Caller, Done, Out, Progress, Refused, Unfinished, after_brace, and_then, asked}
 use Rattle.rhai_reading.specs.Running.{adding, entering, exec, left_so, level, looking, need, nested, only_less, recast}

@@ -1,12 +1,10 @@
 -- Lists that grow by one at their end.
 use Rattle.std.proofs.Common.{◌≡◌, ◌+◌, List, [], ◌∷◌, ◌++◌, refl, sym, ap, ◌∙◌, append_assoc}
-use Rattle.rhai_lower.specs.Texts.{Text}
-use Rattle.rhai_lower.specs.Nodes.{Node, Nodes, no_nodes, one_node, string, with_node, Properties, no_properties, one_property}
-use Rattle.rhai_lower.specs.Nodes.{with_property, Statement, Statements, noop, no_statements, one_statement, with_statement}
-use Rattle.rhai_lower.specs.declared.position.Position.{Position}
-use Rattle.rhai_grammar.specs.Interpolations.{added_text, with_text}
-use Rattle.rhai_grammar.specs.Operators.{joined}
-use Rattle.rhai_grammar.specs.Trees.{kept, node_count, with_kept}
+use Rattle.rhai_grammar.specs.Prelude.{Text, Node, Nodes, no_nodes, with_node, Properties, no_properties, with_property}
+use Rattle.rhai_grammar.specs.Prelude.{noop, no_statements, one_statement, Position, added_text, with_text, joined}
+use Rattle.rhai_grammar.specs.Prelude.{node_count, with_kept}
+use Rattle.rhai_lower.specs.Nodes.{one_node, string, one_property, Statement, Statements, with_statement}
+use Rattle.rhai_grammar.specs.Trees.{kept}
 
 -- nodes after those before them
 pub added : (ns : Nodes) (x : Node) (ms : Nodes) → joined (with_node ns x) ms ≡ joined ns (one_node x ms)

@@ -1,15 +1,9 @@
 -- What stands at a point, and where a run's operators go on.
 use Rattle.std.proofs.Common.{◌≡◌, ℕ, Bool, true, false, Option, Some, None, refl, if◌then◌else◌}
-use Rattle.rhai_lower.specs.Lexemes.{Lexeme}
-use Rattle.rhai_lower.specs.Nodes.{Node}
-use Rattle.rhai_lower.specs.declared.position.Position.{Position}
-use Rattle.rhai_grammar.specs.Causes.{Cause}
-use Rattle.rhai_grammar.specs.Delivered.{code, Point, next_at, is_memory}
+use Rattle.rhai_grammar.specs.Prelude.{Lexeme, Node, Position, Cause, code, Point, next_at, is_memory, Live, Follower}
+use Rattle.rhai_grammar.specs.Prelude.{Operator, Unknown, Other, follower_of, Verdict, Fine, Wrong, Otherwise, verdict}
+use Rattle.rhai_grammar.specs.Prelude.{Height}
 use Rattle.rhai_grammar.specs.declared.filter.ExprFilter.{ExprFilter}
-use Rattle.rhai_grammar.specs.Contexts.{Live}
-use Rattle.rhai_grammar.specs.Strengths.{Follower, Operator, Unknown, Other, follower_of}
-use Rattle.rhai_grammar.specs.Demands.{Verdict, Fine, Wrong, Otherwise, verdict}
-use Rattle.rhai_grammar.specs.Spots.{Height}
 use Rattle.rhai_reading.specs.Reading.{Goal, BinaryOp}
 
 abbrev pub op_at : Point → Lexeme

@@ -1,26 +1,20 @@
 -- What the reading program comes to where an operation on trees answers for a reader.
 use Rattle.std.proofs.Common.{◌≡◌, ℕ, Bool, true, false, Result, Ok, Err, IfErr, refl, ap, ◌∙◌, codes, if◌then◌else◌}
-use Rattle.rhai_lower.specs.Lexemes.{Lexeme}
-use Rattle.rhai_lower.specs.Nodes.{Node}
-use Rattle.rhai_lower.specs.declared.position.Position.{Position}
+use Rattle.rhai_grammar.specs.Prelude.{Lexeme, Node, Position, MemoryIsNowhere, Refusal, refusal, Context, Live}
+use Rattle.rhai_grammar.specs.Prelude.{is_sign, is_list, missing, spot_after_operand, chained, module_fault, sign_holds}
+use Rattle.rhai_grammar.specs.Prelude.{signed, malformed, operator_tree, boolean_holds, mismatched}
 use Rattle.rhai_grammar.specs.Answers.{Answers}
-use Rattle.rhai_grammar.specs.Causes.{MemoryIsNowhere, Refusal, refusal}
 use Rattle.rhai_grammar.specs.declared.error.ParseError.{ParseError}
-use Rattle.rhai_reading.specs.Running.{Progress}
-use Rattle.rhai_grammar.specs.Contexts.{Context, Live}
+use Rattle.rhai_reading.specs.Running.{Progress, Caller, Gives, exec}
 use Rattle.rhai_grammar.specs.declared.role.Beginning.{Beginning}
 use Rattle.rhai_grammar.specs.declared.role.Beginning.TheVariants as begin
 use Rattle.rhai_grammar.specs.declared.role.Calling.{Calling}
 use Rattle.rhai_grammar.specs.declared.role.Calling.TheVariants as calls_by
-use Rattle.rhai_grammar.specs.Beginnings.{is_sign, is_list, missing}
-use Rattle.rhai_grammar.specs.Spots.{spot_after_operand}
-use Rattle.rhai_grammar.specs.Chains.{chained}
-use Rattle.rhai_grammar.specs.Modules.{module_fault}
-use Rattle.rhai_grammar.specs.Signs.{sign_result, sign_holds, signed, malformed}
-use Rattle.rhai_grammar.specs.Operators.{operator_result, operator_tree, boolean_holds, mismatched}
-use Rattle.rhai_reading.specs.Reading.{Prog, Ret, Fail, Take, Call, Primary, Postfix, Links, Operand, BinaryOp, sign_on, operand_by, bang_at, binary_next, raised, tested}
+use Rattle.rhai_grammar.specs.Signs.{sign_result}
+use Rattle.rhai_grammar.specs.Operators.{operator_result}
+use Rattle.rhai_reading.specs.Reading.{Prog, Ret, Fail, Take, Call, Primary, Postfix, Links, Operand, BinaryOp, sign_on}
+use Rattle.rhai_reading.specs.Reading.{operand_by, bang_at, binary_next, raised, tested}
 use Rattle.rhai_reading.specs.Running as R
-use Rattle.rhai_reading.specs.Running.{Caller, Gives, exec}
 
 -- ---- an operation's answer
 

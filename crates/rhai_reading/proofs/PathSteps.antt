@@ -1,23 +1,13 @@
 -- Several steps as one: one more name of a path.
 use Rattle.std.proofs.Common.{◌≡◌, ◌+◌, ◌≤◌, Bool, true, false, refl, sym, ap, ◌∙◌, subst, arith, if◌then◌else◌}
 use Rattle.std.specs.Prelude.{◌&&◌, None, Some}
-use Rattle.rhai_lower.specs.Texts.{Text}
-use Rattle.rhai_lower.specs.Lexemes.{Lexeme, Name, text_of}
-use Rattle.rhai_lower.specs.Nodes.{Node, Nodes, position_of}
-use Rattle.rhai_lower.specs.declared.position.Position.{Position}
-use Rattle.rhai_grammar.specs.Beginnings.{calls, is_name, qualifies}
-use Rattle.rhai_grammar.specs.Causes.{Refusal, out_of_memory, refusal}
-use Rattle.rhai_grammar.specs.Contexts.{Context, Live}
-use Rattle.rhai_grammar.specs.Cursors.{left}
-use Rattle.rhai_reading.specs.Running.{Progress, asked, looking, taking}
-use Rattle.rhai_grammar.specs.Delivered.{is_memory}
-use Rattle.rhai_grammar.specs.Modules.{is_qualified, module_fault, qualified}
-use Rattle.rhai_grammar.specs.Trees.{call_tree, is_variable}
-use Rattle.rhai_grammar.specs.Statements.{no_variable}
-use Rattle.rhai_reading.specs.Reading.{Call, Called, Fail, Path, Peek, Postfix, Prog, Ret, Take, call_at, call_on, match_name, path_on}
-use Rattle.rhai_reading.specs.Reading.{postfix_at, tested}
+use Rattle.rhai_grammar.specs.Prelude.{Text, Lexeme, Name, text_of, Node, Nodes, position_of, Position, calls, is_name}
+use Rattle.rhai_grammar.specs.Prelude.{qualifies, Refusal, out_of_memory, refusal, Context, Live, left, is_memory}
+use Rattle.rhai_grammar.specs.Prelude.{is_qualified, module_fault, qualified, call_tree, is_variable, no_variable}
+use Rattle.rhai_reading.specs.Running.{Progress, asked, looking, taking, Caller, exec, guarded, nested, result_of}
+use Rattle.rhai_reading.specs.Reading.{Call, Called, Fail, Path, Peek, Postfix, Prog, Ret, Take, call_at, call_on}
+use Rattle.rhai_reading.specs.Reading.{match_name, path_on, postfix_at, tested}
 use Rattle.rhai_reading.specs.Running as R
-use Rattle.rhai_reading.specs.Running.{Caller, exec, guarded, nested, result_of}
 use Rattle.rhai_reading.proofs.Steps.{and_then_done, guarded_is, nested_is, step_path, step_postfix}
 use Rattle.rhai_reading.proofs.Tokens.{readable}
 

@@ -1,13 +1,9 @@
 -- What holds of a run of any program along histories, beside a run of it along states that are related to them. It is
 -- shown by one induction over the program. Nothing here speaks of the grammar.
 use Rattle.std.proofs.Common.{◌≡◌, ℕ, zero, suc, Bool, true, false, List, [], refl, sym, ap, ◌∙◌, subst, if◌then◌else◌}
-use Rattle.rhai_grammar.specs.Beginnings.{unexpected}
-use Rattle.rhai_grammar.specs.Causes.{Refusal, as_literal, is_memory_cause, out_of_memory, refusal}
-use Rattle.rhai_grammar.specs.Delivered.{Item, code, text, is_memory}
-use Rattle.rhai_grammar.specs.DueTokens.{is_due, not_due}
-use Rattle.rhai_grammar.specs.Interpolations.{is_text}
-use Rattle.rhai_grammar.specs.Libraries.{Ended, Library, with_ended}
-use Rattle.rhai_grammar.specs.Uses.{Use, noted}
+use Rattle.rhai_grammar.specs.Prelude.{unexpected, Refusal, as_literal, is_memory_cause, out_of_memory, refusal, Item}
+use Rattle.rhai_grammar.specs.Prelude.{code, text, is_memory, is_due, not_due, is_text, Ended, Library, with_ended, Use}
+use Rattle.rhai_grammar.specs.Prelude.{noted}
 use Rattle.rhai_grammar.specs.declared.due.DueToken.TheVariants.{RightBrace}
 use Rattle.rhai_reading.specs.Reading.{Goal, Val, Prog, Ret, Fail, Peek, Take, TakeText, Know, Add, Note, Call}
 use Rattle.rhai_reading.specs.Reading.{CallLiteral, CallApart, body}

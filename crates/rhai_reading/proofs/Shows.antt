@@ -1,28 +1,18 @@
 -- Soundness: what is shown of a reader's run, a rule for each step. Nothing here speaks of the grammar.
-use Rattle.std.proofs.Common.{◌≡◌, Bool, true, false, refl, sym, ap, ◌∙◌, subst, if◌then◌else◌}
-use Rattle.rhai_lower.specs.Lexemes.{Lexeme}
-use Rattle.rhai_lower.specs.declared.position.Position.{Position}
+use Rattle.std.proofs.Common.{◌≡◌, Bool, true, false, refl, sym, ap, ◌∙◌, subst, if◌then◌else◌, List}
+use Rattle.rhai_grammar.specs.Prelude.{Lexeme, Position, Cause, Refusal, refusal, out_of_memory, is_memory_cause}
+use Rattle.rhai_grammar.specs.Prelude.{unexpected, is_due, not_due, is_text, Mode, code, text, Item, Point, next_at}
+use Rattle.rhai_grammar.specs.Prelude.{past, is_memory, StandsAtLast, is_at_last, Context, has_room, Verdict, Fine}
+use Rattle.rhai_grammar.specs.Prelude.{Wrong, Blames, Otherwise, Demands, Nothing, ◌▸◌, Tok, Next, Test, Literally}
+use Rattle.rhai_grammar.specs.Prelude.{verdict, Ended, Library, adding, apart, capturing, with_captured, Use, Uses}
 use Rattle.rhai_grammar.specs.Causes as cause
-use Rattle.rhai_grammar.specs.Causes.{Cause, Refusal, refusal, out_of_memory, is_memory_cause}
-use Rattle.rhai_grammar.specs.Beginnings.{unexpected}
-use Rattle.rhai_grammar.specs.DueTokens.{is_due, not_due}
-use Rattle.rhai_grammar.specs.Interpolations.{is_text}
 use Rattle.rhai_grammar.specs.declared.due.DueToken.TheVariants.{RightBrace}
-use Rattle.rhai_grammar.specs.Delivered.{Mode, code, text, Item, Point, next_at, past, is_memory}
-use Rattle.rhai_grammar.specs.Seen.{StandsAtLast, is_at_last}
-use Rattle.rhai_grammar.specs.Contexts.{Context, has_room}
 use Rattle.rhai_grammar.specs.Demands as D
-use Rattle.rhai_grammar.specs.Demands.{Verdict, Fine, Wrong, Blames, Otherwise, Demands, Nothing, ◌▸◌, Tok, Next, Test, Literally, verdict}
-use Rattle.rhai_grammar.specs.Libraries.{Ended, Library}
-use Rattle.rhai_grammar.specs.Delivered.{adding}
-use Rattle.rhai_reading.specs.Reading.{Know, Add, Note, CallApart}
-use Rattle.rhai_grammar.specs.Delivered.{apart, capturing, with_captured}
-use Rattle.rhai_grammar.specs.Uses.{Use}
+use Rattle.rhai_reading.specs.Reading.{Know, Add, Note, CallApart, Goal, Val, Prog, Ret, Fail, Peek, Take, TakeText}
+use Rattle.rhai_reading.specs.Reading.{Call, CallLiteral}
 use Rattle.rhai_reading.specs.Histories as H
-use Rattle.std.proofs.Common.{List}
-use Rattle.rhai_grammar.specs.Demands.{Uses}
-use Rattle.rhai_reading.specs.Reading.{Goal, Val, Prog, Ret, Fail, Peek, Take, TakeText, Call, CallLiteral}
-use Rattle.rhai_reading.specs.Histories.{State, Outcome, Done, Refused, Unfinished, after_brace, and_then, exec, looking, recast}
+use Rattle.rhai_reading.specs.Histories.{State, Outcome, Done, Refused, Unfinished, after_brace, and_then, exec}
+use Rattle.rhai_reading.specs.Histories.{looking, recast}
 use Rattle.rhai_reading.proofs.Joins.{cursor}
 use Rattle.rhai_reading.proofs.Rules.{at}
 use Rattle.rhai_reading.proofs.Looks.{op_at, pos_at}

@@ -13,13 +13,9 @@ pub mod Closures
 pub mod Whole
 use Rattle.rhai_reading.proofs.Sound.Functions as Y
 use Rattle.std.proofs.Common.{◌≡◌, ℕ, zero, suc, Bool}
-use Rattle.rhai_grammar.specs.Contexts.{Context, Live}
-use Rattle.rhai_grammar.specs.Definitions.{after_statements}
-use Rattle.rhai_grammar.specs.Delivered.{Point}
-use Rattle.rhai_grammar.specs.Demands.{Met, Missed}
+use Rattle.rhai_grammar.specs.Prelude.{Context, Live, after_statements, Point, Met, Missed, StandsAtLast}
+use Rattle.rhai_grammar.specs.Prelude.{statement_trees}
 use Rattle.rhai_grammar.specs.Forms as F
-use Rattle.rhai_grammar.specs.Seen.{StandsAtLast}
-use Rattle.rhai_grammar.specs.Trees.{statement_trees}
 use Rattle.rhai_grammar.specs.Written as W
 use Rattle.rhai_reading.proofs.Joins.{cursor}
 use Rattle.rhai_reading.specs.Reading as R

@@ -1,12 +1,9 @@
 -- A run does the same on every stream that begins with what it saw, if the same functions have ended and the same names
 -- were used. Nothing here speaks of the grammar.
 use Rattle.std.proofs.Common.{◌≡◌, Bool, true, List, [], ◌∷◌, ◌++◌, refl, sym, ap, ◌∙◌, subst}
-use Rattle.rhai_grammar.specs.Cursors.{Cursor}
-use Rattle.rhai_grammar.specs.Delivered.{Item, Mode, Tokens, Taken, ask, later}
+use Rattle.rhai_grammar.specs.Prelude.{Cursor, Item, Mode, Tokens, Taken, ask, later, Library, Gives, leads, BeginsWith}
+use Rattle.rhai_grammar.specs.Prelude.{latest_first, Use}
 use Rattle.rhai_grammar.proofs.SeenLemmas.{leads_on, latest_on, both, first_part, last_part}
-use Rattle.rhai_grammar.specs.Libraries.{Library}
-use Rattle.rhai_grammar.specs.Seen.{Gives, leads, BeginsWith, latest_first}
-use Rattle.rhai_grammar.specs.Uses.{Use}
 use Rattle.rhai_reading.specs.Histories.{State, Outcome, asked, looking, taking}
 
 abbrev pub cursor : State → Cursor

@@ -1,18 +1,11 @@
 -- The forms of `switch` that each reader reads, with their trees and demands.
 use Rattle.std.specs.Prelude.{Bool, Option}
-use Rattle.rhai_lower.specs.Lexemes.{Sign}
-use Rattle.rhai_lower.specs.Nodes.{Node, Nodes}
-use Rattle.rhai_lower.specs.declared.position.Position.{Position}
+use Rattle.rhai_grammar.specs.Prelude.{Sign, Node, Nodes, Position, Context, Live, in_block, code, item, ◌▸◌, Demands}
+use Rattle.rhai_grammar.specs.Prelude.{Next, Tok, Action, Arms, CaseGuard, Cases, Run, joined, action_ends, Collected}
+use Rattle.rhai_grammar.specs.Prelude.{arm_fault, action_tree, case_trees, guard_tree, tree}
 use Rattle.rhai_lower.specs.declared.token.Token.TheVariants as token
-use Rattle.rhai_grammar.specs.Contexts.{Context, Live, in_block}
-use Rattle.rhai_grammar.specs.Delivered.{code, item}
-use Rattle.rhai_grammar.specs.Demands.{◌▸◌, Demands, Next, Tok}
-use Rattle.rhai_grammar.specs.Forms.{Action, Arms, CaseGuard, Cases, Run}
-use Rattle.rhai_grammar.specs.Operators.{joined}
 use Rattle.rhai_grammar.specs.Switches as S
-use Rattle.rhai_grammar.specs.Ends.{action_ends}
-use Rattle.rhai_grammar.specs.Switches.{Collected, arm_fault}
-use Rattle.rhai_grammar.specs.Trees.{action_tree, case_trees, collected, guard_tree, tree}
+use Rattle.rhai_grammar.specs.Trees.{collected}
 use Rattle.rhai_grammar.specs.Written as W
 use Rattle.rhai_grammar.specs.declared.due.DueToken.TheVariants as due
 use Rattle.rhai_reading.proofs.Shows.{Kind}

@@ -1,16 +1,11 @@
 -- Several steps as one: the `}` of an interpolated block, with the text after it.
 use Rattle.std.proofs.Common.{◌≡◌, Bool, true, false, refl, ◌∙◌, if◌then◌else◌}
-use Rattle.rhai_lower.specs.Lexemes.{text_of}
-use Rattle.rhai_grammar.specs.Beginnings.{unexpected}
-use Rattle.rhai_grammar.specs.Causes.{refusal}
-use Rattle.rhai_reading.specs.Running.{Progress, after_brace, asked, looking, taking}
-use Rattle.rhai_grammar.specs.Delivered.{is_memory}
-use Rattle.rhai_grammar.specs.DueTokens.{is_due, not_due}
-use Rattle.rhai_grammar.specs.Interpolations.{is_last_text, is_text}
+use Rattle.rhai_grammar.specs.Prelude.{text_of, unexpected, refusal, is_memory, is_due, not_due, is_last_text, is_text}
+use Rattle.rhai_reading.specs.Running.{Progress, after_brace, asked, looking, taking, exec, guarded, result_of}
+use Rattle.rhai_reading.specs.Running.{text_from}
 use Rattle.rhai_grammar.specs.declared.due.DueToken.TheVariants.{RightBrace}
 use Rattle.rhai_reading.specs.Reading.{TextAfter}
 use Rattle.rhai_reading.specs.Running as R
-use Rattle.rhai_reading.specs.Running.{exec, guarded, result_of, text_from}
 use Rattle.rhai_reading.proofs.Steps.{step_text_after}
 
 -- the two choices

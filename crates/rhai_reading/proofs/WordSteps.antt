@@ -1,18 +1,11 @@
 -- Several steps as one: a name or a reserved word.
 use Rattle.std.proofs.Common.{◌≡◌, Bool, false, sym, ap, ◌∙◌, if◌then◌else◌}
-use Rattle.rhai_lower.specs.Texts.{Text}
-use Rattle.rhai_lower.specs.Lexemes.{Lexeme, text_of}
-use Rattle.rhai_lower.specs.Nodes.{Node}
-use Rattle.rhai_lower.specs.declared.position.Position.{Position}
+use Rattle.rhai_grammar.specs.Prelude.{Text, Lexeme, text_of, Node, Position, beginning, out_of_memory, is_memory}
+use Rattle.rhai_grammar.specs.Prelude.{Context, Live}
 use Rattle.rhai_grammar.specs.declared.role.Beginning.{Beginning}
-use Rattle.rhai_grammar.specs.Beginnings.{beginning}
-use Rattle.rhai_grammar.specs.Causes.{out_of_memory}
-use Rattle.rhai_reading.specs.Running.{Progress, asked, looking, taking}
-use Rattle.rhai_grammar.specs.Delivered.{is_memory}
-use Rattle.rhai_grammar.specs.Contexts.{Context, Live}
+use Rattle.rhai_reading.specs.Running.{Progress, asked, looking, taking, exec, guarded, nested, result_of}
 use Rattle.rhai_reading.specs.Reading.{Peek, Primary, Prog, Take, primary_at}
 use Rattle.rhai_reading.specs.Running as R
-use Rattle.rhai_reading.specs.Running.{exec, guarded, nested, result_of}
 use Rattle.rhai_reading.proofs.Steps.{step_primary}
 
 -- A name or a reserved word that was taken, with a look after it: `holds` says whether the next token passes a test.

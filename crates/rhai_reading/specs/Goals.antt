@@ -1,38 +1,22 @@
 -- Goals: what readers are called for, what they give, and their terms.
-use Rattle.std.specs.Prelude.{if◌then◌else◌}
-use Rattle.rhai_lower.specs.Lexemes.{Lexeme}
-use Rattle.rhai_grammar.specs.Libraries.{Ended, Library}
-use Rattle.rhai_grammar.specs.Uses.{Use}
+use Rattle.std.specs.Prelude.{if◌then◌else◌, ℕ, Bool, Option, Some, None, List}
+use Rattle.rhai_grammar.specs.Prelude.{Lexeme, Ended, Library, Use, Refusal, refusal, Comment, is_due, not_due, Context}
+use Rattle.rhai_grammar.specs.Prelude.{Live, has_room, level_up, after_part, not_after, Text, Node, Nodes, Properties}
+use Rattle.rhai_grammar.specs.Prelude.{no_statements, Optional, Position, LinkSpot, Link, is_name, no_variable}
+use Rattle.rhai_grammar.specs.Prelude.{Collected, text_of}
 use Rattle.rhai_grammar.specs.declared.role.Bars.{Bars}
 use Rattle.rhai_grammar.specs.Causes as cause
-use Rattle.rhai_grammar.specs.Causes.{Refusal, refusal}
-use Rattle.rhai_grammar.specs.Comments.{Comment}
-use Rattle.rhai_grammar.specs.DueTokens.{is_due, not_due}
 use Rattle.rhai_grammar.specs.declared.due.DueToken.{DueToken}
 use Rattle.rhai_grammar.specs.declared.filter.ExprFilter.{ExprFilter}
-use Rattle.rhai_grammar.specs.Contexts.{Context, Live, has_room, level_up}
 use Rattle.rhai_grammar.specs.declared.list.AfterPart.{AfterPart}
 use Rattle.rhai_grammar.specs.declared.list.AfterPart.TheVariants as after
 use Rattle.rhai_grammar.specs.declared.list.CommaList.{CommaList}
-use Rattle.rhai_grammar.specs.CommaLists.{after_part, not_after}
-use Rattle.std.specs.Prelude.{ℕ, Bool, Option, Some, None, List}
-use Rattle.rhai_lower.specs.Texts.{Text}
-use Rattle.rhai_lower.specs.Nodes.{Node, Nodes, Properties, unit, integer, array, object_map, property, this, no_nodes}
-use Rattle.rhai_lower.specs.Nodes.{with_node, no_properties, with_property, position_of, noop, expression, assignment}
-use Rattle.rhai_lower.specs.Nodes.{block_statement, block_value, braces, no_statements, one_statement}
-use Rattle.rhai_lower.specs.Nodes.{Optional, absent, block_of_one, interpolated, present, return_statement}
+use Rattle.rhai_lower.specs.Nodes.{block_of_one}
 use Rattle.rhai_lower.specs.Nodes as node
-use Rattle.rhai_lower.specs.declared.position.Position.{Position}
 use Rattle.rhai_grammar.specs.declared.role.Closing.{Closing}
 use Rattle.rhai_grammar.specs.declared.role.Closing.TheVariants.{EndMark}
-use Rattle.rhai_grammar.specs.Spots.{LinkSpot}
-use Rattle.rhai_grammar.specs.Chains.{Link}
 use Rattle.rhai_grammar.specs.declared.role.Construct.{Construct as Kind}
 use Rattle.rhai_grammar.specs.declared.role.OperandPlace.{OperandPlace}
-use Rattle.rhai_grammar.specs.Beginnings.{is_name}
-use Rattle.rhai_grammar.specs.Statements.{no_variable}
-use Rattle.rhai_grammar.specs.Switches.{Collected}
-use Rattle.rhai_lower.specs.Lexemes.{text_of}
 
 -- What is read by a call: a constructor for each reader of the code, with what it is given.
 pub data Goal : Type 0 where

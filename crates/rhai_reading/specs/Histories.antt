@@ -1,12 +1,7 @@
 -- What the reader does, with the tokens that it took. The laws about it speak of that.
-use Rattle.std.specs.Prelude.{◌≡◌, ℕ, zero, suc, ◌≤◌, Bool, false, true}
-use Rattle.rhai_lower.specs.Lexemes.{Lexeme}
-use Rattle.rhai_lower.specs.declared.position.Position.{Position}
+use Rattle.std.specs.Prelude.{◌≡◌, ℕ, zero, suc, ◌≤◌, Bool, false, true, List}
+use Rattle.rhai_grammar.specs.Prelude.{Lexeme, Position, Mode, code, text, Item, Point, next_at, past, Ended, Use}
 use Rattle.rhai_grammar.specs.Delivered as point
-use Rattle.rhai_grammar.specs.Delivered.{Mode, code, text, Item, Point, next_at, past}
-use Rattle.rhai_grammar.specs.Libraries.{Ended}
-use Rattle.rhai_grammar.specs.Uses.{Use}
-use Rattle.std.specs.Prelude.{List}
 use Rattle.rhai_reading.specs.Moves as moves
 use Rattle.rhai_reading.specs.Moves.{Moves}
 use Rattle.rhai_reading.specs.Reading.{Goal, Val, Prog, body}

@@ -1,18 +1,10 @@
 -- What a reader does, one request after the other, whatever it moves along. Nothing here speaks of the grammar.
-use Rattle.std.specs.Prelude.{if◌then◌else◌}
-use Rattle.rhai_lower.specs.Lexemes.{Lexeme}
-use Rattle.rhai_lower.specs.declared.position.Position.{Position}
-use Rattle.rhai_grammar.specs.Beginnings.{unexpected}
-use Rattle.rhai_grammar.specs.Causes.{Refusal, as_literal, refusal, out_of_memory}
-use Rattle.rhai_grammar.specs.Delivered.{Item, is_memory}
-use Rattle.rhai_grammar.specs.DueTokens.{is_due, not_due}
-use Rattle.rhai_grammar.specs.Interpolations.{is_text}
-use Rattle.rhai_grammar.specs.Libraries.{Ended, Library}
+use Rattle.std.specs.Prelude.{if◌then◌else◌, List, []}
+use Rattle.rhai_grammar.specs.Prelude.{Lexeme, Position, unexpected, Refusal, as_literal, refusal, out_of_memory, Item}
+use Rattle.rhai_grammar.specs.Prelude.{is_memory, is_due, not_due, is_text, Ended, Library, Use, noted}
 use Rattle.rhai_grammar.specs.declared.due.DueToken.TheVariants.{RightBrace}
 use Rattle.rhai_reading.specs.Goals.{Goal, Val, Prog, Ret, Fail, Peek, Take, TakeText, Know, Add, Note, Call}
 use Rattle.rhai_reading.specs.Goals.{CallLiteral, CallApart}
-use Rattle.rhai_grammar.specs.Uses.{Use, noted}
-use Rattle.std.specs.Prelude.{List, []}
 
 -- what came of a reader, with the state that it left
 pub data Outcome (S A : Type 0) : Type 0 where

@@ -1,6 +1,6 @@
 -- How deeply readers are nested: which count, and how many are active. It also has the greatest number that was.
 use Rattle.std.specs.Prelude.{◌≡◌, ℕ, ◌-◌, ◌^◌, Bool, true, false, max, refl}
-use Rattle.rhai_grammar.specs.Settings.{one_more}
+use Rattle.rhai_grammar.specs.Prelude.{one_more}
 use Rattle.rhai_reading.specs.Goals as goal
 use Rattle.rhai_reading.specs.Goals.{Goal}
 

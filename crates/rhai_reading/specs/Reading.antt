@@ -2,58 +2,41 @@
 -- of it.
 use Rattle.std.specs.Prelude.{ℕ, Bool, true, false, Option, Some, None, List, ◌==◌, ◌||◌, ◌&&◌, nat_lt, codes}
 use Rattle.std.specs.Prelude.{if◌then◌else◌}
-use Rattle.rhai_lower.specs.Texts.{Text}
-use Rattle.rhai_lower.specs.Lexemes.{Lexeme, text_of}
-use Rattle.rhai_lower.specs.Nodes.{Node, Nodes, Properties, unit, integer, array, object_map, property, this}
-use Rattle.rhai_lower.specs.Nodes.{no_nodes}
-use Rattle.rhai_lower.specs.Nodes.{with_node, no_properties, with_property, position_of}
-use Rattle.rhai_lower.specs.Nodes.{block_value, braces, Optional, absent}
-use Rattle.rhai_lower.specs.Nodes.{if_statement, interpolated}
-use Rattle.rhai_lower.specs.Nodes.{made_block, present}
+use Rattle.rhai_grammar.specs.Prelude.{Text, Lexeme, text_of, Node, Nodes, Properties, unit, integer, array, object_map}
+use Rattle.rhai_grammar.specs.Prelude.{property, this, no_nodes, with_node, no_properties, with_property, position_of}
+use Rattle.rhai_grammar.specs.Prelude.{block_value, braces, Optional, absent, interpolated, made_block, present}
+use Rattle.rhai_grammar.specs.Prelude.{Position, Refusal, refusal, is_end, is_in_function, Context, Live, below_global}
+use Rattle.rhai_grammar.specs.Prelude.{full, has_single_blocks, in_block, in_case, do_end, guard_fault, iterated_fault}
+use Rattle.rhai_grammar.specs.Prelude.{may_be_value, defined_as, is_qualified, may_use, module_fault, qualified}
+use Rattle.rhai_grammar.specs.Prelude.{defines, statement_start, after_part, is_close, no_argument, item_place}
+use Rattle.rhai_grammar.specs.Prelude.{KeyPlace, FieldsEnd, AKey, NoKey, has_key, property_count, LinkSpot}
+use Rattle.rhai_grammar.specs.Prelude.{spot_after_operand, spot_after_bracket, spot_after_dot, Link, chained}
+use Rattle.rhai_grammar.specs.Prelude.{index_refusal, last_fault, beginning, value_of, no_operand, unexpected, missing}
+use Rattle.rhai_grammar.specs.Prelude.{calling, calls, may_be_called, is_this, linking, is_name, MemberPlace, AMember}
+use Rattle.rhai_grammar.specs.Prelude.{NoMember, excludes_use, member_place, qualifies, added_text, is_last_text}
+use Rattle.rhai_grammar.specs.Prelude.{Library, operand_start, place_after, starts, parameter_place, arm_fault}
+use Rattle.rhai_grammar.specs.Prelude.{arm_place, signed, sign_holds, malformed, operator_tree, boolean_holds}
+use Rattle.rhai_grammar.specs.Prelude.{mismatched, Follower, Operator, Unknown, Other, follower_of, name_tree}
+use Rattle.rhai_grammar.specs.Prelude.{variable_of, is_variable, node_count, call_tree, bracket_link, definition_tree}
+use Rattle.rhai_grammar.specs.Prelude.{member_link, method_tree, captures_use, may_be_closure}
+use Rattle.rhai_lower.specs.Nodes.{if_statement}
 use Rattle.rhai_lower.specs.Nodes as node
-use Rattle.rhai_lower.specs.declared.position.Position.{Position}
 use Rattle.rhai_grammar.specs.Causes as cause
-use Rattle.rhai_grammar.specs.Causes.{Refusal, refusal}
-use Rattle.rhai_grammar.specs.Delivered.{is_end}
-use Rattle.rhai_grammar.specs.Settings.{is_in_function}
 use Rattle.rhai_grammar.specs.declared.due.DueToken.TheVariants as due
-use Rattle.rhai_grammar.specs.Contexts.{Context, Live, below_global, full, has_single_blocks, in_block}
-use Rattle.rhai_grammar.specs.Contexts.{in_case}
-use Rattle.rhai_grammar.specs.Constructs.{do_end, guard_fault, iterated_fault, may_be_value}
-use Rattle.rhai_grammar.specs.Definitions.{defined_as}
-use Rattle.rhai_grammar.specs.Modules.{is_qualified, may_use, module_fault, qualified}
-use Rattle.rhai_grammar.specs.Statements.{defines, statement_place, statement_start}
+use Rattle.rhai_grammar.specs.Statements.{statement_place}
 use Rattle.rhai_grammar.specs.declared.list.CommaList.TheVariants as lists
-use Rattle.rhai_grammar.specs.CommaLists.{after_part, is_close, no_argument}
 use Rattle.rhai_grammar.specs.declared.role.ItemPlace.{ItemPlace}
 use Rattle.rhai_grammar.specs.declared.role.ItemPlace.TheVariants as place
-use Rattle.rhai_grammar.specs.Literals.{item_place, no_item, KeyPlace, FieldsEnd, AKey, NoKey, has_key}
-use Rattle.rhai_grammar.specs.Literals.{property_count}
-use Rattle.rhai_grammar.specs.Literals.{too_many_fields}
+use Rattle.rhai_grammar.specs.Literals.{no_item, too_many_fields}
 use Rattle.rhai_grammar.specs.Verdicts.{bang_refusal, next_key, no_path}
-use Rattle.rhai_grammar.specs.Spots.{LinkSpot, spot_after_operand, spot_after_bracket, spot_after_dot}
-use Rattle.rhai_grammar.specs.Chains.{Link, chained, index_refusal, last_fault}
 use Rattle.rhai_grammar.specs.declared.role.Beginning.{Beginning}
 use Rattle.rhai_grammar.specs.declared.role.Beginning.TheVariants as begin
 use Rattle.rhai_grammar.specs.declared.role.Calling.{Calling}
 use Rattle.rhai_grammar.specs.declared.role.Calling.TheVariants as calls_by
 use Rattle.rhai_grammar.specs.declared.role.Linking.{Linking}
 use Rattle.rhai_grammar.specs.declared.role.Linking.TheVariants as link
-use Rattle.rhai_grammar.specs.Beginnings.{beginning, value_of, no_operand, unexpected, missing, calling, calls}
-use Rattle.rhai_grammar.specs.Beginnings.{may_be_called, is_this, linking, is_name, MemberPlace, AMember, NoMember}
-use Rattle.rhai_grammar.specs.Beginnings.{excludes_use, member_place, qualifies}
-use Rattle.rhai_grammar.specs.Interpolations.{added_text, is_last_text}
-use Rattle.rhai_grammar.specs.Libraries.{Library}
-use Rattle.rhai_grammar.specs.Starts.{operand_start, place_after, starts}
 use Rattle.rhai_grammar.specs.declared.role.OperandStart.{OperandStart}
 use Rattle.rhai_grammar.specs.declared.role.OperandStart.TheVariants as first
-use Rattle.rhai_grammar.specs.Functions.{parameter_place}
-use Rattle.rhai_grammar.specs.Switches.{arm_fault, arm_place}
-use Rattle.rhai_grammar.specs.Signs.{signed, sign_holds, malformed}
-use Rattle.rhai_grammar.specs.Operators.{operator_tree, boolean_holds, mismatched}
-use Rattle.rhai_grammar.specs.Strengths.{Follower, Operator, Unknown, Other, follower_of}
-use Rattle.rhai_grammar.specs.Trees.{name_tree, variable_of, is_variable, node_count, call_tree, bracket_link}
-use Rattle.rhai_grammar.specs.Trees.{definition_tree, member_link, method_tree}
 pub use Rattle.rhai_reading.specs.Goals.{Goal, Whole, Expression, Operand, Primary, Called, Links, Index, Member}
 pub use Rattle.rhai_reading.specs.Goals.{Postfix, Arguments, Items, Elements, Fields, Segments, TextAfter, Jump}
 pub use Rattle.rhai_reading.specs.Goals.{NextKey, NextOperator, BinaryOp, ExprStatement, VarName, Initializer}
@@ -77,8 +60,6 @@ pub use Rattle.rhai_reading.specs.ReadingFunctions.{comment_of, comments_at}
 pub use Rattle.rhai_reading.specs.ReadingFunctions.{function_at, function_body_at, function_end, function_on, head_at}
 pub use Rattle.rhai_reading.specs.ReadingClosures.{captured_on, closure_added, closure_at, closure_body_at, closure_by}
 pub use Rattle.rhai_reading.specs.ReadingClosures.{closure_end, closure_on}
-use Rattle.rhai_grammar.specs.Modules.{captures_use}
-use Rattle.rhai_grammar.specs.Starts.{may_be_closure}
 pub use Rattle.rhai_reading.specs.ReadingFunctions.{named_at, owner_at, parameter_at, parameters_at}
 pub use Rattle.rhai_reading.specs.ReadingSwitches.{cases_at, case_guard_at, action_at, action_on, arm_end_at}
 pub use Rattle.rhai_reading.specs.ReadingSwitches.{default_end_at, arm_on, default_at, default_on, arms_at}

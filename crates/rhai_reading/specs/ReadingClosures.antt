@@ -1,25 +1,16 @@
 -- The terms of the readers of closures.
 use Rattle.std.specs.Prelude.{List, [], ◌∷◌, if◌then◌else◌}
-use Rattle.rhai_lower.specs.Texts.{Text}
-use Rattle.rhai_lower.specs.Lexemes.{Lexeme}
+use Rattle.rhai_grammar.specs.Prelude.{Text, Lexeme, Node, made_block, noop, Position, refusal, closure_node}
+use Rattle.rhai_grammar.specs.Prelude.{ended_closure, in_closure, Context, Live, is_end, duplicate_of, is_new}
+use Rattle.rhai_grammar.specs.Prelude.{may_begin, parameters_live, Ended, Library, closure_count, is_captured}
+use Rattle.rhai_grammar.specs.Prelude.{may_capture, Use}
 use Rattle.rhai_lower.specs.Nodes as node
-use Rattle.rhai_lower.specs.Nodes.{Node, made_block, noop}
-use Rattle.rhai_lower.specs.declared.position.Position.{Position}
 use Rattle.rhai_grammar.specs.Causes as cause
-use Rattle.rhai_grammar.specs.Causes.{refusal}
-use Rattle.rhai_grammar.specs.Closures.{closure_node, ended_closure, in_closure}
-use Rattle.rhai_grammar.specs.Contexts.{Context, Live}
-use Rattle.rhai_grammar.specs.Delivered.{is_end}
-use Rattle.rhai_grammar.specs.Functions.{duplicate_of, is_new, may_begin, parameters_live}
-use Rattle.rhai_grammar.specs.Libraries.{Ended, Library, closure_count}
-use Rattle.rhai_grammar.specs.Modules.{is_captured, may_capture}
-use Rattle.rhai_grammar.specs.Uses.{Use}
 use Rattle.rhai_grammar.specs.declared.list.CommaList.TheVariants as lists
 use Rattle.rhai_grammar.specs.declared.role.Bars.{Bars}
 use Rattle.rhai_grammar.specs.declared.role.Bars.TheVariants as bars
-use Rattle.rhai_reading.specs.Goals.{ClosureBody, Parameters, Statement}
-use Rattle.rhai_reading.specs.Goals.{Ret, Fail, Know, Add, Note, Call, CallApart, Prog}
-use Rattle.rhai_reading.specs.Goals.{raised}
+use Rattle.rhai_reading.specs.Goals.{ClosureBody, Parameters, Statement, Ret, Fail, Know, Add, Note, Call, CallApart}
+use Rattle.rhai_reading.specs.Goals.{Prog, raised}
 
 -- the names that a closure captures are used where it ends
 abbrev pub captured_on : {A : Type 0} → List Use → Context → Live → Prog A → Prog A

@@ -1,22 +1,12 @@
 -- The terms of the readers of functions.
 use Rattle.std.specs.Prelude.{Bool, ◌++◌, Option, Some, None, List, [], ◌∷◌, if◌then◌else◌}
-use Rattle.rhai_lower.specs.Texts.{Text}
-use Rattle.rhai_lower.specs.Lexemes.{Lexeme, text_of}
+use Rattle.rhai_grammar.specs.Prelude.{Text, Lexeme, text_of, noop, Position, is_name, refusal, Comment, Context, Live}
+use Rattle.rhai_grammar.specs.Prelude.{is_global, is_due, not_due, duplicate_of, ended_function, in_function, is_new}
+use Rattle.rhai_grammar.specs.Prelude.{is_type, may_begin, names_function, no_function_name, parameters_live, is_among}
+use Rattle.rhai_grammar.specs.Prelude.{Ended, Library, is_comment}
 use Rattle.rhai_lower.specs.Nodes as node
-use Rattle.rhai_lower.specs.Nodes.{noop}
-use Rattle.rhai_lower.specs.declared.position.Position.{Position}
-use Rattle.rhai_grammar.specs.Beginnings.{is_name}
 use Rattle.rhai_grammar.specs.Causes as cause
-use Rattle.rhai_grammar.specs.Causes.{refusal}
-use Rattle.rhai_grammar.specs.Comments.{Comment}
-use Rattle.rhai_grammar.specs.Contexts.{Context, Live, is_global}
-use Rattle.rhai_grammar.specs.DueTokens.{is_due, not_due}
-use Rattle.rhai_grammar.specs.Functions.{duplicate_of, ended_function, in_function, is_new, is_type, may_begin, no_body}
-use Rattle.rhai_grammar.specs.Functions.{names_function}
-use Rattle.rhai_grammar.specs.Functions.{no_function_name, no_parameter, no_parameters, parameters_live, type_name}
-use Rattle.rhai_grammar.specs.Imports.{is_among}
-use Rattle.rhai_grammar.specs.Libraries.{Ended, Library}
-use Rattle.rhai_grammar.specs.Statements.{is_comment}
+use Rattle.rhai_grammar.specs.Functions.{no_body, no_parameter, no_parameters, type_name}
 use Rattle.rhai_grammar.specs.declared.due.DueToken.TheVariants as due
 use Rattle.rhai_grammar.specs.declared.list.CommaList.{CommaList}
 use Rattle.rhai_grammar.specs.declared.list.CommaList.TheVariants as lists
@@ -24,9 +14,8 @@ use Rattle.rhai_grammar.specs.declared.role.Calling.{Calling}
 use Rattle.rhai_grammar.specs.declared.role.Calling.TheVariants as calls_by
 use Rattle.rhai_grammar.specs.declared.role.ItemPlace.{ItemPlace}
 use Rattle.rhai_grammar.specs.declared.role.ItemPlace.TheVariants as place
-use Rattle.rhai_reading.specs.Goals.{Block, Comments, Function, Parameters}
-use Rattle.rhai_reading.specs.Goals.{Ret, Fail, Peek, Take, Know, Add, Call, Prog}
-use Rattle.rhai_reading.specs.Goals.{after_a_part, raised}
+use Rattle.rhai_reading.specs.Goals.{Block, Comments, Function, Parameters, Ret, Fail, Peek, Take, Know, Add, Call}
+use Rattle.rhai_reading.specs.Goals.{Prog, after_a_part, raised}
 
 -- ---- its doc comments
 

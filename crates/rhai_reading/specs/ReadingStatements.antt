@@ -1,28 +1,21 @@
 -- The terms of the readers of statements and constructs.
-use Rattle.std.specs.Prelude.{Bool, true, false, Option, Some, None, List, [], ◌∷◌, codes}
-use Rattle.std.specs.Prelude.{unwrap_or, if◌then◌else◌}
-use Rattle.rhai_lower.specs.Texts.{Text, same_text}
-use Rattle.rhai_lower.specs.Lexemes.{Lexeme, text_of}
-use Rattle.rhai_lower.specs.Nodes.{Node, unit}
-use Rattle.rhai_lower.specs.Nodes.{noop, expression, assignment}
-use Rattle.rhai_lower.specs.Nodes.{block_statement, no_statements, one_statement, absent}
-use Rattle.rhai_lower.specs.Nodes.{made_block, break_loop, do_statement, for_statement}
-use Rattle.rhai_lower.specs.Nodes.{return_statement, try_catch, while_statement}
+use Rattle.std.specs.Prelude.{Bool, true, false, Option, Some, None, List, [], ◌∷◌, codes, unwrap_or, if◌then◌else◌}
+use Rattle.rhai_grammar.specs.Prelude.{Text, same_text, Lexeme, text_of, Node, unit, noop, expression, assignment}
+use Rattle.rhai_grammar.specs.Prelude.{block_statement, no_statements, one_statement, absent, made_block}
+use Rattle.rhai_grammar.specs.Prelude.{return_statement, nowhere, Position, Refusal, refusal, Comment, Context, Live}
+use Rattle.rhai_grammar.specs.Prelude.{below_global, in_block, is_global, is_in_loop, loop_body, guard_expected}
+use Rattle.rhai_grammar.specs.Prelude.{no_assignment, catch_live, exported, imported, loop_live, is_due, is_assignment}
+use Rattle.rhai_grammar.specs.Prelude.{is_constant_use, is_equals, target_fault, ends_itself, no_variable}
+use Rattle.rhai_grammar.specs.Prelude.{statement_start, token_after_statement, missing, is_name, caught_name}
+use Rattle.rhai_grammar.specs.Prelude.{catch_node, export_tree, import_tree, with_kept, nothing_collected, switch_tree}
+use Rattle.rhai_lower.specs.Nodes.{break_loop, do_statement, for_statement, try_catch, while_statement}
 use Rattle.rhai_lower.specs.Nodes as node
-use Rattle.rhai_lower.specs.Positions.{nowhere}
-use Rattle.rhai_lower.specs.declared.position.Position.{Position}
 use Rattle.rhai_grammar.specs.Causes as cause
-use Rattle.rhai_grammar.specs.Causes.{Refusal, refusal}
-use Rattle.rhai_grammar.specs.Comments.{Comment}
 use Rattle.rhai_grammar.specs.declared.due.DueToken.TheVariants as due
-use Rattle.rhai_grammar.specs.Contexts.{Context, Live, below_global, in_block, is_global, is_in_loop, loop_body}
-use Rattle.rhai_grammar.specs.Constructs.{guard_expected, no_assignment}
-use Rattle.rhai_grammar.specs.Definitions.{catch_live, exported, imported, loop_live, may_define}
-use Rattle.rhai_grammar.specs.DueTokens.{is_due}
+use Rattle.rhai_grammar.specs.Definitions.{may_define}
 use Rattle.rhai_grammar.specs.declared.role.Construct.{Construct as Kind}
 use Rattle.rhai_grammar.specs.declared.role.Construct.TheVariants as kind
-use Rattle.rhai_grammar.specs.Targets.{is_assignment, is_constant_use, is_equals, target_fault, update_of}
-use Rattle.rhai_grammar.specs.Statements.{ends_itself, no_variable, statement_start, token_after_statement}
+use Rattle.rhai_grammar.specs.Targets.{update_of}
 use Rattle.rhai_grammar.specs.declared.role.AfterStatement.{AfterStatement}
 use Rattle.rhai_grammar.specs.declared.role.AfterStatement.TheVariants as ends
 use Rattle.rhai_grammar.specs.declared.role.Closing.{Closing}
@@ -31,18 +24,10 @@ use Rattle.rhai_grammar.specs.declared.role.StatementPlace.{StatementPlace}
 use Rattle.rhai_grammar.specs.declared.role.StatementPlace.TheVariants as stands
 use Rattle.rhai_grammar.specs.declared.role.StatementStart.{StatementStart}
 use Rattle.rhai_grammar.specs.declared.role.StatementStart.TheVariants as start
-use Rattle.rhai_grammar.specs.Beginnings.{missing}
-use Rattle.rhai_grammar.specs.Beginnings.{is_name}
-use Rattle.rhai_grammar.specs.Trees.{caught_name, catch_node, no_block}
-use Rattle.rhai_grammar.specs.Trees.{export_tree, import_tree, with_kept}
-use Rattle.rhai_grammar.specs.Switches.{nothing_collected, switch_tree}
-use Rattle.rhai_reading.specs.Goals.{construct_on, Expression}
-use Rattle.rhai_reading.specs.Goals.{Jump}
-use Rattle.rhai_reading.specs.Goals.{ExprStatement}
-use Rattle.rhai_reading.specs.Goals.{Definition, Statement, Statements, Block}
-use Rattle.rhai_reading.specs.Goals.{Arms, Braced, Catch, Conditional, DoEnd, Guard, Iterated}
-use Rattle.rhai_reading.specs.Goals.{Alias, Comments, Export, FunctionStatement, Import, LoopNames}
-use Rattle.rhai_reading.specs.Goals.{Ret, Fail, Peek, Take, Call, Prog}
+use Rattle.rhai_grammar.specs.Trees.{no_block}
+use Rattle.rhai_reading.specs.Goals.{construct_on, Expression, Jump, ExprStatement, Definition, Statement, Statements}
+use Rattle.rhai_reading.specs.Goals.{Block, Arms, Braced, Catch, Conditional, DoEnd, Guard, Iterated, Alias, Comments}
+use Rattle.rhai_reading.specs.Goals.{Export, FunctionStatement, Import, LoopNames, Ret, Fail, Peek, Take, Call, Prog}
 use Rattle.rhai_reading.specs.Goals.{match_name, match_token, raised, tested}
 use Rattle.rhai_reading.specs.ReadingFunctions.{comment_of}
 

@@ -1,26 +1,18 @@
 -- The terms of the readers of `switch`.
 use Rattle.std.specs.Prelude.{Bool, true, false, Option, Some, None, codes, if◌then◌else◌}
-use Rattle.rhai_lower.specs.Lexemes.{Lexeme}
-use Rattle.rhai_lower.specs.Nodes.{Node, Nodes, block_value, made_block}
-use Rattle.rhai_lower.specs.declared.position.Position.{Position}
-use Rattle.rhai_grammar.specs.Beginnings.{missing}
+use Rattle.rhai_grammar.specs.Prelude.{Lexeme, Node, Nodes, block_value, made_block, Position, missing, Refusal}
+use Rattle.rhai_grammar.specs.Prelude.{refusal, not_after, Context, Live, below_global, in_block, is_end, is_due}
+use Rattle.rhai_grammar.specs.Prelude.{Collected, ends_arm, with_arm_collected, with_default_collected}
 use Rattle.rhai_grammar.specs.Causes as cause
-use Rattle.rhai_grammar.specs.Causes.{Refusal, refusal}
-use Rattle.rhai_grammar.specs.CommaLists.{not_after}
-use Rattle.rhai_grammar.specs.Contexts.{Context, Live, below_global, in_block}
-use Rattle.rhai_grammar.specs.Delivered.{is_end}
-use Rattle.rhai_grammar.specs.DueTokens.{is_due}
-use Rattle.rhai_grammar.specs.Switches.{Collected, ends_arm, no_guard, with_arm_collected}
-use Rattle.rhai_grammar.specs.Switches.{with_default_collected}
+use Rattle.rhai_grammar.specs.Switches.{no_guard}
 use Rattle.rhai_grammar.specs.declared.due.DueToken.TheVariants as due
 use Rattle.rhai_grammar.specs.declared.list.AfterPart.{AfterPart}
 use Rattle.rhai_grammar.specs.declared.list.AfterPart.TheVariants as after
 use Rattle.rhai_grammar.specs.declared.list.CommaList.TheVariants as lists
 use Rattle.rhai_grammar.specs.declared.role.ArmPlace.{ArmPlace}
 use Rattle.rhai_grammar.specs.declared.role.ArmPlace.TheVariants as arm
-use Rattle.rhai_reading.specs.Goals.{Action, Arm, ArmEnd, Arms, Cases, DefaultArm, DefaultEnd, Expression}
-use Rattle.rhai_reading.specs.Goals.{Guard, Statement}
-use Rattle.rhai_reading.specs.Goals.{Prog, Ret, Fail, Peek, Take, Call, match_token}
+use Rattle.rhai_reading.specs.Goals.{Action, Arm, ArmEnd, Arms, Cases, DefaultArm, DefaultEnd, Expression, Guard}
+use Rattle.rhai_reading.specs.Goals.{Statement, Prog, Ret, Fail, Peek, Take, Call, match_token}
 
 -- after the case of an arm, of which it has these so far
 abbrev pub cases_at : Context → Live → Nodes → Lexeme → Prog Nodes

@@ -1,14 +1,9 @@
 -- What the reader does, as a function: a fixed point of its rules. What is left to read guards it.
-use Rattle.std.specs.Prelude.{◌≡◌, ℕ, zero, suc, ◌+◌, ◌*◌, false, Result, Ok, Err, nat_lt, if◌then◌else◌}
-use Rattle.rhai_lower.specs.Lexemes.{Lexeme}
-use Rattle.rhai_lower.specs.declared.position.Position.{Position}
-use Rattle.rhai_grammar.specs.Causes.{refusal_of, is_for_memory, MemoryIsNowhere}
+use Rattle.std.specs.Prelude.{◌≡◌, ℕ, zero, suc, ◌+◌, ◌*◌, false, Result, Ok, Err, nat_lt, if◌then◌else◌, List}
+use Rattle.rhai_grammar.specs.Prelude.{Lexeme, Position, MemoryIsNowhere, Cursor, left, Item, Ended, Library}
+use Rattle.rhai_grammar.specs.Prelude.{with_ended, Use}
+use Rattle.rhai_grammar.specs.Causes.{refusal_of, is_for_memory}
 use Rattle.rhai_grammar.specs.Cursors as cursors
-use Rattle.rhai_grammar.specs.Cursors.{Cursor, left}
-use Rattle.rhai_grammar.specs.Delivered.{Item}
-use Rattle.rhai_grammar.specs.Libraries.{Ended, Library, with_ended}
-use Rattle.rhai_grammar.specs.Uses.{Use}
-use Rattle.std.specs.Prelude.{List}
 use Rattle.rhai_grammar.specs.declared.error.ParseError.{ParseError}
 use Rattle.rhai_reading.specs.Moves as moves
 use Rattle.rhai_reading.specs.Moves.{Moves, Outcome}
@@ -17,14 +12,11 @@ pub use Rattle.rhai_reading.specs.Moves.{Done, Refused, Unfinished, and_then, re
 use Rattle.rhai_reading.specs.Reading.{Goal, Whole, Expression, Operand, Primary, Postfix, Arguments, Items, Elements}
 use Rattle.rhai_reading.specs.Reading.{Fields, NextKey, Called, Links, Index, Member, NextOperator, BinaryOp, Val}
 use Rattle.rhai_reading.specs.Reading.{ExprStatement, VarName, Initializer, Definition, Statement, Statements, Block}
-use Rattle.rhai_reading.specs.Reading.{BlockEnd, BlockStart, Inside, Jump, Prog, Segments, TextAfter}
-use Rattle.rhai_reading.specs.Reading.{Alias, Export, Import, Path}
-use Rattle.rhai_reading.specs.Reading.{Branch, Braced, Catch, Conditional, Construct, DoEnd, Guard, Iterated, LoopNames}
-use Rattle.rhai_reading.specs.Reading.{Action, Arm, ArmEnd, Arms, Case, CaseGuard, Cases, DefaultArm, DefaultEnd}
-use Rattle.rhai_reading.specs.Reading.{RightOperand}
-use Rattle.rhai_reading.specs.Reading.{Closure, ClosureBody, Comments, Function, FunctionHead, FunctionStatement}
-use Rattle.rhai_reading.specs.Reading.{ParameterList, Parameters}
-use Rattle.rhai_reading.specs.Reading.{Prog, body}
+use Rattle.rhai_reading.specs.Reading.{BlockEnd, BlockStart, Inside, Jump, Prog, Segments, TextAfter, Alias, Export}
+use Rattle.rhai_reading.specs.Reading.{Import, Path, Branch, Braced, Catch, Conditional, Construct, DoEnd, Guard}
+use Rattle.rhai_reading.specs.Reading.{Iterated, LoopNames, Action, Arm, ArmEnd, Arms, Case, CaseGuard, Cases}
+use Rattle.rhai_reading.specs.Reading.{DefaultArm, DefaultEnd, RightOperand, Closure, ClosureBody, Comments, Function}
+use Rattle.rhai_reading.specs.Reading.{FunctionHead, FunctionStatement, ParameterList, Parameters, body}
 
 -- What is left of a stream, the functions that have ended, the names that the closure around has captured, and how
 -- deeply readers are nested.

@@ -1,24 +1,16 @@
 -- Calls, and their arguments: the steps to what is written.
 use Rattle.std.proofs.Common.{◌≡◌, ℕ, ◌≤◌, max, arith, Bool, true, false, Option, Some, None, refl, ap, ◌∙◌}
 use Rattle.std.specs.Prelude.{List, ◌&&◌, ◌||◌}
-use Rattle.rhai_lower.specs.Texts.{Text}
-use Rattle.rhai_grammar.specs.Causes.{Refusal}
+use Rattle.rhai_grammar.specs.Prelude.{Text, Refusal, Lexeme, Node, Nodes, no_nodes, with_node, position_of, Position}
+use Rattle.rhai_grammar.specs.Prelude.{code, Item, Point, next_at, past, is_memory, Context, Live, level_up, calls}
+use Rattle.rhai_grammar.specs.Prelude.{excludes_use, qualifies, after_part, is_close, no_argument, Primary, Arguments}
+use Rattle.rhai_grammar.specs.Prelude.{Items, Path, Run, is_qualified, is_scoped, module_fault, path_tree, qualified}
+use Rattle.rhai_grammar.specs.Prelude.{argument_trees, item_trees, primary_tree, is_variable, call_tree, tree}
+use Rattle.rhai_grammar.specs.Prelude.{arguments_depth, Fine, Demands, Next, Shape, ◌▸◌, verdict, Met}
 use Rattle.std.specs.Option.{is_some}
 use Rattle.std.proofs.lemmas.Bool.{and_from}
-use Rattle.rhai_lower.specs.Lexemes.{Lexeme}
-use Rattle.rhai_lower.specs.Nodes.{Node, Nodes, no_nodes, with_node, position_of}
-use Rattle.rhai_lower.specs.declared.position.Position.{Position}
-use Rattle.rhai_grammar.specs.Delivered.{code, Item, Point, next_at, past, is_memory}
-use Rattle.rhai_grammar.specs.Contexts.{Context, Live, level_up}
 use Rattle.rhai_grammar.specs.declared.list.CommaList.TheVariants as lists
-use Rattle.rhai_grammar.specs.Beginnings.{calls, excludes_use, qualifies}
-use Rattle.rhai_grammar.specs.CommaLists.{after_part, is_close, no_argument}
 use Rattle.rhai_grammar.specs.Forms as form
-use Rattle.rhai_grammar.specs.Forms.{Primary, Arguments, Items, Path, Run}
-use Rattle.rhai_grammar.specs.Modules.{is_qualified, is_scoped, module_fault, path_tree, qualified}
-use Rattle.rhai_grammar.specs.Trees.{argument_trees, item_trees, primary_tree, is_variable, call_tree, tree}
-use Rattle.rhai_grammar.specs.Depths.{arguments_depth}
-use Rattle.rhai_grammar.specs.Demands.{Fine, Demands, Next, Shape, ◌▸◌, verdict, Met}
 use Rattle.rhai_grammar.specs.Verdicts as V
 use Rattle.rhai_grammar.specs.Written as W
 use Rattle.rhai_grammar.specs.declared.role.OperandPlace.{OperandPlace}
@@ -28,8 +20,10 @@ use Rattle.rhai_reading.proofs.FormKinds.{By, call_of, paths}
 use Rattle.rhai_reading.proofs.Sound.Calls.{variable_on}
 use Rattle.rhai_reading.proofs.Lists.{added, added_last}
 use Rattle.rhai_reading.proofs.Looks.{op_at, fine, no_other, no_wrong}
-use Rattle.rhai_reading.proofs.Reaches.{Reaches, deeper, enough, next, ret, gives, look, peek, due, if_true, if_false, part}
-use Rattle.rhai_reading.proofs.Complete.Law.{IsFlat, Usable, PrimaryRead, BaseRead, ArgumentsRead, ItemsRead, ExpressionRead}
+use Rattle.rhai_reading.proofs.Reaches.{Reaches, deeper, enough, next, ret, gives, look, peek, due, if_true, if_false}
+use Rattle.rhai_reading.proofs.Reaches.{part}
+use Rattle.rhai_reading.proofs.Complete.Law.{IsFlat, Usable, PrimaryRead, BaseRead, ArgumentsRead, ItemsRead}
+use Rattle.rhai_reading.proofs.Complete.Law.{ExpressionRead}
 
 -- what is given, where nothing refuses it
 pub tested_fine : {A : Type 0} {x : A} (v : Option Refusal) {k : Demands} {s t : Point} {b : Bool}

@@ -1,31 +1,24 @@
 -- Brackets and dots after an operand: the steps to what is written.
-use Rattle.std.proofs.Common.{◌≡◌, ℕ, ◌+◌, max, arith, Bool, true, false, Option, Some, None, List, [], ◌∷◌, ◌++◌, append-nil, refl, sym}
+use Rattle.std.proofs.Common.{◌≡◌, ℕ, ◌+◌, max, arith, Bool, true, false, Option, Some, None, List, [], ◌∷◌, ◌++◌}
+use Rattle.std.proofs.Common.{append-nil, refl, sym}
 use Rattle.std.specs.Option.{is_some}
-use Rattle.rhai_lower.specs.Texts.{Text}
-use Rattle.rhai_lower.specs.Lexemes.{Lexeme, Name, text_of}
-use Rattle.rhai_lower.specs.Nodes.{Node, property}
-use Rattle.rhai_lower.specs.declared.position.Position.{Position}
+use Rattle.rhai_grammar.specs.Prelude.{Text, Lexeme, Name, text_of, Node, property, Position, Refusal, code, item}
+use Rattle.rhai_grammar.specs.Prelude.{Point, next_at, past, Context, Live, has_room, level_up, calls, linking}
+use Rattle.rhai_grammar.specs.Prelude.{is_bracket, is_dot, is_link, member_place, is_member, qualifies, Link}
+use Rattle.rhai_grammar.specs.Prelude.{index_refusal, last_fault, Links, Arguments, Run, argument_trees, link_list}
+use Rattle.rhai_grammar.specs.Prelude.{bracket_link, member_link, method_tree, tree, Demands, Met, unfaulted, LinkSpot}
+use Rattle.rhai_grammar.specs.Prelude.{spot_after_bracket, spot_after_dot}
 use Rattle.rhai_grammar.specs.declared.due.DueToken.TheVariants as due
-use Rattle.rhai_grammar.specs.Causes.{Refusal}
-use Rattle.rhai_grammar.specs.Delivered.{code, item, Point, next_at, past}
-use Rattle.rhai_grammar.specs.Contexts.{Context, Live, has_room, level_up}
-use Rattle.rhai_grammar.specs.Beginnings.{calls, linking, is_bracket, is_dot, is_link, member_place, is_member}
-use Rattle.rhai_grammar.specs.Beginnings.{qualifies}
-use Rattle.rhai_grammar.specs.Chains.{Link, index_refusal, last_fault}
 use Rattle.rhai_grammar.specs.Forms as form
-use Rattle.rhai_grammar.specs.Forms.{Links, Arguments, Run}
-use Rattle.rhai_grammar.specs.Trees.{argument_trees, link_list, bracket_link, member_link, method_tree, tree}
-use Rattle.rhai_grammar.specs.Demands.{Demands, Met}
 use Rattle.rhai_grammar.specs.Verdicts as V
 use Rattle.rhai_grammar.specs.Written as W
-use Rattle.rhai_grammar.specs.Written.{unfaulted}
-use Rattle.rhai_grammar.specs.Spots.{LinkSpot, spot_after_bracket, spot_after_dot}
 use Rattle.rhai_reading.specs.Reading as R
 use Rattle.rhai_reading.specs.Reading.{body}
 use Rattle.rhai_reading.proofs.FormKinds.{By, call_of}
 use Rattle.rhai_reading.proofs.Lists.{spot_after_one_more}
 use Rattle.rhai_reading.proofs.Tokens.{bracket_is, dot_is, no_link_is, member_is, readable, member_readable}
-use Rattle.rhai_reading.proofs.Reaches.{Reaches, deeper, enough, seen, next, ret, gives, look, peek, take, due, if_true, if_false, part}
+use Rattle.rhai_reading.proofs.Reaches.{Reaches, deeper, enough, seen, next, ret, gives, look, peek, take, due, if_true}
+use Rattle.rhai_reading.proofs.Reaches.{if_false, part}
 use Rattle.rhai_reading.proofs.Looks.{op_at, pos_at, no_other, no_wrong}
 use Rattle.rhai_reading.proofs.Complete.Law.{ArgumentsRead, LinksRead, ExpressionRead}
 use Rattle.rhai_reading.proofs.Complete.Calls.{call_here, called_by}

@@ -1,28 +1,20 @@
 -- Closures.
 use Rattle.std.proofs.Common.{max, arith, ℕ, Bool, true, false, List, [], ◌∷◌, refl, sym, subst}
-use Rattle.rhai_lower.specs.Nodes.{made_block}
-use Rattle.rhai_lower.specs.declared.position.Position.{Position}
-use Rattle.rhai_grammar.specs.Closures.{closure_node, declared_names, ended_closure, in_closure, runs}
-use Rattle.rhai_grammar.specs.Contexts.{Context, Live, level_up}
-use Rattle.rhai_grammar.specs.Delivered.{code, Point, apart, is_end, past, capturing, with_captured}
-use Rattle.rhai_grammar.specs.Depths.{closure_body_depth}
-use Rattle.rhai_grammar.specs.Demands.{Apart, Demands, Met, Nothing, ◌▸◌}
+use Rattle.rhai_grammar.specs.Prelude.{made_block, Position, closure_node, declared_names, ended_closure, in_closure}
+use Rattle.rhai_grammar.specs.Prelude.{runs, Context, Live, level_up, code, Point, apart, is_end, past, capturing}
+use Rattle.rhai_grammar.specs.Prelude.{with_captured, closure_body_depth, Apart, Demands, Met, Nothing, ◌▸◌}
+use Rattle.rhai_grammar.specs.Prelude.{ClosureBody, ClosureHead, Parameters, Statement, parameters_live, closure_count}
+use Rattle.rhai_grammar.specs.Prelude.{is_captured, body_tree, closure_tree, Use, Node}
 use Rattle.rhai_grammar.specs.Forms as form
-use Rattle.rhai_grammar.specs.Forms.{ClosureBody, ClosureHead, Parameters, Statement}
-use Rattle.rhai_grammar.specs.Functions.{parameters_live}
-use Rattle.rhai_grammar.specs.Libraries.{closure_count}
-use Rattle.rhai_grammar.specs.Modules.{is_captured}
-use Rattle.rhai_grammar.specs.Trees.{body_tree, closure_tree}
-use Rattle.rhai_grammar.specs.Uses.{Use}
 use Rattle.rhai_grammar.specs.Written as W
 use Rattle.rhai_grammar.specs.declared.list.CommaList.TheVariants as lists
 use Rattle.rhai_reading.specs.Reading as R
-use Rattle.rhai_lower.specs.Nodes.{Node}
 use Rattle.rhai_reading.specs.Reading.{Know, Prog, Ret, body}
 use Rattle.rhai_reading.proofs.Complete.Functions.{parameter_rest}
 use Rattle.rhai_reading.proofs.Complete.Law.{ClosureBodyRead, PrimaryRead, StatementRead}
 use Rattle.rhai_reading.proofs.Looks.{no_other, op_at}
-use Rattle.rhai_reading.proofs.Reaches.{Reaches, deeper, enough, add, if_false, if_true, know, next, note, part, part_apart, peek, ret, take}
+use Rattle.rhai_reading.proofs.Reaches.{Reaches, deeper, enough, add, if_false, if_true, know, next, note, part}
+use Rattle.rhai_reading.proofs.Reaches.{part_apart, peek, ret, take}
 
 -- ---- the body
 

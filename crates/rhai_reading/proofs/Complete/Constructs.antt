@@ -1,32 +1,26 @@
 -- Constructs: the steps to what is written.
 use Rattle.std.proofs.Common.{◌+◌, arith, Bool, true, false, Option, Some, None, refl}
-use Rattle.rhai_lower.specs.Lexemes.{Sign}
-use Rattle.rhai_lower.specs.declared.position.Position.{Position}
-use Rattle.rhai_grammar.specs.Causes.{Refusal}
-use Rattle.rhai_grammar.specs.Constructs.{absent, do_token, guard_begins, guard_ends, guard_fault, iterated_fault, no_assignment}
-use Rattle.rhai_grammar.specs.Constructs.{guard_expected}
-use Rattle.rhai_grammar.specs.Contexts.{Context, Live, level_up, loop_body}
-use Rattle.rhai_grammar.specs.Definitions.{catch_live, loop_live}
-use Rattle.rhai_grammar.specs.Delivered.{code, Point, past}
-use Rattle.rhai_grammar.specs.Demands.{Met, Next, ◌▸◌}
-use Rattle.rhai_grammar.specs.Depths.{body_depth, run_depth}
-use Rattle.rhai_grammar.specs.DueTokens.{is_due}
+use Rattle.rhai_grammar.specs.Prelude.{Sign, Position, Refusal, do_token, guard_begins, guard_fault, iterated_fault}
+use Rattle.rhai_grammar.specs.Prelude.{no_assignment, guard_expected, Context, Live, level_up, loop_body, catch_live}
+use Rattle.rhai_grammar.specs.Prelude.{loop_live, code, Point, past, Met, Next, ◌▸◌, body_depth, run_depth, is_due}
+use Rattle.rhai_grammar.specs.Prelude.{Body, Branch, CatchName, Conditional, LoopNames, Run, caught, caught_name}
+use Rattle.rhai_grammar.specs.Prelude.{counter_of, loop_name, tree, unfaulted}
+use Rattle.rhai_grammar.specs.Constructs.{absent, guard_ends}
 use Rattle.rhai_grammar.specs.Forms as form
-use Rattle.rhai_grammar.specs.Forms.{Body, Branch, CatchName, Conditional, LoopNames, Run}
-use Rattle.rhai_grammar.specs.Trees.{caught, caught_name, counter_of, loop_name, tree}
 use Rattle.rhai_grammar.specs.Written as W
-use Rattle.rhai_grammar.specs.Written.{unfaulted}
 use Rattle.rhai_grammar.specs.declared.due.DueToken.TheVariants as due
 use Rattle.rhai_reading.specs.Reading as R
 use Rattle.rhai_reading.specs.Reading.{body}
 use Rattle.rhai_reading.proofs.Beginnings.{ends_do}
 use Rattle.rhai_reading.proofs.Complete.Calls.{tested_fine}
-use Rattle.rhai_reading.proofs.Complete.Law.{BodyRead, BranchRead, ConditionalRead, ConstructRead, ExpressionRead, IsFlat, IsRead}
+use Rattle.rhai_reading.proofs.Complete.Law.{BodyRead, BranchRead, ConditionalRead, ConstructRead, ExpressionRead}
+use Rattle.rhai_reading.proofs.Complete.Law.{IsFlat, IsRead}
 use Rattle.rhai_reading.proofs.Complete.Statements.{block_start}
-use Rattle.rhai_reading.proofs.ConstructKinds.{BracedForm, CatchForm, DoForm, LoopForm, braced, catches, do_ends, guards}
-use Rattle.rhai_reading.proofs.ConstructKinds.{iterated_values, loops}
+use Rattle.rhai_reading.proofs.ConstructKinds.{BracedForm, CatchForm, DoForm, LoopForm, braced, catches, do_ends}
+use Rattle.rhai_reading.proofs.ConstructKinds.{guards, iterated_values, loops}
 use Rattle.rhai_reading.proofs.Looks.{no_other, no_wrong, op_at}
-use Rattle.rhai_reading.proofs.Reaches.{Reaches, deeper, enough, due as due_now, if_false, if_true, next, part, peek, ret, seen, take}
+use Rattle.rhai_reading.proofs.Reaches.{Reaches, deeper, enough, due as due_now, if_false, if_true, next, part, peek}
+use Rattle.rhai_reading.proofs.Reaches.{ret, seen, take}
 use Rattle.rhai_reading.proofs.Strengths.{not_true}
 
 -- ---- guards

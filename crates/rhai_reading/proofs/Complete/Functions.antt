@@ -1,37 +1,25 @@
 -- Functions: the steps to what is written.
 use Rattle.rhai_grammar.specs.declared.list.CommaList.{CommaList}
 use Rattle.rhai_grammar.specs.declared.list.CommaList.TheVariants as lists
-use Rattle.rhai_grammar.specs.CommaLists.{after_part, closing_of}
-use Rattle.rhai_grammar.specs.Functions.{parameter_place}
-use Rattle.rhai_grammar.specs.Statements.{is_comment}
+use Rattle.rhai_grammar.specs.Prelude.{after_part, closing_of, parameter_place, is_comment, Sign, noop, Text, Position}
+use Rattle.rhai_grammar.specs.Prelude.{Refusal, Comment, Context, Live, level_up, code, item, is_memory, next_at, past}
+use Rattle.rhai_grammar.specs.Prelude.{Point, body_depth, Blames, Demands, Fine, Met, is_due, Owner, ParameterList}
+use Rattle.rhai_grammar.specs.Prelude.{Parameters, in_function, is_type, names_function, parameter_names}
+use Rattle.rhai_grammar.specs.Prelude.{parameters_live, untyped}
 use Rattle.rhai_grammar.specs.Written as W
 use Rattle.rhai_lower.specs.declared.token.Token.TheVariants as token
-use Rattle.rhai_lower.specs.Lexemes.{Sign}
-use Rattle.rhai_lower.specs.Nodes.{noop}
-use Rattle.rhai_reading.specs.Reading.{Prog, Ret, Take}
-use Rattle.std.proofs.Common.{◌+◌, ◌≡◌, Bool, true, false, None, Option, Some, List, [], ◌∷◌, ◌++◌, if◌then◌else◌, refl, sym, ap, max}
-use Rattle.std.proofs.Common.{append-nil, append_assoc}
-use Rattle.rhai_lower.specs.Texts.{Text}
-use Rattle.rhai_lower.specs.declared.position.Position.{Position}
-use Rattle.rhai_grammar.specs.Causes.{Refusal}
-use Rattle.rhai_grammar.specs.Comments.{Comment}
-use Rattle.rhai_grammar.specs.Contexts.{Context, Live, level_up}
-use Rattle.rhai_grammar.specs.Delivered.{code, item, is_memory, next_at, past, Point}
-use Rattle.rhai_grammar.specs.Depths.{body_depth}
-use Rattle.rhai_grammar.specs.Demands.{Blames, Demands, Fine, Met}
-use Rattle.rhai_grammar.specs.DueTokens.{is_due}
+use Rattle.rhai_reading.specs.Reading.{Prog, Ret, Take, body}
+use Rattle.std.proofs.Common.{◌+◌, ◌≡◌, Bool, true, false, None, Option, Some, List, [], ◌∷◌, ◌++◌, if◌then◌else◌, refl}
+use Rattle.std.proofs.Common.{sym, ap, max, append-nil, append_assoc}
 use Rattle.rhai_grammar.specs.Forms as form
-use Rattle.rhai_grammar.specs.Forms.{Body, Owner, ParameterList, Parameters}
-use Rattle.rhai_grammar.specs.Functions.{in_function, is_type, names_function, parameter_names, parameters_live, untyped}
 use Rattle.rhai_grammar.specs.declared.due.DueToken.TheVariants as due
 use Rattle.rhai_reading.specs.Reading as R
-use Rattle.rhai_reading.specs.Reading.{body}
 use Rattle.rhai_reading.proofs.Complete.Law.{BodyRead, IsFlat, IsRead, StatementRead}
-use Rattle.rhai_reading.proofs.FunctionKinds.{FunctionForm, HeadForm, function_of, function_statements, functions, heads}
-use Rattle.rhai_reading.proofs.FunctionKinds.{parameter_lists, parameters}
+use Rattle.rhai_reading.proofs.FunctionKinds.{FunctionForm, HeadForm, function_of, function_statements, functions}
+use Rattle.rhai_reading.proofs.FunctionKinds.{heads, parameter_lists, parameters}
 use Rattle.rhai_reading.proofs.Looks.{no_other, op_at}
-use Rattle.rhai_reading.proofs.Reaches.{Reaches, deeper, add, due as due_now, gives, if_false, if_true, know, look, next, part}
-use Rattle.rhai_reading.proofs.Reaches.{peek, ret, take}
+use Rattle.rhai_reading.proofs.Reaches.{Reaches, deeper, add, due as due_now, gives, if_false, if_true, know, look}
+use Rattle.rhai_reading.proofs.Reaches.{next, part, peek, ret, take}
 use Rattle.rhai_reading.proofs.Strengths.{not_true}
 use Rattle.rhai_reading.proofs.Tokens.{readable}
 

@@ -1,36 +1,29 @@
 -- What is said of the written forms: that each is read.
 use Rattle.std.proofs.Common.{◌≡◌, ℕ, ◌≤◌, Bool, true, false, max, refl}
-use Rattle.rhai_lower.specs.Lexemes.{Lexeme}
-use Rattle.rhai_lower.specs.Nodes.{Node, Nodes, no_nodes, Properties, position_of}
-use Rattle.rhai_lower.specs.declared.position.Position.{Position}
-use Rattle.rhai_grammar.specs.Delivered.{code, Point, next_at, is_memory}
-use Rattle.rhai_grammar.specs.Contexts.{Context, Live, has_room}
+use Rattle.rhai_grammar.specs.Prelude.{Lexeme, Node, Nodes, no_nodes, Properties, position_of, Position, code, Point}
+use Rattle.rhai_grammar.specs.Prelude.{next_at, is_memory, Context, Live, has_room, calling, excludes_use, Follower}
+use Rattle.rhai_grammar.specs.Prelude.{follower_of, is_operator, strength, Primary, Base, Links, Operand, Arguments}
+use Rattle.rhai_grammar.specs.Prelude.{Items, Elements, Fields, Run, Just, Binary, ClosureBody, Body, Branch}
+use Rattle.rhai_grammar.specs.Prelude.{Conditional, Construct, ExprStatement, Initializer, JumpValue, Segments}
+use Rattle.rhai_grammar.specs.Prelude.{Statement, Statements, Action, Arms, CaseGuard, Cases, is_variable, primary_tree}
+use Rattle.rhai_grammar.specs.Prelude.{base_tree, argument_trees, tree, action_depth, arguments_depth, body_depth}
+use Rattle.rhai_grammar.specs.Prelude.{case_guard_depth, cases_depth, closure_body_depth, initializer_depth}
+use Rattle.rhai_grammar.specs.Prelude.{operand_depth, run_depth, statement_depth, statements_depth, Verdict, Fine}
+use Rattle.rhai_grammar.specs.Prelude.{Demands, verdict, Met, LinkSpot, Height, Side, Outermost, RightOf, Spot}
+use Rattle.rhai_grammar.specs.Prelude.{filter_of, height_after, side_fits, left_fits, operator_known, place_after}
+use Rattle.rhai_grammar.specs.Prelude.{Collected, kind_of}
 use Rattle.rhai_grammar.specs.declared.role.Calling.{Calling}
 use Rattle.rhai_grammar.specs.declared.role.Calling.TheVariants as calls_by
-use Rattle.rhai_grammar.specs.Beginnings.{calling, excludes_use}
 use Rattle.rhai_grammar.specs.declared.filter.ExprFilter.{ExprFilter}
-use Rattle.rhai_grammar.specs.Strengths.{Follower, follower_of, is_operator, strength}
-use Rattle.rhai_grammar.specs.Forms.{Primary, Base, Links, Operand, Arguments, Items, Elements, Fields, Run, Just}
-use Rattle.rhai_grammar.specs.Forms.{Binary, ClosureBody, Body, Branch, Conditional, Construct, ExprStatement}
-use Rattle.rhai_grammar.specs.Forms.{Initializer, JumpValue, Segments, Statement, Statements, Action, Arms, CaseGuard}
-use Rattle.rhai_grammar.specs.Forms.{Cases}
 use Rattle.rhai_reading.proofs.ClosureKinds.{closure_bodies}
-use Rattle.rhai_grammar.specs.Trees.{is_variable, primary_tree, base_tree, argument_trees, tree}
-use Rattle.rhai_grammar.specs.Depths.{action_depth, arguments_depth, arms_depth, base_depth, body_depth, branch_depth}
-use Rattle.rhai_grammar.specs.Depths.{case_guard_depth, cases_depth, closure_body_depth, conditional_depth}
-use Rattle.rhai_grammar.specs.Depths.{construct_depth, elements_depth, expr_statement_depth, fields_depth}
-use Rattle.rhai_grammar.specs.Depths.{initializer_depth, items_depth, jump_value_depth, links_depth, operand_depth}
-use Rattle.rhai_grammar.specs.Depths.{primary_depth, run_depth, segments_depth, statement_depth, statements_depth}
-use Rattle.rhai_grammar.specs.Demands.{Verdict, Fine, Demands, verdict, Met}
+use Rattle.rhai_grammar.specs.Depths.{arms_depth, base_depth, branch_depth, conditional_depth, construct_depth}
+use Rattle.rhai_grammar.specs.Depths.{elements_depth, expr_statement_depth, fields_depth, items_depth, jump_value_depth}
+use Rattle.rhai_grammar.specs.Depths.{links_depth, primary_depth, segments_depth}
 use Rattle.rhai_grammar.specs.Written as W
-use Rattle.rhai_grammar.specs.Spots.{LinkSpot, Height, Side, Outermost, RightOf, Spot, filter_of, height_after}
-use Rattle.rhai_grammar.specs.Spots.{side_fits, left_fits}
-use Rattle.rhai_grammar.specs.Verdicts.{operator_known}
 use Rattle.rhai_reading.specs.Reading as R
 use Rattle.rhai_reading.specs.Reading.{Goal, Val, Prog, Ret, Peek, Take, Call, list_on, body}
 use Rattle.rhai_reading.specs.Histories.{State, Outcome, Done}
 use Rattle.rhai_reading.proofs.Deep.{Deep}
-use Rattle.rhai_grammar.specs.Starts.{place_after}
 use Rattle.rhai_grammar.specs.declared.role.OperandPlace.TheVariants.{Elsewhere}
 use Rattle.rhai_reading.proofs.Rules.{at}
 use Rattle.rhai_reading.proofs.Shows.{Kind}
@@ -39,9 +32,7 @@ use Rattle.rhai_reading.proofs.FormKinds.{initializers, statements, statement_li
 use Rattle.rhai_reading.proofs.FormKinds.{SingleInside, insides, jump_values, segments}
 use Rattle.rhai_lower.specs.Nodes as node
 use Rattle.rhai_grammar.specs.Forms as form
-use Rattle.rhai_grammar.specs.Switches.{Collected}
 use Rattle.rhai_reading.proofs.SwitchKinds.{actions, arm_lists, case_guards, cases}
-use Rattle.rhai_grammar.specs.Constructs.{kind_of}
 use Rattle.rhai_reading.proofs.ConstructKinds.{branches, conditionals, constructs}
 use Rattle.rhai_grammar.specs.declared.role.OperandPlace.{OperandPlace}
 use Rattle.rhai_grammar.specs.declared.role.Closing.{Closing}

@@ -1,18 +1,13 @@
 -- Arrays and object maps: the steps to what is written.
 use Rattle.std.proofs.Common.{◌≡◌, ℕ, ◌+◌, max, arith, Bool, true, false, Some, refl, sym, subst}
 use Rattle.std.specs.Prelude.{◌==◌}
-use Rattle.rhai_lower.specs.Lexemes.{Lexeme, text_of}
-use Rattle.rhai_lower.specs.Nodes.{Node, Nodes, no_nodes, with_node, Properties, no_properties, with_property}
-use Rattle.rhai_lower.specs.declared.position.Position.{Position}
-use Rattle.rhai_grammar.specs.Delivered.{code, Point, past}
+use Rattle.rhai_grammar.specs.Prelude.{Lexeme, text_of, Node, Nodes, no_nodes, with_node, Properties, no_properties}
+use Rattle.rhai_grammar.specs.Prelude.{with_property, Position, code, Point, past, Context, Live, full, has_room}
+use Rattle.rhai_grammar.specs.Prelude.{level_up, item_place, property_count, is_key, Elements, Fields, Run, node_count}
+use Rattle.rhai_grammar.specs.Prelude.{element_trees, field_trees, tree, Fine, Demands, verdict, Met}
 use Rattle.rhai_grammar.specs.Settings.{quoted_keys}
-use Rattle.rhai_grammar.specs.Contexts.{Context, Live, full, has_room, level_up}
 use Rattle.rhai_grammar.specs.declared.list.CommaList.TheVariants as lists
-use Rattle.rhai_grammar.specs.Literals.{item_place, property_count, is_key}
 use Rattle.rhai_grammar.specs.Forms as form
-use Rattle.rhai_grammar.specs.Forms.{Elements, Fields, Run}
-use Rattle.rhai_grammar.specs.Trees.{node_count, element_trees, field_trees, tree}
-use Rattle.rhai_grammar.specs.Demands.{Fine, Demands, verdict, Met}
 use Rattle.rhai_grammar.specs.Verdicts as V
 use Rattle.rhai_grammar.specs.Written as W
 use Rattle.rhai_reading.specs.Reading as R
@@ -20,7 +15,8 @@ use Rattle.rhai_reading.specs.Reading.{body}
 use Rattle.rhai_reading.proofs.Lists.{added, added_last, added_none, one_more_node, added_property, last_property}
 use Rattle.rhai_reading.proofs.Lists.{no_property}
 use Rattle.rhai_reading.proofs.Tokens.{item_is, key_is, readable}
-use Rattle.rhai_reading.proofs.Reaches.{Reaches, deeper, enough, seen, next, ret, gives, peek, take, due, if_true, if_false, part}
+use Rattle.rhai_reading.proofs.Reaches.{Reaches, deeper, enough, seen, next, ret, gives, peek, take, due, if_true}
+use Rattle.rhai_reading.proofs.Reaches.{if_false, part}
 use Rattle.rhai_reading.proofs.Strengths.{not_true}
 use Rattle.rhai_reading.proofs.Looks.{op_at, pos_at, no_wrong}
 use Rattle.rhai_reading.proofs.Complete.Law.{PrimaryRead, ElementsRead, FieldsRead, ExpressionRead}

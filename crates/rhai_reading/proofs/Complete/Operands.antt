@@ -1,46 +1,31 @@
 -- Primaries, and operands with their signs: the steps to what is written.
 use Rattle.std.proofs.Common.{◌≡◌, ℕ, Bool, true, false, Some, None, refl, ap, ◌∙◌, arith, if◌then◌else◌}
-use Rattle.rhai_lower.specs.Texts.{Text}
-use Rattle.rhai_lower.specs.Lexemes.{Lexeme}
-use Rattle.rhai_lower.specs.Nodes.{Node}
-use Rattle.rhai_lower.specs.declared.position.Position.{Position}
-use Rattle.rhai_grammar.specs.Causes.{Refusal}
-use Rattle.rhai_grammar.specs.Chains.{chained}
-use Rattle.rhai_grammar.specs.Delivered.{code, Item, Point, next_at, past}
-use Rattle.rhai_grammar.specs.Contexts.{Context, Live, below_global, in_block, level_up}
+use Rattle.rhai_grammar.specs.Prelude.{Text, Lexeme, Node, Position, Refusal, chained, code, Item, Point, next_at, past}
+use Rattle.rhai_grammar.specs.Prelude.{Context, Live, below_global, in_block, level_up, beginning, excludes_use}
+use Rattle.rhai_grammar.specs.Prelude.{is_begun, may_use, module_fault, Primary, Base, Links, Operand, Run, name_tree}
+use Rattle.rhai_grammar.specs.Prelude.{base_tree, Fine, Blames, Demands, Met, spot_after_operand, bars_of, bars_token}
+use Rattle.rhai_grammar.specs.Prelude.{capturing, captures_use, Use, Sign, kind_of, operand_start, Statement}
 use Rattle.rhai_grammar.specs.declared.role.Beginning.{Beginning}
 use Rattle.rhai_grammar.specs.declared.role.Beginning.TheVariants as begin
-use Rattle.rhai_grammar.specs.Beginnings.{beginning, excludes_use, is_begun}
-use Rattle.rhai_grammar.specs.Modules.{may_use, module_fault}
 use Rattle.rhai_reading.proofs.Complete.Calls.{tested_fine}
 use Rattle.std.specs.Prelude.{◌||◌}
 use Rattle.rhai_grammar.specs.Forms as form
-use Rattle.rhai_grammar.specs.Forms.{Primary, Base, Links, Operand, Run}
-use Rattle.rhai_grammar.specs.Trees.{name_tree, base_tree}
-use Rattle.rhai_grammar.specs.Demands.{Fine, Blames, Demands, Met}
 use Rattle.rhai_grammar.specs.Verdicts as V
 use Rattle.rhai_grammar.specs.Written as W
-use Rattle.rhai_grammar.specs.Spots.{spot_after_operand}
 use Rattle.rhai_grammar.specs.declared.role.OperandPlace.{OperandPlace}
 use Rattle.rhai_reading.specs.Reading as R
 use Rattle.rhai_reading.specs.Reading.{Prog, Ret, Fail, Call, operand_by, body}
-use Rattle.rhai_reading.proofs.Reaches.{Reaches, deeper, enough, seen, next, next_in, ret, gives, look, peek, take, due, if_true, part}
+use Rattle.rhai_reading.proofs.Reaches.{Reaches, deeper, enough, seen, next, next_in, ret, gives, look, peek, take, due}
+use Rattle.rhai_reading.proofs.Reaches.{if_true, part, note}
 use Rattle.rhai_reading.proofs.Looks.{op_at, pos_at, fine}
 use Rattle.rhai_reading.proofs.Tokens.{is_primary, value_is, range_is, sign_is, value_primary, range_primary}
-use Rattle.rhai_reading.proofs.Tokens.{primary_begun, sign_begun, begun_readable, written, unwritten_readable, jump_start_is, omitted_is}
-use Rattle.rhai_reading.proofs.Tokens.{called_no_this}
-use Rattle.rhai_grammar.specs.Closures.{bars_of, bars_token}
-use Rattle.rhai_grammar.specs.Delivered.{capturing}
-use Rattle.rhai_grammar.specs.Modules.{captures_use}
-use Rattle.rhai_grammar.specs.Uses.{Use}
+use Rattle.rhai_reading.proofs.Tokens.{primary_begun, sign_begun, begun_readable, written, unwritten_readable}
+use Rattle.rhai_reading.proofs.Tokens.{jump_start_is, omitted_is, called_no_this}
 use Rattle.rhai_grammar.specs.declared.role.Bars.{Bars}
 use Rattle.rhai_grammar.specs.declared.role.Bars.TheVariants as bars
-use Rattle.rhai_lower.specs.Lexemes.{Sign}
-use Rattle.rhai_reading.proofs.Reaches.{note}
-use Rattle.rhai_reading.proofs.Complete.Law.{PrimaryRead, BaseRead, LinksRead, OperandRead, ExpressionRead, FirstRead, StatementRead, WrittenRead}
-use Rattle.rhai_grammar.specs.Constructs.{kind_of}
-use Rattle.rhai_grammar.specs.Starts.{jump_stands, operand_start}
-use Rattle.rhai_grammar.specs.Forms.{Statement}
+use Rattle.rhai_reading.proofs.Complete.Law.{PrimaryRead, BaseRead, LinksRead, OperandRead, ExpressionRead, FirstRead}
+use Rattle.rhai_reading.proofs.Complete.Law.{StatementRead, WrittenRead}
+use Rattle.rhai_grammar.specs.Starts.{jump_stands}
 use Rattle.rhai_reading.proofs.Beginnings.{starts_value}
 use Rattle.rhai_grammar.specs.declared.role.OperandPlace.TheVariants.{Elsewhere}
 

@@ -1,35 +1,26 @@
 -- Runs of operators: what is written so is read so.
-use Rattle.std.proofs.Common.{◌≡◌, ℕ, max, arith, Bool, true, false, Some, None, refl, sym, ap, ◌∙◌, subst, if◌then◌else◌}
-use Rattle.rhai_lower.specs.Lexemes.{Lexeme}
-use Rattle.rhai_lower.specs.Nodes.{Node}
-use Rattle.rhai_lower.specs.declared.position.Position.{Position}
+use Rattle.std.proofs.Common.{◌≡◌, ℕ, max, arith, Bool, true, false, Some, None, refl, sym, ap, ◌∙◌, subst}
+use Rattle.std.proofs.Common.{if◌then◌else◌}
+use Rattle.rhai_grammar.specs.Prelude.{Lexeme, Node, Position, refusal, code, Item, item, Point, next_at, past, Context}
+use Rattle.rhai_grammar.specs.Prelude.{Live, level_up, operator_tree, Follower, Operator, Unknown, Other, follower_of}
+use Rattle.rhai_grammar.specs.Prelude.{is_operator, strength, is_right, Operand, Run, Just, Binary, operand_tree, tree}
+use Rattle.rhai_grammar.specs.Prelude.{Fine, Otherwise, Demands, verdict, Met, Height, Side, Outermost, RightOf, Spot}
+use Rattle.rhai_grammar.specs.Prelude.{filter_of, right_side, height_after, raise_after, operands_fit, left_fits}
+use Rattle.rhai_grammar.specs.Prelude.{place_of, operator_known, place_after, operand_depth}
 use Rattle.rhai_grammar.specs.Causes as cause
-use Rattle.rhai_grammar.specs.Causes.{Cause, Refusal, refusal}
-use Rattle.rhai_grammar.specs.Delivered.{code, Item, item, Point, next_at, past}
-use Rattle.rhai_grammar.specs.Contexts.{Context, Live, level_up}
-use Rattle.rhai_grammar.specs.Operators.{operator_tree}
 use Rattle.rhai_grammar.specs.declared.filter.ExprFilter.{ExprFilter}
-use Rattle.rhai_grammar.specs.Strengths.{Follower, Operator, Unknown, Other, follower_of, is_operator, strength, is_right}
-use Rattle.rhai_grammar.specs.Forms.{Operand, Run, Just, Binary}
-use Rattle.rhai_grammar.specs.Trees.{operand_tree, tree}
-use Rattle.rhai_grammar.specs.Demands.{Fine, Otherwise, Demands, verdict, Met}
 use Rattle.rhai_grammar.specs.Verdicts as V
-use Rattle.rhai_grammar.specs.Spots.{Height, Side, Outermost, RightOf, Spot, filter_of, right_side, height_after}
-use Rattle.rhai_grammar.specs.Written.{raise_after, operands_fit}
-use Rattle.rhai_grammar.specs.Verdicts.{run_ends}
-use Rattle.rhai_grammar.specs.Spots.{left_fits, place_of}
-use Rattle.rhai_grammar.specs.Verdicts.{operator_known, room_due, end_due}
-use Rattle.rhai_grammar.specs.Starts.{place_after}
 use Rattle.rhai_reading.specs.Reading as R
 use Rattle.rhai_reading.specs.Reading.{Goal, Whole, Expression, NextOperator, BinaryOp, Prog, Ret, Fail, Take, Call}
 use Rattle.rhai_reading.specs.Reading.{continues, next_operator_at, operand_by, primary_at, list_on, called_at, bang_at}
 use Rattle.rhai_reading.specs.Reading.{binary_at, binary_on, binary_next, body}
 use Rattle.rhai_reading.specs.Histories.{State, Outcome, Done}
-use Rattle.rhai_grammar.specs.Depths.{operand_depth}
 use Rattle.rhai_grammar.specs.Written as W
 use Rattle.rhai_reading.proofs.Rules.{at}
-use Rattle.rhai_reading.proofs.Deep.{Deep, deep_call, deep_else, deep_look, deep_peek, deep_ret, deep_tail, deep_take, deep_then}
-use Rattle.rhai_reading.proofs.Complete.Law.{Begins, FirstRead, OperandRead, RunRead, Shut, Agrees, Top, Entered, begins, Reads}
+use Rattle.rhai_reading.proofs.Deep.{Deep, deep_call, deep_else, deep_look, deep_peek, deep_ret, deep_tail, deep_take}
+use Rattle.rhai_reading.proofs.Deep.{deep_then}
+use Rattle.rhai_reading.proofs.Complete.Law.{Begins, FirstRead, OperandRead, RunRead, Shut, Agrees, Top, Entered}
+use Rattle.rhai_reading.proofs.Complete.Law.{begins, Reads}
 use Rattle.rhai_reading.proofs.Looks.{follower_at, operator_in, climb, fine}
 use Rattle.rhai_reading.proofs.Strengths.{sensible, next_continues, right_is, left_is, left_down, not_true}
 use Rattle.rhai_reading.proofs.Tokens.{operator_readable}

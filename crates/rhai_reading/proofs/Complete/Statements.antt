@@ -1,33 +1,22 @@
 -- Statements, their lists, and blocks: the steps to what is written.
 use Rattle.std.proofs.Common.{◌≡◌, ℕ, ◌+◌, max, arith, Bool, true, false, refl, sym, ap, ◌∙◌, if◌then◌else◌}
-use Rattle.rhai_lower.specs.Texts.{Text}
-use Rattle.rhai_lower.specs.Lexemes.{Lexeme, Sign}
+use Rattle.rhai_grammar.specs.Prelude.{Text, Lexeme, Sign, Nodes, with_node, added_text, text_due, with_text, joined}
+use Rattle.rhai_grammar.specs.Prelude.{jump_token, no_value_follows, starts, value_follows, Position, code, item, text}
+use Rattle.rhai_grammar.specs.Prelude.{Point, past, Context, Live, below_global, allows_looping, has_room, in_block}
+use Rattle.rhai_grammar.specs.Prelude.{level_up, body_depth, initializer_depth, statement_depth, Fine, Otherwise}
+use Rattle.rhai_grammar.specs.Prelude.{Demands, Met, Next, Tok, ◌▸◌, Body, Construct, ExprStatement, Initializer}
+use Rattle.rhai_grammar.specs.Prelude.{JumpValue, Run, Segments, Statement, Alias, Statements, is_due, construct_token}
+use Rattle.rhai_grammar.specs.Prelude.{kind_of, is_assignment, is_constant_use, is_equals, target_fault, block_tree}
+use Rattle.rhai_grammar.specs.Prelude.{segment_trees, statement_tree, statement_trees, tree, with_kept, room_due}
 use Rattle.rhai_lower.specs.Nodes as node
-use Rattle.rhai_lower.specs.Nodes.{Nodes, with_node}
-use Rattle.rhai_grammar.specs.Interpolations.{added_text, text_due, with_text}
-use Rattle.rhai_grammar.specs.Operators.{joined}
-use Rattle.rhai_grammar.specs.Starts.{jump_token, no_value_follows, starts, value_follows}
 use Rattle.rhai_grammar.specs.declared.due.DueToken.TheVariants as due
-use Rattle.rhai_lower.specs.declared.position.Position.{Position}
 use Rattle.rhai_lower.specs.declared.token.Token.TheVariants as token
-use Rattle.rhai_grammar.specs.Delivered.{code, item, text, Point, past}
-use Rattle.rhai_grammar.specs.Contexts.{Context, Live, below_global, allows_looping, has_room, in_block, level_up}
 use Rattle.rhai_grammar.specs.Definitions as walk
-use Rattle.rhai_grammar.specs.Depths.{body_depth, initializer_depth, statement_depth}
-use Rattle.rhai_grammar.specs.Demands.{Fine, Otherwise, Demands, Met, Next, Tok, ◌▸◌}
 use Rattle.rhai_grammar.specs.Forms as form
-use Rattle.rhai_grammar.specs.Forms.{Body, Construct, ExprStatement, Initializer, JumpValue, Run, Segments, Statement}
-use Rattle.rhai_grammar.specs.Forms.{Alias, Statements}
 use Rattle.rhai_grammar.specs.Constructs.{absent as without}
-use Rattle.rhai_grammar.specs.DueTokens.{is_due}
 use Rattle.rhai_grammar.proofs.EndLemmas.{tree_ends}
-use Rattle.rhai_reading.proofs.Beginnings.{keyword_defines}
-use Rattle.rhai_grammar.specs.Constructs.{construct_token, kind_of}
-use Rattle.rhai_reading.proofs.Beginnings.{construct_readable, starts_construct, starts_value}
+use Rattle.rhai_reading.proofs.Beginnings.{keyword_defines, construct_readable, starts_construct, starts_value}
 use Rattle.rhai_grammar.specs.Statements as V
-use Rattle.rhai_grammar.specs.Targets.{is_assignment, is_constant_use, is_equals, target_fault}
-use Rattle.rhai_grammar.specs.Trees.{block_tree, segment_trees, statement_tree, statement_trees, tree, with_kept}
-use Rattle.rhai_grammar.specs.Verdicts.{room_due}
 use Rattle.rhai_grammar.specs.Written as W
 use Rattle.rhai_grammar.specs.declared.role.AfterStatement.{AfterStatement}
 use Rattle.rhai_grammar.specs.declared.role.AfterStatement.TheVariants as after
@@ -43,10 +32,12 @@ use Rattle.rhai_reading.proofs.Complete.Calls.{tested_fine}
 use Rattle.rhai_reading.proofs.Complete.Law.{ExpressionRead, ExprStatementRead, InitializerRead, StatementRead}
 use Rattle.rhai_reading.proofs.Complete.Law.{ConstructRead, StatementsRead, BodyRead, IsFlat, IsRead, PrimaryRead}
 use Rattle.rhai_reading.proofs.Complete.Law.{InsideRead, JumpRead, SegmentsRead, closing_at, inside_part}
-use Rattle.rhai_reading.proofs.FormKinds.{NameForm, aliases, block_ends, block_starts, definitions, inside_of, inside_statements, text_afters, text_token, var_names}
+use Rattle.rhai_reading.proofs.FormKinds.{NameForm, aliases, block_ends, block_starts, definitions, inside_of}
+use Rattle.rhai_reading.proofs.FormKinds.{inside_statements, text_afters, text_token, var_names}
 use Rattle.rhai_reading.proofs.Lists.{first_text, kept_statement, last_kept, no_statement, segment_added, segment_last}
 use Rattle.rhai_reading.proofs.Looks.{op_at, pos_at, fine, no_other, or_wrong}
-use Rattle.rhai_reading.proofs.Reaches.{Reaches, deeper, enough, seen, next, ret, gives, peek, take, text_taken, due, if_true, if_false, part}
+use Rattle.rhai_reading.proofs.Reaches.{Reaches, deeper, enough, seen, next, ret, gives, peek, take, text_taken, due}
+use Rattle.rhai_reading.proofs.Reaches.{if_true, if_false, part}
 use Rattle.rhai_reading.proofs.Strengths.{not_true}
 use Rattle.rhai_reading.proofs.Tokens.{readable}
 

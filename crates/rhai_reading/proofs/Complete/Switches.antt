@@ -1,28 +1,18 @@
 -- `switch`: what is written so is read so.
 use Rattle.std.proofs.Common.{◌+◌, max, arith, ◌≡◌, Bool, true, false, Option, Some, None, refl, ap}
-use Rattle.rhai_lower.specs.Lexemes.{Lexeme, Sign}
-use Rattle.rhai_lower.specs.Nodes.{no_nodes, with_node}
-use Rattle.rhai_lower.specs.declared.position.Position.{Position}
+use Rattle.rhai_grammar.specs.Prelude.{Lexeme, Sign, no_nodes, with_node, Position, Refusal, after_part, Context, Live}
+use Rattle.rhai_grammar.specs.Prelude.{below_global, in_block, in_case, code, item, Point, is_end, past, action_depth}
+use Rattle.rhai_grammar.specs.Prelude.{case_guard_depth, cases_depth, run_depth, Fine, Met, Next, Nothing, Tok, ◌▸◌}
+use Rattle.rhai_grammar.specs.Prelude.{is_due, Action, Arms, CaseGuard, Cases, Run, Statement, action_ends, Collected}
+use Rattle.rhai_grammar.specs.Prelude.{action_due, arm_begins, arm_fault, unguarded, with_arm_collected}
+use Rattle.rhai_grammar.specs.Prelude.{nothing_collected, action_tree, case_trees, guard_tree, tree, unfaulted}
 use Rattle.rhai_lower.specs.declared.token.Token.TheVariants as token
 use Rattle.rhai_grammar.specs.Causes as cause
-use Rattle.rhai_grammar.specs.Causes.{Refusal}
-use Rattle.rhai_grammar.specs.CommaLists.{after_part}
 use Rattle.rhai_grammar.specs.Constructs.{absent}
-use Rattle.rhai_grammar.specs.Contexts.{Context, Live, below_global, in_block, in_case}
-use Rattle.rhai_grammar.specs.Delivered.{code, item, Point, is_end, past}
-use Rattle.rhai_grammar.specs.Depths.{action_depth, case_guard_depth, cases_depth, run_depth}
-use Rattle.rhai_grammar.specs.Demands.{Fine, Met, Next, Nothing, Tok, ◌▸◌}
 use Rattle.rhai_grammar.specs.Verdicts.{anything}
-use Rattle.rhai_grammar.specs.DueTokens.{is_due}
 use Rattle.rhai_grammar.specs.Forms as form
-use Rattle.rhai_grammar.specs.Forms.{Action, Arms, CaseGuard, Cases, Run, Statement}
 use Rattle.rhai_grammar.specs.Switches as S
-use Rattle.rhai_grammar.specs.Ends.{action_ends}
-use Rattle.rhai_grammar.specs.Switches.{Collected, action_due, arm_begins, arm_fault, unguarded, with_arm_collected}
-use Rattle.rhai_grammar.specs.Switches.{nothing_collected}
-use Rattle.rhai_grammar.specs.Trees.{action_tree, case_trees, guard_tree, tree}
 use Rattle.rhai_grammar.specs.Written as W
-use Rattle.rhai_grammar.specs.Written.{unfaulted}
 use Rattle.rhai_grammar.specs.declared.due.DueToken.TheVariants as due
 use Rattle.rhai_grammar.specs.declared.list.AfterPart.{AfterPart}
 use Rattle.rhai_grammar.specs.declared.list.AfterPart.TheVariants as after
@@ -32,11 +22,12 @@ use Rattle.rhai_grammar.specs.declared.role.ArmPlace.TheVariants as arm
 use Rattle.rhai_grammar.proofs.EndLemmas.{tree_ends_arm}
 use Rattle.rhai_reading.specs.Reading as R
 use Rattle.rhai_reading.proofs.Complete.Constructs.{guard}
-use Rattle.rhai_reading.proofs.Complete.Law.{ActionRead, ArmsRead, CaseGuardRead, CasesRead, ConstructRead, ExpressionRead, IsFlat, IsRead, IsReadSo}
-use Rattle.rhai_reading.proofs.Complete.Law.{StatementRead}
+use Rattle.rhai_reading.proofs.Complete.Law.{ActionRead, ArmsRead, CaseGuardRead, CasesRead, ConstructRead}
+use Rattle.rhai_reading.proofs.Complete.Law.{ExpressionRead, IsFlat, IsRead, IsReadSo, StatementRead}
 use Rattle.rhai_reading.proofs.Lists.{added, added_last}
 use Rattle.rhai_reading.proofs.Looks.{no_other, no_wrong, op_at, or_wrong, pos_at}
-use Rattle.rhai_reading.proofs.Reaches.{Reaches, deeper, enough, due as due_now, gives, if_false, if_true, next, part, part_literal, ret, seen}
+use Rattle.rhai_reading.proofs.Reaches.{Reaches, deeper, enough, due as due_now, gives, if_false, if_true, next, part}
+use Rattle.rhai_reading.proofs.Reaches.{part_literal, ret, seen}
 use Rattle.rhai_reading.proofs.Strengths.{not_true}
 use Rattle.rhai_reading.proofs.SwitchKinds.{arm_ends, arms_with_cases, default_arms, default_ends, one_cases}
 

@@ -1,24 +1,18 @@
 -- Expressions, and a whole stream: what is written so is read so.
 use Rattle.std.proofs.Common.{◌≡◌, ℕ, ◌+◌, max, Bool, true, false, refl, subst}
-use Rattle.rhai_lower.specs.Nodes.{Node}
-use Rattle.rhai_grammar.specs.Delivered.{Point, is_end}
-use Rattle.rhai_grammar.specs.Contexts.{Context, Live, has_room, level_up}
-use Rattle.rhai_grammar.specs.Strengths.{Follower, Operator, Unknown, Other, follower_of, is_operator}
-use Rattle.rhai_grammar.specs.Forms.{Run}
-use Rattle.rhai_grammar.specs.Trees.{tree}
-use Rattle.rhai_grammar.specs.Demands.{Fine, Nothing, ◌▸◌, Next}
+use Rattle.rhai_grammar.specs.Prelude.{Node, Point, is_end, Context, Live, has_room, level_up, Follower, Operator}
+use Rattle.rhai_grammar.specs.Prelude.{Unknown, Other, follower_of, is_operator, Run, tree, Fine, Nothing, ◌▸◌, Next}
+use Rattle.rhai_grammar.specs.Prelude.{Outermost, outermost, height_after, run_ends, room_due, end_due}
 use Rattle.rhai_grammar.specs.Verdicts as V
-use Rattle.rhai_grammar.specs.Spots.{Outermost, outermost}
-use Rattle.rhai_grammar.specs.Spots.{height_after}
 use Rattle.rhai_grammar.specs.Written.{ended}
-use Rattle.rhai_grammar.specs.Verdicts.{run_ends, operator_known, room_due, end_due}
 use Rattle.rhai_reading.specs.Reading as R
 use Rattle.rhai_reading.specs.Reading.{Goal, Whole, Expression, NextOperator, BinaryOp, Prog, Ret, Fail, Take, Call}
 use Rattle.rhai_reading.specs.Reading.{continues, next_operator_at, operand_by, primary_at, list_on, called_at, bang_at}
 use Rattle.rhai_reading.specs.Reading.{binary_at, binary_on, binary_next, body}
 use Rattle.rhai_reading.specs.Histories.{Done}
 use Rattle.rhai_reading.proofs.Rules.{at}
-use Rattle.rhai_reading.proofs.Deep.{Deep, deep_call, deep_counted, deep_enough, deep_look, deep_ret, deep_tail, deep_then}
+use Rattle.rhai_reading.proofs.Deep.{Deep, deep_call, deep_counted, deep_enough, deep_look, deep_ret, deep_tail}
+use Rattle.rhai_reading.proofs.Deep.{deep_then}
 use Rattle.rhai_reading.proofs.Reaches.{Reaches}
 use Rattle.rhai_grammar.specs.Verdicts as V
 use Rattle.rhai_reading.proofs.Complete.Law.{ExpressionRead, RunRead, Agrees, begins}

@@ -2,27 +2,20 @@
 use Rattle.std.proofs.Common.{◌≡◌, Bool, true, false, Some, None, refl, ap, ◌∙◌, sym, subst, if◌then◌else◌}
 use Rattle.std.specs.Prelude.{Option, List, [], codes, ◌&&◌, ◌||◌}
 use Rattle.std.proofs.lemmas.Bool.{and_parts}
-use Rattle.rhai_lower.specs.Texts.{Text}
+use Rattle.rhai_grammar.specs.Prelude.{Text, Lexeme, Sign, text_of, nowhere, Node, Nodes, no_nodes, with_node}
+use Rattle.rhai_grammar.specs.Prelude.{position_of, variable, Position, code, item, Point, next_at, past, is_memory}
+use Rattle.rhai_grammar.specs.Prelude.{Context, Live, level_up, calling, calls, is_list, qualifies, after_part}
+use Rattle.rhai_grammar.specs.Prelude.{is_close, no_argument, Primary, Base, Arguments, Path, is_qualified}
+use Rattle.rhai_grammar.specs.Prelude.{module_fault, path_tree, qualified, is_at_last, primary_tree, base_tree}
+use Rattle.rhai_grammar.specs.Prelude.{argument_trees, item_trees, tree, is_variable, call_tree, Verdict, Demands}
 use Rattle.std.specs.Option.{is_some}
-use Rattle.rhai_lower.specs.Lexemes.{Lexeme, Sign, text_of}
-use Rattle.rhai_lower.specs.Positions.{nowhere}
-use Rattle.rhai_lower.specs.Nodes.{Node, Nodes, no_nodes, with_node, position_of, variable}
-use Rattle.rhai_lower.specs.declared.position.Position.{Position}
 use Rattle.rhai_lower.specs.declared.token.Token.TheVariants as token
-use Rattle.rhai_grammar.specs.Delivered.{code, item, Point, next_at, past, is_memory}
-use Rattle.rhai_grammar.specs.Contexts.{Context, Live, level_up}
 use Rattle.rhai_grammar.specs.declared.role.Calling.{Calling}
 use Rattle.rhai_grammar.specs.declared.role.Calling.TheVariants as calls_by
 use Rattle.rhai_grammar.specs.declared.list.CommaList.TheVariants as lists
-use Rattle.rhai_grammar.specs.Beginnings.{calling, calls, is_call, is_list, qualifies}
-use Rattle.rhai_grammar.specs.CommaLists.{after_part, is_close, no_argument}
+use Rattle.rhai_grammar.specs.Beginnings.{is_call}
 use Rattle.rhai_grammar.specs.Forms as form
-use Rattle.rhai_grammar.specs.Forms.{Primary, Base, Arguments, Path, Run}
 use Rattle.rhai_grammar.specs.Causes as cause
-use Rattle.rhai_grammar.specs.Modules.{is_qualified, module_fault, path_tree, qualified}
-use Rattle.rhai_grammar.specs.Seen.{is_at_last}
-use Rattle.rhai_grammar.specs.Trees.{primary_tree, base_tree, argument_trees, item_trees, tree, is_variable, call_tree}
-use Rattle.rhai_grammar.specs.Demands.{Verdict, Demands}
 use Rattle.rhai_grammar.specs.Verdicts as V
 use Rattle.rhai_grammar.specs.Written as W
 use Rattle.rhai_grammar.specs.declared.role.OperandPlace.{OperandPlace}
@@ -33,8 +26,8 @@ use Rattle.rhai_reading.proofs.Dues.{closed, expect_name, separated}
 use Rattle.rhai_reading.proofs.Lists.{added, added_last}
 use Rattle.rhai_reading.proofs.Looks.{op_at, pos_at}
 use Rattle.rhai_reading.proofs.Paths.{Aim, Way, ◌▹◌}
-use Rattle.rhai_reading.proofs.Shows.{Histories, Goes, blamed, wrong, fine, fails, take, look, either, gives, done, halt, refuse}
-use Rattle.rhai_reading.proofs.Shows.{raise, part, ends, Passed}
+use Rattle.rhai_reading.proofs.Shows.{Histories, Goes, blamed, wrong, fine, fails, take, look, either, gives, done}
+use Rattle.rhai_reading.proofs.Shows.{halt, refuse, raise, part, ends, Passed}
 use Rattle.rhai_reading.proofs.FormKinds.{Enclosed, Closed, Listing, enclosed_of, enclosed_trees, CallForm, By, call_of}
 use Rattle.rhai_reading.proofs.FormKinds.{call_answer, tree_before, bases, callings, primaries, items, enclosed}
 use Rattle.rhai_reading.proofs.FormKinds.{PathForm, path_of, paths}

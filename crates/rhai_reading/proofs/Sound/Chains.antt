@@ -3,32 +3,24 @@ use Rattle.std.proofs.Common.{◌≡◌, Bool, true, false, Option, Some, None, 
 use Rattle.std.proofs.Common.{ap, subst, if◌then◌else◌}
 use Rattle.std.specs.Prelude.{option_map}
 use Rattle.std.specs.Option.{option_or}
-use Rattle.rhai_lower.specs.Texts.{Text}
-use Rattle.rhai_lower.specs.Lexemes.{Lexeme, text_of}
-use Rattle.rhai_lower.specs.Positions.{nowhere}
-use Rattle.rhai_lower.specs.Nodes.{Node, method_call, start_of, variable}
-use Rattle.rhai_lower.specs.declared.position.Position.{Position}
+use Rattle.rhai_grammar.specs.Prelude.{Text, Lexeme, text_of, nowhere, Node, variable, Position, Refusal, refusal, code}
+use Rattle.rhai_grammar.specs.Prelude.{Point, past, is_memory, is_at_last, Context, Live, has_room, level_up, calls}
+use Rattle.rhai_grammar.specs.Prelude.{linking, is_bracket, is_dot, is_name, qualifies, MemberPlace, AMember, NoMember}
+use Rattle.rhai_grammar.specs.Prelude.{member_place, is_member, Link, LinkKind, last_fault, index_refusal, module_fault}
+use Rattle.rhai_grammar.specs.Prelude.{Links, Run, link_list, tree, bracket_link, member_link, method_tree, Demands}
+use Rattle.rhai_grammar.specs.Prelude.{LinkSpot, spot_after_bracket, spot_after_dot}
+use Rattle.rhai_lower.specs.Nodes.{method_call, start_of}
 use Rattle.rhai_grammar.specs.declared.due.DueToken.TheVariants as due
 use Rattle.rhai_grammar.specs.Causes as cause
-use Rattle.rhai_grammar.specs.Causes.{Refusal, refusal}
-use Rattle.rhai_grammar.specs.Delivered.{code, Point, past, is_memory}
-use Rattle.rhai_grammar.specs.Seen.{is_at_last}
-use Rattle.rhai_grammar.specs.Contexts.{Context, Live, has_room, level_up}
 use Rattle.rhai_grammar.specs.declared.role.Linking.{Linking}
 use Rattle.rhai_grammar.specs.declared.role.Linking.TheVariants as link
-use Rattle.rhai_grammar.specs.Beginnings.{calls, linking, is_bracket, is_dot, is_name, qualifies}
-use Rattle.rhai_grammar.specs.Beginnings.{MemberPlace, AMember, NoMember, member_place, is_member}
 use Rattle.rhai_grammar.specs.Chains as chain
-use Rattle.rhai_grammar.specs.Chains.{Link, LinkKind, link_fault, last_fault, index_refusal}
+use Rattle.rhai_grammar.specs.Chains.{link_fault}
 use Rattle.rhai_grammar.specs.Kinds.{index_fault}
-use Rattle.rhai_grammar.specs.Modules.{may_enter, module_fault, path_fault}
+use Rattle.rhai_grammar.specs.Modules.{may_enter, path_fault}
 use Rattle.rhai_grammar.specs.Forms as form
-use Rattle.rhai_grammar.specs.Forms.{Links, Run}
-use Rattle.rhai_grammar.specs.Trees.{link_list, tree, bracket_link, member_link, method_tree}
-use Rattle.rhai_grammar.specs.Demands.{Demands}
 use Rattle.rhai_grammar.specs.Verdicts as V
 use Rattle.rhai_grammar.specs.Written as W
-use Rattle.rhai_grammar.specs.Spots.{LinkSpot, spot_after_bracket, spot_after_dot}
 use Rattle.rhai_reading.specs.Reading as R
 use Rattle.rhai_reading.specs.Reading.{body}
 use Rattle.rhai_reading.proofs.Beginnings.{name_is, word_is}

@@ -1,33 +1,24 @@
 -- Closures.
 use Rattle.std.proofs.Common.{◌≡◌, Bool, true, List, [], ◌∷◌, refl}
-use Rattle.rhai_lower.specs.Lexemes.{Lexeme, Sign}
-use Rattle.rhai_lower.specs.declared.position.Position.{Position}
+use Rattle.rhai_grammar.specs.Prelude.{Lexeme, Sign, Position, Refusal, declared_names, in_closure, runs, Context, Live}
+use Rattle.rhai_grammar.specs.Prelude.{level_up, Point, apart, is_end, item, capturing, with_captured, Demands, is_new}
+use Rattle.rhai_grammar.specs.Prelude.{may_begin, parameters_live, closure_tree, closure_count, is_captured}
+use Rattle.rhai_grammar.specs.Prelude.{may_capture, Use}
 use Rattle.rhai_lower.specs.declared.token.Token.TheVariants as token
-use Rattle.rhai_grammar.specs.Causes.{Refusal}
-use Rattle.rhai_grammar.specs.Closures.{declared_names, in_closure, runs}
-use Rattle.rhai_grammar.specs.Contexts.{Context, Live, level_up}
-use Rattle.rhai_grammar.specs.Delivered.{Point, apart, is_end, item, capturing, with_captured}
-use Rattle.rhai_grammar.specs.Demands.{Demands}
 use Rattle.rhai_grammar.specs.Forms as form
-use Rattle.rhai_grammar.specs.Forms.{ClosureBody}
-use Rattle.rhai_grammar.specs.Functions.{is_new, may_begin, parameters_live}
-use Rattle.rhai_grammar.specs.Trees.{closure_tree}
-use Rattle.rhai_grammar.specs.Libraries.{closure_count}
-use Rattle.rhai_grammar.specs.Modules.{is_captured, may_capture}
-use Rattle.rhai_grammar.specs.Uses.{Use}
 use Rattle.rhai_grammar.specs.Written as W
 use Rattle.rhai_grammar.specs.declared.list.CommaList.TheVariants as lists
 use Rattle.rhai_grammar.specs.declared.role.Bars.{Bars}
 use Rattle.rhai_grammar.specs.declared.role.Bars.TheVariants as bars
 use Rattle.rhai_reading.specs.Reading as R
 use Rattle.rhai_reading.specs.Reading.{Prog, body}
-use Rattle.rhai_reading.proofs.ClosureKinds.{ClosureForm, Listed, any_closure_body, any_listed, closure_bodies, closures}
-use Rattle.rhai_reading.proofs.ClosureKinds.{head_of, unclosed}
+use Rattle.rhai_reading.proofs.ClosureKinds.{ClosureForm, Listed, any_closure_body, any_listed, closure_bodies}
+use Rattle.rhai_reading.proofs.ClosureKinds.{closures, head_of, unclosed}
 use Rattle.rhai_reading.proofs.Looks.{op_at, pos_at}
 use Rattle.rhai_reading.proofs.Paths as path
 use Rattle.rhai_reading.proofs.Paths.{Aim, Lost, Way, ◌▹◌, apart_lost, here, lost}
-use Rattle.rhai_reading.proofs.Shows.{Goes, Halts, Histories, Kind, Shows, add, done, either, ends, fails, fine, know, look}
-use Rattle.rhai_reading.proofs.Shows.{note, part, part_apart, raise, test}
+use Rattle.rhai_reading.proofs.Shows.{Goes, Halts, Histories, Kind, Shows, add, done, either, ends, fails, fine, know}
+use Rattle.rhai_reading.proofs.Shows.{look, note, part, part_apart, raise, test}
 use Rattle.rhai_reading.proofs.Sound.Law.{AllSound}
 
 -- ---- the names that are captured

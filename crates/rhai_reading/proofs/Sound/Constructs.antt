@@ -1,23 +1,14 @@
 -- Constructs: conditions, loops, and `try`.
 use Rattle.std.proofs.Common.{◌≡◌, Bool, true, false, not, Option, Some, None, [], refl, ap}
-use Rattle.rhai_lower.specs.Texts.{Text, same_text}
-use Rattle.rhai_lower.specs.Lexemes.{text_of}
+use Rattle.rhai_grammar.specs.Prelude.{Text, same_text, text_of, Node, nowhere, Position, Refusal, do_end, guard_begins}
+use Rattle.rhai_grammar.specs.Prelude.{guard_fault, iterated_fault, Context, Live, level_up, loop_body, catch_live}
+use Rattle.rhai_grammar.specs.Prelude.{loop_live, code, Point, past, is_memory, is_due, is_name, Run, nothing_collected}
+use Rattle.rhai_grammar.specs.Prelude.{switch_tree, block_tree, caught, caught_name, catch_node, counter_of, loop_name}
+use Rattle.rhai_grammar.specs.Prelude.{tree}
 use Rattle.rhai_lower.specs.Nodes as node
-use Rattle.rhai_lower.specs.Nodes.{Node}
-use Rattle.rhai_lower.specs.Positions.{nowhere}
-use Rattle.rhai_lower.specs.declared.position.Position.{Position}
-use Rattle.rhai_grammar.specs.Causes.{Refusal}
-use Rattle.rhai_grammar.specs.Constructs.{do_end, guard_begins, guard_fault, iterated_fault, type_fault}
-use Rattle.rhai_grammar.specs.Contexts.{Context, Live, level_up, loop_body}
-use Rattle.rhai_grammar.specs.Definitions.{catch_live, loop_live}
-use Rattle.rhai_grammar.specs.Delivered.{code, Point, past, is_memory}
-use Rattle.rhai_grammar.specs.DueTokens.{is_due}
-use Rattle.rhai_grammar.specs.Beginnings.{is_name}
+use Rattle.rhai_grammar.specs.Constructs.{type_fault}
 use Rattle.rhai_grammar.specs.Forms as form
-use Rattle.rhai_grammar.specs.Forms.{Run}
 use Rattle.rhai_grammar.specs.Kinds.{not_boolean, not_iterable}
-use Rattle.rhai_grammar.specs.Switches.{nothing_collected, switch_tree}
-use Rattle.rhai_grammar.specs.Trees.{block_tree, caught, caught_name, catch_node, counter_of, loop_name, tree}
 use Rattle.rhai_grammar.specs.declared.due.DueToken.TheVariants as due
 use Rattle.rhai_grammar.specs.declared.role.Construct.{Construct as Kind}
 use Rattle.rhai_grammar.specs.declared.role.Construct.TheVariants as kind
@@ -30,11 +21,11 @@ use Rattle.rhai_reading.proofs.ConstructKinds.{braced, branches, catches, condit
 use Rattle.rhai_reading.proofs.ConstructKinds.{BracedForm, CatchForm, DoForm, LoopForm, iterated_values, loops}
 use Rattle.rhai_reading.proofs.Looks.{op_at, pos_at}
 use Rattle.rhai_reading.proofs.Paths.{Fits, ◌▹◌}
-use Rattle.rhai_reading.proofs.Shows.{Histories, Goes, Passed, done, either, ends, fails, fine, first, halt, ill, look, part}
-use Rattle.rhai_reading.proofs.Shows.{raise, refuse, take, wrong}
+use Rattle.rhai_reading.proofs.Shows.{Histories, Goes, Passed, done, either, ends, fails, fine, first, halt, ill, look}
+use Rattle.rhai_reading.proofs.Shows.{part, raise, refuse, take, wrong}
 use Rattle.rhai_reading.proofs.Sound.Chains.{Early, early, faulted, tested, unfaulted}
-use Rattle.rhai_reading.proofs.Sound.Law.{AllSound, any_arms, any_body, any_braced, any_catch, any_conditional, any_do_end, any_loop}
-use Rattle.rhai_reading.proofs.Sound.Law.{any_run}
+use Rattle.rhai_reading.proofs.Sound.Law.{AllSound, any_arms, any_body, any_braced, any_catch, any_conditional}
+use Rattle.rhai_reading.proofs.Sound.Law.{any_do_end, any_loop, any_run}
 
 -- ---- guards
 

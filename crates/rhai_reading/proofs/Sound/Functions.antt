@@ -1,25 +1,15 @@
 -- Functions.
-use Rattle.std.proofs.Common.{◌≡◌, Bool, true, false, not, None, List, [], ◌∷◌, ◌++◌, append-nil, append_assoc, refl, sym, ap, ◌∙◌}
-use Rattle.std.proofs.Common.{if◌then◌else◌}
-use Rattle.rhai_lower.specs.Texts.{Text}
-use Rattle.rhai_lower.specs.Lexemes.{Lexeme, Name, String, text_of}
-use Rattle.rhai_lower.specs.Positions.{nowhere}
-use Rattle.rhai_lower.specs.declared.position.Position.{Position}
-use Rattle.rhai_grammar.specs.Beginnings.{calling, is_name}
+use Rattle.std.proofs.Common.{◌≡◌, Bool, true, false, not, None, List, [], ◌∷◌, ◌++◌, append-nil, append_assoc, refl}
+use Rattle.std.proofs.Common.{sym, ap, ◌∙◌, if◌then◌else◌}
+use Rattle.rhai_grammar.specs.Prelude.{Text, Lexeme, Name, String, text_of, nowhere, Position, calling, is_name}
+use Rattle.rhai_grammar.specs.Prelude.{refusal, Comment, Context, Live, is_global, level_up, code, Point, is_memory}
+use Rattle.rhai_grammar.specs.Prelude.{past, Wrong, is_due, not_due, Body, ParameterList, after_type, ended_function}
+use Rattle.rhai_grammar.specs.Prelude.{in_function, is_new, is_type, may_begin, names_function, no_function_name}
+use Rattle.rhai_grammar.specs.Prelude.{owner_of, parameter_names, parameter_place, parameters_live, type_or_name_due}
+use Rattle.rhai_grammar.specs.Prelude.{untyped, is_among, is_comment}
 use Rattle.rhai_grammar.specs.Causes as cause
-use Rattle.rhai_grammar.specs.Causes.{refusal}
-use Rattle.rhai_grammar.specs.Comments.{Comment}
-use Rattle.rhai_grammar.specs.Contexts.{Context, Live, is_global, level_up}
-use Rattle.rhai_grammar.specs.Delivered.{code, Point, is_memory, past}
-use Rattle.rhai_grammar.specs.Demands.{Wrong}
-use Rattle.rhai_grammar.specs.DueTokens.{is_due, not_due}
 use Rattle.rhai_grammar.specs.Forms as form
-use Rattle.rhai_grammar.specs.Forms.{Body, ParameterList}
-use Rattle.rhai_grammar.specs.Functions.{after_type, ended_function, function_name_due, in_function, is_new, is_type}
-use Rattle.rhai_grammar.specs.Functions.{may_begin, names_function, no_function_name, owner_of, parameter_names, parameter_place}
-use Rattle.rhai_grammar.specs.Functions.{parameters_live, type_or_name_due, untyped}
-use Rattle.rhai_grammar.specs.Imports.{is_among}
-use Rattle.rhai_grammar.specs.Statements.{is_comment}
+use Rattle.rhai_grammar.specs.Functions.{function_name_due}
 use Rattle.rhai_grammar.specs.declared.due.DueToken.TheVariants as due
 use Rattle.rhai_grammar.specs.declared.list.CommaList.TheVariants as lists
 use Rattle.rhai_grammar.specs.declared.role.Calling.{Calling}
@@ -32,13 +22,13 @@ use Rattle.rhai_reading.proofs.Beginnings.{called as called_by, comment_is, name
 use Rattle.rhai_grammar.specs.declared.list.CommaList.{CommaList}
 use Rattle.rhai_reading.proofs.ConstructKinds.{BracedForm}
 use Rattle.rhai_reading.proofs.Dues.{parameter_is, separated, stands}
-use Rattle.rhai_reading.proofs.FunctionKinds.{CommentsRead, FunctionForm, HeadForm, any_function, any_head, any_list, function_of}
-use Rattle.rhai_reading.proofs.FunctionKinds.{function_statements, functions, heads, parameter_lists, parameters}
+use Rattle.rhai_reading.proofs.FunctionKinds.{CommentsRead, FunctionForm, HeadForm, any_function, any_head, any_list}
+use Rattle.rhai_reading.proofs.FunctionKinds.{function_of, function_statements, functions, heads, parameter_lists}
+use Rattle.rhai_reading.proofs.FunctionKinds.{parameters}
 use Rattle.rhai_reading.proofs.Looks.{op_at, pos_at}
 use Rattle.rhai_reading.proofs.Paths.{◌▹◌, lost}
-use Rattle.rhai_reading.proofs.Shows.{Histories, Goes, Shows, add, blamed, called, check, done, either, ends, fails, fine}
-use Rattle.rhai_reading.proofs.Shows.{first, halt, over, ret}
-use Rattle.rhai_reading.proofs.Shows.{know, look, part, raise, refuse, take, test, wrong}
+use Rattle.rhai_reading.proofs.Shows.{Histories, Goes, Shows, add, blamed, called, check, done, either, ends, fails}
+use Rattle.rhai_reading.proofs.Shows.{fine, first, halt, over, ret, know, look, part, raise, refuse, take, test, wrong}
 use Rattle.rhai_reading.proofs.Sound.Law.{AllSound, any_body, any_braced}
 
 -- ---- its doc comments

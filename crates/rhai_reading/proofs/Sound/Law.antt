@@ -1,31 +1,20 @@
 -- What each reader shows.
-use Rattle.rhai_reading.proofs.FunctionKinds.{CommentsRead, function_statements, functions, heads, parameter_lists, parameters}
+use Rattle.rhai_reading.proofs.FunctionKinds.{CommentsRead, function_statements, functions, heads, parameter_lists}
+use Rattle.rhai_reading.proofs.FunctionKinds.{parameters}
 use Rattle.rhai_reading.proofs.ClosureKinds.{closure_bodies, closures}
 use Rattle.std.proofs.Common.{◌≡◌, ℕ, Bool, true, false, None, [], refl}
-use Rattle.rhai_lower.specs.Lexemes.{Lexeme, Integer}
-use Rattle.rhai_lower.specs.Positions.{nowhere}
-use Rattle.rhai_lower.specs.declared.position.Position.{Position}
-use Rattle.rhai_lower.specs.Nodes.{Node}
-use Rattle.rhai_grammar.specs.Causes.{Refusal}
-use Rattle.rhai_grammar.specs.Delivered.{code, Point}
-use Rattle.rhai_grammar.specs.Seen.{StandsAtLast}
-use Rattle.rhai_grammar.specs.Contexts.{Context, Live}
-use Rattle.rhai_grammar.specs.Beginnings.{beginning, is_sign, calls, member_place, is_member, qualifies}
-use Rattle.rhai_grammar.specs.Starts.{operand_start}
+use Rattle.rhai_grammar.specs.Prelude.{Lexeme, Integer, nowhere, Position, Node, Refusal, code, Point, StandsAtLast}
+use Rattle.rhai_grammar.specs.Prelude.{Context, Live, beginning, is_sign, calls, member_place, is_member, qualifies}
+use Rattle.rhai_grammar.specs.Prelude.{operand_start, Follower, follower_of, strength, Primary, Operand, Items, Run}
+use Rattle.rhai_grammar.specs.Prelude.{Just, Binary, Body, Conditional, Segments, is_variable, tree, Demands, Next, Met}
+use Rattle.rhai_grammar.specs.Prelude.{Missed, operator_known, Side, Spot, filter_of, height_after, side_fits}
 use Rattle.rhai_grammar.specs.declared.role.OperandPlace.{OperandPlace}
 use Rattle.rhai_grammar.specs.declared.role.OperandStart.TheVariants as first
 use Rattle.rhai_grammar.specs.declared.filter.ExprFilter.{ExprFilter}
-use Rattle.rhai_grammar.specs.Strengths.{Follower, follower_of, strength}
 use Rattle.rhai_grammar.specs.Forms as form
-use Rattle.rhai_grammar.specs.Forms.{Primary, Links, Operand, Arguments, Items, Elements, Fields, Run, Just}
-use Rattle.rhai_grammar.specs.Forms.{Binary, Body, Conditional, Segments}
 use Rattle.rhai_grammar.specs.declared.role.Construct.{Construct as Kind}
 use Rattle.rhai_grammar.specs.declared.role.Construct.TheVariants as kind
-use Rattle.rhai_grammar.specs.Trees.{is_variable, tree}
-use Rattle.rhai_grammar.specs.Demands.{Demands, Next, Met, Missed}
 use Rattle.rhai_grammar.specs.Written as W
-use Rattle.rhai_grammar.specs.Verdicts.{operator_known}
-use Rattle.rhai_grammar.specs.Spots.{Side, Spot, filter_of, height_after, side_fits}
 use Rattle.rhai_reading.specs.Reading as R
 use Rattle.rhai_reading.specs.Reading.{Goal, Val}
 use Rattle.rhai_reading.specs.Histories.{State, Outcome}
@@ -35,12 +24,13 @@ use Rattle.rhai_reading.proofs.Strengths.{next_continues}
 use Rattle.rhai_reading.proofs.FormKinds.{runs, operands, primaries, tree_before, bases, expressions, enclosed, items}
 use Rattle.rhai_reading.proofs.FormKinds.{callings, elements, fields, next_keys, links, indices, members}
 use Rattle.rhai_reading.proofs.FormKinds.{expr_statements, var_names, initializers, statements, statement_lists, blocks}
-use Rattle.rhai_reading.proofs.FormKinds.{block_ends, block_starts, definitions, insides, jump_values, segments, text_afters}
-use Rattle.rhai_reading.proofs.ConstructKinds.{BracedForm, CatchForm, DoForm, LoopForm, OfKind, braced, branches, catches}
-use Rattle.rhai_reading.proofs.ConstructKinds.{conditionals, constructs, do_ends, guards, iterated_values, loops}
-use Rattle.rhai_reading.proofs.FormKinds.{DefinitionForm, aliases, exports, imports, paths}
-use Rattle.rhai_reading.proofs.SwitchKinds.{actions, arm_ends, arm_lists, case_guards, cases, default_ends}
-use Rattle.rhai_reading.proofs.SwitchKinds.{DefaultForm, arms_with_cases, default_arms, one_cases}
+use Rattle.rhai_reading.proofs.FormKinds.{block_ends, block_starts, definitions, insides, jump_values, segments}
+use Rattle.rhai_reading.proofs.FormKinds.{text_afters, DefinitionForm, aliases, exports, imports, paths}
+use Rattle.rhai_reading.proofs.ConstructKinds.{BracedForm, CatchForm, DoForm, LoopForm, OfKind, braced, branches}
+use Rattle.rhai_reading.proofs.ConstructKinds.{catches, conditionals, constructs, do_ends, guards, iterated_values}
+use Rattle.rhai_reading.proofs.ConstructKinds.{loops}
+use Rattle.rhai_reading.proofs.SwitchKinds.{actions, arm_ends, arm_lists, case_guards, cases, default_ends, DefaultForm}
+use Rattle.rhai_reading.proofs.SwitchKinds.{arms_with_cases, default_arms, one_cases}
 use Rattle.rhai_reading.proofs.Looks.{op_at, follower_at, operator_in}
 use Rattle.rhai_reading.proofs.Paths.{Fits, Fails, Way, Lost}
 use Rattle.rhai_reading.proofs.Shows.{Histories, Ensures, Tells, Halts, Answers, Passed}

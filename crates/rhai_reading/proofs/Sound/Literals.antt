@@ -1,27 +1,18 @@
 -- Arrays and object maps.
 use Rattle.std.proofs.Common.{◌≡◌, Bool, true, false, [], refl, sym, ap, ◌∙◌, subst, if◌then◌else◌}
 use Rattle.std.specs.Prelude.{not}
-use Rattle.rhai_lower.specs.Lexemes.{text_of}
-use Rattle.rhai_lower.specs.Positions.{nowhere}
-use Rattle.rhai_lower.specs.Nodes.{Nodes, with_node, Properties, with_property}
-use Rattle.rhai_lower.specs.declared.position.Position.{Position}
+use Rattle.rhai_grammar.specs.Prelude.{text_of, nowhere, Nodes, with_node, Properties, with_property, Position, code}
+use Rattle.rhai_grammar.specs.Prelude.{item, text, Point, past, is_memory, Context, Live, full, has_room, level_up}
+use Rattle.rhai_grammar.specs.Prelude.{item_place, KeyPlace, FieldsEnd, AKey, NoKey, is_key, has_key, property_count}
+use Rattle.rhai_grammar.specs.Prelude.{Fields, Segments, unexpected, added_text, is_last_text, text_due, with_text}
+use Rattle.rhai_grammar.specs.Prelude.{joined, Text, Node, no_nodes, block_tree, segment_trees, element_trees}
+use Rattle.rhai_grammar.specs.Prelude.{field_trees, tree, node_count, Demands, Tok, Wrong, ◌▸◌}
 use Rattle.rhai_grammar.specs.declared.due.DueToken.TheVariants as due
-use Rattle.rhai_grammar.specs.Delivered.{code, item, text, Point, past, is_memory}
-use Rattle.rhai_grammar.specs.Contexts.{Context, Live, full, has_room, level_up}
 use Rattle.rhai_grammar.specs.declared.list.CommaList.TheVariants as lists
 use Rattle.rhai_grammar.specs.declared.role.ItemPlace.{ItemPlace}
 use Rattle.rhai_grammar.specs.declared.role.ItemPlace.TheVariants as place
-use Rattle.rhai_grammar.specs.Literals.{item_place, KeyPlace, FieldsEnd, AKey, NoKey, is_key, has_key, property_count}
 use Rattle.rhai_grammar.specs.Forms as form
-use Rattle.rhai_grammar.specs.Forms.{Fields, Segments}
-use Rattle.rhai_grammar.specs.Beginnings.{unexpected}
-use Rattle.rhai_grammar.specs.Interpolations.{added_text, is_last_text, text_due, with_text}
-use Rattle.rhai_grammar.specs.Operators.{joined}
-use Rattle.rhai_lower.specs.Texts.{Text}
 use Rattle.rhai_lower.specs.Nodes as node
-use Rattle.rhai_lower.specs.Nodes.{Node, no_nodes}
-use Rattle.rhai_grammar.specs.Trees.{block_tree, segment_trees, element_trees, field_trees, tree, node_count}
-use Rattle.rhai_grammar.specs.Demands.{Demands, Tok, Wrong, ◌▸◌}
 use Rattle.rhai_grammar.specs.Verdicts as V
 use Rattle.rhai_grammar.specs.Written as W
 use Rattle.rhai_reading.specs.Reading as R
@@ -35,8 +26,9 @@ use Rattle.rhai_reading.proofs.Paths.{Fits, Aim, Way, lost, ◌▹◌}
 use Rattle.rhai_reading.proofs.Shows.{Histories, Goes, wrong, ill, fine, fails, take, look, either, gives, done, refuse}
 use Rattle.rhai_reading.proofs.Shows.{halt, lost_to, raise, part, ends, text_at, text_taken, Passed}
 use Rattle.rhai_reading.proofs.FormKinds.{elements, fields, KeyForm, NoMore, Keyed, key_answer, key_of, next_keys}
-use Rattle.rhai_reading.proofs.FormKinds.{block_starts, InsideForm, ManyInside, SingleInside, TextForm, body_form, inside_of, insides}
-use Rattle.rhai_reading.proofs.FormKinds.{inside_statements, segment_form, segments, text_afters, text_token}
+use Rattle.rhai_reading.proofs.FormKinds.{block_starts, InsideForm, ManyInside, SingleInside, TextForm, body_form}
+use Rattle.rhai_reading.proofs.FormKinds.{inside_of, insides, inside_statements, segment_form, segments, text_afters}
+use Rattle.rhai_reading.proofs.FormKinds.{text_token}
 use Rattle.rhai_reading.proofs.Sound.Law.{AllSound, any_body, any_run, any_segments}
 
 module _ {call : Histories} (ih : AllSound call) (c : Context) (w : Live) (opening : Position) (before : Nodes)

@@ -1,60 +1,40 @@
 -- Primaries, and operands with their signs.
 use Rattle.std.proofs.Common.{◌≡◌, Bool, true, false, refl, sym, ap}
 use Rattle.std.specs.Prelude.{◌&&◌, ◌||◌}
-use Rattle.rhai_lower.specs.Nodes.{Node}
-use Rattle.rhai_grammar.specs.Forms.{Base, Links}
-use Rattle.rhai_grammar.specs.Modules.{may_use, module_fault}
+use Rattle.rhai_grammar.specs.Prelude.{Node, Base, Links, may_use, module_fault, text_of, nowhere, no_nodes}
+use Rattle.rhai_grammar.specs.Prelude.{no_properties, code, Point, past, is_memory, is_in_function, construct_token}
+use Rattle.rhai_grammar.specs.Prelude.{kind_of, may_be_value, Context, Live, below_global, in_block, level_up}
+use Rattle.rhai_grammar.specs.Prelude.{beginning, is_value, is_sign, is_range, calls, excludes_use, may_be_called}
+use Rattle.rhai_grammar.specs.Prelude.{is_this, sign_holds, base_tree, operand_tree, chained, spot_after_operand}
+use Rattle.rhai_grammar.specs.Prelude.{added_text, is_omitted, operand_start, segment_trees, block_value, interpolated}
+use Rattle.rhai_grammar.specs.Prelude.{made_block, Sign, item, next_at, bars_token, may_be_closure, captures_use}
+use Rattle.rhai_grammar.specs.Prelude.{name_tree}
 use Rattle.rhai_grammar.specs.Written as W
 use Rattle.rhai_reading.proofs.Sound.Chains.{module_early, tested}
-use Rattle.rhai_lower.specs.Lexemes.{text_of}
-use Rattle.rhai_lower.specs.Positions.{nowhere}
-use Rattle.rhai_lower.specs.Nodes.{no_nodes, no_properties}
 use Rattle.rhai_grammar.specs.declared.due.DueToken.TheVariants as due
-use Rattle.rhai_grammar.specs.Delivered.{code, Point, past, is_memory}
-use Rattle.rhai_grammar.specs.Settings.{is_in_function}
-use Rattle.rhai_grammar.specs.Constructs.{construct_token, kind_of, may_be_value}
-use Rattle.rhai_grammar.specs.Contexts.{Context, Live, below_global, in_block, level_up}
 use Rattle.rhai_grammar.specs.declared.role.Beginning.{Beginning}
 use Rattle.rhai_grammar.specs.declared.role.Beginning.TheVariants as begin
-use Rattle.rhai_grammar.specs.Beginnings.{beginning, is_value, is_sign, is_range, calls, excludes_use}
-use Rattle.rhai_grammar.specs.Beginnings.{may_be_called, is_this}
-use Rattle.rhai_grammar.specs.Signs.{sign_holds}
 use Rattle.rhai_grammar.specs.Forms as form
-use Rattle.rhai_grammar.specs.Trees.{base_tree, operand_tree}
-use Rattle.rhai_grammar.specs.Chains.{chained}
-use Rattle.rhai_grammar.specs.Spots.{spot_after_operand}
-use Rattle.rhai_grammar.specs.Interpolations.{added_text}
-use Rattle.rhai_grammar.specs.Starts.{is_omitted, operand_start}
-use Rattle.rhai_grammar.specs.Trees.{segment_trees}
 use Rattle.rhai_grammar.specs.declared.role.OperandPlace.{OperandPlace}
 use Rattle.rhai_grammar.specs.declared.role.OperandPlace.TheVariants.{Elsewhere}
 use Rattle.rhai_grammar.specs.declared.role.OperandStart.{OperandStart}
 use Rattle.rhai_grammar.specs.declared.role.OperandStart.TheVariants as first
-use Rattle.rhai_lower.specs.Nodes.{block_value, interpolated, made_block}
-use Rattle.rhai_lower.specs.Lexemes.{Sign}
-use Rattle.rhai_grammar.specs.Delivered.{item, next_at}
 use Rattle.rhai_reading.proofs.ConstructKinds.{OfKind, of_kind}
 use Rattle.rhai_reading.proofs.Lists.{first_text}
-use Rattle.rhai_reading.proofs.Sound.Law.{any_segments}
+use Rattle.rhai_reading.proofs.Sound.Law.{any_segments, AllSound, any_construct, any_primary, any_operand, any_run}
 use Rattle.rhai_reading.specs.Reading as R
 use Rattle.rhai_reading.proofs.ClosureKinds.{closure_form}
-use Rattle.rhai_grammar.specs.Closures.{bars_token}
-use Rattle.rhai_grammar.specs.Starts.{may_be_closure}
 use Rattle.rhai_grammar.specs.declared.role.Bars.{Bars}
 use Rattle.rhai_grammar.specs.declared.role.Bars.TheVariants as bars
-use Rattle.rhai_reading.proofs.Shows.{note}
-use Rattle.rhai_grammar.specs.Modules.{captures_use}
-use Rattle.rhai_grammar.specs.Trees.{name_tree}
+use Rattle.rhai_reading.proofs.Shows.{note, Histories, Goes, Kind, wrong, blamed, blamed_in, know, fine, fails, take}
+use Rattle.rhai_reading.proofs.Shows.{look, either, gives, done, refuse, halt, test, raise, part, first, ends}
 use Rattle.rhai_reading.specs.Reading.{body}
 use Rattle.rhai_reading.proofs.Beginnings.{begun}
 use Rattle.rhai_reading.proofs.Dues.{expect}
 use Rattle.rhai_reading.proofs.Tokens.{called_no_this}
 use Rattle.rhai_reading.proofs.Looks.{op_at, pos_at}
 use Rattle.rhai_reading.proofs.Paths.{◌▹◌}
-use Rattle.rhai_reading.proofs.Shows.{Histories, Goes, Kind, wrong, blamed, blamed_in, know, fine, fails, take, look, either, gives, done}
-use Rattle.rhai_reading.proofs.Shows.{refuse, halt, test, raise, part, first, ends}
 use Rattle.rhai_reading.proofs.FormKinds.{tree_before, operands, primaries}
-use Rattle.rhai_reading.proofs.Sound.Law.{AllSound, any_construct, any_primary, any_operand, any_run}
 
 module _ {call : Histories} (ih : AllSound call) (c : Context) (w : Live) (place : OperandPlace) (s : Point) where
   closure_by : (by : Bars) → next_at code s ≡ item (Sign (bars_token by)) (pos_at s) → may_be_closure c by ≡ true

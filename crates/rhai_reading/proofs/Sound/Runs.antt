@@ -1,30 +1,21 @@
 -- What stands after an operand, and runs of operators.
 use Rattle.std.proofs.Common.{◌≡◌, ℕ, Bool, true, false, refl, sym, ap, ◌∙◌, subst}
 use Rattle.std.specs.Prelude.{Option, ◌&&◌}
-use Rattle.rhai_lower.specs.Lexemes.{Lexeme}
-use Rattle.rhai_lower.specs.Nodes.{Node}
-use Rattle.rhai_lower.specs.declared.position.Position.{Position}
-use Rattle.rhai_grammar.specs.Causes.{Refusal}
-use Rattle.rhai_grammar.specs.Delivered.{code, Point, past, is_memory}
-use Rattle.rhai_grammar.specs.Seen.{StandsAtLast}
-use Rattle.rhai_grammar.specs.Contexts.{Context, Live}
-use Rattle.rhai_grammar.specs.Operators.{boolean_holds}
+use Rattle.rhai_grammar.specs.Prelude.{Lexeme, Node, Position, Refusal, code, Point, past, is_memory, StandsAtLast}
+use Rattle.rhai_grammar.specs.Prelude.{Context, Live, boolean_holds, Follower, Operator, Unknown, Other, follower_of}
+use Rattle.rhai_grammar.specs.Prelude.{is_operator, strength, right_of, Run, Just, Binary, tree, Demands, Next}
+use Rattle.rhai_grammar.specs.Prelude.{operator_known, Height, RightOf, Spot, filter_of, right_side, height_after}
+use Rattle.rhai_grammar.specs.Prelude.{left_fits, place_after}
 use Rattle.rhai_grammar.specs.declared.filter.ExprFilter.{ExprFilter}
-use Rattle.rhai_grammar.specs.Strengths.{Follower, Operator, Unknown, Other, follower_of, is_operator, strength, right_of}
-use Rattle.rhai_grammar.specs.Forms.{Run, Just, Binary}
-use Rattle.rhai_grammar.specs.Trees.{tree}
 use Rattle.rhai_grammar.specs.Demands as D
-use Rattle.rhai_grammar.specs.Demands.{Fine, Otherwise, Demands, Next, verdict}
 use Rattle.rhai_grammar.specs.Verdicts as V
 use Rattle.rhai_grammar.specs.Written as W
-use Rattle.rhai_grammar.specs.Verdicts.{operator_known}
-use Rattle.rhai_grammar.specs.Spots.{Height, RightOf, Spot, filter_of, right_side, height_after, left_fits}
-use Rattle.rhai_grammar.specs.Starts.{place_after}
 use Rattle.rhai_reading.specs.Reading as R
 use Rattle.rhai_reading.specs.Reading.{Prog, Ret, Call, continues, next_operator_at, binary_at, binary_on, binary_right}
 use Rattle.rhai_reading.specs.Reading.{binary_next, raised, body}
 use Rattle.rhai_reading.proofs.Joins.{cursor}
-use Rattle.rhai_reading.proofs.Strengths.{Sensible, sensible, next_continues, right_is, left_is, goes_operator, true_not}
+use Rattle.rhai_reading.proofs.Strengths.{Sensible, sensible, next_continues, right_is, left_is, goes_operator}
+use Rattle.rhai_reading.proofs.Strengths.{true_not}
 use Rattle.rhai_reading.proofs.Looks.{op_at, pos_at, follower_at, operator_in, climb, fine as known_fine}
 use Rattle.rhai_reading.proofs.Paths.{Astray, Fits, Fails, Aim, Way, ◌▹◌, lost, Lost}
 use Rattle.rhai_reading.proofs.Shows.{Histories, over, Shows, Halts, fine, fails, ret, take, look, either, test, raise}

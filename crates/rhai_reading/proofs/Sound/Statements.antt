@@ -1,30 +1,25 @@
 -- Statements, their lists, and blocks.
-use Rattle.rhai_grammar.specs.Ends.{needs_no_semicolon}
+use Rattle.rhai_grammar.specs.Prelude.{needs_no_semicolon, Comment, Lexeme, Sign, text_of, Node, position_of, nowhere}
+use Rattle.rhai_grammar.specs.Prelude.{Position, refusal, code, item, Point, next_at, past, is_memory, Context, Live}
+use Rattle.rhai_grammar.specs.Prelude.{below_global, has_room, has_single_blocks, in_block, is_global, is_in_loop}
+use Rattle.rhai_grammar.specs.Prelude.{level_up, is_name, Statement, Bracket, Chain, Dotted, Link, LinkKind, chain_of}
+use Rattle.rhai_grammar.specs.Prelude.{is_assignment, is_constant_use, is_equals, target_fault, definition_tree}
+use Rattle.rhai_grammar.specs.Prelude.{statement_tree, statement_trees, tree, with_kept, is_due, Alias, export_tree}
+use Rattle.rhai_grammar.specs.Prelude.{import_tree, jump_token, no_value_follows, starts, value_follows, Demands}
+use Rattle.rhai_grammar.specs.Prelude.{construct_token, kind_of, may_stand}
 use Rattle.rhai_grammar.proofs.EndLemmas.{tree_ends}
-use Rattle.rhai_grammar.specs.Comments.{Comment}
 use Rattle.rhai_reading.proofs.FunctionKinds.{FunctionForm, any_function, function_form, function_statements}
 use Rattle.std.proofs.Common.{◌≡◌, Bool, true, false, Option, Some, None, List, [], ◌∷◌, refl, sym, ap, subst, ◌∙◌}
-use Rattle.std.specs.Prelude.{not}
-use Rattle.rhai_lower.specs.Lexemes.{Lexeme, Sign, text_of}
+use Rattle.std.specs.Prelude.{not, unwrap_or}
 use Rattle.rhai_lower.specs.Lexemes as lexeme
-use Rattle.rhai_lower.specs.Nodes.{Node, position_of}
-use Rattle.rhai_lower.specs.Positions.{nowhere}
 use Rattle.rhai_lower.specs.Nodes as node
-use Rattle.rhai_lower.specs.declared.position.Position.{Position}
 use Rattle.rhai_grammar.specs.Causes as cause
-use Rattle.rhai_grammar.specs.Causes.{AssignmentToConstant, refusal}
-use Rattle.rhai_grammar.specs.Delivered.{code, item, Point, next_at, past, is_memory}
-use Rattle.rhai_grammar.specs.Contexts.{Context, Live, below_global, has_room, has_single_blocks, in_block, is_global, is_in_loop, level_up}
-use Rattle.rhai_grammar.specs.Beginnings.{is_name}
+use Rattle.rhai_grammar.specs.Causes.{AssignmentToConstant}
 use Rattle.rhai_grammar.specs.Definitions as walk
 use Rattle.rhai_grammar.specs.Forms as form
-use Rattle.rhai_grammar.specs.Forms.{Statement}
 use Rattle.rhai_grammar.specs.Statements as V
-use Rattle.rhai_grammar.specs.Chains.{Bracket, Chain, Dotted, Link, LinkKind, chain_of}
 use Rattle.rhai_grammar.specs.Kinds.{is_constant}
-use Rattle.rhai_grammar.specs.Targets.{chain_fault, invalid, is_assignment, is_constant_use, is_equals, item_fault, links_fault, root_fault}
-use Rattle.rhai_grammar.specs.Targets.{target_fault, value_fault}
-use Rattle.rhai_grammar.specs.Trees.{definition_tree, statement_tree, statement_trees, tree, with_kept}
+use Rattle.rhai_grammar.specs.Targets.{chain_fault, invalid, item_fault, links_fault, root_fault, value_fault}
 use Rattle.rhai_grammar.specs.declared.due.DueToken.TheVariants as due
 use Rattle.rhai_grammar.specs.declared.role.AfterStatement.{AfterStatement}
 use Rattle.rhai_grammar.specs.declared.role.AfterStatement.TheVariants as after
@@ -37,20 +32,15 @@ use Rattle.rhai_grammar.specs.declared.role.StatementStart.TheVariants as start
 use Rattle.rhai_reading.specs.Reading as R
 use Rattle.rhai_reading.specs.Reading.{body}
 use Rattle.rhai_reading.proofs.Beginnings.{defines_is, equals_is, name_is, no_name, separated, started}
-use Rattle.rhai_grammar.specs.DueTokens.{is_due}
-use Rattle.rhai_grammar.specs.Forms.{Alias}
-use Rattle.rhai_grammar.specs.Trees.{export_tree, import_tree}
 use Rattle.rhai_lower.specs.declared.token.Token.TheVariants as token
-use Rattle.rhai_reading.proofs.FormKinds.{ExportDefinition, ExportForm, ExportName, aliases, export_demands, export_form, exports, imports}
-use Rattle.rhai_reading.proofs.Sound.Law.{any_definition}
-use Rattle.std.specs.Prelude.{unwrap_or}
+use Rattle.rhai_reading.proofs.FormKinds.{ExportDefinition, ExportForm, ExportName, aliases, export_demands}
+use Rattle.rhai_reading.proofs.FormKinds.{export_form, exports, imports, expr_statements, NameForm, var_names}
+use Rattle.rhai_reading.proofs.FormKinds.{initializers, statements, statement_lists, blocks, block_ends, body_form}
+use Rattle.rhai_reading.proofs.FormKinds.{definition_of, definitions, InsideForm, ManyInside, SingleInside, inside_of}
+use Rattle.rhai_reading.proofs.FormKinds.{inside_statements, insides, jump_values}
+use Rattle.rhai_reading.proofs.Sound.Law.{any_definition, AllSound, any_construct, any_run}
 use Rattle.rhai_reading.proofs.Dues.{expect, expect_name, stands}
-use Rattle.rhai_reading.proofs.FormKinds.{expr_statements, NameForm, var_names, initializers, statements}
-use Rattle.rhai_reading.proofs.FormKinds.{statement_lists, blocks, block_ends, body_form, definition_of, definitions}
-use Rattle.rhai_reading.proofs.FormKinds.{InsideForm, ManyInside, SingleInside, inside_of, inside_statements, insides, jump_values}
 use Rattle.rhai_reading.proofs.Sound.Literals.{inside_block}
-use Rattle.rhai_grammar.specs.Starts.{jump_token, no_value_follows, starts, value_follows}
-use Rattle.rhai_grammar.specs.Demands.{Demands}
 use Rattle.rhai_grammar.specs.Written as W
 use Rattle.rhai_reading.proofs.Lists.{kept_statement, last_kept, no_statement}
 use Rattle.rhai_reading.proofs.Looks.{op_at, pos_at}
@@ -58,8 +48,6 @@ use Rattle.rhai_reading.proofs.Paths.{Aim, Fits, Passes, Way, ◌▹◌}
 use Rattle.rhai_reading.proofs.Shows.{Histories, Goes, ill, wrong, fine, fails, take, look, either, gives, done, refuse}
 use Rattle.rhai_reading.proofs.Shows.{blamed_at, called, halt, test, raise, part, first, ends, Passed}
 use Rattle.rhai_reading.proofs.Sound.Chains.{Early, early_if, early_or, tested}
-use Rattle.rhai_reading.proofs.Sound.Law.{AllSound, any_construct, any_run}
-use Rattle.rhai_grammar.specs.Constructs.{construct_token, kind_of, may_stand}
 use Rattle.rhai_reading.proofs.ConstructKinds.{OfKind, of_kind}
 
 -- ---- targets

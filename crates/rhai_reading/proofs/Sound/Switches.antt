@@ -1,26 +1,18 @@
 -- `switch`: its arms, with their cases, guards and actions.
 use Rattle.std.proofs.Common.{◌≡◌, ℕ, Bool, true, false, not, Option, Some, None, refl, sym, ap, ◌&&◌}
-use Rattle.rhai_lower.specs.Lexemes.{Lexeme, Sign}
+use Rattle.rhai_grammar.specs.Prelude.{Lexeme, Sign, Node, Nodes, no_nodes, with_node, nowhere, Position, Refusal}
+use Rattle.rhai_grammar.specs.Prelude.{refusal, after_part, Context, Live, below_global, has_single_blocks, in_block}
+use Rattle.rhai_grammar.specs.Prelude.{in_case, code, Point, is_end, is_memory, past, Fine, Wrong, is_due, Action}
+use Rattle.rhai_grammar.specs.Prelude.{CaseGuard, Cases, action_ends, Collected, action_due, arm_begins, arm_fault}
+use Rattle.rhai_grammar.specs.Prelude.{arm_place, ends_arm, unguarded, with_arm_collected, with_case}
+use Rattle.rhai_grammar.specs.Prelude.{with_default_collected, action_tree, case_trees, guard_tree, tree}
 use Rattle.rhai_lower.specs.Nodes as node
-use Rattle.rhai_lower.specs.Nodes.{Node, Nodes, no_nodes, with_node}
-use Rattle.rhai_lower.specs.Positions.{nowhere}
-use Rattle.rhai_lower.specs.declared.position.Position.{Position}
 use Rattle.rhai_lower.specs.declared.token.Token.TheVariants as token
 use Rattle.rhai_grammar.specs.Causes as cause
-use Rattle.rhai_grammar.specs.Causes.{Refusal, refusal}
-use Rattle.rhai_grammar.specs.CommaLists.{after_part}
-use Rattle.rhai_grammar.specs.Contexts.{Context, Live, below_global, has_single_blocks, in_block, in_case}
-use Rattle.rhai_grammar.specs.Delivered.{code, Point, is_end, is_memory, past}
-use Rattle.rhai_grammar.specs.Demands.{Fine, Wrong}
-use Rattle.rhai_grammar.specs.DueTokens.{is_due}
 use Rattle.rhai_grammar.specs.Forms as form
-use Rattle.rhai_grammar.specs.Forms.{Action, CaseGuard, Cases}
 use Rattle.rhai_grammar.specs.CaseValues.{is_literal_value}
 use Rattle.rhai_grammar.specs.Switches as S
-use Rattle.rhai_grammar.specs.Ends.{action_ends}
-use Rattle.rhai_grammar.specs.Switches.{Collected, action_due, arm_begins, arm_fault, arm_place, case_fault, ends_arm, fault_from}
-use Rattle.rhai_grammar.specs.Switches.{has_ranges, is_integer, unguarded, with_arm_collected, with_case, with_default_collected}
-use Rattle.rhai_grammar.specs.Trees.{action_tree, case_trees, guard_tree, tree}
+use Rattle.rhai_grammar.specs.Switches.{case_fault, fault_from, has_ranges, is_integer}
 use Rattle.rhai_grammar.specs.Written as W
 use Rattle.rhai_grammar.specs.declared.due.DueToken.TheVariants as due
 use Rattle.rhai_grammar.specs.declared.list.AfterPart.{AfterPart}
@@ -38,8 +30,8 @@ use Rattle.rhai_reading.proofs.Looks.{op_at, pos_at}
 use Rattle.rhai_reading.proofs.Paths.{Fits, ◌▹◌, lost}
 use Rattle.rhai_reading.proofs.Shows.{Histories, Goes, Kind, done, either, ends, fine, first, gives, halt, ill, look}
 use Rattle.rhai_reading.proofs.Shows.{ends_literal, lost_at, part, refuse, take, wrong}
-use Rattle.rhai_reading.proofs.SwitchKinds.{ArmForm, DefaultForm, actions, arm_ends, arm_lists, arms_with_cases, case_guards}
-use Rattle.rhai_reading.proofs.SwitchKinds.{cases, default_arms, default_ends, one_cases}
+use Rattle.rhai_reading.proofs.SwitchKinds.{ArmForm, DefaultForm, actions, arm_ends, arm_lists, arms_with_cases}
+use Rattle.rhai_reading.proofs.SwitchKinds.{case_guards, cases, default_arms, default_ends, one_cases}
 use Rattle.rhai_reading.proofs.Sound.Chains.{Early, early, early_if, early_or, faulted, unfaulted}
 use Rattle.rhai_reading.proofs.Sound.Law.{AllSound, any_action, any_arms, any_default}
 

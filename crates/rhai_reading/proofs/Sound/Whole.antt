@@ -1,17 +1,12 @@
 -- Expressions, and a whole stream.
 use Rattle.std.proofs.Common.{◌≡◌, Bool, true, false, refl}
-use Rattle.rhai_lower.specs.Nodes.{Node}
-use Rattle.rhai_grammar.specs.Delivered.{Point, is_end}
-use Rattle.rhai_grammar.specs.Contexts.{Context, Live, level_up}
+use Rattle.rhai_grammar.specs.Prelude.{Node, Point, is_end, Context, Live, level_up, Follower, Operator, Unknown, Other}
+use Rattle.rhai_grammar.specs.Prelude.{Run, Just, Statements, statement_trees, tree, Fine, Met, Missed, Nothing}
+use Rattle.rhai_grammar.specs.Prelude.{run_ends, operator_known, outermost, no_statements, after_statements}
+use Rattle.rhai_grammar.specs.Prelude.{StandsAtLast}
 use Rattle.rhai_grammar.specs.declared.filter.ExprFilter.{ExprFilter}
-use Rattle.rhai_grammar.specs.Strengths.{Follower, Operator, Unknown, Other}
-use Rattle.rhai_grammar.specs.Forms.{Run, Just, Statements}
-use Rattle.rhai_grammar.specs.Trees.{statement_trees, tree}
-use Rattle.rhai_grammar.specs.Demands.{Fine, Met, Missed, Nothing}
 use Rattle.rhai_grammar.specs.Verdicts as V
 use Rattle.rhai_grammar.specs.Written as W
-use Rattle.rhai_grammar.specs.Verdicts.{run_ends, operator_known}
-use Rattle.rhai_grammar.specs.Spots.{outermost}
 use Rattle.rhai_grammar.specs.declared.role.OperandPlace.TheVariants.{Elsewhere}
 use Rattle.rhai_reading.specs.Reading as R
 use Rattle.rhai_reading.specs.Reading.{body}
@@ -20,13 +15,10 @@ use Rattle.rhai_reading.proofs.Rules.{at}
 use Rattle.rhai_reading.proofs.Strengths.{Sensible, sensible, next_continues, outer}
 use Rattle.rhai_reading.proofs.Looks.{op_at, follower_at, fine as known_fine}
 use Rattle.rhai_reading.proofs.Paths.{Fits, ◌▹◌, here, lost, Way, To, reached}
-use Rattle.rhai_reading.proofs.Shows.{Histories, Ensures, Answers, Shows, Halts, Goes, ill, fine, over, ret, look, raise, check}
-use Rattle.rhai_reading.proofs.Shows.{part}
+use Rattle.rhai_reading.proofs.Shows.{Histories, Ensures, Answers, Shows, Halts, Goes, ill, fine, over, ret, look}
+use Rattle.rhai_reading.proofs.Shows.{raise, check, part}
 use Rattle.rhai_reading.proofs.FormKinds.{expressions, statement_lists, wholes}
 use Rattle.rhai_lower.specs.Nodes as node
-use Rattle.rhai_lower.specs.Nodes.{no_statements}
-use Rattle.rhai_grammar.specs.Definitions.{after_statements}
-use Rattle.rhai_grammar.specs.Seen.{StandsAtLast}
 use Rattle.rhai_grammar.specs.declared.role.Closing.TheVariants.{EndMark}
 use Rattle.rhai_reading.proofs.Joins.{cursor}
 use Rattle.rhai_reading.proofs.Sound.Law.{Sound, AllSound, WholeRead, WholeHalts, any_run}
