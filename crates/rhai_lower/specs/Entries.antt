@@ -42,27 +42,27 @@ abbrev pub ask_of : Entry → Ask
 ask_of e = ask_of_token e.token e.pos e.text
 
 -- the request of the token that is peeked, if one is
-abbrev pub head_asks : Head → List Ask
-head_asks (head.Unasked t) = []
-head_asks (head.End t) = []
-head_asks (head.Same t p) = record { code = p; text = p } ∷ []
-head_asks (head.Text p) = record { code = (in_code p.0, p.1); text = p } ∷ []
-head_asks (head.Code p i) = record { code = p; text = (back_in_text i p.0, p.1) } ∷ []
+abbrev pub head_asks : Head → Token × Position → List Ask
+head_asks (head.Unasked t) p = []
+head_asks (head.End t) p = []
+head_asks (head.Same t) p = record { code = p; text = p } ∷ []
+head_asks head.Text p = record { code = (in_code p.0, p.1); text = p } ∷ []
+head_asks (head.Code i) p = record { code = p; text = (back_in_text i p.0, p.1) } ∷ []
 
 -- the next request is in text mode
 abbrev pub head_text : Head → Bool
 head_text (head.Unasked t) = t
 head_text (head.End t) = t
-head_text (head.Same t p) = t
-head_text (head.Text p) = true
-head_text (head.Code p i) = false
+head_text (head.Same t) = t
+head_text head.Text = true
+head_text (head.Code i) = false
 
 -- the next token is peeked
 abbrev pub head_peeked : Head → Bool
 head_peeked (head.Unasked t) = false
 head_peeked _ = true
 
--- if the end mark is peeked, no entry is left
-abbrev pub EndsWith : Head → List Entry → Type 0
-EndsWith (head.End t) entries = entries ≡ []
-EndsWith _ entries = Unit {0}
+-- if the end mark is peeked, it stands at its position, and no entry is left
+abbrev pub EndsWith : Head → Token × Position → Position → List Entry → Type 0
+EndsWith (head.End t) p end entries = (p ≡ (token.EOF, end)) × (entries ≡ [])
+EndsWith _ p end entries = Unit {0}

@@ -39,31 +39,19 @@ impl Entry {
     }
 }
 
-/// The next token, if it was peeked.
-#[derive(Drop, Debug)]
+/// What is known of the next token.
+#[derive(Clone, Copy, Debug)]
 enum Head {
-    /// Nothing is peeked; `text` is whether the next request is in text mode.
-    Unasked {
-        text: bool,
-    },
+    /// Nothing; `text` is whether the next request is in text mode.
+    Unasked { text: bool },
     /// The end mark is peeked.
-    End {
-        text: bool,
-    },
-    /// A token that is the same in both modes.
-    Same {
-        text: bool,
-        taken: (Token, Position),
-    },
+    End { text: bool },
+    /// A token that is the same in both modes is peeked.
+    Same { text: bool },
     /// A marked text, requested in text mode.
-    Text {
-        taken: (Token, Position),
-    },
+    Text,
     /// A marked text, requested in code mode, and so an error.
-    Code {
-        taken: (Token, Position),
-        interpolated: bool,
-    },
+    Code { interpolated: bool },
 }
 
 /// Delivers tokens one by one, and then the end mark forever. The next token can be peeked. docs/GRAMMAR.md, "The
@@ -73,82 +61,57 @@ pub struct TokenStream {
     // The entries that were not requested yet, the next one last.
     rest: Vec<Entry>,
     head: Head,
-    // The end mark, which is lent from here.
-    mark: (Token, Position),
+    // The token that is peeked, which is lent from here; of no meaning if none is.
+    taken: (Token, Position),
+    // The position of the end mark.
+    end: Position,
 }
 
 impl Model for TokenStream {
     ghost use Rattle.std.specs.Prelude.{◌≡◌, ◌++◌, map, reverse};
     ghost use Rattle.rhai_lower.specs.Streams.{Stream};
     ghost use Rattle.rhai_lower.specs.Entries.{ask_of, head_asks, head_text, head_peeked, EndsWith};
-    ghost use Rattle.rhai_lower.specs.declared.token.Token.TheVariants.{EOF};
 
     ghost Value = { Stream };
 
     ghost view = { λ s. record {
-      asks = head_asks s.head ++ map ask_of (reverse s.rest.items);
-      end = s.mark.1;
+      asks = head_asks s.head s.taken ++ map ask_of (reverse s.rest.items);
+      end = s.end;
       in_text = head_text s.head;
       peeked = head_peeked s.head;
     } };
 
-    ghost invariant = { λ s. (s.mark.0 ≡ EOF) × EndsWith s.head s.rest.items };
+    ghost invariant = { λ s. EndsWith s.head s.taken s.end s.rest.items };
 }
 
-// The entry as it is delivered in a mode.
-fn ask_entry(entry: Entry, text: bool) -> Head
-    ensures asks { head_asks result ≡ ask_of entry ∷ [] }
-    ensures mode { head_text result ≡ text }
-    ensures peeked { head_peeked result ≡ true }
-{
-    if entry.text {
-        return ask_marked(entry, text);
-    }
-    Head::Same {
-        text,
-        taken: (entry.token, entry.pos),
-    }
-}
-
-// The same, of a marked entry. Such entries are few, and a function clears all the places that it has when it begins;
-// so they are apart.
-#[inline(never)]
-fn ask_marked(entry: Entry, text: bool) -> Head
+// A marked entry as it is delivered in a mode.
+fn ask_marked(entry: Entry, text: bool) -> (Head, (Token, Position))
     requires { entry.text ≡ true }
-    ensures asks { head_asks result ≡ ask_of entry ∷ [] }
-    ensures mode { head_text result ≡ text }
-    ensures peeked { head_peeked result ≡ true }
+    ensures asks { head_asks result.0 result.1 ≡ ask_of entry ∷ [] }
+    ensures mode { head_text result.0 ≡ text }
+    ensures peeked { head_peeked result.0 ≡ true }
 {
     let Entry { token, pos, .. } = entry;
     match token {
         Token::StringConstant(s) => {
             if text {
-                Head::Text {
-                    taken: (Token::StringConstant(s), pos),
-                }
+                (Head::Text, (Token::StringConstant(s), pos))
             } else {
-                Head::Code {
-                    taken: (Token::LexError(LexError::UnexpectedInput(s)), pos),
-                    interpolated: false,
-                }
+                let error = LexError::UnexpectedInput(s);
+                let interpolated = false;
+                (Head::Code { interpolated }, (Token::LexError(error), pos))
             }
         }
         Token::InterpolatedString(s) => {
             if text {
-                Head::Text {
-                    taken: (Token::InterpolatedString(s), pos),
-                }
+                (Head::Text, (Token::InterpolatedString(s), pos))
             } else {
-                Head::Code {
-                    taken: (Token::LexError(LexError::UnexpectedInput(s)), pos),
-                    interpolated: true,
-                }
+                let error = LexError::UnexpectedInput(s);
+                let interpolated = true;
+                (Head::Code { interpolated }, (Token::LexError(error), pos))
             }
         }
-        other => Head::Same {
-            text,
-            taken: (other, pos),
-        },
+        other => (Head::Same { text }, (other, pos)),
     }
 }
 
@@ -166,52 +129,55 @@ impl TokenStream {
         TokenStream {
             rest,
             head: Head::Unasked { text: false },
-            mark: (Token::EOF, end),
+            taken: (Token::EOF, end),
+            end,
         }
     }
 
-    // Ensures that the next token is peeked.
+    // Ensures that the next token is peeked. Most requests find it so.
+    #[inline(always)]
     fn ask(&mut self)
         ensures { self.new ≡ peeking self.old }
     {
-        if let Head::Unasked { .. } = self.head {
-            self.ask_next();
+        if let Head::Unasked { text } = self.head {
+            self.ask_next(text);
         }
     }
 
-    // The same, apart from the test that each peek makes: most find the token peeked.
+    // Peeks the next token.
     #[inline(never)]
-    fn ask_next(&mut self)
+    fn ask_next(&mut self, text: bool)
+        requires unasked { self.old.peeked ≡ false }
+        requires mode { self.old.in_text ≡ text }
         ensures { self.new ≡ peeking self.old }
     {
-        if let Head::Unasked { text } = self.head {
-            self.head = match self.rest.pop() {
-                Some(entry) => ask_entry(entry, text),
-                None => Head::End { text },
-            };
-        }
-    }
-
-    // The token that is peeked.
-    fn peeked(&self) -> &(Token, Position)
-        requires { self.now.peeked ≡ true }
-        ensures { result.now ≡ asked self.now }
-    {
-        match &self.head {
-            Head::Same { taken, .. } | Head::Text { taken } | Head::Code { taken, .. } => taken,
-            Head::Unasked { .. } => &self.mark,
-            Head::End { .. } => &self.mark,
+        match self.rest.pop() {
+            Some(entry) => {
+                if entry.text {
+                    let (head, taken) = ask_marked(entry, text);
+                    self.head = head;
+                    self.taken = taken;
+                } else {
+                    self.head = Head::Same { text };
+                    self.taken = (entry.token, entry.pos);
+                }
+            }
+            None => {
+                self.head = Head::End { text };
+                self.taken = (Token::EOF, self.end);
+            }
         }
     }
 
     /// The next token with its position, without taking it. Does not allocate.
+    #[inline(always)]
     pub fn peek(&mut self) -> &(Token, Position)
         ensures value { result.now ≡ asked self.old }
         ensures* after { sem 𝓛 (follows_so the_row the_row self.entry.ghost_name none (λ _ _. ⊤) (λ v. v
             ≡ peeking self.old)) }
     {
         self.ask();
-        self.peeked()
+        &self.taken
     }
 
     /// Takes the next token with its position. The request after it is in code mode. Does not allocate.
@@ -220,11 +186,8 @@ impl TokenStream {
         ensures after { self.new ≡ later self.old }
     {
         self.ask();
-        match mem::replace(&mut self.head, Head::Unasked { text: false }) {
-            Head::Same { taken, .. } | Head::Text { taken } | Head::Code { taken, .. } => taken,
-            Head::Unasked { .. } => (Token::EOF, self.mark.1),
-            Head::End { .. } => (Token::EOF, self.mark.1),
-        }
+        self.head = Head::Unasked { text: false };
+        mem::replace(&mut self.taken, (Token::EOF, self.end))
     }
 
     /// Takes the next token and drops it. Does not allocate.
