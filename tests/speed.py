@@ -3,9 +3,10 @@
 
 usage: tests/speed.py [PROGRAM [OTHER CALL]]
 
-The first table has the instructions a token that the parse call takes in a list of 10,000 tokens, which is accepted.
-valgrind's callgrind counts them, the same on every run. With OTHER, a program that takes the same words and lists, it also has those of that
-program's function whose name has CALL in it, and how many times as many PROGRAM takes.
+The first table has the instructions a token that the reader of a script's statements takes, which is almost all of the
+parse call, in a list of 10,000 tokens, which is accepted. valgrind's callgrind counts them, the same on every run. With
+OTHER, a program that takes the same words and lists, it also has those of that program's function whose name has CALL
+in it, and how many times as many PROGRAM takes.
 
 The second one has the nanoseconds a token that a whole run takes, in lists of 10,000, 100,000 and 1,000,000 tokens: the
 shortest of several runs. Each list ends with one token too many, so that no tree is printed. The exit status is 1 if a
@@ -131,7 +132,7 @@ def print_growth(program, folder):
 
 
 def main(program=PROGRAM, other=None, call=None):
-    programs = [(program, "run::parse ")] + ([(other, call)] if other else [])
+    programs = [(program, "Reader::parse_statements")] + ([(other, call)] if other else [])
     with tempfile.TemporaryDirectory() as name:
         folder = pathlib.Path(name)
         print_instructions(programs, folder)

@@ -16,6 +16,7 @@ pub mod Constructs
 pub mod DueTokens
 pub mod MapKeys
 pub mod Members
+pub mod OperandEnds
 pub mod Operators
 pub mod Shown
 pub mod Statements

@@ -2,8 +2,9 @@
 
 ghost use Rattle.std.specs.Prelude.{◌≡◌, ◌+◌, IfOk, None, [], length, map};
 ghost use Rattle.std.specs.Rc.{rc_str_bytes};
-ghost use Rattle.rhai_lower.specs.Nodes.{one_node, pointer};
-ghost use Rattle.rhai_lower.specs.View.{block_view, called, shared_of, view, views};
+ghost use Rattle.rhai_lower.specs.Nodes.{block_value, braces, one_node, pointer};
+ghost use Rattle.rhai_lower.specs.Positions.{nowhere};
+ghost use Rattle.rhai_lower.specs.View.{block_view, called, shared_of, statement_views, view, views};
 ghost use Rattle.rhai_lower.specs.declared.ast.FnCallExpr.{out-FnCallExpr};
 ghost use Rattle.rhai_grammar.specs.Closures.{all_names, captured_nodes, closure_name, closure_value, curry};
 ghost use Rattle.rhai_grammar.specs.Closures.{ended_closure};
@@ -100,6 +101,18 @@ fn curry_call(alloc: Global, args: Vec<Expr>) -> Result<FnCallExpr, AllocError>
     })
 }
 
+// A block of these statements at `pos`, as an operand.
+#[tactic(auto, using(rhai_lower::proofs::Views::view_block_value, rhai_lower::proofs::Views::view_block))]
+fn block_at(statements: Vec<Stmt>, pos: Position) -> Expr
+    ensures { view result ≡ block_value (braces (statement_views statements.items) pos nowhere) }
+{
+    Expr::Stmt(StmtBlock {
+        statements,
+        start: pos,
+        end: Position::NONE,
+    })
+}
+
 /// The value that stands for a closure at `pos`, whose function has this name and so many parameters. The error is that
 /// there is no memory for it.
 #[tactic(auto, using(crate::proofs::UseLemmas::closure_values))]
@@ -124,13 +137,8 @@ pub fn closure_value(
     let call = Expr::FnCall(Box::new(alloc, curry)?, pos);
     let mut statements = Vec::new(alloc);
     statements.push(Stmt::Share(shared, pos))?;
-    statements.push(Stmt::Expr(Box::new(alloc, call)?))?;
-    let block = StmtBlock {
-        statements,
-        start: pos,
-        end: Position::NONE,
-    };
-    Ok(Expr::Stmt(Box::new(alloc, block)?))
+    statements.push(Stmt::Expr(call))?;
+    Ok(block_at(statements, pos))
 }
 
 // The names of all parameters of a closure: those that it captures, and then its own.

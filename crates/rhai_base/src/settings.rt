@@ -14,16 +14,16 @@ use rhai_lower::Position;
 /// The settings under which a construct is parsed.
 #[derive(Debug, Clone, Copy, PartialEq, Eq, Hash)]
 pub struct ParseSettings {
+    /// How deeply it is nested, from 0.
+    pub level: usize,
+    /// The greatest level; 0 means no limit.
+    pub max_expr_depth: usize,
+    /// The position where it begins.
+    pub pos: Position,
     /// The place of the construct, and what it must not contain.
     pub flags: ParseSettingFlags,
     /// The parts of the language that it may use.
     pub options: LangOptions,
-    /// How deeply it is nested, from 0.
-    pub level: usize,
-    /// The position where it begins.
-    pub pos: Position,
-    /// The greatest level; 0 means no limit.
-    pub max_expr_depth: usize,
 }
 
 /// The settings after an operator of a run, one level deeper than those before it.

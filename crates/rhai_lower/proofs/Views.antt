@@ -84,7 +84,7 @@ view_or v p = search (rules, the_lemmas)
 pub view_coalesce : (v : Vec Expr Global) (p : Position) → view (expr.Coalesce v p) ≡ coalescing (views v.items) p
 view_coalesce v p = search (rules, the_lemmas)
 
-pub view_block_value : (b : Box StmtBlock Global) → view (expr.Stmt b) ≡ block_value (block_view (box_value b))
+pub view_block_value : (b : StmtBlock) → view (expr.Stmt b) ≡ block_value (block_view b)
 view_block_value b = search (rules, the_lemmas)
 
 -- blocks
@@ -116,10 +116,10 @@ view_var t n i c e p = search (rules, the_lemmas)
 pub view_assignment : (op : Option Token) (b : Box BinaryExpr Global) (p : Position) → statement_view (stmt.Assignment op b p) ≡ assignment (option_map lexeme op) (view (out-BinaryExpr (box_value b)).lhs) (view (out-BinaryExpr (box_value b)).rhs) p
 view_assignment op b p = search (rules, the_lemmas)
 
-pub view_expression : (n : Box Expr Global) → statement_view (stmt.Expr n) ≡ expression (view (box_value n))
+pub view_expression : (n : Expr) → statement_view (stmt.Expr n) ≡ expression (view n)
 view_expression n = search (rules, the_lemmas)
 
-pub view_block_statement : (b : Box StmtBlock Global) → statement_view (stmt.Block b) ≡ block_statement (block_view (box_value b))
+pub view_block_statement : (b : StmtBlock) → statement_view (stmt.Block b) ≡ block_statement (block_view b)
 view_block_statement b = search (rules, the_lemmas)
 
 pub view_try : (b : Box FlowControl Global) (p : Position) → statement_view (stmt.TryCatch b p) ≡ try_catch (block_view (out-FlowControl (box_value b)).body) (view (out-FlowControl (box_value b)).expr) (block_view (out-FlowControl (box_value b)).branch) p

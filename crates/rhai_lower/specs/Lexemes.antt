@@ -24,7 +24,7 @@ abbrev pub fault : LexError → Fault
 fault error.UnterminatedString = UnterminatedString
 fault (error.StringTooLong n) = StringTooLong n
 fault (error.MalformedNumber t) = MalformedNumber (rc_str_bytes t)
-fault (error.ImproperSymbol t note) = ImproperSymbol (rc_str_bytes t) (rc_str_bytes note)
+fault (error.ImproperSymbol r) = ImproperSymbol (rc_str_bytes r.value.0) (rc_str_bytes r.value.1)
 fault (error.UnexpectedInput t) = UnexpectedInput (rc_str_bytes t)
 fault error.OutOfMemory = NoMemory
 

@@ -152,7 +152,7 @@ expr_step (Expr-F.Index b m p) = Nodes.index (box_value b).0 (box_value b).1 m p
 expr_step (Expr-F.And v p) = Nodes.conjunction (nodes_of v.items) p
 expr_step (Expr-F.Or v p) = Nodes.disjunction (nodes_of v.items) p
 expr_step (Expr-F.Coalesce v p) = Nodes.coalescing (nodes_of v.items) p
-expr_step (Expr-F.Stmt b) = Nodes.block_value (box_value b)
+expr_step (Expr-F.Stmt b) = Nodes.block_value b
 
 abbrev pub statement_step : Stmt-F Node Statement Pair Flow Seen Rounds Guarded Block Case Choice → Statement
 statement_step (Stmt-F.Noop p) = Nodes.noop p
@@ -165,8 +165,8 @@ statement_step (Stmt-F.For b p) = Nodes.for_statement (box_value b).0 (box_value
 statement_step (Stmt-F.Var t n i c e p) =
     Nodes.var_statement (rc_str_bytes t) (box_value n) (option_map non_zero_usize_get i) c e p
 statement_step (Stmt-F.Assignment op b p) = Nodes.assignment (option_map lexeme op) (box_value b).0 (box_value b).1 p
-statement_step (Stmt-F.Expr n) = Nodes.expression (box_value n)
-statement_step (Stmt-F.Block b) = Nodes.block_statement (box_value b)
+statement_step (Stmt-F.Expr n) = Nodes.expression n
+statement_step (Stmt-F.Block b) = Nodes.block_statement b
 statement_step (Stmt-F.TryCatch b p) = Nodes.try_catch (box_value b).1 (box_value b).0 (box_value b).2 p
 statement_step (Stmt-F.BreakLoop v m p) = Nodes.break_loop (optional_of v) m p
 statement_step (Stmt-F.Return v m p) = Nodes.return_statement (optional_of v) m p

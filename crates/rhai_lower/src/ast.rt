@@ -111,7 +111,7 @@ pub enum Expr {
     /// The operands of `??`.
     Coalesce(Vec<Expr>, Position),
     /// A block as a value, at the position where the block starts.
-    Stmt(Box<StmtBlock>),
+    Stmt(StmtBlock),
 }
 
 /// Statements in braces, with the positions of the braces, which are none if they were not written.
@@ -222,9 +222,9 @@ pub enum Stmt {
         pos: Position,
     },
     /// An expression, at its position.
-    Expr(Box<Expr>),
+    Expr(Expr),
     /// A block, at the position of its start.
-    Block(Box<StmtBlock>),
+    Block(StmtBlock),
     /// `try`
     TryCatch(Box<FlowControl>, Position),
     /// `break` or `continue`
@@ -373,7 +373,7 @@ impl StmtBlock {
         ensures { IfOk result (λ b. block_view b ≡ made_block (statement_view statement)) }
     {
         match statement {
-            Stmt::Block(block) => Ok(Box::into_inner(block)),
+            Stmt::Block(block) => Ok(block),
             Stmt::Noop(pos) => Ok(StmtBlock {
                 statements: Vec::new(alloc),
                 start: pos,

@@ -3,6 +3,7 @@
 #![tactic(auto)]
 
 pub mod ast;
+pub mod interner;
 pub mod name_index;
 pub mod named_list;
 pub mod names;
@@ -19,6 +20,7 @@ pub use ast::{
     ScriptFuncDef, Stmt, StmtBlock, StmtBlockContainer, SwitchCase, SwitchCasesCollection,
     VariableExpr,
 };
+pub use interner::StringsInterner;
 pub use name_index::NameIndex;
 pub use named_list::{HasName, NamedList, find_latest, is_named};
 pub use names::{is_reserved_keyword_or_symbol, is_valid_function_name, is_valid_identifier};

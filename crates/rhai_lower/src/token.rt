@@ -6,7 +6,7 @@ ghost use Rattle.rhai_lower.specs.Tokens.{strength_of, binds_right, assigns, lit
 ghost use Rattle.rhai_lower.specs.Lexemes.{text_of, lexeme};
 
 use std::alloc::{AllocError, Global};
-use std::rc::RcStr;
+use std::rc::{Rc, RcStr};
 
 /// What the tokenizer could not read.
 #[derive(Clone, PartialEq, Debug, Drop)]
@@ -17,8 +17,9 @@ pub enum LexError {
     StringTooLong(usize),
     /// A text that looks like a number but is not one.
     MalformedNumber(RcStr),
-    /// A symbol that the language does not have, and a note on what to write instead.
-    ImproperSymbol(RcStr, RcStr),
+    /// A symbol that the language does not have, and a note on what to write instead. They are behind a pointer, since
+    /// each token takes as much room as the largest payload.
+    ImproperSymbol(Rc<(RcStr, RcStr)>),
     /// An input that is not a token.
     UnexpectedInput(RcStr),
     /// The tokenizer ran out of memory.

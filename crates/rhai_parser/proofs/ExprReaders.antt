@@ -16,6 +16,8 @@ pub ruleset parse_unary = (readers, nested_so, step_operand, operand_sign, sign_
 
 pub ruleset parse_unsigned = (readers, nested_so, step_operand, operand_other)
 
+pub ruleset parse_ends = (readers, nested_so)
+
 pub ruleset parse_postfix = (readers, nested_so, step_postfix, view_variable, variable_value, call_value)
 
 pub ruleset parse_fn_call_args = (readers, step_arguments)
@@ -24,11 +26,13 @@ pub ruleset parse_items = (readers, step_items, views_push)
 
 pub ruleset parse_right_operand = (readers, nested_so, step_right_operand, view_unit, no_function, unit_value, block_is_value)
 
-pub ruleset next_in_run = (calls_of_readers, step_binary_op)
+pub ruleset next_operator = (calls_of_readers, step_binary_op)
 
 pub ruleset parse_operator = (readers, nested_so)
 
-pub ruleset parse_binary_op = (readers)
+pub ruleset parse_binary_op = (readers, step_binary_op)
+
+pub ruleset parse_run = (readers)
 
 pub ruleset parse_call = (readers, nested_so, step_called, bang_refused)
 

@@ -21,4 +21,5 @@ pub mod StartLemmas
 pub mod PromiseLemmas
 pub mod FrameLemmas
 pub mod NestLemmas
+pub mod OperandLemmas
 pub mod EntryLemmas

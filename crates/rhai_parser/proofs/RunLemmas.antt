@@ -1,5 +1,5 @@
 -- What the operators that wait in a run give. The code keeps what waits for the right side of an operator in a list.
-use Rattle.std.proofs.Common.{◌≡◌, ℕ, ◌+◌, ◌≤◌, Bool, true, false, List, [], ◌∷◌, ◌++◌, Ok, Err, refl, sym, ap, ◌∙◌, subst, arith, if◌then◌else◌}
+use Rattle.std.proofs.Common.{◌≡◌, ℕ, ◌+◌, ◌≤◌, Bool, true, false, List, [], ◌∷◌, ◌++◌, Ok, Err, Option, None, Some, refl, sym, ap, ◌∙◌, subst, arith, if◌then◌else◌}
 use Rattle.rhai_lower.specs.Lexemes.{Lexeme, lexeme}
 use Rattle.rhai_lower.specs.Nodes.{Node, position_of}
 use Rattle.rhai_lower.specs.declared.position.Position.{Position}
@@ -13,6 +13,7 @@ use Rattle.rhai_grammar.specs.Settings.{level_up as level_up_settings}
 use Rattle.rhai_grammar.specs.Starts.{place_after}
 use Rattle.rhai_base.specs.Frames.{FrameValue}
 use Rattle.rhai_base.specs.Settings.{levels_left, settings_of}
+use Rattle.rhai_base.specs.declared.leaves.operators.Operator.{Operator}
 use Rattle.rhai_base.specs.declared.settings.ParseSettings.{ParseSettings}
 use Rattle.rhai_reading.specs.Reading.{BinaryOp, Call, Fail, NextOperator, Peek, Prog, Ret, RightOperand, binary_next, binary_on, binary_right, raised}
 use Rattle.rhai_reading.specs.Running as R
@@ -22,7 +23,7 @@ use Rattle.rhai_reading.proofs.Steps.{and_then_done, guarded_is}
 use Rattle.rhai_parser.specs.Frames.{context_of, live_of}
 use Rattle.rhai_parser.specs.Engines.{EngineValue}
 use Rattle.rhai_parser.specs.Readers.{binary_op}
-use Rattle.rhai_parser.specs.Runs.{right_side}
+use Rattle.rhai_parser.specs.Runs.{NextIs, in_run, right_side, run_at}
 use Rattle.rhai_parser.proofs.ExprLemmas.{same_context, under}
 use Rattle.rhai_parser.specs.declared.expr.runs.Pending.{Pending}
 
@@ -66,6 +67,17 @@ pub right_refused : (c : Context) (w : Live) (at : Position) (parent : ℕ) (lhs
 right_refused c w at parent lhs n s s1 t e found reads =
     let call = guarded (BinaryOp c w at parent lhs) s in
     found ∙ side_first call c w at parent lhs n s1 ∙ ap (λ o. R.and_then o (behind_side call c w parent lhs n)) reads
+
+-- ---- the operator that comes next
+
+module _ (c : Context) (w : Live) (at : Position) (parent : ℕ) (lhs : Node) (s : Progress) (next : Option Operator) (is : NextIs c.filter next s) where
+  -- where it goes on with the run
+  pub run_goes_on : (o : Operator) → in_run parent next ≡ Some o → result_of (BinaryOp c w at parent lhs) s ≡ exec (guarded (BinaryOp c w at parent lhs) s) (Peek (binary_on c w at parent lhs o.strength)) s
+  run_goes_on o found = is c w at parent lhs refl ∙ ap (λ r. exec (guarded (BinaryOp c w at parent lhs) s) (run_at c w at parent lhs r) s) found
+
+  -- where it does not
+  pub run_ends : in_run parent next ≡ None → result_of (BinaryOp c w at parent lhs) s ≡ R.Done lhs s
+  run_ends none = is c w at parent lhs refl ∙ ap (λ r. exec (guarded (BinaryOp c w at parent lhs) s) (run_at c w at parent lhs r) s) none
 
 -- ---- what waits
 

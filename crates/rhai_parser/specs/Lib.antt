@@ -9,6 +9,7 @@ pub mod ExprViews
 pub mod Closures
 pub mod MapKeys
 pub mod PrimaryViews
+pub mod Operands
 pub mod PlainPrimaries
 pub mod Loops
 pub mod Switches

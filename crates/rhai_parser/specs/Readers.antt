@@ -273,7 +273,7 @@ abbrev pub state_of : Shared → Progress
 state_of s = record {
   cursor = cursor_of s.input.now;
   library = library_of s.library.now;
-  captured = uses_of s.captured.now;
+  captured = uses_of s.captured;
   nesting = nesting_of s.counts;
 }
 
@@ -285,7 +285,6 @@ state_at s cursor = record (state_of s) { cursor = cursor }
 pub record SameLoans (old new : Shared) : Type 0 where
   pub input : new.input.ghost_name ≡ old.input.ghost_name
   pub library : new.library.ghost_name ≡ old.library.ghost_name
-  pub captured : new.captured.ghost_name ≡ old.captured.ghost_name
 
 -- Each reference is still the one that was lent, no more is left to read, and the functions that had ended are there
 -- still.

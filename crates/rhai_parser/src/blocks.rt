@@ -58,6 +58,7 @@ pub fn end_block(
 
 impl<R: LentReaders> Reader<'_, R> {
     /// Reads a block after its `{`, where the settings stand, up to its `}`. Its definitions end with it.
+    #[inline(always)]
     #[tactic(auto, using(crate::proofs::StmtReaders::parse_block))]
     pub(crate) fn parse_block(
         &self,

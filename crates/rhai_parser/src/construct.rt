@@ -46,7 +46,7 @@ impl<R: LentReaders> Reader<'_, R> {
         match kind {
             Construct::Block => {
                 let block = nested!(shared, self.parse_block(shared, frame, settings))?;
-                Ok(make_block_statement(self.engine.alloc(), block)?)
+                Ok(make_block_statement(block))
             }
             Construct::If => nested!(shared, self.parse_if(shared, frame, settings)),
             Construct::While => self.parse_while(shared, frame, settings),

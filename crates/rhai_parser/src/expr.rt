@@ -4,18 +4,23 @@ pub(crate) mod asks;
 pub(crate) mod paths;
 pub(crate) mod runs;
 
-ghost use Rattle.std.specs.Prelude.{◌≡◌, false};
+ghost use Rattle.std.specs.Prelude.{◌≡◌, ◌≤◌, [], false, true};
 ghost use Rattle.rhai_lower.specs.Nodes.{no_nodes};
 ghost use Rattle.rhai_lower.specs.View.{view};
 ghost use Rattle.rhai_grammar.specs.Beginnings.{beginning, is_sign};
-ghost use Rattle.rhai_reading.specs.Running.{asked};
-ghost use Rattle.rhai_parser.specs.Readers.{Covers, GoesOn, Reads, arguments, expression, items};
+ghost use Rattle.rhai_grammar.specs.Cursors.{left};
+ghost use Rattle.rhai_grammar.specs.Delivered.{is_memory};
+ghost use Rattle.rhai_base.specs.OperandEnds.{ends_operand};
+ghost use Rattle.rhai_reading.specs.Running.{Done, Gives, Progress, asked, exec, guarded, looking, result_of};
+ghost use Rattle.rhai_parser.specs.Frames.{context_of, live_of};
+ghost use Rattle.rhai_parser.specs.Operands.{operand_ends};
+ghost use Rattle.rhai_parser.specs.Readers.{Covers, GoesOn, Reads, arguments, expression, items, links};
 ghost use Rattle.rhai_parser.specs.Readers.{operand, postfix};
 ghost use Rattle.rhai_parser.specs.Readers.{right_operand, state_of, views_of};
 ghost use Rattle.rhai_parser.specs.Rooms.{Stays};
 ghost use Rattle.rhai_trees.specs.Chains.{chain_view};
 
-use crate::expr::asks::{as_variable, end_operand, sign_operand};
+use crate::expr::asks::{as_variable, end_operand, end_plain, ends_here, sign_operand};
 use crate::expr::paths::{NamedOperand, named_operand};
 use crate::lent::LentReaders;
 use crate::reader::Reader;
@@ -214,7 +219,13 @@ impl<R: LentReaders> Reader<'_, R> {
         let (sign, pos) = take(shared.input);
         let settings = settings.at(pos).level_up()?;
         let operand = nested!(shared, self.parse_unary(shared, frame, settings))?;
-        sign_operand(self.engine.alloc(), sign, pos, operand)
+        sign_operand(
+            self.engine.alloc(),
+            &mut shared.interner,
+            sign,
+            pos,
+            operand,
+        )
     }
 
     /// Reads a written operand without a sign, with its call and its links. The caller has seen that no sign comes
@@ -236,6 +247,66 @@ impl<R: LentReaders> Reader<'_, R> {
     {
         peek(shared.input)?;
         let primary = nested!(shared, self.parse_primary(shared, frame, settings))?;
+        if !ends_here(shared)? {
+            return self.parse_ends(shared, frame, settings, primary);
+        }
+        nested!(shared, self.pass_postfix(shared, frame, settings, &primary));
+        self.pass_links(shared, frame, settings, &primary);
+        end_plain(frame, settings, primary)
+    }
+
+    // Nothing calls an operand before this token, and it is no part of a path.
+    #[inline(always)]
+    fn pass_postfix(
+        &self,
+        shared: &Shared<'_>,
+        frame: &Frame<'_>,
+        settings: ParseSettings,
+        operand: &Chain,
+    )
+        requires looked { state_of shared.now ≡ looking (state_of shared.now) }
+        requires readable { is_memory (asked (state_of shared.now)).lexeme ≡ false }
+        requires ends { ends_operand (asked (state_of shared.now)).lexeme ≡ true }
+        ensures reads { result_of (postfix self.now.engine.now frame.now settings (chain_view operand.now))
+            (state_of shared.now) ≡ Done (chain_view operand.now) (state_of shared.now) }
+    {}
+
+    // No link follows an operand before this token.
+    #[inline(always)]
+    fn pass_links(
+        &self,
+        shared: &Shared<'_>,
+        frame: &Frame<'_>,
+        settings: ParseSettings,
+        operand: &Chain,
+    )
+        requires looked { state_of shared.now ≡ looking (state_of shared.now) }
+        requires readable { is_memory (asked (state_of shared.now)).lexeme ≡ false }
+        requires ends { ends_operand (asked (state_of shared.now)).lexeme ≡ true }
+        ensures reads { result_of (links self.now.engine.now frame.now settings (chain_view operand.now))
+            (state_of shared.now) ≡ Done [] (state_of shared.now) }
+    {}
+
+    // Reads what calls an operand, and its links. Few operands have them, and a function clears all the places that it
+    // has when it begins; so they are apart.
+    #[inline(never)]
+    #[tactic(auto, using(crate::proofs::ExprReaders::parse_ends))]
+    fn parse_ends(
+        &self,
+        shared: &mut Shared<'_>,
+        frame: &Frame<'_>,
+        settings: ParseSettings,
+        primary: Chain,
+    ) -> ParseResult<Chain>
+        requires lent { Covers (R.lent self.now.readers) (operand self.now.engine.now frame.now settings)
+            shared.old }
+        ensures goes_on { GoesOn shared.old shared.new }
+        ensures stays { Stays self.now.engine.now frame.now settings 3 shared.old shared.new }
+        ensures reads { (s : Progress) → left (state_of shared.old).cursor.tokens ≤ left s.cursor.tokens
+            → Gives chain_view (exec (guarded (operand self.now.engine.now frame.now settings) s) (operand_ends
+            (context_of self.now.engine.now frame.now settings) (live_of frame.now) (chain_view primary))
+            (state_of shared.old)) result (state_of shared.new) }
+    {
         let operand = nested!(shared, self.parse_postfix(shared, frame, settings, primary))?;
         match self.parse_links(shared, frame, settings, &operand) {
             Ok(links) => end_operand(frame, settings, operand, links),

@@ -27,7 +27,7 @@ use crate::shared::Shared;
 use rhai_base::{FnLib, Frame, Library, ParseCounts, ParseSettings, ParseState, functions};
 use rhai_grammar::ParseResult;
 use rhai_lower::optimizer::{OptimizationLevel, optimize_into_ast};
-use rhai_lower::{AST, Expr, NamedList, Scope, Stmt, TokenStream};
+use rhai_lower::{AST, Expr, NamedList, Scope, Stmt, StringsInterner, TokenStream};
 
 impl Engine {
     // The script of one expression and of all functions of a library, as the optimizer makes it.
@@ -42,7 +42,7 @@ impl Engine {
         ensures script { Accepts constants.entry level (view expr) (library_of lib.now.entries) result }
         ensures nowhere { IfErr result MemoryIsNowhere }
     {
-        let statement = Stmt::Expr(Box::new(self.alloc(), expr)?);
+        let statement = Stmt::Expr(expr);
         let statements = vec![in self.alloc(); statement]?;
         let functions = functions(self.alloc(), lib)?;
         Ok(optimize_into_ast(self.alloc(), constants, statements, functions, level)?)
@@ -75,15 +75,23 @@ impl Engine {
         ensures orderly { Holds self.now.max_functions frame.now.begun (library_of library.old)
             → Holds self.now.max_functions frame.now.begun (library_of library.new) }
     {
-        let mut captured = NamedList::new(self.alloc());
         let mut shared = Shared {
             input,
             library,
-            captured: &mut captured,
+            captured: NamedList::new(self.alloc()),
+            interner: StringsInterner::new(self.alloc()),
             counts: *counts,
         };
         let expr = parse_whole_expr(self, &mut shared, frame, settings);
-        *counts = shared.counts;
+        // Taken apart as a whole: what is lent is known afterwards only so.
+        let Shared {
+            input: _input,
+            library: _library,
+            captured: _captured,
+            interner: _interner,
+            counts: left,
+        } = shared;
+        *counts = left;
         expr
     }
 

@@ -36,6 +36,7 @@ pub trait LentReaders {
         ensures reads { Nests (expression engine.now frame.now settings) chain_view shared.old result shared.new };
 
     /// Reads an expression. The level is raised at its first token.
+    #[inline(always)]
     fn parse_expr(
         &self,
         engine: &Engine,

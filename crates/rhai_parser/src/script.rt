@@ -34,7 +34,8 @@ use rhai_base::{
 use rhai_grammar::{Closing, ParseResult};
 use rhai_lower::optimizer::{OptimizationLevel, optimize_into_ast};
 use rhai_lower::{
-    AST, NamedList, Position, Scope, ScriptFuncDef, Stmt, StmtBlockContainer, TokenStream,
+    AST, NamedList, Position, Scope, ScriptFuncDef, Stmt, StmtBlockContainer, StringsInterner,
+    TokenStream,
 };
 use std::mem;
 use std::rc::{Rc, RcStr};
@@ -89,11 +90,11 @@ impl Engine {
             → Holds self.now.max_functions frame.entry.begun (library_of library.new) }
     {
         let mut frame = frame;
-        let mut captured = NamedList::new(self.alloc());
         let mut shared = Shared {
             input,
             library,
-            captured: &mut captured,
+            captured: NamedList::new(self.alloc()),
+            interner: StringsInterner::new(self.alloc()),
             counts: *counts,
         };
         let statements = parse_statements(
@@ -103,7 +104,15 @@ impl Engine {
             settings,
             Closing::EndMark,
         );
-        *counts = shared.counts;
+        // Taken apart as a whole: what is lent is known afterwards only so.
+        let Shared {
+            input: _input,
+            library: _library,
+            captured: _captured,
+            interner: _interner,
+            counts: left,
+        } = shared;
+        *counts = left;
         (*stack, *imports) = frame.into_parts();
         statements
     }

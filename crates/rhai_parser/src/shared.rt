@@ -10,7 +10,7 @@ ghost use Rattle.rhai_parser.specs.Rooms.{Enters, Leaves, Steady};
 
 use rhai_base::captured::add_use;
 use rhai_base::{Library, ParseCounts};
-use rhai_lower::{NamedList, Position, TokenStream};
+use rhai_lower::{NamedList, Position, StringsInterner, TokenStream};
 use std::alloc::{AllocError, Global};
 use std::mem;
 use std::rc::RcStr;
@@ -23,7 +23,9 @@ pub struct Shared<'s> {
     /// The functions that have ended.
     pub library: &'s mut Library,
     /// The names that the closure around what is read has captured, each with the position of its first use.
-    pub captured: &'s mut NamedList<(RcStr, Position)>,
+    pub captured: NamedList<(RcStr, Position)>,
+    /// The names of operators that calls share.
+    pub interner: StringsInterner,
     /// How many readers are active.
     pub counts: ParseCounts,
 }
@@ -60,7 +62,7 @@ impl Shared<'_> {
         if !captures {
             return Ok(());
         }
-        add_use(self.captured, name, pos)
+        add_use(&mut self.captured, name, pos)
     }
 
     /// A closure begins, which has captured nothing. What the one around it has captured is handed over. Does not
@@ -71,7 +73,7 @@ impl Shared<'_> {
         ensures outer { uses_of result ≡ (state_of self.old).captured }
         ensures apart { state_of self.new ≡ with_captured [] (state_of self.old) }
     {
-        mem::replace(self.captured, NamedList::new(alloc))
+        mem::replace(&mut self.captured, NamedList::new(alloc))
     }
 
     /// A closure ends: what the one around it has captured is put back, and what this one has is handed over. Does not
@@ -82,6 +84,6 @@ impl Shared<'_> {
         ensures captured { uses_of result.items ≡ (state_of self.old).captured }
         ensures back { state_of self.new ≡ with_captured (uses_of outer) (state_of self.old) }
     {
-        mem::replace(self.captured, outer).into_items()
+        mem::replace(&mut self.captured, outer).into_items()
     }
 }

@@ -327,7 +327,7 @@ impl<R: LentReaders> Reader<'_, R> {
             .readers
             .parse_expr(self.engine, shared, frame, settings)?;
         if !assigns(shared.input)? {
-            return Ok(make_expression(self.engine.alloc(), target)?);
+            return Ok(make_expression(target));
         }
         let (op, pos) = take(shared.input);
         let value = self
@@ -337,6 +337,7 @@ impl<R: LentReaders> Reader<'_, R> {
     }
 
     /// Reads the statements of a block up to its `}`, which stays. Its definitions end with it.
+    #[inline(always)]
     #[tactic(auto, using(crate::proofs::StmtReaders::parse_block_inside))]
     pub fn parse_block_inside(
         &self,

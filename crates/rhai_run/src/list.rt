@@ -8,7 +8,7 @@ use crate::number::{decimal, integer};
 use crate::symbol::symbol;
 use rhai_lower::{Entry, LexError, Position, Token};
 use std::alloc::{AllocError, AllocFailed, Global};
-use std::rc::RcStr;
+use std::rc::{Rc, RcStr};
 use std::str;
 
 /// The tokens of a list, and the position of its end mark.
@@ -87,7 +87,10 @@ fn lex_error(alloc: Global, words: &str) -> Result<LexError, LineError> {
     Ok(match kind {
         "toolong" => LexError::StringTooLong(decimal(rest).ok_or(LineError::Unreadable)?),
         "number" => LexError::MalformedNumber(text(alloc, rest)?),
-        "improper" => LexError::ImproperSymbol(text(alloc, rest)?, RcStr::from_str(alloc, "")?),
+        "improper" => {
+            let no_note = RcStr::from_str(alloc, "")?;
+            LexError::ImproperSymbol(Rc::new(alloc, (text(alloc, rest)?, no_note))?)
+        }
         "unexpected" => LexError::UnexpectedInput(text(alloc, rest)?),
         _ => return Err(LineError::Unreadable),
     })

@@ -21,7 +21,7 @@ fn write_lex_error<W: fmt::Write>(f: &mut fmt::Formatter<W>, error: &LexError) -
         LexError::UnterminatedString => f.write_str("unterminated"),
         LexError::StringTooLong(limit) => write!(f, "toolong {limit}"),
         LexError::MalformedNumber(text) => write!(f, "number {}", Escaped(text)),
-        LexError::ImproperSymbol(text, _) => write!(f, "improper {}", Escaped(text)),
+        LexError::ImproperSymbol(symbol) => write!(f, "improper {}", Escaped(&symbol.0)),
         LexError::UnexpectedInput(text) => write!(f, "unexpected {}", Escaped(text)),
         LexError::OutOfMemory => f.write_str("memory"),
     }

@@ -338,7 +338,7 @@ fn texts_and_blocks(alloc: Global) -> Result<(), AllocError> {
     make_anonymous_fn(alloc, 7)?;
     Token::IntegerConstant(-7).text(alloc)?;
     let seven = Expr::IntegerConstant(7, Position::NONE);
-    StmtBlock::from_stmt(alloc, Stmt::Expr(Box::new(alloc, seven)?))?;
+    StmtBlock::from_stmt(alloc, Stmt::Expr(seven))?;
     Ok(())
 }
 

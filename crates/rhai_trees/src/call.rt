@@ -7,14 +7,16 @@ ghost use Rattle.rhai_lower.specs.View.{view, views};
 ghost use Rattle.rhai_grammar.specs.Operators.{contains_call};
 ghost use Rattle.rhai_trees.specs.Views.{native_called};
 
-use rhai_lower::{Expr, FnCallExpr, Namespace, Position, Token};
+use rhai_lower::{Expr, FnCallExpr, Namespace, Position, StringsInterner, Token};
 use std::alloc::{AllocError, Global};
 use std::rc::RcStr;
 
 /// The native-only call of an operator or sign, at position `pos`. Returns `AllocError` if memory runs out.
+#[inline(always)]
 #[tactic(auto, using(rhai_lower::proofs::Views::view_call))]
 pub(crate) fn native_call(
     alloc: Global,
+    interner: &mut StringsInterner,
     op_token: Token,
     pos: Position,
     args: Vec<Expr>,
@@ -23,7 +25,7 @@ pub(crate) fn native_call(
         ≡ call (native_called (lexeme op_token) (length args.items)) (views args.items) pos) }
 {
     let call = FnCallExpr {
-        name: op_token.text(alloc)?,
+        name: interner.text(alloc, &op_token)?,
         namespace: Namespace {
             path: Vec::new(alloc),
             index: None,

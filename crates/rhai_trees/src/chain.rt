@@ -49,7 +49,8 @@ impl Chain {
             × (is_linked (chain_view self) ≡ true)) }
     {
         if self.links.is_empty() {
-            Ok(self.root)
+            let (root, _) = self.into_parts();
+            Ok(root)
         } else {
             Err(self)
         }
@@ -90,10 +91,7 @@ impl Chain {
         if links.is_empty() {
             return Ok(self);
         }
-        let Chain {
-            root,
-            links: mut all,
-        } = self;
+        let (root, mut all) = self.into_parts();
         all.append(&mut links)?;
         Ok(Chain { root, links: all })
     }
@@ -107,7 +105,8 @@ impl Chain {
         ensures { IfOk result (λ e. view e ≡ chain_view self) }
     {
         if self.links.is_empty() {
-            return Ok(self.root);
+            let (root, _) = self.into_parts();
+            return Ok(root);
         }
         self.nest_links(alloc)
     }
@@ -119,7 +118,7 @@ impl Chain {
     fn nest_links(self, alloc: Global) -> Result<Expr, AllocError>
         ensures { IfOk result (λ e. view e ≡ chain_view self) }
     {
-        let Chain { root, mut links } = self;
+        let (root, mut links) = self.into_parts();
         let Some(end) = links.pop() else {
             return Ok(root);
         };

@@ -31,11 +31,32 @@ pub struct Link {
 
 /// A chain whose tree is not made yet, so that links may follow: what it begins with, and its links in written order.
 /// Without links it stands for its root.
-#[derive(PartialEq, Debug, Drop)]
+#[derive(PartialEq, Debug)]
 pub struct Chain {
     /// The operand that the links follow.
     pub(crate) root: Expr,
     /// The links in written order.
     pub(crate) links: Vec<Link>,
     pub ghost value: { length links.items ≡ 0 → is_linked (view root) ≡ false },
+}
+
+impl Drop for Chain {
+    // As derived; but a derived drop is expanded wherever a chain may be dropped, and a function clears all the places
+    // that it has when it begins.
+    #[inline(never)]
+    fn drop(self) {
+        let Chain { root: _, links: _ } = self;
+    }
+}
+
+impl Chain {
+    // The parts of the chain.
+    #[inline(always)]
+    pub(crate) fn into_parts(self) -> (Expr, Vec<Link>)
+        ensures root { result.0 ≡ self.root }
+        ensures links { result.1 ≡ self.links }
+    {
+        let Chain { root, links } = self;
+        (root, links)
+    }
 }

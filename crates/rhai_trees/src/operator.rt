@@ -14,7 +14,7 @@ ghost use Rattle.rhai_trees.specs.Views.{operand_fault, part_view};
 use crate::call::{contains_call, native_call};
 use crate::guard::test_guard;
 use rhai_grammar::{Joining, ListKind, ParseResult};
-use rhai_lower::{Expr, Position, Token};
+use rhai_lower::{Expr, Position, StringsInterner, Token};
 use std::alloc::{AllocError, Global};
 
 /// An operand of an operator that makes lists.
@@ -34,6 +34,7 @@ pub(crate) enum Part {
 /// `MismatchedType` at its start, the left one first. If memory runs out, the error is `OutOfMemory`.
 pub fn make_binary(
     alloc: Global,
+    interner: &mut StringsInterner,
     op_token: Token,
     pos: Position,
     lhs: Expr,
@@ -43,7 +44,7 @@ pub fn make_binary(
     ensures nowhere { IfErr result MemoryIsNowhere }
 {
     match test_operands(alloc, &op_token, &lhs, &rhs) {
-        Ok(()) => join_operands(alloc, op_token, pos, lhs, rhs),
+        Ok(()) => join_operands(alloc, interner, op_token, pos, lhs, rhs),
         Err(error) => Err(error),
     }
 }
@@ -95,6 +96,7 @@ fn joining_of(op_token: &Token) -> Joining
 // What an operator makes of operands that it takes. Returns `AllocError` if memory runs out.
 fn join_operands(
     alloc: Global,
+    interner: &mut StringsInterner,
     op_token: Token,
     pos: Position,
     lhs: Expr,
@@ -106,14 +108,18 @@ fn join_operands(
     match joining_of(&op_token) {
         Joining::List(kind) => join_list(alloc, kind, pos, lhs, rhs),
         Joining::Membership => Ok(contains_call(alloc, None, pos, lhs, rhs)?),
-        Joining::NoMembership => Ok(no_membership(alloc, op_token, pos, lhs, rhs)?),
-        Joining::Call => Ok(native_call(alloc, op_token, pos, vec![in alloc; lhs, rhs]?)?),
+        Joining::NoMembership => Ok(no_membership(alloc, interner, op_token, pos, lhs, rhs)?),
+        Joining::Call => {
+            let args = vec![in alloc; lhs, rhs]?;
+            Ok(native_call(alloc, interner, op_token, pos, args)?)
+        }
     }
 }
 
 // `lhs !in rhs`
 fn no_membership(
     alloc: Global,
+    interner: &mut StringsInterner,
     op_token: Token,
     pos: Position,
     lhs: Expr,
@@ -122,7 +128,7 @@ fn no_membership(
     ensures { IfOk result (λ e. view e ≡ no_membership (lexeme op_token) pos (view lhs) (view rhs)) }
 {
     let call = contains_call(alloc, Some(op_token), pos, lhs, rhs)?;
-    native_call(alloc, Token::Bang, pos, vec![in alloc; call]?)
+    native_call(alloc, interner, Token::Bang, pos, vec![in alloc; call]?)
 }
 
 // The list of two operands, which extends a list of this kind on either side.

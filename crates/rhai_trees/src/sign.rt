@@ -10,7 +10,7 @@ ghost use Rattle.rhai_trees.specs.Views.{integer_value, negated};
 
 use crate::call::native_call;
 use rhai_grammar::{Effect, InputError, ParseError, ParseErrorType, ParseResult};
-use rhai_lower::{Expr, Position, Token};
+use rhai_lower::{Expr, Position, StringsInterner, Token};
 use std::alloc::{AllocError, Global};
 use std::rc::RcStr;
 
@@ -21,7 +21,13 @@ use std::rc::RcStr;
 /// `op_token` is the sign, `pos` its position. Minus on the least integer gives `MalformedNumber` at the sign. If
 /// memory runs out, the error is `OutOfMemory`.
 #[tactic(auto, using(crate::proofs::SignLemmas::results))]
-pub fn make_unary(alloc: Global, op_token: Token, pos: Position, operand: Expr) -> ParseResult<Expr>
+pub fn make_unary(
+    alloc: Global,
+    interner: &mut StringsInterner,
+    op_token: Token,
+    pos: Position,
+    operand: Expr,
+) -> ParseResult<Expr>
     ensures answers { Answers view (sign_result (lexeme op_token) pos (view operand)) result }
     ensures nowhere { IfErr result MemoryIsNowhere }
 {
@@ -29,7 +35,7 @@ pub fn make_unary(alloc: Global, op_token: Token, pos: Position, operand: Expr) 
         (Effect::Negates, Some(number)) => negated(alloc, number, pos),
         (Effect::Keeps, Some(_)) => Ok(operand),
         (Effect::Calls, Some(_)) | (_, None) => {
-            Ok(sign_call(alloc, plain_sign(op_token), pos, operand)?)
+            Ok(sign_call(alloc, interner, plain_sign(op_token), pos, operand)?)
         }
     }
 }
@@ -85,11 +91,12 @@ fn negated(alloc: Global, number: i64, pos: Position) -> ParseResult<Expr>
 // The call of a sign on any other operand.
 fn sign_call(
     alloc: Global,
+    interner: &mut StringsInterner,
     op_token: Token,
     pos: Position,
     operand: Expr,
 ) -> Result<Expr, AllocError>
     ensures { IfOk result (λ e. view e ≡ sign_call (lexeme op_token) pos (view operand)) }
 {
-    native_call(alloc, op_token, pos, vec![in alloc; operand]?)
+    native_call(alloc, interner, op_token, pos, vec![in alloc; operand]?)
 }

@@ -91,11 +91,11 @@ pub fn make_assignment(
     })
 }
 
-/// An expression as a statement. Returns `AllocError` if memory runs out.
-pub fn make_expression(alloc: Global, expr: Expr) -> Result<Stmt, AllocError>
-    ensures { IfOk result (λ s. statement_view s ≡ expression (view expr)) }
+/// An expression as a statement. Does not allocate.
+pub fn make_expression(expr: Expr) -> Stmt
+    ensures { statement_view result ≡ expression (view expr) }
 {
-    Ok(Stmt::Expr(Box::new(alloc, expr)?))
+    Stmt::Expr(expr)
 }
 
 /// The definition of a variable or a constant, which may be exported; `number` is that of the slot that it uses again.
@@ -176,19 +176,19 @@ pub fn make_block(statements: Vec<Stmt>, start: Position, end: Position) -> Stmt
     }
 }
 
-/// A block as a statement. Returns `AllocError` if memory runs out.
-pub fn make_block_statement(alloc: Global, block: StmtBlock) -> Result<Stmt, AllocError>
-    ensures { IfOk result (λ s. statement_view s ≡ block_statement (block_view block)) }
+/// A block as a statement. Does not allocate.
+pub fn make_block_statement(block: StmtBlock) -> Stmt
+    ensures { statement_view result ≡ block_statement (block_view block) }
 {
-    Ok(Stmt::Block(Box::new(alloc, block)?))
+    Stmt::Block(block)
 }
 
-/// A block as an operand. Returns `AllocError` if memory runs out.
+/// A block as an operand. Does not allocate.
 #[tactic(auto, using(rhai_lower::proofs::Views::view_block_value))]
-pub fn make_block_value(alloc: Global, block: StmtBlock) -> Result<Expr, AllocError>
-    ensures { IfOk result (λ e. view e ≡ block_value (block_view block)) }
+pub fn make_block_value(block: StmtBlock) -> Expr
+    ensures { view result ≡ block_value (block_view block) }
 {
-    Ok(Expr::Stmt(Box::new(alloc, block)?))
+    Expr::Stmt(block)
 }
 
 /// A block without statements and without position, which stands for an absent `else`. Does not allocate.
@@ -252,5 +252,5 @@ pub fn make_continue(pos: Position) -> Stmt
 pub fn make_statement_value(alloc: Global, statement: Stmt) -> Result<Expr, AllocError>
     ensures { IfOk result (λ e. view e ≡ block_value (made_block (statement_view statement))) }
 {
-    make_block_value(alloc, StmtBlock::from_stmt(alloc, statement)?)
+    Ok(make_block_value(StmtBlock::from_stmt(alloc, statement)?))
 }

@@ -8,7 +8,7 @@ ghost use Rattle.rhai_grammar.specs.Interpolations.{added_text};
 
 use crate::statement::make_block_value;
 use rhai_lower::{Expr, Position, StmtBlock};
-use std::alloc::{AllocError, Global};
+use std::alloc::AllocError;
 use std::rc::RcStr;
 
 /// Adds a text, which is at `pos`, to the segments of an interpolated string, unless it is empty. Returns `AllocError`
@@ -27,19 +27,17 @@ pub fn push_text(segments: &mut Vec<Expr>, text: RcStr, pos: Position) -> Result
 
 // Adds a block to the segments of an interpolated string.
 #[tactic(auto, using(rhai_lower::proofs::Views::views_push))]
-fn push_block(alloc: Global, segments: &mut Vec<Expr>, block: StmtBlock) -> Result<(), AllocError>
+fn push_block(segments: &mut Vec<Expr>, block: StmtBlock) -> Result<(), AllocError>
     ensures { OnOk result (views segments.new.items
         ≡ with_node (views segments.old.items) (block_value (block_view block))) }
 {
-    let block = make_block_value(alloc, block)?;
-    segments.push(block)?;
+    segments.push(make_block_value(block))?;
     Ok(())
 }
 
 /// Adds a block to the segments of an interpolated string, and then the text after it, which is at `pos`, unless that
 /// is empty. Returns `AllocError` if memory runs out.
 pub fn push_segment(
-    alloc: Global,
     segments: &mut Vec<Expr>,
     block: StmtBlock,
     text: RcStr,
@@ -48,6 +46,6 @@ pub fn push_segment(
     ensures { OnOk result (views segments.new.items ≡ added_text
         (with_node (views segments.old.items) (block_value (block_view block))) (rc_str_bytes text) pos) }
 {
-    push_block(alloc, segments, block)?;
+    push_block(segments, block)?;
     push_text(segments, text, pos)
 }

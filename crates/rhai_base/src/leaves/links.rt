@@ -9,13 +9,14 @@ ghost use Rattle.rhai_grammar.specs.Cursors.{asked, cursor_of, looking};
 ghost use Rattle.rhai_grammar.specs.Delivered.{is_end, is_memory};
 ghost use Rattle.rhai_grammar.specs.Verdicts.{no_path};
 ghost use Rattle.rhai_base.specs.Members.{no_member};
+ghost use Rattle.rhai_base.specs.OperandEnds.{ends_operand};
 
 use crate::cursor::peek;
 use crate::leaves::refusals::no_member;
-use crate::leaves::tokens::qualifies;
+use crate::leaves::tokens::{calls, qualifies};
 use rhai_grammar::{InputError, Linking, ParseError, ParseErrorType, ParseResult};
 use rhai_lower::{Token, TokenStream, is_reserved_keyword_or_symbol};
-use std::alloc::Global;
+use std::alloc::{AllocError, Global};
 use std::rc::RcStr;
 
 /// How a token continues the operand before it.
@@ -28,6 +29,17 @@ pub fn what_links(token: &Token) -> Linking
         Token::Period | Token::Elvis => Linking::Dot,
         _ => Linking::Nothing,
     }
+}
+
+/// Whether an operand ends before the next token, which stays: no call or path goes on there, and no link. The error
+/// comes where the tokenizer ran out of memory at that token.
+pub fn ends_operand(input: &mut TokenStream) -> Result<bool, AllocError>
+    ensures value { IfOk result (λ ends. ends ≡ ends_operand (asked (cursor_of input.old)).lexeme) }
+    ensures after { cursor_of input.new ≡ looking (cursor_of input.old) }
+    ensures readable { OnOk result (is_memory (asked (cursor_of input.old)).lexeme ≡ false) }
+{
+    let (token, _) = peek(input)?;
+    Ok(!calls(token) && !qualifies(token) && matches!(what_links(token), Linking::Nothing))
 }
 
 /// Whether a bracket or a dot has a question mark.

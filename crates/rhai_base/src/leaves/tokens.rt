@@ -142,7 +142,7 @@ pub fn is_no_argument(token: &Token) -> bool
 }
 
 /// Whether a token calls the name before it.
-fn calls(token: &Token) -> bool
+pub(crate) fn calls(token: &Token) -> bool
     ensures { result ≡ calls (lexeme token.now) }
 {
     matches!(token, Token::Unit | Token::LeftParen | Token::Bang)

@@ -2,6 +2,7 @@
 //! of an operand.
 
 ghost use Rattle.std.specs.Prelude.{◌≡◌, IfErr, IfOk, IsSome, None, OnOk, Some, false, option_map};
+ghost use Rattle.rhai_base.specs.OperandEnds.{ends_operand};
 ghost use Rattle.rhai_base.specs.Settings.{settings_of};
 ghost use Rattle.rhai_lower.specs.Lexemes.{lexeme};
 ghost use Rattle.rhai_lower.specs.Nodes.{variable};
@@ -21,17 +22,19 @@ ghost use Rattle.rhai_reading.specs.Running.{Caller, Gives, Progress, asked, exe
 ghost use Rattle.rhai_parser.specs.Readers.{GoesOn, Reads, state_of};
 ghost use Rattle.rhai_parser.specs.NextOperators.{operator_pair};
 ghost use Rattle.rhai_parser.specs.ExprViews.{linked};
+ghost use Rattle.rhai_parser.specs.Runs.{NextIs};
 ghost use Rattle.rhai_parser.specs.Rooms.{Steady};
 
 use crate::shared::Shared;
 use rhai_base::leaves::due::match_token;
+use rhai_base::leaves::links::ends_operand;
 use rhai_base::leaves::operators;
 use rhai_base::leaves::operators::Operator;
 use rhai_base::{Frame, ParseSettings, modules, words};
 use rhai_grammar::{DueToken, ExprFilter, ParseResult};
-use rhai_lower::{Expr, Position, Token, VariableExpr};
+use rhai_lower::{Expr, Position, StringsInterner, Token, VariableExpr};
 use rhai_trees::{Chain, Link, make_unary, test_index};
-use std::alloc::Global;
+use std::alloc::{AllocError, Global};
 
 /// The operator that stands after an operand, if there is one that the filter lets pass; its token stays.
 pub(crate) fn next_operator(
@@ -42,6 +45,7 @@ pub(crate) fn next_operator(
     ensures goes_on { GoesOn shared.old shared.new }
     ensures steady { Steady shared.old shared.new }
     ensures reads { Reads (NextOperator filter) (option_map operator_pair) shared.old result shared.new }
+    ensures next { IfOk result (λ o. NextIs filter o (state_of shared.new)) }
     ensures after { state_of shared.new ≡ looking (state_of shared.old) }
     ensures some { IfOk result (λ o. IsSome o → is_end (asked (state_of shared.old)).lexeme ≡ false) }
     ensures readable { OnOk result (is_memory (asked (state_of shared.old)).lexeme ≡ false) }
@@ -113,6 +117,34 @@ pub(crate) fn test_module(
     }
 }
 
+/// Whether an operand ends before the next token, which stays. The error comes where the tokenizer ran out of memory at
+/// that token.
+#[inline(always)]
+pub(crate) fn ends_here(shared: &mut Shared<'_>) -> Result<bool, AllocError>
+    ensures goes_on { GoesOn shared.old shared.new }
+    ensures steady { Steady shared.old shared.new }
+    ensures value { IfOk result (λ ends. ends ≡ ends_operand (asked (state_of shared.old)).lexeme) }
+    ensures after { state_of shared.new ≡ looking (state_of shared.old) }
+    ensures readable { OnOk result (is_memory (asked (state_of shared.old)).lexeme ≡ false) }
+{
+    ends_operand(shared.input)
+}
+
+/// An operand without links. Where it has a path, the module that this begins with is tested.
+#[inline(always)]
+pub(crate) fn end_plain(
+    frame: &Frame<'_>,
+    settings: ParseSettings,
+    operand: Chain,
+) -> ParseResult<Chain>
+    ensures gives { (call : Caller) (t : Progress) (context : Context) → context.settings ≡ settings_of settings
+        → context.known ≡ frame.now.known → Gives chain_view (exec call (tested (chain_view operand)
+        (module_fault context frame.now.live (chain_view operand))) t) result t }
+{
+    test_module(frame, settings, &operand)?;
+    Ok(operand)
+}
+
 /// An operand with its links. Where it has a path, the module that this begins with is tested.
 pub(crate) fn end_operand(
     frame: &Frame<'_>,
@@ -132,6 +164,7 @@ pub(crate) fn end_operand(
 #[tactic(auto, using(rhai_trees::proofs::LinkedLemmas::sign_value))]
 pub(crate) fn sign_operand(
     alloc: Global,
+    interner: &mut StringsInterner,
     sign: Token,
     pos: Position,
     operand: Chain,
@@ -140,6 +173,6 @@ pub(crate) fn sign_operand(
     ensures nowhere { IfErr result MemoryIsNowhere }
 {
     let operand = operand.nest(alloc)?;
-    let signed = make_unary(alloc, sign, pos, operand)?;
+    let signed = make_unary(alloc, interner, sign, pos, operand)?;
     Ok(Chain::from_value(alloc, signed))
 }

@@ -4,20 +4,19 @@
 ghost use Rattle.std.specs.Prelude.{◌≡◌, ◌+◌, ◌≤◌, IfErr, IfOk, IsSome, OnOk, false};
 ghost use Rattle.rhai_trees.specs.Chains.{chain_view};
 ghost use Rattle.rhai_lower.specs.Lexemes.{lexeme};
-ghost use Rattle.rhai_lower.specs.Nodes.{Node, position_of};
+ghost use Rattle.rhai_lower.specs.Nodes.{position_of};
 ghost use Rattle.rhai_grammar.specs.Answers.{Answers};
 ghost use Rattle.rhai_grammar.specs.Causes.{MemoryIsNowhere};
-ghost use Rattle.rhai_grammar.specs.Contexts.{Context, Live};
 ghost use Rattle.rhai_grammar.specs.Cursors.{left};
 ghost use Rattle.rhai_grammar.specs.Delivered.{is_end, is_memory};
 ghost use Rattle.rhai_grammar.specs.Operators.{operator_result};
-ghost use Rattle.rhai_base.specs.Settings.{IsDeeper, Raises};
-ghost use Rattle.rhai_reading.specs.Reading.{BinaryOp, Goal, NextOperator};
-ghost use Rattle.rhai_reading.specs.Running.{Fails, Gives, Progress, asked, exec, guarded, looking, result_of};
+ghost use Rattle.rhai_base.specs.Settings.{IsDeeper, RaisesInRun, settings_of};
+ghost use Rattle.rhai_reading.specs.Reading.{Goal, NextOperator};
+ghost use Rattle.rhai_reading.specs.Running.{Gives, Progress, asked, exec, guarded};
 ghost use Rattle.rhai_parser.specs.Frames.{context_of, live_of};
 ghost use Rattle.rhai_parser.specs.Readers.{Covers, GoesOn, Reads, binary_op, state_of};
-ghost use Rattle.rhai_parser.specs.Rooms.{Stays, Steady};
-ghost use Rattle.rhai_parser.specs.Runs.{right_side, run_at, side_view};
+ghost use Rattle.rhai_parser.specs.Rooms.{Stays};
+ghost use Rattle.rhai_parser.specs.Runs.{NextIs, in_run, right_side, side_view};
 
 use crate::expr::asks::next_operator;
 use crate::lent::LentReaders;
@@ -26,9 +25,9 @@ use crate::shared::Shared;
 use rhai_base::cursor::take;
 use rhai_base::leaves::operators::Operator;
 use rhai_base::leaves::tokens::place_after;
-use rhai_base::{Frame, ParseSettings};
-use rhai_grammar::{ExprFilter, ParseResult};
-use rhai_lower::{Position, Token};
+use rhai_base::{Frame, ParseSettings, RunSettings};
+use rhai_grammar::ParseResult;
+use rhai_lower::{Position, StringsInterner, Token};
 use rhai_trees::{Chain, make_binary};
 use std::alloc::Global;
 
@@ -37,10 +36,10 @@ use std::alloc::Global;
 pub(crate) struct Run {
     /// What is read, the left operand of the operator that may follow.
     pub lhs: Chain,
-    /// The strength of the operator on whose right the run stands.
-    pub parent: u8,
     /// The settings of the operators that follow. A raise of their level is refused where these stand.
     pub settings: ParseSettings,
+    /// The strength of the operator on whose right the run stands.
+    pub parent: u8,
 }
 
 /// An operator whose right side is being read.
@@ -54,110 +53,144 @@ pub(crate) struct Pending {
     pub pos: Position,
 }
 
+/// An operator and the operand after it.
+#[derive(Drop)]
+pub(crate) struct Side {
+    /// The operator.
+    pub op_token: Token,
+    /// Its position.
+    pub pos: Position,
+    /// The operand.
+    pub rhs: Chain,
+    /// The settings of the run on the right of the operator, and of the operators that follow it.
+    pub deeper: RunSettings,
+    /// The operator that comes next, if there is one; its token stays.
+    pub next: Option<Operator>,
+}
+
+impl Side {
+    // The operator in this run, which its left operand begins; and the run that its right one begins, on the right of
+    // an operator of this strength.
+    #[inline(always)]
+    fn after(self, run: Run, strength: u8) -> (Pending, Run)
+        ensures operator { (result.0.op_token ≡ self.op_token) × (result.0.pos ≡ self.pos) }
+        ensures around { (result.0.around.lhs ≡ run.lhs) × (result.0.around.parent ≡ run.parent)
+            × (result.0.around.settings ≡ self.deeper.next) }
+        ensures side { (result.1.lhs ≡ self.rhs) × (result.1.parent ≡ strength) }
+        ensures settings { settings_of result.1.settings ≡ settings_of self.deeper.side }
+        ensures position { result.1.settings.pos ≡ position_of (chain_view self.rhs) }
+    {
+        let around = Run {
+            settings: self.deeper.next,
+            ..run
+        };
+        let side = Run {
+            settings: self.deeper.side.at(self.rhs.position()),
+            parent: strength,
+            lhs: self.rhs,
+        };
+        let outer = Pending {
+            around,
+            op_token: self.op_token,
+            pos: self.pos,
+        };
+        (outer, side)
+    }
+}
+
+// The node of an operator and its operands, whose chains end here.
+#[inline(always)]
+#[tactic(auto, using(rhai_trees::proofs::LinkedLemmas::operator_value))]
+fn join_operands(
+    alloc: Global,
+    interner: &mut StringsInterner,
+    op_token: Token,
+    pos: Position,
+    lhs: Chain,
+    rhs: Chain,
+) -> ParseResult<Chain>
+    ensures answers { Answers chain_view (operator_result (lexeme op_token) pos (chain_view lhs) (chain_view rhs))
+        result }
+    ensures nowhere { IfErr result MemoryIsNowhere }
+{
+    let lhs = lhs.nest(alloc)?;
+    let rhs = rhs.nest(alloc)?;
+    let tree = make_binary(alloc, interner, op_token, pos, lhs, rhs)?;
+    Ok(Chain::from_value(alloc, tree))
+}
+
 impl Pending {
     // Joins the operands, of which the right one is read now. The result is the run that the operator stands in.
-    #[tactic(auto, using(rhai_trees::proofs::LinkedLemmas::operator_value))]
-    fn join(self, alloc: Global, rhs: Chain) -> ParseResult<Run>
+    #[inline(always)]
+    fn join(self, alloc: Global, interner: &mut StringsInterner, rhs: Chain) -> ParseResult<Run>
         ensures answers { Answers (λ r. chain_view r.lhs) (operator_result (lexeme self.op_token) self.pos
             (chain_view self.around.lhs) (chain_view rhs)) result }
         ensures rest { IfOk result (λ r. (r.parent ≡ self.around.parent) × (r.settings ≡ self.around.settings)) }
         ensures nowhere { IfErr result MemoryIsNowhere }
     {
-        let around = self.around;
-        let lhs = around.lhs.nest(alloc)?;
-        let rhs = rhs.nest(alloc)?;
-        let tree = make_binary(alloc, self.op_token, self.pos, lhs, rhs)?;
-        let lhs = Chain::from_value(alloc, tree);
+        let Pending {
+            around,
+            op_token,
+            pos,
+        } = self;
+        let lhs = join_operands(alloc, interner, op_token, pos, around.lhs, rhs)?;
         Ok(Run { lhs, ..around })
     }
 }
 
-/// The operator that comes next, if it goes on with a run on the right of one of strength `parent`; its token stays.
-#[tactic(auto, using(crate::proofs::ExprReaders::next_in_run))]
-pub(crate) fn next_in_run(
-    alloc: Global,
-    filter: ExprFilter,
-    shared: &mut Shared<'_>,
-    parent: u8,
-) -> ParseResult<Option<Operator>>
-    ensures goes_on { GoesOn shared.old shared.new }
-    ensures steady { Steady shared.old shared.new }
-    ensures after { state_of shared.new ≡ looking (state_of shared.old) }
-    ensures some { IfOk result (λ o. IsSome o → is_end (asked (state_of shared.old)).lexeme ≡ false) }
-    ensures readable { OnOk result (is_memory (asked (state_of shared.old)).lexeme ≡ false) }
-    ensures found { (c : Context) (w : Live) (at : Position) (lhs : Node) → c.filter ≡ filter → IfOk result (λ o.
-        result_of (BinaryOp c w at parent lhs) (state_of shared.old)
-        ≡ exec (guarded (BinaryOp c w at parent lhs) (state_of shared.old)) (run_at c w at parent lhs o)
-        (state_of shared.new)) }
-    ensures refused { (c : Context) (w : Live) (at : Position) (lhs : Node) → c.filter ≡ filter
-        → IfErr result (λ e.
-        Fails (result_of (BinaryOp c w at parent lhs) (state_of shared.old)) e (state_of shared.new)) }
+// The operator that comes next, if it goes on with a run on the right of one of strength `parent`.
+fn in_run(next: Option<Operator>, parent: u8) -> Option<Operator>
+    ensures { result ≡ in_run parent next }
 {
-    let Some(operator) = next_operator(alloc, filter, shared)? else {
-        return Ok(None);
-    };
-    if operator.continues(parent) {
-        Ok(Some(operator))
-    } else {
-        Ok(None)
+    match next {
+        Some(operator) if operator.continues(parent) => Some(operator),
+        _ => None,
     }
 }
 
 impl<R: LentReaders> Reader<'_, R> {
-    /// Reads the operator that comes next, which the caller has seen, and the operand after it, which begins a run on
-    /// its right. A reserved symbol after the operand is refused before the level is raised.
+    /// Reads the operator that comes next, which the caller has seen, and the operand after it, in a run with these
+    /// settings. A reserved symbol after the operand is refused before the level is raised.
     #[tactic(auto, using(crate::proofs::ExprReaders::parse_operator))]
     fn parse_operator(
         &self,
         shared: &mut Shared<'_>,
         frame: &Frame<'_>,
-        run: Run,
-        strength: u8,
-    ) -> ParseResult<(Pending, Run)>
+        settings: ParseSettings,
+    ) -> ParseResult<Side>
         requires readable { is_memory (asked (state_of shared.old)).lexeme ≡ false }
         requires more { is_end (asked (state_of shared.old)).lexeme ≡ false }
         requires lent { Covers (R.lent self.now.readers) (NextOperator frame.now.filter) shared.old }
         ensures goes_on { GoesOn shared.old shared.new }
         ensures shorter { OnOk result (left (state_of shared.new).cursor.tokens + 1
             ≤ left (state_of shared.old).cursor.tokens) }
-        ensures stays { Stays self.now.engine.now frame.now run.settings 5 shared.old shared.new }
-        ensures around { IfOk result (λ r. (r.0.around.lhs ≡ run.lhs) × (r.0.around.parent ≡ run.parent)
-            × IsDeeper run.settings r.0.around.settings × Raises run.settings r.0.pos (Ok r.0.around.settings)) }
-        ensures side { IfOk result (λ r. (r.1.parent ≡ strength)
-            × IsDeeper run.settings r.1.settings
-            × Raises run.settings (position_of (chain_view r.1.lhs)) (Ok r.1.settings)) }
+        ensures stays { Stays self.now.engine.now frame.now settings 5 shared.old shared.new }
+        ensures raises { IfOk result (λ r. RaisesInRun settings r.pos (Ok r.deeper)) }
+        ensures deeper { IfOk result (λ r. IsDeeper settings r.deeper.side × IsDeeper settings r.deeper.next) }
+        ensures next { IfOk result (λ r. NextIs frame.now.filter r.next (state_of shared.new)) }
+        ensures readable { OnOk result (is_memory (asked (state_of shared.new)).lexeme ≡ false) }
+        ensures more { IfOk result (λ r. IsSome r.next → is_end (asked (state_of shared.new)).lexeme ≡ false) }
         ensures reads { (g : Goal) (s : Progress)
             → left (state_of shared.old).cursor.tokens ≤ left s.cursor.tokens
             → Gives side_view (exec (guarded g s) (right_side
-            (context_of self.now.engine.now frame.now run.settings) (live_of frame.now) run.settings.pos)
+            (context_of self.now.engine.now frame.now settings) (live_of frame.now) settings.pos)
             (state_of shared.old)) result (state_of shared.new) }
     {
-        let settings = run.settings;
         let (op_token, pos) = take(shared.input);
         let place = place_after(&op_token);
-        let lhs = nested!(
+        let rhs = nested!(
             shared,
             self.parse_right_operand(shared, frame, settings, place)
         )?;
-        next_operator(self.engine.alloc(), frame.filter(), shared)?;
+        let next = next_operator(self.engine.alloc(), frame.filter(), shared)?;
         let deeper = settings.level_up_in_run(pos)?;
-        let side = Run {
-            settings: deeper.side.at(lhs.position()),
-            parent: strength,
-            lhs,
-        };
-        let around = Run {
-            settings: deeper.next,
-            ..run
-        };
-        Ok((
-            Pending {
-                around,
-                op_token,
-                pos,
-            },
-            side,
-        ))
+        Ok(Side {
+            op_token,
+            pos,
+            rhs,
+            deeper,
+            next,
+        })
     }
 
     /// Reads the operators and operands after `lhs` that go on with a run on the right of an operator of strength
@@ -178,18 +211,18 @@ impl<R: LentReaders> Reader<'_, R> {
         ensures reads { Reads (binary_op self.now.engine.now frame.now settings (position_of (chain_view lhs)) parent
             (chain_view lhs)) chain_view shared.old result shared.new }
     {
-        let operator = next_in_run(self.engine.alloc(), frame.filter(), shared, parent)?;
-        if operator.is_none() {
+        let next = next_operator(self.engine.alloc(), frame.filter(), shared)?;
+        if in_run(next, parent).is_none() {
             return Ok(lhs);
         }
-        self.parse_run(shared, frame, settings, parent, lhs)
+        self.parse_run(shared, frame, settings, parent, lhs, next)
     }
 
-    // The same, where there is such an operator. It is apart, since a function clears all the places that it has when
-    // it begins, and most operands have no operator after them. A raise of the level is refused at `lhs`, and from the
+    // The same, where there is such an operator, `next`. It is apart, since a function clears all its places when it
+    // begins, and most operands have no operator after them. A raise of the level is refused at `lhs`, and from the
     // first operator on at the one before.
     #[inline(never)]
-    #[tactic(auto, using(crate::proofs::ExprReaders::parse_binary_op))]
+    #[tactic(auto, using(crate::proofs::ExprReaders::parse_run))]
     fn parse_run(
         &self,
         shared: &mut Shared<'_>,
@@ -197,7 +230,11 @@ impl<R: LentReaders> Reader<'_, R> {
         settings: ParseSettings,
         parent: u8,
         lhs: Chain,
+        next: Option<Operator>,
     ) -> ParseResult<Chain>
+        requires next { NextIs frame.now.filter next (state_of shared.old) }
+        requires readable { is_memory (asked (state_of shared.old)).lexeme ≡ false }
+        requires more { IsSome next → is_end (asked (state_of shared.old)).lexeme ≡ false }
         requires lent { Covers (R.lent self.now.readers) (binary_op self.now.engine.now frame.now settings
             (position_of (chain_view lhs)) parent (chain_view lhs)) shared.old }
         ensures goes_on { GoesOn shared.old shared.new }
@@ -206,6 +243,7 @@ impl<R: LentReaders> Reader<'_, R> {
             (chain_view lhs)) chain_view shared.old result shared.new }
     {
         let alloc = self.engine.alloc();
+        let mut next = next;
         let mut run = Run {
             settings: settings.at(lhs.position()),
             parent,
@@ -213,16 +251,21 @@ impl<R: LentReaders> Reader<'_, R> {
         };
         let mut pending = Vec::new(alloc);
         loop {
-            let operator = next_in_run(alloc, frame.filter(), shared, run.parent)?;
-            if let Some(operator) = operator {
-                let (outer, side) = self.parse_operator(shared, frame, run, operator.strength)?;
-                pending.push(outer)?;
-                run = side;
+            if let Some(operator) = in_run(next, run.parent) {
+                let side = self.parse_operator(shared, frame, run.settings)?;
+                next = side.next;
+                let (outer, side) = side.after(run, operator.strength);
+                if in_run(next, side.parent).is_some() {
+                    pending.push(outer)?;
+                    run = side;
+                } else {
+                    run = outer.join(alloc, &mut shared.interner, side.lhs)?;
+                }
             } else {
                 let Some(outer) = pending.pop() else {
                     return Ok(run.lhs);
                 };
-                run = outer.join(alloc, run.lhs)?;
+                run = outer.join(alloc, &mut shared.interner, run.lhs)?;
             }
         }
     }

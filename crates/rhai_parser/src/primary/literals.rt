@@ -119,13 +119,7 @@ impl<R: LentReaders> Reader<'_, R> {
             let statements = nested!(shared, self.parse_block_inside(shared, frame, deeper))?;
             let part = next_text(self.engine.alloc(), shared)?;
             let block = make_block(statements, start, part.end);
-            push_segment(
-                self.engine.alloc(),
-                &mut segments,
-                block,
-                part.text,
-                part.pos,
-            )?;
+            push_segment(&mut segments, block, part.text, part.pos)?;
             if part.last {
                 return Ok(segments);
             }

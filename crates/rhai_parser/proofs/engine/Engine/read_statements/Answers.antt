@@ -18,10 +18,10 @@ returns-clause-reads c =
     let left = c.parse_statements-statements.new.shared in
     let view = with_live statements_of c.parse_statements-statements.new.frame in
     let from : List Use → Progress = λ us. record { cursor = cursor_of c.args.input.now; library = library_of c.args.library.now; captured = us; nesting = nesting_of c.args.counts.now } in
-    let none : uses_of c.new-captured.result ≡ [] = ap uses_of c.new-captured.ensures in
+    let none : uses_of c.new.result ≡ [] = ap uses_of c.new.ensures in
     let new = subst (λ us. Gives view (result_of (Script (context_of c.args.self.now c.args.frame c.args.settings) c.args.frame.live) (from us)) c.parse_statements-statements.result (state_of left)) none c.parse_statements-statements.ensures.reads in (
       c.parse_statements-statements.new.frame.live,
-      uses_of left.captured.now,
+      uses_of left.captured,
       search rules,
       search rules,
       search (rules, new),
@@ -36,5 +36,5 @@ pub returns-clause-returns : goal.returns-clause-returns
 returns-clause-returns c =
     let left = c.parse_statements-statements.new.shared in
     returns_read (with_live statements_of c.parse_statements-statements.new.frame) (context_of c.args.self.now c.args.frame c.args.settings) c.args.frame.live
-    (record { cursor = cursor_of c.args.input.now; library = library_of c.args.library.now; captured = uses_of c.new-captured.result; nesting = nesting_of c.args.counts.now }) (state_of left)
+    (record { cursor = cursor_of c.args.input.now; library = library_of c.args.library.now; captured = uses_of c.new.result; nesting = nesting_of c.args.counts.now }) (state_of left)
     (counts_of c.args.counts.now) (counts_of left.counts) c.parse_statements-statements.result refl refl c.parse_statements-statements.ensures.reads

@@ -1,19 +1,24 @@
-use Rattle.std.proofs.Common.{◌≡◌, ◌+◌, ◌*◌, ◌≤◌, length}
+use Rattle.std.proofs.Common.{◌≡◌, ◌+◌, ◌*◌, ◌≤◌, IsSome, false, length}
 use Rattle.rhai_base.specs.Settings.{levels_left}
 use Rattle.rhai_lower.specs.Nodes.{position_of}
 use Rattle.rhai_trees.specs.Chains.{chain_view}
 use Rattle.rhai_grammar.specs.Cursors.{left}
-use Rattle.rhai_reading.specs.Running.{result_of}
+use Rattle.rhai_grammar.specs.Delivered.{is_end, is_memory}
+use Rattle.rhai_reading.specs.Running.{asked, result_of}
 use Rattle.rhai_parser.specs.Readers.{GoesOn, binary_op, state_of}
 use Rattle.rhai_parser.specs.Rooms.{Stays}
+use Rattle.rhai_parser.specs.Runs.{NextIs}
 use Rattle.rhai_parser.proofs.RunLemmas.{Awaits}
 use Rattle.rhai_parser.proofs.reader.Reader.parse_run.Given as goal
 
-abbrev pub invariant-loop-pending : goal.invariant-loop-pending
-invariant-loop-pending g l = record {
+abbrev pub invariant-loop-operator : goal.invariant-loop-operator
+invariant-loop-operator g l = record {
   awaits : Awaits l.self.engine.now l.frame l.fn.settings (left (state_of l.shared).cursor.tokens) l.pending.items
       (result_of (binary_op l.fn.self.engine.now l.fn.frame l.fn.settings (position_of (chain_view l.fn.lhs)) l.fn.parent (chain_view l.fn.lhs)) (state_of l.fn.shared))
       (result_of (binary_op l.self.engine.now l.frame l.run.settings l.run.settings.pos l.run.parent (chain_view l.run.lhs)) (state_of l.shared));
+  next : NextIs l.frame.filter l.next (state_of l.shared);
+  readable : is_memory (asked (state_of l.shared)).lexeme ≡ false;
+  more : IsSome l.next → is_end (asked (state_of l.shared)).lexeme ≡ false;
   goes_on : GoesOn l.fn.shared l.shared;
   stays : Stays l.self.engine.now l.frame l.fn.settings 5 l.fn.shared l.shared;
   limit : l.run.settings.max_expr_depth ≡ l.fn.settings.max_expr_depth;
@@ -21,5 +26,5 @@ invariant-loop-pending g l = record {
 }
 
 -- An operator that is taken leaves a token less, and waits; where one that waits is joined, one waits no more.
-abbrev pub decreases-loop-pending : goal.decreases-loop-pending
-decreases-loop-pending g l = 2 * left (state_of l.shared).cursor.tokens + length l.pending.items
+abbrev pub decreases-loop-operator : goal.decreases-loop-operator
+decreases-loop-operator g l = 2 * left (state_of l.shared).cursor.tokens + length l.pending.items
