@@ -65,6 +65,21 @@ where
         (self.chain)(engine, shared, frame, settings)
     }
 
+    // As by default; but what is inherited is not inlined.
+    #[inline(always)]
+    fn parse_expr(
+        &self,
+        engine: &Engine,
+        shared: &mut Shared<'_>,
+        frame: &Frame<'_>,
+        settings: ParseSettings,
+    ) -> ParseResult<Expr> {
+        match self.parse_chain(engine, shared, frame, settings) {
+            Ok(chain) => Ok(chain.nest(engine.alloc())?),
+            Err(error) => Err(error),
+        }
+    }
+
     fn parse_stmt(
         &self,
         engine: &Engine,
