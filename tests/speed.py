@@ -93,7 +93,9 @@ def instructions(program, call, path, folder):
     table = subprocess.run(
         ["callgrind_annotate", "--inclusive=yes", "--threshold=100", counts], capture_output=True, text=True
     ).stdout
-    row = next((row for row in table.splitlines() if call in row and "[" in row), None)
+    # Calls of a function inside itself have a row of their own, with a mark after its name.
+    rows = (row for row in table.splitlines() if call in row and "[" in row and "'" not in row)
+    row = next(rows, None)
     return int(row.split()[0].replace(",", "")) if row else sys.exit(f"{program} has no function {call}")
 
 
