@@ -9,5 +9,6 @@ abbrev pub ends_operand : Lexeme → Bool
 ends_operand l = not (calls l) && not (qualifies l) && not (is_link (linking l))
 
 -- It ends before an operator, and not before a bracket or what calls a name.
-example : (ends_operand (Sign Plus) ≡ true) × (ends_operand (Sign LeftBracket) ≡ false) × (ends_operand (Sign Bang) ≡ false)
+example : (ends_operand (Sign Plus) ≡ true) × (ends_operand (Sign LeftBracket) ≡ false)
+    × (ends_operand (Sign Bang) ≡ false)
 example = (refl, refl, refl)

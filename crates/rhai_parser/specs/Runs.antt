@@ -6,7 +6,8 @@ use Rattle.rhai_lower.specs.declared.position.Position.{Position}
 use Rattle.rhai_trees.specs.Chains.{chain_view}
 use Rattle.rhai_grammar.specs.Contexts.{Context, Live}
 use Rattle.rhai_grammar.specs.Starts.{place_after}
-use Rattle.rhai_reading.specs.Reading.{BinaryOp, Call, NextOperator, Peek, Prog, Ret, RightOperand, Take, binary_on, raised}
+use Rattle.rhai_reading.specs.Reading.{BinaryOp, Call, NextOperator, Peek, Prog, Ret, RightOperand, Take}
+use Rattle.rhai_reading.specs.Reading.{binary_on, raised}
 use Rattle.rhai_reading.specs.Running.{Progress, exec, guarded, result_of}
 use Rattle.rhai_grammar.specs.declared.filter.ExprFilter.{ExprFilter}
 use Rattle.rhai_base.specs.Operators.{continues}
