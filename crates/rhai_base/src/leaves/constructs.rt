@@ -11,7 +11,8 @@ ghost use Rattle.rhai_grammar.specs.Cursors.{asked, cursor_of, left, looking};
 ghost use Rattle.rhai_grammar.specs.Delivered.{is_end, is_memory};
 ghost use Rattle.rhai_grammar.specs.DueTokens.{is_due};
 ghost use Rattle.rhai_grammar.specs.declared.due.DueToken.TheVariants.{Equals, LeftBrace};
-ghost use Rattle.rhai_base.specs.Constructs.{EndsDo};
+ghost use Rattle.rhai_reading.specs.Reading.{DoEnd};
+ghost use Rattle.rhai_base.specs.Leaves.{GivesAt};
 
 use crate::cursor::{peek, skip};
 use crate::leaves::due::is_due;
@@ -91,9 +92,9 @@ fn do_end(token: &Token) -> Option<bool>
 ///
 /// If another token is there, the error is `MissingToken` at that token, or the error of the tokenizer that it is; if
 /// memory runs out, `OutOfMemory`.
+#[tactic(auto, using(rhai_reading::proofs::Steps::step_do_end))]
 pub fn end_do(alloc: Global, input: &mut TokenStream) -> ParseResult<bool>
-    ensures ends { EndsDo (cursor_of input.old) result (cursor_of input.new) }
-    ensures nowhere { IfErr result MemoryIsNowhere }
+    ensures gives { GivesAt DoEnd (λ negated. negated) (cursor_of input.old) result (cursor_of input.new) }
     ensures shorter { left (cursor_of input.new).tokens ≤ left (cursor_of input.old).tokens }
     ensures shrinks { OnOk result (left (cursor_of input.new).tokens + 1 ≤ left (cursor_of input.old).tokens) }
 {
