@@ -1,5 +1,10 @@
 -- What leaves promise, in the words of the reading program.
 use Rattle.std.specs.Prelude.{List, Result}
+use Rattle.std.specs.Rc.{rc_str_bytes}
+use Rattle.std.specs.declared.alloc.Global.{Global}
+use Rattle.std.specs.declared.rc.RcStr.{RcStr}
+use Rattle.rhai_lower.specs.Texts.{Text}
+use Rattle.rhai_lower.specs.declared.position.Position.{Position}
 use Rattle.rhai_grammar.specs.Cursors.{Cursor}
 use Rattle.rhai_grammar.specs.Libraries.{Library}
 use Rattle.rhai_grammar.specs.Uses.{Use}
@@ -14,3 +19,7 @@ abbrev pub GivesAt : {X : Type 0} (g : Goal) → (X → Val g) → Cursor → Re
 GivesAt g view s result t = (library : Library) (captured : List Use) (nesting : Nesting)
     → Gives view (result_of g (record { cursor = s; library = library; captured = captured; nesting = nesting })) result
     (record { cursor = t; library = library; captured = captured; nesting = nesting })
+
+-- a name and its position
+abbrev pub name_view : RcStr Global × Position → Text × Position
+name_view n = (rc_str_bytes n.0, n.1)

@@ -10,13 +10,13 @@ ghost use Rattle.rhai_parser.specs.Rooms.{Stays};
 
 use crate::blocks::begin_block;
 use crate::construct::control::{
-    catch_frame, end_guard, end_iterated, loop_frame, next_catch, next_do_end, next_loop_names,
+    catch_frame, end_guard, end_iterated, loop_frame, next_catch, next_loop_names,
 };
 use crate::lent::LentReaders;
 use crate::reader::Reader;
 use crate::shared::Shared;
 use rhai_base::cursor::peek;
-use rhai_base::leaves::constructs::guard_begins;
+use rhai_base::leaves::constructs::{end_do, guard_begins};
 use rhai_base::leaves::due::pass_token;
 use rhai_base::{Frame, ParseSettings};
 use rhai_grammar::{Construct, DueToken, ParseResult};
@@ -244,7 +244,7 @@ impl<R: LentReaders> Reader<'_, R> {
             shared,
             self.parse_braces(shared, frame, settings.loop_body())
         )?;
-        let negated = next_do_end(self.engine.alloc(), shared)?;
+        let negated = end_do(self.engine.alloc(), shared.input)?;
         let guard = nested!(shared, self.parse_guard(shared, frame, settings))?;
         Ok(make_do(self.engine.alloc(), guard, body, negated, settings.pos)?)
     }

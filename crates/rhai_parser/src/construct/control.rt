@@ -1,14 +1,13 @@
 //! Leaves joined for constructs, as the reading program asks. They are the names of `for` and of `catch`, the end of
 //! `do`, and the frames that hold such names; and the ends of guards and of what `for` goes over.
 
-ghost use Rattle.std.specs.Prelude.{◌≡◌, ◌+◌, ◌≤◌, IfOk, OnOk, option_map};
+ghost use Rattle.std.specs.Prelude.{◌≡◌, IfOk, option_map};
 ghost use Rattle.std.specs.Rc.{rc_str_bytes};
 ghost use Rattle.rhai_lower.specs.View.{view};
 ghost use Rattle.rhai_grammar.specs.Constructs.{guard_fault, iterated_fault};
-ghost use Rattle.rhai_grammar.specs.Cursors.{left};
 ghost use Rattle.rhai_grammar.specs.Definitions.{catch_live, loop_live};
 ghost use Rattle.rhai_grammar.specs.Trees.{caught_name};
-ghost use Rattle.rhai_reading.specs.Reading.{Catch, DoEnd, counted_on, first_of_two, guard_on, match_name, tested};
+ghost use Rattle.rhai_reading.specs.Reading.{Catch, counted_on, first_of_two, guard_on, match_name, tested};
 ghost use Rattle.rhai_reading.specs.Running.{Caller, Gives, Progress, exec};
 ghost use Rattle.rhai_parser.specs.Loops.{loop_names, loop_view};
 ghost use Rattle.rhai_parser.specs.Readers.{GoesOn, Reads, name_view, state_of};
@@ -16,7 +15,7 @@ ghost use Rattle.rhai_parser.specs.Rooms.{Steady};
 
 use crate::shared::Shared;
 use rhai_base::Frame;
-use rhai_base::leaves::constructs::{end_do, guard_ends, test_counter};
+use rhai_base::leaves::constructs::{guard_ends, test_counter};
 use rhai_base::leaves::due::{match_token, pass_token};
 use rhai_base::leaves::statements::parse_var_name;
 use rhai_grammar::{DueToken, ParseResult};
@@ -89,18 +88,6 @@ pub(crate) fn next_loop_names(alloc: Global, shared: &mut Shared<'_>) -> ParseRe
         name,
         counter: None,
     })
-}
-
-/// The end of a `do`: whether it is `until`, which negates the guard.
-#[tactic(auto, using(rhai_reading::proofs::Steps::step_do_end))]
-pub(crate) fn next_do_end(alloc: Global, shared: &mut Shared<'_>) -> ParseResult<bool>
-    ensures goes_on { GoesOn shared.old shared.new }
-    ensures steady { Steady shared.old shared.new }
-    ensures reads { Reads DoEnd (λ negated. negated) shared.old result shared.new }
-    ensures shrinks { OnOk result (left (state_of shared.new).cursor.tokens + 1
-        ≤ left (state_of shared.old).cursor.tokens) }
-{
-    end_do(alloc, shared.input)
 }
 
 /// The `catch` of a `try`, with its variable, if it has one; all are taken.
