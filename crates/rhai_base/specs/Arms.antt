@@ -1,6 +1,5 @@
 -- Where an arm of a `switch` begins, as the code takes it.
 use Rattle.std.specs.Prelude.{◌≡◌, Bool, true, false, Result, Ok, Err, codes}
-use Rattle.rhai_lower.specs.declared.position.Position.{Position}
 use Rattle.rhai_grammar.specs.Beginnings.{missing}
 use Rattle.rhai_grammar.specs.Causes.{is_for_memory, refusal, refusal_of}
 use Rattle.rhai_grammar.specs.Cursors.{Cursor, asked, looking, taking}

@@ -11,7 +11,6 @@ pub mod MapKeys
 pub mod PrimaryViews
 pub mod Operands
 pub mod PlainPrimaries
-pub mod Loops
 pub mod Switches
 pub mod RareStatements
 pub mod Starts

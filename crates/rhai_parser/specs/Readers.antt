@@ -31,6 +31,7 @@ use Rattle.rhai_base.specs.Comments.{comments_of}
 use Rattle.rhai_base.specs.Counts.{counts_of}
 use Rattle.rhai_base.specs.declared.counts.ParseCounts.{ParseCounts}
 use Rattle.rhai_base.specs.Frames.{FrameValue}
+pub use Rattle.rhai_base.specs.Leaves.{name_view}
 use Rattle.rhai_base.specs.Libraries.{Grows, ended, library_of}
 use Rattle.rhai_base.specs.Uses.{uses_of}
 use Rattle.rhai_base.specs.declared.settings.ParseSettings.{ParseSettings}
@@ -238,10 +239,6 @@ properties_of ps = property_views ps.items
 
 abbrev pub statements_of : Vec Stmt Global → Statements
 statements_of ss = statement_views ss.items
-
--- a name and its position
-abbrev pub name_view : RcStr Global × Position → Text × Position
-name_view n = (rc_str_bytes n.0, n.1)
 
 -- the names of the parameters of a function
 abbrev pub names_of : Vec (RcStr Global) Global → List Text
