@@ -1,5 +1,5 @@
 -- What leaves promise, in the words of the reading program.
-use Rattle.std.specs.Prelude.{List, Result}
+use Rattle.std.specs.Prelude.{List, Option, Result, option_map}
 use Rattle.std.specs.Rc.{rc_str_bytes}
 use Rattle.std.specs.declared.alloc.Global.{Global}
 use Rattle.std.specs.declared.rc.RcStr.{RcStr}
@@ -23,3 +23,7 @@ GivesAt g view s result t = (library : Library) (captured : List Use) (nesting :
 -- a name and its position
 abbrev pub name_view : RcStr Global × Position → Text × Position
 name_view n = (rc_str_bytes n.0, n.1)
+
+-- the name of a function, with the type of its objects, if it has one
+abbrev pub head_view : Option (RcStr Global) × RcStr Global → Option Text × Text
+head_view head = (option_map rc_str_bytes head.0, rc_str_bytes head.1)
