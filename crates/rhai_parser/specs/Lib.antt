@@ -8,7 +8,6 @@ pub mod Runs
 pub mod ExprViews
 pub mod Closures
 pub mod MapKeys
-pub mod PrimaryViews
 pub mod Operands
 pub mod PlainPrimaries
 pub mod Switches

@@ -31,7 +31,7 @@ use Rattle.rhai_base.specs.Comments.{comments_of}
 use Rattle.rhai_base.specs.Counts.{counts_of}
 use Rattle.rhai_base.specs.declared.counts.ParseCounts.{ParseCounts}
 use Rattle.rhai_base.specs.Frames.{FrameValue}
-pub use Rattle.rhai_base.specs.Leaves.{name_view}
+pub use Rattle.rhai_base.specs.Leaves.{head_view, name_view}
 use Rattle.rhai_base.specs.Libraries.{Grows, ended, library_of}
 use Rattle.rhai_base.specs.Uses.{uses_of}
 use Rattle.rhai_base.specs.declared.settings.ParseSettings.{ParseSettings}
@@ -247,10 +247,6 @@ names_of names = map rc_str_bytes names.items
 -- doc comments
 abbrev pub comments_view : Vec (RcStr Global × Position) Global → List Comment
 comments_view comments = comments_of comments.items
-
--- the name of a function, with the type of its objects, if it has one
-abbrev pub head_view : Option (RcStr Global) × RcStr Global → Option Text × Text
-head_view head = (option_map rc_str_bytes head.0, rc_str_bytes head.1)
 
 -- a function that has ended, with its key
 abbrev pub ended_view : FnKey × Rc ScriptFuncDef Global → Ended
