@@ -165,10 +165,7 @@ pub fn next_loop_names(alloc: Global, input: &mut TokenStream) -> ParseResult<Lo
 
 /// The `catch` of a `try`, with its variable, if it has one; all are taken.
 #[tactic(auto, using(rhai_reading::proofs::Steps::step_catch))]
-pub fn next_catch(
-    alloc: Global,
-    input: &mut TokenStream,
-) -> ParseResult<Option<(RcStr, Position)>>
+pub fn next_catch(alloc: Global, input: &mut TokenStream) -> ParseResult<Option<(RcStr, Position)>>
     ensures gives { GivesAt Catch (option_map name_view) (cursor_of input.old) result (cursor_of input.new) }
     ensures shorter { left (cursor_of input.new).tokens ≤ left (cursor_of input.old).tokens }
 {

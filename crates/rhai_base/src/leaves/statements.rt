@@ -24,8 +24,8 @@ use crate::leaves::constructs::may_stand;
 use crate::leaves::due::pass_token;
 use crate::leaves::refusals::missing;
 use rhai_grammar::{
-    AfterStatement, Closing, Construct, DueToken, InputError, ParseError, ParseErrorType, ParseResult,
-    StatementPlace, StatementStart,
+    AfterStatement, Closing, Construct, DueToken, InputError, ParseError, ParseErrorType,
+    ParseResult, StatementPlace, StatementStart,
 };
 use rhai_lower::{Position, Token, TokenStream, is_valid_identifier};
 use std::alloc::{AllocError, Global};
