@@ -22,6 +22,7 @@ use crate::statement::{ends_itself, is_empty};
 use indexmap::IndexMap;
 use rhai_grammar::{ParseError, ParseErrorType, ParseResult};
 use rhai_lower::{BinaryExpr, Expr, Position, RangeCase, Stmt, SwitchCase, SwitchCasesCollection};
+use smallvec::SmallVec;
 use std::alloc::{AllocError, Global};
 use std::rc::RcStr;
 
@@ -184,7 +185,7 @@ fn push_new_value(
     ensures indexed { OnOk result (Places (get same_case places.new) (case_views cases.new.items)) }
 {
     add_place(places, key, cases.len())?;
-    let mut indices = Vec::new(alloc);
+    let mut indices = SmallVec::new(alloc);
     indices.push(index)?;
     cases.push(SwitchCase { value, indices })?;
     Ok(())
@@ -270,6 +271,7 @@ fn push_cases(
 }
 
 // Adds a guard with its action. The index of the arm.
+#[inline(always)]
 #[tactic(auto, using(crate::proofs::SwitchLemmas::arms))]
 fn push_action(
     arms: &mut SwitchCasesCollection,
