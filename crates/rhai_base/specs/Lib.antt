@@ -22,3 +22,4 @@ pub mod Shown
 pub mod Statements
 pub mod Strings
 pub mod Functions
+pub mod Leaves

@@ -3,6 +3,7 @@
 //! it knows settings or what is live.
 
 pub mod arms;
+pub mod blocks;
 pub mod constructs;
 pub mod due;
 pub mod functions;

@@ -11,7 +11,6 @@ pub mod PrimaryLemmas
 pub mod ClosureLemmas
 pub mod KeyLemmas
 pub mod PrimaryReaders
-pub mod TextLemmas
 pub mod ConstructReaders
 pub mod SwitchLemmas
 pub mod StmtReaders

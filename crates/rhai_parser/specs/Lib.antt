@@ -8,10 +8,8 @@ pub mod Runs
 pub mod ExprViews
 pub mod Closures
 pub mod MapKeys
-pub mod PrimaryViews
 pub mod Operands
 pub mod PlainPrimaries
-pub mod Loops
 pub mod Switches
 pub mod RareStatements
 pub mod Starts

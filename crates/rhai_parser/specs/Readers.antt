@@ -31,6 +31,7 @@ use Rattle.rhai_base.specs.Comments.{comments_of}
 use Rattle.rhai_base.specs.Counts.{counts_of}
 use Rattle.rhai_base.specs.declared.counts.ParseCounts.{ParseCounts}
 use Rattle.rhai_base.specs.Frames.{FrameValue}
+pub use Rattle.rhai_base.specs.Leaves.{head_view, name_view}
 use Rattle.rhai_base.specs.Libraries.{Grows, ended, library_of}
 use Rattle.rhai_base.specs.Uses.{uses_of}
 use Rattle.rhai_base.specs.declared.settings.ParseSettings.{ParseSettings}
@@ -239,10 +240,6 @@ properties_of ps = property_views ps.items
 abbrev pub statements_of : Vec Stmt Global → Statements
 statements_of ss = statement_views ss.items
 
--- a name and its position
-abbrev pub name_view : RcStr Global × Position → Text × Position
-name_view n = (rc_str_bytes n.0, n.1)
-
 -- the names of the parameters of a function
 abbrev pub names_of : Vec (RcStr Global) Global → List Text
 names_of names = map rc_str_bytes names.items
@@ -250,10 +247,6 @@ names_of names = map rc_str_bytes names.items
 -- doc comments
 abbrev pub comments_view : Vec (RcStr Global × Position) Global → List Comment
 comments_view comments = comments_of comments.items
-
--- the name of a function, with the type of its objects, if it has one
-abbrev pub head_view : Option (RcStr Global) × RcStr Global → Option Text × Text
-head_view head = (option_map rc_str_bytes head.0, rc_str_bytes head.1)
 
 -- a function that has ended, with its key
 abbrev pub ended_view : FnKey × Rc ScriptFuncDef Global → Ended

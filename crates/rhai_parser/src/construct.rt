@@ -8,15 +8,13 @@ ghost use Rattle.rhai_parser.specs.Readers.{Covers, GoesOn, Reads, braced, branc
 ghost use Rattle.rhai_parser.specs.Readers.{guard, iterated};
 ghost use Rattle.rhai_parser.specs.Rooms.{Stays};
 
-use crate::blocks::begin_block;
-use crate::construct::control::{
-    catch_frame, end_guard, end_iterated, loop_frame, next_catch, next_do_end, next_loop_names,
-};
+use crate::construct::control::{catch_frame, end_guard, end_iterated, loop_frame};
 use crate::lent::LentReaders;
 use crate::reader::Reader;
 use crate::shared::Shared;
 use rhai_base::cursor::peek;
-use rhai_base::leaves::constructs::guard_begins;
+use rhai_base::leaves::blocks::begin_block;
+use rhai_base::leaves::constructs::{end_do, guard_begins, next_catch, next_loop_names};
 use rhai_base::leaves::due::pass_token;
 use rhai_base::{Frame, ParseSettings};
 use rhai_grammar::{Construct, DueToken, ParseResult};
@@ -168,7 +166,7 @@ impl<R: LentReaders> Reader<'_, R> {
         ensures reads { Reads (braced self.now.engine.now frame.now settings) block_view shared.old result
             shared.new }
     {
-        let opening = begin_block(self.engine.alloc(), shared, "to begin this block")?;
+        let opening = begin_block(self.engine.alloc(), shared.input, "to begin this block")?;
         let deeper = settings.level_up_with_position(opening)?;
         nested!(shared, self.parse_block(shared, frame, deeper))
     }
@@ -244,7 +242,7 @@ impl<R: LentReaders> Reader<'_, R> {
             shared,
             self.parse_braces(shared, frame, settings.loop_body())
         )?;
-        let negated = next_do_end(self.engine.alloc(), shared)?;
+        let negated = end_do(self.engine.alloc(), shared.input)?;
         let guard = nested!(shared, self.parse_guard(shared, frame, settings))?;
         Ok(make_do(self.engine.alloc(), guard, body, negated, settings.pos)?)
     }
@@ -265,7 +263,7 @@ impl<R: LentReaders> Reader<'_, R> {
             result
             shared.new }
     {
-        let names = next_loop_names(self.engine.alloc(), shared)?;
+        let names = next_loop_names(self.engine.alloc(), shared.input)?;
         let over = nested!(shared, self.parse_iterated(shared, frame, settings))?;
         let inner = loop_frame(self.engine.alloc(), frame, &names)?;
         let body = nested!(
@@ -300,7 +298,7 @@ impl<R: LentReaders> Reader<'_, R> {
             shared.new }
     {
         let body = nested!(shared, self.parse_braces(shared, frame, settings))?;
-        let name = next_catch(self.engine.alloc(), shared)?;
+        let name = next_catch(self.engine.alloc(), shared.input)?;
         let inner = catch_frame(self.engine.alloc(), frame, &name)?;
         let handler = nested!(shared, self.parse_braces(shared, &inner, settings))?;
         Ok(make_try(self.engine.alloc(), body, name, handler, settings.pos)?)

@@ -20,7 +20,7 @@ ghost use Rattle.rhai_reading.specs.Reading.{Goal, fn_on, function_end, private_
 ghost use Rattle.rhai_reading.specs.Running.{Caller, Gives, Progress, asked, exec, guarded};
 ghost use Rattle.rhai_parser.specs.Rooms.{Ends, Stays, function_room};
 
-use crate::function::head::{next_comments, next_head, next_parameter_list};
+use crate::function::head::{next_comments, next_parameter_list};
 use crate::lent::LentReaders;
 use crate::parameters::declare_parameters;
 use crate::reader::Reader;
@@ -28,7 +28,7 @@ use crate::shared::Shared;
 use rhai_base::comments::kept_comments;
 use rhai_base::cursor::{peek, skip};
 use rhai_base::leaves::due::match_token;
-use rhai_base::leaves::functions::open_body;
+use rhai_base::leaves::functions::{next_head, open_body};
 use rhai_base::leaves::statements::{take_text, what_starts};
 use rhai_base::places::{test_comment, test_function};
 use rhai_base::{Frame, ParseSettings};
@@ -203,7 +203,7 @@ impl<R: LentReaders> Reader<'_, R> {
             ended_view shared.old result shared.new }
         ensures named { IfOk result (λ e. is_closure (key_of e.0) ≡ false) }
     {
-        let head = next_head(self.engine.alloc(), shared)?;
+        let head = next_head(self.engine.alloc(), shared.input)?;
         let names = next_parameter_list(self.engine.alloc(), shared, &head.1)?;
         let opening = open_body(shared.input, &head.1)?;
         let deeper = settings.level_up_with_position(opening)?;

@@ -23,11 +23,11 @@ use crate::lent::LentReaders;
 use crate::reader::Reader;
 use crate::shared::Shared;
 use crate::stmt::asks::{end_assignment, next_var_name, starts_expression};
-use crate::stmt::modules::{define_as, export_name, next_alias};
+use crate::stmt::modules::{define_as, export_name};
 use rhai_base::cursor::{peek, skip, take};
 use rhai_base::leaves::statements::{
-    assigns, has_value, list_ends, parse_var_name, statement_continues, what_is_exported,
-    what_starts,
+    assigns, has_value, list_ends, next_alias, parse_var_name, statement_continues,
+    what_is_exported, what_starts,
 };
 use rhai_base::places::{test_global, test_loop};
 use rhai_base::{Frame, ParseSettingFlags, ParseSettings};
@@ -214,7 +214,7 @@ impl<R: LentReaders> Reader<'_, R> {
         let source = self
             .readers
             .parse_expr(self.engine, shared, frame, settings)?;
-        let name = next_alias(shared)?;
+        let name = next_alias(shared.input)?;
         frame.import(self.engine.alloc(), &name)?;
         Ok(make_import(self.engine.alloc(), source, name, settings.pos)?)
     }
@@ -246,7 +246,7 @@ impl<R: LentReaders> Reader<'_, R> {
             );
         }
         let (name, _) = parse_var_name(shared.input)?;
-        let alias = next_alias(shared)?;
+        let alias = next_alias(shared.input)?;
         Ok(export_name(self.engine.alloc(), frame, name, alias, settings.pos)?)
     }
 

@@ -11,7 +11,9 @@ ghost use Rattle.rhai_grammar.specs.Demands.{Fine, Wrong};
 ghost use Rattle.rhai_grammar.specs.DueTokens.{is_due};
 ghost use Rattle.rhai_grammar.specs.Switches.{action_due, arm_place};
 ghost use Rattle.rhai_grammar.specs.declared.due.DueToken.TheVariants.{If};
-ghost use Rattle.rhai_base.specs.Arms.{BeginsArm, EndsArm, EndsDefault, is_case, is_nothing};
+ghost use Rattle.rhai_reading.specs.Reading.{ArmEnd, DefaultEnd};
+ghost use Rattle.rhai_base.specs.Arms.{BeginsArm, is_case, is_nothing};
+ghost use Rattle.rhai_base.specs.Leaves.{GivesAt};
 
 use crate::cursor::{peek, skip};
 use crate::leaves::due::is_due;
@@ -130,9 +132,9 @@ pub fn action_due(input: &mut TokenStream) -> ParseResult<()>
 ///
 /// Any other token is `MissingToken`, or the error of the tokenizer that it is; if memory runs out, the error is
 /// `OutOfMemory`.
+#[tactic(auto, using(rhai_reading::proofs::Steps::step_arm_end))]
 pub fn arm_continues(alloc: Global, input: &mut TokenStream, itself: bool) -> ParseResult<()>
-    ensures ends { EndsArm itself (cursor_of input.old) result (cursor_of input.new) }
-    ensures nowhere { IfErr result MemoryIsNowhere }
+    ensures gives { GivesAt (ArmEnd itself) (λ u. tt) (cursor_of input.old) result (cursor_of input.new) }
     ensures shorter { left (cursor_of input.new).tokens ≤ left (cursor_of input.old).tokens }
 {
     let (token, pos) = peek(input)?;
@@ -151,9 +153,9 @@ pub fn arm_continues(alloc: Global, input: &mut TokenStream, itself: bool) -> Pa
 ///
 /// At the end mark the error is `MissingToken`, and at any other token, which would begin one more arm, it is
 /// `WrongSwitchDefaultCase` at `default`; if memory runs out, it is `OutOfMemory`.
+#[tactic(auto, using(rhai_reading::proofs::Steps::step_default_end))]
 pub fn default_ends(alloc: Global, input: &mut TokenStream, default: Position) -> ParseResult<()>
-    ensures ends { EndsDefault default (cursor_of input.old) result (cursor_of input.new) }
-    ensures nowhere { IfErr result MemoryIsNowhere }
+    ensures gives { GivesAt (DefaultEnd default) (λ u. tt) (cursor_of input.old) result (cursor_of input.new) }
     ensures shorter { left (cursor_of input.new).tokens ≤ left (cursor_of input.old).tokens }
     ensures shrinks { OnOk result (left (cursor_of input.new).tokens + 1 ≤ left (cursor_of input.old).tokens) }
 {

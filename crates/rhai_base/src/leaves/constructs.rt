@@ -1,6 +1,6 @@
 //! Which constructs are statements; what begins and ends guards; ends of `do`. The variables of `for` are here too.
 
-ghost use Rattle.std.specs.Prelude.{◌≡◌, ◌+◌, ◌≤◌, IfErr, IfSome, OnOk, false, true};
+ghost use Rattle.std.specs.Prelude.{◌≡◌, ◌+◌, ◌≤◌, IfErr, IfSome, OnOk, false, option_map, true};
 ghost use Rattle.std.specs.Rc.{rc_str_bytes};
 ghost use Rattle.rhai_lower.specs.Lexemes.{lexeme};
 ghost use Rattle.rhai_lower.specs.Texts.{same_text};
@@ -11,11 +11,14 @@ ghost use Rattle.rhai_grammar.specs.Cursors.{asked, cursor_of, left, looking};
 ghost use Rattle.rhai_grammar.specs.Delivered.{is_end, is_memory};
 ghost use Rattle.rhai_grammar.specs.DueTokens.{is_due};
 ghost use Rattle.rhai_grammar.specs.declared.due.DueToken.TheVariants.{Equals, LeftBrace};
-ghost use Rattle.rhai_base.specs.Constructs.{EndsDo};
+ghost use Rattle.rhai_reading.specs.Reading.{Catch, DoEnd, LoopNames as loop_names};
+ghost use Rattle.rhai_base.specs.Constructs.{loop_view};
+ghost use Rattle.rhai_base.specs.Leaves.{GivesAt, name_view};
 
 use crate::cursor::{peek, skip};
-use crate::leaves::due::is_due;
+use crate::leaves::due::{is_due, match_token, pass_token};
 use crate::leaves::refusals::missing;
+use crate::leaves::statements::parse_var_name;
 use rhai_grammar::{Construct, DueToken, InputError, ParseError, ParseErrorType, ParseResult};
 use rhai_lower::{Position, Token, TokenStream};
 use std::alloc::{AllocError, Global};
@@ -91,9 +94,9 @@ fn do_end(token: &Token) -> Option<bool>
 ///
 /// If another token is there, the error is `MissingToken` at that token, or the error of the tokenizer that it is; if
 /// memory runs out, `OutOfMemory`.
+#[tactic(auto, using(rhai_reading::proofs::Steps::step_do_end))]
 pub fn end_do(alloc: Global, input: &mut TokenStream) -> ParseResult<bool>
-    ensures ends { EndsDo (cursor_of input.old) result (cursor_of input.new) }
-    ensures nowhere { IfErr result MemoryIsNowhere }
+    ensures gives { GivesAt DoEnd (λ negated. negated) (cursor_of input.old) result (cursor_of input.new) }
     ensures shorter { left (cursor_of input.new).tokens ≤ left (cursor_of input.old).tokens }
     ensures shrinks { OnOk result (left (cursor_of input.new).tokens + 1 ≤ left (cursor_of input.old).tokens) }
 {
@@ -121,4 +124,58 @@ pub fn test_counter(name: &RcStr, counter: &RcStr, pos: Position) -> ParseResult
         return Err(ParseError(ParseErrorType::DuplicatedVariable(counter.clone()?), pos));
     }
     Ok(())
+}
+
+/// The variables of a `for` loop.
+#[derive(Drop)]
+pub struct LoopNames {
+    /// The variable that takes the values.
+    pub name: RcStr,
+    /// The variable that counts the iterations.
+    pub counter: Option<RcStr>,
+}
+
+/// The variables of a `for` loop, and the `in` after them; all are taken.
+#[tactic(auto, using(rhai_reading::proofs::Steps::step_loop_names))]
+pub fn next_loop_names(alloc: Global, input: &mut TokenStream) -> ParseResult<LoopNames>
+    ensures gives { GivesAt loop_names loop_view (cursor_of input.old) result (cursor_of input.new) }
+    ensures shorter { left (cursor_of input.new).tokens ≤ left (cursor_of input.old).tokens }
+{
+    let after_one = "after the variable of this loop";
+    if !pass_token(input, DueToken::LeftParen)? {
+        let (name, _) = parse_var_name(input)?;
+        match_token(alloc, input, DueToken::In, after_one)?;
+        return Ok(LoopNames {
+            name,
+            counter: None,
+        });
+    }
+    let (name, _) = parse_var_name(input)?;
+    match_token(alloc, input, DueToken::Comma, after_one)?;
+    let (counter, pos) = parse_var_name(input)?;
+    test_counter(&name, &counter, pos)?;
+    let after_two = "after the variables of this loop";
+    match_token(alloc, input, DueToken::RightParen, after_two)?;
+    match_token(alloc, input, DueToken::In, after_two)?;
+    Ok(LoopNames {
+        name,
+        counter: Some(counter),
+    })
+}
+
+/// The `catch` of a `try`, with its variable, if it has one; all are taken.
+#[tactic(auto, using(rhai_reading::proofs::Steps::step_catch))]
+pub fn next_catch(alloc: Global, input: &mut TokenStream) -> ParseResult<Option<(RcStr, Position)>>
+    ensures gives { GivesAt Catch (option_map name_view) (cursor_of input.old) result (cursor_of input.new) }
+    ensures shorter { left (cursor_of input.new).tokens ≤ left (cursor_of input.old).tokens }
+{
+    let after_block = "after the block of this `try`";
+    match_token(alloc, input, DueToken::Catch, after_block)?;
+    if !pass_token(input, DueToken::LeftParen)? {
+        return Ok(None);
+    }
+    let name = parse_var_name(input)?;
+    let after_name = "after the variable of this `catch`";
+    match_token(alloc, input, DueToken::RightParen, after_name)?;
+    Ok(Some(name))
 }

@@ -10,10 +10,12 @@ ghost use Rattle.rhai_grammar.specs.Functions.{is_keyword, names_function, no_bo
 ghost use Rattle.rhai_grammar.specs.Functions.{is_reserved_token, no_parameters, parameter_place, type_named};
 ghost use Rattle.rhai_grammar.specs.Delivered.{is_end};
 ghost use Rattle.rhai_grammar.specs.declared.role.ItemPlace.TheVariants.{Nothing};
+ghost use Rattle.rhai_reading.specs.Reading.{FunctionHead};
+ghost use Rattle.rhai_base.specs.Leaves.{GivesAt, head_view};
 ghost use Rattle.rhai_base.specs.Functions.{FunctionNames, OpensBody, OpensParameters, TakesParameter, Types};
 
 use crate::cursor::{peek, skip};
-use crate::leaves::due::is_due;
+use crate::leaves::due::{is_due, match_token, pass_token};
 use crate::leaves::lists::{closes_list, closing_text};
 use crate::leaves::refusals::missing_token;
 use crate::leaves::tokens::what_calls;
@@ -261,4 +263,25 @@ pub fn open_body(input: &mut TokenStream, function: &RcStr) -> ParseResult<Posit
     }
     skip(input);
     Ok(pos)
+}
+
+/// The name of a function after its `fn`, with the type of its objects, if it has one; all are taken.
+#[tactic(auto, using(rhai_reading::proofs::Steps::step_function_head))]
+pub fn next_head(alloc: Global, input: &mut TokenStream) -> ParseResult<(Option<RcStr>, RcStr)>
+    ensures gives { GivesAt FunctionHead head_view (cursor_of input.old) result (cursor_of input.new) }
+    ensures shorter { left (cursor_of input.new).tokens ≤ left (cursor_of input.old).tokens }
+    ensures named { IfOk result (λ head. names_function (rc_str_bytes head.1) ≡ true) }
+{
+    let (text, named, pos) = take_type(input)?;
+    if !named {
+        let note = "after the type of the objects of this function";
+        match_token(alloc, input, DueToken::Period, note)?;
+    } else if !pass_token(input, DueToken::Period)? {
+        test_function_name(&text, pos)?;
+        return Ok((None, text));
+    }
+    let (name, pos) = take_function_name(input)?;
+    test_function_name(&name, pos)?;
+    let owner = type_named(alloc, text)?;
+    Ok((Some(owner), name))
 }

@@ -2,7 +2,8 @@
 //! and the signs of assignments are here too.
 
 ghost use Rattle.std.specs.Prelude.{◌≡◌, ◌+◌, ◌≤◌, IfErr, IfOk, IfSome, IsSome, IsTrue, OnOk, codes};
-ghost use Rattle.std.specs.Prelude.{false};
+ghost use Rattle.std.specs.Prelude.{false, option_map};
+ghost use Rattle.std.specs.Rc.{rc_str_bytes};
 ghost use Rattle.rhai_lower.specs.Lexemes.{lexeme};
 ghost use Rattle.rhai_grammar.specs.Beginnings.{missing};
 ghost use Rattle.rhai_grammar.specs.Causes.{MemoryIsNowhere, cause_of, is_for_memory, refusal, refusal_of};
@@ -14,14 +15,17 @@ ghost use Rattle.rhai_grammar.specs.Statements.{no_variable, statement_place, st
 ghost use Rattle.rhai_grammar.specs.Targets.{is_assignment, is_equals};
 ghost use Rattle.rhai_grammar.specs.declared.role.AfterStatement.TheVariants.{SemiColon};
 ghost use Rattle.rhai_grammar.specs.declared.role.StatementPlace.TheVariants.{Nothing, Statement};
+ghost use Rattle.rhai_reading.specs.Reading.{Alias};
+ghost use Rattle.rhai_base.specs.Leaves.{GivesAt};
 ghost use Rattle.rhai_base.specs.Statements.{Names, Separates, TakesComment, TakesText, is_expression, place_found};
 
 use crate::cursor::{peek, skip};
 use crate::leaves::constructs::may_stand;
+use crate::leaves::due::pass_token;
 use crate::leaves::refusals::missing;
 use rhai_grammar::{
-    AfterStatement, Closing, Construct, InputError, ParseError, ParseErrorType, ParseResult,
-    StatementPlace, StatementStart,
+    AfterStatement, Closing, Construct, DueToken, InputError, ParseError, ParseErrorType,
+    ParseResult, StatementPlace, StatementStart,
 };
 use rhai_lower::{Position, Token, TokenStream, is_valid_identifier};
 use std::alloc::{AllocError, Global};
@@ -328,4 +332,17 @@ pub fn assigns(input: &mut TokenStream) -> Result<bool, AllocError>
 {
     let (token, _) = peek(input)?;
     Ok(is_assignment(token))
+}
+
+/// The name after `as`, if that comes next; both are taken.
+#[tactic(auto, using(rhai_reading::proofs::Steps::step_alias))]
+pub fn next_alias(input: &mut TokenStream) -> ParseResult<Option<RcStr>>
+    ensures gives { GivesAt Alias (option_map rc_str_bytes) (cursor_of input.old) result (cursor_of input.new) }
+    ensures shorter { left (cursor_of input.new).tokens ≤ left (cursor_of input.old).tokens }
+{
+    if !pass_token(input, DueToken::As)? {
+        return Ok(None);
+    }
+    let (name, _) = parse_var_name(input)?;
+    Ok(Some(name))
 }

@@ -5,10 +5,12 @@ ghost use Rattle.std.specs.Rc.{rc_str_bytes};
 ghost use Rattle.rhai_lower.specs.Lexemes.{lexeme, text_of};
 ghost use Rattle.rhai_grammar.specs.Beginnings.{unexpected};
 ghost use Rattle.rhai_grammar.specs.Causes.{MemoryIsNowhere, is_for_memory, refusal, refusal_of};
-ghost use Rattle.rhai_grammar.specs.Cursors.{cursor_of, left, taking};
+ghost use Rattle.rhai_grammar.specs.Cursors.{cursor_of, left};
 ghost use Rattle.rhai_grammar.specs.Delivered.{is_end};
 ghost use Rattle.rhai_grammar.specs.Interpolations.{is_last_text, is_text};
-ghost use Rattle.rhai_base.specs.Strings.{Interpolates, IsText, NoText};
+ghost use Rattle.rhai_reading.specs.Reading.{TextAfter};
+ghost use Rattle.rhai_base.specs.Leaves.{GivesAt};
+ghost use Rattle.rhai_base.specs.Strings.{text_view};
 
 use crate::cursor::{peek, skip};
 use crate::leaves::due::match_token;
@@ -37,9 +39,9 @@ pub struct TextPart {
 /// no text, the error is `UnexpectedInput` at that token, and the next request stays in text mode. Where such a token
 /// is an error of the tokenizer, it is that error. What is refused is not taken. If memory runs out, the error is
 /// `OutOfMemory`.
+#[tactic(auto, using(rhai_reading::proofs::Steps::step_text_after))]
 pub fn end_interpolation(alloc: Global, input: &mut TokenStream) -> ParseResult<TextPart>
-    ensures interpolates { Interpolates (cursor_of input.old) result (cursor_of input.new) }
-    ensures nowhere { IfErr result MemoryIsNowhere }
+    ensures gives { GivesAt TextAfter text_view (cursor_of input.old) result (cursor_of input.new) }
     ensures shorter { left (cursor_of input.new).tokens ≤ left (cursor_of input.old).tokens }
     ensures shrinks { OnOk result (left (cursor_of input.new).tokens + 1 ≤ left (cursor_of input.old).tokens) }
 {
@@ -48,7 +50,16 @@ pub fn end_interpolation(alloc: Global, input: &mut TokenStream) -> ParseResult<
     let note = "to terminate this block";
     match_token(alloc, input, DueToken::RightBrace, note)?;
     input.set_text_mode();
-    take_text(alloc, input, end)
+    let (token, pos) = peek(input)?;
+    let pos = *pos;
+    let (text, last) = text_in(alloc, token, pos)?;
+    skip(input);
+    Ok(TextPart {
+        end,
+        text,
+        pos,
+        last,
+    })
 }
 
 // The text that a token at `pos` is, and whether it ends the string. Any other token is refused as unexpected.
@@ -66,26 +77,4 @@ fn text_in(alloc: Global, token: &Token, pos: Position) -> ParseResult<(RcStr, b
         Token::InterpolatedString(text) => Ok((text.clone()?, false)),
         _ => Err(unexpected(alloc, token, pos)),
     }
-}
-
-// Takes the text that is due after a `}` at `end`. Any other token there is refused as unexpected.
-fn take_text(alloc: Global, input: &mut TokenStream, end: Position) -> ParseResult<TextPart>
-    ensures taken { IfOk result (λ part. (part.end ≡ end) × IsText (cursor_of input.old) part
-        × (cursor_of input.new ≡ taking (cursor_of input.old))) }
-    ensures refused { IfErr result (λ e. is_for_memory e ≡ false
-        → NoText (cursor_of input.old) (refusal_of e) (cursor_of input.new)) }
-    ensures nowhere { IfErr result MemoryIsNowhere }
-    ensures shorter { left (cursor_of input.new).tokens ≤ left (cursor_of input.old).tokens }
-    ensures shrinks { OnOk result (left (cursor_of input.new).tokens + 1 ≤ left (cursor_of input.old).tokens) }
-{
-    let (token, pos) = peek(input)?;
-    let pos = *pos;
-    let (text, last) = text_in(alloc, token, pos)?;
-    skip(input);
-    Ok(TextPart {
-        end,
-        text,
-        pos,
-        last,
-    })
 }

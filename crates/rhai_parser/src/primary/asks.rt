@@ -1,15 +1,14 @@
-//! Leaves joined for literals, as the reading program asks. They are the next key, and the text after a block.
+//! Leaves joined for operands, as the reading program asks. They are the next key, and what a name or a word is.
 
-ghost use Rattle.std.specs.Prelude.{◌≡◌, ◌+◌, ◌≤◌, IfErr, OnOk, option_map};
+ghost use Rattle.std.specs.Prelude.{◌≡◌, IfErr, OnOk, option_map};
 ghost use Rattle.rhai_lower.specs.View.{property_views, written};
 ghost use Rattle.rhai_grammar.specs.Answers.{Answers};
 ghost use Rattle.rhai_grammar.specs.Causes.{MemoryIsNowhere};
-ghost use Rattle.rhai_grammar.specs.Cursors.{left};
 ghost use Rattle.rhai_base.specs.Frames.{FrameValue};
 ghost use Rattle.rhai_base.specs.Settings.{settings_of};
 ghost use Rattle.rhai_base.specs.Words.{word_result};
 ghost use Rattle.rhai_trees.specs.Chains.{chain_view};
-ghost use Rattle.rhai_reading.specs.Reading.{NextKey, TextAfter};
+ghost use Rattle.rhai_reading.specs.Reading.{NextKey};
 ghost use Rattle.std.specs.Rc.{rc_str_bytes};
 ghost use Rattle.rhai_lower.specs.Lexemes.{Lexeme};
 ghost use Rattle.rhai_grammar.specs.Beginnings.{excludes_use};
@@ -18,7 +17,6 @@ ghost use Rattle.rhai_reading.specs.Running.{Caller, Gives, exec};
 ghost use Rattle.rhai_parser.specs.Frames.{context_of, live_of};
 ghost use Rattle.rhai_parser.specs.Engines.{EngineValue};
 ghost use Rattle.rhai_parser.specs.Readers.{GoesOn, Reads, state_of};
-ghost use Rattle.rhai_parser.specs.PrimaryViews.{text_view};
 ghost use Rattle.rhai_parser.specs.Rooms.{Steady};
 
 use crate::engine::Engine;
@@ -26,7 +24,6 @@ use crate::primary::keys;
 use crate::shared::Shared;
 use rhai_base::leaves::due::match_token;
 use rhai_base::leaves::items::room_for_value;
-use rhai_base::leaves::strings::{TextPart, end_interpolation};
 use rhai_base::words::{name_node, word_node};
 use rhai_base::{Frame, ParseSettingFlags, ParseSettings};
 use rhai_grammar::{DueToken, ParseResult};
@@ -112,15 +109,4 @@ pub(crate) fn used_word(
 {
     let node = word_node(alloc, settings, word, called, pos)?;
     Ok(Chain::from_value(alloc, node))
-}
-
-/// The `}` of a block in an interpolated string, and the text after it; both are taken.
-pub(crate) fn next_text(alloc: Global, shared: &mut Shared<'_>) -> ParseResult<TextPart>
-    ensures goes_on { GoesOn shared.old shared.new }
-    ensures steady { Steady shared.old shared.new }
-    ensures reads { Reads TextAfter text_view shared.old result shared.new }
-    ensures shrinks { OnOk result (left (state_of shared.new).cursor.tokens + 1
-        ≤ left (state_of shared.old).cursor.tokens) }
-{
-    end_interpolation(alloc, shared.input)
 }

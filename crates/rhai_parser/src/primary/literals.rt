@@ -7,15 +7,16 @@ ghost use Rattle.rhai_grammar.specs.Interpolations.{added_text};
 ghost use Rattle.std.specs.Rc.{rc_str_bytes};
 ghost use Rattle.rhai_parser.specs.Rooms.{Stays};
 
-use crate::blocks::begin_block;
 use crate::lent::LentReaders;
-use crate::primary::asks::{next_key, next_text};
+use crate::primary::asks::next_key;
 use crate::reader::Reader;
 use crate::shared::Shared;
 use rhai_base::cursor::{peek, skip};
+use rhai_base::leaves::blocks::begin_block;
 use rhai_base::leaves::items::item_place;
 use rhai_base::leaves::lists::list_continues;
 use rhai_base::leaves::refusals::no_item;
+use rhai_base::leaves::strings::end_interpolation;
 use rhai_base::{Frame, ParseSettings};
 use rhai_grammar::{CommaList, ItemPlace, ParseResult};
 use rhai_lower::{Expr, Ident, NamedList};
@@ -114,10 +115,10 @@ impl<R: LentReaders> Reader<'_, R> {
         push_text(&mut segments, first, settings.pos)?;
         loop {
             let note = "to begin a block in this string";
-            let start = begin_block(self.engine.alloc(), shared, note)?;
+            let start = begin_block(self.engine.alloc(), shared.input, note)?;
             let deeper = settings.level_up()?;
             let statements = nested!(shared, self.parse_block_inside(shared, frame, deeper))?;
-            let part = next_text(self.engine.alloc(), shared)?;
+            let part = end_interpolation(self.engine.alloc(), shared.input)?;
             let block = make_block(statements, start, part.end);
             push_segment(&mut segments, block, part.text, part.pos)?;
             if part.last {

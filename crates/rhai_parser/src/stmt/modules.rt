@@ -1,4 +1,4 @@
-//! Leaves joined for modules: names after `as`, and exports. The readers of statements ask for them.
+//! Definitions and exports of names. The readers of statements ask for them.
 
 ghost use Rattle.std.specs.Prelude.{◌≡◌, IfOk, OnOk, option_map, unwrap_or};
 ghost use Rattle.std.specs.Int.NonZero.{non_zero_usize_get};
@@ -7,35 +7,14 @@ ghost use Rattle.rhai_lower.specs.Nodes.{variable};
 ghost use Rattle.rhai_lower.specs.View.{statement_view};
 ghost use Rattle.rhai_grammar.specs.Definitions.{defined_as, exported, reused};
 ghost use Rattle.rhai_grammar.specs.Trees.{export_tree};
-ghost use Rattle.rhai_reading.specs.Reading.{Alias};
-ghost use Rattle.rhai_parser.specs.Readers.{GoesOn, Reads};
 ghost use Rattle.rhai_base.specs.Frames.{SamePlace};
-ghost use Rattle.rhai_parser.specs.Rooms.{Steady};
 
-use crate::shared::Shared;
 use rhai_base::Frame;
-use rhai_base::leaves::due::pass_token;
-use rhai_base::leaves::statements::parse_var_name;
-use rhai_grammar::{DueToken, ParseResult};
 use rhai_lower::{Position, Stmt};
 use rhai_trees::make_export;
 use std::alloc::{AllocError, Global};
 use std::num::NonZeroUsize;
 use std::rc::RcStr;
-
-/// The name after `as`, if that comes next; both are taken.
-#[tactic(auto, using(rhai_reading::proofs::Steps::step_alias))]
-pub(crate) fn next_alias(shared: &mut Shared<'_>) -> ParseResult<Option<RcStr>>
-    ensures goes_on { GoesOn shared.old shared.new }
-    ensures steady { Steady shared.old shared.new }
-    ensures reads { Reads Alias (option_map rc_str_bytes) shared.old result shared.new }
-{
-    if !pass_token(shared.input, DueToken::As)? {
-        return Ok(None);
-    }
-    let (name, _) = parse_var_name(shared.input)?;
-    Ok(Some(name))
-}
 
 /// Defines a variable or a constant, as `Frame::define` does, and exports it under its own name if that is so.
 ///

@@ -9,7 +9,7 @@ ghost use Rattle.rhai_grammar.specs.Cursors.{left};
 ghost use Rattle.rhai_grammar.specs.Switches.{arm_fault, ends_arm};
 ghost use Rattle.rhai_reading.specs.Reading.{ArmEnd, DefaultEnd, arm_on, default_on};
 ghost use Rattle.rhai_reading.specs.Running.{Caller, Done, Gives, Out, Progress, and_then, exec, recast, result_of};
-ghost use Rattle.rhai_parser.specs.Readers.{GoesOn, Reads, state_of, views_of};
+ghost use Rattle.rhai_parser.specs.Readers.{GoesOn, state_of, views_of};
 ghost use Rattle.rhai_parser.specs.Switches.{action_view, arm_view};
 ghost use Rattle.rhai_trees.specs.Arms.{arms_view};
 ghost use Rattle.rhai_parser.specs.Rooms.{Steady};
@@ -65,31 +65,6 @@ pub(crate) fn end_statement_action(alloc: Global, statement: Stmt) -> ParseResul
     Ok(Action { expr, ends })
 }
 
-/// Goes on after an arm: takes the comma, if there is one. Without one, only the `}` may stand there, or anything if
-/// the arm needs none, which `ends` says; that stays.
-#[tactic(auto, using(rhai_reading::proofs::Steps::step_arm_end))]
-pub(crate) fn next_arm_end(alloc: Global, shared: &mut Shared<'_>, ends: bool) -> ParseResult<()>
-    ensures goes_on { GoesOn shared.old shared.new }
-    ensures steady { Steady shared.old shared.new }
-    ensures reads { Reads (ArmEnd ends) (λ u. tt) shared.old result shared.new }
-{
-    arm_continues(alloc, shared.input, ends)
-}
-
-/// The `}` after the default arm, whose `_` is at `default`, which is taken.
-#[tactic(auto, using(rhai_reading::proofs::Steps::step_default_end))]
-pub(crate) fn next_default_end(
-    alloc: Global,
-    shared: &mut Shared<'_>,
-    default: Position,
-) -> ParseResult<()>
-    ensures goes_on { GoesOn shared.old shared.new }
-    ensures steady { Steady shared.old shared.new }
-    ensures reads { Reads (DefaultEnd default) (λ u. tt) shared.old result shared.new }
-{
-    default_ends(alloc, shared.input, default)
-}
-
 /// An arm of these parts, whose cases are tested after these arms; the comma after it is taken.
 pub(crate) fn end_arm(
     alloc: Global,
@@ -107,7 +82,7 @@ pub(crate) fn end_arm(
         (arm_fault (arms_view before.now) (views_of cases))) (state_of shared.old)) result (state_of shared.new) }
 {
     test_cases(alloc, before, &cases)?;
-    next_arm_end(alloc, shared, does.ends)?;
+    arm_continues(alloc, shared.input, does.ends)?;
     let Action { expr, ends: _ } = does;
     Ok(Arm {
         cases,
@@ -132,8 +107,8 @@ pub(crate) fn end_default(
         → Gives view (exec call (default_on (action_view does) default) (state_of shared.old)) result
         (state_of shared.new) }
 {
-    next_arm_end(alloc, shared, does.ends)?;
-    next_default_end(alloc, shared, default)?;
+    arm_continues(alloc, shared.input, does.ends)?;
+    default_ends(alloc, shared.input, default)?;
     let Action { expr, ends: _ } = does;
     Ok(expr)
 }
