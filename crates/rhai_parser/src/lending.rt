@@ -65,7 +65,6 @@ where
         (self.chain)(engine, shared, frame, settings)
     }
 
-    // As by default; but what is inherited is not inlined.
     #[inline(always)]
     fn parse_expr(
         &self,

@@ -36,7 +36,6 @@ pub trait LentReaders {
         ensures reads { Nests (expression engine.now frame.now settings) chain_view shared.old result shared.new };
 
     /// Reads an expression. The level is raised at its first token.
-    #[inline(always)]
     fn parse_expr(
         &self,
         engine: &Engine,
@@ -47,13 +46,7 @@ pub trait LentReaders {
         requires covered { lent self.now (need (expression engine.now frame.now settings) (state_of shared.old)) }
         ensures goes_on { GoesOn shared.old shared.new }
         ensures stays { Stays engine.now frame.now settings 1 shared.old shared.new }
-        ensures reads { Nests (expression engine.now frame.now settings) view shared.old result shared.new }
-    {
-        match self.parse_chain(engine, shared, frame, settings) {
-            Ok(chain) => Ok(chain.nest(engine.alloc())?),
-            Err(error) => Err(error),
-        }
-    }
+        ensures reads { Nests (expression engine.now frame.now settings) view shared.old result shared.new };
 
     /// Reads a statement. The level is raised at its first token.
     fn parse_stmt(

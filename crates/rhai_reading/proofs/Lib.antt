@@ -32,6 +32,5 @@ pub mod DepthMain
 pub mod Outcomes
 pub mod WordSteps
 pub mod PathSteps
-pub mod TextSteps
 pub mod ChainSteps
 pub mod FieldSteps

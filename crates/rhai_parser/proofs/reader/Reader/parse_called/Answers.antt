@@ -1,10 +1,12 @@
 use Rattle.std.proofs.Common.{rules, ◌∙◌, ap, refl, sym}
 use Rattle.std.proofs.lemmas.Result.{err_from_is_err_and}
+use Rattle.std.specs.Prelude.{Bool}
 use Rattle.rhai_lower.specs.Nodes.{variable}
 use Rattle.rhai_lower.specs.declared.ast.VariableExpr.{VariableExpr}
 use Rattle.rhai_lower.specs.View.{named}
 use Rattle.rhai_lower.proofs.Views.{view_variable}
 use Rattle.rhai_grammar.specs.Modules.{is_qualified, module_fault}
+use Rattle.rhai_grammar.specs.Prelude.{Nodes}
 use Rattle.rhai_reading.specs.Running.{Done}
 use Rattle.rhai_parser.specs.Frames.{context_of, live_of}
 use Rattle.rhai_parser.specs.Readers.{state_of}
@@ -39,7 +41,7 @@ returns-in_err-call-clause-reads g c =
     rw (p.1, p.2) (
       λ told. rw (c.in-Ok.ensures.variable)
           (call_refused context live x y c.in_ok-named.named.called (state_of c.args.shared.now) (state_of c.named_operand.new.shared) (state_of c.leave.new.self) (search rules) (c.in_ok-named.ensures.found context) c.in_ok-named.ensures.goes_on.shorter _
-          (sym there ∙ nested_refused _ _ c.enter.ensures.enters (c.in_err-call.ensures.reads.0 told) c.leave.ensures.leaves)),
+          (sym there ∙ nested_refused {A = Bool × Nodes} _ _ c.enter.ensures.enters (c.in_err-call.ensures.reads.0 told) c.leave.ensures.leaves)),
       c.in_err-call.ensures.reads.1,
     )
 
