@@ -8,6 +8,7 @@ ghost use Rattle.rhai_lower.specs.View.{block_view, statement_view};
 use crate::node::{LinkFlags, RangeCase};
 use crate::position::Position;
 use crate::token::Token;
+use smallvec::SmallVec;
 use std::alloc::{AllocError, Global};
 use std::num::NonZeroUsize;
 use std::rc::{Rc, RcStr};
@@ -164,7 +165,7 @@ pub struct SwitchCase {
     /// A literal value.
     pub value: Expr,
     /// Indexes of arms, from 0, in the order in which their guards are tried.
-    pub indices: Vec<usize>,
+    pub indices: SmallVec<usize, 1>,
 }
 
 /// The arms of a `switch`, and the values that lead to them.

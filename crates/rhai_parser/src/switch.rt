@@ -82,7 +82,13 @@ impl<R: LentReaders> Reader<'_, R> {
                 NextArm::Case => {}
             }
             let arm = nested!(shared, self.parse_arm(shared, frame, settings, &arms))?;
-            arms = push_arm(self.engine.alloc(), arms, arm.cases, arm.guard, arm.action)?;
+            push_arm(
+                self.engine.alloc(),
+                &mut arms,
+                arm.cases,
+                arm.guard,
+                arm.action,
+            )?;
         }
     }
 

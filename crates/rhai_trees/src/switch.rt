@@ -9,7 +9,7 @@ ghost use Rattle.rhai_grammar.specs.Switches.{arm_count, arm_fault, ends_arm, ha
 ghost use Rattle.rhai_grammar.specs.Switches.{listed_range, no_guard};
 ghost use Rattle.rhai_grammar.specs.Switches.{nothing_collected, switch_tree, with_arm_collected, with_case};
 ghost use Rattle.rhai_grammar.specs.Switches.{with_cases, with_default_collected, with_value};
-ghost use Rattle.rhai_trees.specs.Arms.{arms_view};
+ghost use Rattle.rhai_trees.specs.Arms.{Indexed, arms_view};
 ghost use Rattle.rhai_trees.specs.CaseKeys.{Places, key_value, plain_value, same_case};
 ghost use Rattle.rhai_trees.specs.Switches.{case_place, collected_view, first_fault, is_full_range};
 ghost use Rattle.rhai_trees.specs.Switches.{value_fault, with_action};
@@ -22,13 +22,15 @@ use crate::statement::{ends_itself, is_empty};
 use indexmap::IndexMap;
 use rhai_grammar::{ParseError, ParseErrorType, ParseResult};
 use rhai_lower::{BinaryExpr, Expr, Position, RangeCase, Stmt, SwitchCase, SwitchCasesCollection};
+use smallvec::SmallVec;
 use std::alloc::{AllocError, Global};
 use std::rc::RcStr;
 
 /// The arms of a `switch` before the first one. Does not allocate.
 #[tactic(auto, using(crate::proofs::CaseIndexLemmas::no_places))]
 pub fn new_arms(alloc: Global) -> Arms
-    ensures { arms_view result ≡ nothing_collected }
+    ensures view { arms_view result ≡ nothing_collected }
+    ensures indexed { Indexed result }
 {
     let collected = SwitchCasesCollection {
         expressions: Vec::new(alloc),
@@ -184,7 +186,7 @@ fn push_new_value(
     ensures indexed { OnOk result (Places (get same_case places.new) (case_views cases.new.items)) }
 {
     add_place(places, key, cases.len())?;
-    let mut indices = Vec::new(alloc);
+    let mut indices = SmallVec::new(alloc);
     indices.push(index)?;
     cases.push(SwitchCase { value, indices })?;
     Ok(())
@@ -288,38 +290,32 @@ fn push_action(
     Ok(index)
 }
 
-/// The arms with one more, which has these cases; its guard is `no_guard` if none was written. The error is that there
-/// is no memory for it.
+/// Adds an arm, which has these cases; its guard is `no_guard` if none was written. The error is that there is no
+/// memory for it; then the arms are of no use any more.
 pub fn push_arm(
     alloc: Global,
-    arms: Arms,
+    arms: &mut Arms,
     cases: Vec<Expr>,
     guard: Expr,
     action: Expr,
-) -> Result<Arms, AllocError>
-    ensures { IfOk result (λ more. arms_view more
-        ≡ with_arm_collected (arms_view arms) (views cases.items) (view guard) (view action)) }
+) -> Result<(), AllocError>
+    requires { Indexed arms.old }
+    ensures pushed { OnOk result (arms_view arms.new
+        ≡ with_arm_collected (arms_view arms.old) (views cases.items) (view guard) (view action)) }
+    ensures indexed { OnOk result (Indexed arms.new) }
 {
-    let Arms {
-        mut collected,
-        mut places,
-    } = arms;
-    let index = push_action(&mut collected, guard, action)?;
-    push_cases(alloc, &mut collected, &mut places, index, cases)?;
-    Ok(Arms { collected, places })
+    let index = push_action(&mut arms.collected, guard, action)?;
+    push_cases(alloc, &mut arms.collected, &mut arms.places, index, cases)
 }
 
 /// The arms with the default arm. The error is that there is no memory for it.
 pub fn push_default(arms: Arms, action: Expr) -> Result<Arms, AllocError>
     ensures { IfOk result (λ more. arms_view more ≡ with_default_collected (arms_view arms) (view action)) }
 {
-    let Arms {
-        mut collected,
-        places,
-    } = arms;
-    let index = push_action(&mut collected, no_guard(), action)?;
-    collected.def_case = Some(index);
-    Ok(Arms { collected, places })
+    let mut arms = arms;
+    let index = push_action(&mut arms.collected, no_guard(), action)?;
+    arms.collected.def_case = Some(index);
+    Ok(arms)
 }
 
 /// A `switch` at `pos` over `item`, with these arms. Returns `AllocError` if memory runs out.

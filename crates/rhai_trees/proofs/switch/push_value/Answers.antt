@@ -10,7 +10,7 @@ pub returns-in_ok-push-in-Some-clause-pushed : goal.returns-in_ok-push-in-Some-c
 returns-in_ok-push-in-Some-clause-pushed c =
     let x = view c.args.value in
     let there = c.in-Some.ensures.place ∙ ap (λ l. case_place (case_views l) x) c.deref.ensures.value in
-    let v = c.index_mut.ensures.value in let i = c.in_ok-push-in-Some.ensures.items in
+    let v = c.index_mut.ensures.value in let i = c.in_ok-push-in-Some.ensures.ok in
     set_value c.args.cases.now.items x c.args.index c.in-Some.place _ c.index_mut.result.now there (search (rules, the_lemmas, v)) (search (rules, the_lemmas, v, i))
 
 pub returns-in_ok-push-in-Some-clause-indexed : goal.returns-in_ok-push-in-Some-clause-indexed

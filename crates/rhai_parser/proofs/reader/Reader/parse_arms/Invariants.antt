@@ -1,7 +1,7 @@
 use Rattle.std.proofs.Common.{◌≡◌}
 use Rattle.rhai_grammar.specs.Cursors.{left}
 use Rattle.rhai_grammar.specs.Switches.{nothing_collected}
-use Rattle.rhai_trees.specs.Arms.{arms_view}
+use Rattle.rhai_trees.specs.Arms.{Indexed, arms_view}
 use Rattle.rhai_reading.specs.Running.{result_of}
 use Rattle.rhai_parser.specs.Readers.{GoesOn, arms, state_of}
 use Rattle.rhai_parser.specs.Rooms.{Stays}
@@ -11,6 +11,7 @@ abbrev pub invariant-loop-arms : goal.invariant-loop-arms
 invariant-loop-arms g l = record {
   same : result_of (arms l.fn.self.engine.now l.fn.frame l.fn.settings nothing_collected) (state_of l.fn.shared) ≡ result_of (arms l.self.engine.now l.frame l.settings (arms_view l.arms)) (state_of l.shared);
   goes_on : GoesOn l.fn.shared l.shared;
+  indexed : Indexed l.arms;
   stays : Stays l.self.engine.now l.frame l.settings 4 l.fn.shared l.shared;
 }
 
