@@ -37,6 +37,7 @@ pub fn test_module(frame: &Frame<'_>, settings: ParseSettings, operand: &Expr) -
 /// Refuses a name at `pos` that has a path, if under strict variables the path's first name is not known.
 ///
 /// The error is `ModuleUndefined` at that first name, or `OutOfMemory`.
+#[inline(always)]
 #[tactic(auto, using(crate::proofs::NameLemmas::faults))]
 pub fn test_path(
     frame: &Frame<'_>,

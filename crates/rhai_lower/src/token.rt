@@ -350,6 +350,7 @@ impl Token {
 
     /// The token's text: its payload (an integer in decimal), or how it is written; empty for an error of the
     /// tokenizer. Returns `AllocError` if memory runs out.
+    #[inline(always)]
     pub fn text(&self, alloc: Global) -> Result<RcStr, AllocError>
         ensures { IfOk result (λ t. rc_str_bytes t ≡ text_of (lexeme self.now)) }
     {

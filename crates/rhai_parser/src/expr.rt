@@ -287,9 +287,8 @@ impl<R: LentReaders> Reader<'_, R> {
             (state_of shared.now) ≡ Done [] (state_of shared.now) }
     {}
 
-    // Reads what calls an operand, and its links. Few operands have them, and a function clears all the places that it
-    // has when it begins; so they are apart.
-    #[inline(never)]
+    // Reads what calls an operand, and its links.
+    #[inline(always)]
     #[tactic(auto, using(crate::proofs::ExprReaders::parse_ends))]
     fn parse_ends(
         &self,

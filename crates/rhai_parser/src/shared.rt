@@ -53,6 +53,7 @@ impl Shared<'_> {
 
     /// A name is used at `pos`; `captures` says whether the closure around captures it. The error is that there is no
     /// memory for it.
+    #[inline(always)]
     pub fn note(&mut self, captures: bool, name: &RcStr, pos: Position) -> Result<(), AllocError>
         ensures goes_on { GoesOn self.old self.new }
         ensures steady { Steady self.old self.new }

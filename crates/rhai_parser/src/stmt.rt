@@ -114,9 +114,8 @@ impl<R: LentReaders> Reader<'_, R> {
         }
     }
 
-    // Reads a statement that is neither an expression nor a construct. These are apart, since a function clears all the
-    // places that it has when it begins.
-    #[inline(never)]
+    // Reads a statement that is neither an expression nor a construct.
+    #[inline(always)]
     #[tactic(auto, using(crate::proofs::StmtReaders::parse_stmt))]
     fn parse_keyword_stmt(
         &self,

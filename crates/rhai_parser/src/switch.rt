@@ -219,6 +219,7 @@ impl<R: LentReaders> Reader<'_, R> {
 
     /// Reads what an arm does: a statement in a block of its own, or where blocks are single expressions, an
     /// expression.
+    #[inline(always)]
     #[tactic(auto, using(crate::proofs::ConstructReaders::parse_action))]
     fn parse_action(
         &self,

@@ -92,6 +92,7 @@ fn range_over(inclusion: Option<bool>, bounds: &[Expr]) -> Option<IntegerRange>
 
 /// The range that an expression is, if it is one whose ends are integers; the end of an open range is the greatest
 /// integer. Does not allocate.
+#[inline(always)]
 pub fn range_of(expr: &Expr) -> Option<IntegerRange>
     ensures { option_map range_view result ≡ range_of (view expr.now) }
 {

@@ -175,6 +175,7 @@ fn with_next(
 }
 
 // The node of a link, with what is before it on its left and its item on its right.
+#[inline(always)]
 #[tactic(auto, using(rhai_lower::proofs::Views::view_dot, rhai_lower::proofs::Views::view_index))]
 fn link_node(alloc: Global, link: NestedLink, last: bool, before: Expr) -> Result<Expr, AllocError>
     ensures { IfOk result (λ e. view e ≡ link_node (nested_view link) last (view before) (view link.item)) }

@@ -9,6 +9,7 @@ use rhai_lower::{Expr, Ident};
 
 /// Whether an expression is a value that a `switch` case may have: a constant, or a range of integers. Does not
 /// allocate.
+#[inline(always)]
 #[cycle(literals)]
 #[tactic(auto, using(rhai_lower::proofs::Views::view_map))]
 pub fn is_literal_value(expr: &Expr) -> bool

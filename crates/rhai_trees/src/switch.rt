@@ -272,6 +272,7 @@ fn push_cases(
 }
 
 // Adds a guard with its action. The index of the arm.
+#[inline(always)]
 #[tactic(auto, using(crate::proofs::SwitchLemmas::arms))]
 fn push_action(
     arms: &mut SwitchCasesCollection,

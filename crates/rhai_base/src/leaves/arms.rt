@@ -132,6 +132,7 @@ pub fn action_due(input: &mut TokenStream) -> ParseResult<()>
 ///
 /// Any other token is `MissingToken`, or the error of the tokenizer that it is; if memory runs out, the error is
 /// `OutOfMemory`.
+#[inline(always)]
 #[tactic(auto, using(rhai_reading::proofs::Steps::step_arm_end))]
 pub fn arm_continues(alloc: Global, input: &mut TokenStream, itself: bool) -> ParseResult<()>
     ensures gives { GivesAt (ArmEnd itself) (λ u. tt) (cursor_of input.old) result (cursor_of input.new) }

@@ -26,6 +26,7 @@ pub fn begin_block(alloc: Global, input: &mut TokenStream, note: &str) -> ParseR
 }
 
 /// The position of the `}` that ends a block, which is taken.
+#[inline(always)]
 #[tactic(auto, using(rhai_reading::proofs::Steps::step_block_end))]
 pub fn end_block(alloc: Global, input: &mut TokenStream) -> ParseResult<Position>
     ensures gives { (statements : Statements) (start : Position) → GivesAt (BlockEnd start statements)

@@ -20,6 +20,7 @@ use std::alloc::{AllocError, Global};
 use std::rc::RcStr;
 
 /// How a token continues the operand before it.
+#[inline(always)]
 pub fn what_links(token: &Token) -> Linking
     ensures links { result ≡ linking (lexeme token.now) }
     ensures more { is_link result ≡ true → is_end (lexeme token.now) ≡ false }

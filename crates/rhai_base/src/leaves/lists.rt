@@ -17,6 +17,7 @@ use rhai_lower::{Position, Token, TokenStream};
 use std::alloc::Global;
 
 /// What a token is after a part of a list.
+#[inline(always)]
 pub(crate) fn after_part(list: CommaList, token: &Token) -> AfterPart
     ensures part { result ≡ after_part list (lexeme token.now) }
     ensures more { result ≡ Comma → is_end (lexeme token.now) ≡ false }
@@ -110,6 +111,7 @@ pub(crate) fn not_after(alloc: Global, list: CommaList, token: &Token, pos: Posi
 ///
 /// If another token is there, the error is `MissingToken` at that token, or the error of the tokenizer that it is; if
 /// memory runs out, `OutOfMemory`.
+#[inline(always)]
 pub fn list_continues(alloc: Global, input: &mut TokenStream, list: CommaList) -> ParseResult<bool>
     ensures separates { Separates list (cursor_of input.old) result (cursor_of input.new) }
     ensures nowhere { IfErr result MemoryIsNowhere }

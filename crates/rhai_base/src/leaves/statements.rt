@@ -77,6 +77,7 @@ fn allowed_start(looping: bool, start: StatementStart) -> StatementStart
 
 /// What a token begins where a statement is expected. `looping` is whether the engine lets scripts have loops; without
 /// loops, a token of a loop, `break` or `continue` is taken for the beginning of an expression, which it is not.
+#[inline(always)]
 pub fn what_starts(looping: bool, token: &Token) -> StatementStart
     ensures starts { (context : Context) → looping ≡ allows_looping context
         → result ≡ statement_start context (lexeme token.now) }

@@ -18,6 +18,7 @@ use rhai_lower::{Position, Token, TokenStream};
 use std::alloc::AllocError;
 
 /// What a token begins where an operand is due.
+#[inline(always)]
 pub fn what_begins(token: &Token) -> Beginning
     ensures begins { result ≡ beginning (lexeme token.now) }
     ensures more { is_begun result ≡ true → is_end (lexeme token.now) ≡ false }
@@ -142,6 +143,7 @@ pub fn is_no_argument(token: &Token) -> bool
 }
 
 /// Whether a token calls the name before it.
+#[inline(always)]
 pub(crate) fn calls(token: &Token) -> bool
     ensures { result ≡ calls (lexeme token.now) }
 {
