@@ -2,7 +2,7 @@
 use Rattle.std.proofs.Common.{◌≡◌, ◌∙◌, ℕ, Bool, true, false, ◌&&◌, ◌||◌, not, List, [], ◌∷◌, ◌++◌, None, refl, sym, ap, ap₂, if◌then◌else◌, append-nil, is_some}
 use Rattle.rhai_lower.specs.Lexemes.{Lexeme}
 use Rattle.rhai_lower.specs.Nodes as node
-use Rattle.rhai_lower.specs.Nodes.{Arms, Called, Cases, Node, Nodes, Properties, made_block}
+use Rattle.rhai_lower.specs.Nodes.{Called, Node, Nodes}
 use Rattle.rhai_lower.specs.Texts.{Text, same_text}
 use Rattle.rhai_lower.specs.declared.position.Position.{Position}
 use Rattle.rhai_lower.specs.declared.token.Token.TheVariants as token
@@ -29,7 +29,7 @@ use Rattle.rhai_grammar.specs.Verdicts as V
 use Rattle.rhai_grammar.proofs.EventEffects.{ended_called}
 use Rattle.rhai_names.specs.Mentions.{Mention, Reads, all_mentions, by_call, is_read, mentions, property_mentions, statement_mentions}
 use Rattle.rhai_names.specs.WrittenFunctions as written
-use Rattle.rhai_names.specs.WrittenFunctions.{WrittenFunction, ended_of, events_of, in_closure_body, in_construct, in_elements, in_fields, in_primary, in_run, in_segments, is_used}
+use Rattle.rhai_names.specs.WrittenFunctions.{WrittenFunction, ended_of, in_closure_body, in_construct, in_elements, in_fields, in_primary, in_run, in_segments, is_used}
 use Rattle.rhai_names.proofs.BoolLemmas.{or-false}
 use Rattle.rhai_names.proofs.MentionLemmas.{call_reads, read-append}
 use Rattle.rhai_names.proofs.Readings.{Ends, Reading, SameNames, called_use, ended_used, ends_by, ends_on, made, no_ends, same, use_after, used_on}

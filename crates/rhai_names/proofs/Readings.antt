@@ -2,13 +2,12 @@
 use Rattle.std.proofs.Common.{◌≡◌, ◌∙◌, false, ◌&&◌, ◌||◌, not, List, [], ◌∷◌, ◌++◌, map, refl, sym, ap, ap₂, append-nil, is_some}
 use Rattle.std.proofs.lemmas.List.{map-append}
 use Rattle.rhai_lower.specs.Nodes as node
-use Rattle.rhai_lower.specs.Nodes.{Arms, Called, Cases, Node, Nodes, Properties, made_block}
+use Rattle.rhai_lower.specs.Nodes.{Called, made_block}
 use Rattle.rhai_lower.specs.Texts.{Text, same_text}
 use Rattle.rhai_lower.specs.Slots.{SlotValue}
 use Rattle.rhai_grammar.specs.Libraries.{Ended}
 use Rattle.rhai_grammar.specs.Slots.{number}
 use Rattle.rhai_grammar.specs.Trees as T
-use Rattle.rhai_grammar.specs.Trees.{is_variable, primary_tree, tree}
 use Rattle.rhai_grammar.specs.Uses.{Use}
 use Rattle.rhai_grammar.specs.UsesOfForms.{Event, HasEnded, Used, as_called, ended_in, ends_only, used_at}
 use Rattle.rhai_names.specs.Laws.{AllReadTheirUses, ReadsItsUses}

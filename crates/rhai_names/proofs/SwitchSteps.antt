@@ -3,7 +3,7 @@ use Rattle.std.proofs.Common.{◌≡◌, ◌∙◌, ℕ, Bool, true, false, ◌|
 use Rattle.std.proofs.lemmas.Bool.{and_from, and_parts}
 use Rattle.std.specs.Option.{option_or}
 use Rattle.rhai_lower.specs.Nodes as node
-use Rattle.rhai_lower.specs.Nodes.{Arms, Called, Cases, Node, Nodes, Properties, made_block}
+use Rattle.rhai_lower.specs.Nodes.{Arms, Cases, Node, Nodes, Properties}
 use Rattle.rhai_lower.specs.Texts.{Text}
 use Rattle.rhai_grammar.specs.CaseValues.{are_literal_values, have_literal_values, inclusion, is_literal_value, range_end, range_from, range_over, range_start, same_value}
 use Rattle.rhai_grammar.specs.Causes.{Refusal}

@@ -2,7 +2,7 @@
 use Rattle.std.proofs.Common.{◌≡◌, ◌∙◌, Bool, true, false, List, [], ◌∷◌, ◌++◌, Some, None, refl, sym, ap, ap₂, if◌then◌else◌, append_assoc, append-nil}
 use Rattle.rhai_lower.specs.Lexemes.{Lexeme}
 use Rattle.rhai_lower.specs.Nodes as node
-use Rattle.rhai_lower.specs.Nodes.{Arms, Called, Cases, Node, Nodes, Properties, made_block}
+use Rattle.rhai_lower.specs.Nodes.{Node, Nodes}
 use Rattle.rhai_lower.specs.declared.position.Position.{Position}
 use Rattle.rhai_grammar.specs.Chains.{Bracket, Chain, Dotted, Link, LinkKind, chain_of, chained, is_last, link_node, nest}
 use Rattle.rhai_grammar.specs.Operators as O

@@ -37,13 +37,13 @@ use Rattle.rhai_grammar.proofs.NumberWays.{Gives, ahead, apart_from, banged, cau
 use Rattle.rhai_names.specs.Laws.{FunctionsReadTheirUses}
 use Rattle.rhai_names.specs.Mentions.{all_mentions, block_mentions, mentions, optional_mentions, property_mentions, statement_mentions, statements_mentions}
 use Rattle.rhai_names.specs.WrittenFunctions as written
-use Rattle.rhai_names.specs.WrittenFunctions.{WrittenFunction, ended_of, in_action, in_arguments, in_arms, in_base, in_body, in_branch, in_case_guard, in_cases, in_closure_body, in_conditional, in_construct, in_elements, in_evaluation, in_fields, in_initializer, in_items, in_jump_value, in_links, in_operand, in_primary, in_run, in_segments, in_statement, in_statements}
+use Rattle.rhai_names.specs.WrittenFunctions.{in_action, in_arguments, in_arms, in_base, in_body, in_branch, in_case_guard, in_cases, in_closure_body, in_conditional, in_construct, in_elements, in_evaluation, in_fields, in_initializer, in_items, in_jump_value, in_links, in_operand, in_run, in_segments, in_statement, in_statements}
 use Rattle.rhai_names.proofs.OperandSteps as OperandSteps
 use Rattle.rhai_names.proofs.Readings as Readings
 use Rattle.rhai_names.proofs.SwitchSteps as SwitchSteps
 use Rattle.rhai_names.proofs.TreeSteps as TreeSteps
 use Rattle.rhai_names.proofs.OperandSteps.{Stands}
-use Rattle.rhai_names.proofs.Readings.{Reading, alone, both, nothing, rather, same, swapped}
+use Rattle.rhai_names.proofs.Readings.{Reading, alone, both, nothing, same, swapped}
 use Rattle.rhai_names.proofs.SwitchSteps.{Collects, collected_mentions, faultless}
 use Rattle.rhai_names.proofs.TreeSteps.{link_mentions}
 

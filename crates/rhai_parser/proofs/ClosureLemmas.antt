@@ -1,11 +1,11 @@
 -- Closures: what the reading program does where the code has decided.
-use Rattle.std.proofs.Common.{◌≡◌, ◌∙◌, ◌+◌, ◌≤◌, ◌++◌, ℕ, Bool, true, false, List, [], ◌∷◌, Result, Ok, Err, ap, arith, if◌then◌else◌, refl, sym}
+use Rattle.std.proofs.Common.{◌≡◌, ◌∙◌, ◌+◌, ◌≤◌, ◌++◌, ℕ, true, false, List, [], ◌∷◌, Result, ap, arith, if◌then◌else◌, refl, sym}
 use Rattle.rhai_lower.specs.Texts.{Text}
 use Rattle.rhai_lower.specs.Nodes as node
 use Rattle.rhai_lower.specs.Nodes.{Node}
 use Rattle.rhai_lower.specs.declared.position.Position.{Position}
 use Rattle.rhai_grammar.specs.Causes as cause
-use Rattle.rhai_grammar.specs.Causes.{Refusal, refusal}
+use Rattle.rhai_grammar.specs.Causes.{refusal}
 use Rattle.rhai_grammar.specs.Closures.{in_closure}
 use Rattle.rhai_grammar.specs.Contexts.{Context, Known, Live, has_room, level_up}
 use Rattle.rhai_grammar.specs.Cursors.{left}

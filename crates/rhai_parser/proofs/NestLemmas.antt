@@ -2,11 +2,10 @@
 use Rattle.std.proofs.Common.{IfOk, ◌≡◌, ℕ, ◌+◌, ◌*◌, ◌-◌, ◌^◌, ◌≤◌, max, min, subst, sym, ap, arith, Result, Ok, Err}
 use Rattle.std.proofs.Math.Nat.{le-max_left, le-max_right, max-le, min-le_left}
 use Rattle.rhai_lower.specs.Nodes as node
-use Rattle.rhai_grammar.specs.Causes.{Refusal}
 use Rattle.rhai_grammar.specs.Contexts.{Context, Live}
 use Rattle.rhai_grammar.specs.Settings.{one_more}
 use Rattle.rhai_reading.specs.Reading.{Script}
-use Rattle.rhai_reading.specs.Running.{Done, Gives, Progress, Refused, result_of}
+use Rattle.rhai_reading.specs.Running.{Done, Gives, Progress, result_of}
 use Rattle.rhai_grammar.specs.Promises.{UnlessMemory}
 use Rattle.rhai_grammar.specs.declared.error.ParseError.{ParseError}
 use Rattle.rhai_base.specs.Counts.{Counts, with_entered, with_left}
@@ -26,7 +25,6 @@ use Rattle.rhai_reading.proofs.Main.{IsNew}
 use Rattle.std.proofs.Math.Nat.{le_refl}
 use Rattle.rhai_base.specs.Counts.{counts_of}
 use Rattle.rhai_base.specs.Frames.{FrameValue}
-use Rattle.rhai_base.specs.Libraries.{library_of}
 use Rattle.rhai_parser.specs.Rooms.{Holds, IsWithin, Stays, function_room}
 use Rattle.rhai_parser.specs.declared.shared.Shared.{Shared}
 use Rattle.rhai_parser.proofs.Rooms.{function_room_most, gap_most}

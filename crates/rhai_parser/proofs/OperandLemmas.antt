@@ -1,9 +1,9 @@
 -- What follows the first part of an operand.
-use Rattle.std.proofs.Common.{◌≡◌, ◌∙◌, ◌≤◌, [], List, ap, arith, false, if◌then◌else◌, refl, subst, sym}
+use Rattle.std.proofs.Common.{◌≡◌, ◌∙◌, ◌≤◌, [], ap, arith, false, if◌then◌else◌, refl, subst, sym}
 use Rattle.rhai_lower.specs.Nodes.{Node}
 use Rattle.rhai_grammar.specs.Beginnings.{beginning, is_sign}
 use Rattle.rhai_grammar.specs.Causes.{out_of_memory}
-use Rattle.rhai_grammar.specs.Chains.{Link, chained}
+use Rattle.rhai_grammar.specs.Chains.{chained}
 use Rattle.rhai_grammar.specs.Contexts.{Context, Live}
 use Rattle.rhai_grammar.specs.Cursors.{left}
 use Rattle.rhai_grammar.specs.Delivered.{is_memory}

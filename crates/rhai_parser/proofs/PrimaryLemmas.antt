@@ -10,8 +10,7 @@ use Rattle.rhai_grammar.specs.Cursors.{Cursor}
 use Rattle.rhai_grammar.specs.Delivered.{is_memory}
 use Rattle.rhai_grammar.specs.Contexts.{Context, Known, Live}
 use Rattle.rhai_grammar.specs.Beginnings.{calls, excludes_use, is_this, may_be_called}
-use Rattle.rhai_grammar.specs.Modules.{may_use}
-use Rattle.rhai_grammar.specs.Settings.{Settings, is_in_function, strict_names}
+use Rattle.rhai_grammar.specs.Settings.{Settings, is_in_function}
 use Rattle.rhai_grammar.specs.Libraries.{Library}
 use Rattle.rhai_grammar.specs.Trees.{name_tree, variable_of}
 use Rattle.rhai_lower.specs.Slots.{SlotValue}

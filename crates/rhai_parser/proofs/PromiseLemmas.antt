@@ -1,6 +1,6 @@
 -- From what the reading program gives to what is promised.
 use Rattle.std.proofs.lemmas.List.{append-nil}
-use Rattle.std.proofs.Common.{ℕ, inl, ◌≡◌, Bool, true, false, List, [], ◌∷◌, refl, sym, ap, ◌∙◌, subst, Result, Ok, Err, IfErr, IfOk}
+use Rattle.std.proofs.Common.{inl, ◌≡◌, Bool, true, false, List, [], ◌∷◌, refl, sym, ap, ◌∙◌, subst, Result, Ok, Err, IfErr, IfOk}
 use Rattle.std.specs.Prelude.{Vec, map}
 use Rattle.std.specs.declared.alloc.Global.{Global}
 use Rattle.std.specs.declared.rc.Rc.{Rc}
@@ -11,17 +11,15 @@ use Rattle.rhai_lower.specs.View.{function_view, statement_views}
 use Rattle.rhai_lower.specs.declared.ast.AST.{AST}
 use Rattle.rhai_lower.specs.declared.ast.ScriptFuncDef.{ScriptFuncDef}
 use Rattle.rhai_lower.specs.declared.ast.Stmt.{Stmt}
-use Rattle.rhai_grammar.specs.Causes.{Refusal, refusal_of, is_for_memory}
+use Rattle.rhai_grammar.specs.Causes.{refusal_of, is_for_memory}
 use Rattle.rhai_grammar.specs.Cursors.{Cursor}
 use Rattle.rhai_grammar.specs.Contexts.{Context, Live}
-use Rattle.rhai_grammar.specs.Delivered.{Mode, Point}
-use Rattle.rhai_grammar.specs.Demands.{Demands, Met, Missed}
+use Rattle.rhai_grammar.specs.Demands.{Demands}
 use Rattle.rhai_grammar.specs.Forms as form
 use Rattle.rhai_grammar.specs.Libraries.{Library}
 use Rattle.rhai_grammar.specs.Trees.{statement_trees, tree}
 use Rattle.rhai_grammar.specs.Definitions.{after_statements}
-use Rattle.rhai_grammar.specs.NumberedLibraries.{IsOrderly}
-use Rattle.rhai_grammar.specs.Promises.{HasRead, ReadsWhole, Returns, UnlessMemory, expressions, scripts, start_of}
+use Rattle.rhai_grammar.specs.Promises.{HasRead, ReadsWhole, Returns, UnlessMemory, scripts}
 use Rattle.rhai_grammar.specs.declared.key.FnKey.{FnKey}
 use Rattle.rhai_base.specs.Libraries.{Begins, Grows, library_of}
 use Rattle.rhai_parser.specs.Scripts.{Accepts, Constants, IsMadeOf, IsScript, IsScriptOf, ReadsAst, ReadsExpression, ReadsScript, function_views, functions_in}

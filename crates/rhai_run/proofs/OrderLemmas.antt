@@ -1,7 +1,7 @@
 -- One part more and one part less in what is still to be printed.
-use Rattle.std.proofs.Common.{◌≡◌, ◌∙◌, ℕ, ◌<◌, ◌+◌, List, [], ◌∷◌, ◌++◌, ap, map, refl, reverse, sym, arith}
+use Rattle.std.proofs.Common.{◌≡◌, ◌∙◌, ◌<◌, ◌+◌, List, [], ◌∷◌, ◌++◌, ap, map, refl, reverse, arith}
 use Rattle.std.proofs.lemmas.List.{map-append, reverse-append}
-use Rattle.rhai_run.specs.Orders.{Item, item, after_item, items_of}
+use Rattle.rhai_run.specs.Orders.{item, after_item, items_of}
 use Rattle.rhai_run.specs.declared.print.tree.Due.{Due}
 use Rattle.rhai_run.proofs.Weights.{after_item-less, weights, weights-append}
 

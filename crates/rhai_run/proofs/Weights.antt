@@ -1,6 +1,6 @@
 -- What is still to be printed has a weight, which gets less. What stands in the place of an item has less in it.
 use Rattle.std.proofs.Common.{ℕ, ◌+◌, ◌<◌, ◌≡◌, List, [], ◌∷◌, ◌++◌, arith}
-use Rattle.rhai_lower.specs.Nodes.{Arms, Block, Cases, Node, Nodes, Optional, Properties, Statement, Statements, absent, array, assignment, block_statement, block_value, boolean, braces, break_loop, call, character, coalescing, conjunction, disjunction, do_statement, dot, export_statement, expression, for_statement, if_statement, import_statement, index, integer, interpolated, method_call, no_arms, no_nodes, no_properties, no_statements, noop, object_map, one_arm, one_node, one_property, one_statement, pointer, present, property, return_statement, share, string, switch_statement, this, try_catch, unit, var_statement, variable, while_statement}
+use Rattle.rhai_lower.specs.Nodes.{Arms, Block, Node, Nodes, Optional, Properties, Statement, Statements, absent, array, assignment, block_statement, block_value, boolean, braces, break_loop, call, character, coalescing, conjunction, disjunction, do_statement, dot, export_statement, expression, for_statement, if_statement, import_statement, index, integer, interpolated, method_call, no_arms, no_nodes, no_properties, no_statements, noop, object_map, one_arm, one_node, one_property, one_statement, pointer, present, property, return_statement, share, string, switch_statement, this, try_catch, unit, var_statement, variable, while_statement}
 use Rattle.rhai_run.specs.Orders.{Item, node, nodes, properties, statement, statements, block, arms, ways, after_statement, deeper, statement_parts, after_item, node_parts}
 
 -- One for each node and each list, and what is in them.

@@ -5,8 +5,8 @@ use Rattle.rhai_lower.specs.Nodes.{Arms, Block, Cases, Node, Nodes, Optional, Pr
 use Rattle.rhai_lower.specs.Nodes.{absent, array, assignment, block_statement, block_value, boolean, braces, break_loop}
 use Rattle.rhai_lower.specs.Nodes.{call, character, coalescing, conjunction, disjunction, do_statement, dot}
 use Rattle.rhai_lower.specs.Nodes.{export_statement, expression, for_statement, if_statement, import_statement, index}
-use Rattle.rhai_lower.specs.Nodes.{integer, interpolated, method_call, no_arms, no_cases, no_nodes, no_properties}
-use Rattle.rhai_lower.specs.Nodes.{no_statements, noop, object_map, one_arm, one_case, one_node, one_property}
+use Rattle.rhai_lower.specs.Nodes.{integer, interpolated, method_call, no_arms, no_nodes, no_properties}
+use Rattle.rhai_lower.specs.Nodes.{no_statements, noop, object_map, one_arm, one_node, one_property}
 use Rattle.rhai_lower.specs.Nodes.{one_statement, pointer, present, property, return_statement, share, string}
 use Rattle.rhai_lower.specs.Nodes.{switch_statement, this, try_catch, unit, var_statement, variable, while_statement}
 use Rattle.rhai_lower.specs.declared.node.LinkFlags.{LinkFlags}

@@ -5,7 +5,7 @@ use Rattle.std.specs.declared.alloc.Global.{Global}
 use Rattle.std.specs.declared.rc.RcStr.{RcStr}
 use Rattle.rhai_grammar.specs.Cursors.{cursor_of, mode_by}
 use Rattle.std.proofs.Common.{IfOk}
-use Rattle.rhai_base.specs.Counts.{Counts, counts_of, with_entered}
+use Rattle.rhai_base.specs.Counts.{counts_of, with_entered}
 use Rattle.rhai_base.specs.Frames.{FrameValue}
 use Rattle.rhai_base.specs.Libraries.{library_of}
 use Rattle.rhai_parser.specs.Frames.{context_of}

@@ -1,6 +1,5 @@
-use Rattle.std.proofs.Common.{List, [], ap, arith, refl, rules, subst, sym, ◌-◌, ◌^◌, ◌≤◌, ◌≡◌}
+use Rattle.std.proofs.Common.{List, [], ap, refl, rules, subst, ◌-◌, ◌^◌, ◌≤◌, ◌≡◌}
 use Rattle.rhai_grammar.specs.Cursors.{cursor_of}
-use Rattle.rhai_grammar.specs.Promises.{UnlessMemory}
 use Rattle.rhai_grammar.specs.Uses.{Use}
 use Rattle.rhai_base.specs.Counts.{counts_of}
 use Rattle.rhai_base.specs.Libraries.{library_of}
@@ -9,7 +8,6 @@ use Rattle.rhai_reading.specs.Reading.{Script}
 use Rattle.rhai_reading.specs.Running.{Gives, Progress, result_of}
 use Rattle.rhai_parser.specs.Frames.{context_of}
 use Rattle.rhai_parser.specs.Readers.{nesting_of, state_of, statements_of, with_live}
-use Rattle.rhai_parser.specs.Nesting.{StaysWithin}
 use Rattle.rhai_parser.proofs.NestLemmas.{returns_read, stays_read}
 use Rattle.rhai_parser.proofs.engine.Engine.read_statements.Goals as goal
 

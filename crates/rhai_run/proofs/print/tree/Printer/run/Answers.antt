@@ -1,5 +1,5 @@
 -- What is left to print gets less, until nothing is left.
-use Rattle.std.proofs.Common.{◌∙◌, ap, arith, refl}
+use Rattle.std.proofs.Common.{◌∙◌, ap, arith}
 use Rattle.std.proofs.lemmas.List.{nil_from_length}
 use Rattle.rhai_run.specs.Orders.{items_of}
 use Rattle.rhai_run.proofs.OrderLemmas.{less_left, none_left}
