@@ -13,8 +13,8 @@ use Rattle.rhai_reading.specs.Nesting.{Nesting}
 use Rattle.rhai_reading.specs.Reading.{Goal, Val}
 use Rattle.rhai_reading.specs.Running.{Gives, result_of}
 
--- What a leaf returned, seen by view, is what the goal gives at the cursor s, whatever else there is, and the cursor t is
--- what it left; unless memory ran out.
+-- What a leaf returned, seen by view, is what the goal gives at the cursor s, whatever else there is, and the cursor t
+-- is what it left; unless memory ran out.
 abbrev pub GivesAt : {X : Type 0} (g : Goal) → (X → Val g) → Cursor → Result X ParseError → Cursor → Type 0
 GivesAt g view s result t = (library : Library) (captured : List Use) (nesting : Nesting)
     → Gives view (result_of g (record { cursor = s; library = library; captured = captured; nesting = nesting })) result

@@ -1,6 +1,6 @@
 //! What a closure gives: its function, and the value that stands for it.
 
-ghost use Rattle.std.specs.Prelude.{◌≡◌, ◌+◌, IfOk, None, [], length, map};
+ghost use Rattle.std.specs.Prelude.{◌≡◌, ◌++◌, ◌+◌, IfOk, None, OnOk, [], length, map};
 ghost use Rattle.std.specs.Rc.{rc_str_bytes};
 ghost use Rattle.rhai_lower.specs.Nodes.{block_value, braces, one_node, pointer};
 ghost use Rattle.rhai_lower.specs.Positions.{nowhere};
@@ -12,7 +12,7 @@ ghost use Rattle.rhai_grammar.specs.Closures.{shared_names};
 ghost use Rattle.rhai_base.specs.Libraries.{ended};
 ghost use Rattle.rhai_base.specs.Uses.{captured_node, use_of, uses_of};
 
-use crate::frame::{Frame, push_names};
+use crate::frame::Frame;
 use rhai_grammar::FnKey;
 use rhai_lower::{
     Expr, FnCallExpr, Ident, Namespace, Position, ScriptFuncDef, Stmt, StmtBlock, VariableExpr,
@@ -156,6 +156,17 @@ fn all_names(
     }
     push_names(&mut all, declared)?;
     Ok(all)
+}
+
+// Adds names to others. The error is that there is no memory for them.
+fn push_names(all: &mut Vec<RcStr>, names: &[RcStr]) -> Result<(), AllocError>
+    ensures { OnOk result (map rc_str_bytes all.new.items
+        ≡ map rc_str_bytes all.old.items ++ map rc_str_bytes names.now) }
+{
+    for name in names {
+        all.push(name.clone()?)?;
+    }
+    Ok(())
 }
 
 /// The function of a closure with this name, and its key. The error is that there is no memory for it.

@@ -15,10 +15,10 @@ ghost use Rattle.rhai_grammar.specs.Targets.{is_constant_at};
 ghost use Rattle.rhai_grammar.specs.declared.filter.ExprFilter.TheVariants.{All, AllButPipe};
 ghost use Rattle.rhai_lower.specs.Slots.{is_declared};
 ghost use Rattle.rhai_lower.specs.Texts.{same_text};
-ghost use Rattle.rhai_base.specs.Frames.{SamePlace, known_of};
+ghost use Rattle.rhai_base.specs.Frames.{SamePlace, all_names, imported_names, known_of};
 ghost use Rattle.rhai_base.specs.Libraries.{library_of};
 
-use crate::known::Known;
+use crate::known::{AllImports, Known};
 use crate::library::Library;
 use crate::lookup::{import_place, place_of};
 use crate::slots::{define, export};
@@ -163,45 +163,51 @@ impl<'p> Frame<'p> {
     /// The frame of a function or closure that stands in this one, in which nothing is live: it knows the same as this
     /// one, and of modules the `imports`, which the caller takes from `all_imports`. `begun` functions and closures
     /// have begun around it, itself included. Its expressions may contain every token. Does not allocate.
-    pub fn in_function<'f>(&'f self, alloc: Global, imports: &'f [RcStr], begun: usize) -> Frame<'f>
+    pub fn in_function<'f>(
+        &'f self,
+        alloc: Global,
+        imports: &'f AllImports<'_>,
+        begun: usize,
+    ) -> Frame<'f>
         ensures { result ≡ record {
           live = nothing_live;
           depth = 0;
           filter = All;
-          known = record self.now.known { imports = map rc_str_bytes imports.now };
+          known = record self.now.known { imports = all_names imports.now };
           begun = begun;
         } }
     {
         let known = Known {
             variables: self.known.variables,
-            imports,
+            imports: imports.imports,
+            around: &imports.lists,
             modules: self.known.modules,
         };
         let filter = ExprFilter::All;
         Frame::new(Scope::new(alloc), 0, Vec::new(alloc), filter, known, begun)
     }
 
-    /// The names of the modules that were imported around the script, and then of those that are live here. The error
-    /// is that there is no memory for them.
-    pub fn all_imports(&self, alloc: Global) -> Result<Vec<RcStr>, AllocError>
-        ensures { IfOk result (λ all. map rc_str_bytes all.items
-            ≡ self.now.known.imports ++ self.now.live.imports) }
+    /// The names of the modules that are known to be imported around, and then of those that are live here. The time
+    /// grows with the blocks that import, not with the imports. The error is that there is no memory for them.
+    pub fn all_imports<'f>(&'f self, alloc: Global) -> Result<AllImports<'f>, AllocError>
+        ensures { IfOk result (λ all. all_names all ≡ self.now.known.imports ++ self.now.live.imports) }
     {
-        let mut all = Vec::new(alloc);
-        push_names(&mut all, self.known.imports)?;
-        self.push_imports(&mut all)?;
-        Ok(all)
+        let imports = self.known.imports;
+        let mut lists = Vec::new(alloc);
+        push_lists(&mut lists, self.known.around)?;
+        self.push_imports(&mut lists)?;
+        Ok(AllImports { imports, lists })
     }
 
-    // Adds the names of the live imports. The error is that there is no memory for them.
-    fn push_imports(&self, all: &mut Vec<RcStr>) -> Result<(), AllocError>
-        ensures { OnOk result (map rc_str_bytes all.new.items
-            ≡ map rc_str_bytes all.old.items ++ self.now.live.imports) }
+    // Adds the lists of the live imports. The error is that there is no memory for them.
+    fn push_imports<'f>(&'f self, all: &mut Vec<&'f NamedList<RcStr>>) -> Result<(), AllocError>
+        ensures { OnOk result (imported_names all.new.items
+            ≡ imported_names all.old.items ++ self.now.live.imports) }
     {
         if let Some(outer) = self.outer {
             outer.push_imports(all)?;
         }
-        push_names(all, self.imports.items())
+        push_list(all, &self.imports)
     }
 
     /// How many functions and closures have begun around this frame. Does not allocate.
@@ -419,13 +425,30 @@ impl<'p> Frame<'p> {
     }
 }
 
-// Adds names to others. The error is that there is no memory for them.
-pub(crate) fn push_names(all: &mut Vec<RcStr>, names: &[RcStr]) -> Result<(), AllocError>
-    ensures { OnOk result (map rc_str_bytes all.new.items
-        ≡ map rc_str_bytes all.old.items ++ map rc_str_bytes names.now) }
+// Adds a list to others, unless it is empty. The error is that there is no memory for it.
+fn push_list<'f>(
+    all: &mut Vec<&'f NamedList<RcStr>>,
+    list: &'f NamedList<RcStr>,
+) -> Result<(), AllocError>
+    ensures { OnOk result (imported_names all.new.items
+        ≡ imported_names all.old.items ++ map rc_str_bytes list.now) }
 {
-    for name in names {
-        all.push(name.clone()?)?;
+    if !list.is_empty() {
+        all.push(list)?;
+    }
+    Ok(())
+}
+
+// Adds lists to others, except empty ones. The error is that there is no memory for them.
+fn push_lists<'f>(
+    all: &mut Vec<&'f NamedList<RcStr>>,
+    lists: &[&'f NamedList<RcStr>],
+) -> Result<(), AllocError>
+    ensures { OnOk result (imported_names all.new.items
+        ≡ imported_names all.old.items ++ imported_names lists.now) }
+{
+    for list in lists {
+        push_list(all, *list)?;
     }
     Ok(())
 }

@@ -1,11 +1,11 @@
-//! `Known`: what is known before a script defines or imports anything.
+//! `Known`: what is known around a script; `AllImports`: the modules imported around a function.
 
 ghost use Rattle.std.specs.Prelude.{◌≡◌};
 ghost use Rattle.rhai_lower.specs.Slots.{is_declared};
 ghost use Rattle.rhai_grammar.specs.Imports.{is_among};
-ghost use Rattle.rhai_base.specs.Frames.{known_of};
+ghost use Rattle.rhai_base.specs.Frames.{imported_names, known_of};
 
-use rhai_lower::{Scope, is_named};
+use rhai_lower::{NamedList, Scope, is_named};
 use std::rc::RcStr;
 
 /// What is known before a script defines or imports anything.
@@ -15,8 +15,17 @@ pub struct Known<'p> {
     pub variables: Option<&'p Scope>,
     /// The names of the modules that were imported around the script.
     pub imports: &'p [RcStr],
+    /// Those of the modules that were imported around a function, in lists from the oldest on.
+    pub around: &'p [&'p NamedList<RcStr>],
     /// The names of the engine's modules.
     pub modules: &'p [RcStr],
+}
+
+/// The names of all modules that are imported around a function: around the script, and then in lists.
+#[derive(Drop)]
+pub struct AllImports<'p> {
+    pub(crate) imports: &'p [RcStr],
+    pub(crate) lists: Vec<&'p NamedList<RcStr>>,
 }
 
 impl<'p> Known<'p> {
@@ -30,11 +39,11 @@ impl<'p> Known<'p> {
         }
     }
 
-    // Whether a module of this name was imported around the script.
+    // Whether a module of this name was imported around the script, or around a function.
     pub(crate) fn has_import(&self, name: &str) -> bool
         ensures { result ≡ is_among name.now (known_of self.now).imports }
     {
-        is_named(self.imports, name)
+        is_named(self.imports, name) || is_listed(self.around, name)
     }
 
     // Whether the engine has a module of this name.
@@ -43,4 +52,16 @@ impl<'p> Known<'p> {
     {
         is_named(self.modules, name)
     }
+}
+
+// Whether a module of this name is in one of the lists.
+fn is_listed(lists: &[&NamedList<RcStr>], name: &str) -> bool
+    ensures { result ≡ is_among name.now (imported_names lists.now) }
+{
+    for list in lists {
+        if list.has_name(name) {
+            return true;
+        }
+    }
+    false
 }

@@ -223,6 +223,7 @@ impl Engine {
         Known {
             variables,
             imports,
+            around: &[],
             modules: &self.sub_modules,
         }
     }

@@ -215,12 +215,19 @@ fn frame<'p>(rt: &impl Abort, alloc: Global) -> Result<Frame<'p>, AllocError> {
     let known = Known {
         variables: None,
         imports: &[],
+        around: &[],
         modules: &[],
     };
     let frame = Frame::new(Scope::new(alloc), 0, imports, ExprFilter::All, known, 0);
-    let all = frame.all_imports(alloc)?;
-    assert!(rt; all.len() == 1);
+    assert!(rt; knows_imports(&frame, alloc)?);
     Ok(frame)
+}
+
+// Whether a function in this frame knows that `m` was imported, and `z` was not.
+fn knows_imports(frame: &Frame<'_>, alloc: Global) -> Result<bool, AllocError> {
+    let all = frame.all_imports(alloc)?;
+    let inner = frame.in_function(alloc, &all, 1);
+    Ok(inner.may_enter(true, "m") && !inner.may_enter(true, "z"))
 }
 
 // Imports a module of each name. The latest import of a name is found on the way.

@@ -1,7 +1,7 @@
 -- The names so far, and those from the index on, are all names.
 use Rattle.std.proofs.Common.{◌≡◌, ◌++◌, drop, map}
 use Rattle.std.specs.Rc.{rc_str_bytes}
-use Rattle.rhai_base.proofs.frame.push_names.Given as goal
+use Rattle.rhai_base.proofs.closures.push_names.Given as goal
 
 abbrev pub invariant-loop-name : goal.invariant-loop-name
 invariant-loop-name l =
