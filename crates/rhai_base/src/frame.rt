@@ -18,7 +18,7 @@ ghost use Rattle.rhai_lower.specs.Texts.{same_text};
 ghost use Rattle.rhai_base.specs.Frames.{SamePlace, all_names, imported_names, known_of};
 ghost use Rattle.rhai_base.specs.Libraries.{library_of};
 
-use crate::known::{AllImports, Known};
+use crate::known::{AllImports, Known, push_list, push_lists};
 use crate::library::Library;
 use crate::lookup::{import_place, place_of};
 use crate::slots::{define, export};
@@ -423,32 +423,4 @@ impl<'p> Frame<'p> {
     {
         self.above + self.imports.len()
     }
-}
-
-// Adds a list to others, unless it is empty. The error is that there is no memory for it.
-fn push_list<'f>(
-    all: &mut Vec<&'f NamedList<RcStr>>,
-    list: &'f NamedList<RcStr>,
-) -> Result<(), AllocError>
-    ensures { OnOk result (imported_names all.new.items
-        ≡ imported_names all.old.items ++ map rc_str_bytes list.now) }
-{
-    if !list.is_empty() {
-        all.push(list)?;
-    }
-    Ok(())
-}
-
-// Adds lists to others, except empty ones. The error is that there is no memory for them.
-fn push_lists<'f>(
-    all: &mut Vec<&'f NamedList<RcStr>>,
-    lists: &[&'f NamedList<RcStr>],
-) -> Result<(), AllocError>
-    ensures { OnOk result (imported_names all.new.items
-        ≡ imported_names all.old.items ++ imported_names lists.now) }
-{
-    for list in lists {
-        push_list(all, *list)?;
-    }
-    Ok(())
 }
