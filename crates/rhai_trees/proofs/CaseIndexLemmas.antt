@@ -1,5 +1,5 @@
 -- Keys of `switch` cases, and places as cases are added.
-use Rattle.std.proofs.Common.{◌≡◌, ◌∙◌, ◌<◌, ℕ, ℤ, ◌+◌, ◌==◌, Bool, true, false, List, [], ◌∷◌, ◌&&◌, ◌++◌, Option, Some, None, length, refl, sym, ap, arith, cond, unwrap_or, if◌then◌else◌}
+use Rattle.std.proofs.Common.{◌≡◌, ◌∙◌, ◌<◌, ◌≤◌, ℕ, ℤ, suc, zero, ◌+◌, ◌==◌, Bool, true, false, not, List, [], ◌∷◌, ◌&&◌, ◌++◌, Option, Some, None, append-nil, get_or, is_some, length, refl, sym, ap, arith, cond, true≢false, unwrap_or, if◌then◌else◌}
 use Rattle.std.proofs.lemmas.Bool.{and_parts}
 use Rattle.std.specs.Bool.{beq}
 use Rattle.std.specs.Cmp.{signed_Decides, unsigned_Decides}
@@ -23,7 +23,9 @@ use Rattle.rhai_lower.specs.declared.token.Token.TheVariants.{ExclusiveRange, In
 use Rattle.rhai_grammar.specs.Operators.{operator_called}
 use Rattle.rhai_grammar.specs.Switches.{with_value}
 use Rattle.rhai_trees.specs.contracts.case_index.CaseKeyPartialEq.TheImpl.{eq-value}
-use Rattle.rhai_trees.specs.CaseKeys.{Places, is_key, key_value, plain_value, range_value, same_case}
+use Rattle.rhai_trees.specs.CaseKeys.{Files, Places, case_count, digest_of, first_same, has_digest, is_plain, key_value, numbered, parts_key, place_of, plain_value, range_value, same_case, with_digest}
+use Rattle.rhai_trees.specs.Digests.{digest, is_regular}
+use Rattle.rhai_trees.proofs.DigestLemmas.{same_digest}
 use Rattle.rhai_trees.specs.Switches.{case_place}
 use Rattle.rhai_trees.proofs.SwitchLemmas.{boolean_anywhere, call_value, character_anywhere, integer_anywhere, place_none, pointer_anywhere, string_anywhere, unit_anywhere}
 use Rattle.rhai_trees.specs.declared.case_index.CaseKey.{CaseKey}
@@ -125,6 +127,8 @@ array_by_key ns p (key.Character c) = refl
 array_by_key ns p (key.Text t) = refl
 array_by_key ns p (key.Pointer t n) = refl
 array_by_key ns p (key.Range b m n) = refl
+array_by_key ns p (key.Parts d n) = refl
+array_by_key ns p (key.Irregular n) = refl
 
 map_by_key : (ps : Properties) (p : Position) (q : CaseKey) → same_value (object_map ps p) (key_value q) ≡ false
 map_by_key ps p key.Unit = refl
@@ -134,6 +138,8 @@ map_by_key ps p (key.Character c) = refl
 map_by_key ps p (key.Text t) = refl
 map_by_key ps p (key.Pointer t n) = refl
 map_by_key ps p (key.Range b m n) = refl
+map_by_key ps p (key.Parts d n) = refl
+map_by_key ps p (key.Irregular n) = refl
 
 -- a value without a key is equal to none that has one
 pub no_plain : (x : Node) (q : CaseKey) → plain_value x ≡ None → same_value x (key_value q) ≡ false
@@ -152,18 +158,20 @@ no_plain (call c ns at) q e = by (range_of (call c ns at)) refl e
     by (Some r) h e = absurd cc
 no_plain _ q e = refl
 
-pub keys_compared : (k q : CaseKey) → same_value (key_value k) (key_value q) ≡ same_case k q
-keys_compared (key.Range a b c) (key.Range d e f) =
+pub keys_compared : (k q : CaseKey) → is_plain k ≡ true → same_value (key_value k) (key_value q) ≡ same_case k q
+keys_compared (key.Parts d m) q plain = absurd cc
+keys_compared (key.Irregular m) q plain = absurd cc
+keys_compared (key.Range a b c) (key.Range d e f) plain =
     let left : IntegerRange = record { first = b; last = c; is_inclusive = a } in
     let right : IntegerRange = record { first = e; last = f; is_inclusive = d } in
     range_on_left left (range_value right) ∙ ap (same_range (Some left)) (range_again right)
-keys_compared key.Unit key.Unit = refl
-keys_compared (key.Boolean a) (key.Boolean b) = refl
-keys_compared (key.Integer a) (key.Integer b) = refl
-keys_compared (key.Character a) (key.Character b) = refl
-keys_compared (key.Text a) (key.Text b) = refl
-keys_compared (key.Pointer a m) (key.Pointer b n) = refl
-keys_compared _ _ = refl
+keys_compared key.Unit key.Unit plain = refl
+keys_compared (key.Boolean a) (key.Boolean b) plain = refl
+keys_compared (key.Integer a) (key.Integer b) plain = refl
+keys_compared (key.Character a) (key.Character b) plain = refl
+keys_compared (key.Text a) (key.Text b) plain = refl
+keys_compared (key.Pointer a m) (key.Pointer b n) plain = refl
+keys_compared _ _ plain = refl
 
 same_booleans : (a b : Bool) → same_boolean a b ≡ true → a ≡ b
 same_booleans true true e = refl
@@ -188,14 +196,11 @@ equal_keys (key.Range a b c) (key.Range d f g) e =
     ap (λ x. range x b c) (same_booleans a d (and_parts (same_boolean a d) (int_eq b f && int_eq c g) e).0)
     ∙ ap (λ m. range d m c) ((signed_Decides b f).0 (and_parts (int_eq b f) (int_eq c g) ends).0)
     ∙ ap (λ n. range d f n) ((signed_Decides c g).0 (and_parts (int_eq b f) (int_eq c g) ends).1)
+equal_keys (key.Parts d m) (key.Parts f n) e = refl
+equal_keys (key.Irregular m) (key.Irregular n) e = refl
 equal_keys _ _ e = absurd cc
 
 -- ---- places
-
--- how many cases there are
-abbrev pub case_count : Cases → ℕ
-case_count node.no_cases = 0
-case_count (node.one_case y indices cs) = case_count cs + 1
 
 pub place_alike : (cs : Cases) (x p : Node) → ((y : Node) → same_value y x ≡ same_value y p) → case_place cs x ≡ case_place cs p
 place_alike node.no_cases x p h = refl
@@ -236,17 +241,119 @@ place_kept (node.one_case z more cs) x y index n e = by (same_value z x) (case_p
     by false None h e = absurd cc
     by false (Some m) h e = ap (λ o. if same_value z y then Some 0 else option_map (λ n. n + 1) o) (h m refl)
 
+-- ---- the cases with a digest
+
+-- One more arm for a value that is there moves no case.
+digests_kept : (cs : Cases) (x : Node) (index n : ℕ) (o : Option ℕ) (k : ℕ) → case_place cs x ≡ Some n → with_digest o k (with_value cs x index) ≡ with_digest o k cs
+digests_kept node.no_cases x index n o k e = absurd cc
+digests_kept (node.one_case z more cs) x index n o k e = by (same_value z x) (case_place cs x) (λ m f. digests_kept cs x index m o (k + 1) f) e
+  where
+    by : (b : Bool) (p : Option ℕ) → ((m : ℕ) → p ≡ Some m → with_digest o (k + 1) (with_value cs x index) ≡ with_digest o (k + 1) cs) → (if b then Some 0 else option_map (λ n. n + 1) p) ≡ Some n → with_digest o k (if b then node.one_case z (more ++ index ∷ []) cs else node.one_case z more (with_value cs x index)) ≡ (if has_digest o z then (k, z) ∷ with_digest o (k + 1) cs else with_digest o (k + 1) cs)
+    by true p h e = refl
+    by false None h e = absurd cc
+    by false (Some m) h e = ap (λ l. if has_digest o z then (k, z) ∷ l else l) (h m refl)
+
+-- one more case
+digests_pushed : (cs : Cases) (x : Node) (indices : List ℕ) (o : Option ℕ) (k : ℕ) → with_digest o k (node.with_case cs x indices) ≡ with_digest o k cs ++ (if has_digest o x then (k + case_count cs, x) ∷ [] else [])
+digests_pushed node.no_cases x indices o k = by (has_digest o x)
+  where
+    by : (b : Bool) → (if b then (k, x) ∷ [] else []) ≡ (if b then (k + 0, x) ∷ [] else [])
+    by true = ap (λ i. (i, x) ∷ []) (omega arith)
+    by false = refl
+digests_pushed (node.one_case z more cs) x indices o k = by (has_digest o z) (has_digest o x) (digests_pushed cs x indices o (k + 1))
+  where
+    further : (b : Bool) → (if b then (k + 1 + case_count cs, x) ∷ [] else []) ≡ (if b then (k + (case_count cs + 1), x) ∷ [] else [])
+    further true = ap (λ i. (i, x) ∷ []) (omega arith)
+    further false = refl
+
+    by : (b c : Bool) → with_digest o (k + 1) (node.with_case cs x indices) ≡ with_digest o (k + 1) cs ++ (if c then (k + 1 + case_count cs, x) ∷ [] else []) → (if b then (k, z) ∷ with_digest o (k + 1) (node.with_case cs x indices) else with_digest o (k + 1) (node.with_case cs x indices)) ≡ (if b then (k, z) ∷ with_digest o (k + 1) cs else with_digest o (k + 1) cs) ++ (if c then (k + (case_count cs + 1), x) ∷ [] else [])
+    by true c h = ap (λ l. (k, z) ∷ l) (h ∙ ap (λ l. with_digest o (k + 1) cs ++ l) (further c))
+    by false c h = h ∙ ap (λ l. with_digest o (k + 1) cs ++ l) (further c)
+
+pub digest_count : (cs : Cases) (o : Option ℕ) (k : ℕ) → length (with_digest o k cs) ≤ case_count cs
+digest_count node.no_cases o k = omega arith
+digest_count (node.one_case z more cs) o k = by (has_digest o z) (digest_count cs o (k + 1))
+  where
+    by : (b : Bool) → length (with_digest o (k + 1) cs) ≤ case_count cs → length (if b then (k, z) ∷ with_digest o (k + 1) cs else with_digest o (k + 1) cs) ≤ case_count cs + 1
+    by true h = omega (arith, h)
+    by false h = omega (arith, h)
+
+-- ---- numbers
+
+numbered_last : (l : List (ℕ × Node)) (z : ℕ × Node) → numbered (l ++ z ∷ []) (length l) ≡ Some z
+numbered_last [] z = refl
+numbered_last (c ∷ l) z = numbered_last l z
+
+numbered_before : (l : List (ℕ × Node)) (z : ℕ × Node) (n : ℕ) → (length l ≡ n → ⊥) → numbered (l ++ z ∷ []) n ≡ numbered l n
+numbered_before [] z zero h = absurd (h refl)
+numbered_before [] z (suc n) h = refl
+numbered_before (c ∷ l) z zero h = refl
+numbered_before (c ∷ l) z (suc n) h = numbered_before l z n (λ e. h (omega (arith, e)))
+
+numbered_pushed : (l : List (ℕ × Node)) (z : ℕ × Node) (n : ℕ) → numbered (l ++ z ∷ []) n ≡ (if length l == n then Some z else numbered l n)
+numbered_pushed l z n = by (length l == n) refl
+  where
+    by : (b : Bool) → (length l == n) ≡ b → numbered (l ++ z ∷ []) n ≡ (if b then Some z else numbered l n)
+    by true e = ap (numbered (l ++ z ∷ [])) (sym ((unsigned_Decides (length l) n).0 e)) ∙ numbered_last l z
+    by false e = numbered_before l z n (λ f. true≢false (sym ((unsigned_Decides (length l) n).1 f) ∙ e))
+
+pub no_number : (l : List (ℕ × Node)) (n : ℕ) → numbered l n ≡ None → length l ≤ n
+no_number [] n e = omega arith
+no_number (c ∷ l) zero e = absurd cc
+no_number (c ∷ l) (suc n) e = omega (arith, no_number l n e)
+
+pub a_number : (l : List (ℕ × Node)) (n : ℕ) (c : ℕ × Node) → numbered l n ≡ Some c → n < length l
+a_number [] n c e = absurd cc
+a_number (d ∷ l) zero c e = omega arith
+a_number (d ∷ l) (suc n) c e = omega (arith, a_number l n c e)
+
 -- ---- the index
 
-pub no_places : (find : CaseKey → Option ℕ) → ((q : CaseKey) → find q ≡ None) → Places find node.no_cases
-no_places find h = record { found = h }
+-- a place by its key, where neither the places of values nor the cases with a digest change
+place_by : (cs ds : Cases) → ((p : Node) → case_place ds p ≡ case_place cs p) → ((o : Option ℕ) → with_digest o 0 ds ≡ with_digest o 0 cs) → (q : CaseKey) → place_of ds q ≡ place_of cs q
+place_by cs ds h g (key.Parts d n) = ap (λ l. option_map (λ c. c.0) (numbered l n)) (g (Some d))
+place_by cs ds h g (key.Irregular n) = ap (λ l. option_map (λ c. c.0) (numbered l n)) (g None)
+place_by cs ds h g key.Unit = h _
+place_by cs ds h g (key.Boolean b) = h _
+place_by cs ds h g (key.Integer n) = h _
+place_by cs ds h g (key.Character c) = h _
+place_by cs ds h g (key.Text t) = h _
+place_by cs ds h g (key.Pointer t n) = h _
+place_by cs ds h g (key.Range b m n) = h _
 
-pub found_by_key : (find : CaseKey → Option ℕ) (cs : Cases) (x : Node) (k : CaseKey) → Places find cs → Some (key_value k) ≡ plain_value x → find k ≡ case_place cs x
-found_by_key find cs x k p e = p.found k ∙ sym (place_alike cs x (key_value k) (λ y. plain_right x (key_value k) y (sym e)))
+plain_place : (k : CaseKey) (cs : Cases) → is_plain k ≡ true → place_of cs k ≡ case_place cs (key_value k)
+plain_place (key.Parts d n) cs plain = absurd cc
+plain_place (key.Irregular n) cs plain = absurd cc
+plain_place key.Unit cs plain = refl
+plain_place (key.Boolean b) cs plain = refl
+plain_place (key.Integer n) cs plain = refl
+plain_place (key.Character c) cs plain = refl
+plain_place (key.Text t) cs plain = refl
+plain_place (key.Pointer t n) cs plain = refl
+plain_place (key.Range b m n) cs plain = refl
+
+pub no_places : (find : CaseKey → Option ℕ) → ((q : CaseKey) → find q ≡ None) → Places find node.no_cases
+no_places find h = record { found = λ q. h q ∙ none q }
+  where
+    none : (q : CaseKey) → None ≡ place_of node.no_cases q
+    none (key.Parts d n) = refl
+    none (key.Irregular n) = refl
+    none key.Unit = refl
+    none (key.Boolean b) = refl
+    none (key.Integer n) = refl
+    none (key.Character c) = refl
+    none (key.Text t) = refl
+    none (key.Pointer t n) = refl
+    none (key.Range b m n) = refl
+
+pub found_by_key : (find : CaseKey → Option ℕ) (cs : Cases) (x : Node) (k : CaseKey) → Places find cs → is_plain k ≡ true → Some (key_value k) ≡ plain_value x → find k ≡ case_place cs x
+found_by_key find cs x k p plain e =
+    p.found k ∙ plain_place k cs plain ∙ sym (place_alike cs x (key_value k) (λ y. plain_right x (key_value k) y (sym e)))
 
 pub kept_places : (find : CaseKey → Option ℕ) (cs ds : Cases) (x : Node) (index n : ℕ) → Places find cs → case_place cs x ≡ Some n → ds ≡ with_value cs x index → Places find ds
 kept_places find cs ds x index n p e f = record {
-  found = λ q. p.found q ∙ sym (place_kept cs x (key_value q) index n e) ∙ ap (λ c. case_place c (key_value q)) (sym f);
+  found = λ q. p.found q ∙ sym (place_by cs (with_value cs x index) (λ y. place_kept cs x y index n e) (λ o. digests_kept cs x index n o 0 e) q)
+    ∙ ap (λ c. place_of c q) (sym f);
 }
 
 or_none : (o : Option ℕ) → o ≡ option_or o None
@@ -267,23 +374,118 @@ this_pushed cs x indices q e n =
     ∙ ap (λ b. option_or (case_place cs (key_value q)) (if b then Some (case_count cs) else None)) (sym e)
     ∙ sym (place_pushed cs x (key_value q) indices)
 
-pub place_added : (find more : CaseKey → Option ℕ) (cs : Cases) (x : Node) (indices : List ℕ) (key : Option CaseKey) → Places find cs → option_map key_value key ≡ plain_value x → case_place cs x ≡ None → ((q : CaseKey) → more q ≡ (if is_key key q then Some (case_count cs) else find q)) → Places more (node.with_case cs x indices)
-place_added find more cs x indices None p e n h =
-    record { found = λ q. h q ∙ p.found q ∙ other_pushed cs x indices q (no_plain x q (sym e)) }
-place_added find more cs x indices (Some k) p e n h = record { found = λ q. by q (same_case k q) refl }
+-- The law of files, from what it says of keys that stand for values, and of the others.
+abbrev FilesPlain : Cases → Node → CaseKey → Type 0
+FilesPlain cs x k = (indices : List ℕ) (q : CaseKey) → is_plain q ≡ true → case_place (node.with_case cs x indices) (key_value q) ≡ (if same_case k q then Some (case_count cs) else case_place cs (key_value q))
+
+abbrev FilesParts : Cases → Node → CaseKey → Type 0
+FilesParts cs x k = (indices : List ℕ) (o : Option ℕ) (n : ℕ) → option_map (λ c. c.0) (numbered (with_digest o 0 (node.with_case cs x indices)) n) ≡ (if same_case k (parts_key o n) then Some (case_count cs) else option_map (λ c. c.0) (numbered (with_digest o 0 cs) n))
+
+files_by : (cs : Cases) (x : Node) (k : CaseKey) → FilesPlain cs x k → FilesParts cs x k → Files cs x k
+files_by cs x k h g indices (key.Parts d n) = g indices (Some d) n
+files_by cs x k h g indices (key.Irregular n) = g indices None n
+files_by cs x k h g indices key.Unit = h indices key.Unit refl
+files_by cs x k h g indices (key.Boolean b) = h indices (key.Boolean b) refl
+files_by cs x k h g indices (key.Integer n) = h indices (key.Integer n) refl
+files_by cs x k h g indices (key.Character c) = h indices (key.Character c) refl
+files_by cs x k h g indices (key.Text t) = h indices (key.Text t) refl
+files_by cs x k h g indices (key.Pointer t n) = h indices (key.Pointer t n) refl
+files_by cs x k h g indices (key.Range b m n) = h indices (key.Range b m n) refl
+
+-- a key that stands for a value is no key by a digest
+apart : (k : CaseKey) (o : Option ℕ) (n : ℕ) → is_plain k ≡ true → same_case k (parts_key o n) ≡ false
+apart (key.Parts d m) o n plain = absurd cc
+apart (key.Irregular m) o n plain = absurd cc
+apart key.Unit None n plain = refl
+apart key.Unit (Some d) n plain = refl
+apart (key.Boolean b) None n plain = refl
+apart (key.Boolean b) (Some d) n plain = refl
+apart (key.Integer m) None n plain = refl
+apart (key.Integer m) (Some d) n plain = refl
+apart (key.Character c) None n plain = refl
+apart (key.Character c) (Some d) n plain = refl
+apart (key.Text t) None n plain = refl
+apart (key.Text t) (Some d) n plain = refl
+apart (key.Pointer t m) None n plain = refl
+apart (key.Pointer t m) (Some d) n plain = refl
+apart (key.Range b m l) None n plain = refl
+apart (key.Range b m l) (Some d) n plain = refl
+
+apart_left : (o : Option ℕ) (n : ℕ) (q : CaseKey) → is_plain q ≡ true → same_case (parts_key o n) q ≡ false
+apart_left None n (key.Irregular m) plain = absurd cc
+apart_left None n _ plain = refl
+apart_left (Some d) n (key.Parts e m) plain = absurd cc
+apart_left (Some d) n _ plain = refl
+
+no_digest : (x p : Node) (o : Option ℕ) → plain_value x ≡ Some p → has_digest o x ≡ false
+no_digest x p None e = ap (λ q. not (is_some q) && not (is_regular x)) e
+no_digest x p (Some d) e = ap (λ q. not (is_some q) && (is_regular x && (digest x == d))) e
+
+pub files_plain : (cs : Cases) (x : Node) (k : CaseKey) → is_plain k ≡ true → Some (key_value k) ≡ plain_value x → case_place cs x ≡ None → Files cs x k
+files_plain cs x k plain e n = files_by cs x k (λ indices q l. by indices q (same_case k q) refl) parts
   where
     same : (q : CaseKey) → same_value x (key_value q) ≡ same_case k q
-    same q = plain_left x (key_value k) (key_value q) (sym e) ∙ keys_compared k q
+    same q = plain_left x (key_value k) (key_value q) (sym e) ∙ keys_compared k q plain
 
-    by : (q : CaseKey) (b : Bool) → same_case k q ≡ b → more q ≡ case_place (node.with_case cs x indices) (key_value q)
-    by q true f =
+    by : (indices : List ℕ) (q : CaseKey) (b : Bool) → same_case k q ≡ b → case_place (node.with_case cs x indices) (key_value q) ≡ (if b then Some (case_count cs) else case_place cs (key_value q))
+    by indices q true f =
         let absent = ap (case_place cs) (sym (equal_keys k q f)) ∙ sym (place_alike cs x (key_value k) (λ y. plain_right x (key_value k) y (sym e))) ∙ n in
-        h q ∙ ap (λ b. if b then Some (case_count cs) else find q) f ∙ this_pushed cs x indices q (same q ∙ f) absent
-    by q false f =
-        h q ∙ ap (λ b. if b then Some (case_count cs) else find q) f ∙ p.found q ∙ other_pushed cs x indices q (same q ∙ f)
+        sym (this_pushed cs x indices q (same q ∙ f) absent)
+    by indices q false f = sym (other_pushed cs x indices q (same q ∙ f))
 
-pub unchanged : (find : CaseKey → Option ℕ) (q : CaseKey) (place : ℕ) → find q ≡ (if is_key None q then Some place else find q)
-unchanged find q place = refl
+    parts : FilesParts cs x k
+    parts indices o m =
+        ap (λ l. option_map (λ c. c.0) (numbered l m)) (digests_pushed cs x indices o 0)
+        ∙ ap (λ b. option_map (λ c. c.0) (numbered (with_digest o 0 cs ++ (if b then (0 + case_count cs, x) ∷ [] else [])) m)) (no_digest x (key_value k) o (sym e))
+        ∙ ap (λ l. option_map (λ c. c.0) (numbered l m)) (append-nil (with_digest o 0 cs))
+        ∙ ap (λ b. if b then Some (case_count cs) else option_map (λ c. c.0) (numbered (with_digest o 0 cs) m)) (sym (apart k o m plain))
+
+-- has_digest, over what it asks of the value
+abbrev has_by : Option Node → Bool → ℕ → Option ℕ → Bool
+has_by p r d None = not (is_some p) && not r
+has_by p r d (Some f) = not (is_some p) && (r && (d == f))
+
+-- the key of a value by its digest, and whether a value has a digest
+digest_case : (p : Option Node) (r : Bool) (d : ℕ) (o : Option ℕ) (m n : ℕ) → p ≡ None → same_case (parts_key (if r then Some d else None) m) (parts_key o n) ≡ (has_by p r d o && (m == n))
+digest_case (Some q) r d o m n e = absurd cc
+digest_case None true d None m n e = refl
+digest_case None true d (Some f) m n e = refl
+digest_case None false d None m n e = refl
+digest_case None false d (Some f) m n e = refl
+
+digest_is : (p : Option Node) (r : Bool) (d : ℕ) (o : Option ℕ) → has_by p r d o ≡ true → o ≡ (if r then Some d else None)
+digest_is (Some q) r d None e = absurd cc
+digest_is (Some q) r d (Some f) e = absurd cc
+digest_is None true d None e = absurd cc
+digest_is None true d (Some f) e = ap Some (sym ((unsigned_Decides d f).0 e))
+digest_is None false d None e = refl
+digest_is None false d (Some f) e = absurd cc
+
+pub files_parts : (cs : Cases) (x : Node) (m : ℕ) → plain_value x ≡ None → m ≡ length (with_digest (digest_of x) 0 cs) → Files cs x (parts_key (digest_of x) m)
+files_parts cs x m none is = files_by cs x (parts_key (digest_of x) m) plain parts
+  where
+    plain : FilesPlain cs x (parts_key (digest_of x) m)
+    plain indices q l =
+        sym (other_pushed cs x indices q (no_plain x q none))
+        ∙ ap (λ b. if b then Some (case_count cs) else case_place cs (key_value q)) (sym (apart_left (digest_of x) m q l))
+
+    first : (o : Option (ℕ × Node)) (b : Bool) → option_map (λ c. c.0) (if b then Some (0 + case_count cs, x) else o) ≡ (if b then Some (case_count cs) else option_map (λ c. c.0) o)
+    first o true = ap Some (omega arith)
+    first o false = refl
+
+    by : (o : Option ℕ) (n : ℕ) (b : Bool) → has_digest o x ≡ b → option_map (λ c. c.0) (numbered (with_digest o 0 cs ++ (if b then (0 + case_count cs, x) ∷ [] else [])) n) ≡ (if b && (m == n) then Some (case_count cs) else option_map (λ c. c.0) (numbered (with_digest o 0 cs) n))
+    by o n true e =
+        let many : length (with_digest o 0 cs) ≡ m = ap (λ d. length (with_digest d 0 cs)) (digest_is (plain_value x) (is_regular x) (digest x) o e) ∙ sym is in
+        ap (option_map (λ c. c.0)) (numbered_pushed (with_digest o 0 cs) (0 + case_count cs, x) n)
+        ∙ first (numbered (with_digest o 0 cs) n) (length (with_digest o 0 cs) == n)
+        ∙ ap (λ l. if l == n then Some (case_count cs) else option_map (λ c. c.0) (numbered (with_digest o 0 cs) n)) many
+    by o n false e = ap (λ l. option_map (λ c. c.0) (numbered l n)) (append-nil (with_digest o 0 cs))
+
+    parts : FilesParts cs x (parts_key (digest_of x) m)
+    parts indices o n =
+        ap (λ l. option_map (λ c. c.0) (numbered l n)) (digests_pushed cs x indices o 0)
+        ∙ by o n (has_digest o x) refl
+        ∙ ap (λ b. if b then Some (case_count cs) else option_map (λ c. c.0) (numbered (with_digest o 0 cs) n)) (sym (digest_case (plain_value x) (is_regular x) (digest x) o m n none))
 
 pub count_cases : (cs : List SwitchCase) → case_count (case_views cs) ≡ length cs
 count_cases [] = refl
@@ -292,16 +494,14 @@ count_cases (c ∷ cs) = omega (arith, count_cases cs)
 pub inside_cases : (cs : List SwitchCase) (x : Node) (n : ℕ) → case_place (case_views cs) x ≡ Some n → n < length cs
 inside_cases cs x n e = omega (arith, place_inside (case_views cs) x n e, count_cases cs)
 
-pub added_places : (find more : CaseKey → Option ℕ) (cs : List SwitchCase) (ds : Cases) (x : Node) (indices : List ℕ) (key : Option CaseKey) (n : ℕ) → Places find (case_views cs) → option_map key_value key ≡ plain_value x → case_place (case_views cs) x ≡ None → n ≡ length cs → ds ≡ node.with_case (case_views cs) x indices → ((q : CaseKey) → more q ≡ (if is_key key q then Some n else find q)) → Places more ds
-added_places find more cs ds x indices key n p k new len e h = record {
-  found = λ q. all.found q ∙ ap (λ c. case_place c (key_value q)) (sym e);
+pub added_places : (find more : CaseKey → Option ℕ) (cs : List SwitchCase) (ds : Cases) (x : Node) (indices : List ℕ) (k : CaseKey) (n : ℕ) → Places find (case_views cs) → Files (case_views cs) x k → n ≡ length cs → ds ≡ node.with_case (case_views cs) x indices → ((q : CaseKey) → more q ≡ (if same_case k q then Some n else find q)) → Places more ds
+added_places find more cs ds x indices k n p files len e h = record {
+  found = λ q. h q
+    ∙ ap (λ m. if same_case k q then Some m else find q) (len ∙ sym (count_cases cs))
+    ∙ ap (λ o. if same_case k q then Some (case_count (case_views cs)) else o) (p.found q)
+    ∙ sym (files indices q)
+    ∙ ap (λ c. place_of c q) (sym e);
 }
-  where
-    count : n ≡ case_count (case_views cs)
-    count = len ∙ sym (count_cases cs)
-
-    all : Places more (node.with_case (case_views cs) x indices)
-    all = place_added find more (case_views cs) x indices key p k new (λ q. h q ∙ ap (λ m. if is_key key q then Some m else find q) count)
 
 -- ---- the derived equality of keys
 
@@ -319,6 +519,8 @@ derived (key.Character a) (key.Character b) = refl
 derived (key.Text a) (key.Text b) = refl
 derived (key.Pointer a m) (key.Pointer b n) = refl
 derived (key.Range a b c) (key.Range d e f) = ap (λ x. x && (int_eq b e && int_eq c f)) (same_flags a d)
+derived (key.Parts d m) (key.Parts e n) = refl
+derived (key.Irregular m) (key.Irregular n) = refl
 derived _ _ = refl
 
 pub derived_lookup : (q : CaseKey) (es : List (CaseKey × ℕ)) → lookup (same_case q) es ≡ lookup (eq-value.it q) es
@@ -327,6 +529,6 @@ derived_lookup q (e ∷ es) =
     ap (λ b. cond b (Some e.1) (lookup (same_case q) es)) (sym (derived q e.0))
     ∙ ap (cond (eq-value.it q e.0) (Some e.1)) (derived_lookup q es)
 
-pub ruleset by_key = (found_by_key, inside_cases)
+pub ruleset by_key = (found_by_key, files_plain)
 
 pub ruleset pushed = (place_none, case_views_push)

@@ -1,10 +1,10 @@
 //! An index of `switch` cases by their values. The time of a look-up does not grow with their number.
 
-ghost use Rattle.std.specs.Prelude.{◌≡◌, if◌then◌else◌, IfOk, OnOk, Some, option_map};
+ghost use Rattle.std.specs.Prelude.{◌≡◌, if◌then◌else◌, true, IfOk, IfSome, OnOk, Some, option_map};
 ghost use Rattle.indexmap.specs.IndexMap.{get};
 ghost use Rattle.rhai_lower.specs.View.{view};
 ghost use Rattle.rhai_grammar.specs.CaseValues.{range_of};
-ghost use Rattle.rhai_trees.specs.CaseKeys.{is_key, key_value, plain_value, range_value, same_case};
+ghost use Rattle.rhai_trees.specs.CaseKeys.{is_plain, key_value, parts_key, plain_value, range_value, same_case};
 
 use crate::case_value::range_of;
 use indexmap::IndexMap;
@@ -12,7 +12,8 @@ use rhai_lower::Expr;
 use std::alloc::AllocError;
 use std::rc::RcStr;
 
-/// A literal value that is no array and no object map, wherever it stands.
+/// What a case is found by: a literal value that is no array and no object map, wherever it stands; or else the number
+/// of a case among those that have the same digest, counted from 0.
 #[derive(PartialEq, Eq, Hash, Debug, Drop)]
 pub enum CaseKey {
     Unit,
@@ -22,21 +23,27 @@ pub enum CaseKey {
     Text(RcStr),
     Pointer(RcStr, usize),
     Range(bool, i64, i64),
+    /// A case with this digest.
+    Parts(u64, usize),
+    /// A case without a digest: an object map in it has a name twice.
+    Irregular(usize),
 }
 
 // The key of a range; none if it is no range.
 fn range_key(value: &Expr) -> Option<CaseKey>
-    ensures { option_map key_value result ≡ option_map range_value (range_of (view value.now)) }
+    ensures value { option_map key_value result ≡ option_map range_value (range_of (view value.now)) }
+    ensures plain { IfSome result (λ key. is_plain key ≡ true) }
 {
     let range = range_of(value)?;
     Some(CaseKey::Range(range.is_inclusive, range.first, range.last))
 }
 
-/// The key of a value; none if it is an array or an object map, or no literal value. The error is that there is no
-/// memory for it.
+/// The key by which a value is found; none if it is an array or an object map, or no literal value. The error is that
+/// there is no memory for it.
 #[tactic(auto, using(rhai_lower::proofs::Views::view_map))]
 pub fn key_of(value: &Expr) -> Result<Option<CaseKey>, AllocError>
-    ensures { IfOk result (λ key. option_map key_value key ≡ plain_value (view value.now)) }
+    ensures value { IfOk result (λ key. option_map key_value key ≡ plain_value (view value.now)) }
+    ensures plain { IfOk result (λ key. IfSome key (λ k. is_plain k ≡ true)) }
 {
     match value {
         Expr::Unit(_) => Ok(Some(CaseKey::Unit)),
@@ -57,18 +64,26 @@ pub fn place_at(places: &IndexMap<CaseKey, usize>, key: &CaseKey) -> Option<usiz
     places.get(key).copied()
 }
 
-/// Adds the place of a value to an index, under its key if it has one. The error is that there is no memory for it.
-#[tactic(auto, using(crate::proofs::CaseIndexLemmas::unchanged))]
+/// The key of the case that has this number among those with this digest, or among those without one. Does not
+/// allocate.
+pub fn parts_key(digest: Option<u64>, number: usize) -> CaseKey
+    ensures { result ≡ parts_key digest number }
+{
+    match digest {
+        Some(digest) => CaseKey::Parts(digest, number),
+        None => CaseKey::Irregular(number),
+    }
+}
+
+/// Adds the place of a case to an index, under its key. The error is that there is no memory for it.
 pub fn add_place(
     places: &mut IndexMap<CaseKey, usize>,
-    key: Option<CaseKey>,
+    key: CaseKey,
     place: usize,
 ) -> Result<(), AllocError>
     ensures { OnOk result ((q : CaseKey) → get same_case places.new q
-        ≡ (if is_key key q then Some place else get same_case places.old q)) }
+        ≡ (if same_case key q then Some place else get same_case places.old q)) }
 {
-    if let Some(key) = key {
-        places.insert(key, place)?;
-    }
+    places.insert(key, place)?;
     Ok(())
 }

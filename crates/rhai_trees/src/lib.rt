@@ -6,9 +6,11 @@
 pub mod arms;
 mod call;
 pub mod case_index;
+mod case_search;
 pub mod case_value;
 pub mod chain;
 pub mod construct;
+pub mod digest;
 pub mod guard;
 pub mod kind;
 pub mod link;

@@ -1,6 +1,6 @@
 //! The arms of a `switch` as they are read, and its node. The tests of cases are here too.
 
-ghost use Rattle.std.specs.Prelude.{◌≡◌, ◌++◌, ◌<◌, IfErr, IfOk, IfSome, None, OnOk, Some, false, length, option_map};
+ghost use Rattle.std.specs.Prelude.{◌≡◌, ◌++◌, IfErr, IfOk, None, OnOk, Some, false, true};
 ghost use Rattle.indexmap.specs.IndexMap.{get};
 ghost use Rattle.rhai_lower.specs.View.{case_views, statement_view, view, views};
 ghost use Rattle.rhai_grammar.specs.CaseValues.{range_of};
@@ -10,13 +10,14 @@ ghost use Rattle.rhai_grammar.specs.Switches.{listed_range, no_guard};
 ghost use Rattle.rhai_grammar.specs.Switches.{nothing_collected, switch_tree, with_arm_collected, with_case};
 ghost use Rattle.rhai_grammar.specs.Switches.{with_cases, with_default_collected, with_value};
 ghost use Rattle.rhai_trees.specs.Arms.{Indexed, arms_view};
-ghost use Rattle.rhai_trees.specs.CaseKeys.{Places, key_value, plain_value, same_case};
+ghost use Rattle.rhai_trees.specs.CaseKeys.{Files, Places, is_plain, key_value, plain_value, same_case};
 ghost use Rattle.rhai_trees.specs.Switches.{case_place, collected_view, first_fault, is_full_range};
 ghost use Rattle.rhai_trees.specs.Switches.{value_fault, with_action};
 
 use crate::arms::Arms;
 use crate::case_index::{CaseKey, add_place, key_of, place_at};
-use crate::case_value::{range_of, same_value};
+use crate::case_search::{CasePlace, find_parts};
+use crate::case_value::range_of;
 use crate::literal::is_literal_value;
 use crate::statement::{ends_itself, is_empty};
 use indexmap::IndexMap;
@@ -137,37 +138,6 @@ pub fn test_cases(alloc: Global, arms: &Arms, cases: &[Expr]) -> ParseResult<()>
 
 // ---- one more arm
 
-// Where the value is among the cases that is equal to this one, which takes time linear in their number.
-fn case_place(cases: &[SwitchCase], value: &Expr) -> Option<usize>
-    ensures place { result ≡ case_place (case_views cases.now) (view value.now) }
-{
-    for (index, case) in cases.iter().enumerate() {
-        if same_value(&case.value, value) {
-            return Some(index);
-        }
-    }
-    None
-}
-
-// The same, for a value with this key: by the index if it has one.
-#[tactic(auto, using(crate::proofs::CaseIndexLemmas::by_key))]
-fn keyed_place(
-    cases: &[SwitchCase],
-    places: &IndexMap<CaseKey, usize>,
-    value: &Expr,
-    key: &Option<CaseKey>,
-) -> Option<usize>
-    requires indexed { Places (get same_case places.now) (case_views cases.now) }
-    requires key { option_map key_value key.now ≡ plain_value (view value.now) }
-    ensures place { result ≡ case_place (case_views cases.now) (view value.now) }
-    ensures inside { IfSome result (λ place. place < length cases.now) }
-{
-    match key {
-        Some(key) => place_at(places, key),
-        None => case_place(cases, value),
-    }
-}
-
 // Adds a value that leads to the arm with this index, and is equal to none of the cases. Its key is given.
 #[tactic(auto, using(crate::proofs::CaseIndexLemmas::pushed))]
 fn push_new_value(
@@ -175,11 +145,11 @@ fn push_new_value(
     cases: &mut Vec<SwitchCase>,
     places: &mut IndexMap<CaseKey, usize>,
     value: Expr,
-    key: Option<CaseKey>,
+    key: CaseKey,
     index: usize,
 ) -> Result<(), AllocError>
     requires indexed { Places (get same_case places.old) (case_views cases.old.items) }
-    requires key { option_map key_value key ≡ plain_value (view value) }
+    requires files { Files (case_views cases.old.items) (view value) key }
     requires new { case_place (case_views cases.old.items) (view value) ≡ None }
     ensures pushed { OnOk result
         (case_views cases.new.items ≡ with_value (case_views cases.old.items) (view value) index) }
@@ -192,8 +162,66 @@ fn push_new_value(
     Ok(())
 }
 
-// Makes a value lead to one more arm: after the arms to which an equal value leads, or as a case of its own.
-#[tactic(auto, using(crate::proofs::SwitchLemmas::with_values))]
+// Makes the value of the case at `place`, to which this one is equal, lead to one more arm, after those before.
+fn push_index(
+    cases: &mut Vec<SwitchCase>,
+    place: usize,
+    value: &Expr,
+    index: usize,
+) -> Result<(), AllocError>
+    requires { case_place (case_views cases.old.items) (view value.now) ≡ Some place }
+    ensures { OnOk result
+        (case_views cases.new.items ≡ with_value (case_views cases.old.items) (view value.now) index) }
+{
+    cases[place].indices.push(index)?;
+    Ok(())
+}
+
+// Makes a value lead to one more arm: after the arms to which an equal value leads, or as a case of its own. Its key is
+// given, which is the value.
+#[tactic(auto, using(crate::proofs::CaseIndexLemmas::by_key))]
+fn push_keyed(
+    alloc: Global,
+    cases: &mut Vec<SwitchCase>,
+    places: &mut IndexMap<CaseKey, usize>,
+    value: Expr,
+    key: CaseKey,
+    index: usize,
+) -> Result<(), AllocError>
+    requires indexed { Places (get same_case places.old) (case_views cases.old.items) }
+    requires plain { is_plain key ≡ true }
+    requires key { Some (key_value key) ≡ plain_value (view value) }
+    ensures pushed { OnOk result
+        (case_views cases.new.items ≡ with_value (case_views cases.old.items) (view value) index) }
+    ensures indexed { OnOk result (Places (get same_case places.new) (case_views cases.new.items)) }
+{
+    match place_at(places, &key) {
+        Some(place) => push_index(cases, place, &value, index),
+        None => push_new_value(alloc, cases, places, value, key, index),
+    }
+}
+
+// The same of a value that has no key of its own.
+fn push_parts(
+    alloc: Global,
+    cases: &mut Vec<SwitchCase>,
+    places: &mut IndexMap<CaseKey, usize>,
+    value: Expr,
+    index: usize,
+) -> Result<(), AllocError>
+    requires indexed { Places (get same_case places.old) (case_views cases.old.items) }
+    requires parts { plain_value (view value) ≡ None }
+    ensures pushed { OnOk result
+        (case_views cases.new.items ≡ with_value (case_views cases.old.items) (view value) index) }
+    ensures indexed { OnOk result (Places (get same_case places.new) (case_views cases.new.items)) }
+{
+    match find_parts(alloc, cases, places, &value)? {
+        CasePlace::At(place) => push_index(cases, place, &value, index),
+        CasePlace::New(key) => push_new_value(alloc, cases, places, value, key, index),
+    }
+}
+
+// The same of any value.
 fn push_value(
     alloc: Global,
     cases: &mut Vec<SwitchCase>,
@@ -206,13 +234,9 @@ fn push_value(
         (case_views cases.new.items ≡ with_value (case_views cases.old.items) (view value) index) }
     ensures indexed { OnOk result (Places (get same_case places.new) (case_views cases.new.items)) }
 {
-    let key = key_of(&value)?;
-    match keyed_place(cases, places, &value, &key) {
-        Some(place) => {
-            cases[place].indices.push(index)?;
-            Ok(())
-        }
-        None => push_new_value(alloc, cases, places, value, key, index),
+    match key_of(&value)? {
+        Some(key) => push_keyed(alloc, cases, places, value, key, index),
+        None => push_parts(alloc, cases, places, value, index),
     }
 }
 

@@ -1,0 +1,113 @@
+//! Where an array or an object map is among the cases of a `switch`. Digests say with which of them it is compared.
+
+ghost use Rattle.std.specs.Prelude.{◌≡◌, ◌<◌, IfOk, IfSome, None, length};
+ghost use Rattle.indexmap.specs.IndexMap.{get};
+ghost use Rattle.rhai_lower.specs.View.{case_views, view};
+ghost use Rattle.rhai_trees.specs.CaseKeys.{Places, digest_of, first_same, plain_value, same_case, with_digest};
+ghost use Rattle.rhai_trees.specs.CasePlaces.{IsPlace};
+ghost use Rattle.rhai_trees.specs.Switches.{case_place};
+
+use crate::case_index::{CaseKey, parts_key, place_at};
+use crate::case_value::same_value;
+use crate::digest::{digest, is_regular};
+use indexmap::IndexMap;
+use rhai_lower::{Expr, SwitchCase};
+use std::alloc::{AllocError, Global};
+
+/// Where a value is among the cases, or goes.
+#[derive(Drop)]
+pub enum CasePlace {
+    /// At this place is the first case that is equal to it.
+    At(usize),
+    /// No case is equal to it, and this is its key.
+    New(CaseKey),
+}
+
+// Where the value is among the cases that is equal to this one, which takes time linear in their number.
+fn case_place(cases: &[SwitchCase], value: &Expr) -> Option<usize>
+    ensures { result ≡ case_place (case_views cases.now) (view value.now) }
+{
+    for (index, case) in cases.iter().enumerate() {
+        if same_value(&case.value, value) {
+            return Some(index);
+        }
+    }
+    None
+}
+
+// The digest of a value; none if an object map in it has a name twice. The error is that there is no memory to find
+// out.
+fn digest_of(alloc: Global, value: &Expr) -> Result<Option<u64>, AllocError>
+    ensures { IfOk result (λ d. d ≡ digest_of (view value.now)) }
+{
+    if is_regular(alloc, value)? {
+        return Ok(Some(digest(value)));
+    }
+    Ok(None)
+}
+
+// Looks for a value among the cases that have its digest, or have none as it has none.
+fn find_among(
+    cases: &[SwitchCase],
+    places: &IndexMap<CaseKey, usize>,
+    digest: Option<u64>,
+    value: &Expr,
+) -> CasePlace
+    requires indexed { Places (get same_case places.now) (case_views cases.now) }
+    requires parts { plain_value (view value.now) ≡ None }
+    requires digest { digest ≡ digest_of (view value.now) }
+    requires enough { first_same (view value.now) (with_digest digest 0 (case_views cases.now))
+        ≡ case_place (case_views cases.now) (view value.now) }
+    ensures { IsPlace (case_views cases.now) (view value.now) result }
+{
+    let mut number = 0;
+    while number < cases.len() {
+        let key = parts_key(digest, number);
+        let Some(place) = place_at(places, &key) else {
+            return CasePlace::New(key);
+        };
+        if same_value(&cases[place].value, value) {
+            return CasePlace::At(place);
+        }
+        number += 1;
+    }
+    CasePlace::New(parts_key(digest, number))
+}
+
+// Looks for a value among all cases.
+fn find_among_all(
+    cases: &[SwitchCase],
+    places: &IndexMap<CaseKey, usize>,
+    digest: Option<u64>,
+    value: &Expr,
+) -> CasePlace
+    requires indexed { Places (get same_case places.now) (case_views cases.now) }
+    requires parts { plain_value (view value.now) ≡ None }
+    requires digest { digest ≡ digest_of (view value.now) }
+    ensures { IsPlace (case_views cases.now) (view value.now) result }
+{
+    match case_place(cases, value) {
+        Some(place) => CasePlace::At(place),
+        None => find_among(cases, places, digest, value),
+    }
+}
+
+/// Where a value without a key of its own is among the cases, or the key that it gets. It is compared with the cases
+/// that have its digest; where an object map, in it or in a case, has a name twice, with all. The error is that there is
+/// no memory to find out.
+pub fn find_parts(
+    alloc: Global,
+    cases: &[SwitchCase],
+    places: &IndexMap<CaseKey, usize>,
+    value: &Expr,
+) -> Result<CasePlace, AllocError>
+    requires indexed { Places (get same_case places.now) (case_views cases.now) }
+    requires parts { plain_value (view value.now) ≡ None }
+    ensures { IfOk result (IsPlace (case_views cases.now) (view value.now)) }
+{
+    let digest = digest_of(alloc, value)?;
+    if digest.is_none() || place_at(places, &CaseKey::Irregular(0)).is_some() {
+        return Ok(find_among_all(cases, places, digest, value));
+    }
+    Ok(find_among(cases, places, digest, value))
+}
