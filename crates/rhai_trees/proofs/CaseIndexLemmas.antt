@@ -1,5 +1,5 @@
 -- Keys of `switch` cases, and places as cases are added.
-use Rattle.std.proofs.Common.{◌≡◌, ◌∙◌, ◌<◌, ◌≤◌, ℕ, ℤ, suc, zero, ◌+◌, ◌==◌, Bool, true, false, not, List, [], ◌∷◌, ◌&&◌, ◌++◌, Option, Some, None, append-nil, get_or, is_some, length, refl, sym, ap, arith, cond, true≢false, unwrap_or, if◌then◌else◌}
+use Rattle.std.proofs.Common.{◌≡◌, ◌∙◌, ◌<◌, ◌≤◌, ℕ, ℤ, suc, zero, ◌+◌, ◌==◌, Bool, true, false, not, List, [], ◌∷◌, ◌&&◌, ◌++◌, Option, Some, None, append-nil, is_some, length, refl, sym, ap, arith, cond, true≢false, unwrap_or, if◌then◌else◌}
 use Rattle.std.proofs.lemmas.Bool.{and_parts}
 use Rattle.std.specs.Bool.{beq}
 use Rattle.std.specs.Cmp.{signed_Decides, unsigned_Decides}
@@ -23,9 +23,8 @@ use Rattle.rhai_lower.specs.declared.token.Token.TheVariants.{ExclusiveRange, In
 use Rattle.rhai_grammar.specs.Operators.{operator_called}
 use Rattle.rhai_grammar.specs.Switches.{with_value}
 use Rattle.rhai_trees.specs.contracts.case_index.CaseKeyPartialEq.TheImpl.{eq-value}
-use Rattle.rhai_trees.specs.CaseKeys.{Files, Places, case_count, digest_of, first_same, has_digest, is_plain, key_value, numbered, parts_key, place_of, plain_value, range_value, same_case, with_digest}
+use Rattle.rhai_trees.specs.CaseKeys.{Files, Places, case_count, digest_of, has_digest, is_plain, key_value, numbered, parts_key, place_of, plain_value, range_value, same_case, with_digest}
 use Rattle.rhai_trees.specs.Digests.{digest, is_regular}
-use Rattle.rhai_trees.proofs.DigestLemmas.{same_digest}
 use Rattle.rhai_trees.specs.Switches.{case_place}
 use Rattle.rhai_trees.proofs.SwitchLemmas.{boolean_anywhere, call_value, character_anywhere, integer_anywhere, place_none, pointer_anywhere, string_anywhere, unit_anywhere}
 use Rattle.rhai_trees.specs.declared.case_index.CaseKey.{CaseKey}
@@ -253,22 +252,31 @@ digests_kept (node.one_case z more cs) x index n o k e = by (same_value z x) (ca
     by false None h e = absurd cc
     by false (Some m) h e = ap (λ l. if has_digest o z then (k, z) ∷ l else l) (h m refl)
 
+abbrev one_at : Bool → ℕ → Node → List (ℕ × Node)
+one_at true k x = (k, x) ∷ []
+one_at false k x = []
+
+abbrev no_more : List (ℕ × Node)
+no_more = []
+
+abbrev placed : ℕ → Node → ℕ × Node
+placed k x = (k, x)
+
 -- one more case
-digests_pushed : (cs : Cases) (x : Node) (indices : List ℕ) (o : Option ℕ) (k : ℕ) → with_digest o k (node.with_case cs x indices) ≡ with_digest o k cs ++ (if has_digest o x then (k + case_count cs, x) ∷ [] else [])
+digests_pushed : (cs : Cases) (x : Node) (indices : List ℕ) (o : Option ℕ) (k : ℕ) → with_digest o k (node.with_case cs x indices) ≡ with_digest o k cs ++ one_at (has_digest o x) (k + case_count cs) x
 digests_pushed node.no_cases x indices o k = by (has_digest o x)
   where
-    by : (b : Bool) → (if b then (k, x) ∷ [] else []) ≡ (if b then (k + 0, x) ∷ [] else [])
-    by true = ap (λ i. (i, x) ∷ []) (omega arith)
+    by : (b : Bool) → (if b then placed k x ∷ no_more else no_more) ≡ one_at b (k + 0) x
+    by true = ap (λ i. placed i x ∷ no_more) (omega arith)
     by false = refl
-digests_pushed (node.one_case z more cs) x indices o k = by (has_digest o z) (has_digest o x) (digests_pushed cs x indices o (k + 1))
+digests_pushed (node.one_case z more cs) x indices o k = by (has_digest o z) (digests_pushed cs x indices o (k + 1))
   where
-    further : (b : Bool) → (if b then (k + 1 + case_count cs, x) ∷ [] else []) ≡ (if b then (k + (case_count cs + 1), x) ∷ [] else [])
-    further true = ap (λ i. (i, x) ∷ []) (omega arith)
-    further false = refl
+    same : k + 1 + case_count cs ≡ k + (case_count cs + 1)
+    same = omega arith
 
-    by : (b c : Bool) → with_digest o (k + 1) (node.with_case cs x indices) ≡ with_digest o (k + 1) cs ++ (if c then (k + 1 + case_count cs, x) ∷ [] else []) → (if b then (k, z) ∷ with_digest o (k + 1) (node.with_case cs x indices) else with_digest o (k + 1) (node.with_case cs x indices)) ≡ (if b then (k, z) ∷ with_digest o (k + 1) cs else with_digest o (k + 1) cs) ++ (if c then (k + (case_count cs + 1), x) ∷ [] else [])
-    by true c h = ap (λ l. (k, z) ∷ l) (h ∙ ap (λ l. with_digest o (k + 1) cs ++ l) (further c))
-    by false c h = h ∙ ap (λ l. with_digest o (k + 1) cs ++ l) (further c)
+    by : (b : Bool) → with_digest o (k + 1) (node.with_case cs x indices) ≡ with_digest o (k + 1) cs ++ one_at (has_digest o x) (k + 1 + case_count cs) x → (if b then placed k z ∷ with_digest o (k + 1) (node.with_case cs x indices) else with_digest o (k + 1) (node.with_case cs x indices)) ≡ (if b then placed k z ∷ with_digest o (k + 1) cs else with_digest o (k + 1) cs) ++ one_at (has_digest o x) (k + (case_count cs + 1)) x
+    by true h = ap (λ l. placed k z ∷ l) (h ∙ ap (λ i. with_digest o (k + 1) cs ++ one_at (has_digest o x) i x) same)
+    by false h = h ∙ ap (λ i. with_digest o (k + 1) cs ++ one_at (has_digest o x) i x) same
 
 pub digest_count : (cs : Cases) (o : Option ℕ) (k : ℕ) → length (with_digest o k cs) ≤ case_count cs
 digest_count node.no_cases o k = omega arith
@@ -436,7 +444,7 @@ files_plain cs x k plain e n = files_by cs x k (λ indices q l. by indices q (sa
     parts : FilesParts cs x k
     parts indices o m =
         ap (λ l. option_map (λ c. c.0) (numbered l m)) (digests_pushed cs x indices o 0)
-        ∙ ap (λ b. option_map (λ c. c.0) (numbered (with_digest o 0 cs ++ (if b then (0 + case_count cs, x) ∷ [] else [])) m)) (no_digest x (key_value k) o (sym e))
+        ∙ ap (λ b. option_map (λ c. c.0) (numbered (with_digest o 0 cs ++ one_at b (0 + case_count cs) x) m)) (no_digest x (key_value k) o (sym e))
         ∙ ap (λ l. option_map (λ c. c.0) (numbered l m)) (append-nil (with_digest o 0 cs))
         ∙ ap (λ b. if b then Some (case_count cs) else option_map (λ c. c.0) (numbered (with_digest o 0 cs) m)) (sym (apart k o m plain))
 
@@ -444,6 +452,10 @@ files_plain cs x k plain e n = files_by cs x k (λ indices q l. by indices q (sa
 abbrev has_by : Option Node → Bool → ℕ → Option ℕ → Bool
 has_by p r d None = not (is_some p) && not r
 has_by p r d (Some f) = not (is_some p) && (r && (d == f))
+
+has_by_digest : (o : Option ℕ) (x : Node) → has_digest o x ≡ has_by (plain_value x) (is_regular x) (digest x) o
+has_by_digest None x = refl
+has_by_digest (Some d) x = refl
 
 -- the key of a value by its digest, and whether a value has a digest
 digest_case : (p : Option Node) (r : Bool) (d : ℕ) (o : Option ℕ) (m n : ℕ) → p ≡ None → same_case (parts_key (if r then Some d else None) m) (parts_key o n) ≡ (has_by p r d o && (m == n))
@@ -473,9 +485,9 @@ files_parts cs x m none is = files_by cs x (parts_key (digest_of x) m) plain par
     first o true = ap Some (omega arith)
     first o false = refl
 
-    by : (o : Option ℕ) (n : ℕ) (b : Bool) → has_digest o x ≡ b → option_map (λ c. c.0) (numbered (with_digest o 0 cs ++ (if b then (0 + case_count cs, x) ∷ [] else [])) n) ≡ (if b && (m == n) then Some (case_count cs) else option_map (λ c. c.0) (numbered (with_digest o 0 cs) n))
+    by : (o : Option ℕ) (n : ℕ) (b : Bool) → has_digest o x ≡ b → option_map (λ c. c.0) (numbered (with_digest o 0 cs ++ one_at b (0 + case_count cs) x) n) ≡ (if b && (m == n) then Some (case_count cs) else option_map (λ c. c.0) (numbered (with_digest o 0 cs) n))
     by o n true e =
-        let many : length (with_digest o 0 cs) ≡ m = ap (λ d. length (with_digest d 0 cs)) (digest_is (plain_value x) (is_regular x) (digest x) o e) ∙ sym is in
+        let many : length (with_digest o 0 cs) ≡ m = ap (λ d. length (with_digest d 0 cs)) (digest_is (plain_value x) (is_regular x) (digest x) o (sym (has_by_digest o x) ∙ e)) ∙ sym is in
         ap (option_map (λ c. c.0)) (numbered_pushed (with_digest o 0 cs) (0 + case_count cs, x) n)
         ∙ first (numbered (with_digest o 0 cs) n) (length (with_digest o 0 cs) == n)
         ∙ ap (λ l. if l == n then Some (case_count cs) else option_map (λ c. c.0) (numbered (with_digest o 0 cs) n)) many
@@ -485,6 +497,7 @@ files_parts cs x m none is = files_by cs x (parts_key (digest_of x) m) plain par
     parts indices o n =
         ap (λ l. option_map (λ c. c.0) (numbered l n)) (digests_pushed cs x indices o 0)
         ∙ by o n (has_digest o x) refl
+        ∙ ap (λ b. if b && (m == n) then Some (case_count cs) else option_map (λ c. c.0) (numbered (with_digest o 0 cs) n)) (has_by_digest o x)
         ∙ ap (λ b. if b then Some (case_count cs) else option_map (λ c. c.0) (numbered (with_digest o 0 cs) n)) (sym (digest_case (plain_value x) (is_regular x) (digest x) o m n none))
 
 pub count_cases : (cs : List SwitchCase) → case_count (case_views cs) ≡ length cs

@@ -1,5 +1,5 @@
 -- Where an array or an object map is among cases, by its digest.
-use Rattle.std.proofs.Common.{◌≡◌, ◌∙◌, ◌<◌, ◌≤◌, ℕ, ℤ, suc, zero, ◌+◌, ◌-◌, ◌==◌, Bool, true, false, not, List, [], ◌∷◌, ◌&&◌, Option, Some, None, get_or, is_some, length, refl, sym, ap, arith, true≢false, unwrap_or, if◌then◌else◌}
+use Rattle.std.proofs.Common.{◌≡◌, ◌∙◌, ◌<◌, ◌≤◌, ℕ, ℤ, suc, zero, ◌+◌, ◌-◌, ◌==◌, Bool, true, false, not, List, [], ◌∷◌, ◌&&◌, Option, Some, None, get_or, is_some, length, refl, sym, ap, subst, arith, true≢false, unwrap_or, if◌then◌else◌}
 use Rattle.std.specs.Cmp.{unsigned_Decides}
 use Rattle.std.specs.Prelude.{option_map}
 use Rattle.rhai_lower.specs.Nodes as node
@@ -9,10 +9,12 @@ use Rattle.rhai_lower.specs.View.{case_views, view}
 use Rattle.rhai_lower.specs.declared.ast.SwitchCase.{SwitchCase, out-SwitchCase}
 use Rattle.rhai_lower.specs.declared.position.Position.{Position}
 use Rattle.rhai_grammar.specs.CaseValues.{IntegerRange, inclusion, range_of, range_over, same_range, same_value}
-use Rattle.rhai_trees.specs.CaseKeys.{Places, case_count, digest_of, first_same, has_digest, numbered, parts_key, place_of, plain_value, range_value, with_digest}
+use Rattle.rhai_trees.specs.CaseKeys.{Files, Places, digest_of, first_same, has_digest, numbered, parts_key, plain_value, range_value, with_digest}
 use Rattle.rhai_trees.specs.Digests.{digest, is_regular}
 use Rattle.rhai_trees.specs.Switches.{case_place}
 use Rattle.rhai_trees.specs.declared.case_index.CaseKey.{CaseKey}
+use Rattle.rhai_trees.specs.declared.case_index.CaseKey.TheVariants as key
+use Rattle.rhai_trees.proofs.CaseIndexLemmas.{a_number, files_parts, no_number}
 use Rattle.rhai_trees.proofs.DigestLemmas.{same_digest}
 use Rattle.rhai_trees.proofs.SwitchLemmas.{call_value}
 
@@ -90,7 +92,7 @@ regular_place (node.one_case y more cs) x k none regular =
     by (Some q) e r f true g d h none_before next = absurd (true≢false (sym g ∙ plain_apart y x q e none))
     by (Some q) e r f false g d h none_before next = next none_before ∙ further k (case_place cs x)
     by None e false f s g d h none_before next = absurd cc
-    by None e true f true g true h none_before next = ap (λ b. if b then Some k else first_same x rest) g
+    by None e true f true g true h none_before next = ap (λ b. if b then Some k else first_same x rest) g ∙ ap Some (omega arith)
     by None e true f true g false h none_before next =
         absurd (true≢false (sym ((unsigned_Decides (digest y) (digest x)).1 (same_digest y x f g)) ∙ h))
     by None e true f false g true h none_before next =
@@ -147,14 +149,20 @@ value_there (b ∷ cs) o k n c d e = by (has_digest o (value_of b)) n (λ m f. v
     rest : List (ℕ × Node)
     rest = with_digest o (k + 1) (case_views cs)
 
-    there : (k + 1 ≤ c.0) × (c.0 < k + 1 + length cs) × (value_of (get_or cs (c.0 - (k + 1)) d) ≡ c.1) → (k ≤ c.0) × (c.0 < k + (1 + length cs)) × (value_of (get_or (b ∷ cs) (c.0 - k) d) ≡ c.1)
+    one_later : (i j : ℕ) → i ≡ suc j → value_of (get_or (b ∷ cs) i d) ≡ value_of (get_or cs j d)
+    one_later i j e = ap (λ m. value_of (get_or (b ∷ cs) m d)) e
+
+    there : (k + 1 ≤ c.0) × (c.0 < k + 1 + length cs) × (value_of (get_or cs (c.0 - (k + 1)) d) ≡ c.1) → (k ≤ c.0) × (c.0 < k + suc (length cs)) × (value_of (get_or (b ∷ cs) (c.0 - k) d) ≡ c.1)
     there h = (
       omega (arith, h.0),
-      omega (arith, h.1.0),
-      ap (λ i. value_of (get_or (b ∷ cs) i d)) (omega (arith, h.0)) ∙ h.1.1,
+      omega (arith, h.1),
+      one_later (c.0 - k) (c.0 - (k + 1)) (omega (arith, h.0)) ∙ h.2,
     )
 
-    by : (has : Bool) (n : ℕ) → ((m : ℕ) → numbered rest m ≡ Some c → (k + 1 ≤ c.0) × (c.0 < k + 1 + length cs) × (value_of (get_or cs (c.0 - (k + 1)) d) ≡ c.1)) → numbered (if has then (k, value_of b) ∷ rest else rest) n ≡ Some c → (k ≤ c.0) × (c.0 < k + (1 + length cs)) × (value_of (get_or (b ∷ cs) (c.0 - k) d) ≡ c.1)
+    at_first : (i : ℕ) → i ≡ 0 → value_of (get_or (b ∷ cs) i d) ≡ value_of b
+    at_first i e = ap (λ m. value_of (get_or (b ∷ cs) m d)) e
+
+    by : (has : Bool) (n : ℕ) → ((m : ℕ) → numbered rest m ≡ Some c → (k + 1 ≤ c.0) × (c.0 < k + 1 + length cs) × (value_of (get_or cs (c.0 - (k + 1)) d) ≡ c.1)) → numbered (if has then (k, value_of b) ∷ rest else rest) n ≡ Some c → (k ≤ c.0) × (c.0 < k + suc (length cs)) × (value_of (get_or (b ∷ cs) (c.0 - k) d) ≡ c.1)
     by false n h e = there (h n e)
     by true (suc n) h e = there (h n e)
     by true zero h e =
@@ -162,5 +170,79 @@ value_there (b ∷ cs) o k n c d e = by (has_digest o (value_of b)) n (λ m f. v
         (
           omega (arith, at),
           omega (arith, at),
-          ap (λ i. value_of (get_or (b ∷ cs) i d)) (omega (arith, at)) ∙ ap (λ o. (unwrap_or o c).1) e,
+          at_first (c.0 - k) (omega (arith, at)) ∙ ap (λ o. (unwrap_or o c).1) e,
         )
+
+-- ---- by the index
+
+none_mapped : (p : Option (ℕ × Node)) → option_map (λ c. c.0) p ≡ None → p ≡ None
+none_mapped None e = refl
+none_mapped (Some c) e = absurd cc
+
+some_mapped : (p : Option (ℕ × Node)) (place : ℕ) (z : ℕ × Node) → option_map (λ c. c.0) p ≡ Some place → p ≡ Some (place, (unwrap_or p z).1)
+some_mapped None place z e = absurd cc
+some_mapped (Some c) place z e = ap (λ o. Some (unwrap_or o 0, c.1)) e
+
+pub by_number : (find : CaseKey → Option ℕ) (cs : Cases) (o : Option ℕ) (n : ℕ) → Places find cs → find (parts_key o n) ≡ option_map (λ c. c.0) (numbered (with_digest o 0 cs) n)
+by_number find cs None n p = p.found (key.Irregular n)
+by_number find cs (Some d) n p = p.found (key.Parts d n)
+
+pub inside_numbers : (cs : List SwitchCase) (o : Option ℕ) (n place : ℕ) → option_map (λ c. c.0) (numbered (with_digest o 0 (case_views cs)) n) ≡ Some place → place < length cs
+inside_numbers [] o n place e = absurd cc
+inside_numbers (b ∷ cs) o n place e =
+    let z : ℕ × Node = (0, value_of b) in
+    omega (arith, (value_there (b ∷ cs) o 0 n (place, (unwrap_or (numbered (with_digest o 0 (case_views (b ∷ cs))) n) z).1) b (some_mapped (numbered (with_digest o 0 (case_views (b ∷ cs))) n) place z e)).1)
+
+pub ruleset numbers = (by_number, inside_numbers)
+
+-- the walk ends: no case is equal to the value, which gets this number
+pub new_here : (cs : Cases) (x : Node) (o : Option ℕ) (n : ℕ) → plain_value x ≡ None → o ≡ digest_of x → first_from x (with_digest o 0 cs) n ≡ case_place cs x → n ≤ length (with_digest o 0 cs) → length (with_digest o 0 cs) ≤ n → (case_place cs x ≡ None) × Files cs x (parts_key o n)
+new_here cs x o n none is rest few many = (
+  sym rest ∙ end_from x (with_digest o 0 cs) n many,
+  subst (λ d. Files cs x (parts_key d n)) (sym is) (files_parts cs x n none (omega (arith, few, many) ∙ ap (λ d. length (with_digest d 0 cs)) is)),
+)
+
+pub none_here : (cs : Cases) (o : Option ℕ) (n : ℕ) → None ≡ option_map (λ c. c.0) (numbered (with_digest o 0 cs) n) → length (with_digest o 0 cs) ≤ n
+none_here cs o n e = no_number (with_digest o 0 cs) n (none_mapped (numbered (with_digest o 0 cs) n) (sym e))
+
+-- the walk goes on, or ends where the case with this number is equal to the value
+pub some_here : (cs : List SwitchCase) (x : Node) (o : Option ℕ) (n place : ℕ) (d : SwitchCase) (same : Bool) → Some place ≡ option_map (λ c. c.0) (numbered (with_digest o 0 (case_views cs)) n) → same ≡ same_value (value_of (get_or cs place d)) x → (first_from x (with_digest o 0 (case_views cs)) n ≡ (if same then Some place else first_from x (with_digest o 0 (case_views cs)) (n + 1))) × (n + 1 ≤ length (with_digest o 0 (case_views cs)))
+some_here cs x o n place d same e tested =
+    let l = with_digest o 0 (case_views cs) in
+    let z : ℕ × Node = (0, x) in
+    let y = (unwrap_or (numbered l n) z).1 in
+    let there : numbered l n ≡ Some (place, y) = some_mapped (numbered l n) place z (sym e) in
+    let whole : place ≡ place - 0 = omega arith in
+    let value : value_of (get_or cs place d) ≡ y = ap (λ i. value_of (get_or cs i d)) whole ∙ (value_there cs o 0 n (place, y) d there).2 in
+    let next : suc n ≡ n + 1 = omega arith in
+    (
+      step_from x l n
+      ∙ ap (next_from x l n) there
+      ∙ ap (λ w. if same_value w x then Some place else first_from x l (suc n)) (sym value)
+      ∙ ap (λ b. if b then Some place else first_from x l (suc n)) (sym tested)
+      ∙ ap (λ i. if same then Some place else first_from x l i) next,
+      omega (arith, a_number l n (place, y) there),
+    )
+
+-- where each case has a digest, and the value too
+pub regular_here : (cs : Cases) (x : Node) (o : Option ℕ) → plain_value x ≡ None → o ≡ digest_of x → is_some o ≡ true → (p : Option ℕ) → false ≡ is_some p → p ≡ option_map (λ c. c.0) (numbered (with_digest None 0 cs) 0) → first_same x (with_digest o 0 cs) ≡ case_place cs x
+regular_here cs x o none is some p absent found = by (is_regular x) refl
+  where
+    no_place : (p : Option ℕ) → false ≡ is_some p → p ≡ None
+    no_place None e = refl
+    no_place (Some n) e = absurd cc
+
+    empty : (l : List (ℕ × Node)) → numbered l 0 ≡ None → l ≡ []
+    empty [] e = refl
+    empty (c ∷ l) e = absurd cc
+
+    no_further : (p : Option ℕ) → option_map (λ n. n + 0) p ≡ p
+    no_further None = refl
+    no_further (Some n) = ap Some (omega arith)
+
+    by : (b : Bool) → is_regular x ≡ b → first_same x (with_digest o 0 cs) ≡ case_place cs x
+    by false e = absurd (true≢false (sym some ∙ ap is_some (is ∙ ap (λ r. if r then Some (digest x) else None) e)))
+    by true e =
+        ap (λ d. first_same x (with_digest d 0 cs)) (is ∙ ap (λ r. if r then Some (digest x) else None) e)
+        ∙ regular_place cs x 0 none (empty (with_digest None 0 cs) (none_mapped (numbered (with_digest None 0 cs) 0) (sym found ∙ no_place p absent)))
+        ∙ no_further (case_place cs x)

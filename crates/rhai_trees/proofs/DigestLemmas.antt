@@ -1,5 +1,5 @@
 -- Equal values have equal digests, where no object map has a name twice.
-use Rattle.std.proofs.Common.{◌≡◌, ◌∙◌, ℕ, ℤ, ◌+◌, ◌*◌, ◌%◌, ◌^◌, ◌==◌, ◌<◌, Bool, true, false, not, ◌&&◌, ◌||◌, List, [], ◌∷◌, ◌++◌, Option, Some, None, refl, sym, ap, arith, unwrap_or, if◌then◌else◌, true≢false, drop, get_or, length, map, suc, zero}
+use Rattle.std.proofs.Common.{◌≡◌, ◌∙◌, ℕ, ◌+◌, ◌%◌, ◌^◌, ◌==◌, ◌<◌, Bool, true, false, not, ◌&&◌, ◌||◌, List, [], ◌∷◌, ◌++◌, Option, Some, None, refl, sym, ap, arith, if◌then◌else◌, true≢false, drop, get_or, length, map, suc}
 use Rattle.std.proofs.Math.Seq.{drop-cons}
 use Rattle.std.proofs.lemmas.Bool.{and_parts, or_right}
 use Rattle.std.proofs.lemmas.Cmp.{nat_list_eq_equiv}
@@ -16,10 +16,8 @@ use Rattle.std.specs.declared.alloc.Global.{Global}
 use Rattle.rhai_lower.specs.View.{property_views, view}
 use Rattle.rhai_lower.specs.declared.ast.Expr.{Expr}
 use Rattle.rhai_lower.specs.declared.ast.Ident.{Ident}
-use Rattle.rhai_lower.specs.Positions.{nowhere}
 use Rattle.rhai_lower.specs.Texts.{Text, same_text}
-use Rattle.rhai_lower.specs.Nodes.{Called, Node, Nodes, Properties, array, boolean, call, character, integer, no_nodes, no_properties, object_map, one_node, one_property, pointer, string, unit}
-use Rattle.rhai_lower.specs.declared.position.Position.{Position}
+use Rattle.rhai_lower.specs.Nodes.{Node, Nodes, Properties, array, boolean, call, character, integer, no_nodes, no_properties, object_map, one_node, one_property, pointer, string, unit}
 use Rattle.rhai_grammar.specs.CaseValues.{IntegerRange, property_value, range_of, same_boolean, same_properties, same_range, same_value, same_values}
 use Rattle.rhai_grammar.specs.Literals.{has_key, property_count}
 use Rattle.rhai_trees.specs.Digests.{are_regular, digest, digest_from, has_regular, hashed, is_regular, property_sum, range_digest}

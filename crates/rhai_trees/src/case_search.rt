@@ -1,9 +1,10 @@
 //! Where an array or an object map is among the cases of a `switch`. Digests say with which of them it is compared.
 
-ghost use Rattle.std.specs.Prelude.{◌≡◌, ◌<◌, IfOk, IfSome, None, length};
+ghost use Rattle.std.specs.Prelude.{◌≡◌, ◌<◌, IfOk, IfSome, None, length, option_map};
 ghost use Rattle.indexmap.specs.IndexMap.{get};
 ghost use Rattle.rhai_lower.specs.View.{case_views, view};
-ghost use Rattle.rhai_trees.specs.CaseKeys.{Places, digest_of, first_same, plain_value, same_case, with_digest};
+ghost use Rattle.rhai_trees.specs.CaseKeys.{Places, digest_of, first_same, numbered, plain_value, same_case};
+ghost use Rattle.rhai_trees.specs.CaseKeys.{with_digest};
 ghost use Rattle.rhai_trees.specs.CasePlaces.{IsPlace};
 ghost use Rattle.rhai_trees.specs.Switches.{case_place};
 
@@ -46,6 +47,21 @@ fn digest_of(alloc: Global, value: &Expr) -> Result<Option<u64>, AllocError>
     Ok(None)
 }
 
+// The place of the case that has this number among those with this digest, or without one.
+#[tactic(auto, using(crate::proofs::CaseSearchLemmas::numbers))]
+fn numbered_place(
+    cases: &[SwitchCase],
+    places: &IndexMap<CaseKey, usize>,
+    digest: Option<u64>,
+    number: usize,
+) -> Option<usize>
+    requires { Places (get same_case places.now) (case_views cases.now) }
+    ensures place { result ≡ option_map (λ c. c.0) (numbered (with_digest digest 0 (case_views cases.now)) number) }
+    ensures inside { IfSome result (λ place. place < length cases.now) }
+{
+    place_at(places, &parts_key(digest, number))
+}
+
 // Looks for a value among the cases that have its digest, or have none as it has none.
 fn find_among(
     cases: &[SwitchCase],
@@ -60,18 +76,15 @@ fn find_among(
         ≡ case_place (case_views cases.now) (view value.now) }
     ensures { IsPlace (case_views cases.now) (view value.now) result }
 {
-    let mut number = 0;
-    while number < cases.len() {
-        let key = parts_key(digest, number);
-        let Some(place) = place_at(places, &key) else {
-            return CasePlace::New(key);
+    for number in 0..cases.len() {
+        let Some(place) = numbered_place(cases, places, digest, number) else {
+            return CasePlace::New(parts_key(digest, number));
         };
         if same_value(&cases[place].value, value) {
             return CasePlace::At(place);
         }
-        number += 1;
     }
-    CasePlace::New(parts_key(digest, number))
+    CasePlace::New(parts_key(digest, cases.len()))
 }
 
 // Looks for a value among all cases.
@@ -106,7 +119,8 @@ pub fn find_parts(
     ensures { IfOk result (IsPlace (case_views cases.now) (view value.now)) }
 {
     let digest = digest_of(alloc, value)?;
-    if digest.is_none() || place_at(places, &CaseKey::Irregular(0)).is_some() {
+    let irregular = numbered_place(cases, places, None, 0);
+    if digest.is_none() || irregular.is_some() {
         return Ok(find_among_all(cases, places, digest, value));
     }
     Ok(find_among(cases, places, digest, value))
