@@ -1,5 +1,6 @@
 -- The arms of a `switch` as the code has them, and what its helpers answer.
-use Rattle.std.specs.Prelude.{◌≡◌, ℕ, ◌+◌, Bool, true, false, ◌&&◌, ◌||◌, not, Option, Some, None, option_map, []}
+use Rattle.std.specs.Prelude.{◌≡◌, ℕ, ◌+◌, Bool, true, false, ◌&&◌, ◌||◌, not, Option, Some, None, option_map, List}
+use Rattle.std.specs.Prelude.{[], ◌∷◌, ◌++◌}
 use Rattle.std.specs.Prelude.{if◌then◌else◌, pos, refl, codes}
 use Rattle.std.specs.Option.{option_or}
 use Rattle.rhai_lower.specs.Texts.{Text, same_text}
@@ -49,6 +50,11 @@ properties_in _ = None
 abbrev pub found_property : Text → Properties → Option Node
 found_property name no_properties = None
 found_property name (one_property key at x ps) = if same_text key name then Some x else found_property name ps
+
+-- the names of properties, from the last to the first
+abbrev pub names_backwards : Properties → List Text
+names_backwards no_properties = []
+names_backwards (one_property key at x ps) = names_backwards ps ++ key ∷ []
 
 -- where the value is among the cases that is equal to this one
 abbrev pub case_place : Cases → Node → Option ℕ

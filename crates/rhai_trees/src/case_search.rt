@@ -24,16 +24,22 @@ pub enum CasePlace {
     New(CaseKey),
 }
 
-// Where the value is among the cases that is equal to this one, which takes time linear in their number.
-fn case_place(cases: &[SwitchCase], value: &Expr) -> Option<usize>
-    ensures { result ≡ case_place (case_views cases.now) (view value.now) }
+// Where the value is among the cases that is equal to this one, which takes time linear in their number. The error
+// is that there is no memory to find out.
+fn case_place(
+    alloc: Global,
+    cases: &[SwitchCase],
+    value: &Expr,
+) -> Result<Option<usize>, AllocError>
+    ensures { IfOk result (λ place. place ≡ case_place (case_views cases.now) (view value.now)) }
 {
     for (index, case) in cases.iter().enumerate() {
-        if same_value(&case.value, value) {
-            return Some(index);
+        let same = same_value(alloc, &case.value, value)?;
+        if same {
+            return Ok(Some(index));
         }
     }
-    None
+    Ok(None)
 }
 
 // The digest of a value; none if an object map in it has a name twice. The error is that there is no memory to find
@@ -64,45 +70,48 @@ fn numbered_place(
 
 // Looks for a value among the cases that have its digest, or have none as it has none.
 fn find_among(
+    alloc: Global,
     cases: &[SwitchCase],
     places: &IndexMap<CaseKey, usize>,
     digest: Option<u64>,
     value: &Expr,
-) -> CasePlace
+) -> Result<CasePlace, AllocError>
     requires indexed { Places (get same_case places.now) (case_views cases.now) }
     requires parts { plain_value (view value.now) ≡ None }
     requires digest { digest ≡ digest_of (view value.now) }
     requires enough { first_same (view value.now) (with_digest digest 0 (case_views cases.now))
         ≡ case_place (case_views cases.now) (view value.now) }
-    ensures { IsPlace (case_views cases.now) (view value.now) result }
+    ensures { IfOk result (IsPlace (case_views cases.now) (view value.now)) }
 {
     for number in 0..cases.len() {
         let Some(place) = numbered_place(cases, places, digest, number) else {
-            return CasePlace::New(parts_key(digest, number));
+            return Ok(CasePlace::New(parts_key(digest, number)));
         };
-        if same_value(&cases[place].value, value) {
-            return CasePlace::At(place);
+        let same = same_value(alloc, &cases[place].value, value)?;
+        if same {
+            return Ok(CasePlace::At(place));
         }
     }
-    CasePlace::New(parts_key(digest, cases.len()))
+    Ok(CasePlace::New(parts_key(digest, cases.len())))
 }
 
 // Looks for a value among all cases.
 fn find_among_all(
+    alloc: Global,
     cases: &[SwitchCase],
     places: &IndexMap<CaseKey, usize>,
     digest: Option<u64>,
     value: &Expr,
-) -> CasePlace
+) -> Result<CasePlace, AllocError>
     requires indexed { Places (get same_case places.now) (case_views cases.now) }
     requires parts { plain_value (view value.now) ≡ None }
     requires digest { digest ≡ digest_of (view value.now) }
-    ensures { IsPlace (case_views cases.now) (view value.now) result }
+    ensures { IfOk result (IsPlace (case_views cases.now) (view value.now)) }
 {
-    match case_place(cases, value) {
-        Some(place) => CasePlace::At(place),
-        None => find_among(cases, places, digest, value),
+    if let Some(place) = case_place(alloc, cases, value)? {
+        return Ok(CasePlace::At(place));
     }
+    find_among(alloc, cases, places, digest, value)
 }
 
 /// Where a value without a key of its own is among the cases, or the key that it gets. It is compared with the cases
@@ -121,7 +130,7 @@ pub fn find_parts(
     let digest = digest_of(alloc, value)?;
     let irregular = numbered_place(cases, places, None, 0);
     if digest.is_none() || irregular.is_some() {
-        return Ok(find_among_all(cases, places, digest, value));
+        return find_among_all(alloc, cases, places, digest, value);
     }
-    Ok(find_among(cases, places, digest, value))
+    find_among(alloc, cases, places, digest, value)
 }

@@ -23,7 +23,7 @@ pub mod switch;
 pub mod target;
 
 pub use arms::Arms;
-pub use case_value::{IntegerRange, range_of, same_value};
+pub use case_value::{IntegerRange, range_of};
 pub use chain::{indexed_operand, test_index, test_links};
 pub use construct::{make_do, make_for, make_if, make_try, make_while};
 pub use guard::{test_guard, test_iterated};

@@ -1,4 +1,4 @@
-use Rattle.std.proofs.Common.{◌≡◌, ◌∙◌, ◌≤◌, None, ap, arith, length, subst, sym}
+use Rattle.std.proofs.Common.{◌≡◌, ◌∙◌, ◌≤◌, None, ap, arith, false, length, rules, subst, sym, true}
 use Rattle.rhai_lower.specs.View.{case_views, view}
 use Rattle.rhai_trees.specs.CaseKeys.{Files, parts_key, with_digest}
 use Rattle.rhai_trees.specs.Switches.{case_place}
@@ -14,14 +14,14 @@ returns-in_default c =
     subst (λ k. (case_place cases x ≡ None) × Files cases x k) (sym c.parts_key.ensures)
     (new_here cases x c.args.digest number c.requires.parts c.requires.digest c.loop-number.invariant.rest c.loop-number.invariant.enough (none_here cases c.args.digest number c.in_default.ensures.place))
 
-pub returns-then-same_value : goal.returns-then-same_value
-returns-then-same_value c =
-    let here = some_here c.args.cases.now (view c.args.value.now) c.args.digest c.loop-number.number c.in-Some.place _ _ c.in-Some.ensures.place c.if-same_value.ensures in
+pub returns-then-same : goal.returns-then-same
+returns-then-same c =
+    let here = some_here c.args.cases.now (view c.args.value.now) c.args.digest c.loop-number.number c.in-Some.place c.index-cases-place.result true c.in-Some.ensures.place (search rules) in
     sym c.loop-number.invariant.rest ∙ here.0
 
 pub loop-number-preserved : goal.loop-number-preserved
 loop-number-preserved c =
-    let here = some_here c.args.cases.now (view c.args.value.now) c.args.digest c.loop-number.number c.in-Some.place _ _ c.in-Some.ensures.place c.if-same_value.ensures in
+    let here = some_here c.args.cases.now (view c.args.value.now) c.args.digest c.loop-number.number c.in-Some.place c.index-cases-place.result false c.in-Some.ensures.place (search rules) in
     record { rest = sym here.0 ∙ c.loop-number.invariant.rest; enough = here.1 }
 
 pub returns : goal.returns
