@@ -1,4 +1,4 @@
--- Where an array or an object map is among cases, by its digest.
+-- Cases by their digests.
 use Rattle.std.proofs.Common.{◌≡◌, ◌∙◌, ◌<◌, ◌≤◌, ℕ, ℤ, suc, zero, ◌+◌, ◌-◌, ◌==◌, Bool, true, false, not, List, [], ◌∷◌, ◌&&◌, Option, Some, None, get_or, is_some, length, refl, sym, ap, subst, arith, true≢false, unwrap_or, if◌then◌else◌}
 use Rattle.std.specs.Cmp.{unsigned_Decides}
 use Rattle.std.specs.Prelude.{option_map}

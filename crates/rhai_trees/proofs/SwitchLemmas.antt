@@ -1,4 +1,4 @@
--- The values of `switch` cases, as the code compares them, and arms.
+-- Case values, as the code compares them, and arms.
 use Rattle.std.proofs.Common.{◌≡◌, ◌∙◌, ◌<◌, ◌≤◌, ℕ, ℤ, ◌+◌, ◌-◌, ◌==◌, Bool, true, false, List, [], ◌∷◌, ◌&&◌, Option, Some, None, ◌||◌, ◌++◌, not, drop, get_or, map, suc, zero, slice_set, unwrap_or, length, refl, sym, ap, arith, if◌then◌else◌}
 use Rattle.std.proofs.Math.Dec.{eqb-suc-zero}
 use Rattle.std.proofs.Math.Seq.{drop-cons}

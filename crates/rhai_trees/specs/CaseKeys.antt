@@ -18,6 +18,8 @@ use Rattle.rhai_trees.specs.Digests.{digest, is_regular}
 use Rattle.rhai_trees.specs.Switches.{case_place}
 use Rattle.rhai_trees.specs.declared.case_index.CaseKey.{CaseKey}
 use Rattle.rhai_trees.specs.declared.case_index.CaseKey.TheVariants as key
+use Rattle.rhai_trees.specs.declared.case_search.CasePlace.{CasePlace}
+use Rattle.rhai_trees.specs.declared.case_search.CasePlace.TheVariants as found
 
 -- a range, wherever it stands
 abbrev pub range_value : IntegerRange → Node
@@ -121,6 +123,11 @@ case_count (one_case x indices cases) = case_count cases + 1
 abbrev pub Files : Cases → Node → CaseKey → Type 0
 Files cases x k = (indices : List ℕ) (q : CaseKey)
     → place_of (with_case cases x indices) q ≡ (if same_case k q then Some (case_count cases) else place_of cases q)
+
+-- Where a value is found: a place is that of the first equal case, and a key is that of a value that is equal to no case.
+abbrev pub IsPlace : Cases → Node → CasePlace → Type 0
+IsPlace cases x (found.At p) = case_place cases x ≡ Some p
+IsPlace cases x (found.New k) = (case_place cases x ≡ None) × Files cases x k
 
 -- `0..5` has the key of a range, an array has none. An index that finds nothing is that of no cases.
 example : (plain_value (operator_call (Sign ExclusiveRange) (place 1 2) (integer (pos 0) (place 1 1))

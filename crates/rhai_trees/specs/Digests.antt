@@ -1,5 +1,5 @@
--- Digests of the values of `switch` cases, by which arrays and object maps are found. Equal values have equal digests,
--- where no object map has a name twice; so has none that is read.
+-- Digests of case values. Equal values have equal digests, where no object map has a name twice; so has none that is
+-- read.
 use Rattle.std.specs.Prelude.{◌+◌, ◌%◌, ◌^◌, ℕ, Bool, true, ◌&&◌, not, List, [], ◌∷◌, ◌++◌, Option, None, Some}
 use Rattle.std.specs.Prelude.{fold}
 use Rattle.std.specs.Hash as fed

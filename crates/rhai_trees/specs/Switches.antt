@@ -1,4 +1,4 @@
--- The arms of a `switch` as the code has them, and what its helpers answer.
+-- Arms of `switch` in the code, and what its helpers answer.
 use Rattle.std.specs.Prelude.{◌≡◌, ℕ, ◌+◌, Bool, true, false, ◌&&◌, ◌||◌, not, Option, Some, None, option_map, List}
 use Rattle.std.specs.Prelude.{[], ◌∷◌, ◌++◌}
 use Rattle.std.specs.Prelude.{if◌then◌else◌, pos, refl, codes}

@@ -1,11 +1,11 @@
-//! Where an array or an object map is among the cases of a `switch`. Digests say with which of them it is compared.
+//! Cases of a `switch` by their digests. They say with which cases an array or an object map is compared.
 
 ghost use Rattle.std.specs.Prelude.{◌≡◌, ◌<◌, IfOk, IfSome, None, length, option_map};
 ghost use Rattle.indexmap.specs.IndexMap.{get};
 ghost use Rattle.rhai_lower.specs.View.{case_views, view};
 ghost use Rattle.rhai_trees.specs.CaseKeys.{Places, digest_of, first_same, numbered, plain_value, same_case};
 ghost use Rattle.rhai_trees.specs.CaseKeys.{with_digest};
-ghost use Rattle.rhai_trees.specs.CasePlaces.{IsPlace};
+ghost use Rattle.rhai_trees.specs.CaseKeys.{IsPlace};
 ghost use Rattle.rhai_trees.specs.Switches.{case_place};
 
 use crate::case_index::{CaseKey, parts_key, place_at};

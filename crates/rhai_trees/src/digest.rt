@@ -1,4 +1,4 @@
-//! Digests of the values of `switch` cases, and which values have names once.
+//! Digests of case values. It also says which values have each name once.
 
 ghost use Rattle.std.specs.Prelude.{◌≡◌, ◌%◌, ◌^◌, [], IfOk};
 ghost use Rattle.rhai_lower.specs.View.{property_views, view, views};

@@ -3,7 +3,7 @@ use Rattle.std.proofs.lemmas.Result.{MatchResult-weaker}
 use Rattle.indexmap.specs.IndexMap.{get}
 use Rattle.rhai_lower.specs.View.{case_views, view}
 use Rattle.rhai_trees.specs.CaseKeys.{same_case}
-use Rattle.rhai_trees.specs.CasePlaces.{IsPlace}
+use Rattle.rhai_trees.specs.CaseKeys.{IsPlace}
 use Rattle.rhai_trees.specs.Switches.{case_place}
 use Rattle.rhai_trees.proofs.CaseIndexLemmas.{kept_places}
 use Rattle.rhai_trees.proofs.switch.push_parts.Goals as goal
