@@ -1,10 +1,14 @@
 -- Keys of cases, and their places as cases are added.
-use Rattle.std.proofs.Common.{◌≡◌, ◌∙◌, ◌<◌, ◌≤◌, ℕ, ℤ, suc, zero, ◌+◌, ◌==◌, Bool, true, false, not, List, [], ◌∷◌, ◌&&◌, ◌++◌, Option, Some, None, append-nil, is_some, length, refl, sym, ap, arith, cond, true≢false, unwrap_or, if◌then◌else◌}
+use Rattle.std.proofs.Common.{◌≡◌, ◌∙◌, ◌<◌, ◌≤◌, ℕ, ℤ, suc, zero, ◌+◌, ◌==◌, Bool, true, false, not, List, [], ◌∷◌, ◌&&◌, ◌||◌, ◌++◌, Option, Some, None, nat_lt, position, append-nil, is_some, length, refl, sym, ap, arith, cond, true≢false, unwrap_or, if◌then◌else◌}
 use Rattle.std.proofs.lemmas.Bool.{and_parts}
 use Rattle.std.specs.Bool.{beq}
 use Rattle.std.specs.Cmp.{signed_Decides, unsigned_Decides}
 use Rattle.std.specs.Cmp.Lexicographic as texts
-use Rattle.std.specs.Map.{lookup}
+use Rattle.std.specs.List.{list_any, position_from, position_or_len}
+use Rattle.indexmap.specs.IndexSet.{insert_key}
+use Rattle.std.proofs.lemmas.Cmp.{nat_list_eq_equiv}
+use Rattle.std.proofs.lemmas.Iterator.Adapters.{position_from-zero}
+use Rattle.std.proofs.lemmas.List.{length-append}
 use Rattle.std.specs.Option.{option_or}
 use Rattle.std.specs.Ordering.{int_eq}
 use Rattle.std.specs.Prelude.{option_map}
@@ -23,7 +27,7 @@ use Rattle.rhai_lower.specs.declared.token.Token.TheVariants.{ExclusiveRange, In
 use Rattle.rhai_grammar.specs.Operators.{operator_called}
 use Rattle.rhai_grammar.specs.Switches.{with_value}
 use Rattle.rhai_trees.specs.contracts.case_index.CaseKeyPartialEq.TheImpl.{eq-value}
-use Rattle.rhai_trees.specs.CaseKeys.{Files, Places, case_count, digest_of, has_digest, is_plain, key_value, numbered, parts_key, place_of, plain_value, range_value, same_case, with_digest}
+use Rattle.rhai_trees.specs.CaseKeys.{IsKey, Keyed, case_count, digest_of, has_digest, is_plain, key_value, numbered, parts_key, place_in, place_of, plain_value, range_value, same_case, with_digest}
 use Rattle.rhai_trees.specs.Digests.{digest, is_regular}
 use Rattle.rhai_trees.specs.Switches.{case_place}
 use Rattle.rhai_trees.proofs.SwitchLemmas.{boolean_anywhere, call_value, character_anywhere, integer_anywhere, place_none, pointer_anywhere, string_anywhere, unit_anywhere}
@@ -199,6 +203,49 @@ equal_keys (key.Parts d m) (key.Parts f n) e = refl
 equal_keys (key.Irregular m) (key.Irregular n) e = refl
 equal_keys _ _ e = absurd cc
 
+-- ---- the test of keys does not depend on their order
+
+booleans_symm : (a b : Bool) → same_boolean a b ≡ same_boolean b a
+booleans_symm true true = refl
+booleans_symm true false = refl
+booleans_symm false true = refl
+booleans_symm false false = refl
+
+ints_symm : (a b : ℤ) → int_eq a b ≡ int_eq b a
+ints_symm a b = by (int_eq a b) refl (int_eq b a) refl
+  where
+    by : (x : Bool) → int_eq a b ≡ x → (y : Bool) → int_eq b a ≡ y → x ≡ y
+    by true e true f = refl
+    by false e false f = refl
+    by true e false f = absurd (true≢false (sym ((signed_Decides b a).1 (sym ((signed_Decides a b).0 e))) ∙ f))
+    by false e true f = absurd (true≢false (sym ((signed_Decides a b).1 (sym ((signed_Decides b a).0 f))) ∙ e))
+
+numbers_symm : (a b : ℕ) → (a == b) ≡ (b == a)
+numbers_symm a b = by (a == b) refl (b == a) refl
+  where
+    by : (x : Bool) → (a == b) ≡ x → (y : Bool) → (b == a) ≡ y → x ≡ y
+    by true e true f = refl
+    by false e false f = refl
+    by true e false f = absurd (true≢false (sym ((unsigned_Decides b a).1 (sym ((unsigned_Decides a b).0 e))) ∙ f))
+    by false e true f = absurd (true≢false (sym ((unsigned_Decides a b).1 (sym ((unsigned_Decides b a).0 f))) ∙ e))
+
+texts_symm : (a b : Text) → same_text a b ≡ same_text b a
+texts_symm a b = nat_list_eq_equiv.symm a b
+
+both : (a b c d : Bool) → a ≡ c → b ≡ d → (a && b) ≡ (c && d)
+both a b c d e f = ap (λ x. x && b) e ∙ ap (λ y. c && y) f
+
+case_symm : (k q : CaseKey) → same_case k q ≡ same_case q k
+case_symm (key.Boolean a) (key.Boolean b) = booleans_symm a b
+case_symm (key.Integer a) (key.Integer b) = ints_symm a b
+case_symm (key.Character a) (key.Character b) = numbers_symm a b
+case_symm (key.Text a) (key.Text b) = texts_symm (rc_str_bytes a) (rc_str_bytes b)
+case_symm (key.Pointer a m) (key.Pointer b n) = both _ _ _ _ (texts_symm (rc_str_bytes a) (rc_str_bytes b)) (numbers_symm m n)
+case_symm (key.Range a b c) (key.Range d e f) = both _ _ _ _ (booleans_symm a d) (both _ _ _ _ (ints_symm b e) (ints_symm c f))
+case_symm (key.Parts d m) (key.Parts e n) = both _ _ _ _ (numbers_symm d e) (numbers_symm m n)
+case_symm (key.Irregular m) (key.Irregular n) = numbers_symm m n
+case_symm _ _ = refl
+
 -- ---- places
 
 pub place_alike : (cs : Cases) (x p : Node) → ((y : Node) → same_value y x ≡ same_value y p) → case_place cs x ≡ case_place cs p
@@ -298,12 +345,23 @@ numbered_before [] z (suc n) h = refl
 numbered_before (c ∷ l) z zero h = refl
 numbered_before (c ∷ l) z (suc n) h = numbered_before l z n (λ e. h (omega (arith, e)))
 
-numbered_pushed : (l : List (ℕ × Node)) (z : ℕ × Node) (n : ℕ) → numbered (l ++ z ∷ []) n ≡ (if length l == n then Some z else numbered l n)
+past_numbers : (l : List (ℕ × Node)) (n : ℕ) → length l ≤ n → numbered l n ≡ None
+past_numbers [] n h = refl
+past_numbers (c ∷ l) zero h = absurd (omega (arith, h))
+past_numbers (c ∷ l) (suc n) h = past_numbers l n (omega (arith, h))
+
+none_or : (o : Option (ℕ × Node)) → o ≡ option_or o None
+none_or None = refl
+none_or (Some c) = refl
+
+numbered_pushed : (l : List (ℕ × Node)) (z : ℕ × Node) (n : ℕ) → numbered (l ++ z ∷ []) n ≡ option_or (numbered l n) (if length l == n then Some z else None)
 numbered_pushed l z n = by (length l == n) refl
   where
-    by : (b : Bool) → (length l == n) ≡ b → numbered (l ++ z ∷ []) n ≡ (if b then Some z else numbered l n)
-    by true e = ap (numbered (l ++ z ∷ [])) (sym ((unsigned_Decides (length l) n).0 e)) ∙ numbered_last l z
-    by false e = numbered_before l z n (λ f. true≢false (sym ((unsigned_Decides (length l) n).1 f) ∙ e))
+    by : (b : Bool) → (length l == n) ≡ b → numbered (l ++ z ∷ []) n ≡ option_or (numbered l n) (if b then Some z else None)
+    by true e =
+        let at = (unsigned_Decides (length l) n).0 e in
+        ap (numbered (l ++ z ∷ [])) (sym at) ∙ numbered_last l z ∙ ap (λ o. option_or o (Some z)) (sym (past_numbers l n (omega (arith, at))))
+    by false e = numbered_before l z n (λ f. true≢false (sym ((unsigned_Decides (length l) n).1 f) ∙ e)) ∙ none_or (numbered l n)
 
 pub no_number : (l : List (ℕ × Node)) (n : ℕ) → numbered l n ≡ None → length l ≤ n
 no_number [] n e = omega arith
@@ -315,7 +373,7 @@ a_number [] n c e = absurd cc
 a_number (d ∷ l) zero c e = omega arith
 a_number (d ∷ l) (suc n) c e = omega (arith, a_number l n c e)
 
--- ---- the index
+-- ---- places by keys
 
 -- a place by its key, where neither the places of values nor the cases with a digest change
 place_by : (cs ds : Cases) → ((p : Node) → case_place ds p ≡ case_place cs p) → ((o : Option ℕ) → with_digest o 0 ds ≡ with_digest o 0 cs) → (q : CaseKey) → place_of ds q ≡ place_of cs q
@@ -340,113 +398,75 @@ plain_place (key.Text t) cs plain = refl
 plain_place (key.Pointer t n) cs plain = refl
 plain_place (key.Range b m n) cs plain = refl
 
-pub no_places : (find : CaseKey → Option ℕ) → ((q : CaseKey) → find q ≡ None) → Places find node.no_cases
-no_places find h = record { found = λ q. h q ∙ none q }
-  where
-    none : (q : CaseKey) → None ≡ place_of node.no_cases q
-    none (key.Parts d n) = refl
-    none (key.Irregular n) = refl
-    none key.Unit = refl
-    none (key.Boolean b) = refl
-    none (key.Integer n) = refl
-    none (key.Character c) = refl
-    none (key.Text t) = refl
-    none (key.Pointer t n) = refl
-    none (key.Range b m n) = refl
-
-pub found_by_key : (find : CaseKey → Option ℕ) (cs : Cases) (x : Node) (k : CaseKey) → Places find cs → is_plain k ≡ true → Some (key_value k) ≡ plain_value x → find k ≡ case_place cs x
-found_by_key find cs x k p plain e =
-    p.found k ∙ plain_place k cs plain ∙ sym (place_alike cs x (key_value k) (λ y. plain_right x (key_value k) y (sym e)))
-
-pub kept_places : (find : CaseKey → Option ℕ) (cs ds : Cases) (x : Node) (index n : ℕ) → Places find cs → case_place cs x ≡ Some n → ds ≡ with_value cs x index → Places find ds
-kept_places find cs ds x index n p e f = record {
-  found = λ q. p.found q ∙ sym (place_by cs (with_value cs x index) (λ y. place_kept cs x y index n e) (λ o. digests_kept cs x index n o 0 e) q)
-    ∙ ap (λ c. place_of c q) (sym f);
-}
+-- equal keys have one place
+alike_place : (cs : Cases) (q k : CaseKey) → same_case q k ≡ true → place_of cs q ≡ place_of cs k
+alike_place cs (key.Parts d m) (key.Parts f n) e =
+    let parts = and_parts (d == f) (m == n) e in
+    ap (λ g. place_of cs (key.Parts g m)) ((unsigned_Decides d f).0 parts.0) ∙ ap (λ l. place_of cs (key.Parts f l)) ((unsigned_Decides m n).0 parts.1)
+alike_place cs (key.Irregular m) (key.Irregular n) e = ap (λ l. place_of cs (key.Irregular l)) ((unsigned_Decides m n).0 e)
+alike_place cs key.Unit key.Unit e = refl
+alike_place cs (key.Boolean a) (key.Boolean b) e = ap (case_place cs) (equal_keys (key.Boolean a) (key.Boolean b) e)
+alike_place cs (key.Integer a) (key.Integer b) e = ap (case_place cs) (equal_keys (key.Integer a) (key.Integer b) e)
+alike_place cs (key.Character a) (key.Character b) e = ap (case_place cs) (equal_keys (key.Character a) (key.Character b) e)
+alike_place cs (key.Text a) (key.Text b) e = ap (case_place cs) (equal_keys (key.Text a) (key.Text b) e)
+alike_place cs (key.Pointer a m) (key.Pointer b n) e = ap (case_place cs) (equal_keys (key.Pointer a m) (key.Pointer b n) e)
+alike_place cs (key.Range a b c) (key.Range d f g) e = ap (case_place cs) (equal_keys (key.Range a b c) (key.Range d f g) e)
+alike_place cs _ _ e = absurd cc
 
 or_none : (o : Option ℕ) → o ≡ option_or o None
 or_none None = refl
 or_none (Some n) = refl
 
--- a case that is no value of the key q, at the end
-other_pushed : (cs : Cases) (x : Node) (indices : List ℕ) (q : CaseKey) → same_value x (key_value q) ≡ false → case_place cs (key_value q) ≡ case_place (node.with_case cs x indices) (key_value q)
-other_pushed cs x indices q e =
-    or_none (case_place cs (key_value q))
-    ∙ ap (λ b. option_or (case_place cs (key_value q)) (if b then Some (case_count cs) else None)) (sym e)
-    ∙ sym (place_pushed cs x (key_value q) indices)
+-- The law of a key with one more case, from what it says of keys that stand for values, and of the others.
+abbrev Law : Cases → CaseKey → CaseKey → Option ℕ → Type 0
+Law cs k q more = more ≡ option_or (place_of cs q) (if same_case q k then Some (case_count cs) else None)
 
--- a case that is the value of the key q, at the end, where there was none
-this_pushed : (cs : Cases) (x : Node) (indices : List ℕ) (q : CaseKey) → same_value x (key_value q) ≡ true → case_place cs (key_value q) ≡ None → Some (case_count cs) ≡ case_place (node.with_case cs x indices) (key_value q)
-this_pushed cs x indices q e n =
-    ap (λ o. option_or o (Some (case_count cs))) (sym n)
-    ∙ ap (λ b. option_or (case_place cs (key_value q)) (if b then Some (case_count cs) else None)) (sym e)
-    ∙ sym (place_pushed cs x (key_value q) indices)
+law_by : (cs : Cases) (x : Node) (k : CaseKey) (indices : List ℕ)
+    → ((q : CaseKey) → is_plain q ≡ true → case_place (node.with_case cs x indices) (key_value q) ≡ option_or (case_place cs (key_value q)) (if same_case q k then Some (case_count cs) else None))
+    → ((o : Option ℕ) (n : ℕ) → option_map (λ c. c.0) (numbered (with_digest o 0 (node.with_case cs x indices)) n) ≡ option_or (option_map (λ c. c.0) (numbered (with_digest o 0 cs) n)) (if same_case (parts_key o n) k then Some (case_count cs) else None))
+    → (q : CaseKey) → Law cs k q (place_of (node.with_case cs x indices) q)
+law_by cs x k indices h g (key.Parts d n) = g (Some d) n
+law_by cs x k indices h g (key.Irregular n) = g None n
+law_by cs x k indices h g key.Unit = h key.Unit refl
+law_by cs x k indices h g (key.Boolean b) = h (key.Boolean b) refl
+law_by cs x k indices h g (key.Integer n) = h (key.Integer n) refl
+law_by cs x k indices h g (key.Character c) = h (key.Character c) refl
+law_by cs x k indices h g (key.Text t) = h (key.Text t) refl
+law_by cs x k indices h g (key.Pointer t n) = h (key.Pointer t n) refl
+law_by cs x k indices h g (key.Range b m n) = h (key.Range b m n) refl
 
--- The law of files, from what it says of keys that stand for values, and of the others.
-abbrev FilesPlain : Cases → Node → CaseKey → Type 0
-FilesPlain cs x k = (indices : List ℕ) (q : CaseKey) → is_plain q ≡ true → case_place (node.with_case cs x indices) (key_value q) ≡ (if same_case k q then Some (case_count cs) else case_place cs (key_value q))
-
-abbrev FilesParts : Cases → Node → CaseKey → Type 0
-FilesParts cs x k = (indices : List ℕ) (o : Option ℕ) (n : ℕ) → option_map (λ c. c.0) (numbered (with_digest o 0 (node.with_case cs x indices)) n) ≡ (if same_case k (parts_key o n) then Some (case_count cs) else option_map (λ c. c.0) (numbered (with_digest o 0 cs) n))
-
-files_by : (cs : Cases) (x : Node) (k : CaseKey) → FilesPlain cs x k → FilesParts cs x k → Files cs x k
-files_by cs x k h g indices (key.Parts d n) = g indices (Some d) n
-files_by cs x k h g indices (key.Irregular n) = g indices None n
-files_by cs x k h g indices key.Unit = h indices key.Unit refl
-files_by cs x k h g indices (key.Boolean b) = h indices (key.Boolean b) refl
-files_by cs x k h g indices (key.Integer n) = h indices (key.Integer n) refl
-files_by cs x k h g indices (key.Character c) = h indices (key.Character c) refl
-files_by cs x k h g indices (key.Text t) = h indices (key.Text t) refl
-files_by cs x k h g indices (key.Pointer t n) = h indices (key.Pointer t n) refl
-files_by cs x k h g indices (key.Range b m n) = h indices (key.Range b m n) refl
-
--- a key that stands for a value is no key by a digest
-apart : (k : CaseKey) (o : Option ℕ) (n : ℕ) → is_plain k ≡ true → same_case k (parts_key o n) ≡ false
-apart (key.Parts d m) o n plain = absurd cc
-apart (key.Irregular m) o n plain = absurd cc
-apart key.Unit None n plain = refl
-apart key.Unit (Some d) n plain = refl
-apart (key.Boolean b) None n plain = refl
-apart (key.Boolean b) (Some d) n plain = refl
-apart (key.Integer m) None n plain = refl
-apart (key.Integer m) (Some d) n plain = refl
-apart (key.Character c) None n plain = refl
-apart (key.Character c) (Some d) n plain = refl
-apart (key.Text t) None n plain = refl
-apart (key.Text t) (Some d) n plain = refl
-apart (key.Pointer t m) None n plain = refl
-apart (key.Pointer t m) (Some d) n plain = refl
-apart (key.Range b m l) None n plain = refl
-apart (key.Range b m l) (Some d) n plain = refl
-
-apart_left : (o : Option ℕ) (n : ℕ) (q : CaseKey) → is_plain q ≡ true → same_case (parts_key o n) q ≡ false
-apart_left None n (key.Irregular m) plain = absurd cc
-apart_left None n _ plain = refl
-apart_left (Some d) n (key.Parts e m) plain = absurd cc
-apart_left (Some d) n _ plain = refl
+-- a key by a digest is none that stands for a value
+apart : (o : Option ℕ) (n : ℕ) (q : CaseKey) → is_plain q ≡ true → same_case (parts_key o n) q ≡ false
+apart None n (key.Irregular m) plain = absurd cc
+apart None n _ plain = refl
+apart (Some d) n (key.Parts e m) plain = absurd cc
+apart (Some d) n _ plain = refl
 
 no_digest : (x p : Node) (o : Option ℕ) → plain_value x ≡ Some p → has_digest o x ≡ false
 no_digest x p None e = ap (λ q. not (is_some q) && not (is_regular x)) e
 no_digest x p (Some d) e = ap (λ q. not (is_some q) && (is_regular x && (digest x == d))) e
 
-pub files_plain : (cs : Cases) (x : Node) (k : CaseKey) → is_plain k ≡ true → Some (key_value k) ≡ plain_value x → case_place cs x ≡ None → Files cs x k
-files_plain cs x k plain e n = files_by cs x k (λ indices q l. by indices q (same_case k q) refl) parts
+-- a value that is its own key
+pub plain_key : (cs : Cases) (x : Node) (k : CaseKey) → is_plain k ≡ true → Some (key_value k) ≡ plain_value x → IsKey cs x k
+plain_key cs x k plain e = record {
+  place = plain_place k cs plain ∙ sym (place_alike cs x (key_value k) (λ y. plain_right x (key_value k) y (sym e)));
+  more = λ n indices. law_by cs x k indices (λ q l. value indices q) (parts indices);
+}
   where
-    same : (q : CaseKey) → same_value x (key_value q) ≡ same_case k q
-    same q = plain_left x (key_value k) (key_value q) (sym e) ∙ keys_compared k q plain
+    value : (indices : List ℕ) (q : CaseKey) → case_place (node.with_case cs x indices) (key_value q) ≡ option_or (case_place cs (key_value q)) (if same_case q k then Some (case_count cs) else None)
+    value indices q =
+        let same = plain_left x (key_value k) (key_value q) (sym e) ∙ keys_compared k q plain ∙ case_symm k q in
+        place_pushed cs x (key_value q) indices
+        ∙ ap (λ b. option_or (case_place cs (key_value q)) (if b then Some (case_count cs) else None)) same
 
-    by : (indices : List ℕ) (q : CaseKey) (b : Bool) → same_case k q ≡ b → case_place (node.with_case cs x indices) (key_value q) ≡ (if b then Some (case_count cs) else case_place cs (key_value q))
-    by indices q true f =
-        let absent = ap (case_place cs) (sym (equal_keys k q f)) ∙ sym (place_alike cs x (key_value k) (λ y. plain_right x (key_value k) y (sym e))) ∙ n in
-        sym (this_pushed cs x indices q (same q ∙ f) absent)
-    by indices q false f = sym (other_pushed cs x indices q (same q ∙ f))
-
-    parts : FilesParts cs x k
+    parts : (indices : List ℕ) (o : Option ℕ) (m : ℕ) → option_map (λ c. c.0) (numbered (with_digest o 0 (node.with_case cs x indices)) m) ≡ option_or (option_map (λ c. c.0) (numbered (with_digest o 0 cs) m)) (if same_case (parts_key o m) k then Some (case_count cs) else None)
     parts indices o m =
+        let before = option_map (λ c. c.0) (numbered (with_digest o 0 cs) m) in
         ap (λ l. option_map (λ c. c.0) (numbered l m)) (digests_pushed cs x indices o 0)
         ∙ ap (λ b. option_map (λ c. c.0) (numbered (with_digest o 0 cs ++ one_at b (0 + case_count cs) x) m)) (no_digest x (key_value k) o (sym e))
         ∙ ap (λ l. option_map (λ c. c.0) (numbered l m)) (append-nil (with_digest o 0 cs))
-        ∙ ap (λ b. if b then Some (case_count cs) else option_map (λ c. c.0) (numbered (with_digest o 0 cs) m)) (sym (apart k o m plain))
+        ∙ or_none before
+        ∙ ap (λ b. option_or before (if b then Some (case_count cs) else None)) (sym (apart o m k plain))
 
 -- has_digest, over what it asks of the value
 abbrev has_by : Option Node → Bool → ℕ → Option ℕ → Bool
@@ -473,32 +493,80 @@ digest_is None true d (Some f) e = ap Some (sym ((unsigned_Decides d f).0 e))
 digest_is None false d None e = refl
 digest_is None false d (Some f) e = absurd cc
 
-pub files_parts : (cs : Cases) (x : Node) (m : ℕ) → plain_value x ≡ None → m ≡ length (with_digest (digest_of x) 0 cs) → Files cs x (parts_key (digest_of x) m)
-files_parts cs x m none is = files_by cs x (parts_key (digest_of x) m) plain parts
+-- a value that has no key of its own, where no case is equal to it
+pub parts_is_key : (cs : Cases) (x : Node) (m : ℕ) → plain_value x ≡ None → case_place cs x ≡ None → m ≡ length (with_digest (digest_of x) 0 cs) → IsKey cs x (parts_key (digest_of x) m)
+parts_is_key cs x m none absent is = record {
+  place = by_digest (digest_of x) m ∙ ap (option_map (λ c. c.0)) (past_numbers (with_digest (digest_of x) 0 cs) m (omega (arith, is))) ∙ sym absent;
+  more = λ n indices. law_by cs x (parts_key (digest_of x) m) indices (value indices) (parts indices);
+}
   where
-    plain : FilesPlain cs x (parts_key (digest_of x) m)
-    plain indices q l =
-        sym (other_pushed cs x indices q (no_plain x q none))
-        ∙ ap (λ b. if b then Some (case_count cs) else case_place cs (key_value q)) (sym (apart_left (digest_of x) m q l))
+    by_digest : (o : Option ℕ) (n : ℕ) → place_of cs (parts_key o n) ≡ option_map (λ c. c.0) (numbered (with_digest o 0 cs) n)
+    by_digest None n = refl
+    by_digest (Some d) n = refl
 
-    first : (o : Option (ℕ × Node)) (b : Bool) → option_map (λ c. c.0) (if b then Some (0 + case_count cs, x) else o) ≡ (if b then Some (case_count cs) else option_map (λ c. c.0) o)
-    first o true = ap Some (omega arith)
-    first o false = refl
+    value : (indices : List ℕ) (q : CaseKey) → is_plain q ≡ true → case_place (node.with_case cs x indices) (key_value q) ≡ option_or (case_place cs (key_value q)) (if same_case q (parts_key (digest_of x) m) then Some (case_count cs) else None)
+    value indices q plain =
+        place_pushed cs x (key_value q) indices
+        ∙ ap (λ b. option_or (case_place cs (key_value q)) (if b then Some (case_count cs) else None)) (no_plain x q none ∙ sym (apart (digest_of x) m q plain) ∙ case_symm (parts_key (digest_of x) m) q)
 
-    by : (o : Option ℕ) (n : ℕ) (b : Bool) → has_digest o x ≡ b → option_map (λ c. c.0) (numbered (with_digest o 0 cs ++ one_at b (0 + case_count cs) x) n) ≡ (if b && (m == n) then Some (case_count cs) else option_map (λ c. c.0) (numbered (with_digest o 0 cs) n))
+    first : (o : Option (ℕ × Node)) (b : Bool) → option_map (λ c. c.0) (option_or o (if b then Some (placed (0 + case_count cs) x) else None)) ≡ option_or (option_map (λ c. c.0) o) (if b then Some (case_count cs) else None)
+    first None true = ap Some (omega arith)
+    first None false = refl
+    first (Some c) b = refl
+
+    by : (o : Option ℕ) (n : ℕ) (b : Bool) → has_digest o x ≡ b → option_map (λ c. c.0) (numbered (with_digest o 0 cs ++ one_at b (0 + case_count cs) x) n) ≡ option_or (option_map (λ c. c.0) (numbered (with_digest o 0 cs) n)) (if b && (m == n) then Some (case_count cs) else None)
     by o n true e =
         let many : length (with_digest o 0 cs) ≡ m = ap (λ d. length (with_digest d 0 cs)) (digest_is (plain_value x) (is_regular x) (digest x) o (sym (has_by_digest o x) ∙ e)) ∙ sym is in
-        ap (option_map (λ c. c.0)) (numbered_pushed (with_digest o 0 cs) (0 + case_count cs, x) n)
+        ap (option_map (λ c. c.0)) (numbered_pushed (with_digest o 0 cs) (placed (0 + case_count cs) x) n)
         ∙ first (numbered (with_digest o 0 cs) n) (length (with_digest o 0 cs) == n)
-        ∙ ap (λ l. if l == n then Some (case_count cs) else option_map (λ c. c.0) (numbered (with_digest o 0 cs) n)) many
-    by o n false e = ap (λ l. option_map (λ c. c.0) (numbered l n)) (append-nil (with_digest o 0 cs))
+        ∙ ap (λ l. option_or (option_map (λ c. c.0) (numbered (with_digest o 0 cs) n)) (if l == n then Some (case_count cs) else None)) many
+    by o n false e = ap (λ l. option_map (λ c. c.0) (numbered l n)) (append-nil (with_digest o 0 cs)) ∙ or_none (option_map (λ c. c.0) (numbered (with_digest o 0 cs) n))
 
-    parts : FilesParts cs x (parts_key (digest_of x) m)
+    parts : (indices : List ℕ) (o : Option ℕ) (n : ℕ) → option_map (λ c. c.0) (numbered (with_digest o 0 (node.with_case cs x indices)) n) ≡ option_or (option_map (λ c. c.0) (numbered (with_digest o 0 cs) n)) (if same_case (parts_key o n) (parts_key (digest_of x) m) then Some (case_count cs) else None)
     parts indices o n =
+        let before = option_map (λ c. c.0) (numbered (with_digest o 0 cs) n) in
         ap (λ l. option_map (λ c. c.0) (numbered l n)) (digests_pushed cs x indices o 0)
         ∙ by o n (has_digest o x) refl
-        ∙ ap (λ b. if b && (m == n) then Some (case_count cs) else option_map (λ c. c.0) (numbered (with_digest o 0 cs) n)) (has_by_digest o x)
-        ∙ ap (λ b. if b then Some (case_count cs) else option_map (λ c. c.0) (numbered (with_digest o 0 cs) n)) (sym (digest_case (plain_value x) (is_regular x) (digest x) o m n none))
+        ∙ ap (λ b. option_or before (if b && (m == n) then Some (case_count cs) else None)) (has_by_digest o x)
+        ∙ ap (λ b. option_or before (if b then Some (case_count cs) else None)) (sym (digest_case (plain_value x) (is_regular x) (digest x) o m n none) ∙ case_symm (parts_key (digest_of x) m) (parts_key o n))
+
+-- ---- cases and their keys
+
+pub no_keys : (keys : List CaseKey) → length keys ≡ 0 → Keyed keys node.no_cases
+no_keys [] e = record { found = none; count = refl }
+  where
+    none : (q : CaseKey) → None ≡ place_of node.no_cases q
+    none (key.Parts d n) = refl
+    none (key.Irregular n) = refl
+    none key.Unit = refl
+    none (key.Boolean b) = refl
+    none (key.Integer n) = refl
+    none (key.Character c) = refl
+    none (key.Text t) = refl
+    none (key.Pointer t n) = refl
+    none (key.Range b m n) = refl
+no_keys (k ∷ keys) e = absurd (omega (arith, e))
+
+-- how many cases there are, where a value is made to lead to one more arm
+kept_count : (cs : Cases) (x : Node) (index n : ℕ) → case_place cs x ≡ Some n → case_count (with_value cs x index) ≡ case_count cs
+kept_count node.no_cases x index n e = absurd cc
+kept_count (node.one_case z more cs) x index n e = by (same_value z x) (case_place cs x) (λ m f. kept_count cs x index m f) e
+  where
+    by : (b : Bool) (o : Option ℕ) → ((m : ℕ) → o ≡ Some m → case_count (with_value cs x index) ≡ case_count cs) → (if b then Some 0 else option_map (λ n. n + 1) o) ≡ Some n → case_count (if b then node.one_case z (more ++ index ∷ []) cs else node.one_case z more (with_value cs x index)) ≡ case_count cs + 1
+    by true o h e = refl
+    by false None h e = absurd cc
+    by false (Some m) h e = ap (λ k. k + 1) (h m refl)
+
+pub kept_keys : (keys : List CaseKey) (cs ds : Cases) (x : Node) (index n : ℕ) → Keyed keys cs → case_place cs x ≡ Some n → ds ≡ with_value cs x index → Keyed keys ds
+kept_keys keys cs ds x index n p e f = record {
+  found = λ q. p.found q ∙ sym (place_by cs (with_value cs x index) (λ y. place_kept cs x y index n e) (λ o. digests_kept cs x index n o 0 e) q)
+    ∙ ap (λ c. place_of c q) (sym f);
+  count = p.count ∙ sym (kept_count cs x index n e) ∙ ap case_count (sym f);
+}
+
+pushed_count : (cs : Cases) (x : Node) (indices : List ℕ) → case_count (node.with_case cs x indices) ≡ case_count cs + 1
+pushed_count node.no_cases x indices = refl
+pushed_count (node.one_case z more cs) x indices = ap (λ k. k + 1) (pushed_count cs x indices)
 
 pub count_cases : (cs : List SwitchCase) → case_count (case_views cs) ≡ length cs
 count_cases [] = refl
@@ -507,14 +575,41 @@ count_cases (c ∷ cs) = omega (arith, count_cases cs)
 pub inside_cases : (cs : List SwitchCase) (x : Node) (n : ℕ) → case_place (case_views cs) x ≡ Some n → n < length cs
 inside_cases cs x n e = omega (arith, place_inside (case_views cs) x n e, count_cases cs)
 
-pub added_places : (find more : CaseKey → Option ℕ) (cs : List SwitchCase) (ds : Cases) (x : Node) (indices : List ℕ) (k : CaseKey) (n : ℕ) → Places find (case_views cs) → Files (case_views cs) x k → n ≡ length cs → ds ≡ node.with_case (case_views cs) x indices → ((q : CaseKey) → more q ≡ (if same_case k q then Some n else find q)) → Places more ds
-added_places find more cs ds x indices k n p files len e h = record {
-  found = λ q. h q
-    ∙ ap (λ m. if same_case k q then Some m else find q) (len ∙ sym (count_cases cs))
-    ∙ ap (λ o. if same_case k q then Some (case_count (case_views cs)) else o) (p.found q)
-    ∙ sym (files indices q)
-    ∙ ap (λ c. place_of c q) (sym e);
-}
+-- what the list of keys is after the key of a value was added, unless it was there
+abbrev pub Adds : (keys more : List CaseKey) → CaseKey → Option ℕ → Type 0
+Adds keys more k place = (place ≡ place_in keys k)
+    × ((q : CaseKey) → place_in more q ≡ option_or (place_in keys q) (if same_case q k then Some (length keys) else None))
+    × (length more ≡ length keys + (if is_some place then 0 else 1))
+
+-- With the key of a value, and the value as one more case or leading to one more arm, each case has its key.
+pub keyed : (keys more : List CaseKey) (cs ds : Cases) (x : Node) (k : CaseKey) (index : ℕ) (place : Option ℕ) → Keyed keys cs → IsKey cs x k → Adds keys more k place → ds ≡ with_value cs x index → Keyed more ds
+keyed keys more cs ds x k index None p own a e =
+    let absent = sym own.place ∙ sym (p.found k) ∙ sym a.0 in
+    let pushed = e ∙ place_none cs x index absent in
+    record {
+      found = λ q. a.1 q
+        ∙ ap (λ o. option_or o (if same_case q k then Some (length keys) else None)) (p.found q)
+        ∙ ap (λ n. option_or (place_of cs q) (if same_case q k then Some n else None)) p.count
+        ∙ sym (own.more absent (index ∷ []) q)
+        ∙ ap (λ c. place_of c q) (sym pushed);
+      count = a.2 ∙ ap (λ n. n + 1) p.count ∙ sym (pushed_count cs x (index ∷ [])) ∙ ap case_count (sym pushed);
+    }
+keyed keys more cs ds x k index (Some n) p own a e =
+    let there = sym own.place ∙ sym (p.found k) ∙ sym a.0 in
+    let kept = kept_keys keys cs ds x index n p there e in
+    let len : length more ≡ length keys = a.2 ∙ omega arith in
+    record {
+      found = λ q. a.1 q ∙ same q (same_case q k) refl ∙ kept.found q;
+      count = len ∙ kept.count;
+    }
+  where
+    same : (q : CaseKey) (b : Bool) → same_case q k ≡ b → option_or (place_in keys q) (if b then Some (length keys) else None) ≡ place_in keys q
+    same q false f = sym (or_none (place_in keys q))
+    same q true f = some_or (place_in keys q) (p.found q ∙ alike_place cs q k f ∙ sym (p.found k) ∙ sym a.0)
+      where
+        some_or : (o : Option ℕ) → o ≡ Some n → option_or o (Some (length keys)) ≡ o
+        some_or None e = absurd cc
+        some_or (Some m) e = refl
 
 -- ---- the derived equality of keys
 
@@ -536,12 +631,89 @@ derived (key.Parts d m) (key.Parts e n) = refl
 derived (key.Irregular m) (key.Irregular n) = refl
 derived _ _ = refl
 
-pub derived_lookup : (q : CaseKey) (es : List (CaseKey × ℕ)) → lookup (same_case q) es ≡ lookup (eq-value.it q) es
-derived_lookup q [] = refl
-derived_lookup q (e ∷ es) =
-    ap (λ b. cond b (Some e.1) (lookup (same_case q) es)) (sym (derived q e.0))
-    ∙ ap (cond (eq-value.it q e.0) (Some e.1)) (derived_lookup q es)
+-- ---- a list of keys, as the library sees it
 
-pub ruleset by_key = (found_by_key, files_plain)
+any_in : (keys : List CaseKey) (q : CaseKey) → list_any (eq-value.it q) keys ≡ is_some (place_in keys q)
+any_in [] q = refl
+any_in (k ∷ keys) q = ap (λ b. b || list_any (eq-value.it q) keys) (derived q k) ∙ by (same_case q k) (any_in keys q)
+  where
+    later : (o : Option ℕ) → is_some o ≡ is_some (option_map (λ n. n + 1) o)
+    later None = refl
+    later (Some n) = refl
 
-pub ruleset pushed = (place_none, case_views_push)
+    by : (b : Bool) → list_any (eq-value.it q) keys ≡ is_some (place_in keys q) → (b || list_any (eq-value.it q) keys) ≡ is_some (if b then Some 0 else option_map (λ n. n + 1) (place_in keys q))
+    by true h = refl
+    by false h = h ∙ later (place_in keys q)
+
+from_in : (keys : List CaseKey) (q : CaseKey) (i : ℕ) → position_from (eq-value.it q) i keys ≡ option_map (λ n. n + i) (place_in keys q)
+from_in [] q i = refl
+from_in (k ∷ keys) q i = ap (λ b. cond b (Some i) (position_from (eq-value.it q) (i + 1) keys)) (derived q k) ∙ by (same_case q k) (from_in keys q (i + 1))
+  where
+    later : (o : Option ℕ) → option_map (λ n. n + (i + 1)) o ≡ option_map (λ n. n + i) (option_map (λ n. n + 1) o)
+    later None = refl
+    later (Some n) = ap Some (omega arith)
+
+    by : (b : Bool) → position_from (eq-value.it q) (i + 1) keys ≡ option_map (λ n. n + (i + 1)) (place_in keys q) → cond b (Some i) (position_from (eq-value.it q) (i + 1) keys) ≡ option_map (λ n. n + i) (if b then Some 0 else option_map (λ n. n + 1) (place_in keys q))
+    by true h = ap Some (omega arith)
+    by false h = h ∙ later (place_in keys q)
+
+pub position_in : (keys : List CaseKey) (q : CaseKey) → position (eq-value.it q) keys ≡ place_in keys q
+position_in keys q = position_from-zero (eq-value.it q) keys ∙ from_in keys q 0 ∙ same (place_in keys q)
+  where
+    same : (o : Option ℕ) → option_map (λ n. n + 0) o ≡ o
+    same None = refl
+    same (Some n) = ap Some (omega arith)
+
+pushed_in : (keys : List CaseKey) (k q : CaseKey) → place_in (keys ++ k ∷ []) q ≡ option_or (place_in keys q) (if same_case q k then Some (length keys) else None)
+pushed_in [] k q = by (same_case q k)
+  where
+    by : (b : Bool) → (if b then Some 0 else None) ≡ option_or None (if b then Some 0 else None)
+    by true = refl
+    by false = refl
+pushed_in (l ∷ keys) k q = by (same_case q l) (place_in keys q) (same_case q k) (pushed_in keys k q)
+  where
+    by : (b : Bool) (o : Option ℕ) (same : Bool) → place_in (keys ++ k ∷ []) q ≡ option_or o (if same then Some (length keys) else None) → (if b then Some 0 else option_map (λ n. n + 1) (place_in (keys ++ k ∷ []) q)) ≡ option_or (if b then Some 0 else option_map (λ n. n + 1) o) (if same then Some (suc (length keys)) else None)
+    by true o same h = refl
+    by false None true h = ap (option_map (λ n. n + 1)) h ∙ ap Some (omega arith)
+    by false None false h = ap (option_map (λ n. n + 1)) h
+    by false (Some m) same h = ap (option_map (λ n. n + 1)) h
+
+no_place : (o : Option ℕ) → is_some o ≡ false → None ≡ o
+no_place None e = refl
+no_place (Some n) e = absurd cc
+
+pub added_new : (keys more : List CaseKey) (k : CaseKey) (is_new : Bool) → is_new ≡ true → is_new ≡ not (list_any (eq-value.it k) keys) → more ≡ insert_key eq-value.it keys k → Adds keys more k None
+added_new keys more k is_new e f g = by (list_any (eq-value.it k) keys) refl (sym e ∙ f) g
+  where
+    by : (b : Bool) → list_any (eq-value.it k) keys ≡ b → true ≡ not b → more ≡ (if b then keys else keys ++ k ∷ []) → Adds keys more k None
+    by true h n m = absurd (true≢false n)
+    by false h n m = (
+      no_place (place_in keys k) (sym (any_in keys k) ∙ h),
+      λ q. ap (λ l. place_in l q) m ∙ pushed_in keys k q,
+      ap length m ∙ length-append keys (k ∷ []),
+    )
+
+pub added_old : (keys more : List CaseKey) (k : CaseKey) (is_new : Bool) (place : ℕ) → is_new ≡ false → is_new ≡ not (list_any (eq-value.it k) keys) → more ≡ insert_key eq-value.it keys k → place ≡ position_or_len (eq-value.it k) keys → ((q : CaseKey) → list_any (eq-value.it q) more ≡ cond (eq-value.it k q) true (list_any (eq-value.it q) keys)) → Adds keys more k (Some place)
+added_old keys more k is_new place e f g at has = by (list_any (eq-value.it k) keys) refl (sym e ∙ f) g
+  where
+    found : (b : Bool) (o : Option ℕ) → cond b (Some place) None ≡ o → is_some o ≡ true → Some place ≡ o
+    found true o h s = h
+    found false o h s = absurd (true≢false (sym s ∙ ap is_some (sym h)))
+
+    stays : (o : Option ℕ) → is_some o ≡ true → o ≡ option_or o (Some (length keys))
+    stays None s = absurd cc
+    stays (Some n) s = refl
+
+    law : more ≡ keys → (q : CaseKey) (b : Bool) → same_case q k ≡ b → place_in keys q ≡ option_or (place_in keys q) (if b then Some (length keys) else None)
+    law m q false h = or_none (place_in keys q)
+    law m q true h =
+        let there = ap (list_any (eq-value.it q)) (sym m) ∙ has q ∙ ap (λ b. cond b true (list_any (eq-value.it q) keys)) (derived k q ∙ case_symm k q ∙ h) in
+        stays (place_in keys q) (sym (any_in keys q) ∙ there)
+
+    by : (b : Bool) → list_any (eq-value.it k) keys ≡ b → false ≡ not b → more ≡ (if b then keys else keys ++ k ∷ []) → Adds keys more k (Some place)
+    by false h n m = absurd (true≢false (sym n))
+    by true h n m = (
+      found (nat_lt place (length keys)) (place_in keys k) (ap (λ i. cond (nat_lt i (length keys)) (Some i) None) at ∙ position_in keys k) (sym (any_in keys k) ∙ h),
+      λ q. ap (λ l. place_in l q) m ∙ law m q (same_case q k) refl,
+      ap length m ∙ omega arith,
+    )

@@ -9,12 +9,12 @@ use Rattle.rhai_lower.specs.View.{case_views, view}
 use Rattle.rhai_lower.specs.declared.ast.SwitchCase.{SwitchCase, out-SwitchCase}
 use Rattle.rhai_lower.specs.declared.position.Position.{Position}
 use Rattle.rhai_grammar.specs.CaseValues.{IntegerRange, inclusion, range_of, range_over, same_range, same_value}
-use Rattle.rhai_trees.specs.CaseKeys.{Files, Places, digest_of, first_same, has_digest, numbered, parts_key, plain_value, range_value, with_digest}
+use Rattle.rhai_trees.specs.CaseKeys.{IsKey, Keyed, digest_of, first_same, has_digest, numbered, parts_key, plain_value, range_value, with_digest}
 use Rattle.rhai_trees.specs.Digests.{digest, is_regular}
 use Rattle.rhai_trees.specs.Switches.{case_place}
 use Rattle.rhai_trees.specs.declared.case_index.CaseKey.{CaseKey}
 use Rattle.rhai_trees.specs.declared.case_index.CaseKey.TheVariants as key
-use Rattle.rhai_trees.proofs.CaseIndexLemmas.{a_number, files_parts, no_number}
+use Rattle.rhai_trees.proofs.CaseIndexLemmas.{a_number, no_number, parts_is_key}
 use Rattle.rhai_trees.proofs.DigestLemmas.{same_digest}
 use Rattle.rhai_trees.proofs.SwitchLemmas.{call_value}
 
@@ -183,9 +183,9 @@ some_mapped : (p : Option (ℕ × Node)) (place : ℕ) (z : ℕ × Node) → opt
 some_mapped None place z e = absurd cc
 some_mapped (Some c) place z e = ap (λ o. Some (unwrap_or o 0, c.1)) e
 
-pub by_number : (find : CaseKey → Option ℕ) (cs : Cases) (o : Option ℕ) (n : ℕ) → Places find cs → find (parts_key o n) ≡ option_map (λ c. c.0) (numbered (with_digest o 0 cs) n)
-by_number find cs None n p = p.found (key.Irregular n)
-by_number find cs (Some d) n p = p.found (key.Parts d n)
+pub by_number : (keys : List CaseKey) (cs : Cases) (o : Option ℕ) (n : ℕ) → Keyed keys cs → place_in keys (parts_key o n) ≡ option_map (λ c. c.0) (numbered (with_digest o 0 cs) n)
+by_number keys cs None n p = p.found (key.Irregular n)
+by_number keys cs (Some d) n p = p.found (key.Parts d n)
 
 pub inside_numbers : (cs : List SwitchCase) (o : Option ℕ) (n place : ℕ) → option_map (λ c. c.0) (numbered (with_digest o 0 (case_views cs)) n) ≡ Some place → place < length cs
 inside_numbers [] o n place e = absurd cc
@@ -196,11 +196,13 @@ inside_numbers (b ∷ cs) o n place e =
 pub ruleset numbers = (by_number, inside_numbers)
 
 -- the walk ends: no case is equal to the value, which gets this number
-pub new_here : (cs : Cases) (x : Node) (o : Option ℕ) (n : ℕ) → plain_value x ≡ None → o ≡ digest_of x → first_from x (with_digest o 0 cs) n ≡ case_place cs x → n ≤ length (with_digest o 0 cs) → length (with_digest o 0 cs) ≤ n → (case_place cs x ≡ None) × Files cs x (parts_key o n)
-new_here cs x o n none is rest few many = (
-  sym rest ∙ end_from x (with_digest o 0 cs) n many,
-  subst (λ d. Files cs x (parts_key d n)) (sym is) (files_parts cs x n none (omega (arith, few, many) ∙ ap (λ d. length (with_digest d 0 cs)) is)),
-)
+pub new_here : (cs : Cases) (x : Node) (o : Option ℕ) (n : ℕ) → plain_value x ≡ None → o ≡ digest_of x → first_from x (with_digest o 0 cs) n ≡ case_place cs x → n ≤ length (with_digest o 0 cs) → length (with_digest o 0 cs) ≤ n → (case_place cs x ≡ None) × IsKey cs x (parts_key o n)
+new_here cs x o n none is rest few many =
+    let absent = sym rest ∙ end_from x (with_digest o 0 cs) n many in
+    (
+      absent,
+      subst (λ d. IsKey cs x (parts_key d n)) (sym is) (parts_is_key cs x n none absent (omega (arith, few, many) ∙ ap (λ d. length (with_digest d 0 cs)) is)),
+    )
 
 pub none_here : (cs : Cases) (o : Option ℕ) (n : ℕ) → None ≡ option_map (λ c. c.0) (numbered (with_digest o 0 cs) n) → length (with_digest o 0 cs) ≤ n
 none_here cs o n e = no_number (with_digest o 0 cs) n (none_mapped (numbered (with_digest o 0 cs) n) (sym e))

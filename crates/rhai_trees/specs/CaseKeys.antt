@@ -1,8 +1,8 @@
 -- The keys by which `switch` cases are found. A literal value that is no array and no object map is its own key; the
 -- others are numbered, among those that have the same digest.
 use Rattle.std.specs.Prelude.{◌≡◌, ◌+◌, ◌==◌, ◌&&◌, ℕ, zero, suc, Bool, true, false, List, [], ◌∷◌, Option, Some, None}
-use Rattle.std.specs.Prelude.{if◌then◌else◌, not, option_map, pos, refl}
-use Rattle.std.specs.Option.{is_some}
+use Rattle.std.specs.Prelude.{if◌then◌else◌, length, not, option_map, pos, refl}
+use Rattle.std.specs.Option.{is_some, option_or}
 use Rattle.std.specs.Ordering.{int_eq}
 use Rattle.std.specs.Rc.{rc_str_bytes}
 use Rattle.rhai_lower.specs.Texts.{same_text}
@@ -110,24 +110,33 @@ place_of cases (key.Parts d n) = option_map (λ c. c.0) (numbered (with_digest (
 place_of cases (key.Irregular n) = option_map (λ c. c.0) (numbered (with_digest None 0 cases) n)
 place_of cases k = case_place cases (key_value k)
 
--- An index finds at each key the place of the case that has it.
-pub record Places (find : CaseKey → Option ℕ) (cases : Cases) : Type 0 where
-  pub found : (q : CaseKey) → find q ≡ place_of cases q
+-- the place of a key in a list of keys
+abbrev pub place_in : List CaseKey → CaseKey → Option ℕ
+place_in [] q = None
+place_in (k ∷ keys) q = if same_case q k then Some 0 else option_map (λ n. n + 1) (place_in keys q)
 
 -- how many cases there are
 abbrev pub case_count : Cases → ℕ
 case_count no_cases = 0
 case_count (one_case x indices cases) = case_count cases + 1
 
--- With a value as one more case, this key has its place, and each other key the place that it had.
-abbrev pub Files : Cases → Node → CaseKey → Type 0
-Files cases x k = (indices : List ℕ) (q : CaseKey)
-    → place_of (with_case cases x indices) q ≡ (if same_case k q then Some (case_count cases) else place_of cases q)
+-- Each case has a key, which has its place among the keys.
+pub record Keyed (keys : List CaseKey) (cases : Cases) : Type 0 where
+  pub found : (q : CaseKey) → place_in keys q ≡ place_of cases q
+  pub count : length keys ≡ case_count cases
+
+-- This is the key of a value: it has the place of the first case that is equal to the value. Where there is none, it has
+-- the place of one more case with the value, and each other key has the place that it had.
+pub record IsKey (cases : Cases) (x : Node) (k : CaseKey) : Type 0 where
+  pub place : place_of cases k ≡ case_place cases x
+  pub more : case_place cases x ≡ None → (indices : List ℕ) (q : CaseKey)
+      → place_of (with_case cases x indices) q
+      ≡ option_or (place_of cases q) (if same_case q k then Some (case_count cases) else None)
 
 -- Where a value is found: a place is that of the first equal case, and a key is that of a value that is equal to no case.
 abbrev pub IsPlace : Cases → Node → CasePlace → Type 0
 IsPlace cases x (found.At p) = case_place cases x ≡ Some p
-IsPlace cases x (found.New k) = (case_place cases x ≡ None) × Files cases x k
+IsPlace cases x (found.New k) = (case_place cases x ≡ None) × IsKey cases x k
 
 -- `0..5` has the key of a range, an array has none. An index that finds nothing is that of no cases.
 example : (plain_value (operator_call (Sign ExclusiveRange) (place 1 2) (integer (pos 0) (place 1 1))

@@ -1,13 +1,15 @@
 //! An index of `switch` cases by their values. The time of a look-up does not grow with their number.
 
-ghost use Rattle.std.specs.Prelude.{◌≡◌, if◌then◌else◌, true, IfOk, IfSome, OnOk, Some, option_map};
-ghost use Rattle.indexmap.specs.IndexMap.{get};
+ghost use Rattle.std.specs.Prelude.{◌≡◌, ◌+◌, if◌then◌else◌, length, true, IfOk, IfSome, None, OnOk, Some};
+ghost use Rattle.std.specs.Prelude.{option_map};
+ghost use Rattle.std.specs.Option.{is_some, option_or};
 ghost use Rattle.rhai_lower.specs.View.{view};
 ghost use Rattle.rhai_grammar.specs.CaseValues.{range_of};
-ghost use Rattle.rhai_trees.specs.CaseKeys.{is_plain, key_value, parts_key, plain_value, range_value, same_case};
+ghost use Rattle.rhai_trees.specs.CaseKeys.{is_plain, key_value, parts_key, place_in, plain_value, range_value};
+ghost use Rattle.rhai_trees.specs.CaseKeys.{same_case};
 
 use crate::case_value::range_of;
-use indexmap::IndexMap;
+use indexmap::IndexSet;
 use rhai_lower::Expr;
 use std::alloc::AllocError;
 use std::rc::RcStr;
@@ -57,11 +59,12 @@ pub fn key_of(value: &Expr) -> Result<Option<CaseKey>, AllocError>
     }
 }
 
-/// The place that an index has for a key. Does not allocate.
-pub fn place_at(places: &IndexMap<CaseKey, usize>, key: &CaseKey) -> Option<usize>
-    ensures { result ≡ get same_case places.now key.now }
+/// The place of the case that has this key; none if none has it. Does not allocate.
+#[tactic(auto, using(crate::proofs::CaseIndexLemmas::position_in))]
+pub fn place_at(keys: &IndexSet<CaseKey>, key: &CaseKey) -> Option<usize>
+    ensures { result ≡ place_in keys.now.keys key.now }
 {
-    places.get(key).copied()
+    keys.get_index_of(key)
 }
 
 /// The key of the case that has this number among those with this digest, or among those without one. Does not
@@ -75,15 +78,21 @@ pub fn parts_key(digest: Option<u64>, number: usize) -> CaseKey
     }
 }
 
-/// Adds the place of a case to an index, under its key. The error is that there is no memory for it.
-pub fn add_place(
-    places: &mut IndexMap<CaseKey, usize>,
+/// Adds the key of one more case, unless a case has it. The place of the case that has it; none if it was added. The
+/// error is that there is no memory for it.
+pub fn add_key(
+    keys: &mut IndexSet<CaseKey>,
     key: CaseKey,
-    place: usize,
-) -> Result<(), AllocError>
-    ensures { OnOk result ((q : CaseKey) → get same_case places.new q
-        ≡ (if same_case key q then Some place else get same_case places.old q)) }
+) -> Result<Option<usize>, AllocError>
+    ensures place { IfOk result (λ place. place ≡ place_in keys.old.keys key) }
+    ensures added { OnOk result ((q : CaseKey) → place_in keys.new.keys q
+        ≡ option_or (place_in keys.old.keys q) (if same_case q key then Some (length keys.old.keys) else None)) }
+    ensures count { IfOk result (λ place. length keys.new.keys
+        ≡ length keys.old.keys + (if is_some place then 0 else 1)) }
 {
-    places.insert(key, place)?;
-    Ok(())
+    let (place, is_new) = keys.insert_full(key)?;
+    if is_new {
+        return Ok(None);
+    }
+    Ok(Some(place))
 }

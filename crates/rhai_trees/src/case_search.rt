@@ -1,17 +1,14 @@
 //! Cases of a `switch` by their digests. They say with which cases an array or an object map is compared.
 
 ghost use Rattle.std.specs.Prelude.{◌≡◌, ◌<◌, IfOk, IfSome, None, length, option_map};
-ghost use Rattle.indexmap.specs.IndexMap.{get};
 ghost use Rattle.rhai_lower.specs.View.{case_views, view};
-ghost use Rattle.rhai_trees.specs.CaseKeys.{Places, digest_of, first_same, numbered, plain_value, same_case};
-ghost use Rattle.rhai_trees.specs.CaseKeys.{with_digest};
-ghost use Rattle.rhai_trees.specs.CaseKeys.{IsPlace};
+ghost use Rattle.rhai_trees.specs.CaseKeys.{IsPlace, Keyed, digest_of, first_same, numbered, plain_value, with_digest};
 ghost use Rattle.rhai_trees.specs.Switches.{case_place};
 
 use crate::case_index::{CaseKey, parts_key, place_at};
 use crate::case_value::same_value;
 use crate::digest::{digest, is_regular};
-use indexmap::IndexMap;
+use indexmap::IndexSet;
 use rhai_lower::{Expr, SwitchCase};
 use std::alloc::{AllocError, Global};
 
@@ -57,26 +54,26 @@ fn digest_of(alloc: Global, value: &Expr) -> Result<Option<u64>, AllocError>
 #[tactic(auto, using(crate::proofs::CaseSearchLemmas::numbers))]
 fn numbered_place(
     cases: &[SwitchCase],
-    places: &IndexMap<CaseKey, usize>,
+    keys: &IndexSet<CaseKey>,
     digest: Option<u64>,
     number: usize,
 ) -> Option<usize>
-    requires { Places (get same_case places.now) (case_views cases.now) }
+    requires { Keyed keys.now.keys (case_views cases.now) }
     ensures place { result ≡ option_map (λ c. c.0) (numbered (with_digest digest 0 (case_views cases.now)) number) }
     ensures inside { IfSome result (λ place. place < length cases.now) }
 {
-    place_at(places, &parts_key(digest, number))
+    place_at(keys, &parts_key(digest, number))
 }
 
 // Looks for a value among the cases that have its digest, or have none as it has none.
 fn find_among(
     alloc: Global,
     cases: &[SwitchCase],
-    places: &IndexMap<CaseKey, usize>,
+    keys: &IndexSet<CaseKey>,
     digest: Option<u64>,
     value: &Expr,
 ) -> Result<CasePlace, AllocError>
-    requires indexed { Places (get same_case places.now) (case_views cases.now) }
+    requires indexed { Keyed keys.now.keys (case_views cases.now) }
     requires parts { plain_value (view value.now) ≡ None }
     requires digest { digest ≡ digest_of (view value.now) }
     requires enough { first_same (view value.now) (with_digest digest 0 (case_views cases.now))
@@ -84,7 +81,7 @@ fn find_among(
     ensures { IfOk result (IsPlace (case_views cases.now) (view value.now)) }
 {
     for number in 0..cases.len() {
-        let Some(place) = numbered_place(cases, places, digest, number) else {
+        let Some(place) = numbered_place(cases, keys, digest, number) else {
             return Ok(CasePlace::New(parts_key(digest, number)));
         };
         let same = same_value(alloc, &cases[place].value, value)?;
@@ -99,11 +96,11 @@ fn find_among(
 fn find_among_all(
     alloc: Global,
     cases: &[SwitchCase],
-    places: &IndexMap<CaseKey, usize>,
+    keys: &IndexSet<CaseKey>,
     digest: Option<u64>,
     value: &Expr,
 ) -> Result<CasePlace, AllocError>
-    requires indexed { Places (get same_case places.now) (case_views cases.now) }
+    requires indexed { Keyed keys.now.keys (case_views cases.now) }
     requires parts { plain_value (view value.now) ≡ None }
     requires digest { digest ≡ digest_of (view value.now) }
     ensures { IfOk result (IsPlace (case_views cases.now) (view value.now)) }
@@ -111,7 +108,7 @@ fn find_among_all(
     if let Some(place) = case_place(alloc, cases, value)? {
         return Ok(CasePlace::At(place));
     }
-    find_among(alloc, cases, places, digest, value)
+    find_among(alloc, cases, keys, digest, value)
 }
 
 /// Where a value without a key of its own is among the cases, or the key that it gets. It is compared with the cases
@@ -120,17 +117,17 @@ fn find_among_all(
 pub fn find_parts(
     alloc: Global,
     cases: &[SwitchCase],
-    places: &IndexMap<CaseKey, usize>,
+    keys: &IndexSet<CaseKey>,
     value: &Expr,
 ) -> Result<CasePlace, AllocError>
-    requires indexed { Places (get same_case places.now) (case_views cases.now) }
+    requires indexed { Keyed keys.now.keys (case_views cases.now) }
     requires parts { plain_value (view value.now) ≡ None }
     ensures { IfOk result (IsPlace (case_views cases.now) (view value.now)) }
 {
     let digest = digest_of(alloc, value)?;
-    let irregular = numbered_place(cases, places, None, 0);
+    let irregular = numbered_place(cases, keys, None, 0);
     if digest.is_none() || irregular.is_some() {
-        return find_among_all(alloc, cases, places, digest, value);
+        return find_among_all(alloc, cases, keys, digest, value);
     }
-    find_among(alloc, cases, places, digest, value)
+    find_among(alloc, cases, keys, digest, value)
 }
