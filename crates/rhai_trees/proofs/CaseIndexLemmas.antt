@@ -19,7 +19,6 @@ use Rattle.rhai_lower.specs.Nodes.{Cases, Called, Node, Nodes, Properties, array
 use Rattle.rhai_lower.specs.Positions.{nowhere}
 use Rattle.rhai_lower.specs.declared.position.Position.{Position}
 use Rattle.rhai_lower.specs.Texts.{Text, same_text}
-use Rattle.rhai_lower.proofs.Views.{case_views_push}
 use Rattle.rhai_lower.specs.View.{case_views}
 use Rattle.rhai_lower.specs.declared.ast.SwitchCase.{SwitchCase}
 use Rattle.rhai_grammar.specs.CaseValues.{IntegerRange, range_of, same_boolean, same_range, same_value}
@@ -236,6 +235,7 @@ both : (a b c d : Bool) → a ≡ c → b ≡ d → (a && b) ≡ (c && d)
 both a b c d e f = ap (λ x. x && b) e ∙ ap (λ y. c && y) f
 
 case_symm : (k q : CaseKey) → same_case k q ≡ same_case q k
+case_symm key.Unit key.Unit = refl
 case_symm (key.Boolean a) (key.Boolean b) = booleans_symm a b
 case_symm (key.Integer a) (key.Integer b) = ints_symm a b
 case_symm (key.Character a) (key.Character b) = numbers_symm a b
@@ -560,7 +560,7 @@ kept_count (node.one_case z more cs) x index n e = by (same_value z x) (case_pla
 pub kept_keys : (keys : List CaseKey) (cs ds : Cases) (x : Node) (index n : ℕ) → Keyed keys cs → case_place cs x ≡ Some n → ds ≡ with_value cs x index → Keyed keys ds
 kept_keys keys cs ds x index n p e f = record {
   found = λ q. p.found q ∙ sym (place_by cs (with_value cs x index) (λ y. place_kept cs x y index n e) (λ o. digests_kept cs x index n o 0 e) q)
-    ∙ ap (λ c. place_of c q) (sym f);
+      ∙ ap (λ c. place_of c q) (sym f);
   count = p.count ∙ sym (kept_count cs x index n e) ∙ ap case_count (sym f);
 }
 
@@ -588,10 +588,10 @@ keyed keys more cs ds x k index None p own a e =
     let pushed = e ∙ place_none cs x index absent in
     record {
       found = λ q. a.1 q
-        ∙ ap (λ o. option_or o (if same_case q k then Some (length keys) else None)) (p.found q)
-        ∙ ap (λ n. option_or (place_of cs q) (if same_case q k then Some n else None)) p.count
-        ∙ sym (own.more absent (index ∷ []) q)
-        ∙ ap (λ c. place_of c q) (sym pushed);
+          ∙ ap (λ o. option_or o (if same_case q k then Some (length keys) else None)) (p.found q)
+          ∙ ap (λ n. option_or (place_of cs q) (if same_case q k then Some n else None)) p.count
+          ∙ sym (own.more absent (index ∷ []) q)
+          ∙ ap (λ c. place_of c q) (sym pushed);
       count = a.2 ∙ ap (λ n. n + 1) p.count ∙ sym (pushed_count cs x (index ∷ [])) ∙ ap case_count (sym pushed);
     }
 keyed keys more cs ds x k index (Some n) p own a e =
@@ -665,14 +665,14 @@ position_in keys q = position_from-zero (eq-value.it q) keys ∙ from_in keys q 
     same (Some n) = ap Some (omega arith)
 
 pushed_in : (keys : List CaseKey) (k q : CaseKey) → place_in (keys ++ k ∷ []) q ≡ option_or (place_in keys q) (if same_case q k then Some (length keys) else None)
-pushed_in [] k q = by (same_case q k)
+pushed_in [] k q = by (same_case q k) (Some 0)
   where
-    by : (b : Bool) → (if b then Some 0 else None) ≡ option_or None (if b then Some 0 else None)
-    by true = refl
-    by false = refl
+    by : (b : Bool) (o : Option ℕ) → (if b then o else None) ≡ option_or None (if b then o else None)
+    by true o = refl
+    by false o = refl
 pushed_in (l ∷ keys) k q = by (same_case q l) (place_in keys q) (same_case q k) (pushed_in keys k q)
   where
-    by : (b : Bool) (o : Option ℕ) (same : Bool) → place_in (keys ++ k ∷ []) q ≡ option_or o (if same then Some (length keys) else None) → (if b then Some 0 else option_map (λ n. n + 1) (place_in (keys ++ k ∷ []) q)) ≡ option_or (if b then Some 0 else option_map (λ n. n + 1) o) (if same then Some (suc (length keys)) else None)
+    by : (b : Bool) (o : Option ℕ) (same : Bool) → place_in (keys ++ k ∷ []) q ≡ option_or o (if same then Some (length keys) else None) → (if b then Some 0 else option_map (λ n. n + 1) (place_in (keys ++ k ∷ []) q)) ≡ option_or (if b then Some 0 else option_map (λ n. n + 1) o) (if same then Some (length (l ∷ keys)) else None)
     by true o same h = refl
     by false None true h = ap (option_map (λ n. n + 1)) h ∙ ap Some (omega arith)
     by false None false h = ap (option_map (λ n. n + 1)) h

@@ -9,7 +9,7 @@ use Rattle.rhai_lower.specs.View.{case_views, view}
 use Rattle.rhai_lower.specs.declared.ast.SwitchCase.{SwitchCase, out-SwitchCase}
 use Rattle.rhai_lower.specs.declared.position.Position.{Position}
 use Rattle.rhai_grammar.specs.CaseValues.{IntegerRange, inclusion, range_of, range_over, same_range, same_value}
-use Rattle.rhai_trees.specs.CaseKeys.{IsKey, Keyed, digest_of, first_same, has_digest, numbered, parts_key, plain_value, range_value, with_digest}
+use Rattle.rhai_trees.specs.CaseKeys.{IsKey, Keyed, digest_of, first_same, has_digest, numbered, parts_key, place_in, plain_value, range_value, with_digest}
 use Rattle.rhai_trees.specs.Digests.{digest, is_regular}
 use Rattle.rhai_trees.specs.Switches.{case_place}
 use Rattle.rhai_trees.specs.declared.case_index.CaseKey.{CaseKey}
@@ -166,8 +166,7 @@ value_there (b ∷ cs) o k n c d e = by (has_digest o (value_of b)) n (λ m f. v
     by false n h e = there (h n e)
     by true (suc n) h e = there (h n e)
     by true zero h e =
-        let at : k ≡ c.0 = ap (λ o. (unwrap_or o c).0) e in
-        (
+        let at : k ≡ c.0 = ap (λ o. (unwrap_or o c).0) e in (
           omega (arith, at),
           omega (arith, at),
           at_first (c.0 - k) (omega (arith, at)) ∙ ap (λ o. (unwrap_or o c).1) e,
@@ -198,8 +197,7 @@ pub ruleset numbers = (by_number, inside_numbers)
 -- the walk ends: no case is equal to the value, which gets this number
 pub new_here : (cs : Cases) (x : Node) (o : Option ℕ) (n : ℕ) → plain_value x ≡ None → o ≡ digest_of x → first_from x (with_digest o 0 cs) n ≡ case_place cs x → n ≤ length (with_digest o 0 cs) → length (with_digest o 0 cs) ≤ n → (case_place cs x ≡ None) × IsKey cs x (parts_key o n)
 new_here cs x o n none is rest few many =
-    let absent = sym rest ∙ end_from x (with_digest o 0 cs) n many in
-    (
+    let absent = sym rest ∙ end_from x (with_digest o 0 cs) n many in (
       absent,
       subst (λ d. IsKey cs x (parts_key d n)) (sym is) (parts_is_key cs x n none absent (omega (arith, few, many) ∙ ap (λ d. length (with_digest d 0 cs)) is)),
     )
@@ -216,13 +214,12 @@ some_here cs x o n place d same e tested =
     let there : numbered l n ≡ Some (place, y) = some_mapped (numbered l n) place z (sym e) in
     let whole : place ≡ place - 0 = omega arith in
     let value : value_of (get_or cs place d) ≡ y = ap (λ i. value_of (get_or cs i d)) whole ∙ (value_there cs o 0 n (place, y) d there).2 in
-    let next : suc n ≡ n + 1 = omega arith in
-    (
+    let next : suc n ≡ n + 1 = omega arith in (
       step_from x l n
-      ∙ ap (next_from x l n) there
-      ∙ ap (λ w. if same_value w x then Some place else first_from x l (suc n)) (sym value)
-      ∙ ap (λ b. if b then Some place else first_from x l (suc n)) (sym tested)
-      ∙ ap (λ i. if same then Some place else first_from x l i) next,
+          ∙ ap (next_from x l n) there
+          ∙ ap (λ w. if same_value w x then Some place else first_from x l (suc n)) (sym value)
+          ∙ ap (λ b. if b then Some place else first_from x l (suc n)) (sym tested)
+          ∙ ap (λ i. if same then Some place else first_from x l i) next,
       omega (arith, a_number l n (place, y) there),
     )
 

@@ -101,7 +101,6 @@ without_sum name (one_property key at n ps) e = by (same_text name key) refl (wi
 
 -- the other properties stay
 
-
 key_kept : (name other : Text) (ps : Properties) → same_text other name ≡ false → has_key other (without name ps) ≡ has_key other ps
 key_kept name other no_properties d = refl
 key_kept name other (one_property key at n ps) d = by (same_text name key) refl (key_kept name other ps d)

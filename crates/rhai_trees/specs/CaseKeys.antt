@@ -125,15 +125,15 @@ pub record Keyed (keys : List CaseKey) (cases : Cases) : Type 0 where
   pub found : (q : CaseKey) → place_in keys q ≡ place_of cases q
   pub count : length keys ≡ case_count cases
 
--- This is the key of a value: it has the place of the first case that is equal to the value. Where there is none, it has
--- the place of one more case with the value, and each other key has the place that it had.
+-- A key of a value has the place of the first case that is equal to the value. Where there is none, it has the place of
+-- one more case with the value, and each other key has the place that it had.
 pub record IsKey (cases : Cases) (x : Node) (k : CaseKey) : Type 0 where
   pub place : place_of cases k ≡ case_place cases x
   pub more : case_place cases x ≡ None → (indices : List ℕ) (q : CaseKey)
       → place_of (with_case cases x indices) q
       ≡ option_or (place_of cases q) (if same_case q k then Some (case_count cases) else None)
 
--- Where a value is found: a place is that of the first equal case, and a key is that of a value that is equal to no case.
+-- A place is that of the first case that is equal to a value; a key is that of a value that is equal to no case.
 abbrev pub IsPlace : Cases → Node → CasePlace → Type 0
 IsPlace cases x (found.At p) = case_place cases x ≡ Some p
 IsPlace cases x (found.New k) = (case_place cases x ≡ None) × IsKey cases x k

@@ -1,11 +1,12 @@
 -- Digests of case values. Equal values have equal digests, where no object map has a name twice; so has none that is
 -- read.
 use Rattle.std.specs.Prelude.{◌+◌, ◌%◌, ◌^◌, ℕ, Bool, true, ◌&&◌, not, List, [], ◌∷◌, ◌++◌, Option, None, Some}
-use Rattle.std.specs.Prelude.{fold}
+use Rattle.std.specs.Prelude.{◌≡◌, codes, false, fold, pos, refl}
 use Rattle.std.specs.Hash as fed
 use Rattle.std.specs.Hash.{HashWrites}
 use Rattle.std.specs.Hash.FoldHasher.{finish, initial, write}
 use Rattle.std.specs.List.{list_any}
+use Rattle.rhai_lower.specs.Positions.{place}
 use Rattle.rhai_lower.specs.Texts.{Text, same_text}
 use Rattle.rhai_lower.specs.Nodes.{Node, Nodes, Properties, array, boolean, call, character, integer, no_nodes}
 use Rattle.rhai_lower.specs.Nodes.{no_properties, object_map, one_node, one_property, pointer, string}
@@ -58,3 +59,14 @@ abbrev mutual
   has_regular before no_properties = true
   has_regular before (one_property name p n ps) =
       is_regular n && (not (list_any (λ other. same_text other name) before) && has_regular (before ++ name ∷ []) ps)
+
+-- `#{a: 1, a: 1}` is not regular, `#{a: 1, b: 1}` is. The digest of `[]` is 0.
+abbrev example_map : (first second : Text) → Node
+example_map first second =
+    let one = integer (pos 1) (place 1 5) in
+    object_map (one_property first (place 1 3) one (one_property second (place 1 8) one no_properties)) (place 1 1)
+
+example : (is_regular (example_map (codes "a") (codes "a")) ≡ false)
+    × (is_regular (example_map (codes "a") (codes "b")) ≡ true)
+    × (digest (array no_nodes (place 1 1)) ≡ 0)
+example = (refl, refl, refl)

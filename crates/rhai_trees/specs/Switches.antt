@@ -81,10 +81,12 @@ first_fault ranged no_nodes = None
 first_fault ranged (one_node x xs) =
     option_or (value_fault ranged x) (first_fault (ranged || is_full_range (range_of x)) xs)
 
--- The number 1 is the value of the first case; after a range it is refused.
+-- The number 1 is the value of the first case; after a range it is refused. `b` stands after `a`.
 abbrev example_one : (column : ℕ) → Node
 example_one column = node.integer (pos 1) (place 1 column)
 
 example : (case_place (node.one_case (example_one 1) [] node.no_cases) (example_one 9) ≡ Some 0)
     × (value_fault true (example_one 9) ≡ Some (refusal cause.WrongSwitchIntegerCase (place 1 9)))
-example = (refl, refl)
+    × (names_backwards (one_property (codes "a") (place 1 3) (example_one 6)
+    (one_property (codes "b") (place 1 9) (example_one 12) no_properties)) ≡ codes "b" ∷ codes "a" ∷ [])
+example = (refl, refl, refl)

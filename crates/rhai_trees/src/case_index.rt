@@ -80,10 +80,7 @@ pub fn parts_key(digest: Option<u64>, number: usize) -> CaseKey
 
 /// Adds the key of one more case, unless a case has it. The place of the case that has it; none if it was added. The
 /// error is that there is no memory for it.
-pub fn add_key(
-    keys: &mut IndexSet<CaseKey>,
-    key: CaseKey,
-) -> Result<Option<usize>, AllocError>
+pub fn add_key(keys: &mut IndexSet<CaseKey>, key: CaseKey) -> Result<Option<usize>, AllocError>
     ensures place { IfOk result (λ place. place ≡ place_in keys.old.keys key) }
     ensures added { OnOk result ((q : CaseKey) → place_in keys.new.keys q
         ≡ option_or (place_in keys.old.keys q) (if same_case q key then Some (length keys.old.keys) else None)) }

@@ -112,8 +112,8 @@ fn find_among_all(
 }
 
 /// Where a value without a key of its own is among the cases, or the key that it gets. It is compared with the cases
-/// that have its digest; where an object map, in it or in a case, has a name twice, with all. The error is that there is
-/// no memory to find out.
+/// that have its digest; where an object map in it, or in a case, has a name twice, with all. The error is that there
+/// is no memory to find out.
 pub fn find_parts(
     alloc: Global,
     cases: &[SwitchCase],

@@ -216,7 +216,6 @@ fn push_parts(
 
 // The same of any value.
 #[inline(always)]
-#[tactic(auto, using(crate::proofs::CaseIndexLemmas::plain_key))]
 fn push_value(
     alloc: Global,
     cases: &mut Vec<SwitchCase>,
