@@ -17,7 +17,9 @@ use Rattle.rhai_reading.specs.Running.{Gives, result_of}
 -- is what it left; unless memory ran out.
 abbrev pub GivesAt : {X : Type 0} (g : Goal) → (X → Val g) → Cursor → Result X ParseError → Cursor → Type 0
 GivesAt g view s result t = (library : Library) (captured : List Use) (nesting : Nesting)
-    → Gives view (result_of g (record { cursor = s; library = library; captured = captured; nesting = nesting })) result
+    → Gives view
+    (result_of g (record { cursor = s; library = library; captured = captured; nesting = nesting }))
+    result
     (record { cursor = t; library = library; captured = captured; nesting = nesting })
 
 -- a name and its position

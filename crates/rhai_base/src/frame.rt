@@ -1,33 +1,27 @@
 //! `Frame`: what is live in a block, and which tokens its expressions may contain.
 
-ghost use Rattle.std.specs.Prelude.{◌≡◌, ◌&&◌, ◌||◌, ◌++◌, IfErr, IfOk, OnOk, codes, false, length, map, not};
-ghost use Rattle.std.specs.Prelude.{option_map, true};
-ghost use Rattle.std.specs.Option.{is_some};
+ghost use Rattle.std.specs.Prelude.{◌≡◌, ◌++◌, IfOk, OnOk, length, map, option_map};
 ghost use Rattle.std.specs.Int.NonZero.{non_zero_usize_get};
 ghost use Rattle.std.specs.Rc.{rc_str_bytes};
-ghost use Rattle.rhai_grammar.specs.Causes.{MemoryIsNowhere, VariableExists, is_for_memory, refusal, refusal_of};
 ghost use Rattle.rhai_grammar.specs.Contexts.{in_block, nothing_live};
-ghost use Rattle.rhai_grammar.specs.Definitions.{declared, defined, exported, imported, is_none, reused};
-ghost use Rattle.rhai_grammar.specs.Imports.{is_among, module_number};
-ghost use Rattle.rhai_grammar.specs.Libraries.{is_function};
+ghost use Rattle.rhai_grammar.specs.Definitions.{declared, defined, exported, imported, reused};
+ghost use Rattle.rhai_grammar.specs.Imports.{module_number};
 ghost use Rattle.rhai_grammar.specs.Slots.{number};
 ghost use Rattle.rhai_grammar.specs.Targets.{is_constant_at};
 ghost use Rattle.rhai_grammar.specs.declared.filter.ExprFilter.TheVariants.{All, AllButPipe};
-ghost use Rattle.rhai_lower.specs.Slots.{is_declared};
-ghost use Rattle.rhai_lower.specs.Texts.{same_text};
 ghost use Rattle.rhai_base.specs.Frames.{SamePlace, all_names, imported_names, known_of};
-ghost use Rattle.rhai_base.specs.Libraries.{library_of};
 
-use crate::known::{AllImports, Known};
-use crate::library::Library;
+use crate::known::{AllImports, Known, push_list, push_lists};
 use crate::lookup::{import_place, place_of};
 use crate::slots::{define, export};
-use rhai_grammar::{ExprFilter, ParseError, ParseErrorType, ParseResult};
-use rhai_lower::{NamedList, Position, Scope};
+use rhai_grammar::ExprFilter;
+use rhai_lower::{NamedList, Scope};
 use std::alloc::{AllocError, Global};
 use std::marker::Model;
 use std::num::NonZeroUsize;
 use std::rc::RcStr;
+
+mod names;
 
 /// What is live in a block: the slots and the imports of the frame around it, and after them those of the block. A
 /// slot's number counts from 1 at the latest slot of all, and so does an import's. A frame also knows which tokens the
@@ -354,62 +348,6 @@ impl<'p> Frame<'p> {
         }
     }
 
-    /// Whether the variable `name` may be used: under strict variables, which `strict` says, there is a slot of the
-    /// name, a function of the library has it, or the caller gives the script a variable of that name. Does not
-    /// allocate.
-    pub fn may_use(&self, strict: bool, library: &Library, name: &str) -> bool
-        ensures { result ≡ (not strict || (is_some (number name.now self.now.live.slots)
-            || (is_function (library_of library.now) name.now || is_declared name.now self.now.known.variables))) }
-    {
-        !strict
-            || self.place_of(name).is_some()
-            || library.is_function(name)
-            || self.known.declares(name)
-    }
-
-    /// Whether the variable `name`, used in a closure or not, as `closure` says, is one that the closure captures: no
-    /// slot has the name, and no function of the library. Does not allocate.
-    pub fn is_captured(&self, closure: bool, library: &Library, name: &str) -> bool
-        ensures { result ≡ (closure && not (is_some (number name.now self.now.live.slots)
-            || is_function (library_of library.now) name.now)) }
-    {
-        closure && !(self.place_of(name).is_some() || library.is_function(name))
-    }
-
-    /// Whether a path may begin with `name`: under strict variables, which `strict` says, it is the name of an import,
-    /// here or around the script, `global`, or the name of one of the engine's modules. Does not allocate.
-    pub fn may_enter(&self, strict: bool, name: &str) -> bool
-        ensures { result ≡ (not strict || (is_some (module_number name.now self.now.live.imports)
-            || (is_among name.now self.now.known.imports
-            || (same_text name.now (codes "global") || is_among name.now self.now.known.modules)))) }
-    {
-        !strict
-            || self.find_module(name).is_some()
-            || self.known.has_import(name)
-            || name == "global"
-            || self.known.has_module(name)
-    }
-
-    /// Refuses a definition of a name that a slot of this frame or of one around it has, unless shadowing is allowed.
-    ///
-    /// The error is `VariableExists` at `pos`, or `OutOfMemory`.
-    pub fn test_name(&self, shadowing: bool, name: &RcStr, pos: Position) -> ParseResult<()>
-        ensures passes { OnOk result
-            ((shadowing || is_none (number (rc_str_bytes name.now) self.now.live.slots)) ≡ true) }
-        ensures refused { IfErr result (λ e. is_for_memory e ≡ false
-            → ((shadowing || is_none (number (rc_str_bytes name.now) self.now.live.slots)) ≡ false)
-            × (refusal_of e ≡ refusal (VariableExists (rc_str_bytes name.now)) pos)) }
-        ensures nowhere { IfErr result MemoryIsNowhere }
-    {
-        if shadowing {
-            return Ok(());
-        }
-        match self.place_of(name) {
-            None => Ok(()),
-            Some(_) => Err(ParseError(ParseErrorType::VariableExists(name.clone()?), pos)),
-        }
-    }
-
     // The number of live slots.
     fn len(&self) -> usize
         ensures { result ≡ length self.now.live.slots }
@@ -423,32 +361,4 @@ impl<'p> Frame<'p> {
     {
         self.above + self.imports.len()
     }
-}
-
-// Adds a list to others, unless it is empty. The error is that there is no memory for it.
-fn push_list<'f>(
-    all: &mut Vec<&'f NamedList<RcStr>>,
-    list: &'f NamedList<RcStr>,
-) -> Result<(), AllocError>
-    ensures { OnOk result (imported_names all.new.items
-        ≡ imported_names all.old.items ++ map rc_str_bytes list.now) }
-{
-    if !list.is_empty() {
-        all.push(list)?;
-    }
-    Ok(())
-}
-
-// Adds lists to others, except empty ones. The error is that there is no memory for them.
-fn push_lists<'f>(
-    all: &mut Vec<&'f NamedList<RcStr>>,
-    lists: &[&'f NamedList<RcStr>],
-) -> Result<(), AllocError>
-    ensures { OnOk result (imported_names all.new.items
-        ≡ imported_names all.old.items ++ imported_names lists.now) }
-{
-    for list in lists {
-        push_list(all, *list)?;
-    }
-    Ok(())
 }

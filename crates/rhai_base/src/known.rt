@@ -1,11 +1,13 @@
 //! `Known`: what is known around a script; `AllImports`: the modules imported around a function.
 
-ghost use Rattle.std.specs.Prelude.{◌≡◌};
+ghost use Rattle.std.specs.Prelude.{◌≡◌, ◌++◌, OnOk, map};
+ghost use Rattle.std.specs.Rc.{rc_str_bytes};
 ghost use Rattle.rhai_lower.specs.Slots.{is_declared};
 ghost use Rattle.rhai_grammar.specs.Imports.{is_among};
 ghost use Rattle.rhai_base.specs.Frames.{imported_names, known_of};
 
 use rhai_lower::{NamedList, Scope, is_named};
+use std::alloc::AllocError;
 use std::rc::RcStr;
 
 /// What is known before a script defines or imports anything.
@@ -64,4 +66,32 @@ fn is_listed(lists: &[&NamedList<RcStr>], name: &str) -> bool
         }
     }
     false
+}
+
+// Adds a list to others, unless it is empty. The error is that there is no memory for it.
+pub(crate) fn push_list<'f>(
+    all: &mut Vec<&'f NamedList<RcStr>>,
+    list: &'f NamedList<RcStr>,
+) -> Result<(), AllocError>
+    ensures { OnOk result (imported_names all.new.items
+        ≡ imported_names all.old.items ++ map rc_str_bytes list.now) }
+{
+    if !list.is_empty() {
+        all.push(list)?;
+    }
+    Ok(())
+}
+
+// Adds lists to others, except empty ones. The error is that there is no memory for them.
+pub(crate) fn push_lists<'f>(
+    all: &mut Vec<&'f NamedList<RcStr>>,
+    lists: &[&'f NamedList<RcStr>],
+) -> Result<(), AllocError>
+    ensures { OnOk result (imported_names all.new.items
+        ≡ imported_names all.old.items ++ imported_names lists.now) }
+{
+    for list in lists {
+        push_list(all, *list)?;
+    }
+    Ok(())
 }

@@ -17,7 +17,7 @@ use Rattle.rhai_grammar.specs.Forms as form
 use Rattle.rhai_grammar.specs.Forms.{Run, Statements}
 use Rattle.rhai_grammar.specs.Libraries.{Ended, Library}
 use Rattle.rhai_grammar.specs.Rows as rows
-use Rattle.rhai_grammar.specs.Rows.{between, number, plain, unread}
+use Rattle.rhai_grammar.specs.Rows.{between, plain, unread}
 use Rattle.rhai_grammar.specs.RowsOfChains as chain
 use Rattle.rhai_grammar.specs.RowsOfClosures as closed
 use Rattle.rhai_grammar.specs.RowsOfConstructs as construct

@@ -12,7 +12,7 @@ use Rattle.rhai_lower.specs.Nodes.{variable}
 use Rattle.rhai_lower.specs.Nodes.{call, method_call, property, no_nodes, one_node, no_properties, one_property}
 use Rattle.rhai_lower.specs.Nodes.{position_of, noop, expression, assignment, block_statement, block_value}
 use Rattle.rhai_lower.specs.Nodes.{braces, interpolated, no_statements, one_statement, var_statement}
-use Rattle.rhai_lower.specs.Nodes.{Optional, absent, block_of_one, break_loop, do_statement, for_statement}
+use Rattle.rhai_lower.specs.Nodes.{Optional, absent, break_loop, do_statement, for_statement}
 use Rattle.rhai_lower.specs.Nodes.{if_statement, made_block, present, return_statement, try_catch, while_statement}
 use Rattle.rhai_lower.specs.Nodes as node
 use Rattle.rhai_lower.specs.declared.position.Position.{Position}

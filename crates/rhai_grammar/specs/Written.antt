@@ -22,7 +22,7 @@ use Rattle.rhai_grammar.specs.Strengths.{is_operator}
 use Rattle.rhai_grammar.specs.Ends.{action_ends, needs_no_semicolon}
 use Rattle.rhai_grammar.specs.Forms as form
 use Rattle.rhai_grammar.specs.Forms.{Primary, Base, Links, Operand, Arguments, Items, Elements, Fields, Run}
-use Rattle.rhai_grammar.specs.Forms.{Body, ExprStatement, Initializer, JumpValue, Path, Segments, Statement, Statements}
+use Rattle.rhai_grammar.specs.Forms.{Body, ExprStatement, Initializer, JumpValue, Segments, Statement, Statements}
 use Rattle.rhai_grammar.specs.Definitions.{after_statement}
 use Rattle.rhai_grammar.specs.Targets.{is_assignment, is_constant_use, target_fault}
 use Rattle.rhai_grammar.specs.Statements.{closed_due, expression_begins, keyword_of, list_ends}

@@ -32,7 +32,7 @@ use rhai_base::leaves::tokens::{excludes_use, is_no_argument, is_sign, what_oper
 use rhai_base::modules::test_path;
 use rhai_base::words::{is_qualified_name, make_call};
 use rhai_base::{Frame, ParseSettings};
-use rhai_grammar::{CommaList, DueToken, OperandPlace, OperandStart, ParseResult};
+use rhai_grammar::{CommaList, OperandPlace, OperandStart, ParseResult};
 use rhai_lower::Expr;
 use rhai_trees::{Chain, make_statement_value};
 

@@ -4,7 +4,7 @@ use Rattle.std.specs.Prelude.{◌&&◌, None, Some}
 use Rattle.rhai_grammar.specs.Prelude.{Text, Lexeme, Name, text_of, Node, Nodes, position_of, Position, calls, is_name}
 use Rattle.rhai_grammar.specs.Prelude.{qualifies, Refusal, out_of_memory, refusal, Context, Live, left, is_memory}
 use Rattle.rhai_grammar.specs.Prelude.{is_qualified, module_fault, qualified, call_tree, is_variable, no_variable}
-use Rattle.rhai_reading.specs.Running.{Progress, asked, looking, taking, Caller, exec, guarded, nested, result_of}
+use Rattle.rhai_reading.specs.Running.{Progress, asked, looking, taking, exec, guarded, nested, result_of}
 use Rattle.rhai_reading.specs.Reading.{Call, Called, Fail, Path, Peek, Postfix, Prog, Ret, Take, call_at, call_on}
 use Rattle.rhai_reading.specs.Reading.{match_name, path_on, postfix_at, tested}
 use Rattle.rhai_reading.specs.Running as R

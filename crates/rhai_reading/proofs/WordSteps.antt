@@ -3,7 +3,7 @@ use Rattle.std.proofs.Common.{◌≡◌, Bool, false, sym, ap, ◌∙◌, if◌t
 use Rattle.rhai_grammar.specs.Prelude.{Text, Lexeme, text_of, Node, Position, beginning, out_of_memory, is_memory}
 use Rattle.rhai_grammar.specs.Prelude.{Context, Live}
 use Rattle.rhai_grammar.specs.declared.role.Beginning.{Beginning}
-use Rattle.rhai_reading.specs.Running.{Progress, asked, looking, taking, exec, guarded, nested, result_of}
+use Rattle.rhai_reading.specs.Running.{Progress, asked, looking, taking, exec, guarded, result_of}
 use Rattle.rhai_reading.specs.Reading.{Peek, Primary, Prog, Take, primary_at}
 use Rattle.rhai_reading.specs.Running as R
 use Rattle.rhai_reading.proofs.Steps.{step_primary}

@@ -21,7 +21,7 @@ use crate::leaves::refusals::missing;
 use crate::leaves::statements::parse_var_name;
 use rhai_grammar::{Construct, DueToken, InputError, ParseError, ParseErrorType, ParseResult};
 use rhai_lower::{Position, Token, TokenStream};
-use std::alloc::{AllocError, Global};
+use std::alloc::Global;
 use std::rc::RcStr;
 
 /// Whether a construct may be a statement: a loop only where the engine lets scripts have loops, as `looping` says.

@@ -6,15 +6,13 @@ use Rattle.rhai_grammar.specs.Prelude.{Outermost, outermost, height_after, run_e
 use Rattle.rhai_grammar.specs.Verdicts as V
 use Rattle.rhai_grammar.specs.Written.{ended}
 use Rattle.rhai_reading.specs.Reading as R
-use Rattle.rhai_reading.specs.Reading.{Goal, Whole, Expression, NextOperator, BinaryOp, Prog, Ret, Fail, Take, Call}
-use Rattle.rhai_reading.specs.Reading.{continues, next_operator_at, operand_by, primary_at, list_on, called_at, bang_at}
-use Rattle.rhai_reading.specs.Reading.{binary_at, binary_on, binary_next, body}
+use Rattle.rhai_reading.specs.Reading.{Whole, Expression, Ret}
+use Rattle.rhai_reading.specs.Reading.{body}
 use Rattle.rhai_reading.specs.Histories.{Done}
 use Rattle.rhai_reading.proofs.Rules.{at}
 use Rattle.rhai_reading.proofs.Deep.{Deep, deep_call, deep_counted, deep_enough, deep_look, deep_ret, deep_tail}
 use Rattle.rhai_reading.proofs.Deep.{deep_then}
 use Rattle.rhai_reading.proofs.Reaches.{Reaches}
-use Rattle.rhai_grammar.specs.Verdicts as V
 use Rattle.rhai_reading.proofs.Complete.Law.{ExpressionRead, RunRead, Agrees, begins}
 use Rattle.rhai_reading.proofs.Complete.Runs.{filter_after, none_goes, shut_none, climb_stops}
 use Rattle.rhai_reading.proofs.Looks.{op_at, follower_at, climb, fine, or_wrong}

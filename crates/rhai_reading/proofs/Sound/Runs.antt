@@ -11,8 +11,8 @@ use Rattle.rhai_grammar.specs.Demands as D
 use Rattle.rhai_grammar.specs.Verdicts as V
 use Rattle.rhai_grammar.specs.Written as W
 use Rattle.rhai_reading.specs.Reading as R
-use Rattle.rhai_reading.specs.Reading.{Prog, Ret, Call, continues, next_operator_at, binary_at, binary_on, binary_right}
-use Rattle.rhai_reading.specs.Reading.{binary_next, raised, body}
+use Rattle.rhai_reading.specs.Reading.{Prog, Call, continues, next_operator_at, binary_at, binary_on}
+use Rattle.rhai_reading.specs.Reading.{body}
 use Rattle.rhai_reading.proofs.Joins.{cursor}
 use Rattle.rhai_reading.proofs.Strengths.{Sensible, sensible, next_continues, right_is, left_is, goes_operator}
 use Rattle.rhai_reading.proofs.Strengths.{true_not}
