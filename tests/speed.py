@@ -60,6 +60,7 @@ KINDS = {
     "closures": ("let x = 1 ;", lambda n: "x = | a | a + x ;", ""),
     "integer cases": ("switch x {", lambda n: f"{n} => 1 ,", "}"),
     "text cases": ("switch x {", lambda n: f'"a{n}" => 1 ,', "}"),
+    "array and map cases": ("switch x {", lambda n: f"#{{ a : {n} , b : [ {n} , 0 ] }} => 1 ,", "}"),
     "imports": ("", lambda n: f'import "a" as m{n} ; m{n} :: x ;', ""),
     "strings": ("", lambda n: "x = interpolated { y } text ;", ""),
 }

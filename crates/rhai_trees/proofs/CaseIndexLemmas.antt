@@ -1,201 +1,30 @@
--- Keys of `switch` cases, and places as cases are added.
-use Rattle.std.proofs.Common.{◌≡◌, ◌∙◌, ◌<◌, ℕ, ℤ, ◌+◌, ◌==◌, Bool, true, false, List, [], ◌∷◌, ◌&&◌, ◌++◌, Option, Some, None, length, refl, sym, ap, arith, cond, unwrap_or, if◌then◌else◌}
+-- Places of cases by their keys.
+use Rattle.std.proofs.Common.{◌≡◌, ◌∙◌, ◌<◌, ℕ, ◌+◌, ◌==◌, Bool, true, false, not, List, [], ◌∷◌, ◌&&◌, ◌||◌, ◌++◌, Option, Some, None, nat_lt, position, append-nil, is_some, length, refl, sym, ap, arith, cond, true≢false, unwrap_or, if◌then◌else◌}
 use Rattle.std.proofs.lemmas.Bool.{and_parts}
-use Rattle.std.specs.Bool.{beq}
-use Rattle.std.specs.Cmp.{signed_Decides, unsigned_Decides}
-use Rattle.std.specs.Cmp.Lexicographic as texts
-use Rattle.std.specs.Map.{lookup}
+use Rattle.std.specs.Cmp.{unsigned_Decides}
+use Rattle.std.specs.List.{list_any, position_from, position_or_len}
+use Rattle.indexmap.specs.IndexSet.{insert_key}
+use Rattle.std.proofs.lemmas.Iterator.Adapters.{position_from-zero}
+use Rattle.std.proofs.lemmas.List.{length-append}
 use Rattle.std.specs.Option.{option_or}
-use Rattle.std.specs.Ordering.{int_eq}
 use Rattle.std.specs.Prelude.{option_map}
-use Rattle.std.specs.Rc.{rc_str_bytes}
-use Rattle.rhai_lower.specs.Lexemes.{Sign}
 use Rattle.rhai_lower.specs.Nodes as node
-use Rattle.rhai_lower.specs.Nodes.{Cases, Called, Node, Nodes, Properties, array, boolean, call, character, integer, no_nodes, object_map, one_node, pointer, string, unit}
-use Rattle.rhai_lower.specs.Positions.{nowhere}
-use Rattle.rhai_lower.specs.declared.position.Position.{Position}
-use Rattle.rhai_lower.specs.Texts.{Text, same_text}
-use Rattle.rhai_lower.proofs.Views.{case_views_push}
+use Rattle.rhai_lower.specs.Nodes.{Cases, Node}
 use Rattle.rhai_lower.specs.View.{case_views}
 use Rattle.rhai_lower.specs.declared.ast.SwitchCase.{SwitchCase}
-use Rattle.rhai_grammar.specs.CaseValues.{IntegerRange, range_of, same_boolean, same_range, same_value}
-use Rattle.rhai_lower.specs.declared.token.Token.TheVariants.{ExclusiveRange, InclusiveRange}
-use Rattle.rhai_grammar.specs.Operators.{operator_called}
+use Rattle.rhai_grammar.specs.CaseValues.{same_value}
 use Rattle.rhai_grammar.specs.Switches.{with_value}
 use Rattle.rhai_trees.specs.contracts.case_index.CaseKeyPartialEq.TheImpl.{eq-value}
-use Rattle.rhai_trees.specs.CaseKeys.{Places, is_key, key_value, plain_value, range_value, same_case}
+use Rattle.rhai_trees.specs.CaseKeys.{IsKey, Keyed, case_count, digest_of, has_digest, is_plain, key_value, numbered, parts_key, place_in, place_of, plain_value, same_case, with_digest}
+use Rattle.rhai_trees.specs.Digests.{digest, is_regular}
 use Rattle.rhai_trees.specs.Switches.{case_place}
-use Rattle.rhai_trees.proofs.SwitchLemmas.{boolean_anywhere, call_value, character_anywhere, integer_anywhere, place_none, pointer_anywhere, string_anywhere, unit_anywhere}
+use Rattle.rhai_trees.proofs.SwitchLemmas.{place_none}
 use Rattle.rhai_trees.specs.declared.case_index.CaseKey.{CaseKey}
 use Rattle.rhai_trees.specs.declared.case_index.CaseKey.TheVariants as key
-
--- ---- what keys stand for
-
-range_again : (r : IntegerRange) → range_of (range_value r) ≡ Some r
-range_again r = by r.is_inclusive r.first r.last
-  where
-    by : (b : Bool) (m n : ℤ) → range_of (range_value (record { first = m; last = n; is_inclusive = b })) ≡ Some (record { first = m; last = n; is_inclusive = b })
-    by true m n = refl
-    by false m n = refl
-
-call_on_right : (y : Node) (c d : Called) (ns ms : Nodes) (p q : Position) → range_of (call c ns p) ≡ range_of (call d ms q) → same_value y (call c ns p) ≡ same_value y (call d ms q)
-call_on_right (call e ks r) c d ns ms p q h = ap (same_range (range_of (call e ks r))) h
-call_on_right _ c d ns ms p q h = refl
-
--- the same of a range, wherever it stands
-abbrev range_called : IntegerRange → Called
-range_called r = operator_called (Sign (if r.is_inclusive then InclusiveRange else ExclusiveRange))
-
-abbrev range_ends : IntegerRange → Nodes
-range_ends r = one_node (integer r.first nowhere) (one_node (integer r.last nowhere) no_nodes)
-
-range_on_left : (r : IntegerRange) (y : Node) → same_value (range_value r) y ≡ same_range (Some r) (range_of y)
-range_on_left r y = call_value (range_called r) (range_ends r) nowhere y ∙ ap (λ o. same_range o (range_of y)) (range_again r)
-
-range_on_right : (y : Node) (c : Called) (ns : Nodes) (p : Position) (r : IntegerRange) → range_of (call c ns p) ≡ Some r → same_value y (call c ns p) ≡ same_value y (range_value r)
-range_on_right y c ns p r h = call_on_right y c (range_called r) ns (range_ends r) p nowhere (h ∙ sym (range_again r))
-
-unit_right : (p : Position) (y : Node) → same_value y (unit p) ≡ same_value y (unit nowhere)
-unit_right p (unit q) = refl
-unit_right p _ = refl
-
-boolean_right : (b : Bool) (p : Position) (y : Node) → same_value y (boolean b p) ≡ same_value y (boolean b nowhere)
-boolean_right b p (boolean c q) = refl
-boolean_right b p _ = refl
-
-integer_right : (m : ℤ) (p : Position) (y : Node) → same_value y (integer m p) ≡ same_value y (integer m nowhere)
-integer_right m p (integer k q) = refl
-integer_right m p _ = refl
-
-character_right : (c : ℕ) (p : Position) (y : Node) → same_value y (character c p) ≡ same_value y (character c nowhere)
-character_right c p (character d q) = refl
-character_right c p _ = refl
-
-string_right : (t : Text) (p : Position) (y : Node) → same_value y (string t p) ≡ same_value y (string t nowhere)
-string_right t p (string u q) = refl
-string_right t p _ = refl
-
-pointer_right : (t : Text) (m : ℕ) (p : Position) (y : Node) → same_value y (pointer t m p) ≡ same_value y (pointer t m nowhere)
-pointer_right t m p (pointer u k q) = refl
-pointer_right t m p _ = refl
-
--- the same test of a value and of what its key stands for
-right_by : (y x p q : Node) → same_value y x ≡ same_value y p → Some p ≡ Some q → same_value y x ≡ same_value y q
-right_by y x p q h e = h ∙ ap (λ o. same_value y (unwrap_or o p)) e
-
-left_by : (y x p q : Node) → same_value x y ≡ same_value p y → Some p ≡ Some q → same_value x y ≡ same_value q y
-left_by y x p q h e = h ∙ ap (λ o. same_value (unwrap_or o p) y) e
-
--- On the right of the test, a value and what its key stands for make no difference.
-pub plain_right : (x p y : Node) → plain_value x ≡ Some p → same_value y x ≡ same_value y p
-plain_right (unit at) p y e = right_by y (unit at) (unit nowhere) p (unit_right at y) e
-plain_right (boolean b at) p y e = right_by y (boolean b at) (boolean b nowhere) p (boolean_right b at y) e
-plain_right (integer n at) p y e = right_by y (integer n at) (integer n nowhere) p (integer_right n at y) e
-plain_right (character c at) p y e = right_by y (character c at) (character c nowhere) p (character_right c at y) e
-plain_right (string t at) p y e = right_by y (string t at) (string t nowhere) p (string_right t at y) e
-plain_right (pointer t n at) p y e = right_by y (pointer t n at) (pointer t n nowhere) p (pointer_right t n at y) e
-plain_right (call c ns at) p y e = by (range_of (call c ns at)) refl e
-  where
-    by : (o : Option IntegerRange) → range_of (call c ns at) ≡ o → option_map range_value o ≡ Some p → same_value y (call c ns at) ≡ same_value y p
-    by None h e = absurd cc
-    by (Some r) h e = right_by y (call c ns at) (range_value r) p (range_on_right y c ns at r h) e
-plain_right _ p y e = absurd cc
-
-pub plain_left : (x p y : Node) → plain_value x ≡ Some p → same_value x y ≡ same_value p y
-plain_left (unit at) p y e = left_by y (unit at) (unit nowhere) p (unit_anywhere at y) e
-plain_left (boolean b at) p y e = left_by y (boolean b at) (boolean b nowhere) p (boolean_anywhere b at y) e
-plain_left (integer n at) p y e = left_by y (integer n at) (integer n nowhere) p (integer_anywhere n at y) e
-plain_left (character c at) p y e = left_by y (character c at) (character c nowhere) p (character_anywhere c at y) e
-plain_left (string t at) p y e = left_by y (string t at) (string t nowhere) p (string_anywhere t at y) e
-plain_left (pointer t n at) p y e = left_by y (pointer t n at) (pointer t n nowhere) p (pointer_anywhere t n at y) e
-plain_left (call c ns at) p y e = by (range_of (call c ns at)) refl e
-  where
-    by : (o : Option IntegerRange) → range_of (call c ns at) ≡ o → option_map range_value o ≡ Some p → same_value (call c ns at) y ≡ same_value p y
-    by None h e = absurd cc
-    by (Some r) h e =
-        let one = call_value c ns at y ∙ ap (λ o. same_range o (range_of y)) h in
-        left_by y (call c ns at) (range_value r) p (one ∙ sym (range_on_left r y)) e
-plain_left _ p y e = absurd cc
-
-array_by_key : (ns : Nodes) (p : Position) (q : CaseKey) → same_value (array ns p) (key_value q) ≡ false
-array_by_key ns p key.Unit = refl
-array_by_key ns p (key.Boolean b) = refl
-array_by_key ns p (key.Integer n) = refl
-array_by_key ns p (key.Character c) = refl
-array_by_key ns p (key.Text t) = refl
-array_by_key ns p (key.Pointer t n) = refl
-array_by_key ns p (key.Range b m n) = refl
-
-map_by_key : (ps : Properties) (p : Position) (q : CaseKey) → same_value (object_map ps p) (key_value q) ≡ false
-map_by_key ps p key.Unit = refl
-map_by_key ps p (key.Boolean b) = refl
-map_by_key ps p (key.Integer n) = refl
-map_by_key ps p (key.Character c) = refl
-map_by_key ps p (key.Text t) = refl
-map_by_key ps p (key.Pointer t n) = refl
-map_by_key ps p (key.Range b m n) = refl
-
--- a value without a key is equal to none that has one
-pub no_plain : (x : Node) (q : CaseKey) → plain_value x ≡ None → same_value x (key_value q) ≡ false
-no_plain (unit at) q e = absurd cc
-no_plain (boolean b at) q e = absurd cc
-no_plain (integer n at) q e = absurd cc
-no_plain (character c at) q e = absurd cc
-no_plain (string t at) q e = absurd cc
-no_plain (pointer t n at) q e = absurd cc
-no_plain (array ns at) q e = array_by_key ns at q
-no_plain (object_map ps at) q e = map_by_key ps at q
-no_plain (call c ns at) q e = by (range_of (call c ns at)) refl e
-  where
-    by : (o : Option IntegerRange) → range_of (call c ns at) ≡ o → option_map range_value o ≡ None → same_value (call c ns at) (key_value q) ≡ false
-    by None h e = call_value c ns at (key_value q) ∙ ap (λ o. same_range o (range_of (key_value q))) h
-    by (Some r) h e = absurd cc
-no_plain _ q e = refl
-
-pub keys_compared : (k q : CaseKey) → same_value (key_value k) (key_value q) ≡ same_case k q
-keys_compared (key.Range a b c) (key.Range d e f) =
-    let left : IntegerRange = record { first = b; last = c; is_inclusive = a } in
-    let right : IntegerRange = record { first = e; last = f; is_inclusive = d } in
-    range_on_left left (range_value right) ∙ ap (same_range (Some left)) (range_again right)
-keys_compared key.Unit key.Unit = refl
-keys_compared (key.Boolean a) (key.Boolean b) = refl
-keys_compared (key.Integer a) (key.Integer b) = refl
-keys_compared (key.Character a) (key.Character b) = refl
-keys_compared (key.Text a) (key.Text b) = refl
-keys_compared (key.Pointer a m) (key.Pointer b n) = refl
-keys_compared _ _ = refl
-
-same_booleans : (a b : Bool) → same_boolean a b ≡ true → a ≡ b
-same_booleans true true e = refl
-same_booleans true false e = absurd cc
-same_booleans false true e = absurd cc
-same_booleans false false e = refl
-
-pub equal_keys : (k q : CaseKey) → same_case k q ≡ true → key_value k ≡ key_value q
-equal_keys key.Unit key.Unit e = refl
-equal_keys (key.Boolean a) (key.Boolean b) e = ap (λ c. boolean c nowhere) (same_booleans a b e)
-equal_keys (key.Integer a) (key.Integer b) e = ap (λ n. integer n nowhere) ((signed_Decides a b).0 e)
-equal_keys (key.Character a) (key.Character b) e = ap (λ c. character c nowhere) ((unsigned_Decides a b).0 e)
-equal_keys (key.Text a) (key.Text b) e = ap (λ t. string t nowhere) (texts.same_text _ _ (sym e))
-equal_keys (key.Pointer a m) (key.Pointer b n) e =
-    let names = (and_parts (same_text (rc_str_bytes a) (rc_str_bytes b)) (m == n) e).0 in
-    let counts = (and_parts (same_text (rc_str_bytes a) (rc_str_bytes b)) (m == n) e).1 in
-    ap (λ t. pointer t m nowhere) (texts.same_text _ _ (sym names))
-    ∙ ap (λ k. pointer (rc_str_bytes b) k nowhere) ((unsigned_Decides m n).0 counts)
-equal_keys (key.Range a b c) (key.Range d f g) e =
-    let ends = (and_parts (same_boolean a d) (int_eq b f && int_eq c g) e).1 in
-    let range = λ (x : Bool) (m n : ℤ). range_value (record { first = m; last = n; is_inclusive = x }) in
-    ap (λ x. range x b c) (same_booleans a d (and_parts (same_boolean a d) (int_eq b f && int_eq c g) e).0)
-    ∙ ap (λ m. range d m c) ((signed_Decides b f).0 (and_parts (int_eq b f) (int_eq c g) ends).0)
-    ∙ ap (λ n. range d f n) ((signed_Decides c g).0 (and_parts (int_eq b f) (int_eq c g) ends).1)
-equal_keys _ _ e = absurd cc
+use Rattle.rhai_trees.proofs.CaseKeyLemmas.{case_symm, derived, equal_keys, keys_compared, no_plain, plain_left, plain_right}
+use Rattle.rhai_trees.proofs.DigestLemmas.{digests_kept, digests_pushed, numbered_pushed, one_at, past_numbers, placed}
 
 -- ---- places
-
--- how many cases there are
-abbrev pub case_count : Cases → ℕ
-case_count node.no_cases = 0
-case_count (node.one_case y indices cs) = case_count cs + 1
 
 pub place_alike : (cs : Cases) (x p : Node) → ((y : Node) → same_value y x ≡ same_value y p) → case_place cs x ≡ case_place cs p
 place_alike node.no_cases x p h = refl
@@ -236,54 +65,200 @@ place_kept (node.one_case z more cs) x y index n e = by (same_value z x) (case_p
     by false None h e = absurd cc
     by false (Some m) h e = ap (λ o. if same_value z y then Some 0 else option_map (λ n. n + 1) o) (h m refl)
 
--- ---- the index
+-- ---- places by keys
 
-pub no_places : (find : CaseKey → Option ℕ) → ((q : CaseKey) → find q ≡ None) → Places find node.no_cases
-no_places find h = record { found = h }
+-- a place by its key, where neither the places of values nor the cases with a digest change
+place_by : (cs ds : Cases) → ((p : Node) → case_place ds p ≡ case_place cs p) → ((o : Option ℕ) → with_digest o 0 ds ≡ with_digest o 0 cs) → (q : CaseKey) → place_of ds q ≡ place_of cs q
+place_by cs ds h g (key.Parts d n) = ap (λ l. option_map (λ c. c.0) (numbered l n)) (g (Some d))
+place_by cs ds h g (key.Irregular n) = ap (λ l. option_map (λ c. c.0) (numbered l n)) (g None)
+place_by cs ds h g key.Unit = h _
+place_by cs ds h g (key.Boolean b) = h _
+place_by cs ds h g (key.Integer n) = h _
+place_by cs ds h g (key.Character c) = h _
+place_by cs ds h g (key.Text t) = h _
+place_by cs ds h g (key.Pointer t n) = h _
+place_by cs ds h g (key.Range b m n) = h _
 
-pub found_by_key : (find : CaseKey → Option ℕ) (cs : Cases) (x : Node) (k : CaseKey) → Places find cs → Some (key_value k) ≡ plain_value x → find k ≡ case_place cs x
-found_by_key find cs x k p e = p.found k ∙ sym (place_alike cs x (key_value k) (λ y. plain_right x (key_value k) y (sym e)))
+plain_place : (k : CaseKey) (cs : Cases) → is_plain k ≡ true → place_of cs k ≡ case_place cs (key_value k)
+plain_place (key.Parts d n) cs plain = absurd cc
+plain_place (key.Irregular n) cs plain = absurd cc
+plain_place key.Unit cs plain = refl
+plain_place (key.Boolean b) cs plain = refl
+plain_place (key.Integer n) cs plain = refl
+plain_place (key.Character c) cs plain = refl
+plain_place (key.Text t) cs plain = refl
+plain_place (key.Pointer t n) cs plain = refl
+plain_place (key.Range b m n) cs plain = refl
 
-pub kept_places : (find : CaseKey → Option ℕ) (cs ds : Cases) (x : Node) (index n : ℕ) → Places find cs → case_place cs x ≡ Some n → ds ≡ with_value cs x index → Places find ds
-kept_places find cs ds x index n p e f = record {
-  found = λ q. p.found q ∙ sym (place_kept cs x (key_value q) index n e) ∙ ap (λ c. case_place c (key_value q)) (sym f);
-}
+-- equal keys have one place
+alike_place : (cs : Cases) (q k : CaseKey) → same_case q k ≡ true → place_of cs q ≡ place_of cs k
+alike_place cs (key.Parts d m) (key.Parts f n) e =
+    let parts = and_parts (d == f) (m == n) e in
+    ap (λ g. place_of cs (key.Parts g m)) ((unsigned_Decides d f).0 parts.0) ∙ ap (λ l. place_of cs (key.Parts f l)) ((unsigned_Decides m n).0 parts.1)
+alike_place cs (key.Irregular m) (key.Irregular n) e = ap (λ l. place_of cs (key.Irregular l)) ((unsigned_Decides m n).0 e)
+alike_place cs key.Unit key.Unit e = refl
+alike_place cs (key.Boolean a) (key.Boolean b) e = ap (case_place cs) (equal_keys (key.Boolean a) (key.Boolean b) e)
+alike_place cs (key.Integer a) (key.Integer b) e = ap (case_place cs) (equal_keys (key.Integer a) (key.Integer b) e)
+alike_place cs (key.Character a) (key.Character b) e = ap (case_place cs) (equal_keys (key.Character a) (key.Character b) e)
+alike_place cs (key.Text a) (key.Text b) e = ap (case_place cs) (equal_keys (key.Text a) (key.Text b) e)
+alike_place cs (key.Pointer a m) (key.Pointer b n) e = ap (case_place cs) (equal_keys (key.Pointer a m) (key.Pointer b n) e)
+alike_place cs (key.Range a b c) (key.Range d f g) e = ap (case_place cs) (equal_keys (key.Range a b c) (key.Range d f g) e)
+alike_place cs _ _ e = absurd cc
 
 or_none : (o : Option ℕ) → o ≡ option_or o None
 or_none None = refl
 or_none (Some n) = refl
 
--- a case that is no value of the key q, at the end
-other_pushed : (cs : Cases) (x : Node) (indices : List ℕ) (q : CaseKey) → same_value x (key_value q) ≡ false → case_place cs (key_value q) ≡ case_place (node.with_case cs x indices) (key_value q)
-other_pushed cs x indices q e =
-    or_none (case_place cs (key_value q))
-    ∙ ap (λ b. option_or (case_place cs (key_value q)) (if b then Some (case_count cs) else None)) (sym e)
-    ∙ sym (place_pushed cs x (key_value q) indices)
+-- The law of a key with one more case, from what it says of keys that stand for values, and of the others.
+abbrev Law : Cases → CaseKey → CaseKey → Option ℕ → Type 0
+Law cs k q more = more ≡ option_or (place_of cs q) (if same_case q k then Some (case_count cs) else None)
 
--- a case that is the value of the key q, at the end, where there was none
-this_pushed : (cs : Cases) (x : Node) (indices : List ℕ) (q : CaseKey) → same_value x (key_value q) ≡ true → case_place cs (key_value q) ≡ None → Some (case_count cs) ≡ case_place (node.with_case cs x indices) (key_value q)
-this_pushed cs x indices q e n =
-    ap (λ o. option_or o (Some (case_count cs))) (sym n)
-    ∙ ap (λ b. option_or (case_place cs (key_value q)) (if b then Some (case_count cs) else None)) (sym e)
-    ∙ sym (place_pushed cs x (key_value q) indices)
+law_by : (cs : Cases) (x : Node) (k : CaseKey) (indices : List ℕ)
+    → ((q : CaseKey) → is_plain q ≡ true → case_place (node.with_case cs x indices) (key_value q) ≡ option_or (case_place cs (key_value q)) (if same_case q k then Some (case_count cs) else None))
+    → ((o : Option ℕ) (n : ℕ) → option_map (λ c. c.0) (numbered (with_digest o 0 (node.with_case cs x indices)) n) ≡ option_or (option_map (λ c. c.0) (numbered (with_digest o 0 cs) n)) (if same_case (parts_key o n) k then Some (case_count cs) else None))
+    → (q : CaseKey) → Law cs k q (place_of (node.with_case cs x indices) q)
+law_by cs x k indices h g (key.Parts d n) = g (Some d) n
+law_by cs x k indices h g (key.Irregular n) = g None n
+law_by cs x k indices h g key.Unit = h key.Unit refl
+law_by cs x k indices h g (key.Boolean b) = h (key.Boolean b) refl
+law_by cs x k indices h g (key.Integer n) = h (key.Integer n) refl
+law_by cs x k indices h g (key.Character c) = h (key.Character c) refl
+law_by cs x k indices h g (key.Text t) = h (key.Text t) refl
+law_by cs x k indices h g (key.Pointer t n) = h (key.Pointer t n) refl
+law_by cs x k indices h g (key.Range b m n) = h (key.Range b m n) refl
 
-pub place_added : (find more : CaseKey → Option ℕ) (cs : Cases) (x : Node) (indices : List ℕ) (key : Option CaseKey) → Places find cs → option_map key_value key ≡ plain_value x → case_place cs x ≡ None → ((q : CaseKey) → more q ≡ (if is_key key q then Some (case_count cs) else find q)) → Places more (node.with_case cs x indices)
-place_added find more cs x indices None p e n h =
-    record { found = λ q. h q ∙ p.found q ∙ other_pushed cs x indices q (no_plain x q (sym e)) }
-place_added find more cs x indices (Some k) p e n h = record { found = λ q. by q (same_case k q) refl }
+-- a key by a digest is none that stands for a value
+apart : (o : Option ℕ) (n : ℕ) (q : CaseKey) → is_plain q ≡ true → same_case (parts_key o n) q ≡ false
+apart None n (key.Irregular m) plain = absurd cc
+apart None n _ plain = refl
+apart (Some d) n (key.Parts e m) plain = absurd cc
+apart (Some d) n _ plain = refl
+
+no_digest : (x p : Node) (o : Option ℕ) → plain_value x ≡ Some p → has_digest o x ≡ false
+no_digest x p None e = ap (λ q. not (is_some q) && not (is_regular x)) e
+no_digest x p (Some d) e = ap (λ q. not (is_some q) && (is_regular x && (digest x == d))) e
+
+-- a value that is its own key
+pub plain_key : (cs : Cases) (x : Node) (k : CaseKey) → is_plain k ≡ true → Some (key_value k) ≡ plain_value x → IsKey cs x k
+plain_key cs x k plain e = record {
+  place = plain_place k cs plain ∙ sym (place_alike cs x (key_value k) (λ y. plain_right x (key_value k) y (sym e)));
+  more = λ n indices. law_by cs x k indices (λ q l. value indices q) (parts indices);
+}
   where
-    same : (q : CaseKey) → same_value x (key_value q) ≡ same_case k q
-    same q = plain_left x (key_value k) (key_value q) (sym e) ∙ keys_compared k q
+    value : (indices : List ℕ) (q : CaseKey) → case_place (node.with_case cs x indices) (key_value q) ≡ option_or (case_place cs (key_value q)) (if same_case q k then Some (case_count cs) else None)
+    value indices q =
+        let same = plain_left x (key_value k) (key_value q) (sym e) ∙ keys_compared k q plain ∙ case_symm k q in
+        place_pushed cs x (key_value q) indices
+        ∙ ap (λ b. option_or (case_place cs (key_value q)) (if b then Some (case_count cs) else None)) same
 
-    by : (q : CaseKey) (b : Bool) → same_case k q ≡ b → more q ≡ case_place (node.with_case cs x indices) (key_value q)
-    by q true f =
-        let absent = ap (case_place cs) (sym (equal_keys k q f)) ∙ sym (place_alike cs x (key_value k) (λ y. plain_right x (key_value k) y (sym e))) ∙ n in
-        h q ∙ ap (λ b. if b then Some (case_count cs) else find q) f ∙ this_pushed cs x indices q (same q ∙ f) absent
-    by q false f =
-        h q ∙ ap (λ b. if b then Some (case_count cs) else find q) f ∙ p.found q ∙ other_pushed cs x indices q (same q ∙ f)
+    parts : (indices : List ℕ) (o : Option ℕ) (m : ℕ) → option_map (λ c. c.0) (numbered (with_digest o 0 (node.with_case cs x indices)) m) ≡ option_or (option_map (λ c. c.0) (numbered (with_digest o 0 cs) m)) (if same_case (parts_key o m) k then Some (case_count cs) else None)
+    parts indices o m =
+        let before = option_map (λ c. c.0) (numbered (with_digest o 0 cs) m) in
+        ap (λ l. option_map (λ c. c.0) (numbered l m)) (digests_pushed cs x indices o 0)
+        ∙ ap (λ b. option_map (λ c. c.0) (numbered (with_digest o 0 cs ++ one_at b (0 + case_count cs) x) m)) (no_digest x (key_value k) o (sym e))
+        ∙ ap (λ l. option_map (λ c. c.0) (numbered l m)) (append-nil (with_digest o 0 cs))
+        ∙ or_none before
+        ∙ ap (λ b. option_or before (if b then Some (case_count cs) else None)) (sym (apart o m k plain))
 
-pub unchanged : (find : CaseKey → Option ℕ) (q : CaseKey) (place : ℕ) → find q ≡ (if is_key None q then Some place else find q)
-unchanged find q place = refl
+-- has_digest, over what it asks of the value
+abbrev has_by : Option Node → Bool → ℕ → Option ℕ → Bool
+has_by p r d None = not (is_some p) && not r
+has_by p r d (Some f) = not (is_some p) && (r && (d == f))
+
+has_by_digest : (o : Option ℕ) (x : Node) → has_digest o x ≡ has_by (plain_value x) (is_regular x) (digest x) o
+has_by_digest None x = refl
+has_by_digest (Some d) x = refl
+
+-- the key of a value by its digest, and whether a value has a digest
+digest_case : (p : Option Node) (r : Bool) (d : ℕ) (o : Option ℕ) (m n : ℕ) → p ≡ None → same_case (parts_key (if r then Some d else None) m) (parts_key o n) ≡ (has_by p r d o && (m == n))
+digest_case (Some q) r d o m n e = absurd cc
+digest_case None true d None m n e = refl
+digest_case None true d (Some f) m n e = refl
+digest_case None false d None m n e = refl
+digest_case None false d (Some f) m n e = refl
+
+digest_is : (p : Option Node) (r : Bool) (d : ℕ) (o : Option ℕ) → has_by p r d o ≡ true → o ≡ (if r then Some d else None)
+digest_is (Some q) r d None e = absurd cc
+digest_is (Some q) r d (Some f) e = absurd cc
+digest_is None true d None e = absurd cc
+digest_is None true d (Some f) e = ap Some (sym ((unsigned_Decides d f).0 e))
+digest_is None false d None e = refl
+digest_is None false d (Some f) e = absurd cc
+
+-- a value that has no key of its own, where no case is equal to it
+pub parts_is_key : (cs : Cases) (x : Node) (m : ℕ) → plain_value x ≡ None → case_place cs x ≡ None → m ≡ length (with_digest (digest_of x) 0 cs) → IsKey cs x (parts_key (digest_of x) m)
+parts_is_key cs x m none absent is = record {
+  place = by_digest (digest_of x) m ∙ ap (option_map (λ c. c.0)) (past_numbers (with_digest (digest_of x) 0 cs) m (omega (arith, is))) ∙ sym absent;
+  more = λ n indices. law_by cs x (parts_key (digest_of x) m) indices (value indices) (parts indices);
+}
+  where
+    by_digest : (o : Option ℕ) (n : ℕ) → place_of cs (parts_key o n) ≡ option_map (λ c. c.0) (numbered (with_digest o 0 cs) n)
+    by_digest None n = refl
+    by_digest (Some d) n = refl
+
+    value : (indices : List ℕ) (q : CaseKey) → is_plain q ≡ true → case_place (node.with_case cs x indices) (key_value q) ≡ option_or (case_place cs (key_value q)) (if same_case q (parts_key (digest_of x) m) then Some (case_count cs) else None)
+    value indices q plain =
+        place_pushed cs x (key_value q) indices
+        ∙ ap (λ b. option_or (case_place cs (key_value q)) (if b then Some (case_count cs) else None)) (no_plain x q none ∙ sym (apart (digest_of x) m q plain) ∙ case_symm (parts_key (digest_of x) m) q)
+
+    first : (o : Option (ℕ × Node)) (b : Bool) → option_map (λ c. c.0) (option_or o (if b then Some (placed (0 + case_count cs) x) else None)) ≡ option_or (option_map (λ c. c.0) o) (if b then Some (case_count cs) else None)
+    first None true = ap Some (omega arith)
+    first None false = refl
+    first (Some c) b = refl
+
+    by : (o : Option ℕ) (n : ℕ) (b : Bool) → has_digest o x ≡ b → option_map (λ c. c.0) (numbered (with_digest o 0 cs ++ one_at b (0 + case_count cs) x) n) ≡ option_or (option_map (λ c. c.0) (numbered (with_digest o 0 cs) n)) (if b && (m == n) then Some (case_count cs) else None)
+    by o n true e =
+        let many : length (with_digest o 0 cs) ≡ m = ap (λ d. length (with_digest d 0 cs)) (digest_is (plain_value x) (is_regular x) (digest x) o (sym (has_by_digest o x) ∙ e)) ∙ sym is in
+        ap (option_map (λ c. c.0)) (numbered_pushed (with_digest o 0 cs) (placed (0 + case_count cs) x) n)
+        ∙ first (numbered (with_digest o 0 cs) n) (length (with_digest o 0 cs) == n)
+        ∙ ap (λ l. option_or (option_map (λ c. c.0) (numbered (with_digest o 0 cs) n)) (if l == n then Some (case_count cs) else None)) many
+    by o n false e = ap (λ l. option_map (λ c. c.0) (numbered l n)) (append-nil (with_digest o 0 cs)) ∙ or_none (option_map (λ c. c.0) (numbered (with_digest o 0 cs) n))
+
+    parts : (indices : List ℕ) (o : Option ℕ) (n : ℕ) → option_map (λ c. c.0) (numbered (with_digest o 0 (node.with_case cs x indices)) n) ≡ option_or (option_map (λ c. c.0) (numbered (with_digest o 0 cs) n)) (if same_case (parts_key o n) (parts_key (digest_of x) m) then Some (case_count cs) else None)
+    parts indices o n =
+        let before = option_map (λ c. c.0) (numbered (with_digest o 0 cs) n) in
+        ap (λ l. option_map (λ c. c.0) (numbered l n)) (digests_pushed cs x indices o 0)
+        ∙ by o n (has_digest o x) refl
+        ∙ ap (λ b. option_or before (if b && (m == n) then Some (case_count cs) else None)) (has_by_digest o x)
+        ∙ ap (λ b. option_or before (if b then Some (case_count cs) else None)) (sym (digest_case (plain_value x) (is_regular x) (digest x) o m n none) ∙ case_symm (parts_key (digest_of x) m) (parts_key o n))
+
+-- ---- cases and their keys
+
+pub no_keys : (keys : List CaseKey) → length keys ≡ 0 → Keyed keys node.no_cases
+no_keys [] e = record { found = none; count = refl }
+  where
+    none : (q : CaseKey) → None ≡ place_of node.no_cases q
+    none (key.Parts d n) = refl
+    none (key.Irregular n) = refl
+    none key.Unit = refl
+    none (key.Boolean b) = refl
+    none (key.Integer n) = refl
+    none (key.Character c) = refl
+    none (key.Text t) = refl
+    none (key.Pointer t n) = refl
+    none (key.Range b m n) = refl
+no_keys (k ∷ keys) e = absurd (omega (arith, e))
+
+-- how many cases there are, where a value is made to lead to one more arm
+kept_count : (cs : Cases) (x : Node) (index n : ℕ) → case_place cs x ≡ Some n → case_count (with_value cs x index) ≡ case_count cs
+kept_count node.no_cases x index n e = absurd cc
+kept_count (node.one_case z more cs) x index n e = by (same_value z x) (case_place cs x) (λ m f. kept_count cs x index m f) e
+  where
+    by : (b : Bool) (o : Option ℕ) → ((m : ℕ) → o ≡ Some m → case_count (with_value cs x index) ≡ case_count cs) → (if b then Some 0 else option_map (λ n. n + 1) o) ≡ Some n → case_count (if b then node.one_case z (more ++ index ∷ []) cs else node.one_case z more (with_value cs x index)) ≡ case_count cs + 1
+    by true o h e = refl
+    by false None h e = absurd cc
+    by false (Some m) h e = ap (λ k. k + 1) (h m refl)
+
+pub kept_keys : (keys : List CaseKey) (cs ds : Cases) (x : Node) (index n : ℕ) → Keyed keys cs → case_place cs x ≡ Some n → ds ≡ with_value cs x index → Keyed keys ds
+kept_keys keys cs ds x index n p e f = record {
+  found = λ q. p.found q ∙ sym (place_by cs (with_value cs x index) (λ y. place_kept cs x y index n e) (λ o. digests_kept cs x index n o 0 e) q)
+      ∙ ap (λ c. place_of c q) (sym f);
+  count = p.count ∙ sym (kept_count cs x index n e) ∙ ap case_count (sym f);
+}
+
+pushed_count : (cs : Cases) (x : Node) (indices : List ℕ) → case_count (node.with_case cs x indices) ≡ case_count cs + 1
+pushed_count node.no_cases x indices = refl
+pushed_count (node.one_case z more cs) x indices = ap (λ k. k + 1) (pushed_count cs x indices)
 
 pub count_cases : (cs : List SwitchCase) → case_count (case_views cs) ≡ length cs
 count_cases [] = refl
@@ -292,41 +267,125 @@ count_cases (c ∷ cs) = omega (arith, count_cases cs)
 pub inside_cases : (cs : List SwitchCase) (x : Node) (n : ℕ) → case_place (case_views cs) x ≡ Some n → n < length cs
 inside_cases cs x n e = omega (arith, place_inside (case_views cs) x n e, count_cases cs)
 
-pub added_places : (find more : CaseKey → Option ℕ) (cs : List SwitchCase) (ds : Cases) (x : Node) (indices : List ℕ) (key : Option CaseKey) (n : ℕ) → Places find (case_views cs) → option_map key_value key ≡ plain_value x → case_place (case_views cs) x ≡ None → n ≡ length cs → ds ≡ node.with_case (case_views cs) x indices → ((q : CaseKey) → more q ≡ (if is_key key q then Some n else find q)) → Places more ds
-added_places find more cs ds x indices key n p k new len e h = record {
-  found = λ q. all.found q ∙ ap (λ c. case_place c (key_value q)) (sym e);
-}
+-- what the list of keys is after the key of a value was added, unless it was there
+abbrev pub Adds : (keys more : List CaseKey) → CaseKey → Option ℕ → Type 0
+Adds keys more k place = (place ≡ place_in keys k)
+    × ((q : CaseKey) → place_in more q ≡ option_or (place_in keys q) (if same_case q k then Some (length keys) else None))
+    × (length more ≡ length keys + (if is_some place then 0 else 1))
+
+-- With the key of a value, and the value as one more case or leading to one more arm, each case has its key.
+pub keyed : (keys more : List CaseKey) (cs ds : Cases) (x : Node) (k : CaseKey) (index : ℕ) (place : Option ℕ) → Keyed keys cs → IsKey cs x k → Adds keys more k place → ds ≡ with_value cs x index → Keyed more ds
+keyed keys more cs ds x k index None p own a e =
+    let absent = sym own.place ∙ sym (p.found k) ∙ sym a.0 in
+    let pushed = e ∙ place_none cs x index absent in
+    record {
+      found = λ q. a.1 q
+          ∙ ap (λ o. option_or o (if same_case q k then Some (length keys) else None)) (p.found q)
+          ∙ ap (λ n. option_or (place_of cs q) (if same_case q k then Some n else None)) p.count
+          ∙ sym (own.more absent (index ∷ []) q)
+          ∙ ap (λ c. place_of c q) (sym pushed);
+      count = a.2 ∙ ap (λ n. n + 1) p.count ∙ sym (pushed_count cs x (index ∷ [])) ∙ ap case_count (sym pushed);
+    }
+keyed keys more cs ds x k index (Some n) p own a e =
+    let there = sym own.place ∙ sym (p.found k) ∙ sym a.0 in
+    let kept = kept_keys keys cs ds x index n p there e in
+    let len : length more ≡ length keys = a.2 ∙ omega arith in
+    record {
+      found = λ q. a.1 q ∙ same q (same_case q k) refl ∙ kept.found q;
+      count = len ∙ kept.count;
+    }
   where
-    count : n ≡ case_count (case_views cs)
-    count = len ∙ sym (count_cases cs)
+    same : (q : CaseKey) (b : Bool) → same_case q k ≡ b → option_or (place_in keys q) (if b then Some (length keys) else None) ≡ place_in keys q
+    same q false f = sym (or_none (place_in keys q))
+    same q true f = some_or (place_in keys q) (p.found q ∙ alike_place cs q k f ∙ sym (p.found k) ∙ sym a.0)
+      where
+        some_or : (o : Option ℕ) → o ≡ Some n → option_or o (Some (length keys)) ≡ o
+        some_or None e = absurd cc
+        some_or (Some m) e = refl
 
-    all : Places more (node.with_case (case_views cs) x indices)
-    all = place_added find more (case_views cs) x indices key p k new (λ q. h q ∙ ap (λ m. if is_key key q then Some m else find q) count)
+-- ---- a list of keys, as the library sees it
 
--- ---- the derived equality of keys
+any_in : (keys : List CaseKey) (q : CaseKey) → list_any (eq-value.it q) keys ≡ is_some (place_in keys q)
+any_in [] q = refl
+any_in (k ∷ keys) q = ap (λ b. b || list_any (eq-value.it q) keys) (derived q k) ∙ by (same_case q k) (any_in keys q)
+  where
+    later : (o : Option ℕ) → is_some o ≡ is_some (option_map (λ n. n + 1) o)
+    later None = refl
+    later (Some n) = refl
 
-same_flags : (a b : Bool) → beq a b ≡ same_boolean a b
-same_flags true true = refl
-same_flags true false = refl
-same_flags false true = refl
-same_flags false false = refl
+    by : (b : Bool) → list_any (eq-value.it q) keys ≡ is_some (place_in keys q) → (b || list_any (eq-value.it q) keys) ≡ is_some (if b then Some 0 else option_map (λ n. n + 1) (place_in keys q))
+    by true h = refl
+    by false h = h ∙ later (place_in keys q)
 
-pub derived : (k q : CaseKey) → eq-value.it k q ≡ same_case k q
-derived key.Unit key.Unit = refl
-derived (key.Boolean a) (key.Boolean b) = same_flags a b
-derived (key.Integer a) (key.Integer b) = refl
-derived (key.Character a) (key.Character b) = refl
-derived (key.Text a) (key.Text b) = refl
-derived (key.Pointer a m) (key.Pointer b n) = refl
-derived (key.Range a b c) (key.Range d e f) = ap (λ x. x && (int_eq b e && int_eq c f)) (same_flags a d)
-derived _ _ = refl
+from_in : (keys : List CaseKey) (q : CaseKey) (i : ℕ) → position_from (eq-value.it q) i keys ≡ option_map (λ n. n + i) (place_in keys q)
+from_in [] q i = refl
+from_in (k ∷ keys) q i = ap (λ b. cond b (Some i) (position_from (eq-value.it q) (i + 1) keys)) (derived q k) ∙ by (same_case q k) (from_in keys q (i + 1))
+  where
+    later : (o : Option ℕ) → option_map (λ n. n + (i + 1)) o ≡ option_map (λ n. n + i) (option_map (λ n. n + 1) o)
+    later None = refl
+    later (Some n) = ap Some (omega arith)
 
-pub derived_lookup : (q : CaseKey) (es : List (CaseKey × ℕ)) → lookup (same_case q) es ≡ lookup (eq-value.it q) es
-derived_lookup q [] = refl
-derived_lookup q (e ∷ es) =
-    ap (λ b. cond b (Some e.1) (lookup (same_case q) es)) (sym (derived q e.0))
-    ∙ ap (cond (eq-value.it q e.0) (Some e.1)) (derived_lookup q es)
+    by : (b : Bool) → position_from (eq-value.it q) (i + 1) keys ≡ option_map (λ n. n + (i + 1)) (place_in keys q) → cond b (Some i) (position_from (eq-value.it q) (i + 1) keys) ≡ option_map (λ n. n + i) (if b then Some 0 else option_map (λ n. n + 1) (place_in keys q))
+    by true h = ap Some (omega arith)
+    by false h = h ∙ later (place_in keys q)
 
-pub ruleset by_key = (found_by_key, inside_cases)
+pub position_in : (keys : List CaseKey) (q : CaseKey) → position (eq-value.it q) keys ≡ place_in keys q
+position_in keys q = position_from-zero (eq-value.it q) keys ∙ from_in keys q 0 ∙ same (place_in keys q)
+  where
+    same : (o : Option ℕ) → option_map (λ n. n + 0) o ≡ o
+    same None = refl
+    same (Some n) = ap Some (omega arith)
 
-pub ruleset pushed = (place_none, case_views_push)
+pushed_in : (keys : List CaseKey) (k q : CaseKey) → place_in (keys ++ k ∷ []) q ≡ option_or (place_in keys q) (if same_case q k then Some (length keys) else None)
+pushed_in [] k q = by (same_case q k) (Some 0)
+  where
+    by : (b : Bool) (o : Option ℕ) → (if b then o else None) ≡ option_or None (if b then o else None)
+    by true o = refl
+    by false o = refl
+pushed_in (l ∷ keys) k q = by (same_case q l) (place_in keys q) (same_case q k) (pushed_in keys k q)
+  where
+    by : (b : Bool) (o : Option ℕ) (same : Bool) → place_in (keys ++ k ∷ []) q ≡ option_or o (if same then Some (length keys) else None) → (if b then Some 0 else option_map (λ n. n + 1) (place_in (keys ++ k ∷ []) q)) ≡ option_or (if b then Some 0 else option_map (λ n. n + 1) o) (if same then Some (length (l ∷ keys)) else None)
+    by true o same h = refl
+    by false None true h = ap (option_map (λ n. n + 1)) h ∙ ap Some (omega arith)
+    by false None false h = ap (option_map (λ n. n + 1)) h
+    by false (Some m) same h = ap (option_map (λ n. n + 1)) h
+
+no_place : (o : Option ℕ) → is_some o ≡ false → None ≡ o
+no_place None e = refl
+no_place (Some n) e = absurd cc
+
+pub added_new : (keys more : List CaseKey) (k : CaseKey) (is_new : Bool) → is_new ≡ true → is_new ≡ not (list_any (eq-value.it k) keys) → more ≡ insert_key eq-value.it keys k → Adds keys more k None
+added_new keys more k is_new e f g = by (list_any (eq-value.it k) keys) refl (sym e ∙ f) g
+  where
+    by : (b : Bool) → list_any (eq-value.it k) keys ≡ b → true ≡ not b → more ≡ (if b then keys else keys ++ k ∷ []) → Adds keys more k None
+    by true h n m = absurd (true≢false n)
+    by false h n m = (
+      no_place (place_in keys k) (sym (any_in keys k) ∙ h),
+      λ q. ap (λ l. place_in l q) m ∙ pushed_in keys k q,
+      ap length m ∙ length-append keys (k ∷ []),
+    )
+
+pub added_old : (keys more : List CaseKey) (k : CaseKey) (is_new : Bool) (place : ℕ) → is_new ≡ false → is_new ≡ not (list_any (eq-value.it k) keys) → more ≡ insert_key eq-value.it keys k → place ≡ position_or_len (eq-value.it k) keys → ((q : CaseKey) → list_any (eq-value.it q) more ≡ cond (eq-value.it k q) true (list_any (eq-value.it q) keys)) → Adds keys more k (Some place)
+added_old keys more k is_new place e f g at has = by (list_any (eq-value.it k) keys) refl (sym e ∙ f) g
+  where
+    found : (b : Bool) (o : Option ℕ) → cond b (Some place) None ≡ o → is_some o ≡ true → Some place ≡ o
+    found true o h s = h
+    found false o h s = absurd (true≢false (sym s ∙ ap is_some (sym h)))
+
+    stays : (o : Option ℕ) → is_some o ≡ true → o ≡ option_or o (Some (length keys))
+    stays None s = absurd cc
+    stays (Some n) s = refl
+
+    law : more ≡ keys → (q : CaseKey) (b : Bool) → same_case q k ≡ b → place_in keys q ≡ option_or (place_in keys q) (if b then Some (length keys) else None)
+    law m q false h = or_none (place_in keys q)
+    law m q true h =
+        let there = ap (list_any (eq-value.it q)) (sym m) ∙ has q ∙ ap (λ b. cond b true (list_any (eq-value.it q) keys)) (derived k q ∙ case_symm k q ∙ h) in
+        stays (place_in keys q) (sym (any_in keys q) ∙ there)
+
+    by : (b : Bool) → list_any (eq-value.it k) keys ≡ b → false ≡ not b → more ≡ (if b then keys else keys ++ k ∷ []) → Adds keys more k (Some place)
+    by false h n m = absurd (true≢false (sym n))
+    by true h n m = (
+      found (nat_lt place (length keys)) (place_in keys k) (ap (λ i. cond (nat_lt i (length keys)) (Some i) None) at ∙ position_in keys k) (sym (any_in keys k) ∙ h),
+      λ q. ap (λ l. place_in l q) m ∙ law m q (same_case q k) refl,
+      ap length m ∙ omega arith,
+    )

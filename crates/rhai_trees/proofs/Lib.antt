@@ -2,7 +2,10 @@ pub mod SignLemmas
 pub mod OperatorLemmas
 pub mod ChainLemmas
 pub mod LinkedLemmas
+pub mod DigestLemmas
+pub mod CaseKeyLemmas
 pub mod CaseIndexLemmas
+pub mod CaseSearchLemmas
 pub mod StatementLemmas
 pub mod StringLemmas
 pub mod SwitchLemmas

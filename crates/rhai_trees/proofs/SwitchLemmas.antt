@@ -1,11 +1,13 @@
--- The values of `switch` cases, as the code compares them, and arms.
-use Rattle.std.proofs.Common.{◌≡◌, ◌∙◌, ◌<◌, ◌≤◌, ℕ, ℤ, ◌+◌, ◌==◌, Bool, true, false, List, [], ◌∷◌, ◌&&◌, Option, Some, None, ◌||◌, ◌++◌, not, drop, get_or, suc, zero, slice_set, unwrap_or, length, refl, sym, ap, arith, if◌then◌else◌}
+-- Case values, as the code compares them, and arms.
+use Rattle.std.proofs.Common.{◌≡◌, ◌∙◌, ◌<◌, ◌≤◌, ℕ, ℤ, ◌+◌, ◌-◌, ◌==◌, Bool, true, false, List, [], ◌∷◌, ◌&&◌, Option, Some, None, ◌||◌, ◌++◌, not, drop, get_or, map, suc, zero, slice_set, unwrap_or, length, refl, sym, ap, arith, if◌then◌else◌}
 use Rattle.std.proofs.Math.Dec.{eqb-suc-zero}
 use Rattle.std.proofs.Math.Seq.{drop-cons}
-use Rattle.std.proofs.lemmas.List.{drop_all}
+use Rattle.std.proofs.lemmas.List.{drop_all, length-append}
 use Rattle.std.specs.Option.{option_or}
 use Rattle.std.specs.Prelude.{option_map}
 use Rattle.std.specs.Rc.{rc_str_bytes}
+use Rattle.std.specs.declared.alloc.Global.{Global}
+use Rattle.std.specs.declared.rc.RcStr.{RcStr}
 use Rattle.std.proofs.lemmas.Cmp.{nat_list_eq_equiv}
 use Rattle.rhai_lower.specs.Positions.{nowhere}
 use Rattle.rhai_lower.specs.Texts.{Text, same_text}
@@ -25,7 +27,9 @@ use Rattle.rhai_lower.specs.declared.ast.Ident.{Ident}
 use Rattle.rhai_lower.specs.declared.position.Position.{Position}
 use Rattle.rhai_grammar.specs.CaseValues.{IntegerRange, inclusion, is_empty_range, property_value, range_of, range_over, same_properties, same_range, same_value, same_values}
 use Rattle.rhai_grammar.specs.Literals.{has_key, property_count}
-use Rattle.rhai_trees.specs.Switches.{case_place, collected_view, first_fault, found_property, is_full_range, items_in, properties_in, value_fault}
+use Rattle.rhai_lower.specs.LatestNames.{latest_name}
+use Rattle.rhai_lower.proofs.NameLemmas.{latest-push}
+use Rattle.rhai_trees.specs.Switches.{case_place, collected_view, first_fault, found_property, is_full_range, items_in, names_backwards, properties_in, value_fault}
 
 -- ---- ranges
 
@@ -142,6 +146,61 @@ present_value name x n ps b e f =
     ap (λ h. h && same_value x (property_value name ps)) (key_found name ps n (sym e))
     ∙ ap (same_value x) (value_found name ps n (sym e))
     ∙ sym f
+
+-- ---- names from the last to the first
+
+backwards_count : (ps : List (Ident × Expr)) → length (names_backwards (property_views ps)) ≡ length ps
+backwards_count [] = refl
+backwards_count (p ∷ ps) = length-append (names_backwards (property_views ps)) (rc_str_bytes p.0.name ∷ []) ∙ omega (arith, backwards_count ps)
+
+-- with one more name, which stands before the others
+pub backwards_more : (ps : List (Ident × Expr)) (i : ℕ) (x : Ident × Expr) → i < length ps → names_backwards (property_views (drop i ps)) ≡ names_backwards (property_views (drop (i + 1) ps)) ++ rc_str_bytes (get_or ps i x).0.name ∷ []
+backwards_more ps i x l =
+    let next : suc i ≡ i + 1 = omega arith in
+    ap (λ rest. names_backwards (property_views rest)) (drop-cons ps i x l)
+    ∙ ap (λ j. names_backwards (property_views (drop j ps)) ++ rc_str_bytes (get_or ps i x).0.name ∷ []) next
+
+pub back_none : (name : Text) (ps : Properties) → latest_name name (names_backwards ps) ≡ None → found_property name ps ≡ None
+back_none name no_properties e = refl
+back_none name (one_property key at x ps) e = by (same_text key name) (sym (latest-push name (names_backwards ps) key) ∙ e) (back_none name ps)
+  where
+    by : (b : Bool) → (if b then Some (length (names_backwards ps)) else latest_name name (names_backwards ps)) ≡ None → (latest_name name (names_backwards ps) ≡ None → found_property name ps ≡ None) → (if b then Some x else found_property name ps) ≡ None
+    by true e h = absurd cc
+    by false e h = h e
+
+pub back_some : (name : Text) (ps : List (Ident × Expr)) (i : ℕ) (d : Ident × Expr) → latest_name name (names_backwards (property_views ps)) ≡ Some i → (i < length ps) × (Some (view (get_or ps (length ps - 1 - i) d).1) ≡ found_property name (property_views ps))
+unfolding latest_name
+back_some name [] i d e = absurd (no_name e)
+  where
+    no_name : latest_name name [] ≡ Some i → ⊥
+    no_name e = absurd cc
+back_some name (p ∷ ps) i d e = by (same_text (rc_str_bytes p.0.name) name) (sym (latest-push name (names_backwards (property_views ps)) (rc_str_bytes p.0.name)) ∙ e) (back_some name ps i d)
+  where
+    first : (j : ℕ) → j ≡ 0 → Some (view (get_or (p ∷ ps) j d).1) ≡ Some (view p.1)
+    first j z = ap (λ k. Some (view (get_or (p ∷ ps) k d).1)) z
+
+    later : (j k : ℕ) → j ≡ suc k → Some (view (get_or (p ∷ ps) j d).1) ≡ Some (view (get_or ps k d).1)
+    later j k z = ap (λ m. Some (view (get_or (p ∷ ps) m d).1)) z
+
+    by : (b : Bool) → (if b then Some (length (names_backwards (property_views ps))) else latest_name name (names_backwards (property_views ps))) ≡ Some i
+        → (latest_name name (names_backwards (property_views ps)) ≡ Some i → (i < length ps) × (Some (view (get_or ps (length ps - 1 - i) d).1) ≡ found_property name (property_views ps)))
+        → (i < suc (length ps)) × (Some (view (get_or (p ∷ ps) (suc (length ps) - 1 - i) d).1) ≡ (if b then Some (view p.1) else found_property name (property_views ps)))
+    by true e h =
+        let at : i ≡ length ps = ap (λ o. unwrap_or o i) (sym e) ∙ backwards_count ps in
+        (omega (arith, at), first (suc (length ps) - 1 - i) (omega (arith, at)))
+    by false e h =
+        let rest = h e in
+        (omega (arith, rest.0), later (suc (length ps) - 1 - i) (length ps - 1 - i) (omega (arith, rest.0)) ∙ rest.1)
+
+pub back_inside : (name : Text) (ps : List (Ident × Expr)) (i : ℕ) → latest_name name (names_backwards (property_views ps)) ≡ Some i → i < length ps
+unfolding latest_name
+back_inside name [] i e = absurd cc
+back_inside name (p ∷ ps) i e = (back_some name (p ∷ ps) i p e).0
+
+-- what a list of these names answers
+pub asked_backwards : (name text : Text) (names : List (RcStr Global)) (ps : Properties) (o p : Option ℕ) → text ≡ name → o ≡ latest_name text (map rc_str_bytes names) → map rc_str_bytes names ≡ names_backwards ps → o ≡ p → latest_name name (names_backwards ps) ≡ p
+asked_backwards name text names ps o p same asked is e =
+    ap (latest_name name) (sym is) ∙ ap (λ t. latest_name t (map rc_str_bytes names)) (sym same) ∙ sym asked ∙ e
 
 -- the properties from an index on, by the one at the index
 pub properties_by : (ps : List (Ident × Expr)) (x : Ident × Expr) (i : ℕ) (others : Properties) (all found : Bool) → x ≡ get_or ps i x → i < length ps → same_properties (property_views (drop i ps)) others ≡ all → (has_key (rc_str_bytes x.0.name) others && same_value (view x.1) (property_value (rc_str_bytes x.0.name) others)) ≡ found → all ≡ (found && same_properties (property_views (drop (i + 1) ps)) others)

@@ -1,7 +1,6 @@
 -- The arms of a `switch` that the readers hand on.
-use Rattle.indexmap.specs.IndexMap.{get}
 use Rattle.rhai_grammar.specs.Switches.{Collected}
-use Rattle.rhai_trees.specs.CaseKeys.{Places, same_case}
+use Rattle.rhai_trees.specs.CaseKeys.{Keyed}
 use Rattle.rhai_trees.specs.Switches.{collected_view}
 use Rattle.rhai_trees.specs.declared.arms.Arms.{Arms}
 
@@ -9,6 +8,6 @@ use Rattle.rhai_trees.specs.declared.arms.Arms.{Arms}
 abbrev pub arms_view : Arms → Collected
 arms_view x = collected_view x.collected
 
--- The index knows the place of each case whose value has a key.
+-- Each case has a key in the index.
 abbrev pub Indexed : Arms → Type 0
-Indexed x = Places (get same_case x.places) (arms_view x).cases
+Indexed x = Keyed x.keys.keys (arms_view x).cases

@@ -1,5 +1,6 @@
--- The arms of a `switch` as the code has them, and what its helpers answer.
-use Rattle.std.specs.Prelude.{◌≡◌, ℕ, ◌+◌, Bool, true, false, ◌&&◌, ◌||◌, not, Option, Some, None, option_map, []}
+-- Arms of `switch` in the code, and what its helpers answer.
+use Rattle.std.specs.Prelude.{◌≡◌, ℕ, ◌+◌, Bool, true, false, ◌&&◌, ◌||◌, not, Option, Some, None, option_map, List}
+use Rattle.std.specs.Prelude.{[], ◌∷◌, ◌++◌}
 use Rattle.std.specs.Prelude.{if◌then◌else◌, pos, refl, codes}
 use Rattle.std.specs.Option.{option_or}
 use Rattle.rhai_lower.specs.Texts.{Text, same_text}
@@ -50,6 +51,11 @@ abbrev pub found_property : Text → Properties → Option Node
 found_property name no_properties = None
 found_property name (one_property key at x ps) = if same_text key name then Some x else found_property name ps
 
+-- the names of properties, from the last to the first
+abbrev pub names_backwards : Properties → List Text
+names_backwards no_properties = []
+names_backwards (one_property key at x ps) = names_backwards ps ++ key ∷ []
+
 -- where the value is among the cases that is equal to this one
 abbrev pub case_place : Cases → Node → Option ℕ
 case_place node.no_cases x = None
@@ -75,10 +81,12 @@ first_fault ranged no_nodes = None
 first_fault ranged (one_node x xs) =
     option_or (value_fault ranged x) (first_fault (ranged || is_full_range (range_of x)) xs)
 
--- The number 1 is the value of the first case; after a range it is refused.
+-- The number 1 is the value of the first case; after a range it is refused. `b` stands after `a`.
 abbrev example_one : (column : ℕ) → Node
 example_one column = node.integer (pos 1) (place 1 column)
 
 example : (case_place (node.one_case (example_one 1) [] node.no_cases) (example_one 9) ≡ Some 0)
     × (value_fault true (example_one 9) ≡ Some (refusal cause.WrongSwitchIntegerCase (place 1 9)))
-example = (refl, refl)
+    × (names_backwards (one_property (codes "a") (place 1 3) (example_one 6)
+    (one_property (codes "b") (place 1 9) (example_one 12) no_properties)) ≡ codes "b" ∷ codes "a" ∷ [])
+example = (refl, refl, refl)

@@ -1,4 +1,4 @@
--- What the types of this crate's code represent, and parts of what its helpers return.
+-- What types of the code represent, and parts of what its helpers return.
 use Rattle.std.specs.Prelude.{◌≡◌, ℕ, ℤ, pos, false, [], Option, Some, None, Result, Ok, Err, not, if◌then◌else◌}
 use Rattle.std.specs.Prelude.{refl}
 use Rattle.std.specs.Prelude.{neg_ℤ}

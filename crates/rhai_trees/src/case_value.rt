@@ -1,6 +1,6 @@
 //! Values of `switch` cases: ranges, and equality. It says which ranges they are, and when two are equal.
 
-ghost use Rattle.std.specs.Prelude.{◌≡◌, option_map};
+ghost use Rattle.std.specs.Prelude.{◌≡◌, IfOk, map, option_map};
 ghost use Rattle.std.specs.Rc.{rc_str_bytes};
 ghost use Rattle.rhai_lower.specs.Lexemes.{lexeme};
 ghost use Rattle.rhai_lower.specs.Nodes.{boolean, character, integer, pointer, string, unit};
@@ -9,9 +9,10 @@ ghost use Rattle.rhai_lower.specs.View.{property_views, view, views};
 ghost use Rattle.rhai_grammar.specs.CaseValues.{inclusion, is_empty_range, range_end, range_of, range_over};
 ghost use Rattle.rhai_grammar.specs.CaseValues.{range_start};
 ghost use Rattle.rhai_grammar.specs.CaseValues.{same_properties, same_range, same_value, same_values};
-ghost use Rattle.rhai_trees.specs.Switches.{found_property, items_in, properties_in, range_view};
+ghost use Rattle.rhai_trees.specs.Switches.{found_property, items_in, names_backwards, properties_in, range_view};
 
-use rhai_lower::{Expr, Ident, Token};
+use rhai_lower::{Expr, Ident, NamedList, Token};
+use std::alloc::{AllocError, Global};
 use std::rc::RcStr;
 
 /// A range of integers.
@@ -197,78 +198,106 @@ fn properties_in(expr: &Expr) -> Option<&[(Ident, Expr)]>
     }
 }
 
-// The value of the first property with this name, if there is one.
-fn found_property<'a>(name: &RcStr, properties: &'a [(Ident, Expr)]) -> Option<&'a Expr>
+// The names of these properties, from the last to the first. The error is that there is no memory for them.
+fn names_backwards(
+    alloc: Global,
+    properties: &[(Ident, Expr)],
+) -> Result<NamedList<RcStr>, AllocError>
+    ensures { IfOk result (λ names. map rc_str_bytes names ≡ names_backwards (property_views properties.now)) }
+{
+    let mut names: NamedList<RcStr> = NamedList::new(alloc);
+    for i in (0..properties.len()).rev() {
+        names.push(properties[i].0.name.clone()?)?;
+    }
+    Ok(names)
+}
+
+// The value of the first property with this name, if there is one. `names` are the names of the properties, from the
+// last to the first.
+fn found_property<'a>(
+    name: &RcStr,
+    names: &NamedList<RcStr>,
+    properties: &'a [(Ident, Expr)],
+) -> Option<&'a Expr>
+    requires { map rc_str_bytes names.now ≡ names_backwards (property_views properties.now) }
     ensures { option_map (λ value. view value.now) result
         ≡ found_property (rc_str_bytes name.now) (property_views properties.now) }
 {
-    for property in properties {
-        if property.0.name.as_str() == name.as_str() {
-            return Some(&property.1);
-        }
+    match names.latest(name) {
+        Some(index) => Some(&properties[properties.len() - 1 - index].1),
+        None => None,
     }
-    None
 }
 
 /// Whether two literal values are equal, whatever their positions; object maps are so whatever the order of their
-/// properties. Does not allocate.
+/// properties. The time grows with the values, not with their square. The error is that there is no memory to find out.
 #[cycle(values)]
 #[tactic(auto, using(rhai_lower::proofs::Views::view_map, crate::proofs::SwitchLemmas::values))]
-pub fn same_value(left: &Expr, right: &Expr) -> bool
-    ensures { result ≡ same_value (view left.now) (view right.now) }
+pub fn same_value(alloc: Global, left: &Expr, right: &Expr) -> Result<bool, AllocError>
+    ensures { IfOk result (λ b. b ≡ same_value (view left.now) (view right.now)) }
 {
     match left {
-        Expr::Unit(_) => is_unit(right),
-        Expr::BoolConstant(value, _) => is_boolean(right, *value),
-        Expr::IntegerConstant(value, _) => is_integer(right, *value),
-        Expr::CharConstant(value, _) => is_character(right, *value),
-        Expr::StringConstant(text, _) => is_string(right, text),
-        Expr::FnPointer(name, count, _) => is_pointer(right, name, *count),
+        Expr::Unit(_) => Ok(is_unit(right)),
+        Expr::BoolConstant(value, _) => Ok(is_boolean(right, *value)),
+        Expr::IntegerConstant(value, _) => Ok(is_integer(right, *value)),
+        Expr::CharConstant(value, _) => Ok(is_character(right, *value)),
+        Expr::StringConstant(text, _) => Ok(is_string(right, text)),
+        Expr::FnPointer(name, count, _) => Ok(is_pointer(right, name, *count)),
         Expr::Array(items, _) => match items_in(right) {
-            Some(others) => same_values(items, others),
-            None => false,
+            Some(others) => Ok(same_values(alloc, items, others)?),
+            None => Ok(false),
         },
         Expr::Map(properties, _) => match properties_in(right) {
             Some(others) => {
-                properties.len() == others.len() && same_properties(properties, others)
+                if properties.len() != others.len() {
+                    return Ok(false);
+                }
+                Ok(same_properties(alloc, properties, others)?)
             }
-            None => false,
+            None => Ok(false),
         },
-        Expr::FnCall(_, _) => same_range(range_of(left), range_of(right)),
-        _ => false,
+        Expr::FnCall(_, _) => Ok(same_range(range_of(left), range_of(right))),
+        _ => Ok(false),
     }
 }
 
 // Whether these are as many values, and equal ones.
 #[cycle(values)]
-fn same_values(items: &[Expr], others: &[Expr]) -> bool
-    ensures { result ≡ same_values (views items.now) (views others.now) }
+fn same_values(alloc: Global, items: &[Expr], others: &[Expr]) -> Result<bool, AllocError>
+    ensures { IfOk result (λ b. b ≡ same_values (views items.now) (views others.now)) }
 {
     let mut rest = others;
     for item in items {
         let Some((other, after)) = rest.split_first() else {
-            return false;
+            return Ok(false);
         };
-        if !same_value(item, other) {
-            return false;
+        let same = same_value(alloc, item, other)?;
+        if !same {
+            return Ok(false);
         }
         rest = after;
     }
-    rest.is_empty()
+    Ok(rest.is_empty())
 }
 
 // Whether each of these properties is among the others, with an equal value.
 #[cycle(values)]
-fn same_properties(properties: &[(Ident, Expr)], others: &[(Ident, Expr)]) -> bool
-    ensures { result ≡ same_properties (property_views properties.now) (property_views others.now) }
+fn same_properties(
+    alloc: Global,
+    properties: &[(Ident, Expr)],
+    others: &[(Ident, Expr)],
+) -> Result<bool, AllocError>
+    ensures { IfOk result (λ b. b ≡ same_properties (property_views properties.now) (property_views others.now)) }
 {
+    let names = names_backwards(alloc, others)?;
     for property in properties {
-        let Some(other) = found_property(&property.0.name, others) else {
-            return false;
+        let Some(other) = found_property(&property.0.name, &names, others) else {
+            return Ok(false);
         };
-        if !same_value(&property.1, other) {
-            return false;
+        let same = same_value(alloc, &property.1, other)?;
+        if !same {
+            return Ok(false);
         }
     }
-    true
+    Ok(true)
 }

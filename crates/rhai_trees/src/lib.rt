@@ -6,9 +6,11 @@
 pub mod arms;
 mod call;
 pub mod case_index;
+mod case_search;
 pub mod case_value;
 pub mod chain;
 pub mod construct;
+pub mod digest;
 pub mod guard;
 pub mod kind;
 pub mod link;
@@ -21,7 +23,7 @@ pub mod switch;
 pub mod target;
 
 pub use arms::Arms;
-pub use case_value::{IntegerRange, range_of, same_value};
+pub use case_value::{IntegerRange, range_of};
 pub use chain::{indexed_operand, test_index, test_links};
 pub use construct::{make_do, make_for, make_if, make_try, make_while};
 pub use guard::{test_guard, test_iterated};

@@ -1,4 +1,4 @@
-//! `is_literal_value`: which expressions may be values of `switch` cases.
+//! `is_literal_value`: which expressions may be case values.
 
 ghost use Rattle.std.specs.Prelude.{◌≡◌};
 ghost use Rattle.rhai_lower.specs.View.{property_views, view, views};

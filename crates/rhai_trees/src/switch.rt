@@ -1,7 +1,6 @@
 //! The arms of a `switch` as they are read, and its node. The tests of cases are here too.
 
-ghost use Rattle.std.specs.Prelude.{◌≡◌, ◌++◌, ◌<◌, IfErr, IfOk, IfSome, None, OnOk, Some, false, length, option_map};
-ghost use Rattle.indexmap.specs.IndexMap.{get};
+ghost use Rattle.std.specs.Prelude.{◌≡◌, ◌++◌, IfErr, IfOk, None, OnOk, Some, false, true};
 ghost use Rattle.rhai_lower.specs.View.{case_views, statement_view, view, views};
 ghost use Rattle.rhai_grammar.specs.CaseValues.{range_of};
 ghost use Rattle.rhai_grammar.specs.Causes.{MemoryIsNowhere, is_for_memory, refusal_of};
@@ -10,16 +9,17 @@ ghost use Rattle.rhai_grammar.specs.Switches.{listed_range, no_guard};
 ghost use Rattle.rhai_grammar.specs.Switches.{nothing_collected, switch_tree, with_arm_collected, with_case};
 ghost use Rattle.rhai_grammar.specs.Switches.{with_cases, with_default_collected, with_value};
 ghost use Rattle.rhai_trees.specs.Arms.{Indexed, arms_view};
-ghost use Rattle.rhai_trees.specs.CaseKeys.{Places, key_value, plain_value, same_case};
+ghost use Rattle.rhai_trees.specs.CaseKeys.{IsKey, Keyed, plain_value};
 ghost use Rattle.rhai_trees.specs.Switches.{case_place, collected_view, first_fault, is_full_range};
 ghost use Rattle.rhai_trees.specs.Switches.{value_fault, with_action};
 
 use crate::arms::Arms;
-use crate::case_index::{CaseKey, add_place, key_of, place_at};
-use crate::case_value::{range_of, same_value};
+use crate::case_index::{CaseKey, add_key, key_of};
+use crate::case_search::{CasePlace, find_parts};
+use crate::case_value::range_of;
 use crate::literal::is_literal_value;
 use crate::statement::{ends_itself, is_empty};
-use indexmap::IndexMap;
+use indexmap::IndexSet;
 use rhai_grammar::{ParseError, ParseErrorType, ParseResult};
 use rhai_lower::{BinaryExpr, Expr, Position, RangeCase, Stmt, SwitchCase, SwitchCasesCollection};
 use smallvec::SmallVec;
@@ -27,7 +27,7 @@ use std::alloc::{AllocError, Global};
 use std::rc::RcStr;
 
 /// The arms of a `switch` before the first one. Does not allocate.
-#[tactic(auto, using(crate::proofs::CaseIndexLemmas::no_places))]
+#[tactic(auto, using(crate::proofs::CaseIndexLemmas::no_keys))]
 pub fn new_arms(alloc: Global) -> Arms
     ensures view { arms_view result ≡ nothing_collected }
     ensures indexed { Indexed result }
@@ -38,8 +38,8 @@ pub fn new_arms(alloc: Global) -> Arms
         ranges: Vec::new(alloc),
         def_case: None,
     };
-    let places = IndexMap::new(alloc);
-    Arms { collected, places }
+    let keys = IndexSet::new(alloc);
+    Arms { collected, keys }
 }
 
 /// An absent guard. Does not allocate.
@@ -137,82 +137,103 @@ pub fn test_cases(alloc: Global, arms: &Arms, cases: &[Expr]) -> ParseResult<()>
 
 // ---- one more arm
 
-// Where the value is among the cases that is equal to this one, which takes time linear in their number.
-fn case_place(cases: &[SwitchCase], value: &Expr) -> Option<usize>
-    ensures place { result ≡ case_place (case_views cases.now) (view value.now) }
-{
-    for (index, case) in cases.iter().enumerate() {
-        if same_value(&case.value, value) {
-            return Some(index);
-        }
-    }
-    None
-}
-
-// The same, for a value with this key: by the index if it has one.
-#[tactic(auto, using(crate::proofs::CaseIndexLemmas::by_key))]
-fn keyed_place(
-    cases: &[SwitchCase],
-    places: &IndexMap<CaseKey, usize>,
+// Makes the value of the case at `place`, to which this one is equal, lead to one more arm, after those before.
+#[inline(never)]
+fn push_index(
+    cases: &mut Vec<SwitchCase>,
+    place: usize,
     value: &Expr,
-    key: &Option<CaseKey>,
-) -> Option<usize>
-    requires indexed { Places (get same_case places.now) (case_views cases.now) }
-    requires key { option_map key_value key.now ≡ plain_value (view value.now) }
-    ensures place { result ≡ case_place (case_views cases.now) (view value.now) }
-    ensures inside { IfSome result (λ place. place < length cases.now) }
+    index: usize,
+) -> Result<(), AllocError>
+    requires { case_place (case_views cases.old.items) (view value.now) ≡ Some place }
+    ensures { OnOk result
+        (case_views cases.new.items ≡ with_value (case_views cases.old.items) (view value.now) index) }
 {
-    match key {
-        Some(key) => place_at(places, key),
-        None => case_place(cases, value),
-    }
+    cases[place].indices.push(index)?;
+    Ok(())
 }
 
-// Adds a value that leads to the arm with this index, and is equal to none of the cases. Its key is given.
-#[tactic(auto, using(crate::proofs::CaseIndexLemmas::pushed))]
+// Adds a value as one more case, which leads to the arm with this index.
+#[inline(always)]
+#[tactic(auto, using(crate::proofs::SwitchLemmas::with_values))]
 fn push_new_value(
     alloc: Global,
     cases: &mut Vec<SwitchCase>,
-    places: &mut IndexMap<CaseKey, usize>,
     value: Expr,
-    key: Option<CaseKey>,
     index: usize,
 ) -> Result<(), AllocError>
-    requires indexed { Places (get same_case places.old) (case_views cases.old.items) }
-    requires key { option_map key_value key ≡ plain_value (view value) }
-    requires new { case_place (case_views cases.old.items) (view value) ≡ None }
-    ensures pushed { OnOk result
+    requires { case_place (case_views cases.old.items) (view value) ≡ None }
+    ensures { OnOk result
         (case_views cases.new.items ≡ with_value (case_views cases.old.items) (view value) index) }
-    ensures indexed { OnOk result (Places (get same_case places.new) (case_views cases.new.items)) }
 {
-    add_place(places, key, cases.len())?;
     let mut indices = SmallVec::new(alloc);
     indices.push(index)?;
     cases.push(SwitchCase { value, indices })?;
     Ok(())
 }
 
-// Makes a value lead to one more arm: after the arms to which an equal value leads, or as a case of its own.
-#[tactic(auto, using(crate::proofs::SwitchLemmas::with_values))]
-fn push_value(
+// Makes a value lead to one more arm: after the arms to which an equal value leads, or as a case of its own. Its key is
+// given.
+#[inline(always)]
+fn push_keyed(
     alloc: Global,
     cases: &mut Vec<SwitchCase>,
-    places: &mut IndexMap<CaseKey, usize>,
+    keys: &mut IndexSet<CaseKey>,
+    value: Expr,
+    key: CaseKey,
+    index: usize,
+) -> Result<(), AllocError>
+    requires indexed { Keyed keys.old.keys (case_views cases.old.items) }
+    requires key { IsKey (case_views cases.old.items) (view value) key }
+    ensures pushed { OnOk result
+        (case_views cases.new.items ≡ with_value (case_views cases.old.items) (view value) index) }
+    ensures indexed { OnOk result (Keyed keys.new.keys (case_views cases.new.items)) }
+{
+    match add_key(keys, key)? {
+        Some(place) => push_index(cases, place, &value, index)?,
+        None => push_new_value(alloc, cases, value, index)?,
+    }
+    Ok(())
+}
+
+// The same of a value that has no key of its own.
+#[inline(never)]
+fn push_parts(
+    alloc: Global,
+    cases: &mut Vec<SwitchCase>,
+    keys: &mut IndexSet<CaseKey>,
     value: Expr,
     index: usize,
 ) -> Result<(), AllocError>
-    requires { Places (get same_case places.old) (case_views cases.old.items) }
+    requires indexed { Keyed keys.old.keys (case_views cases.old.items) }
+    requires parts { plain_value (view value) ≡ None }
     ensures pushed { OnOk result
         (case_views cases.new.items ≡ with_value (case_views cases.old.items) (view value) index) }
-    ensures indexed { OnOk result (Places (get same_case places.new) (case_views cases.new.items)) }
+    ensures indexed { OnOk result (Keyed keys.new.keys (case_views cases.new.items)) }
 {
-    let key = key_of(&value)?;
-    match keyed_place(cases, places, &value, &key) {
-        Some(place) => {
-            cases[place].indices.push(index)?;
-            Ok(())
-        }
-        None => push_new_value(alloc, cases, places, value, key, index),
+    match find_parts(alloc, cases, keys, &value)? {
+        CasePlace::At(place) => push_index(cases, place, &value, index),
+        CasePlace::New(key) => push_keyed(alloc, cases, keys, value, key, index),
+    }
+}
+
+// The same of any value.
+#[inline(always)]
+fn push_value(
+    alloc: Global,
+    cases: &mut Vec<SwitchCase>,
+    keys: &mut IndexSet<CaseKey>,
+    value: Expr,
+    index: usize,
+) -> Result<(), AllocError>
+    requires { Keyed keys.old.keys (case_views cases.old.items) }
+    ensures pushed { OnOk result
+        (case_views cases.new.items ≡ with_value (case_views cases.old.items) (view value) index) }
+    ensures indexed { OnOk result (Keyed keys.new.keys (case_views cases.new.items)) }
+{
+    match key_of(&value)? {
+        Some(key) => push_keyed(alloc, cases, keys, value, key, index),
+        None => push_parts(alloc, cases, keys, value, index),
     }
 }
 
@@ -240,33 +261,33 @@ fn push_range(ranges: &mut Vec<RangeCase>, case: &Expr, index: usize) -> Result<
 fn push_case(
     alloc: Global,
     arms: &mut SwitchCasesCollection,
-    places: &mut IndexMap<CaseKey, usize>,
+    keys: &mut IndexSet<CaseKey>,
     index: usize,
     case: Expr,
 ) -> Result<(), AllocError>
-    requires { Places (get same_case places.old) (collected_view arms.old).cases }
+    requires { Keyed keys.old.keys (collected_view arms.old).cases }
     ensures pushed { OnOk result (collected_view arms.new ≡ with_case index (collected_view arms.old) (view case)) }
-    ensures indexed { OnOk result (Places (get same_case places.new) (collected_view arms.new).cases) }
+    ensures indexed { OnOk result (Keyed keys.new.keys (collected_view arms.new).cases) }
 {
     push_range(&mut arms.ranges, &case, index)?;
-    push_value(alloc, &mut arms.cases, places, case, index)
+    push_value(alloc, &mut arms.cases, keys, case, index)
 }
 
 // Adds the cases of the arm with this index.
 fn push_cases(
     alloc: Global,
     arms: &mut SwitchCasesCollection,
-    places: &mut IndexMap<CaseKey, usize>,
+    keys: &mut IndexSet<CaseKey>,
     index: usize,
     cases: Vec<Expr>,
 ) -> Result<(), AllocError>
-    requires { Places (get same_case places.old) (collected_view arms.old).cases }
+    requires { Keyed keys.old.keys (collected_view arms.old).cases }
     ensures pushed { OnOk result
         (collected_view arms.new ≡ with_cases index (collected_view arms.old) (views cases.items)) }
-    ensures indexed { OnOk result (Places (get same_case places.new) (collected_view arms.new).cases) }
+    ensures indexed { OnOk result (Keyed keys.new.keys (collected_view arms.new).cases) }
 {
     for case in cases {
-        push_case(alloc, arms, places, index, case)?;
+        push_case(alloc, arms, keys, index, case)?;
     }
     Ok(())
 }
@@ -306,7 +327,7 @@ pub fn push_arm(
     ensures indexed { OnOk result (Indexed arms.new) }
 {
     let index = push_action(&mut arms.collected, guard, action)?;
-    push_cases(alloc, &mut arms.collected, &mut arms.places, index, cases)
+    push_cases(alloc, &mut arms.collected, &mut arms.keys, index, cases)
 }
 
 /// The arms with the default arm. The error is that there is no memory for it.
