@@ -280,7 +280,7 @@ fn push_cases(
     arms: &mut SwitchCasesCollection,
     keys: &mut IndexSet<CaseKey>,
     index: usize,
-    cases: Vec<Expr>,
+    cases: SmallVec<Expr, 1>,
 ) -> Result<(), AllocError>
     requires { Keyed keys.old.keys (collected_view arms.old).cases }
     ensures pushed { OnOk result
@@ -318,7 +318,7 @@ fn push_action(
 pub fn push_arm(
     alloc: Global,
     arms: &mut Arms,
-    cases: Vec<Expr>,
+    cases: SmallVec<Expr, 1>,
     guard: Expr,
     action: Expr,
 ) -> Result<(), AllocError>
