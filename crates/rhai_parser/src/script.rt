@@ -225,7 +225,7 @@ impl Engine {
             state.frame_pointer,
             imports,
             state.expr_filter,
-            known,
+            &known,
             state.counts.fn_begun(),
         );
         state.counts.nest_enter();
@@ -239,6 +239,7 @@ impl Engine {
             chosen,
         );
         state.counts.nest_leave();
+        drop(known);
         state.global_imports = around;
         read
     }
@@ -278,7 +279,7 @@ impl Engine {
         } = state;
         let known = self.known(external_constants, &global_imports);
         let begun = counts.fn_begun();
-        let frame = Frame::new(stack, frame_pointer, imports, expr_filter, known, begun);
+        let frame = Frame::new(stack, frame_pointer, imports, expr_filter, &known, begun);
         let settings = self.script_settings();
         let (mut slots, mut modules) = (Scope::new(self.alloc()), Vec::new(self.alloc()));
         counts.nest_enter();
