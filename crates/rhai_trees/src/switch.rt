@@ -18,6 +18,7 @@ use crate::case_index::{CaseKey, add_key, key_of};
 use crate::case_search::{CasePlace, find_parts};
 use crate::case_value::range_of;
 use crate::literal::is_literal_value;
+use crate::room::make_room;
 use crate::statement::{ends_itself, is_empty};
 use indexmap::IndexSet;
 use rhai_grammar::{ParseError, ParseErrorType, ParseResult};
@@ -169,6 +170,7 @@ fn push_new_value(
 {
     let mut indices = SmallVec::new(alloc);
     indices.push(index)?;
+    make_room(cases)?;
     cases.push(SwitchCase { value, indices })?;
     Ok(())
 }
@@ -306,6 +308,7 @@ fn push_action(
         ≡ with_action (collected_view arms.old) (view guard) (view action)) }
 {
     let index = arms.expressions.len();
+    make_room(&mut arms.expressions)?;
     arms.expressions.push(BinaryExpr {
         lhs: guard,
         rhs: action,
