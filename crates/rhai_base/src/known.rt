@@ -63,7 +63,7 @@ impl<'p> Known<'p> {
     }
 
     // The same once more. The error is that there is no memory for it.
-    pub(crate) fn try_clone(&self, alloc: Global) -> Result<Known<'p>, AllocError>
+    pub(crate) fn try_clone<'k>(&'k self, alloc: Global) -> Result<Known<'k>, AllocError>
         ensures { IfOk result (λ same. same ≡ self.now) }
     {
         let mut around = Vec::new(alloc);

@@ -9,7 +9,6 @@ ghost use Rattle.rhai_trees.specs.CaseKeys.{is_plain, key_value, parts_key, plac
 ghost use Rattle.rhai_trees.specs.CaseKeys.{same_case};
 
 use crate::case_value::range_of;
-use crate::room::make_room_for_keys;
 use indexmap::IndexSet;
 use rhai_lower::Expr;
 use std::alloc::AllocError;
@@ -83,19 +82,6 @@ pub fn parts_key(digest: Option<u64>, number: usize) -> CaseKey
 /// error is that there is no memory for it.
 #[inline(always)]
 pub fn add_key(keys: &mut IndexSet<CaseKey>, key: CaseKey) -> Result<Option<usize>, AllocError>
-    ensures place { IfOk result (λ place. place ≡ place_in keys.old.keys key) }
-    ensures added { OnOk result ((q : CaseKey) → place_in keys.new.keys q
-        ≡ option_or (place_in keys.old.keys q) (if same_case q key then Some (length keys.old.keys) else None)) }
-    ensures count { IfOk result (λ place. length keys.new.keys
-        ≡ length keys.old.keys + (if is_some place then 0 else 1)) }
-{
-    make_room_for_keys(keys)?;
-    insert_key(keys, key)
-}
-
-// The same, where there is room.
-#[inline(always)]
-fn insert_key(keys: &mut IndexSet<CaseKey>, key: CaseKey) -> Result<Option<usize>, AllocError>
     ensures place { IfOk result (λ place. place ≡ place_in keys.old.keys key) }
     ensures added { OnOk result ((q : CaseKey) → place_in keys.new.keys q
         ≡ option_or (place_in keys.old.keys q) (if same_case q key then Some (length keys.old.keys) else None)) }

@@ -18,7 +18,7 @@ use crate::case_index::{CaseKey, add_key, key_of};
 use crate::case_search::{CasePlace, find_parts};
 use crate::case_value::range_of;
 use crate::literal::is_literal_value;
-use crate::room::make_room;
+use crate::room::{make_room, make_room_for_keys};
 use crate::statement::{ends_itself, is_empty};
 use indexmap::IndexSet;
 use rhai_grammar::{ParseError, ParseErrorType, ParseResult};
@@ -331,6 +331,7 @@ pub fn push_arm(
     ensures indexed { OnOk result (Indexed arms.new) }
 {
     let index = push_action(&mut arms.collected, guard, action)?;
+    make_room_for_keys(&mut arms.keys)?;
     push_cases(alloc, &mut arms.collected, &mut arms.keys, index, cases)
 }
 

@@ -1,5 +1,5 @@
 use Rattle.rhai_trees.proofs.CaseIndexLemmas.{added_new, added_old}
-use Rattle.rhai_trees.proofs.case_index.insert_key.Goals as goal
+use Rattle.rhai_trees.proofs.case_index.add_key.Goals as goal
 
 pub returns-then-is_new-clause-place : goal.returns-then-is_new-clause-place
 returns-then-is_new-clause-place c =
