@@ -86,7 +86,7 @@ impl<'p> Frame<'p> {
         block: usize,
         imports: Vec<RcStr>,
         filter: ExprFilter,
-        known: &'p Known<'p>,
+        known: &'p Known<'_>,
         begun: usize,
     ) -> Frame<'p>
         ensures { result ≡ record {
@@ -157,7 +157,7 @@ impl<'p> Frame<'p> {
     /// The frame of a function or closure, in which nothing is live. `known` is what it knows, which the frame around it
     /// gives, and `begun` functions and closures have begun around it, itself included. Its expressions may contain
     /// every token. Does not allocate.
-    pub fn of_function(alloc: Global, known: &'p Known<'p>, begun: usize) -> Frame<'p>
+    pub fn of_function(alloc: Global, known: &'p Known<'_>, begun: usize) -> Frame<'p>
         ensures { result ≡ record {
           live = nothing_live;
           depth = 0;

@@ -44,18 +44,21 @@ impl<'p> Known<'p> {
     /// imported around it, and of the engine's modules. Does not allocate.
     pub fn new(
         alloc: Global,
-        variables: Option<&'p Scope>,
+        variables: &'p Option<&Scope>,
         imports: &'p [RcStr],
         modules: &'p [RcStr],
     ) -> Known<'p>
         ensures { result ≡ record {
-          variables = known_variables variables.entry;
+          variables = known_variables variables.now;
           imports = map rc_str_bytes imports.now;
           modules = map rc_str_bytes modules.now;
         } }
     {
         Known {
-            variables,
+            variables: match variables {
+                Some(variables) => Some(*variables),
+                None => None,
+            },
             imports,
             around: Vec::new(alloc),
             modules,

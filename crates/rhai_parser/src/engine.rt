@@ -211,11 +211,11 @@ impl Engine {
     // What is known around a script: these variables, these imports, and the modules of the engine.
     pub(crate) fn known<'k>(
         &'k self,
-        variables: Option<&'k Scope>,
+        variables: &'k Option<&Scope>,
         imports: &'k [RcStr],
     ) -> Known<'k>
         ensures { result ≡ record {
-          variables = known_variables variables.entry;
+          variables = known_variables variables.now;
           imports = map rc_str_bytes imports.now;
           modules = self.now.sub_modules;
         } }

@@ -219,7 +219,7 @@ impl Engine {
         let stack = mem::replace(&mut state.stack, Scope::new(alloc));
         let imports = mem::replace(&mut state.imports, Vec::new(alloc));
         let around = mem::replace(&mut state.global_imports, Vec::new(alloc));
-        let known = self.known(state.external_constants, &around);
+        let known = self.known(&state.external_constants, &around);
         let frame = Frame::new(
             stack,
             state.frame_pointer,
@@ -277,7 +277,7 @@ impl Engine {
             global_imports,
             mut counts,
         } = state;
-        let known = self.known(external_constants, &global_imports);
+        let known = self.known(&external_constants, &global_imports);
         let begun = counts.fn_begun();
         let frame = Frame::new(stack, frame_pointer, imports, expr_filter, &known, begun);
         let settings = self.script_settings();

@@ -69,8 +69,8 @@ impl<R: LentReaders> Reader<'_, R> {
             shared.old result
             shared.new }
     {
-        let mut arms = new_arms(self.engine.alloc());
         let in_cases = frame.in_case(self.engine.alloc());
+        let mut arms = new_arms(self.engine.alloc());
         loop {
             match next_arm(self.engine.alloc(), shared.input)? {
                 NextArm::End => return Ok(arms),
@@ -177,10 +177,7 @@ impl<R: LentReaders> Reader<'_, R> {
     {
         let mut cases = SmallVec::new(self.engine.alloc());
         loop {
-            let case = nested!(
-                shared,
-                self.parse_case(shared, frame, in_cases, settings)
-            )?;
+            let case = nested!(shared, self.parse_case(shared, frame, in_cases, settings))?;
             cases.push(case)?;
             if pass_token(shared.input, DueToken::Pipe)? {
                 continue;
