@@ -18,7 +18,7 @@ use crate::case_index::{CaseKey, add_key, key_of};
 use crate::case_search::{CasePlace, find_parts};
 use crate::case_value::range_of;
 use crate::literal::is_literal_value;
-use crate::room::{make_room, make_room_for_keys};
+use crate::room::make_room;
 use crate::statement::{ends_itself, is_empty};
 use indexmap::IndexSet;
 use rhai_grammar::{ParseError, ParseErrorType, ParseResult};
@@ -168,9 +168,7 @@ fn push_new_value(
     ensures { OnOk result
         (case_views cases.new.items ≡ with_value (case_views cases.old.items) (view value) index) }
 {
-    let mut indices = SmallVec::new(alloc);
-    indices.push(index)?;
-    make_room(cases)?;
+    let indices = SmallVec::from_buf(alloc, [index]);
     cases.push(SwitchCase { value, indices })?;
     Ok(())
 }
@@ -308,7 +306,6 @@ fn push_action(
         ≡ with_action (collected_view arms.old) (view guard) (view action)) }
 {
     let index = arms.expressions.len();
-    make_room(&mut arms.expressions)?;
     arms.expressions.push(BinaryExpr {
         lhs: guard,
         rhs: action,
@@ -318,6 +315,7 @@ fn push_action(
 
 /// Adds an arm, which has these cases; its guard is `no_guard` if none was written. The error is that there is no
 /// memory for it; then the arms are of no use any more.
+#[inline(always)]
 pub fn push_arm(
     alloc: Global,
     arms: &mut Arms,
@@ -331,8 +329,8 @@ pub fn push_arm(
     ensures indexed { OnOk result (Indexed arms.new) }
 {
     let index = push_action(&mut arms.collected, guard, action)?;
-    make_room_for_keys(&mut arms.keys)?;
-    push_cases(alloc, &mut arms.collected, &mut arms.keys, index, cases)
+    push_cases(alloc, &mut arms.collected, &mut arms.keys, index, cases)?;
+    make_room(arms)
 }
 
 /// The arms with the default arm. The error is that there is no memory for it.
