@@ -22,7 +22,7 @@ use Rattle.rhai_trees.proofs.SwitchLemmas.{place_none}
 use Rattle.rhai_trees.specs.declared.case_index.CaseKey.{CaseKey}
 use Rattle.rhai_trees.specs.declared.case_index.CaseKey.TheVariants as key
 use Rattle.rhai_trees.proofs.CaseKeyLemmas.{case_symm, derived, equal_keys, keys_compared, no_plain, plain_left, plain_right}
-use Rattle.rhai_trees.proofs.DigestLemmas.{digests_kept, digests_pushed, numbered_pushed, one_at, past_numbers, placed}
+use Rattle.rhai_trees.proofs.DigestLemmas.{digests_kept, digests_pushed, from_zero, further, kept_by, numbered_pushed, one_at, or_none, past_numbers, placed}
 
 -- ---- places
 
@@ -55,15 +55,8 @@ place_pushed (node.one_case z more cs) x y indices = by (same_value z y) (case_p
     by false None false h = ap (option_map (λ n. n + 1)) h
     by false (Some m) same h = ap (option_map (λ n. n + 1)) h
 
--- One more arm for a value that is there moves no case.
-pub place_kept : (cs : Cases) (x y : Node) (index n : ℕ) → case_place cs x ≡ Some n → case_place (with_value cs x index) y ≡ case_place cs y
-place_kept node.no_cases x y index n e = absurd cc
-place_kept (node.one_case z more cs) x y index n e = by (same_value z x) (case_place cs x) (λ m f. place_kept cs x y index m f) e
-  where
-    by : (b : Bool) (o : Option ℕ) → ((m : ℕ) → o ≡ Some m → case_place (with_value cs x index) y ≡ case_place cs y) → (if b then Some 0 else option_map (λ n. n + 1) o) ≡ Some n → case_place (if b then node.one_case z (more ++ index ∷ []) cs else node.one_case z more (with_value cs x index)) y ≡ (if same_value z y then Some 0 else option_map (λ n. n + 1) (case_place cs y))
-    by true o h e = refl
-    by false None h e = absurd cc
-    by false (Some m) h e = ap (λ o. if same_value z y then Some 0 else option_map (λ n. n + 1) o) (h m refl)
+place_kept : (cs : Cases) (x y : Node) (index n : ℕ) → case_place cs x ≡ Some n → case_place (with_value cs x index) y ≡ case_place cs y
+place_kept cs x y index n e = kept_by (λ ds. case_place ds y) (λ z o. if same_value z y then Some 0 else option_map (λ n. n + 1) o) (λ z more ds. refl) cs x index n e
 
 -- ---- places by keys
 
@@ -104,10 +97,6 @@ alike_place cs (key.Text a) (key.Text b) e = ap (case_place cs) (equal_keys (key
 alike_place cs (key.Pointer a m) (key.Pointer b n) e = ap (case_place cs) (equal_keys (key.Pointer a m) (key.Pointer b n) e)
 alike_place cs (key.Range a b c) (key.Range d f g) e = ap (case_place cs) (equal_keys (key.Range a b c) (key.Range d f g) e)
 alike_place cs _ _ e = absurd cc
-
-or_none : (o : Option ℕ) → o ≡ option_or o None
-or_none None = refl
-or_none (Some n) = refl
 
 -- The law of a key with one more case, from what it says of keys that stand for values, and of the others.
 abbrev Law : Cases → CaseKey → CaseKey → Option ℕ → Type 0
@@ -239,21 +228,11 @@ no_keys [] e = record { found = none; count = refl }
     none (key.Range b m n) = refl
 no_keys (k ∷ keys) e = absurd (omega (arith, e))
 
--- how many cases there are, where a value is made to lead to one more arm
-kept_count : (cs : Cases) (x : Node) (index n : ℕ) → case_place cs x ≡ Some n → case_count (with_value cs x index) ≡ case_count cs
-kept_count node.no_cases x index n e = absurd cc
-kept_count (node.one_case z more cs) x index n e = by (same_value z x) (case_place cs x) (λ m f. kept_count cs x index m f) e
-  where
-    by : (b : Bool) (o : Option ℕ) → ((m : ℕ) → o ≡ Some m → case_count (with_value cs x index) ≡ case_count cs) → (if b then Some 0 else option_map (λ n. n + 1) o) ≡ Some n → case_count (if b then node.one_case z (more ++ index ∷ []) cs else node.one_case z more (with_value cs x index)) ≡ case_count cs + 1
-    by true o h e = refl
-    by false None h e = absurd cc
-    by false (Some m) h e = ap (λ k. k + 1) (h m refl)
-
 pub kept_keys : (keys : List CaseKey) (cs ds : Cases) (x : Node) (index n : ℕ) → Keyed keys cs → case_place cs x ≡ Some n → ds ≡ with_value cs x index → Keyed keys ds
 kept_keys keys cs ds x index n p e f = record {
   found = λ q. p.found q ∙ sym (place_by cs (with_value cs x index) (λ y. place_kept cs x y index n e) (λ o. digests_kept cs x index n o 0 e) q)
       ∙ ap (λ c. place_of c q) (sym f);
-  count = p.count ∙ sym (kept_count cs x index n e) ∙ ap case_count (sym f);
+  count = p.count ∙ sym (kept_by case_count (λ z k. k + 1) (λ z more ds. refl) cs x index n e) ∙ ap case_count (sym f);
 }
 
 pushed_count : (cs : Cases) (x : Node) (indices : List ℕ) → case_count (node.with_case cs x indices) ≡ case_count cs + 1
@@ -321,20 +300,12 @@ from_in : (keys : List CaseKey) (q : CaseKey) (i : ℕ) → position_from (eq-va
 from_in [] q i = refl
 from_in (k ∷ keys) q i = ap (λ b. cond b (Some i) (position_from (eq-value.it q) (i + 1) keys)) (derived q k) ∙ by (same_case q k) (from_in keys q (i + 1))
   where
-    later : (o : Option ℕ) → option_map (λ n. n + (i + 1)) o ≡ option_map (λ n. n + i) (option_map (λ n. n + 1) o)
-    later None = refl
-    later (Some n) = ap Some (omega arith)
-
     by : (b : Bool) → position_from (eq-value.it q) (i + 1) keys ≡ option_map (λ n. n + (i + 1)) (place_in keys q) → cond b (Some i) (position_from (eq-value.it q) (i + 1) keys) ≡ option_map (λ n. n + i) (if b then Some 0 else option_map (λ n. n + 1) (place_in keys q))
     by true h = ap Some (omega arith)
-    by false h = h ∙ later (place_in keys q)
+    by false h = h ∙ further i (place_in keys q)
 
 pub position_in : (keys : List CaseKey) (q : CaseKey) → position (eq-value.it q) keys ≡ place_in keys q
-position_in keys q = position_from-zero (eq-value.it q) keys ∙ from_in keys q 0 ∙ same (place_in keys q)
-  where
-    same : (o : Option ℕ) → option_map (λ n. n + 0) o ≡ o
-    same None = refl
-    same (Some n) = ap Some (omega arith)
+position_in keys q = position_from-zero (eq-value.it q) keys ∙ from_in keys q 0 ∙ from_zero (place_in keys q)
 
 pushed_in : (keys : List CaseKey) (k q : CaseKey) → place_in (keys ++ k ∷ []) q ≡ option_or (place_in keys q) (if same_case q k then Some (length keys) else None)
 pushed_in [] k q = by (same_case q k) (Some 0)

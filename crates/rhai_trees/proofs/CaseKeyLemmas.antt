@@ -164,7 +164,7 @@ keys_compared (key.Text a) (key.Text b) plain = refl
 keys_compared (key.Pointer a m) (key.Pointer b n) plain = refl
 keys_compared _ _ plain = refl
 
-same_booleans : (a b : Bool) → same_boolean a b ≡ true → a ≡ b
+pub same_booleans : (a b : Bool) → same_boolean a b ≡ true → a ≡ b
 same_booleans true true e = refl
 same_booleans true false e = absurd cc
 same_booleans false true e = absurd cc
@@ -199,26 +199,20 @@ booleans_symm true false = refl
 booleans_symm false true = refl
 booleans_symm false false = refl
 
-ints_symm : (a b : ℤ) → int_eq a b ≡ int_eq b a
-ints_symm a b = by (int_eq a b) refl (int_eq b a) refl
+symm_by : {X : Type 0} (t : X → X → Bool) → ((x y : X) → t x y ≡ true → t y x ≡ true) → (x y : X) → t x y ≡ t y x
+symm_by t h x y = by (t x y) refl (t y x) refl
   where
-    by : (x : Bool) → int_eq a b ≡ x → (y : Bool) → int_eq b a ≡ y → x ≡ y
+    by : (a : Bool) → t x y ≡ a → (b : Bool) → t y x ≡ b → a ≡ b
     by true e true f = refl
     by false e false f = refl
-    by true e false f = absurd (true≢false (sym ((signed_Decides b a).1 (sym ((signed_Decides a b).0 e))) ∙ f))
-    by false e true f = absurd (true≢false (sym ((signed_Decides a b).1 (sym ((signed_Decides b a).0 f))) ∙ e))
+    by true e false f = absurd (true≢false (sym (h x y e) ∙ f))
+    by false e true f = absurd (true≢false (sym (h y x f) ∙ e))
+
+ints_symm : (a b : ℤ) → int_eq a b ≡ int_eq b a
+ints_symm a b = symm_by int_eq (λ x y e. (signed_Decides y x).1 (sym ((signed_Decides x y).0 e))) a b
 
 numbers_symm : (a b : ℕ) → (a == b) ≡ (b == a)
-numbers_symm a b = by (a == b) refl (b == a) refl
-  where
-    by : (x : Bool) → (a == b) ≡ x → (y : Bool) → (b == a) ≡ y → x ≡ y
-    by true e true f = refl
-    by false e false f = refl
-    by true e false f = absurd (true≢false (sym ((unsigned_Decides b a).1 (sym ((unsigned_Decides a b).0 e))) ∙ f))
-    by false e true f = absurd (true≢false (sym ((unsigned_Decides a b).1 (sym ((unsigned_Decides b a).0 f))) ∙ e))
-
-texts_symm : (a b : Text) → same_text a b ≡ same_text b a
-texts_symm a b = nat_list_eq_equiv.symm a b
+numbers_symm a b = symm_by (λ x y. x == y) (λ x y e. (unsigned_Decides y x).1 (sym ((unsigned_Decides x y).0 e))) a b
 
 both : (a b c d : Bool) → a ≡ c → b ≡ d → (a && b) ≡ (c && d)
 both a b c d e f = ap (λ x. x && b) e ∙ ap (λ y. c && y) f
@@ -228,8 +222,8 @@ case_symm key.Unit key.Unit = refl
 case_symm (key.Boolean a) (key.Boolean b) = booleans_symm a b
 case_symm (key.Integer a) (key.Integer b) = ints_symm a b
 case_symm (key.Character a) (key.Character b) = numbers_symm a b
-case_symm (key.Text a) (key.Text b) = texts_symm (rc_str_bytes a) (rc_str_bytes b)
-case_symm (key.Pointer a m) (key.Pointer b n) = both _ _ _ _ (texts_symm (rc_str_bytes a) (rc_str_bytes b)) (numbers_symm m n)
+case_symm (key.Text a) (key.Text b) = nat_list_eq_equiv.symm (rc_str_bytes a) (rc_str_bytes b)
+case_symm (key.Pointer a m) (key.Pointer b n) = both _ _ _ _ (nat_list_eq_equiv.symm (rc_str_bytes a) (rc_str_bytes b)) (numbers_symm m n)
 case_symm (key.Range a b c) (key.Range d e f) = both _ _ _ _ (booleans_symm a d) (both _ _ _ _ (ints_symm b e) (ints_symm c f))
 case_symm (key.Parts d m) (key.Parts e n) = both _ _ _ _ (numbers_symm d e) (numbers_symm m n)
 case_symm (key.Irregular m) (key.Irregular n) = numbers_symm m n

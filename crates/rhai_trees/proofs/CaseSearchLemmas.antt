@@ -15,7 +15,7 @@ use Rattle.rhai_trees.specs.Switches.{case_place}
 use Rattle.rhai_trees.specs.declared.case_index.CaseKey.{CaseKey}
 use Rattle.rhai_trees.specs.declared.case_index.CaseKey.TheVariants as key
 use Rattle.rhai_trees.proofs.CaseIndexLemmas.{parts_is_key}
-use Rattle.rhai_trees.proofs.DigestLemmas.{a_number, no_number, same_digest}
+use Rattle.rhai_trees.proofs.DigestLemmas.{a_number, from_zero, further, no_number, same_digest}
 use Rattle.rhai_trees.proofs.SwitchLemmas.{call_value}
 
 -- ---- a value with a key of its own is equal to none without one
@@ -68,10 +68,6 @@ plain_apart (call c ns p) x q f e = call_value c ns p x ∙ ranges_apart (range_
 plain_apart _ x q f e = absurd cc
 
 -- ---- which cases are looked through
-
-further : (k : ℕ) (o : Option ℕ) → option_map (λ n. n + (k + 1)) o ≡ option_map (λ n. n + k) (option_map (λ n. n + 1) o)
-further k None = refl
-further k (Some n) = ap Some (omega arith)
 
 -- Where each case has a digest, a value is equal to the first case that is equal to it and has its digest.
 pub regular_place : (cs : Cases) (x : Node) (k : ℕ) → plain_value x ≡ None → with_digest None k cs ≡ [] → first_same x (with_digest (Some (digest x)) k cs) ≡ option_map (λ n. n + k) (case_place cs x)
@@ -235,13 +231,9 @@ regular_here cs x o none is some p absent found = by (is_regular x) refl
     empty [] e = refl
     empty (c ∷ l) e = absurd cc
 
-    no_further : (p : Option ℕ) → option_map (λ n. n + 0) p ≡ p
-    no_further None = refl
-    no_further (Some n) = ap Some (omega arith)
-
     by : (b : Bool) → is_regular x ≡ b → first_same x (with_digest o 0 cs) ≡ case_place cs x
     by false e = absurd (true≢false (sym some ∙ ap is_some (is ∙ ap (λ r. if r then Some (digest x) else None) e)))
     by true e =
         ap (λ d. first_same x (with_digest d 0 cs)) (is ∙ ap (λ r. if r then Some (digest x) else None) e)
         ∙ regular_place cs x 0 none (empty (with_digest None 0 cs) (none_mapped (numbered (with_digest None 0 cs) 0) (sym found ∙ no_place p absent)))
-        ∙ no_further (case_place cs x)
+        ∙ from_zero (case_place cs x)

@@ -24,6 +24,7 @@ use Rattle.std.specs.Prelude.{option_map}
 use Rattle.rhai_grammar.specs.Switches.{with_value}
 use Rattle.rhai_trees.specs.CaseKeys.{case_count, has_digest, numbered, with_digest}
 use Rattle.rhai_trees.specs.Switches.{case_place}
+use Rattle.rhai_trees.proofs.CaseKeyLemmas.{same_booleans}
 use Rattle.std.specs.Cmp.Lexicographic as texts
 use Rattle.std.specs.Hash as fed
 use Rattle.rhai_lower.specs.Nodes as node
@@ -83,12 +84,9 @@ abbrev without : Text → Properties → Properties
 without name no_properties = no_properties
 without name (one_property key at n ps) = if same_text name key then ps else one_property key at n (without name ps)
 
-swapped : (a b : Text) → same_text a b ≡ same_text b a
-swapped a b = nat_list_eq_equiv.symm a b
-
 without_count : (name : Text) (ps : Properties) → has_key name ps ≡ true → property_count ps ≡ property_count (without name ps) + 1
 without_count name no_properties e = absurd cc
-without_count name (one_property key at n ps) e = by (same_text name key) (without_count name ps) (ap (λ b. b || has_key name ps) (swapped name key) ∙ e)
+without_count name (one_property key at n ps) e = by (same_text name key) (without_count name ps) (ap (λ b. b || has_key name ps) (nat_list_eq_equiv.symm name key) ∙ e)
   where
     by : (b : Bool) → (has_key name ps ≡ true → property_count ps ≡ property_count (without name ps) + 1) → (b || has_key name ps) ≡ true → property_count ps + 1 ≡ property_count (if b then ps else one_property key at n (without name ps)) + 1
     by true h f = refl
@@ -99,7 +97,7 @@ weight name n = hashed (fed.str name ++ fed.u64 (digest n))
 
 without_sum : (name : Text) (ps : Properties) → has_key name ps ≡ true → property_sum ps ≡ weight name (property_value name ps) + property_sum (without name ps)
 without_sum name no_properties e = absurd cc
-without_sum name (one_property key at n ps) e = by (same_text name key) refl (without_sum name ps) (ap (λ b. b || has_key name ps) (swapped name key) ∙ e)
+without_sum name (one_property key at n ps) e = by (same_text name key) refl (without_sum name ps) (ap (λ b. b || has_key name ps) (nat_list_eq_equiv.symm name key) ∙ e)
   where
     by : (b : Bool) → same_text name key ≡ b → (has_key name ps ≡ true → property_sum ps ≡ weight name (property_value name ps) + property_sum (without name ps)) → (b || has_key name ps) ≡ true → weight key n + property_sum ps ≡ weight name (if b then n else property_value name ps) + property_sum (if b then ps else one_property key at n (without name ps))
     by true is h f = ap (λ k. weight k n + property_sum ps) (sym (equal_texts name key is))
@@ -113,7 +111,7 @@ key_kept name other (one_property key at n ps) d = by (same_text name key) refl 
   where
     by : (b : Bool) → same_text name key ≡ b → has_key other (without name ps) ≡ has_key other ps → has_key other (if b then ps else one_property key at n (without name ps)) ≡ (same_text key other || has_key other ps)
     by true is h =
-        let differ = swapped key other ∙ ap (same_text other) (sym (equal_texts name key is)) ∙ d in
+        let differ = nat_list_eq_equiv.symm key other ∙ ap (same_text other) (sym (equal_texts name key is)) ∙ d in
         ap (λ b. b || has_key other ps) (sym differ)
     by false is h = ap (λ has. same_text key other || has) h
 
@@ -142,12 +140,6 @@ same_kept name (one_property key at n ps) others d e =
     or_false true b e = absurd cc
 
 -- ---- digests
-
-same_booleans : (a b : Bool) → same_boolean a b ≡ true → a ≡ b
-same_booleans true true e = refl
-same_booleans true false e = absurd cc
-same_booleans false true e = absurd cc
-same_booleans false false e = refl
 
 same_ranges : (o p : Option IntegerRange) → same_range o p ≡ true → range_digest o ≡ range_digest p
 same_ranges None p e = absurd cc
@@ -196,17 +188,31 @@ mutual
       ∙ ap (λ s. weight key (property_value key others) + s) (same_sums ps (without key others) (before ++ key ∷ []) regular.1 count (same_kept key ps others once parts.1))
       ∙ sym (without_sum key others this.0)
 
+-- ---- options
+
+pub or_none : {A : Type 0} (o : Option A) → o ≡ option_or o None
+or_none None = refl
+or_none (Some a) = refl
+
+pub further : (k : ℕ) (o : Option ℕ) → option_map (λ n. n + (k + 1)) o ≡ option_map (λ n. n + k) (option_map (λ n. n + 1) o)
+further k None = refl
+further k (Some n) = ap Some (omega arith)
+
+pub from_zero : (o : Option ℕ) → option_map (λ n. n + 0) o ≡ o
+from_zero None = refl
+from_zero (Some n) = ap Some (omega arith)
+
 -- ---- the cases with a digest
 
--- One more arm for a value that is there moves no case.
-pub digests_kept : (cs : Cases) (x : Node) (index n : ℕ) (o : Option ℕ) (k : ℕ) → case_place cs x ≡ Some n → with_digest o k (with_value cs x index) ≡ with_digest o k cs
-digests_kept node.no_cases x index n o k e = absurd cc
-digests_kept (node.one_case z more cs) x index n o k e = by (same_value z x) (case_place cs x) (λ m f. digests_kept cs x index m o (k + 1) f) e
+-- What does not look at the arms of cases stays the same, where a value that is there is made to lead to one more.
+pub kept_by : {X : Type 0} (f : Cases → X) (step : Node → X → X) → ((y : Node) (more : List ℕ) (cs : Cases) → f (node.one_case y more cs) ≡ step y (f cs)) → (cs : Cases) (x : Node) (index n : ℕ) → case_place cs x ≡ Some n → f (with_value cs x index) ≡ f cs
+kept_by f step h node.no_cases x index n e = absurd cc
+kept_by f step h (node.one_case z more cs) x index n e = by (same_value z x) (case_place cs x) (λ m g. kept_by f step h cs x index m g) e
   where
-    by : (b : Bool) (p : Option ℕ) → ((m : ℕ) → p ≡ Some m → with_digest o (k + 1) (with_value cs x index) ≡ with_digest o (k + 1) cs) → (if b then Some 0 else option_map (λ n. n + 1) p) ≡ Some n → with_digest o k (if b then node.one_case z (more ++ index ∷ []) cs else node.one_case z more (with_value cs x index)) ≡ (if has_digest o z then (k, z) ∷ with_digest o (k + 1) cs else with_digest o (k + 1) cs)
-    by true p h e = refl
-    by false None h e = absurd cc
-    by false (Some m) h e = ap (λ l. if has_digest o z then (k, z) ∷ l else l) (h m refl)
+    by : (b : Bool) (o : Option ℕ) → ((m : ℕ) → o ≡ Some m → f (with_value cs x index) ≡ f cs) → (if b then Some 0 else option_map (λ n. n + 1) o) ≡ Some n → f (if b then node.one_case z (more ++ index ∷ []) cs else node.one_case z more (with_value cs x index)) ≡ f (node.one_case z more cs)
+    by true o g e = h z (more ++ index ∷ []) cs ∙ sym (h z more cs)
+    by false None g e = absurd cc
+    by false (Some m) g e = h z more (with_value cs x index) ∙ ap (step z) (g m refl) ∙ sym (h z more cs)
 
 abbrev pub one_at : Bool → ℕ → Node → List (ℕ × Node)
 one_at true k x = (k, x) ∷ []
@@ -217,6 +223,11 @@ no_more = []
 
 abbrev pub placed : ℕ → Node → ℕ × Node
 placed k x = (k, x)
+
+pub digests_kept : (cs : Cases) (x : Node) (index n : ℕ) (o : Option ℕ) (k : ℕ) → case_place cs x ≡ Some n → with_digest o k (with_value cs x index) ≡ with_digest o k cs
+digests_kept cs x index n o k e =
+    let step : Node → (ℕ → List (ℕ × Node)) → ℕ → List (ℕ × Node) = λ z f j. if has_digest o z then placed j z ∷ f (j + 1) else f (j + 1) in
+    ap (λ f. f k) (kept_by (λ ds j. with_digest o j ds) step (λ y more ds. refl) cs x index n e)
 
 -- one more case
 pub digests_pushed : (cs : Cases) (x : Node) (indices : List ℕ) (o : Option ℕ) (k : ℕ) → with_digest o k (node.with_case cs x indices) ≡ with_digest o k cs ++ one_at (has_digest o x) (k + case_count cs) x
@@ -259,10 +270,6 @@ past_numbers [] n h = refl
 past_numbers (c ∷ l) zero h = absurd (omega (arith, h))
 past_numbers (c ∷ l) (suc n) h = past_numbers l n (omega (arith, h))
 
-none_or : (o : Option (ℕ × Node)) → o ≡ option_or o None
-none_or None = refl
-none_or (Some c) = refl
-
 pub numbered_pushed : (l : List (ℕ × Node)) (z : ℕ × Node) (n : ℕ) → numbered (l ++ z ∷ []) n ≡ option_or (numbered l n) (if length l == n then Some z else None)
 numbered_pushed l z n = by (length l == n) refl
   where
@@ -270,7 +277,7 @@ numbered_pushed l z n = by (length l == n) refl
     by true e =
         let at = (unsigned_Decides (length l) n).0 e in
         ap (numbered (l ++ z ∷ [])) (sym at) ∙ numbered_last l z ∙ ap (λ o. option_or o (Some z)) (sym (past_numbers l n (omega (arith, at))))
-    by false e = numbered_before l z n (λ f. true≢false (sym ((unsigned_Decides (length l) n).1 f) ∙ e)) ∙ none_or (numbered l n)
+    by false e = numbered_before l z n (λ f. true≢false (sym ((unsigned_Decides (length l) n).1 f) ∙ e)) ∙ or_none (numbered l n)
 
 pub no_number : (l : List (ℕ × Node)) (n : ℕ) → numbered l n ≡ None → length l ≤ n
 no_number [] n e = omega arith

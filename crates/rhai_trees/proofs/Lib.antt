@@ -2,8 +2,8 @@ pub mod SignLemmas
 pub mod OperatorLemmas
 pub mod ChainLemmas
 pub mod LinkedLemmas
-pub mod DigestLemmas
 pub mod CaseKeyLemmas
+pub mod DigestLemmas
 pub mod CaseIndexLemmas
 pub mod CaseSearchLemmas
 pub mod StatementLemmas

@@ -1,5 +1,5 @@
--- Digests of case values. Equal values have equal digests, where no object map has a name twice; so has none that is
--- read.
+-- Digests of case values. Equal values have equal digests, unless an object map in one of them has a name twice, which
+-- readers refuse.
 use Rattle.std.specs.Prelude.{◌+◌, ◌%◌, ◌^◌, ℕ, Bool, true, ◌&&◌, not, List, [], ◌∷◌, ◌++◌, Option, None, Some}
 use Rattle.std.specs.Prelude.{◌≡◌, codes, false, fold, pos, refl}
 use Rattle.std.specs.Hash as fed

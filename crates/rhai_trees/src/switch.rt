@@ -138,6 +138,7 @@ pub fn test_cases(alloc: Global, arms: &Arms, cases: &[Expr]) -> ParseResult<()>
 // ---- one more arm
 
 // Makes the value of the case at `place`, to which this one is equal, lead to one more arm, after those before.
+// That is rare, so it is kept out of the loop over cases.
 #[inline(never)]
 fn push_index(
     cases: &mut Vec<SwitchCase>,
@@ -196,7 +197,7 @@ fn push_keyed(
     Ok(())
 }
 
-// The same of a value that has no key of its own.
+// The same of a value that has no key of its own. That is rare, so it is kept out of the loop over cases.
 #[inline(never)]
 fn push_parts(
     alloc: Global,
