@@ -1,6 +1,6 @@
 -- What contracts see of a frame. That is what is live in a block, how deep the block is, which tokens its expressions
 -- may have, and what is known around the script.
-use Rattle.std.specs.Prelude.{◌≡◌, ℕ, ◌+◌, ◌<◌, ◌^◌, ◌++◌, List, [], Option, Some, None, flat_map, length, map}
+use Rattle.std.specs.Prelude.{◌≡◌, ℕ, ◌+◌, ◌<◌, ◌^◌, List, [], Option, Some, None, flat_map, length, map}
 use Rattle.std.specs.Borrow.{Bor}
 use Rattle.std.specs.Rc.{rc_str_bytes}
 use Rattle.std.specs.declared.alloc.Global.{Global}
@@ -10,8 +10,6 @@ use Rattle.rhai_lower.specs.Texts.{Text}
 use Rattle.rhai_grammar.specs.Contexts as context
 use Rattle.rhai_grammar.specs.Contexts.{Live}
 use Rattle.rhai_grammar.specs.declared.filter.ExprFilter.{ExprFilter}
-use Rattle.rhai_base.specs.declared.known.AllImports.{AllImports}
-use Rattle.rhai_base.specs.declared.known.Known.{Known}
 
 abbrev pub known_variables : Option (Bor (List SlotValue)) → List SlotValue
 known_variables None = []
@@ -20,18 +18,6 @@ known_variables (Some variables) = variables.now
 -- the names of imports, which are in lists
 abbrev pub imported_names : List (Bor (List (RcStr Global))) → List Text
 imported_names = flat_map (λ names. map rc_str_bytes names.now)
-
--- what the code knows around the script, as the definitions see it
-abbrev pub known_of : Known → context.Known
-known_of k = record {
-  variables = known_variables k.variables;
-  imports = map rc_str_bytes k.imports.now ++ imported_names k.around.now;
-  modules = map rc_str_bytes k.modules.now;
-}
-
--- the names of all modules that are imported around a function
-abbrev pub all_names : AllImports → List Text
-all_names all = map rc_str_bytes all.imports.now ++ imported_names all.lists.items
 
 -- What is live, how many frames are around this one, which tokens an expression may have, what is known around the
 -- script, and how many functions and closures have begun around the frame.

@@ -9,9 +9,9 @@ ghost use Rattle.rhai_grammar.specs.Imports.{module_number};
 ghost use Rattle.rhai_grammar.specs.Slots.{number};
 ghost use Rattle.rhai_grammar.specs.Targets.{is_constant_at};
 ghost use Rattle.rhai_grammar.specs.declared.filter.ExprFilter.TheVariants.{All, AllButPipe};
-ghost use Rattle.rhai_base.specs.Frames.{SamePlace, all_names, imported_names, known_of};
+ghost use Rattle.rhai_base.specs.Frames.{SamePlace};
 
-use crate::known::{AllImports, Known, push_list, push_lists};
+use crate::known::Known;
 use crate::lookup::{import_place, place_of};
 use crate::slots::{define, export};
 use rhai_grammar::ExprFilter;
@@ -43,8 +43,8 @@ pub struct Frame<'p> {
     imports: NamedList<RcStr>,
     // Which tokens the expressions in this block may contain.
     filter: ExprFilter,
-    // What is known around the script.
-    known: Known<'p>,
+    // What is known around the script, or the function.
+    known: &'p Known<'p>,
     // How many functions and closures have begun around this frame.
     begun: usize,
 }
@@ -52,7 +52,7 @@ pub struct Frame<'p> {
 impl<'p> Model for Frame<'p> {
     ghost use Rattle.std.specs.Prelude.{◌++◌, ◌+◌, length, map};
     ghost use Rattle.std.specs.Rc.{rc_str_bytes};
-    ghost use Rattle.rhai_base.specs.Frames.{FrameValue, IsCounted, known_of, outer_depth, outer_imports, outer_slots};
+    ghost use Rattle.rhai_base.specs.Frames.{FrameValue, IsCounted, outer_depth, outer_imports, outer_slots};
 
     ghost Value = { FrameValue };
 
@@ -64,7 +64,7 @@ impl<'p> Model for Frame<'p> {
       };
       depth = outer_depth f.outer;
       filter = f.filter;
-      known = known_of f.known;
+      known = f.known.now;
       begun = f.begun;
     } };
 
@@ -86,14 +86,14 @@ impl<'p> Frame<'p> {
         block: usize,
         imports: Vec<RcStr>,
         filter: ExprFilter,
-        known: Known<'p>,
+        known: &'p Known<'_>,
         begun: usize,
     ) -> Frame<'p>
         ensures { result ≡ record {
           live = record { slots = stack; block = block; imports = map rc_str_bytes imports.items };
           depth = 0;
           filter = filter;
-          known = known_of known.entry;
+          known = known.now;
           begun = begun;
         } }
     {
@@ -154,54 +154,43 @@ impl<'p> Frame<'p> {
         }
     }
 
-    /// The frame of a function or closure that stands in this one, in which nothing is live: it knows the same as this
-    /// one, and of modules the `imports`, which the caller takes from `all_imports`. `begun` functions and closures
-    /// have begun around it, itself included. Its expressions may contain every token. Does not allocate.
-    pub fn in_function<'f>(
-        &'f self,
-        alloc: Global,
-        imports: &'f AllImports<'_>,
-        begun: usize,
-    ) -> Frame<'f>
+    /// The frame of a function or closure, in which nothing is live. `known` is what it knows, which the frame around it
+    /// gives, and `begun` functions and closures have begun around it, itself included. Its expressions may contain
+    /// every token. Does not allocate.
+    pub fn of_function(alloc: Global, known: &'p Known<'_>, begun: usize) -> Frame<'p>
         ensures { result ≡ record {
           live = nothing_live;
           depth = 0;
           filter = All;
-          known = record self.now.known { imports = all_names imports.now };
+          known = known.now;
           begun = begun;
         } }
     {
-        let known = Known {
-            variables: self.known.variables,
-            imports: imports.imports,
-            around: &imports.lists,
-            modules: self.known.modules,
-        };
         let filter = ExprFilter::All;
         Frame::new(Scope::new(alloc), 0, Vec::new(alloc), filter, known, begun)
     }
 
-    /// The names of the modules that are known to be imported around, and then of those that are live here. The time
-    /// grows with the blocks that import, not with the imports. The error is that there is no memory for them.
-    pub fn all_imports<'f>(&'f self, alloc: Global) -> Result<AllImports<'f>, AllocError>
-        ensures { IfOk result (λ all. all_names all ≡ self.now.known.imports ++ self.now.live.imports) }
+    /// What a function or closure knows that stands in this frame: what is known here, and the modules that are
+    /// imported here. The time grows with the blocks that import, not with the imports. The error is that there is no
+    /// memory for it.
+    pub fn known_inside<'f>(&'f self, alloc: Global) -> Result<Known<'f>, AllocError>
+        ensures { IfOk result (λ known. known
+            ≡ record self.now.known { imports = self.now.known.imports ++ self.now.live.imports }) }
     {
-        let imports = self.known.imports;
-        let mut lists = Vec::new(alloc);
-        push_lists(&mut lists, self.known.around)?;
-        self.push_imports(&mut lists)?;
-        Ok(AllImports { imports, lists })
+        let mut known = self.known.try_clone(alloc)?;
+        self.push_imports(&mut known)?;
+        Ok(known)
     }
 
-    // Adds the lists of the live imports. The error is that there is no memory for them.
-    fn push_imports<'f>(&'f self, all: &mut Vec<&'f NamedList<RcStr>>) -> Result<(), AllocError>
-        ensures { OnOk result (imported_names all.new.items
-            ≡ imported_names all.old.items ++ self.now.live.imports) }
+    // Adds the live imports to what is known. The error is that there is no memory for them.
+    fn push_imports<'f>(&'f self, known: &mut Known<'f>) -> Result<(), AllocError>
+        ensures { OnOk result (known.new
+            ≡ record known.old { imports = known.old.imports ++ self.now.live.imports }) }
     {
         if let Some(outer) = self.outer {
-            outer.push_imports(all)?;
+            outer.push_imports(known)?;
         }
-        push_list(all, &self.imports)
+        known.push_imports(&self.imports)
     }
 
     /// How many functions and closures have begun around this frame. Does not allocate.

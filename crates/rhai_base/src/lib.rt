@@ -30,7 +30,7 @@ pub use counts::ParseCounts;
 pub use flags::{LangOptions, ParseSettingFlags};
 pub use fn_lib::{FnLib, add_function, closure_count, functions, has_function, is_function_name};
 pub use frame::Frame;
-pub use known::{AllImports, Known};
+pub use known::Known;
 pub use library::Library;
 pub use library_index::LibraryIndex;
 pub use settings::{ParseSettings, RunSettings};

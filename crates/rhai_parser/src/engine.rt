@@ -2,7 +2,7 @@
 
 ghost use Rattle.std.specs.Prelude.{◌≡◌, ◌==◌, ◌++◌, ◌∷◌, [], OnErr, OnOk, map};
 ghost use Rattle.std.specs.Int.RustNames.{bit_and};
-ghost use Rattle.rhai_base.specs.Frames.{known_of, known_variables};
+ghost use Rattle.rhai_base.specs.Frames.{known_variables};
 ghost use Rattle.std.specs.Rc.{rc_str_bytes};
 ghost use Rattle.rhai_grammar.specs.Imports.{is_among};
 ghost use Rattle.rhai_parser.specs.Engines.{fresh_engine, with_bits, expr_settings};
@@ -211,21 +211,16 @@ impl Engine {
     // What is known around a script: these variables, these imports, and the modules of the engine.
     pub(crate) fn known<'k>(
         &'k self,
-        variables: Option<&'k Scope>,
+        variables: &'k Option<&Scope>,
         imports: &'k [RcStr],
     ) -> Known<'k>
-        ensures { known_of result ≡ record {
-          variables = known_variables variables.entry;
+        ensures { result ≡ record {
+          variables = known_variables variables.now;
           imports = map rc_str_bytes imports.now;
           modules = self.now.sub_modules;
         } }
     {
-        Known {
-            variables,
-            imports,
-            around: &[],
-            modules: &self.sub_modules,
-        }
+        Known::new(self.alloc, variables, imports, &self.sub_modules)
     }
 
     // The settings that one expression is read under, before the caller changes them.

@@ -170,9 +170,9 @@ impl Engine {
             global_imports,
             mut counts,
         } = state;
-        let known = self.known(external_constants, &global_imports);
+        let known = self.known(&external_constants, &global_imports);
         let begun = counts.fn_begun();
-        let frame = Frame::new(stack, frame_pointer, imports, expr_filter, known, begun);
+        let frame = Frame::new(stack, frame_pointer, imports, expr_filter, &known, begun);
         counts.nest_enter();
         self.read_script(
             input,

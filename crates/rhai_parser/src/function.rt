@@ -170,8 +170,8 @@ impl<R: LentReaders> Reader<'_, R> {
         let begun = shared
             .library
             .test_room(limit, frame.begun(), settings.pos)?;
-        let imports = frame.all_imports(self.engine.alloc())?;
-        let mut inner = frame.in_function(self.engine.alloc(), &imports, begun);
+        let known = frame.known_inside(self.engine.alloc())?;
+        let mut inner = Frame::of_function(self.engine.alloc(), &known, begun);
         let max_depth = self.engine.max_function_expr_depth();
         let deeper = settings
             .in_function(self.engine.options(), max_depth)

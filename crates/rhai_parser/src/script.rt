@@ -219,13 +219,13 @@ impl Engine {
         let stack = mem::replace(&mut state.stack, Scope::new(alloc));
         let imports = mem::replace(&mut state.imports, Vec::new(alloc));
         let around = mem::replace(&mut state.global_imports, Vec::new(alloc));
-        let known = self.known(state.external_constants, &around);
+        let known = self.known(&state.external_constants, &around);
         let frame = Frame::new(
             stack,
             state.frame_pointer,
             imports,
             state.expr_filter,
-            known,
+            &known,
             state.counts.fn_begun(),
         );
         state.counts.nest_enter();
@@ -239,6 +239,7 @@ impl Engine {
             chosen,
         );
         state.counts.nest_leave();
+        drop(known);
         state.global_imports = around;
         read
     }
@@ -276,9 +277,9 @@ impl Engine {
             global_imports,
             mut counts,
         } = state;
-        let known = self.known(external_constants, &global_imports);
+        let known = self.known(&external_constants, &global_imports);
         let begun = counts.fn_begun();
-        let frame = Frame::new(stack, frame_pointer, imports, expr_filter, known, begun);
+        let frame = Frame::new(stack, frame_pointer, imports, expr_filter, &known, begun);
         let settings = self.script_settings();
         let (mut slots, mut modules) = (Scope::new(self.alloc()), Vec::new(self.alloc()));
         counts.nest_enter();

@@ -209,15 +209,13 @@ fn library_refused(rt: HostRuntime) {
 }
 
 // The frame of a script that imports `m`, which knows as many modules. Where memory is refused, it is none.
-fn frame<'p>(rt: &impl Abort, alloc: Global) -> Result<Frame<'p>, AllocError> {
+fn frame<'p>(
+    rt: &impl Abort,
+    alloc: Global,
+    known: &'p Known<'_>,
+) -> Result<Frame<'p>, AllocError> {
     let mut imports = Vec::new(alloc);
     imports.push(RcStr::from_str(alloc, "m")?)?;
-    let known = Known {
-        variables: None,
-        imports: &[],
-        around: &[],
-        modules: &[],
-    };
     let frame = Frame::new(Scope::new(alloc), 0, imports, ExprFilter::All, known, 0);
     assert!(rt; knows_imports(&frame, alloc)?);
     Ok(frame)
@@ -225,14 +223,15 @@ fn frame<'p>(rt: &impl Abort, alloc: Global) -> Result<Frame<'p>, AllocError> {
 
 // Whether a function in this frame knows that `m` was imported, and `z` was not.
 fn knows_imports(frame: &Frame<'_>, alloc: Global) -> Result<bool, AllocError> {
-    let all = frame.all_imports(alloc)?;
-    let inner = frame.in_function(alloc, &all, 1);
+    let known = frame.known_inside(alloc)?;
+    let inner = Frame::of_function(alloc, &known, 1);
     Ok(inner.may_enter(true, "m") && !inner.may_enter(true, "z"))
 }
 
 // Imports a module of each name. The latest import of a name is found on the way.
 fn indexed_imports(rt: &impl Abort, alloc: Global) -> Result<(), AllocError> {
-    let mut frame = frame(rt, alloc)?;
+    let known = Known::new(alloc, &None, &[], &[]);
+    let mut frame = frame(rt, alloc, &known)?;
     for name in &NAMES {
         frame.import(alloc, &Some(RcStr::from_str(alloc, name)?))?;
         assert!(rt; is_import(&frame, name, 1) && frame.find_module("z").is_none());
@@ -293,9 +292,10 @@ fn add_ended(
 fn closures(rt: &impl Abort, alloc: Global) -> Result<(), AllocError> {
     let captured = captured(rt, alloc)?;
     let name = make_anonymous_fn(alloc, 0)?;
+    let known = Known::new(alloc, &None, &[], &[]);
     closure_value(
         alloc,
-        &frame(rt, alloc)?,
+        &frame(rt, alloc, &known)?,
         name.clone()?,
         1,
         &captured,

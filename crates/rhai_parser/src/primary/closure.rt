@@ -50,8 +50,8 @@ impl<R: LentReaders> Reader<'_, R> {
             .test_room(limit, frame.begun(), settings.pos)?;
         let names = next_closure_parameters(alloc, shared, bars)?;
         let deeper = settings.in_closure(self.engine.options()).level_up()?;
-        let imports = frame.all_imports(alloc)?;
-        let mut inner = frame.in_function(alloc, &imports, begun);
+        let known = frame.known_inside(alloc)?;
+        let mut inner = Frame::of_function(alloc, &known, begun);
         declare_parameters(&mut inner, &names)?;
         let outer = shared.begin_apart(alloc);
         let body = nested!(shared, self.parse_closure_body(shared, &mut inner, deeper))?;

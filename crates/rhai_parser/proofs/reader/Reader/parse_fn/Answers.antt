@@ -17,12 +17,12 @@ pub returns-in_err-key-clause-reads : goal.returns-in_err-key-clause-reads
 returns-in_err-key-clause-reads g c =
     let p = err_from_is_err_and c.from_residual-in_err-key.result c.from_residual-in_err-key.ensures.1 in
     let context = context_of c.args.self.now.engine.now c.args.frame.now c.args.settings in
-    let inside = context_of c.args.self.now.engine.now c.in_function-inner.result c.in_ok-deeper.deeper in
+    let inside = context_of c.args.self.now.engine.now c.of_function-inner.result c.in_ok-deeper.deeper in
     let begun : Begun context (live_of c.args.frame.now) c.args.settings.pos inside c.in_ok-deeper.deeper.pos (state_of c.args.shared.now) = record {
       global = search rules;
       fits = search rules;
       room = search rules;
-      context = context_inside c.args.self.now.engine.now c.args.frame.now c.in_function-inner.result c.args.settings c.in_ok-deeper.deeper (search rules) (search rules) (search rules) (search rules);
+      context = context_inside c.args.self.now.engine.now c.args.frame.now c.of_function-inner.result c.args.settings c.in_ok-deeper.deeper (search rules) (search rules) (search rules) (search rules);
       stands = search rules;
     } in
     rw (p.1, p.2) (function_fails context (live_of c.args.frame.now) (comments_of c.args.comments.now) c.args.first c.args.settings.pos c.args.private inside c.in_ok-deeper.deeper.pos (state_of c.args.shared.now) begun
@@ -31,12 +31,12 @@ returns-in_err-key-clause-reads g c =
 pub returns-clause-reads : goal.returns-clause-reads
 returns-clause-reads g c =
     let context = context_of c.args.self.now.engine.now c.args.frame.now c.args.settings in
-    let inside = context_of c.args.self.now.engine.now c.in_function-inner.result c.in_ok-deeper.deeper in
+    let inside = context_of c.args.self.now.engine.now c.of_function-inner.result c.in_ok-deeper.deeper in
     let begun : Begun context (live_of c.args.frame.now) c.args.settings.pos inside c.in_ok-deeper.deeper.pos (state_of c.args.shared.now) = record {
       global = search rules;
       fits = search rules;
       room = search rules;
-      context = context_inside c.args.self.now.engine.now c.args.frame.now c.in_function-inner.result c.args.settings c.in_ok-deeper.deeper (search rules) (search rules) (search rules) (search rules);
+      context = context_inside c.args.self.now.engine.now c.args.frame.now c.of_function-inner.result c.args.settings c.in_ok-deeper.deeper (search rules) (search rules) (search rules) (search rules);
       stands = search rules;
     } in
     let call = guarded (FunctionStatement context (live_of c.args.frame.now) (comments_of c.args.comments.now) c.args.first c.args.settings.pos c.args.private) (state_of c.args.shared.now) in
