@@ -285,6 +285,17 @@ pub struct AST {
     pub functions: Vec<Rc<ScriptFuncDef>>,
 }
 
+impl Default for Expr {
+    ghost use Rattle.rhai_lower.specs.Positions.{nowhere};
+    ghost use Rattle.rhai_lower.specs.declared.ast.Expr.TheVariants.{Unit};
+
+    ghost is_default = { λ e. e ≡ Unit nowhere };
+
+    fn default() -> Self {
+        Expr::Unit(Position::NONE)
+    }
+}
+
 impl Drop for FnCallExpr {
     // A run of operators nests in the first operands, as deep as it is long; a run of `**` in the last ones. A loop
     // goes down these; the derived drop would overflow the stack.

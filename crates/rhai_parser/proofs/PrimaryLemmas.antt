@@ -1,6 +1,6 @@
 -- Reserved words, and names with their uses. This is what the reading program does where the code asks a function
 -- outside of the readers.
-use Rattle.std.proofs.Common.{◌≡◌, Bool, List, None, Result, true, false, ◌&&◌, ◌||◌, Ok, Err, refl, sym, ap, ◌∙◌, if◌then◌else◌}
+use Rattle.std.proofs.Common.{◌≡◌, Bool, List, None, Result, true, false, ◌&&◌, Ok, Err, refl, sym, ap, ◌∙◌, if◌then◌else◌}
 use Rattle.rhai_lower.specs.Texts.{Text}
 use Rattle.rhai_lower.specs.Lexemes.{Lexeme}
 use Rattle.rhai_lower.specs.Nodes.{Node, Properties, this}

@@ -10,8 +10,8 @@ ghost use Rattle.rhai_grammar.specs.Switches.{nothing_collected};
 ghost use Rattle.rhai_grammar.specs.declared.role.Construct.TheVariants.{Switch};
 ghost use Rattle.rhai_parser.specs.Readers.{Covers, GoesOn, Reads, action, arm, arms, case, case_guard, cases};
 ghost use Rattle.rhai_parser.specs.Readers.{construct};
-ghost use Rattle.rhai_parser.specs.Readers.{default_arm, state_of, views_of};
-ghost use Rattle.rhai_parser.specs.Switches.{action_view, arm_view};
+ghost use Rattle.rhai_parser.specs.Readers.{default_arm, state_of};
+ghost use Rattle.rhai_parser.specs.Switches.{CaseFrame, action_view, arm_view, cases_view};
 ghost use Rattle.rhai_trees.specs.Arms.{arms_view};
 ghost use Rattle.rhai_parser.specs.Rooms.{Stays};
 
@@ -25,6 +25,7 @@ use rhai_base::{Frame, ParseSettingFlags, ParseSettings};
 use rhai_grammar::{DueToken, ParseResult};
 use rhai_lower::{Expr, Position, Stmt};
 use rhai_trees::{Arms, make_switch, new_arms, no_guard, push_arm, push_default};
+use smallvec::SmallVec;
 
 impl<R: LentReaders> Reader<'_, R> {
     /// Reads a `switch` after its keyword, where the settings stand.
@@ -68,6 +69,7 @@ impl<R: LentReaders> Reader<'_, R> {
             shared.old result
             shared.new }
     {
+        let in_cases = frame.in_case(self.engine.alloc());
         let mut arms = new_arms(self.engine.alloc());
         loop {
             match next_arm(self.engine.alloc(), shared.input)? {
@@ -81,7 +83,10 @@ impl<R: LentReaders> Reader<'_, R> {
                 }
                 NextArm::Case => {}
             }
-            let arm = nested!(shared, self.parse_arm(shared, frame, settings, &arms))?;
+            let arm = nested!(
+                shared,
+                self.parse_arm(shared, frame, &in_cases, settings, &arms)
+            )?;
             push_arm(
                 self.engine.alloc(),
                 &mut arms,
@@ -92,15 +97,18 @@ impl<R: LentReaders> Reader<'_, R> {
         }
     }
 
-    /// Reads an arm with cases, and the comma after it. Its cases are tested after these arms.
+    /// Reads an arm with cases, which are read in a frame of their own, and the comma after it. Its cases are tested
+    /// after these arms.
     #[tactic(auto, using(crate::proofs::ConstructReaders::parse_arm))]
     fn parse_arm(
         &self,
         shared: &mut Shared<'_>,
         frame: &Frame<'_>,
+        in_cases: &Frame<'_>,
         settings: ParseSettings,
         before: &Arms,
     ) -> ParseResult<Arm>
+        requires in_cases { CaseFrame frame.now in_cases.now }
         requires lent { Covers (R.lent self.now.readers) (arm self.now.engine.now frame.now settings
             (arms_view before.now)) shared.old }
         ensures goes_on { GoesOn shared.old shared.new }
@@ -111,7 +119,7 @@ impl<R: LentReaders> Reader<'_, R> {
         ensures shrinks { OnOk result
             (left (state_of shared.new).cursor.tokens + 1 ≤ left (state_of shared.old).cursor.tokens) }
     {
-        let cases = self.parse_cases(shared, frame, settings)?;
+        let cases = self.parse_cases(shared, frame, in_cases, settings)?;
         let guard = nested!(shared, self.parse_case_guard(shared, frame, settings))?;
         match_token(
             self.engine.alloc(),
@@ -156,18 +164,20 @@ impl<R: LentReaders> Reader<'_, R> {
         &self,
         shared: &mut Shared<'_>,
         frame: &Frame<'_>,
+        in_cases: &Frame<'_>,
         settings: ParseSettings,
-    ) -> ParseResult<Vec<Expr>>
+    ) -> ParseResult<SmallVec<Expr, 1>>
+        requires in_cases { CaseFrame frame.now in_cases.now }
         requires lent { Covers (R.lent self.now.readers) (cases self.now.engine.now frame.now settings no_nodes)
             shared.old }
         ensures goes_on { GoesOn shared.old shared.new }
         ensures stays { Stays self.now.engine.now frame.now settings 2 shared.old shared.new }
-        ensures reads { Reads (cases self.now.engine.now frame.now settings no_nodes) views_of shared.old result
+        ensures reads { Reads (cases self.now.engine.now frame.now settings no_nodes) cases_view shared.old result
             shared.new }
     {
-        let mut cases = Vec::new(self.engine.alloc());
+        let mut cases = SmallVec::new(self.engine.alloc());
         loop {
-            let case = nested!(shared, self.parse_case(shared, frame, settings))?;
+            let case = nested!(shared, self.parse_case(shared, frame, in_cases, settings))?;
             cases.push(case)?;
             if pass_token(shared.input, DueToken::Pipe)? {
                 continue;
@@ -182,18 +192,19 @@ impl<R: LentReaders> Reader<'_, R> {
         &self,
         shared: &mut Shared<'_>,
         frame: &Frame<'_>,
+        in_cases: &Frame<'_>,
         settings: ParseSettings,
     ) -> ParseResult<Expr>
+        requires in_cases { CaseFrame frame.now in_cases.now }
         requires lent { Covers (R.lent self.now.readers) (case self.now.engine.now frame.now settings)
             shared.old }
         ensures goes_on { GoesOn shared.old shared.new }
         ensures stays { Stays self.now.engine.now frame.now settings 1 shared.old shared.new }
         ensures reads { Reads (case self.now.engine.now frame.now settings) view shared.old result shared.new }
     {
-        let inner = frame.in_case(self.engine.alloc());
         let case = self
             .readers
-            .parse_expr(self.engine, shared, &inner, settings);
+            .parse_expr(self.engine, shared, in_cases, settings);
         as_case(self.engine.alloc(), case)
     }
 

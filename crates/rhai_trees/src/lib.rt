@@ -16,6 +16,7 @@ pub mod kind;
 pub mod link;
 pub mod literal;
 pub mod operator;
+mod room;
 pub mod sign;
 pub mod statement;
 pub mod strings;

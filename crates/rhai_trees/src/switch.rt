@@ -18,6 +18,7 @@ use crate::case_index::{CaseKey, add_key, key_of};
 use crate::case_search::{CasePlace, find_parts};
 use crate::case_value::range_of;
 use crate::literal::is_literal_value;
+use crate::room::make_room;
 use crate::statement::{ends_itself, is_empty};
 use indexmap::IndexSet;
 use rhai_grammar::{ParseError, ParseErrorType, ParseResult};
@@ -167,8 +168,7 @@ fn push_new_value(
     ensures { OnOk result
         (case_views cases.new.items ≡ with_value (case_views cases.old.items) (view value) index) }
 {
-    let mut indices = SmallVec::new(alloc);
-    indices.push(index)?;
+    let indices = SmallVec::from_buf(alloc, [index]);
     cases.push(SwitchCase { value, indices })?;
     Ok(())
 }
@@ -280,7 +280,7 @@ fn push_cases(
     arms: &mut SwitchCasesCollection,
     keys: &mut IndexSet<CaseKey>,
     index: usize,
-    cases: Vec<Expr>,
+    cases: SmallVec<Expr, 1>,
 ) -> Result<(), AllocError>
     requires { Keyed keys.old.keys (collected_view arms.old).cases }
     ensures pushed { OnOk result
@@ -315,10 +315,11 @@ fn push_action(
 
 /// Adds an arm, which has these cases; its guard is `no_guard` if none was written. The error is that there is no
 /// memory for it; then the arms are of no use any more.
+#[inline(always)]
 pub fn push_arm(
     alloc: Global,
     arms: &mut Arms,
-    cases: Vec<Expr>,
+    cases: SmallVec<Expr, 1>,
     guard: Expr,
     action: Expr,
 ) -> Result<(), AllocError>
@@ -328,7 +329,8 @@ pub fn push_arm(
     ensures indexed { OnOk result (Indexed arms.new) }
 {
     let index = push_action(&mut arms.collected, guard, action)?;
-    push_cases(alloc, &mut arms.collected, &mut arms.keys, index, cases)
+    push_cases(alloc, &mut arms.collected, &mut arms.keys, index, cases)?;
+    make_room(arms)
 }
 
 /// The arms with the default arm. The error is that there is no memory for it.

@@ -9,8 +9,8 @@ ghost use Rattle.rhai_grammar.specs.Cursors.{left};
 ghost use Rattle.rhai_grammar.specs.Switches.{arm_fault, ends_arm};
 ghost use Rattle.rhai_reading.specs.Reading.{ArmEnd, DefaultEnd, arm_on, default_on};
 ghost use Rattle.rhai_reading.specs.Running.{Caller, Done, Gives, Out, Progress, and_then, exec, recast, result_of};
-ghost use Rattle.rhai_parser.specs.Readers.{GoesOn, state_of, views_of};
-ghost use Rattle.rhai_parser.specs.Switches.{action_view, arm_view};
+ghost use Rattle.rhai_parser.specs.Readers.{GoesOn, state_of};
+ghost use Rattle.rhai_parser.specs.Switches.{action_view, arm_view, cases_view};
 ghost use Rattle.rhai_trees.specs.Arms.{arms_view};
 ghost use Rattle.rhai_parser.specs.Rooms.{Steady};
 
@@ -19,6 +19,7 @@ use rhai_base::leaves::arms::{arm_continues, as_literal, default_ends};
 use rhai_grammar::ParseResult;
 use rhai_lower::{Expr, Position, Stmt};
 use rhai_trees::{Arms, ends_arm, make_statement_value, test_cases};
+use smallvec::SmallVec;
 use std::alloc::Global;
 
 /// What an arm of a `switch` does.
@@ -34,7 +35,7 @@ pub struct Action {
 #[derive(Drop)]
 pub struct Arm {
     /// The values that lead to it.
-    pub cases: Vec<Expr>,
+    pub cases: SmallVec<Expr, 1>,
     /// Its guard.
     pub guard: Expr,
     /// What it does.
@@ -70,7 +71,7 @@ pub(crate) fn end_arm(
     alloc: Global,
     shared: &mut Shared<'_>,
     before: &Arms,
-    cases: Vec<Expr>,
+    cases: SmallVec<Expr, 1>,
     guard: Expr,
     does: Action,
 ) -> ParseResult<Arm>
@@ -78,8 +79,8 @@ pub(crate) fn end_arm(
     ensures steady { Steady shared.old shared.new }
     ensures gives { (call : Caller) → call (ArmEnd does.ends) (state_of shared.old)
         ≡ result_of (ArmEnd does.ends) (state_of shared.old)
-        → Gives arm_view (exec call (arm_on (views_of cases) (view guard) (action_view does)
-        (arm_fault (arms_view before.now) (views_of cases))) (state_of shared.old)) result (state_of shared.new) }
+        → Gives arm_view (exec call (arm_on (cases_view cases) (view guard) (action_view does)
+        (arm_fault (arms_view before.now) (cases_view cases))) (state_of shared.old)) result (state_of shared.new) }
 {
     test_cases(alloc, before, &cases)?;
     arm_continues(alloc, shared.input, does.ends)?;

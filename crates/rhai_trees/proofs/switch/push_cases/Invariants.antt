@@ -1,6 +1,5 @@
 -- With the cases that are left, the arms are what all cases give.
-use Rattle.std.proofs.Common.{◌≡◌, length}
-use Rattle.std.specs.Vec.Iter.{into_iter_items, into_iter_len}
+use Rattle.std.proofs.Common.{◌≡◌}
 use Rattle.rhai_lower.specs.View.{views}
 use Rattle.rhai_grammar.specs.Switches.{with_cases}
 use Rattle.rhai_trees.specs.CaseKeys.{Keyed}
@@ -9,7 +8,6 @@ use Rattle.rhai_trees.proofs.switch.push_cases.Given as goal
 
 abbrev pub invariant-loop-case : goal.invariant-loop-case
 invariant-loop-case l = record {
-  result : with_cases l.index (collected_view l.arms) (views (into_iter_items l.case-iterator)) ≡ with_cases l.index (collected_view l.initial.arms) (views (into_iter_items l.initial.case-iterator));
+  result : with_cases l.index (collected_view l.arms) (views l.case-iterator) ≡ with_cases l.index (collected_view l.initial.arms) (views l.initial.case-iterator);
   indexed : Keyed l.keys.keys (collected_view l.arms).cases;
-  count : into_iter_len l.case-iterator ≡ length (into_iter_items l.case-iterator);
 }

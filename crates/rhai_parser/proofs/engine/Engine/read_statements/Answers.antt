@@ -1,4 +1,4 @@
-use Rattle.std.proofs.Common.{List, [], ap, refl, rules, subst, ◌-◌, ◌^◌, ◌≤◌, ◌≡◌}
+use Rattle.std.proofs.Common.{List, [], ap, refl, rules, subst, ◌≡◌}
 use Rattle.rhai_grammar.specs.Cursors.{cursor_of}
 use Rattle.rhai_grammar.specs.Uses.{Use}
 use Rattle.rhai_base.specs.Counts.{counts_of}

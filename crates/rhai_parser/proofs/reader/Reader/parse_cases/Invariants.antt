@@ -2,13 +2,14 @@ use Rattle.std.proofs.Common.{◌≡◌}
 use Rattle.rhai_lower.specs.Nodes.{no_nodes}
 use Rattle.rhai_grammar.specs.Cursors.{left}
 use Rattle.rhai_reading.specs.Running.{result_of}
-use Rattle.rhai_parser.specs.Readers.{GoesOn, cases, state_of, views_of}
+use Rattle.rhai_parser.specs.Readers.{GoesOn, cases, state_of}
 use Rattle.rhai_parser.specs.Rooms.{Stays}
+use Rattle.rhai_parser.specs.Switches.{cases_view}
 use Rattle.rhai_parser.proofs.reader.Reader.parse_cases.Given as goal
 
 abbrev pub invariant-loop-cases : goal.invariant-loop-cases
 invariant-loop-cases g l = record {
-  same : result_of (cases l.fn.self.engine.now l.fn.frame l.fn.settings no_nodes) (state_of l.fn.shared) ≡ result_of (cases l.self.engine.now l.frame l.settings (views_of l.cases)) (state_of l.shared);
+  same : result_of (cases l.fn.self.engine.now l.fn.frame l.fn.settings no_nodes) (state_of l.fn.shared) ≡ result_of (cases l.self.engine.now l.frame l.settings (cases_view l.cases)) (state_of l.shared);
   goes_on : GoesOn l.fn.shared l.shared;
   stays : Stays l.self.engine.now l.frame l.settings 2 l.fn.shared l.shared;
 }

@@ -13,7 +13,6 @@ use Rattle.rhai_base.specs.declared.settings.ParseSettings.{ParseSettings}
 use Rattle.rhai_reading.specs.Running.{Done, result_of}
 use Rattle.rhai_parser.specs.Frames.{context_of, live_of}
 use Rattle.rhai_parser.specs.Readers.{binary_op, state_of}
-use Rattle.rhai_parser.specs.Runs.{in_run}
 use Rattle.rhai_parser.proofs.RunLemmas.{Awaits, Pushes, awaits_done, awaits_refused, nothing_waits, popped_as, popped_less, popped_limit, popped_refused, pushed_as, right_refused, run_ends, run_goes_on}
 use Rattle.rhai_parser.proofs.reader.Reader.parse_run.Goals as goal
 use Rattle.rhai_parser.proofs.reader.Reader.parse_run.Goals.{After-after-outer, After-join}
