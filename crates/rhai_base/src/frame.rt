@@ -154,9 +154,9 @@ impl<'p> Frame<'p> {
         }
     }
 
-    /// The frame of a function or closure, in which nothing is live. `known` is what it knows, which the frame around it
-    /// gives, and `begun` functions and closures have begun around it, itself included. Its expressions may contain
-    /// every token. Does not allocate.
+    /// The frame of a function or closure, in which nothing is live. `known` is what it knows, as `known_inside` of the
+    /// frame around it gives it, and `begun` functions and closures have begun around it, itself included. Its
+    /// expressions may contain every token. Does not allocate.
     pub fn of_function(alloc: Global, known: &'p Known<'_>, begun: usize) -> Frame<'p>
         ensures { result ≡ record {
           live = nothing_live;

@@ -81,7 +81,8 @@ impl<'p> Known<'p> {
 
     // Adds a list of imports after those that are known. The error is that there is no memory for it.
     pub(crate) fn push_imports(&mut self, list: &'p NamedList<RcStr>) -> Result<(), AllocError>
-        ensures { OnOk result (self.new ≡ record self.old { imports = self.old.imports ++ map rc_str_bytes list.now }) }
+        ensures { OnOk result (self.new
+            ≡ record self.old { imports = self.old.imports ++ map rc_str_bytes list.now }) }
     {
         if !list.is_empty() {
             self.around.push(list)?;
