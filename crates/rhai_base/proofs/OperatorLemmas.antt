@@ -4,12 +4,13 @@ use Rattle.std.specs.Prelude.{not}
 use Rattle.std.specs.Rc.{rc_str_bytes}
 use Rattle.rhai_lower.specs.Texts.{Text}
 use Rattle.rhai_lower.specs.Names.{is_identifier}
-use Rattle.rhai_lower.specs.Lexemes.{Lexeme, Reserved, lexeme, text_of}
+use Rattle.rhai_lower.specs.Lexemes.{Lexeme, Reserved, Sign, lexeme, text_of}
 use Rattle.rhai_lower.specs.declared.token.Token.{Token}
 use Rattle.rhai_lower.specs.declared.token.Token.TheVariants as token
 use Rattle.rhai_grammar.specs.Strengths.{Other, Unknown, word_follower, follower_of}
 use Rattle.rhai_grammar.specs.declared.filter.ExprFilter.{ExprFilter}
 use Rattle.rhai_grammar.specs.declared.filter.ExprFilter.TheVariants.{All, AllButPipe}
+use Rattle.rhai_base.specs.OperandEnds.{ends_expression}
 use Rattle.rhai_base.specs.Operators.{is_reserved_symbol, operator_found, written_operator}
 
 word_unknown : (b : Bool) (t : Text) → not b ≡ true → word_follower b t ≡ Unknown t
@@ -30,4 +31,15 @@ written_follower All token.Pipe e = refl
 written_follower AllButPipe token.Pipe e = refl
 written_follower filter _ e = refl
 
-pub ruleset followers = (reserved_follower, written_follower)
+pub ended_follower : (filter : ExprFilter) (l : Lexeme) → ends_expression l ≡ true → follower_of filter l ≡ Other
+ended_follower filter (Sign token.Comma) e = refl
+ended_follower filter (Sign token.SemiColon) e = refl
+ended_follower filter (Sign token.Colon) e = refl
+ended_follower filter (Sign token.DoubleArrow) e = refl
+ended_follower filter (Sign token.RightParen) e = refl
+ended_follower filter (Sign token.RightBracket) e = refl
+ended_follower filter (Sign token.RightBrace) e = refl
+ended_follower filter (Sign token.EOF) e = refl
+ended_follower filter _ e = absurd cc
+
+pub ruleset followers = (reserved_follower, written_follower, ended_follower)

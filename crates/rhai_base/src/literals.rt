@@ -10,6 +10,7 @@ use rhai_lower::{Expr, Ident, NamedList, Position, Token};
 use std::alloc::AllocError;
 
 /// The node of a token at `pos` that is a value. The error is that there is no memory for it.
+#[inline(always)]
 #[tactic(auto, using(crate::proofs::LiteralLemmas::values))]
 pub fn value_of(token: &Token, pos: Position) -> Result<Expr, AllocError>
     ensures { IfOk result (λ x. view x ≡ value_of (lexeme token.now) pos) }

@@ -17,6 +17,7 @@ use rhai_lower::{Expr, Position, VariableExpr};
 /// Refuses an operand that is a name with a path, if under strict variables the path's first name is not known.
 ///
 /// The error is `ModuleUndefined` at that name, or `OutOfMemory`.
+#[inline(always)]
 #[tactic(auto, using(rhai_lower::proofs::Views::view_variable))]
 pub fn test_module(frame: &Frame<'_>, settings: ParseSettings, operand: &Expr) -> ParseResult<()>
     ensures passes { (context : Context) → context.settings ≡ settings_of settings

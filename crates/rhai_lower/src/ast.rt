@@ -381,6 +381,7 @@ impl StmtBlock {
     /// A statement as a block: a block is itself, an empty statement becomes an empty block at its position, and any
     /// other a block of one statement, which starts at the statement's position. A block that is made has no end.
     /// Returns `AllocError` if memory runs out.
+    #[inline(always)]
     pub fn from_stmt(alloc: Global, statement: Stmt) -> Result<StmtBlock, AllocError>
         ensures { IfOk result (λ b. block_view b ≡ made_block (statement_view statement)) }
     {

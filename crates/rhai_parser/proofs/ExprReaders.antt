@@ -12,7 +12,9 @@ pub ruleset paths = (calls_of_readers, step_path)
 
 pub ruleset parse_chain = (readers, nested_so, step_expression)
 
-pub ruleset parse_unary = (readers, nested_so, step_operand, operand_sign, sign_outcome)
+pub ruleset parse_unary = (readers, nested_so)
+
+pub ruleset parse_written = (readers, nested_so, step_operand, operand_sign, sign_outcome)
 
 pub ruleset parse_unsigned = (readers, nested_so, step_operand, operand_other)
 

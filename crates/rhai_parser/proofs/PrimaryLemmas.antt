@@ -9,7 +9,8 @@ use Rattle.rhai_grammar.specs.Causes.{Refusal, Reserved, VariableUndefined, out_
 use Rattle.rhai_grammar.specs.Cursors.{Cursor}
 use Rattle.rhai_grammar.specs.Delivered.{is_memory}
 use Rattle.rhai_grammar.specs.Contexts.{Context, Known, Live}
-use Rattle.rhai_grammar.specs.Beginnings.{calls, excludes_use, is_this, may_be_called}
+use Rattle.rhai_grammar.specs.Beginnings.{calls, excludes_use, is_sign, is_this, is_value, may_be_called}
+use Rattle.rhai_grammar.specs.declared.role.Beginning.{Beginning}
 use Rattle.rhai_grammar.specs.Settings.{Settings, is_in_function}
 use Rattle.rhai_grammar.specs.Libraries.{Library}
 use Rattle.rhai_grammar.specs.Trees.{name_tree, variable_of}
@@ -29,6 +30,16 @@ use Rattle.rhai_grammar.specs.Verdicts.{next_key}
 use Rattle.rhai_parser.specs.MapKeys.{KeyRefused}
 use Rattle.rhai_reading.proofs.Outcomes.{answered, exec_answered, outcome}
 use Rattle.rhai_reading.proofs.WordSteps.{Worded, worded}
+
+-- ---- values
+
+pub value_begins : (b : Beginning) → is_value b ≡ true → b ≡ begin.Value
+value_begins begin.Value e = refl
+value_begins _ e = absurd cc
+
+pub value_unsigned : (b : Beginning) → is_value b ≡ true → is_sign b ≡ false
+value_unsigned begin.Value e = refl
+value_unsigned _ e = absurd cc
 
 -- ---- reserved words
 

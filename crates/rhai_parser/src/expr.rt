@@ -23,12 +23,13 @@ ghost use Rattle.rhai_trees.specs.Chains.{chain_view};
 use crate::expr::asks::{as_variable, end_operand, end_plain, ends_here, sign_operand};
 use crate::expr::paths::{NamedOperand, named_operand};
 use crate::lent::LentReaders;
+use crate::primary::asks::take_value;
 use crate::reader::Reader;
 use crate::shared::Shared;
 use rhai_base::cursor::{peek, skip, take};
 use rhai_base::leaves::lists::{closes_list, list_continues};
 use rhai_base::leaves::refusals::missing;
-use rhai_base::leaves::tokens::{excludes_use, is_no_argument, is_sign, what_operand};
+use rhai_base::leaves::tokens::{excludes_use, is_no_argument, is_sign, is_value, what_operand};
 use rhai_base::modules::test_path;
 use rhai_base::words::{is_qualified_name, make_call};
 use rhai_base::{Frame, ParseSettings};
@@ -197,9 +198,39 @@ impl<R: LentReaders> Reader<'_, R> {
         }
     }
 
-    /// Reads a written operand with its signs and its call.
+    /// Reads a written operand with its signs and its call. A value is read here, and any other operand apart, since a
+    /// function clears all the places that it has when it begins.
+    #[inline(always)]
     #[tactic(auto, using(crate::proofs::ExprReaders::parse_unary))]
     fn parse_unary(
+        &self,
+        shared: &mut Shared<'_>,
+        frame: &Frame<'_>,
+        settings: ParseSettings,
+    ) -> ParseResult<Chain>
+        requires lent { Covers (R.lent self.now.readers) (operand self.now.engine.now frame.now settings)
+            shared.old }
+        ensures goes_on { GoesOn shared.old shared.new }
+        ensures stays { Stays self.now.engine.now frame.now settings 3 shared.old shared.new }
+        ensures reads { Reads (operand self.now.engine.now frame.now settings) chain_view shared.old result
+            shared.new }
+    {
+        let (token, _) = peek(shared.input)?;
+        if !is_value(token) {
+            return match self.parse_written(shared, frame, settings) {
+                Ok(operand) => Ok(operand),
+                Err(error) => Err(error),
+            };
+        }
+        let value = nested!(shared, take_value(shared))?;
+        let operand = Chain::from_value(self.engine.alloc(), value);
+        self.parse_ends(shared, frame, settings, operand)
+    }
+
+    // The same, of an operand that need be no value.
+    #[inline(never)]
+    #[tactic(auto, using(crate::proofs::ExprReaders::parse_written))]
+    fn parse_written(
         &self,
         shared: &mut Shared<'_>,
         frame: &Frame<'_>,
@@ -218,7 +249,7 @@ impl<R: LentReaders> Reader<'_, R> {
         }
         let (sign, pos) = take(shared.input);
         let settings = settings.at(pos).level_up()?;
-        let operand = nested!(shared, self.parse_unary(shared, frame, settings))?;
+        let operand = nested!(shared, self.parse_written(shared, frame, settings))?;
         sign_operand(
             self.engine.alloc(),
             &mut shared.interner,
@@ -230,6 +261,7 @@ impl<R: LentReaders> Reader<'_, R> {
 
     /// Reads a written operand without a sign, with its call and its links. The caller has seen that no sign comes
     /// next.
+    #[inline(always)]
     #[tactic(auto, using(crate::proofs::ExprReaders::parse_unsigned))]
     fn parse_unsigned(
         &self,
@@ -247,12 +279,7 @@ impl<R: LentReaders> Reader<'_, R> {
     {
         peek(shared.input)?;
         let primary = nested!(shared, self.parse_primary(shared, frame, settings))?;
-        if !ends_here(shared)? {
-            return self.parse_ends(shared, frame, settings, primary);
-        }
-        nested!(shared, self.pass_postfix(shared, frame, settings, &primary));
-        self.pass_links(shared, frame, settings, &primary);
-        end_plain(frame, settings, primary)
+        self.parse_ends(shared, frame, settings, primary)
     }
 
     // Nothing calls an operand before this token, and it is no part of a path.
@@ -291,6 +318,36 @@ impl<R: LentReaders> Reader<'_, R> {
     #[inline(always)]
     #[tactic(auto, using(crate::proofs::ExprReaders::parse_ends))]
     fn parse_ends(
+        &self,
+        shared: &mut Shared<'_>,
+        frame: &Frame<'_>,
+        settings: ParseSettings,
+        primary: Chain,
+    ) -> ParseResult<Chain>
+        requires lent { Covers (R.lent self.now.readers) (operand self.now.engine.now frame.now settings)
+            shared.old }
+        ensures goes_on { GoesOn shared.old shared.new }
+        ensures stays { Stays self.now.engine.now frame.now settings 3 shared.old shared.new }
+        ensures reads { (s : Progress) → left (state_of shared.old).cursor.tokens ≤ left s.cursor.tokens
+            → Gives chain_view (exec (guarded (operand self.now.engine.now frame.now settings) s) (operand_ends
+            (context_of self.now.engine.now frame.now settings) (live_of frame.now) (chain_view primary))
+            (state_of shared.old)) result (state_of shared.new) }
+    {
+        if !ends_here(shared)? {
+            return match self.parse_all_ends(shared, frame, settings, primary) {
+                Ok(operand) => Ok(operand),
+                Err(error) => Err(error),
+            };
+        }
+        nested!(shared, self.pass_postfix(shared, frame, settings, &primary));
+        self.pass_links(shared, frame, settings, &primary);
+        end_plain(frame, settings, primary)
+    }
+
+    // The same, where the operand does not end before the next token.
+    #[inline(never)]
+    #[tactic(auto, using(crate::proofs::ExprReaders::parse_ends))]
+    fn parse_all_ends(
         &self,
         shared: &mut Shared<'_>,
         frame: &Frame<'_>,

@@ -16,14 +16,13 @@ ghost use Rattle.rhai_parser.specs.Rooms.{Stays};
 ghost use Rattle.rhai_trees.specs.Chains.{chain_view};
 
 use crate::lent::LentReaders;
-use crate::primary::asks::{used_name, used_word};
+use crate::primary::asks::{take_value, used_name, used_word};
 use crate::reader::Reader;
 use crate::shared::Shared;
 use rhai_base::cursor::{peek, skip};
 use rhai_base::leaves::due::match_token;
 use rhai_base::leaves::refusals::no_operand;
 use rhai_base::leaves::tokens::{excludes_use, is_called, what_begins};
-use rhai_base::literals::value_of;
 use rhai_base::places::{may_be_closure, may_be_value};
 use rhai_base::{Frame, ParseSettings};
 use rhai_grammar::{Beginning, DueToken, ParseResult};
@@ -51,8 +50,7 @@ impl<R: LentReaders> Reader<'_, R> {
         let pos = *pos;
         match what_begins(token) {
             Beginning::Value => {
-                let value = value_of(token, pos)?;
-                skip(shared.input);
+                let value = take_value(shared)?;
                 Ok(Chain::from_value(alloc, value))
             }
             Beginning::Name => {

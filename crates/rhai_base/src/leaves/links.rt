@@ -34,6 +34,7 @@ pub fn what_links(token: &Token) -> Linking
 
 /// Whether an operand ends before the next token, which stays: no call or path goes on there, and no link. The error
 /// comes where the tokenizer ran out of memory at that token.
+#[inline(always)]
 pub fn ends_operand(input: &mut TokenStream) -> Result<bool, AllocError>
     ensures value { IfOk result (λ ends. ends ≡ ends_operand (asked (cursor_of input.old)).lexeme) }
     ensures after { cursor_of input.new ≡ looking (cursor_of input.old) }

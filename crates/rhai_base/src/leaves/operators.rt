@@ -7,12 +7,13 @@ ghost use Rattle.rhai_grammar.specs.Cursors.{asked, cursor_of, looking};
 ghost use Rattle.rhai_grammar.specs.Delivered.{is_end, is_memory};
 ghost use Rattle.rhai_grammar.specs.Strengths.{Unknown, follower_of};
 ghost use Rattle.rhai_grammar.specs.Strengths.{bars_pipe, is_pipe};
+ghost use Rattle.rhai_base.specs.OperandEnds.{ends_expression};
 ghost use Rattle.rhai_base.specs.Operators.{continues, is_reserved_symbol, operator_found, written_operator};
 
 use crate::cursor::peek;
 use crate::leaves::refusals::unknown_operator;
 use rhai_grammar::{ExprFilter, ParseResult};
-use rhai_lower::{Token, TokenStream, is_valid_identifier};
+use rhai_lower::{Position, Token, TokenStream, is_valid_identifier};
 use std::alloc::Global;
 
 /// A binary operator, as far as the grouping of a run asks for it.
@@ -76,6 +77,7 @@ fn is_reserved_symbol(token: &Token) -> bool
 /// may contain: in a case of a `switch`, `|` is no operator.
 ///
 /// A reserved symbol there is `UnknownOperator`; if memory runs out, the error is `OutOfMemory`.
+#[inline(always)]
 #[tactic(auto, using(crate::proofs::OperatorLemmas::followers))]
 pub fn next_operator(
     alloc: Global,
@@ -95,8 +97,48 @@ pub fn next_operator(
     ensures readable { OnOk result (is_memory (asked (cursor_of input.old)).lexeme ≡ false) }
 {
     let (token, pos) = peek(input)?;
+    if ends_expression(token) {
+        return Ok(None);
+    }
+    operator_at(alloc, filter, token, *pos)
+}
+
+// Whether an expression ends before this token, wherever it stands.
+#[inline(always)]
+fn ends_expression(token: &Token) -> bool
+    ensures { result ≡ ends_expression (lexeme token.now) }
+{
+    matches!(
+        token,
+        Token::Comma
+            | Token::SemiColon
+            | Token::RightParen
+            | Token::RightBracket
+            | Token::RightBrace
+            | Token::DoubleArrow
+            | Token::Colon
+            | Token::EOF
+    )
+}
+
+// The operator that a token at `pos` is, if it is one. It is apart, since most expressions end where this is asked.
+#[inline(never)]
+#[tactic(auto, using(crate::proofs::OperatorLemmas::followers))]
+fn operator_at(
+    alloc: Global,
+    filter: ExprFilter,
+    token: &Token,
+    pos: Position,
+) -> ParseResult<Option<Operator>>
+    ensures found { IfOk result (λ o. follower_of filter (lexeme token.now) ≡ operator_found o) }
+    ensures refused { IfErr result (λ e. is_for_memory e ≡ false
+        → (follower_of filter (lexeme token.now) ≡ Unknown (text_of (lexeme token.now)))
+        × (refusal_of e ≡ refusal (UnknownOperator (text_of (lexeme token.now))) pos)) }
+    ensures nowhere { IfErr result MemoryIsNowhere }
+    ensures some { IfOk result (λ o. IsSome o → is_end (lexeme token.now) ≡ false) }
+{
     if is_reserved_symbol(token) {
-        return Err(unknown_operator(alloc, token, *pos));
+        return Err(unknown_operator(alloc, token, pos));
     }
     Ok(written_operator(filter, token))
 }

@@ -5,7 +5,7 @@ ghost use Rattle.rhai_lower.specs.Lexemes.{lexeme};
 ghost use Rattle.rhai_grammar.specs.Delivered.{is_end, is_memory};
 ghost use Rattle.rhai_grammar.specs.Cursors.{asked, cursor_of, looking};
 ghost use Rattle.rhai_grammar.specs.Beginnings.{beginning, calling, calls, excludes_use, is_begun, is_call};
-ghost use Rattle.rhai_grammar.specs.Beginnings.{is_sign, omits_operand, qualifies};
+ghost use Rattle.rhai_grammar.specs.Beginnings.{is_sign, is_value, omits_operand, qualifies};
 ghost use Rattle.rhai_grammar.specs.CommaLists.{no_argument};
 ghost use Rattle.rhai_base.specs.Closures.{EndsHere};
 ghost use Rattle.rhai_grammar.specs.Starts.{jumps, operand_start, place_after};
@@ -71,6 +71,14 @@ pub fn is_end(token: &Token) -> bool
     ensures { result ≡ is_end (lexeme token.now) }
 {
     matches!(token, Token::EOF)
+}
+
+/// Whether a token is a value where an operand is due.
+#[inline(always)]
+pub fn is_value(token: &Token) -> bool
+    ensures { result ≡ is_value (beginning (lexeme token.now)) }
+{
+    matches!(what_begins(token), Beginning::Value)
 }
 
 /// Whether a token is a sign where an operand is due.

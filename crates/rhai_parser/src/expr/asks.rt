@@ -37,6 +37,7 @@ use rhai_trees::{Chain, Link, make_unary, test_index};
 use std::alloc::{AllocError, Global};
 
 /// The operator that stands after an operand, if there is one that the filter lets pass; its token stays.
+#[inline(always)]
 pub(crate) fn next_operator(
     alloc: Global,
     filter: ExprFilter,
@@ -96,6 +97,7 @@ pub(crate) fn as_variable(
 }
 
 /// Refuses an operand that is a name with a path, if the module that this begins with is not known.
+#[inline(always)]
 #[tactic(auto, using(rhai_trees::proofs::LinkedLemmas::linked_known))]
 pub(crate) fn test_module(
     frame: &Frame<'_>,

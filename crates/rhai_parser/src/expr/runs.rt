@@ -195,6 +195,7 @@ impl<R: LentReaders> Reader<'_, R> {
 
     /// Reads the operators and operands after `lhs` that go on with a run on the right of an operator of strength
     /// `parent`.
+    #[inline(always)]
     #[tactic(auto, using(crate::proofs::ExprReaders::parse_binary_op))]
     pub(crate) fn parse_binary_op(
         &self,
@@ -215,7 +216,10 @@ impl<R: LentReaders> Reader<'_, R> {
         if in_run(next, parent).is_none() {
             return Ok(lhs);
         }
-        self.parse_run(shared, frame, settings, parent, lhs, next)
+        match self.parse_run(shared, frame, settings, parent, lhs, next) {
+            Ok(chain) => Ok(chain),
+            Err(error) => Err(error),
+        }
     }
 
     // The same, where there is such an operator, `next`. It is apart, since a function clears all its places when it

@@ -1,19 +1,21 @@
 //! Leaves joined for operands, as the reading program asks. They are the next key, and what a name or a word is.
 
-ghost use Rattle.std.specs.Prelude.{◌≡◌, IfErr, OnOk, option_map};
-ghost use Rattle.rhai_lower.specs.View.{property_views, written};
+ghost use Rattle.std.specs.Prelude.{◌≡◌, IfErr, IfOk, OnOk, false, option_map, true};
+ghost use Rattle.rhai_lower.specs.View.{property_views, view, written};
 ghost use Rattle.rhai_grammar.specs.Answers.{Answers};
 ghost use Rattle.rhai_grammar.specs.Causes.{MemoryIsNowhere};
 ghost use Rattle.rhai_base.specs.Frames.{FrameValue};
 ghost use Rattle.rhai_base.specs.Settings.{settings_of};
 ghost use Rattle.rhai_base.specs.Words.{word_result};
 ghost use Rattle.rhai_trees.specs.Chains.{chain_view};
-ghost use Rattle.rhai_reading.specs.Reading.{NextKey};
+ghost use Rattle.rhai_trees.specs.Linked.{is_linked};
+ghost use Rattle.rhai_reading.specs.Reading.{NextKey, Primary};
 ghost use Rattle.std.specs.Rc.{rc_str_bytes};
 ghost use Rattle.rhai_lower.specs.Lexemes.{Lexeme};
-ghost use Rattle.rhai_grammar.specs.Beginnings.{excludes_use};
+ghost use Rattle.rhai_grammar.specs.Beginnings.{beginning, excludes_use, is_value};
+ghost use Rattle.rhai_grammar.specs.Contexts.{Context, Live};
 ghost use Rattle.rhai_reading.specs.Reading.{name_at};
-ghost use Rattle.rhai_reading.specs.Running.{Caller, Gives, exec};
+ghost use Rattle.rhai_reading.specs.Running.{Caller, Done, Gives, asked, exec, result_of};
 ghost use Rattle.rhai_parser.specs.Frames.{context_of, live_of};
 ghost use Rattle.rhai_parser.specs.Engines.{EngineValue};
 ghost use Rattle.rhai_parser.specs.Readers.{GoesOn, Reads, state_of};
@@ -22,14 +24,16 @@ ghost use Rattle.rhai_parser.specs.Rooms.{Steady};
 use crate::engine::Engine;
 use crate::primary::keys;
 use crate::shared::Shared;
+use rhai_base::cursor::{peek, skip};
 use rhai_base::leaves::due::match_token;
 use rhai_base::leaves::items::room_for_value;
+use rhai_base::literals::value_of;
 use rhai_base::words::{name_node, word_node};
 use rhai_base::{Frame, ParseSettingFlags, ParseSettings};
 use rhai_grammar::{DueToken, ParseResult};
 use rhai_lower::{Expr, Ident, NamedList, Position};
 use rhai_trees::Chain;
-use std::alloc::Global;
+use std::alloc::{AllocError, Global};
 use std::rc::RcStr;
 
 /// The key of the property after these ones, with its `:`, and a look at the value that is due; none where the `}` is,
@@ -62,6 +66,23 @@ pub(crate) fn next_key(
         Ok(()) => Ok(Some(key)),
         Err(error) => Err(error),
     }
+}
+
+/// The value that the next token is, which is taken. The error is that there is no memory for it.
+#[inline(always)]
+#[tactic(auto, using(crate::proofs::PrimaryReaders::take_value))]
+pub(crate) fn take_value(shared: &mut Shared<'_>) -> Result<Expr, AllocError>
+    requires value { is_value (beginning (asked (state_of shared.old)).lexeme) ≡ true }
+    ensures goes_on { GoesOn shared.old shared.new }
+    ensures steady { Steady shared.old shared.new }
+    ensures reads { (context : Context) (live : Live) → IfOk result (λ x. result_of (Primary context live)
+        (state_of shared.old) ≡ Done (view x) (state_of shared.new)) }
+    ensures value { IfOk result (λ x. is_linked (view x) ≡ false) }
+{
+    let (token, pos) = peek(shared.input)?;
+    let value = value_of(token, *pos)?;
+    skip(shared.input);
+    Ok(value)
 }
 
 /// What a name is in this frame, where `excluded` says that it is no use of a variable. A use that the closure around

@@ -1,4 +1,4 @@
-use Rattle.std.proofs.Common.{◌∙◌, ap, arith, sym}
+use Rattle.std.proofs.Common.{◌∙◌, Err, Ok, ap, arith, sym}
 use Rattle.rhai_lower.specs.Nodes.{position_of}
 use Rattle.rhai_reading.specs.Running.{result_of}
 use Rattle.rhai_trees.specs.Chains.{chain_view}
@@ -7,8 +7,14 @@ use Rattle.rhai_parser.specs.Readers.{binary_op, state_of}
 use Rattle.rhai_parser.proofs.LookedLemmas.{binary_looked}
 use Rattle.rhai_parser.proofs.reader.Reader.parse_binary_op.Goals as goal
 
-pub returns-clause-reads : goal.returns-clause-reads
-returns-clause-reads g c =
+pub returns-in-Ok-clause-reads : goal.returns-in-Ok-clause-reads
+returns-in-Ok-clause-reads g c =
     let goal = binary_op c.args.self.now.engine.now c.args.frame.now c.args.settings (position_of (chain_view c.args.lhs)) c.args.parent (chain_view c.args.lhs) in
-    gives_so chain_view c.parse_run.result (state_of c.parse_run.new.shared)
-    (sym (binary_looked _ _ _ _ _ (state_of c.args.shared.now)) ∙ ap (result_of goal) (grind arith)) c.parse_run.ensures.reads
+    gives_so chain_view (Ok c.in-Ok.chain) (state_of c.parse_run.new.shared)
+    (sym (binary_looked _ _ _ _ _ (state_of c.args.shared.now)) ∙ ap (result_of goal) (grind arith)) c.in-Ok.ensures.reads
+
+pub returns-in-Err-clause-reads : goal.returns-in-Err-clause-reads
+returns-in-Err-clause-reads g c =
+    let goal = binary_op c.args.self.now.engine.now c.args.frame.now c.args.settings (position_of (chain_view c.args.lhs)) c.args.parent (chain_view c.args.lhs) in
+    gives_so chain_view (Err c.in-Err.error) (state_of c.parse_run.new.shared)
+    (sym (binary_looked _ _ _ _ _ (state_of c.args.shared.now)) ∙ ap (result_of goal) (grind arith)) c.in-Err.ensures.reads

@@ -17,13 +17,13 @@ use Rattle.rhai_parser.proofs.reader.Reader.parse_primary.Goals as goal
 
 pub returns-in_ok-excluded-in-Name-clause-reads : goal.returns-in_ok-excluded-in-Name-clause-reads
 returns-in_ok-excluded-in-Name-clause-reads g c =
-    let h : Worded begin.Name excludes_use (rc_str_bytes c.in_ok-name-in-Name.name) c.in_ok-token.field-0.now.1 c.in_ok-excluded-in-Name.excluded (state_of c.args.shared.now) (state_at c.args.shared.now (cursor_of c.peek.follows.lender-at-none)) (state_at c.args.shared.now (cursor_of c.skip-in-Name.new.input)) (state_at c.args.shared.now (cursor_of c.excludes_use.new.input)) = record {
+    let h : Worded begin.Name excludes_use (rc_str_bytes c.in_ok-name-in-Name.name) c.in_ok-token.field-0.now.1 c.in_ok-excluded-in-Name.excluded (state_of c.args.shared.now) (state_at c.args.shared.now (cursor_of c.peek.follows.lender-at-none)) (state_at c.args.shared.now (cursor_of c.skip.new.input)) (state_at c.args.shared.now (cursor_of c.excludes_use.new.input)) = record {
       begins = search rules;
       text = search rules;
       readable = search rules;
       stands = search rules;
       look = ap (state_at c.args.shared.now) c.peek.follows.holds-at-none;
-      took = ap (state_at c.args.shared.now) c.skip-in-Name.ensures.after;
+      took = ap (state_at c.args.shared.now) c.skip.ensures.after;
       is_so = search rules;
       readable_on = search rules;
       look_on = search rules;
