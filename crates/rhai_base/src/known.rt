@@ -21,7 +21,7 @@ pub struct Known<'p> {
     // Those of the modules that were imported around a function, in lists from the oldest on.
     around: Vec<&'p NamedList<RcStr>>,
     // The names of the engine's modules.
-    modules: &'p [RcStr],
+    modules: &'p NamedList<RcStr>,
 }
 
 impl<'p> Model for Known<'p> {
@@ -46,7 +46,7 @@ impl<'p> Known<'p> {
         alloc: Global,
         variables: &'p Option<&Scope>,
         imports: &'p [RcStr],
-        modules: &'p [RcStr],
+        modules: &'p NamedList<RcStr>,
     ) -> Known<'p>
         ensures { result ≡ record {
           variables = known_variables variables.now;
@@ -111,7 +111,7 @@ impl<'p> Known<'p> {
     pub(crate) fn has_module(&self, name: &str) -> bool
         ensures { result ≡ is_among name.now self.now.modules }
     {
-        is_named(self.modules, name)
+        self.modules.has_name(name)
     }
 }
 

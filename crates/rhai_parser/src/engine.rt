@@ -9,7 +9,7 @@ ghost use Rattle.rhai_parser.specs.Engines.{fresh_engine, with_bits, expr_settin
 
 use bitflags::Flags;
 use rhai_base::{Known, LangOptions, ParseSettingFlags, ParseSettings};
-use rhai_lower::{Position, Scope, is_named};
+use rhai_lower::{NamedList, Position, Scope};
 use std::alloc::{AllocError, Global};
 use std::marker::Model;
 use std::rc::RcStr;
@@ -26,7 +26,7 @@ pub struct Engine {
     max_array_size: usize,
     max_map_size: usize,
     // The names of the modules that scripts find without importing them.
-    sub_modules: Vec<RcStr>,
+    sub_modules: NamedList<RcStr>,
 }
 
 impl Model for Engine {
@@ -43,7 +43,7 @@ impl Model for Engine {
       max_functions = e.max_functions;
       max_array_size = e.max_array_size;
       max_map_size = e.max_map_size;
-      sub_modules = map rc_str_bytes e.sub_modules.items;
+      sub_modules = map rc_str_bytes e.sub_modules;
     } };
 }
 
@@ -61,7 +61,7 @@ impl Engine {
             max_functions: usize::MAX,
             max_array_size: 0,
             max_map_size: 0,
-            sub_modules: Vec::new(alloc),
+            sub_modules: NamedList::new(alloc),
         }
     }
 
@@ -190,11 +190,12 @@ impl Engine {
         self.max_map_size = size;
     }
 
-    /// Whether scripts find a module of this name without importing it. It does not allocate.
+    /// Whether scripts find a module of this name without importing it. It does not allocate. The time does not grow
+    /// with the modules.
     pub fn has_sub_module(&self, name: &str) -> bool
         ensures { result ≡ is_among name.now self.now.sub_modules }
     {
-        is_named(&self.sub_modules, name)
+        self.sub_modules.has_name(name)
     }
 
     /// Lets scripts find a module of this name without importing it. Where there is no memory for that, nothing

@@ -9,13 +9,17 @@ use std::alloc::{AllocError, Global};
 use std::process::Abort;
 use std::test::Fail;
 
+// So many that the engine has an index of them.
+const MODULES: [&str; 10] = ["a", "b", "c", "d", "e", "f", "g", "h", "i", "j"];
+
 // Where memory is refused, the module is not added, and the engine keeps those that it has.
 fn module(rt: &impl Abort, alloc: Global) -> Result<(), AllocError> {
     let mut engine = Engine::new(alloc);
     engine.add_sub_module("k")?;
-    if let Err(error) = engine.add_sub_module("m") {
-        assert!(rt; engine.has_sub_module("k") && !engine.has_sub_module("m"));
-        return Err(error);
+    for name in &MODULES {
+        let added = engine.add_sub_module(name);
+        assert!(rt; engine.has_sub_module("k") && engine.has_sub_module(name) == added.is_ok());
+        added?;
     }
     Ok(())
 }

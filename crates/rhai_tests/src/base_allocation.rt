@@ -230,7 +230,8 @@ fn knows_imports(frame: &Frame<'_>, alloc: Global) -> Result<bool, AllocError> {
 
 // Imports a module of each name. The latest import of a name is found on the way.
 fn indexed_imports(rt: &impl Abort, alloc: Global) -> Result<(), AllocError> {
-    let known = Known::new(alloc, &None, &[], &[]);
+    let modules = NamedList::new(alloc);
+    let known = Known::new(alloc, &None, &[], &modules);
     let mut frame = frame(rt, alloc, &known)?;
     for name in &NAMES {
         frame.import(alloc, &Some(RcStr::from_str(alloc, name)?))?;
@@ -292,7 +293,8 @@ fn add_ended(
 fn closures(rt: &impl Abort, alloc: Global) -> Result<(), AllocError> {
     let captured = captured(rt, alloc)?;
     let name = make_anonymous_fn(alloc, 0)?;
-    let known = Known::new(alloc, &None, &[], &[]);
+    let modules = NamedList::new(alloc);
+    let known = Known::new(alloc, &None, &[], &modules);
     closure_value(
         alloc,
         &frame(rt, alloc, &known)?,
