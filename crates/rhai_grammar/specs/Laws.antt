@@ -1,6 +1,7 @@
 -- Laws of the definitions that users rely on.
 use Rattle.std.specs.Prelude.{◌≡◌, Bool, true, false, List, map, All, IsTrue}
 use Rattle.rhai_lower.specs.Entries.{ask_of, may_be_delivered}
+use Rattle.rhai_lower.specs.Streams.{requests_of}
 use Rattle.rhai_lower.specs.declared.position.Position.{Position}
 use Rattle.rhai_lower.specs.declared.stream.Entry.{Entry}
 use Rattle.rhai_grammar.specs.Causes.{Refusal}
@@ -55,7 +56,7 @@ pub record StreamsAreWhole : Type 0 where
 abbrev pub EntriesAreDelivered : Type 0
 EntriesAreDelivered =
     (entries : List Entry) (end : Position) → All (λ e. IsTrue (may_be_delivered e)) entries
-    → IsDelivered (delivered (map ask_of entries) end)
+    → IsDelivered (delivered (requests_of (map ask_of entries) end))
 
 -- Two forms that fit and spell the same stream have the same tree.
 abbrev pub FormsHaveOneTree : Type 0
