@@ -5,6 +5,8 @@ pub mod SpellingLemmas
 pub mod StreamLemmas
 pub mod ClosureLemmas
 pub mod EventEffects
+pub mod Duplicates
+pub mod DuplicateFaults
 pub mod EventSteps
 pub mod EventEnds
 pub mod EventParts
