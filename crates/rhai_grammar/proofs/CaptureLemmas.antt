@@ -12,8 +12,8 @@ use Rattle.rhai_grammar.specs.UsesOfForms.{first_uses, own_events, uses_in}
 use Rattle.rhai_grammar.specs.Written as W
 use Rattle.rhai_grammar.specs.declared.role.Closing.TheVariants.{EndMark}
 use Rattle.rhai_grammar.specs.declared.role.OperandPlace.{OperandPlace}
-use Rattle.rhai_grammar.proofs.Duplicates.{end_due}
 use Rattle.rhai_grammar.proofs.EventLemmas as happens
+use Rattle.rhai_grammar.proofs.SparedTokens.{end_due}
 use Rattle.rhai_grammar.proofs.EventParts.{closure_parameters, expressed}
 use Rattle.rhai_grammar.proofs.EventEffects.{captured_is, captured_outside, library_is}
 use Rattle.rhai_grammar.proofs.EventSteps.{Does, Scope, all_of, deeper, here, is_closure, next, on, scope_of}

@@ -8,7 +8,7 @@ use Rattle.std.specs.Cmp.Lexicographic as L
 use Rattle.std.specs.List.{list_all, starts_with}
 use Rattle.std.specs.Prelude.{Option, codes, drop, nat_eq, not, take, if◌then◌else◌}
 use Rattle.rhai_grammar.specs.Prelude.{SlotValue, Lexeme, is_identifier, Text, Position, Refusal, refusal, closure_name}
-use Rattle.rhai_grammar.specs.Prelude.{Context, Mode, Point, adding, code, is_memory, next_at, with_captured, Adds}
+use Rattle.rhai_grammar.specs.Prelude.{Context, Mode, Point, adding, code, is_memory, next_at, with_captured}
 use Rattle.rhai_grammar.specs.Prelude.{Apart, Blames, Demands, Fine, Met, Missed, Next, Nothing, Otherwise, Test}
 use Rattle.rhai_grammar.specs.Prelude.{TestIn, verdict, ◌▸◌, is_due, Owner, is_new, may_begin, names_function, untyped}
 use Rattle.rhai_grammar.specs.Prelude.{is_closure, Ended, Library, closure_count, with_ended, IsNumbered, IsOrderly}
@@ -20,13 +20,13 @@ use Rattle.rhai_grammar.specs.LibraryLaws.{duplicates_closure}
 use Rattle.rhai_grammar.specs.Forms as form
 use Rattle.rhai_grammar.specs.Written as W
 use Rattle.rhai_grammar.specs.declared.due.DueToken.TheVariants as due
-use Rattle.rhai_grammar.proofs.Duplicates as spares
 use Rattle.rhai_grammar.proofs.Duplicates.{refused, same_cause}
 use Rattle.rhai_grammar.proofs.EventEffects.{holds_front, holds_later, holds_none, holds_own, captured_after, captured_ends}
 use Rattle.rhai_grammar.proofs.EventEffects.{captured_on, captured_outside, library_after, library_ends, library_on}
 use Rattle.rhai_grammar.proofs.EventEffects.{library_used}
 use Rattle.rhai_grammar.proofs.EventSteps.{Does, Is, Orderly, Reached, Scope, Stops, deeper, shape, stop, tok}
 use Rattle.rhai_grammar.proofs.LibraryLemmas.{closure_added, function_added, key_is_new}
+use Rattle.rhai_grammar.proofs.SparedTokens as spares
 use Rattle.rhai_grammar.proofs.LibrarySteps.{few_closures, one_begins, one_ends, one_stops}
 
 -- ---- libraries with one more function

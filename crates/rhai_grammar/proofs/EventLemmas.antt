@@ -30,9 +30,9 @@ use Rattle.rhai_grammar.specs.declared.role.Closing.{Closing}
 use Rattle.rhai_grammar.specs.declared.role.Closing.TheVariants.{Brace}
 use Rattle.rhai_grammar.specs.declared.role.OperandPlace.{OperandPlace}
 use Rattle.rhai_grammar.specs.declared.role.OperandPlace.TheVariants as place
-use Rattle.rhai_grammar.proofs.DuplicateFaults as faults
-use Rattle.rhai_grammar.proofs.Duplicates as spares
 use Rattle.rhai_grammar.proofs.Duplicates.{Spares}
+use Rattle.rhai_grammar.proofs.SparedFaults as faults
+use Rattle.rhai_grammar.proofs.SparedTokens as spares
 use Rattle.rhai_grammar.proofs.EventEnds.{closure_runs, dead_name, ended, function_runs, no_closure}
 use Rattle.rhai_grammar.proofs.EventSteps.{Does, Is, Scope, ahead, all_of, called, deeper, here, is_below, is_closure}
 use Rattle.rhai_grammar.proofs.EventSteps.{is_in_loop, is_no_closure, literally, next, on, regrouped, shape, test}

@@ -19,10 +19,9 @@ use Rattle.rhai_grammar.specs.declared.due.DueToken.TheVariants as due
 use Rattle.rhai_grammar.specs.declared.list.CommaList.{CommaList}
 use Rattle.rhai_grammar.specs.declared.list.CommaList.TheVariants as lists
 use Rattle.rhai_grammar.specs.declared.role.OperandPlace.{OperandPlace}
-use Rattle.rhai_grammar.proofs.DuplicateFaults as faults
-use Rattle.rhai_grammar.proofs.DuplicateFaults.{has_duplicate}
-use Rattle.rhai_grammar.proofs.Duplicates as spares
-use Rattle.rhai_grammar.proofs.Duplicates.{Spares, refused}
+use Rattle.rhai_grammar.proofs.Duplicates.{Spares, has_duplicate, refused}
+use Rattle.rhai_grammar.proofs.SparedFaults as faults
+use Rattle.rhai_grammar.proofs.SparedTokens as spares
 use Rattle.rhai_grammar.proofs.EventSteps.{Does, Is, Reached, Scope, Stops, stop, all_of, captures, here, next, on}
 use Rattle.rhai_grammar.proofs.EventSteps.{shape, test, tok, unfaulted_by}
 

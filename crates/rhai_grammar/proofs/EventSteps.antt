@@ -14,8 +14,7 @@ use Rattle.rhai_grammar.specs.LibraryLaws.{duplicates_closure}
 use Rattle.rhai_grammar.specs.Settings as S
 use Rattle.rhai_grammar.specs.Written as W
 use Rattle.rhai_grammar.proofs.EventEffects.{holds_called, holds_front, holds_later, holds_none, captured_after}
-use Rattle.rhai_grammar.proofs.DuplicateFaults.{has_duplicate}
-use Rattle.rhai_grammar.proofs.Duplicates.{Spares, literal, refused, same_cause}
+use Rattle.rhai_grammar.proofs.Duplicates.{Spares, has_duplicate, literal, refused, same_cause}
 use Rattle.rhai_grammar.proofs.EventEffects.{captured_called, library_called, captured_on, library_after, library_on}
 
 -- What of a context matters here: whether it is that of a closure, how many functions have begun around, and how many

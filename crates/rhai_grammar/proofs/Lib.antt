@@ -6,7 +6,8 @@ pub mod StreamLemmas
 pub mod ClosureLemmas
 pub mod EventEffects
 pub mod Duplicates
-pub mod DuplicateFaults
+pub mod SparedTokens
+pub mod SparedFaults
 pub mod EventSteps
 pub mod EventEnds
 pub mod EventParts

@@ -1,7 +1,7 @@
 -- Laws of libraries: closures' names are new, limits hold, keys are unique. As long as closures get the next number,
 -- their names are new; and what parsing leaves is within the limit, and has each key once. Users rely on them.
 use Rattle.std.specs.Prelude.{◌≡◌, ◌<◌, ◌≤◌, ◌+◌, ◌^◌, ℕ, Bool, true, false, List, [], None, codes, refl}
-use Rattle.rhai_lower.specs.Positions.{place}
+use Rattle.rhai_lower.specs.declared.position.Position.{Position}
 use Rattle.rhai_grammar.specs.Causes.{Cause, FnDuplicatedDefinition, Refusal}
 use Rattle.rhai_grammar.specs.Closures.{closure_name, declared_names, in_closure, last_hex_digits}
 use Rattle.rhai_grammar.specs.Contexts.{Context, Live, level_up}
@@ -39,7 +39,7 @@ up_to_key head body number captured context live =
     Apart (closure_body body (level_up (in_closure context live)) parameters Nothing) number captured ▸
     captured_names captured context live Nothing
 
--- A function is refused because another one has its key, and its name is one of closures.
+-- The cause is that the key of a function is there, and by its name this function is a closure.
 abbrev pub duplicates_closure : Cause → Bool
 duplicates_closure (FnDuplicatedDefinition name count) =
     is_closure (record { this_type = None; name = name; params = count })
@@ -68,11 +68,9 @@ pub record LibrariesStayOrderly : Type 0 where
       → Met (up_to_key head body n captured context live) s t
       → is_new (closure_tree head body n captured).key t.library ≡ true
 
--- A second function `f` of one parameter is refused for its key, but this is no closure's; that of a second closure of
--- the number 0 would be.
-example : (duplicates_closure (duplicate_of (record { this_type = None; name = codes "f"; params = 1 }) (place 1 1)).cause
-    ≡ false)
-    × (duplicates_closure (duplicate_of (record { this_type = None; name = closure_name 0; params = 1 }) (place 1 1)).cause
-    ≡ true)
+-- A function `f` may be refused so. Where the key of a closure is there, as that of closure 0, the cause is such a one.
+example : (duplicates_closure (FnDuplicatedDefinition (codes "f") 1) ≡ false)
+    × (duplicates_closure (FnDuplicatedDefinition (closure_name 0) 1) ≡ true)
+    × ((k : Key) (at : Position) → duplicates_closure (duplicate_of k at).cause ≡ is_closure k)
 unfolding last_hex_digits
-example = (refl, refl)
+example = (refl, refl, λ k at. refl)

@@ -1,5 +1,5 @@
--- No fault of a tree is a duplicate of a closure.
-use Rattle.std.proofs.Common.{◌≡◌, ℕ, Bool, true, false, refl, if◌then◌else◌, List, [], ◌∷◌}
+-- No fault of a tree says that the key of a closure is there.
+use Rattle.std.proofs.Common.{◌≡◌, ℕ, Bool, true, false, refl, List, [], ◌∷◌}
 use Rattle.std.specs.Option.{option_or}
 use Rattle.std.specs.Prelude.{Option, Some, None, option_map}
 use Rattle.rhai_grammar.specs.Prelude.{Lexeme, Text, Node, Nodes, Position, Refusal, Context, Live, Chain, Link}
@@ -10,20 +10,10 @@ use Rattle.rhai_grammar.specs.Causes as cause
 use Rattle.rhai_grammar.specs.Chains as N
 use Rattle.rhai_grammar.specs.Constructs as C
 use Rattle.rhai_grammar.specs.Kinds.{index_fault, is_constant, not_boolean, not_iterable}
-use Rattle.rhai_grammar.specs.LibraryLaws.{duplicates_closure}
 use Rattle.rhai_grammar.specs.Modules as M
 use Rattle.rhai_grammar.specs.Switches as A
 use Rattle.rhai_grammar.specs.Targets as G
-
--- an error that is such a duplicate
-abbrev pub has_duplicate : Option Refusal → Bool
-has_duplicate None = false
-has_duplicate (Some e) = duplicates_closure e.cause
-
-either_fault : (b : Bool) (r s : Option Refusal) → has_duplicate r ≡ false → has_duplicate s ≡ false
-    → has_duplicate (if b then r else s) ≡ false
-either_fault true r s g h = g
-either_fault false r s g h = h
+use Rattle.rhai_grammar.proofs.Duplicates.{either, has_duplicate}
 
 first_fault : (r s : Option Refusal) → has_duplicate r ≡ false → has_duplicate s ≡ false
     → has_duplicate (option_or r s) ≡ false
@@ -52,7 +42,7 @@ index_refusal (Some root) x = by (index_fault root x)
 link_fault : (kind : LinkKind) (negated : Bool) (at : Position) (item : Node)
     → has_duplicate (N.link_fault (record { kind = kind; negated = negated; at = at; item = item })) ≡ false
 link_fault Bracket negated at item = refl
-link_fault Dotted negated at (node.method_call c arguments p) = search either_fault
+link_fault Dotted negated at (node.method_call c arguments p) = search (either has_duplicate)
 link_fault Dotted negated at _ = refl
 
 pub last_fault : (ls : List Link) → has_duplicate (N.last_fault ls) ≡ false
@@ -84,16 +74,16 @@ value_fault false at = refl
 pub target_fault : (constant : Bool) (op : Lexeme) (at : Position) (x : Node)
     → has_duplicate (G.target_fault constant op at x) ≡ false
 target_fault constant op at (node.this p) = refl
-target_fault constant op at (node.variable v p) = search either_fault
+target_fault constant op at (node.variable v p) = search (either has_duplicate)
 target_fault constant op at (node.dot x y m p) = chain_fault (chain_of (node.dot x y m p))
 target_fault constant op at (node.index x y m p) = chain_fault (chain_of (node.index x y m p))
-target_fault constant op at (node.conjunction ns p) = search either_fault
-target_fault constant op at (node.disjunction ns p) = search either_fault
-target_fault constant op at (node.coalescing ns p) = search either_fault
+target_fault constant op at (node.conjunction ns p) = search (either has_duplicate)
+target_fault constant op at (node.disjunction ns p) = search (either has_duplicate)
+target_fault constant op at (node.coalescing ns p) = search (either has_duplicate)
 target_fault constant op at x = value_fault (is_constant x) (position_of x)
 
 case_fault : (before : Collected) (x : Node) → has_duplicate (A.case_fault before x) ≡ false
-case_fault before x = search either_fault
+case_fault before x = search (either has_duplicate)
 
 fault_from : (index : ℕ) (before : Collected) (xs : Nodes) → has_duplicate (A.fault_from index before xs) ≡ false
 fault_from index before node.no_nodes = refl
@@ -106,7 +96,7 @@ arm_fault before xs = fault_from _ before xs
 
 path_fault : (c : Context) (w : Live) (path : List (Text × Position)) → has_duplicate (M.path_fault c w path) ≡ false
 path_fault c w [] = refl
-path_fault c w (root ∷ path) = search either_fault
+path_fault c w (root ∷ path) = search (either has_duplicate)
 
 pub module_fault : (c : Context) (w : Live) (x : Node) → has_duplicate (M.module_fault c w x) ≡ false
 module_fault c w (node.variable v p) = path_fault c w v.path
