@@ -21,10 +21,10 @@ use Rattle.rhai_grammar.specs.Forms as form
 use Rattle.rhai_grammar.specs.Written as W
 use Rattle.rhai_grammar.specs.declared.due.DueToken.TheVariants as due
 use Rattle.rhai_grammar.proofs.Duplicates.{refused, same_cause}
-use Rattle.rhai_grammar.proofs.EventEffects.{holds_front, holds_later, holds_none, holds_own, captured_after, captured_ends}
-use Rattle.rhai_grammar.proofs.EventEffects.{captured_on, captured_outside, library_after, library_ends, library_on}
-use Rattle.rhai_grammar.proofs.EventEffects.{library_used}
-use Rattle.rhai_grammar.proofs.EventSteps.{Does, Is, Orderly, Reached, Scope, Stops, deeper, shape, stop, tok}
+use Rattle.rhai_grammar.proofs.EventEffects.{holds_front, holds_later, holds_none, holds_own, captured_after}
+use Rattle.rhai_grammar.proofs.EventEffects.{captured_ends, captured_on, captured_outside, library_after, library_ends}
+use Rattle.rhai_grammar.proofs.EventEffects.{library_on, library_used}
+use Rattle.rhai_grammar.proofs.EventSteps.{Does, Is, Misses, Orderly, Scope, Stops, deeper, shape, stop, tok}
 use Rattle.rhai_grammar.proofs.LibraryLemmas.{closure_added, function_added, key_is_new}
 use Rattle.rhai_grammar.proofs.SparedTokens as spares
 use Rattle.rhai_grammar.proofs.LibrarySteps.{few_closures, one_begins, one_ends, one_stops}
@@ -66,12 +66,16 @@ record Halted (q : Scope) (from l : Library) (x : Ended) (k : Demands) (e : Refu
     library : end.library ≡ l
     orderly : Begun q from → Ready q x end.library
 
+-- A body stops before these demands, or they are missed at its end.
+abbrev Breaks : Scope → (from : Library) → List Event → Ended → Demands → Refusal → Mode → (t : Point) → Type 0
+Breaks q from es x k e n t = Stops (one_more q) from es e t ⊎ Halted q from (library_after es from) x k e n t
+
 -- what happens in a body, seen from around it
 pub record Runs (q : Scope) (es : List Event) (x : Ended) (ds k : Demands) : Type 0 where
   did : (s t : Point) → Met ds s t
       → Ran q s.library (library_after es s.library) (captured_after q.inside es s.library s.captured) x k t
   stopped : (s t : Point) (e : Refusal) (n : Mode) → Missed ds s e n t
-      → Stops (one_more q) s.library es e t ⊎ Halted q s.library (library_after es s.library) x k e n t
+      → Breaks q s.library es x k e n t
 
 -- From where a function or closure may begin to where it has ended.
 pub ended : {q : Scope} (c : Context) {es : List Event} {x : Ended} {ds body k : Demands} (at : Position) → Is q c
@@ -100,7 +104,7 @@ ended {q = q} c {es = es} {x = x} {ds = ds} {body = inside} {k = k} at i path bo
   where
     last : (s t : Point) (e : Refusal) (n : Mode) (p : Point) → p.library ≡ library_after es s.library
         → (Orderly q s.library → Ready q x p.library) → Missed (W.function_ends x at k) p e n t
-        → Stops q s.library (es ++ HasEnded x ∷ []) e t ⊎ Reached q s.library (library_after (es ++ HasEnded x ∷ []) s.library) k e n t
+        → Misses q s.library (es ++ HasEnded x ∷ []) k e n t
     last s t e n p l g (inl a) = inl (
       λ o.
           let h = g o in
@@ -118,8 +122,8 @@ ended {q = q} c {es = es} {x = x} {ds = ds} {body = inside} {k = k} at i path bo
 
     later : (s t : Point) (e : Refusal) (n : Mode) (r : Point) → r.library ≡ s.library
         → (Orderly q s.library → Begun q r.library)
-        → Stops (one_more q) r.library es e t ⊎ Halted q r.library (library_after es r.library) x (W.function_ends x at k) e n t
-        → Stops q s.library (es ++ HasEnded x ∷ []) e t ⊎ Reached q s.library (library_after (es ++ HasEnded x ∷ []) s.library) k e n t
+        → Breaks q r.library es x (W.function_ends x at k) e n t
+        → Misses q s.library (es ++ HasEnded x ∷ []) k e n t
     later s t e n r l g (inl h) = inl (
       λ o. h.0 (g o),
       holds_front es (HasEnded x ∷ []) s.library t.library (subst (λ m. HoldsFirst m (ended_in es) t.library) l h.1),
@@ -128,16 +132,17 @@ ended {q = q} c {es = es} {x = x} {ds = ds} {body = inside} {k = k} at i path bo
         last s t e n p.end (p.library ∙ ap (library_after es) l) (λ o. p.orderly (g o)) p.missed
 
     after : (s t : Point) (e : Refusal) (n : Mode) → may_begin c s.library ≡ true
-        → Stops q s.library [] e t ⊎ Reached q s.library s.library inside e n t
-        → Stops q s.library (es ++ HasEnded x ∷ []) e t ⊎ Reached q s.library (library_after (es ++ HasEnded x ∷ []) s.library) k e n t
+        → Misses q s.library [] inside e n t
+        → Misses q s.library (es ++ HasEnded x ∷ []) k e n t
     after s t e n room (inl h) =
         inl (h.0, holds_front [] (es ++ HasEnded x ∷ []) s.library t.library h.1)
     after s t e n room (inr r) =
         later s t e n r.end r.library (one_begun q c s.library r.end.library i room r.library)
         (body.stopped r.end t e n r.missed)
 
-    first : (s t : Point) (e : Refusal) (n : Mode) → Missed (TestIn (may_begin c) (refusal TooManyFunctions at) ▸ ds) s e n t
-        → Stops q s.library (es ++ HasEnded x ∷ []) e t ⊎ Reached q s.library (library_after (es ++ HasEnded x ∷ []) s.library) k e n t
+    first : (s t : Point) (e : Refusal) (n : Mode)
+        → Missed (TestIn (may_begin c) (refusal TooManyFunctions at) ▸ ds) s e n t
+        → Misses q s.library (es ++ HasEnded x ∷ []) k e n t
     first s t e n (inl a) =
         inl (stop q (es ++ HasEnded x ∷ []) s t e (same_cause e (refusal TooManyFunctions at) a.1 refl) a.3)
     first s t e n (inr b) = after s t e n b.0 (path.stopped s t e n b.1)
@@ -161,8 +166,8 @@ function_runs {q = q} {es = es} {x = x} {ds = ds} {k = k} other h = record {
 }
   where
     by : (s t : Point) (e : Refusal) (n : Mode)
-        → Stops (deeper false q) s.library es e t ⊎ Reached (deeper false q) s.library (library_after es s.library) k e n t
-        → Stops (one_more q) s.library (ends_only es) e t ⊎ Halted q s.library (library_after (ends_only es) s.library) x k e n t
+        → Misses (deeper false q) s.library es k e n t
+        → Breaks q s.library (ends_only es) x k e n t
     by s t e n (inl g) = inl (g.0, holds_own es s.library t.library g.1)
     by s t e n (inr r) = inr (record {
       end = r.end;
@@ -211,17 +216,15 @@ closure_runs {q = q} slots {es = es} {x = x} {ds = ds} {more = more} {k = k} {n 
         )
 
     body : (s t : Point) (e : Refusal) (m : Mode)
-        → Stops (one_more q) s.library es e t ⊎ Reached (one_more q) s.library (library_after es s.library) Nothing e m t
+        → Misses (one_more q) s.library es Nothing e m t
         → Stops (one_more q) s.library es e t
     body s t e m (inl h) = h
     body s t e m (inr r) = absurd r.missed
 
     later : (s between end t : Point) (e : Refusal) (m : Mode) → end ≡ between → end.library ≡ library_after es s.library
         → closure_count between.library ≡ n → (Begun q s.library → Begun q end.library)
-        → Stops q between.library (used_at slots us) e t
-        ⊎ Reached q between.library (library_after (used_at slots us) between.library) k e m t
-        → Stops (one_more q) s.library (ends_only es ++ used_at slots us) e t
-        ⊎ Halted q s.library (library_after (ends_only es ++ used_at slots us) s.library) x k e m t
+        → Misses q between.library (used_at slots us) k e m t
+        → Breaks q s.library (ends_only es ++ used_at slots us) x k e m t
     later s between end t e m there l count o (inl h) = inl (
       λ g. h.0 (one_stops q.functions q.begun between.library (subst (λ (p : Point). Begun q p.library) there (o g))),
       holds_later (ends_only es) (used_at slots us) s.library between.library t.library (to_there s between end there l) h.1,
@@ -236,8 +239,7 @@ closure_runs {q = q} slots {es = es} {x = x} {ds = ds} {more = more} {k = k} {n 
     })
 
     first : (s t : Point) (e : Refusal) (m : Mode) → Missed (Apart ds n us ▸ more) s e m t
-        → Stops (one_more q) s.library (ends_only es ++ used_at slots us) e t
-        ⊎ Halted q s.library (library_after (ends_only es ++ used_at slots us) s.library) x k e m t
+        → Breaks q s.library (ends_only es ++ used_at slots us) x k e m t
     first s t e m (inl x) =
         let h = body s t e m (f.stopped (D.apart s) t e m x) in
         inl (h.0, holds_front (ends_only es) (used_at slots us) s.library t.library (holds_own es s.library t.library h.1))

@@ -13,7 +13,8 @@ use Rattle.rhai_grammar.specs.Prelude.{is_qualified, is_scoped, module_fault, Li
 use Rattle.rhai_grammar.specs.Prelude.{right_side, spot_after_bracket, spot_after_dot, spot_after_operand, action_ends}
 use Rattle.rhai_grammar.specs.Prelude.{Collected, arm_fault, nothing_collected, with_arm_collected, is_constant_use}
 use Rattle.rhai_grammar.specs.Prelude.{target_fault, action_tree, argument_trees, base_tree, bracket_link, case_trees}
-use Rattle.rhai_grammar.specs.Prelude.{bars_at, filter_of, property_count, caught, caught_name, counter_of, guard_tree, loop_name, member_link}
+use Rattle.rhai_grammar.specs.Prelude.{bars_at, filter_of, property_count, caught, caught_name, counter_of, guard_tree}
+use Rattle.rhai_grammar.specs.Prelude.{loop_name, member_link}
 use Rattle.rhai_grammar.specs.Prelude.{function_tree, method_tree, named_tree, primary_tree, tree, events}
 use Rattle.rhai_grammar.specs.Prelude.{primary_events, script_events, statement_events, ends_only, used_at}
 use Rattle.rhai_grammar.specs.Forms as form
@@ -134,7 +135,8 @@ mutual
       next spares.unlinked (unfaulted (last_fault p.before) (faults.last_fault p.before))
   links (form.Bracket opening at f closing more) p w k i j =
       let x = tree f w in
-      shape (tok spares.anything (test refl (test refl (on (expressed f (level_up (level_up p.brackets)) w (run f _ _ j j))
+      shape (tok spares.anything (test refl (test refl
+      (on (expressed f (level_up (level_up p.brackets)) w (run f _ _ j j))
       (on (unfaulted (index_refusal p.indexed x) (faults.index_refusal p.indexed x))
       (tok (spares.due due.RightBracket) (links more (spot_after_bracket p (bracket_link opening at x)) w k i j)))))))
   links (form.Property dot at name name_at more) p w k i j =
@@ -143,7 +145,8 @@ mutual
   links (form.Method dot at name name_at None args more) p w k i j =
       let l = member_link dot at (method_tree (text_of name) name_at false (argument_trees args w)) in
       shape (shape (tok spares.anything (next spares.member_due (test refl (tok spares.anything
-      (next (spares.after_method name name_at) (on (arguments args V.anything spares.anything (level_up p.settings) w name_at _ i)
+      (next (spares.after_method name name_at)
+      (on (arguments args V.anything spares.anything (level_up p.settings) w name_at _ i)
       (links more (spot_after_dot p l) w k i i))))))))
   links (form.Method dot at name name_at (Some bang) args more) p w k i j =
       let l = member_link dot at (method_tree (text_of name) name_at true (argument_trees args w)) in
@@ -177,7 +180,8 @@ mutual
   items (form.Last f closing) c w k i =
       all_of (on (expressed f c w (run f _ _ i i)) (tok (spares.following_due lists.Arguments) here))
   items (form.Trailing f comma closing) c w k i =
-      all_of (on (expressed f c w (run f _ _ i i)) (tok (spares.following_due lists.Arguments) (tok spares.anything here)))
+      all_of (on (expressed f c w (run f _ _ i i)) (tok (spares.following_due lists.Arguments)
+      (tok spares.anything here)))
   items (form.More f comma more) c w k i =
       on (expressed f c w (run f _ _ i i)) (tok (spares.following_due lists.Arguments) (next spares.argument_follows
       (items more c w k i)))
@@ -196,11 +200,13 @@ mutual
       → Is q c → Does q (field_events x w) (W.fields x before c w opening k) k
   fields (form.NoField closing) before c w opening k i = tok (spares.key_due c before) here
   fields (form.LastField key at colon f closing) before c w opening k i =
-      shape (tok (spares.key_due c before) (test refl (tok (spares.due due.Colon) (next (spares.value_due c.sizes.map (property_count before)) (test refl
+      shape (tok (spares.key_due c before) (test refl (tok (spares.due due.Colon)
+      (next (spares.value_due c.sizes.map (property_count before)) (test refl
       (all_of (on (expressed f (level_up c) w (run f _ _ i i)) (tok (spares.following_due lists.Map) here))))))))
   fields (form.Field key at colon f comma more) before c w opening k i =
       let others = fields more (with_property before (text_of key) at (tree f w)) c w opening k i in
-      shape (tok (spares.key_due c before) (test refl (tok (spares.due due.Colon) (next (spares.value_due c.sizes.map (property_count before)) (test refl
+      shape (tok (spares.key_due c before) (test refl (tok (spares.due due.Colon)
+      (next (spares.value_due c.sizes.map (property_count before)) (test refl
       (on (expressed f (level_up c) w (run f _ _ i i)) (tok (spares.following_due lists.Map) others)))))))
 
   pub segments : {q : Scope} (x : Segments) (c : Context) (w : Live) (start : Position) (k : Demands) → Is q c
@@ -228,7 +234,8 @@ mutual
   evaluation (form.Assign f op at value) c w k i =
       let x = tree f w in
       let constant = is_constant_use w.slots x in
-      on (expressed f c w (run f _ _ i i)) (shape (tok spares.anything (all_of (on (expressed value c w (run value _ _ i i))
+      on (expressed f c w (run f _ _ i i)) (shape (tok spares.anything
+      (all_of (on (expressed value c w (run value _ _ i i))
       (unfaulted (target_fault constant op at x) (faults.target_fault constant op at x))))))
 
   pub initializer : {q : Scope} (x : Initializer) (c : Context) (w : Live) (at : Position) (k : Demands) → Is q c

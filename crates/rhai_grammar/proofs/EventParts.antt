@@ -1,5 +1,5 @@
 -- What happens along the demands of the parts of forms: names, and what uses none.
-use Rattle.std.proofs.Common.{◌≡◌, ◌⊎◌, inl, inr, Bool, true, false, ◌&&◌, ◌||◌, not, List, [], ◌∷◌, ◌++◌, refl, ap}
+use Rattle.std.proofs.Common.{◌≡◌, inl, inr, Bool, true, false, ◌&&◌, ◌||◌, not, List, [], ◌∷◌, ◌++◌, refl, ap}
 use Rattle.std.proofs.Common.{◌∙◌, if◌then◌else◌}
 use Rattle.std.specs.Prelude.{Option, Some, None}
 use Rattle.rhai_grammar.specs.Prelude.{Lexeme, Sign, Node, Text, Position, calls, excludes_use, qualifies, guard_fault}
@@ -22,7 +22,7 @@ use Rattle.rhai_grammar.specs.declared.role.OperandPlace.{OperandPlace}
 use Rattle.rhai_grammar.proofs.Duplicates.{Spares, has_duplicate, refused}
 use Rattle.rhai_grammar.proofs.SparedFaults as faults
 use Rattle.rhai_grammar.proofs.SparedTokens as spares
-use Rattle.rhai_grammar.proofs.EventSteps.{Does, Is, Reached, Scope, Stops, stop, all_of, captures, here, next, on}
+use Rattle.rhai_grammar.proofs.EventSteps.{Does, Is, Misses, Scope, stop, all_of, captures, here, next, on}
 use Rattle.rhai_grammar.proofs.EventSteps.{shape, test, tok, unfaulted_by}
 
 -- ---- what no names are used in
@@ -197,7 +197,7 @@ bang_follows x (form.Scoped colons name at rest) imports y bang b k e s t m =
 -- a name that is used, and one that is not
 name_stopped : {q : Scope} (c : Context) (w : Live) (p : OperandPlace) (name : Text) (at : Position) (k : Demands)
     (s t : Point) (e : Refusal) (n : Mode) → Missed (W.primary (form.Named name at) c w p k) s e n t
-    → Stops q s.library [] e t ⊎ Reached q s.library s.library k e n t
+    → Misses q s.library [] k e n t
 name_stopped {q = q} c w p name at k s t e n (inl a) =
     inl (stop q [] s t e (refused (V.operand_due c p) (next_at code s) e (spares.operand_due c p) a.0) a.2)
 name_stopped {q = q} c w p name at k s t e n (inr (is, inl a)) =

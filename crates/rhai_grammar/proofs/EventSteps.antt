@@ -59,13 +59,17 @@ Left q e l = Within q l × (duplicates_closure e.cause ≡ false)
 abbrev pub Stops : Scope → (from : Library) → List Event → Refusal → (t : Point) → Type 0
 Stops q from es e t = (Orderly q from → Left q e t.library) × HoldsFirst from (ended_in es) t.library
 
+-- Either so, or these are missed.
+abbrev pub Misses : Scope → (from : Library) → List Event → Demands → Refusal → Mode → (t : Point) → Type 0
+Misses q from es k e n t = Stops q from es e t ⊎ Reached q from (library_after es from) k e n t
+
 -- Where demands are met, these events happen up to where the others are. Where they are missed, that is before the others,
 -- or these are missed.
 pub record Does (q : Scope) (es : List Event) (ds k : Demands) : Type 0 where
   pub did : (s t : Point) → Met ds s t
       → Passed q s.library (library_after es s.library) (captured_after q.inside es s.library s.captured) k t
   pub stopped : (s t : Point) (e : Refusal) (n : Mode) → Missed ds s e n t
-      → Stops q s.library es e t ⊎ Reached q s.library (library_after es s.library) k e n t
+      → Misses q s.library es k e n t
 
 -- where the demands stop at once
 pub stop : (q : Scope) (es : List Event) (s t : Point) (e : Refusal) → duplicates_closure e.cause ≡ false → t ≡ s
@@ -154,13 +158,13 @@ on {q = q} {a = a} {b = b} {k = k} {j = j} f g = record {
 }
   where
     by : (s t : Point) (e : Refusal) (n : Mode)
-        → Stops q s.library a e t ⊎ Reached q s.library (library_after a s.library) k e n t
-        → Stops q s.library (a ++ b) e t ⊎ Reached q s.library (library_after (a ++ b) s.library) j e n t
+        → Misses q s.library a k e n t
+        → Misses q s.library (a ++ b) j e n t
     by s t e n (inl h) = inl (h.0, holds_front a b s.library t.library h.1)
     by s t e n (inr r) = later (g.stopped r.end t e n r.missed)
       where
-        later : Stops q r.end.library b e t ⊎ Reached q r.end.library (library_after b r.end.library) j e n t
-            → Stops q s.library (a ++ b) e t ⊎ Reached q s.library (library_after (a ++ b) s.library) j e n t
+        later : Misses q r.end.library b j e n t
+            → Misses q s.library (a ++ b) j e n t
         later (inl h) =
             inl (λ o. h.0 (r.orderly o), holds_later a b s.library r.end.library t.library r.library h.1)
         later (inr p) = inr (record {
@@ -193,8 +197,8 @@ called {q = q} {a = a} {ds = ds} {k = k} h = record {
 }
   where
     by : (s t : Point) (e : Refusal) (n : Mode)
-        → Stops q s.library a e t ⊎ Reached q s.library (library_after a s.library) k e n t
-        → Stops q s.library (as_called a) e t ⊎ Reached q s.library (library_after (as_called a) s.library) k e n t
+        → Misses q s.library a k e n t
+        → Misses q s.library (as_called a) k e n t
     by s t e n (inl f) = inl (f.0, holds_called a s.library t.library f.1)
     by s t e n (inr r) = inr (record {
       end = r.end;
@@ -226,14 +230,14 @@ literally {q = q} {a = a} {b = b} {ds = ds} {more = more} {k = k} f g = record {
 }
   where
     within_it : (s t : Point) (e : Refusal) (n : Mode)
-        → Stops q s.library a e t ⊎ Reached q s.library (library_after a s.library) Nothing e n t → Stops q s.library a e t
+        → Misses q s.library a Nothing e n t → Stops q s.library a e t
     within_it s t e n (inl h) = h
     within_it s t e n (inr r) = absurd r.missed
 
     later : (s between t : Point) (e : Refusal) (n : Mode)
         → Passed q s.library (library_after a s.library) (captured_after q.inside a s.library s.captured) Nothing between
-        → Stops q between.library b e t ⊎ Reached q between.library (library_after b between.library) k e n t
-        → Stops q s.library (a ++ b) e t ⊎ Reached q s.library (library_after (a ++ b) s.library) k e n t
+        → Misses q between.library b k e n t
+        → Misses q s.library (a ++ b) k e n t
     later s between t e n r (inl h) = inl (
       λ o. h.0 (subst (λ (x : Point). Orderly q x.library) r.met (r.orderly o)),
       holds_later a b s.library between.library t.library (sym (ap (λ (x : Point). x.library) r.met) ∙ r.library) h.1,
@@ -248,7 +252,7 @@ literally {q = q} {a = a} {b = b} {ds = ds} {more = more} {k = k} f g = record {
     })
 
     by : (s t : Point) (e : Refusal) (n : Mode) → Missed (Literally ds ▸ more) s e n t
-        → Stops q s.library (a ++ b) e t ⊎ Reached q s.library (library_after (a ++ b) s.library) k e n t
+        → Misses q s.library (a ++ b) k e n t
     by s t e n (inl m) =
         let h = within_it s t m.0 n (f.stopped s t m.0 n m.1) in
         inl (

@@ -2,8 +2,8 @@
 use Rattle.std.proofs.Common.{◌≡◌, inl, inr, ℕ, ◌+◌, true, List, refl, sym, ap, ◌∙◌, subst, arith}
 use Rattle.rhai_grammar.specs.Prelude.{Refusal, closure_name, declared_names, in_closure, Context, Live, level_up, Mode}
 use Rattle.rhai_grammar.specs.Prelude.{Point, with_captured, Demands, Met, Missed, Nothing, ClosureBody, ClosureHead}
-use Rattle.rhai_grammar.specs.Prelude.{is_new, parameters_live, closure_count, IsOrderly, closure_tree, Use, Event, events}
-use Rattle.rhai_grammar.specs.Prelude.{expressions, script_events, scripts}
+use Rattle.rhai_grammar.specs.Prelude.{is_new, parameters_live, closure_count, IsOrderly, closure_tree, Use, Event}
+use Rattle.rhai_grammar.specs.Prelude.{events, expressions, script_events, scripts}
 use Rattle.rhai_grammar.specs.Delivered as D
 use Rattle.rhai_grammar.specs.LibraryLaws.{KeepsOrder, LibrariesStayOrderly, up_to_key}
 use Rattle.rhai_grammar.proofs.CaptureLemmas.{whole_expression, whole_script}

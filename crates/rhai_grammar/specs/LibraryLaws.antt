@@ -1,9 +1,10 @@
 -- Laws of libraries: closures' names are new, limits hold, keys are unique. As long as closures get the next number,
--- their names are new; and what parsing leaves is within the limit, and has each key once. Users rely on them.
+-- their names are new, and none is refused for its key; and what parsing leaves is within the limit, and has each key
+-- once. Users rely on them.
 use Rattle.std.specs.Prelude.{◌≡◌, ◌<◌, ◌≤◌, ◌+◌, ◌^◌, ℕ, Bool, true, false, List, [], None, codes, refl}
 use Rattle.rhai_lower.specs.declared.position.Position.{Position}
 use Rattle.rhai_grammar.specs.Causes.{Cause, FnDuplicatedDefinition, Refusal}
-use Rattle.rhai_grammar.specs.Closures.{closure_name, declared_names, in_closure, last_hex_digits}
+use Rattle.rhai_grammar.specs.Closures.{closure_name, declared_names, in_closure}
 use Rattle.rhai_grammar.specs.Contexts.{Context, Live, level_up}
 use Rattle.rhai_grammar.specs.Delivered.{Mode, Point}
 use Rattle.rhai_grammar.specs.Demands.{Apart, Demands, Met, Missed, Nothing, ◌▸◌}
@@ -68,9 +69,8 @@ pub record LibrariesStayOrderly : Type 0 where
       → Met (up_to_key head body n captured context live) s t
       → is_new (closure_tree head body n captured).key t.library ≡ true
 
--- A function `f` may be refused so. Where the key of a closure is there, as that of closure 0, the cause is such a one.
+-- A second function `f` may be refused; a second closure with the name of the number 0 would be such a cause.
 example : (duplicates_closure (FnDuplicatedDefinition (codes "f") 1) ≡ false)
-    × (duplicates_closure (FnDuplicatedDefinition (closure_name 0) 1) ≡ true)
+    × (duplicates_closure (FnDuplicatedDefinition (codes "anon$0000000000000000") 1) ≡ true)
     × ((k : Key) (at : Position) → duplicates_closure (duplicate_of k at).cause ≡ is_closure k)
-unfolding last_hex_digits
 example = (refl, refl, λ k at. refl)
