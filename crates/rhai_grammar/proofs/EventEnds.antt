@@ -16,8 +16,8 @@ use Rattle.rhai_grammar.specs.Prelude.{duplicate_of, Use, HoldsFirst, ended_in, 
 use Rattle.rhai_lower.specs.Names.{begins_with_letter, first_but_underscore, is_reserved, is_word}
 use Rattle.rhai_grammar.specs.Causes.{FnMissingName, TooManyFunctions}
 use Rattle.rhai_grammar.specs.Delivered as D
-use Rattle.rhai_grammar.specs.LibraryLaws.{duplicates_closure}
 use Rattle.rhai_grammar.specs.Forms as form
+use Rattle.rhai_grammar.specs.LibraryLaws.{duplicates_closure}
 use Rattle.rhai_grammar.specs.Written as W
 use Rattle.rhai_grammar.specs.declared.due.DueToken.TheVariants as due
 use Rattle.rhai_grammar.proofs.Duplicates.{refused, same_cause}
@@ -26,8 +26,8 @@ use Rattle.rhai_grammar.proofs.EventEffects.{captured_ends, captured_on, capture
 use Rattle.rhai_grammar.proofs.EventEffects.{library_on, library_used}
 use Rattle.rhai_grammar.proofs.EventSteps.{Does, Is, Misses, Orderly, Scope, Stops, deeper, shape, stop, tok}
 use Rattle.rhai_grammar.proofs.LibraryLemmas.{closure_added, function_added, key_is_new}
-use Rattle.rhai_grammar.proofs.SparedTokens as spares
 use Rattle.rhai_grammar.proofs.LibrarySteps.{few_closures, one_begins, one_ends, one_stops}
+use Rattle.rhai_grammar.proofs.SparedTokens as spares
 
 -- ---- libraries with one more function
 
@@ -74,8 +74,7 @@ Breaks q from es x k e n t = Stops (one_more q) from es e t ⊎ Halted q from (l
 pub record Runs (q : Scope) (es : List Event) (x : Ended) (ds k : Demands) : Type 0 where
   did : (s t : Point) → Met ds s t
       → Ran q s.library (library_after es s.library) (captured_after q.inside es s.library s.captured) x k t
-  stopped : (s t : Point) (e : Refusal) (n : Mode) → Missed ds s e n t
-      → Breaks q s.library es x k e n t
+  stopped : (s t : Point) (e : Refusal) (n : Mode) → Missed ds s e n t → Breaks q s.library es x k e n t
 
 -- From where a function or closure may begin to where it has ended.
 pub ended : {q : Scope} (c : Context) {es : List Event} {x : Ended} {ds body k : Demands} (at : Position) → Is q c
@@ -121,8 +120,7 @@ ended {q = q} c {es = es} {x = x} {ds = ds} {body = inside} {k = k} at i path bo
     })
 
     later : (s t : Point) (e : Refusal) (n : Mode) (r : Point) → r.library ≡ s.library
-        → (Orderly q s.library → Begun q r.library)
-        → Breaks q r.library es x (W.function_ends x at k) e n t
+        → (Orderly q s.library → Begun q r.library) → Breaks q r.library es x (W.function_ends x at k) e n t
         → Misses q s.library (es ++ HasEnded x ∷ []) k e n t
     later s t e n r l g (inl h) = inl (
       λ o. h.0 (g o),
@@ -131,8 +129,7 @@ ended {q = q} c {es = es} {x = x} {ds = ds} {body = inside} {k = k} at i path bo
     later s t e n r l g (inr p) =
         last s t e n p.end (p.library ∙ ap (library_after es) l) (λ o. p.orderly (g o)) p.missed
 
-    after : (s t : Point) (e : Refusal) (n : Mode) → may_begin c s.library ≡ true
-        → Misses q s.library [] inside e n t
+    after : (s t : Point) (e : Refusal) (n : Mode) → may_begin c s.library ≡ true → Misses q s.library [] inside e n t
         → Misses q s.library (es ++ HasEnded x ∷ []) k e n t
     after s t e n room (inl h) =
         inl (h.0, holds_front [] (es ++ HasEnded x ∷ []) s.library t.library h.1)
@@ -165,8 +162,7 @@ function_runs {q = q} {es = es} {x = x} {ds = ds} {k = k} other h = record {
   stopped = λ s t e n m. by s t e n (h.stopped s t e n m);
 }
   where
-    by : (s t : Point) (e : Refusal) (n : Mode)
-        → Misses (deeper false q) s.library es k e n t
+    by : (s t : Point) (e : Refusal) (n : Mode) → Misses (deeper false q) s.library es k e n t
         → Breaks q s.library (ends_only es) x k e n t
     by s t e n (inl g) = inl (g.0, holds_own es s.library t.library g.1)
     by s t e n (inr r) = inr (record {
@@ -215,8 +211,7 @@ closure_runs {q = q} slots {es = es} {x = x} {ds = ds} {more = more} {k = k} {n 
           λ old. absurd (let new = key_is_new l x.key o.numbered few is in cc),
         )
 
-    body : (s t : Point) (e : Refusal) (m : Mode)
-        → Misses (one_more q) s.library es Nothing e m t
+    body : (s t : Point) (e : Refusal) (m : Mode) → Misses (one_more q) s.library es Nothing e m t
         → Stops (one_more q) s.library es e t
     body s t e m (inl h) = h
     body s t e m (inr r) = absurd r.missed

@@ -68,8 +68,7 @@ Misses q from es k e n t = Stops q from es e t ⊎ Reached q from (library_after
 pub record Does (q : Scope) (es : List Event) (ds k : Demands) : Type 0 where
   pub did : (s t : Point) → Met ds s t
       → Passed q s.library (library_after es s.library) (captured_after q.inside es s.library s.captured) k t
-  pub stopped : (s t : Point) (e : Refusal) (n : Mode) → Missed ds s e n t
-      → Misses q s.library es k e n t
+  pub stopped : (s t : Point) (e : Refusal) (n : Mode) → Missed ds s e n t → Misses q s.library es k e n t
 
 -- where the demands stop at once
 pub stop : (q : Scope) (es : List Event) (s t : Point) (e : Refusal) → duplicates_closure e.cause ≡ false → t ≡ s
@@ -157,14 +156,11 @@ on {q = q} {a = a} {b = b} {k = k} {j = j} f g = record {
   stopped = λ s t e n m. by s t e n (f.stopped s t e n m);
 }
   where
-    by : (s t : Point) (e : Refusal) (n : Mode)
-        → Misses q s.library a k e n t
-        → Misses q s.library (a ++ b) j e n t
+    by : (s t : Point) (e : Refusal) (n : Mode) → Misses q s.library a k e n t → Misses q s.library (a ++ b) j e n t
     by s t e n (inl h) = inl (h.0, holds_front a b s.library t.library h.1)
     by s t e n (inr r) = later (g.stopped r.end t e n r.missed)
       where
-        later : Misses q r.end.library b j e n t
-            → Misses q s.library (a ++ b) j e n t
+        later : Misses q r.end.library b j e n t → Misses q s.library (a ++ b) j e n t
         later (inl h) =
             inl (λ o. h.0 (r.orderly o), holds_later a b s.library r.end.library t.library r.library h.1)
         later (inr p) = inr (record {
@@ -196,8 +192,7 @@ called {q = q} {a = a} {ds = ds} {k = k} h = record {
   stopped = λ s t e n m. by s t e n (h.stopped s t e n m);
 }
   where
-    by : (s t : Point) (e : Refusal) (n : Mode)
-        → Misses q s.library a k e n t
+    by : (s t : Point) (e : Refusal) (n : Mode) → Misses q s.library a k e n t
         → Misses q s.library (as_called a) k e n t
     by s t e n (inl f) = inl (f.0, holds_called a s.library t.library f.1)
     by s t e n (inr r) = inr (record {
@@ -229,15 +224,13 @@ literally {q = q} {a = a} {b = b} {ds = ds} {more = more} {k = k} f g = record {
   stopped = λ s t e n m. by s t e n m;
 }
   where
-    within_it : (s t : Point) (e : Refusal) (n : Mode)
-        → Misses q s.library a Nothing e n t → Stops q s.library a e t
+    within_it : (s t : Point) (e : Refusal) (n : Mode) → Misses q s.library a Nothing e n t → Stops q s.library a e t
     within_it s t e n (inl h) = h
     within_it s t e n (inr r) = absurd r.missed
 
     later : (s between t : Point) (e : Refusal) (n : Mode)
         → Passed q s.library (library_after a s.library) (captured_after q.inside a s.library s.captured) Nothing between
-        → Misses q between.library b k e n t
-        → Misses q s.library (a ++ b) k e n t
+        → Misses q between.library b k e n t → Misses q s.library (a ++ b) k e n t
     later s between t e n r (inl h) = inl (
       λ o. h.0 (subst (λ (x : Point). Orderly q x.library) r.met (r.orderly o)),
       holds_later a b s.library between.library t.library (sym (ap (λ (x : Point). x.library) r.met) ∙ r.library) h.1,

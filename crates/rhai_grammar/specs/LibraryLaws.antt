@@ -69,7 +69,7 @@ pub record LibrariesStayOrderly : Type 0 where
       → Met (up_to_key head body n captured context live) s t
       → is_new (closure_tree head body n captured).key t.library ≡ true
 
--- A second function `f` may be refused; a second closure with the name of the number 0 would be such a cause.
+-- For a function `f` that is there it is no such cause, for the closure with the number 0 it is: the key decides.
 example : (duplicates_closure (FnDuplicatedDefinition (codes "f") 1) ≡ false)
     × (duplicates_closure (FnDuplicatedDefinition (codes "anon$0000000000000000") 1) ≡ true)
     × ((k : Key) (at : Position) → duplicates_closure (duplicate_of k at).cause ≡ is_closure k)
