@@ -11,7 +11,7 @@ use Rattle.rhai_grammar.specs.Prelude.{SlotValue, Lexeme, is_identifier, Text, P
 use Rattle.rhai_grammar.specs.Prelude.{Context, Mode, Point, adding, code, is_memory, next_at, with_captured}
 use Rattle.rhai_grammar.specs.Prelude.{Apart, Blames, Demands, Fine, Met, Missed, Next, Nothing, Otherwise, Test}
 use Rattle.rhai_grammar.specs.Prelude.{TestIn, verdict, ◌▸◌, is_due, Owner, is_new, may_begin, names_function, untyped}
-use Rattle.rhai_grammar.specs.Prelude.{is_closure, Ended, Library, closure_count, with_ended, IsNumbered, IsOrderly}
+use Rattle.rhai_grammar.specs.Prelude.{is_closure, Ended, Library, closure_count, with_ended, IsNumbered}
 use Rattle.rhai_grammar.specs.Prelude.{duplicate_of, Use, HoldsFirst, ended_in, Event, HasEnded, ends_only, used_at}
 use Rattle.rhai_lower.specs.Names.{begins_with_letter, first_but_underscore, is_reserved, is_word}
 use Rattle.rhai_grammar.specs.Causes.{FnMissingName, TooManyFunctions}
@@ -26,14 +26,14 @@ use Rattle.rhai_grammar.proofs.EventEffects.{captured_ends, captured_on, capture
 use Rattle.rhai_grammar.proofs.EventEffects.{library_on, library_used}
 use Rattle.rhai_grammar.proofs.EventSteps.{Does, Is, Misses, Orderly, Scope, Stops, deeper, shape, stop, tok}
 use Rattle.rhai_grammar.proofs.LibraryLemmas.{closure_added, function_added, key_is_new}
-use Rattle.rhai_grammar.proofs.LibrarySteps.{few_closures, one_begins, one_ends, one_stops}
+use Rattle.rhai_grammar.proofs.LibrarySteps.{Kept, few_closures, one_begins, one_ends, one_stops}
 use Rattle.rhai_grammar.proofs.SparedTokens as spares
 
 -- ---- libraries with one more function
 
 -- With one more that has begun, the functions are within the limit.
 abbrev pub Begun : Scope → Library → Type 0
-Begun q l = IsOrderly q.functions (q.begun + 1) l
+Begun q l = Kept q.functions (q.begun + 1) l
 
 one_begun : (q : Scope) (c : Context) (l m : Library) → Is q c → may_begin c l ≡ true → m ≡ l → Orderly q l → Begun q m
 one_begun q c l m i e f g =
@@ -157,7 +157,7 @@ function_runs {q = q} {es = es} {x = x} {ds = ds} {k = k} other h = record {
         captured =
             r.captured ∙ captured_outside es s.library s.captured
             ∙ sym (captured_ends q.inside es s.library s.captured);
-        orderly = λ g. let o = r.orderly g in (o, function_added r.end.library x o.numbered other, λ old. other);
+        orderly = λ g. let o = r.orderly g in (o, function_added r.end.library x o.0.numbered other, λ old. other);
       };
   stopped = λ s t e n m. by s t e n (h.stopped s t e n m);
 }
@@ -169,7 +169,7 @@ function_runs {q = q} {es = es} {x = x} {ds = ds} {k = k} other h = record {
       end = r.end;
       missed = r.missed;
       library = r.library ∙ sym (library_ends es s.library);
-      orderly = λ g. let o = r.orderly g in (o, function_added r.end.library x o.numbered other, λ old. other);
+      orderly = λ g. let o = r.orderly g in (o, function_added r.end.library x o.0.numbered other, λ old. other);
     })
 
 -- The body of a closure, after which the names that it captures are used.
@@ -207,8 +207,8 @@ closure_runs {q = q} slots {es = es} {x = x} {ds = ds} {more = more} {k = k} {n 
         let is : x.key.name ≡ closure_name (closure_count l) =
         name ∙ ap closure_name (sym (ap closure_count same ∙ count)) in (
           o,
-          closure_added l x o.numbered few is,
-          λ old. absurd (let new = key_is_new l x.key o.numbered few is in cc),
+          closure_added l x o.0.numbered few is,
+          λ old. absurd (let new = key_is_new l x.key o.0.numbered few is in cc),
         )
 
     body : (s t : Point) (e : Refusal) (m : Mode) → Misses (one_more q) s.library es Nothing e m t
