@@ -5,7 +5,7 @@ use Rattle.rhai_grammar.specs.Prelude.{Point, with_captured, Demands, Met, Misse
 use Rattle.rhai_grammar.specs.Prelude.{is_new, parameters_live, closure_count, closure_tree, Use, Event}
 use Rattle.rhai_grammar.specs.Prelude.{events, expressions, script_events, scripts}
 use Rattle.rhai_grammar.specs.Delivered as D
-use Rattle.rhai_grammar.specs.LibraryLaws.{KeepsOrder, LibrariesStayOrderly, up_to_key}
+use Rattle.rhai_grammar.specs.LibraryLaws.{FormsKeepOrder, LibrariesStayOrderly, up_to_key}
 use Rattle.rhai_grammar.proofs.CaptureLemmas.{whole_expression, whole_script}
 use Rattle.rhai_grammar.proofs.EventEffects.{library_used}
 use Rattle.rhai_grammar.proofs.EventLemmas as happens
@@ -23,7 +23,7 @@ refused : (q : Scope) (es : List Event) (ds : Demands) (s t : Point) (e : Refusa
 refused q es ds s t e n h g m = elim (h.stopped s t e n m) [ inl f ↦ f.0 g | inr r ↦ absurd r.missed ]
 
 order : {F : Type 0} (c : Context) (whole : F → Demands) (es : F → List Event)
-    → ((f : F) → Does (scope_of c) (es f) (whole f) Nothing) → KeepsOrder c whole
+    → ((f : F) → Does (scope_of c) (es f) (whole f) Nothing) → FormsKeepOrder c whole
 order c whole es does = record {
   met = λ f s t b g m. (kept (scope_of c) (es f) (whole f) s t (does f) (g, b) m).0;
   missed = λ f s t e n b g m. (refused (scope_of c) (es f) (whole f) s t e n (does f) (g, b) m).0;

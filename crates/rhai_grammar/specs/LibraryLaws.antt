@@ -49,7 +49,7 @@ duplicates_closure _ = false
 -- A library that is orderly before a form is so after it, if the limit is a number of at most 64 bits, as in the code.
 -- Where the form is refused, the functions that have ended are within the limit, no two have one key, and the cause is
 -- not that a closure's key is there.
-pub record KeepsOrder {F : Type 0} (context : Context) (whole : F → Demands) : Type 0 where
+pub record FormsKeepOrder {F : Type 0} (context : Context) (whole : F → Demands) : Type 0 where
   pub met : (f : F) (s t : Point) → context.sizes.functions ≤ 2 ^ 64
       → IsOrderly context.sizes.functions context.begun s.library → Met (whole f) s t
       → IsOrderly context.sizes.functions context.begun t.library
@@ -63,8 +63,8 @@ pub record KeepsOrder {F : Type 0} (context : Context) (whole : F → Demands) :
 -- Expressions and scripts keep orderly libraries so. Where the key of a closure is tested, it is new.
 pub record LibrariesStayOrderly : Type 0 where
   pub empty : (limit : ℕ) → IsOrderly limit 0 []
-  pub expression : (context : Context) (live : Live) → KeepsOrder context (expressions context live)
-  pub script : (context : Context) (live : Live) → KeepsOrder context (scripts context live)
+  pub expression : (context : Context) (live : Live) → FormsKeepOrder context (expressions context live)
+  pub script : (context : Context) (live : Live) → FormsKeepOrder context (scripts context live)
   pub closure_key : (context : Context) (live : Live) (head : ClosureHead) (body : ClosureBody) (n : ℕ)
       (captured : List Use) (s t : Point)
       → context.sizes.functions ≤ 2 ^ 64 → IsOrderly context.sizes.functions (context.begun + 1) s.library
