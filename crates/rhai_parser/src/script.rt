@@ -260,7 +260,7 @@ impl Engine {
         ensures orderly { KeepsOrder self.now (counts_of state.entry.counts)
             (library_of state.entry.lib.now.entries) (library_of state.exit.1.0.now.entries) }
     {
-        self.parse_with(state, level, &Unoptimized)
+        self.parse_with(passed_on!(state), level, &Unoptimized)
     }
 
     /// Reads a script as [`Engine::parse`] does, and hands its statements, with all functions of the library, to an
