@@ -11,7 +11,7 @@ use Rattle.rhai_grammar.specs.Prelude.{SlotValue, Lexeme, is_identifier, Text, P
 use Rattle.rhai_grammar.specs.Prelude.{Context, Mode, Point, adding, code, is_memory, next_at, with_captured, Adds}
 use Rattle.rhai_grammar.specs.Prelude.{Apart, Blames, Demands, Fine, Met, Missed, Next, Nothing, Otherwise, Test}
 use Rattle.rhai_grammar.specs.Prelude.{TestIn, verdict, ◌▸◌, is_due, Owner, is_new, may_begin, names_function, untyped}
-use Rattle.rhai_grammar.specs.Prelude.{is_closure, Ended, Library, closure_count, with_ended, IsNumbered, IsOrderly}
+use Rattle.rhai_grammar.specs.Prelude.{is_closure, Ended, Library, closure_count, with_ended, IsNumbered}
 use Rattle.rhai_grammar.specs.Prelude.{Use, HoldsFirst, ended_in, Event, HasEnded, ends_only, used_at}
 use Rattle.rhai_lower.specs.Names.{begins_with_letter, first_but_underscore, is_reserved, is_word}
 use Rattle.rhai_grammar.specs.Causes.{FnMissingName}
@@ -24,13 +24,13 @@ use Rattle.rhai_grammar.proofs.EventEffects.{captured_on, captured_outside, libr
 use Rattle.rhai_grammar.proofs.EventEffects.{library_used}
 use Rattle.rhai_grammar.proofs.EventSteps.{Does, Is, Orderly, Reached, Scope, Stops, deeper, shape, stop, tok}
 use Rattle.rhai_grammar.proofs.LibraryLemmas.{closure_added, function_added}
-use Rattle.rhai_grammar.proofs.LibrarySteps.{few_closures, one_begins, one_ends, one_stops}
+use Rattle.rhai_grammar.proofs.LibrarySteps.{Kept, few_closures, one_begins, one_ends, one_stops}
 
 -- ---- libraries with one more function
 
 -- With one more that has begun, the functions are within the limit.
 abbrev pub Begun : Scope → Library → Type 0
-Begun q l = IsOrderly q.functions (q.begun + 1) l
+Begun q l = Kept q.functions (q.begun + 1) l
 
 one_begun : (q : Scope) (c : Context) (l m : Library) → Is q c → may_begin c l ≡ true → m ≡ l → Orderly q l → Begun q m
 one_begun q c l m i e f g =
@@ -144,7 +144,7 @@ function_runs {q = q} {es = es} {x = x} {ds = ds} {k = k} other h = record {
         captured =
             r.captured ∙ captured_outside es s.library s.captured
             ∙ sym (captured_ends q.inside es s.library s.captured);
-        orderly = λ g. let o = r.orderly g in (o, function_added r.end.library x o.numbered other);
+        orderly = λ g. let o = r.orderly g in (o, function_added r.end.library x o.0.numbered other);
       };
   stopped = λ s t e n m. by s t e n (h.stopped s t e n m);
 }
@@ -157,7 +157,7 @@ function_runs {q = q} {es = es} {x = x} {ds = ds} {k = k} other h = record {
       end = r.end;
       missed = r.missed;
       library = r.library ∙ sym (library_ends es s.library);
-      orderly = λ g. let o = r.orderly g in (o, function_added r.end.library x o.numbered other);
+      orderly = λ g. let o = r.orderly g in (o, function_added r.end.library x o.0.numbered other);
     })
 
 -- The body of a closure, after which the names that it captures are used.
@@ -192,7 +192,7 @@ closure_runs {q = q} slots {es = es} {x = x} {ds = ds} {more = more} {k = k} {n 
     named between end l e count same g =
         let o : Begun q l = subst (λ m. Begun q m) (ap (λ (p : Point). p.library) e ∙ sym same) g in (
           o,
-          closure_added l x o.numbered (few_closures q.functions q.begun l o)
+          closure_added l x o.0.numbered (few_closures q.functions q.begun l o)
               (name ∙ ap closure_name (sym (ap closure_count same ∙ count))),
         )
 

@@ -13,6 +13,7 @@ use Rattle.rhai_grammar.specs.Prelude.{is_free}
 use Rattle.rhai_grammar.specs.Settings as S
 use Rattle.rhai_grammar.specs.Written as W
 use Rattle.rhai_grammar.proofs.EventEffects.{holds_called, holds_front, holds_later, holds_none, captured_after}
+use Rattle.rhai_grammar.proofs.LibrarySteps.{Kept}
 use Rattle.rhai_grammar.proofs.EventEffects.{captured_called, library_called, captured_on, library_after, library_on}
 
 -- What of a context matters here: whether it is that of a closure, how many functions have begun around, and how many
@@ -24,14 +25,14 @@ pub record Scope : Type 0 where
 
 -- The functions are within the limit, with those that have begun.
 abbrev pub Orderly : Scope → Library → Type 0
-Orderly q l = IsOrderly q.functions q.begun l
+Orderly q l = Kept q.functions q.begun l
 
 -- The functions alone are within it.
 abbrev pub Within : Scope → Library → Type 0
 Within q l = IsOrderly q.functions 0 l
 
 pub within : (q : Scope) (l : Library) → Orderly q l → Within q l
-within q l g = record { numbered = g.numbered; keys = g.keys; within = omega (arith, g.within); bound = g.bound }
+within q l (g, bound) = record { numbered = g.numbered; keys = g.keys; within = omega (arith, g.within) }
 
 -- Some demands are met from a point on that has these functions and captured names. If the functions `from` which it all
 -- began were within the limit, so are those there.

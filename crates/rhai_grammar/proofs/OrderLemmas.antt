@@ -2,7 +2,7 @@
 use Rattle.std.proofs.Common.{◌≡◌, inl, inr, ℕ, ◌+◌, true, List, refl, sym, ap, ◌∙◌, subst, arith}
 use Rattle.rhai_grammar.specs.Prelude.{Refusal, closure_name, declared_names, in_closure, Context, Live, level_up, Mode}
 use Rattle.rhai_grammar.specs.Prelude.{Point, with_captured, Demands, Met, Missed, Nothing, ClosureBody, ClosureHead}
-use Rattle.rhai_grammar.specs.Prelude.{is_new, parameters_live, closure_count, IsOrderly, closure_tree, Use, Event}
+use Rattle.rhai_grammar.specs.Prelude.{is_new, parameters_live, closure_count, closure_tree, Use, Event}
 use Rattle.rhai_grammar.specs.Delivered as D
 use Rattle.rhai_grammar.specs.LibraryLaws.{LibrariesStayOrderly, up_to_key}
 use Rattle.rhai_grammar.proofs.CaptureLemmas.{whole_expression, whole_script}
@@ -11,7 +11,7 @@ use Rattle.rhai_grammar.proofs.EventLemmas as happens
 use Rattle.rhai_grammar.proofs.EventParts.{captured_names}
 use Rattle.rhai_grammar.proofs.EventSteps.{Does, Orderly, Scope, Within, deeper, is_closure, scope_of}
 use Rattle.rhai_grammar.proofs.LibraryLemmas.{empty, key_is_new}
-use Rattle.rhai_grammar.proofs.LibrarySteps.{few_closures}
+use Rattle.rhai_grammar.proofs.LibrarySteps.{Kept, few_closures}
 
 kept : (q : Scope) (es : List Event) (ds : Demands) (s t : Point) → Does q es ds Nothing → Orderly q s.library → Met ds s t
     → Orderly q t.library
@@ -22,7 +22,7 @@ refused : (q : Scope) (es : List Event) (ds : Demands) (s t : Point) (e : Refusa
 refused q es ds s t e n h g m = elim (h.stopped s t e n m) [ inl f ↦ f.0 g | inr r ↦ absurd r.missed ]
 
 key : (c : Context) (w : Live) (head : ClosureHead) (f : ClosureBody) (n : ℕ) (us : List Use) (s t : Point)
-    → IsOrderly c.sizes.functions (c.begun + 1) s.library → Met (up_to_key head f n us c w) s t
+    → Kept c.sizes.functions (c.begun + 1) s.library → Met (up_to_key head f n us c w) s t
     → is_new (closure_tree head f n us).key t.library ≡ true
 key c w head f n us s t g m =
     let q = scope_of c in
@@ -32,17 +32,17 @@ key c w head f n us s t g m =
     let same : t.library ≡ m.0.library =
     sym (ap (λ (x : Point). x.library) p.met) ∙ p.library ∙ library_used w.slots us m.0.library in
     let there : r.end.library ≡ t.library = ap (λ (x : Point). x.library) r.met ∙ sym same in
-    let o : IsOrderly c.sizes.functions (c.begun + 1) t.library =
-    subst (λ l. IsOrderly c.sizes.functions (c.begun + 1) l) there (r.orderly g) in
-    key_is_new t.library (closure_tree head f n us).key o.numbered (few_closures q.functions q.begun t.library o)
+    let o : Kept c.sizes.functions (c.begun + 1) t.library =
+    subst (λ l. Kept c.sizes.functions (c.begun + 1) l) there (r.orderly g) in
+    key_is_new t.library (closure_tree head f n us).key o.0.numbered (few_closures q.functions q.begun t.library o)
     (ap closure_name (sym (ap closure_count same ∙ m.2.0)))
 
 pub libraries_stay_orderly : LibrariesStayOrderly
 libraries_stay_orderly = record {
-  empty = λ limit h. record { numbered = empty; keys = tt; within = omega arith; bound = h };
-  expression = λ c w f s t g m. kept (scope_of c) _ _ s t (whole_expression c w f) g m;
-  script = λ c w fs s t g m. kept (scope_of c) _ _ s t (whole_script c w fs) g m;
-  expression_refused = λ c w f s t e n g m. refused (scope_of c) _ _ s t e n (whole_expression c w f) g m;
-  script_refused = λ c w fs s t e n g m. refused (scope_of c) _ _ s t e n (whole_script c w fs) g m;
-  closure_key = key;
+  empty = λ limit. record { numbered = empty; keys = tt; within = omega arith };
+  expression = λ c w f s t b g m. (kept (scope_of c) _ _ s t (whole_expression c w f) (g, b) m).0;
+  script = λ c w fs s t b g m. (kept (scope_of c) _ _ s t (whole_script c w fs) (g, b) m).0;
+  expression_refused = λ c w f s t e n b g m. refused (scope_of c) _ _ s t e n (whole_expression c w f) (g, b) m;
+  script_refused = λ c w fs s t e n b g m. refused (scope_of c) _ _ s t e n (whole_script c w fs) (g, b) m;
+  closure_key = λ c w head f n us s t b g m. key c w head f n us s t (g, b) m;
 }

@@ -37,25 +37,25 @@ up_to_key head body number captured context live =
     Apart (closure_body body (level_up (in_closure context live)) parameters Nothing) number captured ▸
     captured_names captured context live Nothing
 
--- A library that is orderly before an expression or a script is so after it. Where that is refused, the functions that
--- have ended are within the limit, and no two have one key. No closure is refused for its key: where that is tested, it
--- is new.
+-- A library that is orderly before an expression or a script is so after it, if the limit is a number of at most 64
+-- bits, as in the code. Where that is refused, the functions that have ended are within the limit, and no two have one
+-- key. No closure is refused for its key: where that is tested, it is new.
 pub record LibrariesStayOrderly : Type 0 where
-  pub empty : (limit : ℕ) → limit ≤ 2 ^ 64 → IsOrderly limit 0 []
+  pub empty : (limit : ℕ) → IsOrderly limit 0 []
   pub expression : (context : Context) (live : Live) (f : Run) (s t : Point)
-      → IsOrderly context.sizes.functions context.begun s.library → Met (whole_expression f context live) s t
+      → context.sizes.functions ≤ 2 ^ 64 → IsOrderly context.sizes.functions context.begun s.library → Met (whole_expression f context live) s t
       → IsOrderly context.sizes.functions context.begun t.library
   pub script : (context : Context) (live : Live) (fs : Statements) (s t : Point)
-      → IsOrderly context.sizes.functions context.begun s.library → Met (whole_script fs context live) s t
+      → context.sizes.functions ≤ 2 ^ 64 → IsOrderly context.sizes.functions context.begun s.library → Met (whole_script fs context live) s t
       → IsOrderly context.sizes.functions context.begun t.library
   pub expression_refused : (context : Context) (live : Live) (f : Run) (s t : Point) (e : Refusal) (mode : Mode)
-      → IsOrderly context.sizes.functions context.begun s.library
+      → context.sizes.functions ≤ 2 ^ 64 → IsOrderly context.sizes.functions context.begun s.library
       → Missed (whole_expression f context live) s e mode t → IsOrderly context.sizes.functions 0 t.library
   pub script_refused : (context : Context) (live : Live) (fs : Statements) (s t : Point) (e : Refusal) (mode : Mode)
-      → IsOrderly context.sizes.functions context.begun s.library
+      → context.sizes.functions ≤ 2 ^ 64 → IsOrderly context.sizes.functions context.begun s.library
       → Missed (whole_script fs context live) s e mode t → IsOrderly context.sizes.functions 0 t.library
   pub closure_key : (context : Context) (live : Live) (head : ClosureHead) (body : ClosureBody) (n : ℕ)
       (captured : List Use) (s t : Point)
-      → IsOrderly context.sizes.functions (context.begun + 1) s.library
+      → context.sizes.functions ≤ 2 ^ 64 → IsOrderly context.sizes.functions (context.begun + 1) s.library
       → Met (up_to_key head body n captured context live) s t
       → is_new (closure_tree head body n captured).key t.library ≡ true

@@ -36,7 +36,7 @@ pub use rhai_base::{
     TokenizerControl, make_anonymous_fn, nest_peak,
 };
 pub use rhai_grammar::{ExprFilter, FnKey, InputError, ParseError, ParseErrorType, ParseResult};
-pub use rhai_lower::optimizer::OptimizationLevel;
+pub use rhai_lower::optimizer::{OptimizationLevel, Optimizer, Unoptimized};
 pub use rhai_lower::{
     AST, BinaryExpr, Entry, Expr, FlowControl, FnCallExpr, ForLoop, Ident, LexError, LinkFlags,
     LoopControl, Namespace, Position, RangeCase, Scope, ScriptFuncDef, Stmt, StmtBlock,
