@@ -11,6 +11,7 @@ pub mod EventParts
 pub mod EventLemmas
 pub mod CaptureLemmas
 pub mod OrderLemmas
+pub mod PlaceSteps
 pub mod RowLemmas
 pub mod StatementRowLemmas
 pub mod StringRowLemmas
