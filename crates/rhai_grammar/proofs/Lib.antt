@@ -12,6 +12,7 @@ pub mod EventLemmas
 pub mod CaptureLemmas
 pub mod OrderLemmas
 pub mod PlaceSteps
+pub mod PlaceWays
 pub mod RowLemmas
 pub mod StatementRowLemmas
 pub mod StringRowLemmas

@@ -74,7 +74,7 @@ module _ (G : Position → Type 0) where
     pub next : At m t
 
   -- the next token depends on what is left of the stream alone
-  moved : (m : Mode) (r s : Point) → r.tokens ≡ s.tokens → At m r → At m s
+  pub moved : (m : Mode) (r s : Point) → r.tokens ≡ s.tokens → At m r → At m s
   moved code r s e h = subst (λ x. G (ask code x).at) e h
   moved text r s e h = tt
 
