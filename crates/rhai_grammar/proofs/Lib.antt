@@ -13,6 +13,7 @@ pub mod CaptureLemmas
 pub mod OrderLemmas
 pub mod PlaceSteps
 pub mod PlaceWays
+pub mod PlaceTrees
 pub mod RowLemmas
 pub mod StatementRowLemmas
 pub mod StringRowLemmas

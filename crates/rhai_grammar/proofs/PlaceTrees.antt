@@ -1,0 +1,234 @@
+-- Positions in trees of forms that are allowed, and the errors for these trees.
+use Rattle.std.proofs.Common.{◌≡◌, ℕ, Bool, true, false, List, [], ◌∷◌, ◌++◌, if◌then◌else◌}
+use Rattle.std.specs.Prelude.{Option, Some, None, option_map}
+use Rattle.std.specs.Option.{option_or}
+use Rattle.rhai_lower.specs.Nodes as node
+use Rattle.rhai_lower.specs.Nodes.{block_start, first_start, start_of, statement_position}
+use Rattle.rhai_lower.specs.declared.token.Token.TheVariants as token
+use Rattle.rhai_grammar.specs.Prelude.{Bracket, Chain, Dotted, Lexeme, Link, LinkKind, Live, Context, Node, Nodes}
+use Rattle.rhai_grammar.specs.Prelude.{Part, Path, Position, Refusal, Text, Use, affected, chain_of, chained}
+use Rattle.rhai_grammar.specs.Prelude.{closure_node, guard_fault, index_refusal, is_last, iterated_fault, joined}
+use Rattle.rhai_grammar.specs.Prelude.{joined_tree, last_fault, link_node, list_of_parts, made_block, module_fault}
+use Rattle.rhai_grammar.specs.Prelude.{nest, part, path_tree, qualified, target_fault, value_of}
+use Rattle.rhai_grammar.specs.Prelude.{Collected, arm_fault, with_case}
+use Rattle.rhai_grammar.specs.Chains.{link_fault}
+use Rattle.rhai_grammar.specs.Constructs.{type_fault}
+use Rattle.rhai_grammar.specs.Forms as form
+use Rattle.rhai_grammar.specs.Kinds as K
+use Rattle.rhai_grammar.specs.Modules.{path_fault}
+use Rattle.rhai_grammar.specs.Operators.{Item, Items, items, list_position, list_tree}
+use Rattle.rhai_grammar.specs.Switches.{case_fault, fault_from}
+use Rattle.rhai_grammar.specs.Targets as A
+use Rattle.rhai_grammar.specs.Trees as T
+use Rattle.rhai_grammar.specs.declared.role.Effect.{Effect}
+use Rattle.rhai_grammar.specs.declared.role.Effect.TheVariants.{Keeps, Negates}
+use Rattle.rhai_grammar.specs.declared.role.Joining.{Joining}
+use Rattle.rhai_grammar.specs.declared.role.Joining.TheVariants as joins
+use Rattle.rhai_grammar.specs.declared.role.ListKind.{ListKind}
+use Rattle.rhai_grammar.specs.declared.role.ListKind.TheVariants as lists
+use Rattle.rhai_grammar.proofs.PlaceWays.{FaultAt}
+
+module _ (G : Position → Type 0) where
+  abbrev AllNames : List (Text × Position) → Type 0
+  AllNames [] = Unit {0}
+  AllNames (x ∷ xs) = G x.1 × AllNames xs
+
+  -- A node, with the links of its chain, stands at allowed positions, and starts at one; so do the names before a name.
+  abbrev pub Placed : Node → Type 0
+  Placed (node.variable v p) = G p × AllNames v.path
+  Placed (node.dot x y m p) = G p × Placed x × Placed y
+  Placed (node.index x y m p) = G p × Placed x × Placed y
+  Placed (node.conjunction ns p) = G p × G (first_start ns p)
+  Placed (node.disjunction ns p) = G p × G (first_start ns p)
+  Placed (node.coalescing ns p) = G p × G (first_start ns p)
+  Placed (node.unit p) = G p
+  Placed (node.boolean b p) = G p
+  Placed (node.integer n p) = G p
+  Placed (node.character c p) = G p
+  Placed (node.string t p) = G p
+  Placed (node.interpolated ns p) = G p
+  Placed (node.array ns p) = G p
+  Placed (node.object_map ps p) = G p
+  Placed (node.pointer t n p) = G p
+  Placed (node.this p) = G p
+  Placed (node.property t p) = G p
+  Placed (node.call c ns p) = G p
+  Placed (node.method_call c ns p) = G p
+  Placed (node.block_value b) = G (block_start b)
+
+  abbrev pub AllPlaced : Nodes → Type 0
+  AllPlaced node.no_nodes = Unit {0}
+  AllPlaced (node.one_node n ns) = Placed n × AllPlaced ns
+
+  pub position : (x : Node) → Placed x → G (node.position_of x)
+  position (node.variable v p) h = h.0
+  position (node.dot x y m p) h = h.0
+  position (node.index x y m p) h = h.0
+  position (node.conjunction ns p) h = h.0
+  position (node.disjunction ns p) h = h.0
+  position (node.coalescing ns p) h = h.0
+  position _ h = h
+
+  pub start : (x : Node) → Placed x → G (start_of x)
+  start (node.variable v p) h = h.0
+  start (node.dot x y m p) h = start x h.1
+  start (node.index x y m p) h = start x h.1
+  start (node.conjunction ns p) h = h.1
+  start (node.disjunction ns p) h = h.1
+  start (node.coalescing ns p) h = h.1
+  start _ h = h
+
+  -- ---- operands
+
+  pub value : (l : Lexeme) (at : Position) → G at → Placed (value_of l at)
+  value (Lexeme.Sign token.True) at g = g
+  value (Lexeme.Sign token.False) at g = g
+  value _ at g = g
+
+  pub word : (t : Text) (at : Position) → G at → Placed (T.word_tree t at)
+  word t at g = by _
+    where
+      by : (b : Bool) → Placed (if b then node.this at else T.variable_of None t at)
+      by true = g
+      by false = (g, tt)
+
+  one_name : (a : List (Text × Position)) (x : Text × Position) → AllNames a → G x.1 → AllNames (a ++ x ∷ [])
+  one_name [] x h g = (g, tt)
+  one_name (y ∷ a) x h g = (h.0, one_name a x h.1 g)
+
+  longer : (imports : List Text) (n : Node) (t : Text) (p : Position) → Placed n → G p → Placed (qualified imports n t p)
+  longer imports (node.variable v q) t p h g = (g, one_name v.path (v.name, q) h.1 h.0)
+  longer imports _ t p h g = h
+
+  abbrev pub AllScoped : Path → Type 0
+  AllScoped form.NoPath = Unit {0}
+  AllScoped (form.Scoped colons t at rest) = G at × AllScoped rest
+
+  pub path : (x : Path) (imports : List Text) (n : Node) → AllScoped x → Placed n → Placed (path_tree x imports n)
+  path form.NoPath imports n g h = h
+  path (form.Scoped colons t at rest) imports n g h =
+      path rest imports (qualified imports n t at) g.1 (longer imports n t at h g.0)
+
+  pub closure : (at : Position) (n : ℕ) (us : List Use) (names : List Text) (w : Live) → G at
+      → Placed (closure_node at n us names w)
+  closure at n [] names w g = g
+  closure at n (u ∷ us) names w g = g
+
+  -- ---- chains
+
+  abbrev pub AllLinks : List Link → Type 0
+  AllLinks [] = Unit {0}
+  AllLinks (l ∷ ls) = (G l.at × Placed l.item) × AllLinks ls
+
+  pub joined_links : (a b : List Link) → AllLinks a → AllLinks b → AllLinks (a ++ b)
+  joined_links [] b h k = k
+  joined_links (l ∷ a) b h k = (h.0, joined_links a b h.1 k)
+
+  one_link : (k : LinkKind) (m : Bool) (p : Position) (i : Node) (b : Bool) (x y : Node) → G p → Placed x → Placed y
+      → Placed (link_node (record { kind = k; negated = m; at = p; item = i }) b x y)
+  one_link Bracket m p i b x y g h k = (g, h, k)
+  one_link Dotted m p i b x y g h k = (g, h, k)
+
+  nested : (x : Node) (ls : List Link) → Placed x → AllLinks ls → Placed (nest x ls)
+  nested x [] h k = h
+  nested x (l ∷ ls) h k =
+      one_link l.kind l.negated l.at l.item (is_last ls) x (nest l.item ls) k.0.0 h (nested l.item ls k.0.1 k.1)
+
+  abbrev IsChain : Chain → Type 0
+  IsChain c = Placed c.root × AllLinks c.links
+
+  after_bracket : (ends : Bool) (y : Node) → Placed y → IsChain (chain_of y)
+      → IsChain (if ends then record { root = y; links = [] } else chain_of y)
+  after_bracket true y h k = (h, tt)
+  after_bracket false y h k = k
+
+  chain : (x : Node) → Placed x → IsChain (chain_of x)
+  chain (node.dot x y m p) h = let r = chain y h.2 in (h.1, ((h.0, r.0), r.1))
+  chain (node.index x y m p) h = let r = after_bracket m.terminating y h.2 (chain y h.2) in (h.1, ((h.0, r.0), r.1))
+  chain _ h = (h, tt)
+
+  pub chains : (x : Node) (ls : List Link) → Placed x → AllLinks ls → Placed (chained x ls)
+  chains x [] h k = h
+  chains x (l ∷ ls) h k =
+      let r = chain x h in
+      nested (chain_of x).root ((chain_of x).links ++ (l ∷ ls)) r.0 (joined_links (chain_of x).links (l ∷ ls) r.1 k)
+
+  -- ---- signs and operators
+
+  pub sign : (e : Effect) (op : Lexeme) (at : Position) (n : Node) → G at → Placed n → Placed (affected e op at n)
+  sign Negates op at (node.integer n p) g h = g
+  sign Keeps op at (node.integer n p) g h = h
+  sign _ op at n g h = g
+
+  abbrev IsPart : Part → Type 0
+  IsPart (Items ns p) = G p × G (first_start ns p)
+  IsPart (Item n) = G (start_of n)
+
+  is_part : (k : ListKind) (n : Node) → Placed n → IsPart (part k n)
+  is_part lists.And (node.conjunction xs p) h = h
+  is_part lists.Or (node.disjunction xs p) h = h
+  is_part lists.Coalesce (node.coalescing xs p) h = h
+  is_part _ n h = start n h
+
+  first : (a b : Part) (at : Position) → G at → IsPart a → IsPart b
+      → G (first_start (joined (items a) (items b)) (list_position at a))
+  first (Item n) b at g h k = h
+  first (Items (node.one_node n ns) p) b at g h k = h.1
+  first (Items node.no_nodes p) (Item n) at g h k = k
+  first (Items node.no_nodes p) (Items (node.one_node n ns) q) at g h k = k.1
+  first (Items node.no_nodes p) (Items node.no_nodes q) at g h k = h.0
+
+  at_list : (a : Part) (at : Position) → G at → IsPart a → G (list_position at a)
+  at_list (Item n) at g h = g
+  at_list (Items ns p) at g h = h.0
+
+  is_list : (k : ListKind) (ns : Nodes) (p : Position) → G p → G (first_start ns p) → Placed (list_tree k ns p)
+  is_list lists.And ns p g h = (g, h)
+  is_list lists.Or ns p g h = (g, h)
+  is_list lists.Coalesce ns p g h = (g, h)
+
+  pub operator : (j : Joining) (op : Lexeme) (at : Position) (x y : Node) → G at → Placed x → Placed y
+      → Placed (joined_tree j op at x y)
+  operator (joins.List k) op at x y g h i =
+      let a = is_part k x h in
+      is_list k _ _ (at_list (part k x) at g a) (first (part k x) (part k y) at g a (is_part k y i))
+  operator joins.Membership op at x y g h i = g
+  operator joins.NoMembership op at x y g h i = g
+  operator joins.Call op at x y g h i = g
+
+  -- ---- the blocks that statements are
+
+  made : (f : node.Statement) → G (statement_position f) → G (block_start (made_block f))
+  made (node.block_statement b) g = g
+  made _ g = g
+
+  -- ---- errors
+
+  either : (b : Bool) (x y : Option Refusal) → FaultAt G x → FaultAt G y → FaultAt G (if b then x else y)
+  either true x y g h = g
+  either false x y g h = h
+
+  first_of : (x y : Option Refusal) → FaultAt G x → FaultAt G y → FaultAt G (option_or x y)
+  first_of None y g h = h
+  first_of (Some e) y g h = g
+
+  of_type : (due : Text) (x : Node) (found : Option Text) → Placed x → FaultAt G (type_fault due x found)
+  of_type due x None h = tt
+  of_type due x (Some found) h = start x h
+
+  pub of_guard : (x : Node) → Placed x → FaultAt G (guard_fault x)
+  of_guard x h = of_type _ x (K.not_boolean x) h
+
+  pub of_iterated : (x : Node) → Placed x → FaultAt G (iterated_fault x)
+  of_iterated x h = of_type _ x (K.not_iterable x) h
+
+  pub of_index : (o : Option Node) (key : Node) → Placed key → FaultAt G (index_refusal o key)
+  of_index None key h = tt
+  of_index (Some x) key h = by (K.index_fault x key)
+    where
+      by : (f : Option Text) → FaultAt G (option_map (λ why. record {
+        cause = Rattle.rhai_grammar.specs.Causes.MalformedIndexExpr why;
+        at = start_of key;
+      }) f)
+      by None = tt
+      by (Some why) = start key h
