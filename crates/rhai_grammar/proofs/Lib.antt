@@ -14,6 +14,8 @@ pub mod OrderLemmas
 pub mod PlaceSteps
 pub mod PlaceWays
 pub mod PlaceTrees
+pub mod PlaceVerdicts
+pub mod PlaceParts
 pub mod RowLemmas
 pub mod StatementRowLemmas
 pub mod StringRowLemmas

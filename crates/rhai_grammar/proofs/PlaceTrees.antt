@@ -11,6 +11,7 @@ use Rattle.rhai_grammar.specs.Prelude.{closure_node, guard_fault, index_refusal,
 use Rattle.rhai_grammar.specs.Prelude.{joined_tree, last_fault, link_node, list_of_parts, made_block, module_fault}
 use Rattle.rhai_grammar.specs.Prelude.{nest, part, path_tree, qualified, target_fault, value_of}
 use Rattle.rhai_grammar.specs.Prelude.{Collected, arm_fault, with_case}
+use Rattle.rhai_grammar.specs.Causes as cause
 use Rattle.rhai_grammar.specs.Chains.{link_fault}
 use Rattle.rhai_grammar.specs.Constructs.{type_fault}
 use Rattle.rhai_grammar.specs.Forms as form
@@ -196,12 +197,6 @@ module _ (G : Position → Type 0) where
   operator joins.NoMembership op at x y g h i = g
   operator joins.Call op at x y g h i = g
 
-  -- ---- the blocks that statements are
-
-  made : (f : node.Statement) → G (statement_position f) → G (block_start (made_block f))
-  made (node.block_statement b) g = g
-  made _ g = g
-
   -- ---- errors
 
   either : (b : Bool) (x y : Option Refusal) → FaultAt G x → FaultAt G y → FaultAt G (if b then x else y)
@@ -227,8 +222,100 @@ module _ (G : Position → Type 0) where
   of_index (Some x) key h = by (K.index_fault x key)
     where
       by : (f : Option Text) → FaultAt G (option_map (λ why. record {
-        cause = Rattle.rhai_grammar.specs.Causes.MalformedIndexExpr why;
+        cause = cause.MalformedIndexExpr why;
         at = start_of key;
       }) f)
       by None = tt
       by (Some why) = start key h
+
+  of_member : (x : Node) → Placed x → FaultAt G (link_fault (record { kind = Dotted; negated = false; at = node.position_of x; item = x }))
+  of_member (node.method_call c args p) g = search either
+  of_member _ g = tt
+
+  of_link : (k : LinkKind) (m : Bool) (p : Position) (x : Node) → Placed x
+      → FaultAt G (link_fault (record { kind = k; negated = m; at = p; item = x }))
+  of_link Bracket m p x g = tt
+  of_link Dotted m p x g = of_member x g
+
+  pub of_last : (ls : List Link) → AllLinks ls → FaultAt G (last_fault ls)
+  of_last [] h = tt
+  of_last (l ∷ ls) h =
+      first_of (last_fault ls) (link_fault l) (of_last ls h.1) (of_link l.kind l.negated l.at l.item h.0.1)
+
+  of_item : (k : LinkKind) (x : Node) → Placed x → FaultAt G (A.item_fault k x)
+  of_item Dotted (node.method_call c args p) g = g
+  of_item Dotted _ g = tt
+  of_item Bracket x g = tt
+
+  of_links : (ls : List Link) → AllLinks ls → FaultAt G (A.links_fault ls)
+  of_links [] h = tt
+  of_links (l ∷ ls) h =
+      first_of (A.item_fault l.kind l.item) (A.links_fault ls) (of_item l.kind l.item h.0.1) (of_links ls h.1)
+
+  of_root : (x : Node) → Placed x → FaultAt G (A.root_fault x)
+  of_root (node.this p) h = tt
+  of_root (node.variable v p) h = tt
+  of_root x h = position x h
+
+  of_chain : (c : Chain) → IsChain c → FaultAt G (A.chain_fault c)
+  of_chain c h = first_of (A.links_fault c.links) (A.root_fault c.root) (of_links c.links h.1) (of_root c.root h.0)
+
+  of_list : (op : Lexeme) (at list_at : Position) → G at → G list_at → FaultAt G (A.list_fault op at list_at)
+  of_list op at list_at g h = either (A.is_equals op) _ _ g h
+
+  of_value : (constant : Bool) (at : Position) → G at → FaultAt G (A.value_fault constant at)
+  of_value true at g = g
+  of_value false at g = g
+
+  pub of_target : (constant : Bool) (op : Lexeme) (at : Position) (x : Node) → G at → Placed x
+      → FaultAt G (target_fault constant op at x)
+  of_target constant op at (node.this p) g h = tt
+  of_target constant op at (node.variable v p) g h = either constant _ _ h.0 tt
+  of_target constant op at (node.dot x y m p) g h = of_chain (chain_of (node.dot x y m p)) (chain (node.dot x y m p) h)
+  of_target constant op at (node.index x y m p) g h =
+      of_chain (chain_of (node.index x y m p)) (chain (node.index x y m p) h)
+  of_target constant op at (node.conjunction ns p) g h = of_list op at p g h.0
+  of_target constant op at (node.disjunction ns p) g h = of_list op at p g h.0
+  of_target constant op at (node.coalescing ns p) g h = of_list op at p g h.0
+  of_target constant op at x g h = of_value (K.is_constant x) (node.position_of x) (position x h)
+
+  of_path : (c : Context) (w : Live) (names : List (Text × Position)) → AllNames names → FaultAt G (path_fault c w names)
+  of_path c w [] h = tt
+  of_path c w (root ∷ names) h = let g = h.0 in search (either, g)
+
+  pub of_module : (c : Context) (w : Live) (x : Node) → Placed x → FaultAt G (module_fault c w x)
+  of_module c w (node.variable v p) h = of_path c w v.path h.1
+  of_module c w _ h = tt
+
+  of_case : (before : Collected) (x : Node) → G (start_of x) → FaultAt G (case_fault before x)
+  of_case before x g = search either
+
+  of_cases : (index : ℕ) (before : Collected) (xs : Nodes) → AllPlaced xs → FaultAt G (fault_from index before xs)
+  of_cases index before node.no_nodes h = tt
+  of_cases index before (node.one_node x xs) h =
+      first_of (case_fault before x) (fault_from index (with_case index before x) xs) (of_case before x (start x h.0))
+      (of_cases index (with_case index before x) xs h.1)
+
+  pub of_arm : (before : Collected) (xs : Nodes) → AllPlaced xs → FaultAt G (arm_fault before xs)
+  of_arm before xs h = of_cases _ before xs h
+
+  -- ---- the positions of statements
+
+  conditional_at : (x : form.Conditional) (w : Live) (at : Position) → G at
+      → G (block_start (made_block (T.conditional_tree x w at)))
+  conditional_at (form.Guarded guard opening body branch) w at g = g
+
+  block_at : (opening : Position) (x : form.Body) (w : Live) → G opening → G (block_start (T.block_tree opening x w))
+  block_at opening (form.Many fs closing) w g = g
+  block_at opening (form.Single x closing) w g = g
+
+  pub construct_at : (x : form.Construct) (w : Live) (at : Position) → G at
+      → G (block_start (made_block (T.construct_tree x w at)))
+  construct_at (form.Block body) w at g = block_at at body w g
+  construct_at (form.If x) w at g = conditional_at x w at g
+  construct_at (form.Switch item opening arms) w at g = g
+  construct_at (form.While guard opening body) w at g = g
+  construct_at (form.Loop opening body) w at g = g
+  construct_at (form.Do opening body negated do_at guard) w at g = g
+  construct_at (form.For x in_at over opening body) w at g = g
+  construct_at (form.Try opening body catch_at name catch_opening branch) w at g = g
