@@ -16,6 +16,7 @@ pub mod PlaceWays
 pub mod PlaceTrees
 pub mod PlaceVerdicts
 pub mod PlaceParts
+pub mod PlaceLemmas
 pub mod RowLemmas
 pub mod StatementRowLemmas
 pub mod StringRowLemmas

@@ -1,10 +1,10 @@
 -- How refusals of the parts of forms stand at tokens: names, lists of names, and what holds no form.
-use Rattle.std.proofs.Common.{◌≡◌, ℕ, Bool, true, false, List, [], ◌∷◌, ◌++◌}
+use Rattle.std.proofs.Common.{Bool, true, false, List, [], ◌∷◌, ◌++◌}
 use Rattle.std.specs.Prelude.{Option, Some, None, unwrap_or}
 use Rattle.rhai_grammar.specs.Prelude.{Alias, CatchName, ClosureHead, Comment, Context, Demands, Ended}
 use Rattle.rhai_grammar.specs.Prelude.{Lexeme, Live, LoopNames, Node, Outermost, Owner, ParameterList, Parameters, Path}
-use Rattle.rhai_grammar.specs.Prelude.{Position, RightOf, Run, Side, Text, Use, Verdict, bars_at, guard_fault}
-use Rattle.rhai_grammar.specs.Prelude.{iterated_fault, level_up, outermost, qualified, tree}
+use Rattle.rhai_grammar.specs.Prelude.{Position, RightOf, Run, Side, Text, Use, Verdict, guard_fault}
+use Rattle.rhai_grammar.specs.Prelude.{Properties, Spot, height_after, property_count, iterated_fault, level_up, outermost, qualified, tree}
 use Rattle.rhai_grammar.specs.Forms as form
 use Rattle.rhai_grammar.specs.Written as W
 use Rattle.rhai_grammar.specs.declared.due.DueToken.TheVariants as due
@@ -15,7 +15,7 @@ use Rattle.rhai_grammar.proofs.PlaceTrees as P
 use Rattle.rhai_grammar.proofs.PlaceTrees.{AllScoped, Placed}
 use Rattle.rhai_grammar.proofs.PlaceVerdicts as B
 use Rattle.rhai_grammar.proofs.PlaceVerdicts.{FirstAt}
-use Rattle.rhai_grammar.proofs.PlaceWays.{Places, Stands, adds, after, captures, done, here, next, on, shape, test}
+use Rattle.rhai_grammar.proofs.PlaceWays.{Places, Stands, adds, after, captures, done, here, next, shape, test}
 use Rattle.rhai_grammar.proofs.PlaceWays.{test_in, tok, unfaulted}
 
 -- the position at which the level of a run's right side is raised
@@ -29,8 +29,8 @@ BegunAt G None = Unit {0}
 BegunAt G (Some at) = G at
 
 -- what is given of a run: its tree, and the position at which the next level is raised
-abbrev pub Ran : (Position → Type 0) → Node → Position → Type 0
-Ran G x at = Placed G x × G at
+abbrev pub Ran : (Position → Type 0) → Run → Spot → Type 0
+Ran G f q = Placed G (tree f q.live) × G (height_after q f).at
 
 module _ {G : Position → Type 0} where
   pub raised : (side : Side) {k : Demands} → SideAt G side → Stands G (Unit {0}) (W.raise_after side k) k
@@ -38,24 +38,32 @@ module _ {G : Position → Type 0} where
   raised (RightOf op height) g = test g here
 
   -- the two ends of an expression
-  pub expressed : (f : Run) (c : Context) (w : Live) {P : Type 0} {k : Demands}
-      → Stands G P (W.run f (outermost (level_up c) w) (W.ended c k)) (W.ended c k) → Stands G P (W.expression f c w k) k
-  expressed f c w h = next (B.room_due c) (after h (λ p. next (B.run_ends c.filter) (done p)))
+  pub expressed : (f : Run) (c : Context) (w : Live) {k : Demands}
+      → Stands G (Ran G f (outermost (level_up c) w)) (W.run f (outermost (level_up c) w) (W.ended c k)) (W.ended c k)
+      → Stands G (Placed G (tree f w)) (W.expression f c w k) k
+  expressed f c w h = next (B.room_due c) (after h (λ p. next (B.run_ends c.filter) (done p.0)))
 
   -- a guard, and what `for` goes over
   pub guarded : (f : Run) (c : Context) (w : Live) {k : Demands}
-      → ((j : Demands) → Stands G (Placed G (tree f w)) (W.expression f c w j) j)
+      → ((j : Demands) → Stands G (Ran G f (outermost (level_up c) w)) (W.run f (outermost (level_up c) w) j) j)
       → Stands G (Unit {0}) (W.as_guard (W.run f) (tree f w) c w k) k
   guarded f c w h =
-      next B.guard_begins (after (h _) (λ p. unfaulted (guard_fault (tree f w)) (P.of_guard G (tree f w) p)
-      (next B.guard_ends here)))
+      next B.guard_begins (after (expressed f c w (h _)) (λ p.
+      unfaulted (guard_fault (tree f w)) (P.of_guard G (tree f w) p) (next B.guard_ends here)))
 
   pub iterated : (f : Run) (c : Context) (w : Live) {k : Demands}
-      → ((j : Demands) → Stands G (Placed G (tree f w)) (W.expression f c w j) j)
+      → ((j : Demands) → Stands G (Ran G f (outermost (level_up c) w)) (W.run f (outermost (level_up c) w) j) j)
       → Stands G (Unit {0}) (W.as_iterated (W.run f) (tree f w) c w k) k
   iterated f c w h =
-      next B.guard_begins (after (h _) (λ p.
+      next B.guard_begins (after (expressed f c w (h _)) (λ p.
       unfaulted (iterated_fault (tree f w)) (P.of_iterated G (tree f w) p) here))
+
+  -- a property up to its value
+  pub field : (key : Lexeme) (at colon : Position) (before : Properties) (c : Context) (opening : Position) {k : Demands}
+      → G opening → Stands G (Unit {0}) (W.field key at colon before c opening k) k
+  field key at colon before c opening g =
+      shape (tok (B.key_due c before) (λ a. test a (tok (B.unless_due due.Colon) (λ b.
+      next (B.value_due c.sizes.map (property_count before)) (test g here)))))
 
   pub path : (x : Path) (imports : List Text) (y : Node) (k : Demands) → Stands G (AllScoped G x) (W.path x imports y k) k
   path form.NoPath imports y k = next (B.unqualified y) here

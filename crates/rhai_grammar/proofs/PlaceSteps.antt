@@ -1,15 +1,9 @@
 -- How refusals along demands stand at tokens.
-use Rattle.std.proofs.Common.{◌≡◌, ◌⊎◌, inl, inr, ℕ, Bool, true, false, List, [], ◌∷◌, ◌++◌, refl, sym, ◌∙◌, ap, subst}
-use Rattle.std.proofs.Common.{if◌then◌else◌}
-use Rattle.std.specs.Prelude.{Option, Some, None}
-use Rattle.rhai_grammar.specs.Prelude.{Lexeme, Position, Refusal, Item, Mode, Point, Taken, adding, apart, capturing}
-use Rattle.rhai_grammar.specs.Prelude.{ask, code, is_memory, next_at, past, text, with_captured, Adds, Ahead, Apart, Blames}
-use Rattle.rhai_grammar.specs.Prelude.{Captures, Demands, Fine, Literally, Met, Missed, Next, Nothing, Otherwise, Shape}
-use Rattle.rhai_grammar.specs.Prelude.{Test, TestIn, Tok, Uses, Verdict, Wrong, verdict, ◌▸◌, Library, Use, noted}
-use Rattle.rhai_grammar.specs.Causes.{as_literal}
-use Rattle.rhai_grammar.specs.Demands.{HasCaptured, Refused, Refuses}
-use Rattle.rhai_grammar.specs.Imports.{is_among}
-use Rattle.rhai_grammar.specs.Uses.{names_of}
+use Rattle.std.proofs.Common.{◌≡◌, inl, inr, true, List, [], ◌∷◌, refl, sym, ◌∙◌, subst}
+use Rattle.rhai_grammar.specs.Prelude.{Position, Refusal, Mode, Point, Taken, adding, apart, capturing}
+use Rattle.rhai_grammar.specs.Prelude.{ask, code, next_at, past, text, with_captured, Adds, Ahead, Apart}
+use Rattle.rhai_grammar.specs.Prelude.{Captures, Demands, Literally, Met, Missed, Next, Nothing, Shape}
+use Rattle.rhai_grammar.specs.Prelude.{Test, TestIn, Tok, Uses, ◌▸◌, Use}
 use Rattle.rhai_grammar.proofs.Leads as L
 use Rattle.rhai_grammar.proofs.Leads.{Leads}
 

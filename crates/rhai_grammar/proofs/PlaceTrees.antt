@@ -1,5 +1,5 @@
 -- Positions in trees of forms that are allowed, and the errors for these trees.
-use Rattle.std.proofs.Common.{◌≡◌, ℕ, Bool, true, false, List, [], ◌∷◌, ◌++◌, if◌then◌else◌}
+use Rattle.std.proofs.Common.{ℕ, Bool, true, false, List, [], ◌∷◌, ◌++◌, if◌then◌else◌}
 use Rattle.std.specs.Prelude.{Option, Some, None, option_map}
 use Rattle.std.specs.Option.{option_or}
 use Rattle.rhai_lower.specs.Nodes as node
@@ -8,7 +8,7 @@ use Rattle.rhai_lower.specs.declared.token.Token.TheVariants as token
 use Rattle.rhai_grammar.specs.Prelude.{Bracket, Chain, Dotted, Lexeme, Link, LinkKind, Live, Context, Node, Nodes}
 use Rattle.rhai_grammar.specs.Prelude.{Part, Path, Position, Refusal, Text, Use, affected, chain_of, chained}
 use Rattle.rhai_grammar.specs.Prelude.{closure_node, guard_fault, index_refusal, is_last, iterated_fault, joined}
-use Rattle.rhai_grammar.specs.Prelude.{joined_tree, last_fault, link_node, list_of_parts, made_block, module_fault}
+use Rattle.rhai_grammar.specs.Prelude.{joined_tree, last_fault, link_node, made_block, module_fault}
 use Rattle.rhai_grammar.specs.Prelude.{nest, part, path_tree, qualified, target_fault, value_of}
 use Rattle.rhai_grammar.specs.Prelude.{Collected, arm_fault, with_case}
 use Rattle.rhai_grammar.specs.Causes as cause

@@ -3,14 +3,14 @@ use Rattle.std.proofs.Common.{◌≡◌, ◌⊎◌, inl, inr, ℕ, Bool, true, f
 use Rattle.std.proofs.Common.{if◌then◌else◌}
 use Rattle.std.specs.Prelude.{Option, Some, None}
 use Rattle.rhai_grammar.specs.Prelude.{Lexeme, Position, Refusal, Item, Mode, Point, adding, apart, as_literal}
-use Rattle.rhai_grammar.specs.Prelude.{capturing, code, is_memory, next_at, past, text, with_captured, Adds, Ahead}
+use Rattle.rhai_grammar.specs.Prelude.{capturing, code, is_memory, next_at, past, with_captured, Adds, Ahead}
 use Rattle.rhai_grammar.specs.Prelude.{Apart, Blames, Captures, Demands, Fine, Literally, Met, Missed, Next, Nothing}
-use Rattle.rhai_grammar.specs.Prelude.{Otherwise, Shape, Test, TestIn, Tok, Uses, Verdict, Wrong, verdict, ◌▸◌, Ended}
+use Rattle.rhai_grammar.specs.Prelude.{Otherwise, Shape, Test, TestIn, Tok, Uses, Verdict, Wrong, ◌▸◌, Ended}
 use Rattle.rhai_grammar.specs.Prelude.{Library, Use, noted, is_among}
 use Rattle.rhai_grammar.specs.Demands.{Refused, Refuses}
-use Rattle.rhai_grammar.specs.Uses.{names_of, with_use}
+use Rattle.rhai_grammar.specs.Uses.{names_of}
 use Rattle.rhai_grammar.specs.Written as W
-use Rattle.rhai_grammar.proofs.PlaceSteps.{AllUses, At, Closed, Ends, Modes, moved, next_met, next_missed}
+use Rattle.rhai_grammar.proofs.PlaceSteps.{AllUses, Closed, Ends, Modes, moved, next_met, next_missed}
 use Rattle.rhai_grammar.proofs.PlaceSteps.{taken_met, taken_missed}
 
 -- ---- what is blamed
