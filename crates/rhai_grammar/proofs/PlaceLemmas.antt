@@ -1,23 +1,28 @@
 -- Refusals stand at tokens. It is one walk over all forms.
-use Rattle.std.proofs.Common.{◌≡◌, ◌⊎◌, inl, inr, ℕ, suc, ◌+◌, Bool, true, false, List, [], ◌∷◌, refl, sym, subst, map, arith}
+use Rattle.std.proofs.Common.{◌≡◌, ◌⊎◌, inl, inr, ℕ, suc, ◌+◌, Bool, true, false, List, [], ◌∷◌, refl, sym, subst, map}
+use Rattle.std.proofs.Common.{arith}
+use Rattle.std.specs.List.{Contains}
 use Rattle.std.specs.Prelude.{Some, None}
 use Rattle.rhai_lower.specs.Nodes.{block_start}
 use Rattle.rhai_grammar.specs.Prelude.{Action, Arguments, Arms, Base, Body, Branch, CaseGuard, Cases, ClosureBody}
-use Rattle.rhai_grammar.specs.Prelude.{Collected, Conditional, Construct, Context, Demands, Elements, ExprStatement}
-use Rattle.rhai_grammar.specs.Prelude.{Fields, Initializer, Items, JumpValue, Lexeme, LinkSpot, Links, Live, Nothing}
-use Rattle.rhai_grammar.specs.Prelude.{Operand, Position, Primary, Properties, Run, Segments, Spot, Statement}
-use Rattle.rhai_grammar.specs.Prelude.{Statements, Verdict, action_ends, action_tree, after_statement, arm_fault}
-use Rattle.rhai_grammar.specs.Prelude.{argument_trees, bars_at, base_tree, below_global, bracket_link, case_trees}
-use Rattle.rhai_grammar.specs.Prelude.{catch_live, caught, caught_name, counter_of, declared_names, effect, filter_of}
-use Rattle.rhai_grammar.specs.Prelude.{guard_tree, height_after, in_block, in_case, in_closure, in_function}
-use Rattle.rhai_grammar.specs.Prelude.{index_refusal, is_constant_use, is_qualified, is_scoped, joining, last_fault}
+use Rattle.rhai_grammar.specs.Prelude.{Collected, Conditional, Construct, Context, Cursor, Demands, Elements}
+use Rattle.rhai_grammar.specs.Prelude.{ExprStatement, Fields, Initializer, Items, JumpValue, Lexeme, Library, LinkSpot}
+use Rattle.rhai_grammar.specs.Prelude.{Links, Live, Missed, Mode, Nothing, Operand, Point, Position, Primary}
+use Rattle.rhai_grammar.specs.Prelude.{Properties, Refusal, Run, Segments, Spot, Statement, Statements, Taken, Use}
+use Rattle.rhai_grammar.specs.Prelude.{Verdict, action_ends, action_tree, after_statement, argument_trees, arm_fault}
+use Rattle.rhai_grammar.specs.Prelude.{bars_at, base_tree, below_global, bracket_link, case_trees, catch_live, caught}
+use Rattle.rhai_grammar.specs.Prelude.{caught_name, code, counter_of, declared_names, effect, filter_of, guard_tree}
+use Rattle.rhai_grammar.specs.Prelude.{height_after, in_block, in_case, in_closure, in_function, index_refusal}
+use Rattle.rhai_grammar.specs.Prelude.{is_constant_use, is_qualified, is_scoped, joining, last_fault, latest_first}
 use Rattle.rhai_grammar.specs.Prelude.{level_up, link_list, loop_body, loop_live, loop_name, made_block, member_link}
 use Rattle.rhai_grammar.specs.Prelude.{method_tree, module_fault, named_tree, no_properties, nothing_collected}
 use Rattle.rhai_grammar.specs.Prelude.{operand_tree, parameter_names, parameters_live, place_of, plain_sign}
 use Rattle.rhai_grammar.specs.Prelude.{position_of, primary_tree, property, right_side, spot_after_bracket}
 use Rattle.rhai_grammar.specs.Prelude.{spot_after_dot, spot_after_operand, target_fault, text_of, tree}
 use Rattle.rhai_grammar.specs.Prelude.{with_arm_collected, with_property}
+use Rattle.rhai_grammar.specs.Cursors.{asked}
 use Rattle.rhai_grammar.specs.Forms as form
+use Rattle.rhai_grammar.specs.PlaceLaws.{RefusalsStandAtTokens, StandsAmong, StandsAtToken}
 use Rattle.rhai_grammar.specs.Trees as T
 use Rattle.rhai_grammar.specs.Verdicts as V
 use Rattle.rhai_grammar.specs.Written as W
@@ -27,22 +32,17 @@ use Rattle.rhai_grammar.specs.declared.role.Closing.{Closing}
 use Rattle.rhai_grammar.specs.declared.role.Closing.TheVariants.{Brace, EndMark}
 use Rattle.rhai_grammar.specs.declared.role.OperandPlace.{OperandPlace}
 use Rattle.rhai_grammar.specs.declared.role.OperandPlace.TheVariants as place
+use Rattle.rhai_grammar.proofs.Leads.{Leads}
 use Rattle.rhai_grammar.proofs.PlaceParts.{Ran, SideAt, banged, captured_names, caught_by, closure_parameters}
-use Rattle.rhai_grammar.proofs.PlaceParts.{expressed, field, function_begins, function_ends, function_name, guarded, iterated}
-use Rattle.rhai_grammar.proofs.PlaceParts.{named, other_name, parameter_list, path, raised, separated}
+use Rattle.rhai_grammar.proofs.PlaceParts.{expressed, field, function_begins, function_ends, function_name, guarded}
+use Rattle.rhai_grammar.proofs.PlaceParts.{iterated, named, other_name, parameter_list, path, raised, separated}
+use Rattle.rhai_grammar.proofs.PlaceSteps.{AllTaken, AllUses, Ends, leads}
 use Rattle.rhai_grammar.proofs.PlaceTrees as P
 use Rattle.rhai_grammar.proofs.PlaceTrees.{AllLinks, AllPlaced, Placed}
 use Rattle.rhai_grammar.proofs.PlaceVerdicts as B
-use Rattle.rhai_grammar.proofs.Leads.{Leads}
+use Rattle.rhai_grammar.proofs.PlaceWays.{Places, Refusing, Stands, after, ahead, apart_from, done, here, literally}
+use Rattle.rhai_grammar.proofs.PlaceWays.{next, on, shape, test, test_in, tok, unfaulted, uses}
 use Rattle.rhai_grammar.proofs.SpellingLemmas.{expression_leads, script_leads}
-use Rattle.rhai_grammar.specs.Delivered.{Mode, Point, Taken, code}
-use Rattle.rhai_grammar.specs.Causes.{Refusal}
-use Rattle.rhai_grammar.specs.Demands.{Missed}
-use Rattle.rhai_grammar.specs.PlaceLaws.{RefusalsStandAtTokens, StandsAtToken}
-use Rattle.std.specs.List.{Contains}
-use Rattle.rhai_grammar.proofs.PlaceSteps.{AllTaken, AllUses, Ends, leads}
-use Rattle.rhai_grammar.proofs.PlaceWays.{Places, Refusing, Stands, after, ahead, apart_from, done, here, literally, next, on}
-use Rattle.rhai_grammar.proofs.PlaceWays.{shape, test, test_in, tok, unfaulted, uses}
 
 -- the position of a block that is a statement
 abbrev BlockAt : (Position → Type 0) → Statement → Live → Type 0
@@ -103,7 +103,8 @@ mutual
 
   links : {G : Position → Type 0} (x : Links) (q : LinkSpot) (w : Live) (k : Demands) → AllLinks G q.before
       → Stands G (AllLinks G (link_list x w)) (W.links x q w k) k
-  links {G = G} form.NoLink q w k g = next B.unlinked (unfaulted (last_fault q.before) (P.of_last G q.before g) (done tt))
+  links {G = G} form.NoLink q w k g =
+      next B.unlinked (unfaulted (last_fault q.before) (P.of_last G q.before g) (done tt))
   links {G = G} (form.Bracket opening at f closing rest) q w k g =
       let l = bracket_link opening at (tree f w) in
       shape (tok B.anything (λ a. test a (test a (
@@ -345,23 +346,22 @@ mutual
 
 -- ---- the law
 
+-- What is in a list is in a longer one.
 more : (x : Position) (xs : List Position) (y : Position) → Contains xs y → Contains (x ∷ xs) y
 more x xs y h = (suc h.0, (let g = h.1 in omega arith), h.2)
 
-all_taken : (G : Position → Type 0) (taken : List Taken) → ((p : Position) → Contains (map (λ k. k.item.at) taken) p → G p)
-    → AllTaken G taken
+-- What holds of all positions of tokens holds of each token.
+all_taken : (G : Position → Type 0) (taken : List Taken)
+    → ((p : Position) → Contains (map (λ k. k.item.at) taken) p → G p) → AllTaken G taken
 all_taken G [] f = tt
 all_taken G (k ∷ taken) f =
     let rest = map (λ (x : Taken). x.item.at) taken in
     (f k.item.at (0, omega arith, refl), all_taken G taken (λ p h. f p (more k.item.at rest p h)))
 
-ends : (m : Mode) (t : Point) → Ends (StandsAtToken m t) m t
-ends m t = record { taken = all_taken (StandsAtToken m t) t.taken (λ p h. inl h); next = inr refl }
-
-whole : {P : Type 0} {ds : Demands} {ts : List Taken} (s t : Point) (e : Refusal) (m : Mode)
-    → ((G : Position → Type 0) → Stands G P ds Nothing) → Leads code code ts ds Nothing → s.captured ≡ [] → Missed ds s e m t
-    → StandsAtToken m t e.at
-whole {P = P} {ds = ds} s t e m h l c x = by ((h G).stopped e m t (ends m t) (record {
+-- A refusal of a form stands at an allowed position where all tokens do.
+whole : {P : Type 0} {ds : Demands} {ts : List Taken} (G : Position → Type 0) (s t : Point) (e : Refusal) (m : Mode)
+    → Stands G P ds Nothing → Leads code code ts ds Nothing → s.captured ≡ [] → Ends G m t → Missed ds s e m t → G e.at
+whole {P = P} {ds = ds} G s t e m h l c o x = by (h.stopped e m t o (record {
   start = s;
   mode = code;
   last = code;
@@ -370,16 +370,46 @@ whole {P = P} {ds = ds} s t e m h l c x = by ((h G).stopped e m t (ends m t) (re
   missed = x;
 }))
   where
-    G : Position → Type 0
-    G = StandsAtToken m t
-
     by : G e.at ⊎ (P × Refusing G Nothing e m t) → G e.at
     by (inl a) = a
     by (inr b) = absurd b.1.missed
 
+expression : {G : Position → Type 0} (c : Context) (w : Live) (f : Run)
+    → Stands G (Unit {0}) (W.whole_expression f c w) Nothing
+expression c w f = on (expressed f c w (run f _ _ tt)) (next B.end_due here)
+
+-- the tokens up to a point
+ends : (m : Mode) (t : Point) → Ends (StandsAtToken m t) m t
+ends m t = record { taken = all_taken (StandsAtToken m t) t.taken (λ p h. inl h); next = inr refl }
+
+-- the same in the other order
+latest : (G : Position → Type 0) (taken before : List Taken) → AllTaken G taken → AllTaken G before
+    → AllTaken G (latest_first taken before)
+latest G [] before h g = g
+latest G (k ∷ taken) before h g = latest G taken (k ∷ before) h.1 (h.0, g)
+
+-- the tokens seen
+seen : (taken : List Taken) (left : Cursor) (library : Library) (us : List Use)
+    → Ends (StandsAmong taken (asked left)) left.mode (record {
+      tokens = left.tokens;
+      taken = latest_first taken [];
+      library = library;
+      captured = us;
+    })
+seen taken left library us =
+    let G = StandsAmong taken (asked left) in
+    record { taken = latest G taken [] (all_taken G taken (λ p h. inl h)) tt; next = inr refl }
+
 pub refusals_stand_at_tokens : RefusalsStandAtTokens
 refusals_stand_at_tokens = record {
-  expression = λ c w f s t e m u x. whole s t e m (λ G.
-      on (expressed {G = G} f c w (run f _ _ tt)) (next B.end_due here)) (expression_leads c w f) u x;
-  script = λ c w fs s t e m u x. whole s t e m (λ G. statements {G = G} fs EndMark c w Nothing) (script_leads c w fs) u x;
+  expression = λ c w f s t e m u x.
+      whole (StandsAtToken m t) s t e m (expression c w f) (expression_leads c w f) u (ends m t) x;
+  script = λ c w fs s t e m u x.
+      whole (StandsAtToken m t) s t e m (statements fs EndMark c w Nothing) (script_leads c w fs) u (ends m t) x;
+  expression_named = λ c w before later taken start left e n.
+      whole (StandsAmong taken (asked left)) _ _ e left.mode (expression c w n.form) (expression_leads c w n.form) refl
+      (seen taken left later n.captured) n.missed;
+  script_named = λ c w before later taken start left e n.
+      whole (StandsAmong taken (asked left)) _ _ e left.mode (statements n.form EndMark c w Nothing)
+      (script_leads c w n.form) refl (seen taken left later n.captured) n.missed;
 }

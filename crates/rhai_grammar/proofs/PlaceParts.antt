@@ -1,10 +1,11 @@
--- How refusals of the parts of forms stand at tokens: names, lists of names, and what holds no form.
+-- Refusals of parts of forms stand at tokens: names, and what holds no form.
 use Rattle.std.proofs.Common.{Bool, true, false, List, [], ◌∷◌, ◌++◌}
 use Rattle.std.specs.Prelude.{Option, Some, None, unwrap_or}
-use Rattle.rhai_grammar.specs.Prelude.{Alias, CatchName, ClosureHead, Comment, Context, Demands, Ended}
-use Rattle.rhai_grammar.specs.Prelude.{Lexeme, Live, LoopNames, Node, Outermost, Owner, ParameterList, Parameters, Path}
-use Rattle.rhai_grammar.specs.Prelude.{Position, RightOf, Run, Side, Text, Use, Verdict, guard_fault}
-use Rattle.rhai_grammar.specs.Prelude.{Properties, Spot, height_after, property_count, iterated_fault, level_up, outermost, qualified, tree}
+use Rattle.rhai_grammar.specs.Prelude.{Alias, CatchName, ClosureHead, Comment, Context, Demands, Ended, Lexeme, Live}
+use Rattle.rhai_grammar.specs.Prelude.{LoopNames, Node, Outermost, Owner, ParameterList, Parameters, Path, Position}
+use Rattle.rhai_grammar.specs.Prelude.{Properties, RightOf, Run, Side, Spot, Text, Use, Verdict, guard_fault}
+use Rattle.rhai_grammar.specs.Prelude.{height_after, iterated_fault, level_up, outermost, property_count, qualified}
+use Rattle.rhai_grammar.specs.Prelude.{tree}
 use Rattle.rhai_grammar.specs.Forms as form
 use Rattle.rhai_grammar.specs.Written as W
 use Rattle.rhai_grammar.specs.declared.due.DueToken.TheVariants as due
@@ -15,18 +16,13 @@ use Rattle.rhai_grammar.proofs.PlaceTrees as P
 use Rattle.rhai_grammar.proofs.PlaceTrees.{AllScoped, Placed}
 use Rattle.rhai_grammar.proofs.PlaceVerdicts as B
 use Rattle.rhai_grammar.proofs.PlaceVerdicts.{FirstAt}
-use Rattle.rhai_grammar.proofs.PlaceWays.{Places, Stands, adds, after, captures, done, here, next, shape, test}
-use Rattle.rhai_grammar.proofs.PlaceWays.{test_in, tok, unfaulted}
+use Rattle.rhai_grammar.proofs.PlaceWays.{Places, Stands, adds, after, captures, done, here, next, shape, test, test_in}
+use Rattle.rhai_grammar.proofs.PlaceWays.{tok, unfaulted}
 
 -- the position at which the level of a run's right side is raised
 abbrev pub SideAt : (Position → Type 0) → Side → Type 0
 SideAt G Outermost = Unit {0}
 SideAt G (RightOf op height) = G height.at
-
--- what stands at `private` or `fn`
-abbrev pub BegunAt : (Position → Type 0) → Option Position → Type 0
-BegunAt G None = Unit {0}
-BegunAt G (Some at) = G at
 
 -- what is given of a run: its tree, and the position at which the next level is raised
 abbrev pub Ran : (Position → Type 0) → Run → Spot → Type 0
@@ -59,13 +55,14 @@ module _ {G : Position → Type 0} where
       unfaulted (iterated_fault (tree f w)) (P.of_iterated G (tree f w) p) here))
 
   -- a property up to its value
-  pub field : (key : Lexeme) (at colon : Position) (before : Properties) (c : Context) (opening : Position) {k : Demands}
-      → G opening → Stands G (Unit {0}) (W.field key at colon before c opening k) k
+  pub field : (key : Lexeme) (at colon : Position) (before : Properties) (c : Context) (opening : Position)
+      {k : Demands} → G opening → Stands G (Unit {0}) (W.field key at colon before c opening k) k
   field key at colon before c opening g =
       shape (tok (B.key_due c before) (λ a. test a (tok (B.unless_due due.Colon) (λ b.
       next (B.value_due c.sizes.map (property_count before)) (test g here)))))
 
-  pub path : (x : Path) (imports : List Text) (y : Node) (k : Demands) → Stands G (AllScoped G x) (W.path x imports y k) k
+  pub path : (x : Path) (imports : List Text) (y : Node) (k : Demands)
+      → Stands G (AllScoped G x) (W.path x imports y k) k
   path form.NoPath imports y k = next (B.unqualified y) here
   path (form.Scoped colons name at rest) imports y k =
       shape (tok B.anything (λ a. tok B.name_due (λ b.
@@ -105,8 +102,8 @@ module _ {G : Position → Type 0} where
   function_at others None at p = tok p (λ a. done (a, a))
   function_at others (Some first) at p = tok p (λ a. tok (B.unless_due due.Fn) (λ b. done (a, b)))
 
-  pub function_begins : (comments : List Comment) (is_private : Option Position) (at : Position) (c : Context) (w : Live)
-      {k : Demands} → Stands G (G at) (W.function_begins comments is_private at c w k) k
+  pub function_begins : (comments : List Comment) (is_private : Option Position) (at : Position) (c : Context)
+      (w : Live) {k : Demands} → Stands G (G at) (W.function_begins comments is_private at c w k) k
   function_begins comments is_private at c w =
       after (comments_at comments c) (λ a.
       after (function_at _ is_private at (B.after_comments comments c a)) (λ b.

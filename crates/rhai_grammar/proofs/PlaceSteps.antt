@@ -1,9 +1,8 @@
 -- How refusals along demands stand at tokens.
 use Rattle.std.proofs.Common.{◌≡◌, inl, inr, true, List, [], ◌∷◌, refl, sym, ◌∙◌, subst}
-use Rattle.rhai_grammar.specs.Prelude.{Position, Refusal, Mode, Point, Taken, adding, apart, capturing}
-use Rattle.rhai_grammar.specs.Prelude.{ask, code, next_at, past, text, with_captured, Adds, Ahead, Apart}
-use Rattle.rhai_grammar.specs.Prelude.{Captures, Demands, Literally, Met, Missed, Next, Nothing, Shape}
-use Rattle.rhai_grammar.specs.Prelude.{Test, TestIn, Tok, Uses, ◌▸◌, Use}
+use Rattle.rhai_grammar.specs.Prelude.{Adds, Ahead, Apart, Captures, Demands, Literally, Met, Missed, Mode, Next}
+use Rattle.rhai_grammar.specs.Prelude.{Nothing, Point, Position, Refusal, Shape, Taken, Test, TestIn, Tok, Use, Uses}
+use Rattle.rhai_grammar.specs.Prelude.{adding, apart, ask, capturing, code, next_at, past, text, with_captured, ◌▸◌}
 use Rattle.rhai_grammar.proofs.Leads as L
 use Rattle.rhai_grammar.proofs.Leads.{Leads}
 
@@ -41,6 +40,7 @@ leads o (L.apart {n = p} f r) h = (p, leads p f refl, leads o r h)
 
 -- ---- positions that are allowed
 
+-- `G` says which positions these are: in the law, those of the tokens taken, and of the next one.
 module _ (G : Position → Type 0) where
   -- These tokens stand at such positions.
   abbrev pub AllTaken : List Taken → Type 0
@@ -81,6 +81,7 @@ module _ (G : Position → Type 0) where
   at_end code n s t e f h = subst (λ (u : Point). G (next_at code u).at) f (subst (λ r. G (next_at r t).at) e h.next)
   at_end text n s t e f h = tt
 
+  -- What was taken before demands is among what was taken after them.
   pub taken_met : (ds : Demands) (s t : Point) → Met ds s t → AllTaken t.taken → AllTaken s.taken
   taken_met Nothing s t m h = subst (λ (p : Point). AllTaken p.taken) (sym m) h
   taken_met (Tok o i v ▸ ds) s t m h = (taken_met ds (past o s) t m.1 h).1
@@ -151,11 +152,12 @@ module _ (G : Position → Type 0) where
         next = moved o.0 r m.0 refl (next_met more o.0 q r t o.2 m.3 h);
       }))
 
-  pub next_missed : (ds : Demands) (p q n : Mode) (s t : Point) (e : Refusal) → Modes p q ds → Missed ds s e n t → Ends n t
-      → At p s
+  pub next_missed : (ds : Demands) (p q n : Mode) (s t : Point) (e : Refusal) → Modes p q ds → Missed ds s e n t
+      → Ends n t → At p s
   next_missed Nothing p q n s t e o m h = absurd m
   next_missed (Tok r i v ▸ ds) p q n s t e o (inl a) h =
-      at_any p s (subst (λ (u : Point). G (next_at p u).at) a.2 (subst (λ x. G (next_at x t).at) (a.1 ∙ sym o.0) h.next))
+      let g = subst (λ x. G (next_at x t).at) (a.1 ∙ sym o.0) h.next in
+      at_any p s (subst (λ (u : Point). G (next_at p u).at) a.2 g)
   next_missed (Tok r i v ▸ ds) p q n s t e o (inr b) h =
       at_any p s (subst (λ x. G (next_at x s).at) (sym o.0) (taken_missed ds (past r s) t e n b.1 h.taken).0)
   next_missed (Ahead i v ▸ ds) p q n s t e o (inl a) h = at_end p n s t a.1 a.2 h
@@ -164,7 +166,8 @@ module _ (G : Position → Type 0) where
   next_missed (Next v ▸ ds) p q n s t e o (inr b) h = next_missed ds p q n s t e o b.1 h
   next_missed (Uses v c u ▸ ds) p q n s t e o (inl a) h = at_end p n s t a.1 a.2 h
   next_missed (Uses v c u ▸ ds) p q n s t e o (inr b) h =
-      let r = capturing (c s.library (next_at code s).lexeme) u s in moved p r s refl (next_missed ds p q n r t e o b.1 h)
+      let r = capturing (c s.library (next_at code s).lexeme) u s in
+      moved p r s refl (next_missed ds p q n r t e o b.1 h)
   next_missed (Test c d ▸ ds) p q n s t e o (inl a) h = at_end p n s t a.2 a.3 h
   next_missed (Test c d ▸ ds) p q n s t e o (inr b) h = next_missed ds p q n s t e o b.1 h
   next_missed (TestIn c d ▸ ds) p q n s t e o (inl a) h = at_end p n s t a.2 a.3 h

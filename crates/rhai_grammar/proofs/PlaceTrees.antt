@@ -5,12 +5,12 @@ use Rattle.std.specs.Option.{option_or}
 use Rattle.rhai_lower.specs.Nodes as node
 use Rattle.rhai_lower.specs.Nodes.{block_start, first_start, start_of, statement_position}
 use Rattle.rhai_lower.specs.declared.token.Token.TheVariants as token
-use Rattle.rhai_grammar.specs.Prelude.{Bracket, Chain, Dotted, Lexeme, Link, LinkKind, Live, Context, Node, Nodes}
-use Rattle.rhai_grammar.specs.Prelude.{Part, Path, Position, Refusal, Text, Use, affected, chain_of, chained}
-use Rattle.rhai_grammar.specs.Prelude.{closure_node, guard_fault, index_refusal, is_last, iterated_fault, joined}
-use Rattle.rhai_grammar.specs.Prelude.{joined_tree, last_fault, link_node, made_block, module_fault}
-use Rattle.rhai_grammar.specs.Prelude.{nest, part, path_tree, qualified, target_fault, value_of}
-use Rattle.rhai_grammar.specs.Prelude.{Collected, arm_fault, with_case}
+use Rattle.rhai_grammar.specs.Prelude.{Bracket, Chain, Collected, Context, Dotted, Lexeme, Link, LinkKind}
+use Rattle.rhai_grammar.specs.Prelude.{Live, Node, Nodes, Part, Path, Position, Refusal, Text, Use, affected, arm_fault}
+use Rattle.rhai_grammar.specs.Prelude.{chain_of, chained, closure_node, guard_fault, index_refusal, is_last}
+use Rattle.rhai_grammar.specs.Prelude.{iterated_fault, joined, joined_tree, last_fault, link_node, made_block}
+use Rattle.rhai_grammar.specs.Prelude.{module_fault, nest, part, path_tree, qualified, target_fault, value_of}
+use Rattle.rhai_grammar.specs.Prelude.{with_case}
 use Rattle.rhai_grammar.specs.Causes as cause
 use Rattle.rhai_grammar.specs.Chains.{link_fault}
 use Rattle.rhai_grammar.specs.Constructs.{type_fault}
@@ -30,6 +30,7 @@ use Rattle.rhai_grammar.specs.declared.role.ListKind.TheVariants as lists
 use Rattle.rhai_grammar.proofs.PlaceWays.{FaultAt}
 
 module _ (G : Position → Type 0) where
+  -- the names before a name, each with its position
   abbrev AllNames : List (Text × Position) → Type 0
   AllNames [] = Unit {0}
   AllNames (x ∷ xs) = G x.1 × AllNames xs
@@ -97,7 +98,8 @@ module _ (G : Position → Type 0) where
   one_name [] x h g = (g, tt)
   one_name (y ∷ a) x h g = (h.0, one_name a x h.1 g)
 
-  longer : (imports : List Text) (n : Node) (t : Text) (p : Position) → Placed n → G p → Placed (qualified imports n t p)
+  longer : (imports : List Text) (n : Node) (t : Text) (p : Position) → Placed n → G p
+      → Placed (qualified imports n t p)
   longer imports (node.variable v q) t p h g = (g, one_name v.path (v.name, q) h.1 h.0)
   longer imports _ t p h g = h
 
@@ -228,14 +230,15 @@ module _ (G : Position → Type 0) where
       by None = tt
       by (Some why) = start key h
 
-  of_member : (x : Node) → Placed x → FaultAt G (link_fault (record { kind = Dotted; negated = false; at = node.position_of x; item = x }))
-  of_member (node.method_call c args p) g = search either
-  of_member _ g = tt
+  of_member : (m : Bool) (p : Position) (x : Node) → Placed x
+      → FaultAt G (link_fault (record { kind = Dotted; negated = m; at = p; item = x }))
+  of_member m p (node.method_call c args q) g = search either
+  of_member m p _ g = tt
 
   of_link : (k : LinkKind) (m : Bool) (p : Position) (x : Node) → Placed x
       → FaultAt G (link_fault (record { kind = k; negated = m; at = p; item = x }))
   of_link Bracket m p x g = tt
-  of_link Dotted m p x g = of_member x g
+  of_link Dotted m p x g = of_member m p x g
 
   pub of_last : (ls : List Link) → AllLinks ls → FaultAt G (last_fault ls)
   of_last [] h = tt
@@ -279,7 +282,8 @@ module _ (G : Position → Type 0) where
   of_target constant op at (node.coalescing ns p) g h = of_list op at p g h.0
   of_target constant op at x g h = of_value (K.is_constant x) (node.position_of x) (position x h)
 
-  of_path : (c : Context) (w : Live) (names : List (Text × Position)) → AllNames names → FaultAt G (path_fault c w names)
+  of_path : (c : Context) (w : Live) (names : List (Text × Position)) → AllNames names
+      → FaultAt G (path_fault c w names)
   of_path c w [] h = tt
   of_path c w (root ∷ names) h = let g = h.0 in search (either, g)
 

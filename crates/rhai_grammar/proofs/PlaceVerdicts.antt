@@ -4,9 +4,9 @@ use Rattle.std.specs.Prelude.{Option, Some, None}
 use Rattle.rhai_lower.specs.declared.token.Token.TheVariants as token
 use Rattle.rhai_grammar.specs.Prelude.{AKey, AMember, Comment, Context, FieldsEnd, Follower, KeyPlace, Lexeme, Library}
 use Rattle.rhai_grammar.specs.Prelude.{Live, MemberPlace, Name, NoKey, NoMember, Node, Operator, Other, Position}
-use Rattle.rhai_grammar.specs.Prelude.{Properties, Reserved, Sign, String, Text, Unknown, Verdict, after_part, arm_place}
-use Rattle.rhai_grammar.specs.Prelude.{calling, defines, do_end, follower_of, item_place, member_place, operand_start}
-use Rattle.rhai_grammar.specs.Prelude.{parameter_place, statement_start, token_after_statement}
+use Rattle.rhai_grammar.specs.Prelude.{Properties, Reserved, Sign, String, Text, Unknown, Verdict, after_part}
+use Rattle.rhai_grammar.specs.Prelude.{arm_place, calling, defines, do_end, follower_of, item_place, member_place}
+use Rattle.rhai_grammar.specs.Prelude.{operand_start, parameter_place, statement_start, token_after_statement}
 use Rattle.rhai_grammar.specs.Constructs as C
 use Rattle.rhai_grammar.specs.Functions as F
 use Rattle.rhai_grammar.specs.Interpolations as I
@@ -40,7 +40,9 @@ use Rattle.rhai_grammar.specs.declared.role.StatementStart.{StatementStart}
 use Rattle.rhai_grammar.specs.declared.role.StatementStart.TheVariants as start
 use Rattle.rhai_grammar.proofs.PlaceWays.{BlamesAt, Places}
 
-either : (G : Position → Type 0) (b : Bool) (x y : Verdict) → BlamesAt G x → BlamesAt G y → BlamesAt G (if b then x else y)
+-- one verdict or another
+either : (G : Position → Type 0) (b : Bool) (x y : Verdict) → BlamesAt G x → BlamesAt G y
+    → BlamesAt G (if b then x else y)
 either G true x y g h = g
 either G false x y g h = h
 

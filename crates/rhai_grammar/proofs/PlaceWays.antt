@@ -2,16 +2,15 @@
 use Rattle.std.proofs.Common.{◌≡◌, ◌⊎◌, inl, inr, ℕ, Bool, true, false, List, [], ◌∷◌, ◌++◌, refl, sym, subst}
 use Rattle.std.proofs.Common.{if◌then◌else◌}
 use Rattle.std.specs.Prelude.{Option, Some, None}
-use Rattle.rhai_grammar.specs.Prelude.{Lexeme, Position, Refusal, Item, Mode, Point, adding, apart, as_literal}
-use Rattle.rhai_grammar.specs.Prelude.{capturing, code, is_memory, next_at, past, with_captured, Adds, Ahead}
-use Rattle.rhai_grammar.specs.Prelude.{Apart, Blames, Captures, Demands, Fine, Literally, Met, Missed, Next, Nothing}
-use Rattle.rhai_grammar.specs.Prelude.{Otherwise, Shape, Test, TestIn, Tok, Uses, Verdict, Wrong, ◌▸◌, Ended}
-use Rattle.rhai_grammar.specs.Prelude.{Library, Use, noted, is_among}
+use Rattle.rhai_grammar.specs.Prelude.{Adds, Ahead, Apart, Blames, Captures, Demands, Ended, Fine, Item, Lexeme}
+use Rattle.rhai_grammar.specs.Prelude.{Library, Literally, Met, Missed, Mode, Next, Nothing, Otherwise, Point, Position}
+use Rattle.rhai_grammar.specs.Prelude.{Refusal, Shape, Test, TestIn, Tok, Use, Uses, Verdict, Wrong, adding, apart}
+use Rattle.rhai_grammar.specs.Prelude.{as_literal, capturing, code, is_among, is_memory, names_of, next_at, noted, past}
+use Rattle.rhai_grammar.specs.Prelude.{with_captured, ◌▸◌}
 use Rattle.rhai_grammar.specs.Demands.{Refused, Refuses}
-use Rattle.rhai_grammar.specs.Uses.{names_of}
 use Rattle.rhai_grammar.specs.Written as W
-use Rattle.rhai_grammar.proofs.PlaceSteps.{AllUses, Closed, Ends, Modes, moved, next_met, next_missed}
-use Rattle.rhai_grammar.proofs.PlaceSteps.{taken_met, taken_missed}
+use Rattle.rhai_grammar.proofs.PlaceSteps.{AllUses, Closed, Ends, Modes, moved, next_met, next_missed, taken_met}
+use Rattle.rhai_grammar.proofs.PlaceSteps.{taken_missed}
 
 -- ---- what is blamed
 
@@ -47,12 +46,14 @@ module _ (G : Position → Type 0) where
       by (is_memory i.lexeme) (v i.lexeme) i.at (p.places i.lexeme)
       (subst (λ (u : Point). G (next_at o u).at) a.2 (subst (λ x. G (next_at x t).at) a.1 h.next)) a.0
     where
-      by : (b : Bool) (x : Verdict) (at : Position) → BlamesAt G x → G at → Refuses (if b then Otherwise else x) at e → G e.at
+      by : (b : Bool) (x : Verdict) (at : Position) → BlamesAt G x → G at → Refuses (if b then Otherwise else x) at e
+          → G e.at
       by true x at b g r = absurd r
       by false x at b g r = refuses x at e b g r
 
   -- ---- uses
 
+  -- A use that is noted stands at its name.
   more_uses : (us : List Use) (u : Use) → AllUses G us → G u.at → AllUses G (us ++ u ∷ [])
   more_uses [] u h g = (g, tt)
   more_uses (v ∷ us) u h g = (h.0, more_uses us u h.1 g)
@@ -84,10 +85,12 @@ pub record Going (G : Position → Type 0) (last : Mode) (ds : Demands) (t : Poi
   pub used : AllUses G start.captured
   pub met : Met ds start t
 
--- Where all tokens stand at allowed positions, so does an error on the way to others; and if there is none, a fact holds.
+-- Where all tokens stand at allowed positions, an error on the way to other demands does so, too. If there is none,
+-- a fact holds, and the others are missed.
 pub record Stands (G : Position → Type 0) (P : Type 0) (ds k : Demands) : Type 0 where
   pub did : (last : Mode) (t : Point) → Closed G last t → Going G last ds t → P × Going G last k t
-  pub stopped : (e : Refusal) (m : Mode) (t : Point) → Ends G m t → Refusing G ds e m t → G e.at ⊎ (P × Refusing G k e m t)
+  pub stopped : (e : Refusal) (m : Mode) (t : Point) → Ends G m t → Refusing G ds e m t
+      → G e.at ⊎ (P × Refusing G k e m t)
 
 module _ {G : Position → Type 0} where
   pub done : {P : Type 0} {k : Demands} → P → Stands G P k k
@@ -100,12 +103,12 @@ module _ {G : Position → Type 0} where
       → AllUses G s.captured → Missed ds s e m t → Refusing G ds e m t
   refusing s p q o u m = record { start = s; mode = p; last = q; modes = o; used = u; missed = m }
 
-  going : {q : Mode} {ds : Demands} {t : Point} (s : Point) (p : Mode) → Modes p q ds → AllUses G s.captured → Met ds s t
-      → Going G q ds t
+  going : {q : Mode} {ds : Demands} {t : Point} (s : Point) (p : Mode) → Modes p q ds → AllUses G s.captured
+      → Met ds s t → Going G q ds t
   going s p o u m = record { start = s; mode = p; modes = o; used = u; met = m }
 
-  pub tok : {m : Mode} {i : Item} {v : Lexeme → Verdict} {P : Type 0} {ds k : Demands} → Places G v → (G i.at → Stands G P ds k)
-      → Stands G P (Tok m i v ▸ ds) k
+  pub tok : {m : Mode} {i : Item} {v : Lexeme → Verdict} {P : Type 0} {ds k : Demands} → Places G v
+      → (G i.at → Stands G P ds k) → Stands G P (Tok m i v ▸ ds) k
   tok {m = m} {i = i} {v = v} {ds = ds} p h = record {
     did = λ n t o r.
         let s = past m r.start in
@@ -135,7 +138,8 @@ module _ {G : Position → Type 0} where
     ];
   }
 
-  pub next : {v : Lexeme → Verdict} {P : Type 0} {ds k : Demands} → Places G v → Stands G P ds k → Stands G P (Next v ▸ ds) k
+  pub next : {v : Lexeme → Verdict} {P : Type 0} {ds k : Demands} → Places G v → Stands G P ds k
+      → Stands G P (Next v ▸ ds) k
   next {v = v} p h = record {
     did = λ n t o r. h.did n t o (going r.start r.mode r.modes r.used r.met.1);
     stopped = λ e n t o r. elim r.missed [
@@ -144,7 +148,8 @@ module _ {G : Position → Type 0} where
     ];
   }
 
-  pub test : {b : Bool} {d : Refusal} {P : Type 0} {ds k : Demands} → G d.at → Stands G P ds k → Stands G P (Test b d ▸ ds) k
+  pub test : {b : Bool} {d : Refusal} {P : Type 0} {ds k : Demands} → G d.at → Stands G P ds k
+      → Stands G P (Test b d ▸ ds) k
   test {d = d} g h = record {
     did = λ n t o r. h.did n t o (going r.start r.mode r.modes r.used r.met.1);
     stopped = λ e n t o r. elim r.missed [
@@ -192,8 +197,8 @@ module _ {G : Position → Type 0} where
     ];
   }
 
-  pub captures : {x : Library → Bool} {d : Refusal} {c : Library → Bool} {u : Use} {P : Type 0} {ds k : Demands} → G d.at
-      → G u.at → Stands G P ds k → Stands G P (Captures x d c u ▸ ds) k
+  pub captures : {x : Library → Bool} {d : Refusal} {c : Library → Bool} {u : Use} {P : Type 0} {ds k : Demands}
+      → G d.at → G u.at → Stands G P ds k → Stands G P (Captures x d c u ▸ ds) k
   captures {d = d} {c = c} {u = u} f g h = record {
     did = λ n t o r.
         let b = c r.start.library in

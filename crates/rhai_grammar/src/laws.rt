@@ -51,7 +51,7 @@ pub fn forms_are_fair()
     ensures { FormsAreFair }
 {}
 
-/// A refusal of a form stands at a token that was taken, or at the next one.
+/// Whichever demand a form misses, the error stands at a token that was taken, or at the next one.
 #[tactic(auto, using(crate::proofs::PlaceLemmas::refusals_stand_at_tokens))]
 pub fn refusals_stand_at_tokens()
     ensures { RefusalsStandAtTokens }
