@@ -14,6 +14,12 @@ pub mod EventParts
 pub mod EventLemmas
 pub mod CaptureLemmas
 pub mod OrderLemmas
+pub mod PlaceSteps
+pub mod PlaceWays
+pub mod PlaceTrees
+pub mod PlaceVerdicts
+pub mod PlaceParts
+pub mod PlaceLemmas
 pub mod RowLemmas
 pub mod StatementRowLemmas
 pub mod StringRowLemmas
