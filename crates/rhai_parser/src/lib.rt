@@ -11,38 +11,12 @@ macro_rules! nested {
     }};
 }
 
-/// A state as it is, taken apart and put together: as a parameter it cannot be proved to be passed on.
-macro_rules! passed_on {
-    ($state:ident) => {{
-        let ParseState {
-            input,
-            lib,
-            counts,
-            tokenizer_control,
-            expr_filter,
-            external_constants,
-            stack,
-            frame_pointer,
-            external_vars,
-            allow_capture,
-            imports,
-            global_imports,
-        } = $state;
-        ParseState {
-            input,
-            lib,
-            counts,
-            tokenizer_control,
-            expr_filter,
-            external_constants,
-            stack,
-            frame_pointer,
-            external_vars,
-            allow_capture,
-            imports,
-            global_imports,
-        }
-    }};
+/// Takes a state with these fields apart, and puts it together. As a parameter it cannot be proved to be passed on.
+macro_rules! rebuild {
+    ($state:ident: $($field:ident),*) => {
+        let ParseState { $($field),* } = $state;
+        let $state = ParseState { $($field),* };
+    };
 }
 
 mod blocks;
