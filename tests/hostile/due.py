@@ -34,7 +34,7 @@ class Answer(Exception):
     """The answer to the list, if it is a refusal."""
 
 
-class Unforeseen(Exception):
+class Unforeseen(ValueError):
     """A token stands here that cannot."""
 
 
