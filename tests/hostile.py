@@ -3,11 +3,12 @@
 (hostile/README.md). It prints each run that fails, and counts; the last line counts the runs, and the exit status is 1
 if any failed.
 
-usage: tests/hostile.py [--jobs N] [PROGRAM]
+usage: tests/hostile.py [--jobs N] [--wrong] [PROGRAM]
 
 Without PROGRAM it runs the one in crates/rhai_parse/out, which `rt ci` at the top of the repository or `rt run` in
 crates/rhai_parse built last, and then the program in crates/rhai_names_cli/out and the tests of the library, which
-`rt ci` built too. It keeps N processors busy, or all.
+`rt ci` built too. It keeps N processors busy, or all. With --wrong it tests the tests instead, in seconds: over some of
+the lists, wrong programs have to fail (hostile/wrong.py).
 """
 
 import argparse
@@ -29,8 +30,10 @@ import refused
 import stored
 import streams
 import table
+import wrong
 
 RUNS_OF_A_TASK = 20
+SHOWN_TO_WRONG_PROGRAMS = 20  # one run in so many
 
 
 def damaged_lists(program, runs):
@@ -50,19 +53,19 @@ def stored_answers(_program):
 
 def refused_requests(program, runs):
     """Refuses each request for memory of these runs in turn."""
-    wrong, requests = refused.check_runs(program, runs)
-    return wrong, {"requests for memory refused in the table": requests}
+    complaints, requests = refused.check_runs(program, runs)
+    return complaints, {"requests for memory refused in the table": requests}
 
 
 def refused_in_a_call(program, name):
     """Refuses each request for memory of a test of the library in turn."""
-    wrong, requests = calls.check(program, name)
-    return [wrong], {"requests for memory refused in tests of the library": requests}
+    complaint, requests = calls.check(program, name)
+    return [complaint], {"requests for memory refused in tests of the library": requests}
 
 
 def refused_in_a_long_list(program):
-    wrong, requests = streams.refused_in_a_long_list(program)
-    return [wrong], {"requests for memory refused over 1,000 tokens": requests}
+    complaint, requests = streams.refused_in_a_long_list(program)
+    return [complaint], {"requests for memory refused over 1,000 tokens": requests}
 
 
 def failing_streams(program):
@@ -77,6 +80,11 @@ def chunks(runs):
     for same in by_words.values():
         for first in range(0, len(same), RUNS_OF_A_TASK):
             yield same[first : first + RUNS_OF_A_TASK]
+
+
+def wrong_programs(program):
+    """Checks that the tests find each list to which a wrong program gives a wrong answer."""
+    return list(wrong.check_all(program, list(chunks(stored.list_runs()[::SHOWN_TO_WRONG_PROGRAMS])))), {}
 
 
 def built(library, crate, name):
@@ -113,11 +121,11 @@ def run_tasks(found, jobs):
     passed, failed, totals = 0, 0, {}
     stored.of_table()  # (read once, before there are more processes)
     with multiprocessing.Pool(jobs) as pool:
-        for name, wrong, counts in pool.imap(run_task, found):
-            for complaint in filter(None, wrong):
+        for name, complaints, counts in pool.imap(run_task, found):
+            for complaint in filter(None, complaints):
                 print(f"failed: {name}: {complaint}")
-            failed += sum(it is not None for it in wrong)
-            passed += sum(it is None for it in wrong)
+            failed += sum(it is not None for it in complaints)
+            passed += sum(it is None for it in complaints)
             totals.update((what, totals.get(what, 0) + count) for what, count in counts.items())
     for what, count in totals.items():
         print(f"{count} {what}")
@@ -127,18 +135,26 @@ def run_tasks(found, jobs):
 def arguments():
     parser = argparse.ArgumentParser(usage=__doc__.split("usage: ")[1].split("\n")[0])
     parser.add_argument("--jobs", type=int)
+    parser.add_argument("--wrong", action="store_true")
     parser.add_argument("program", nargs="?")
     return parser.parse_args()
+
+
+def tasks_of(words, library):
+    """What these words of the command line ask for."""
+    if words.program:
+        program = batch.Program(library, os.path.realpath(words.program))
+    else:
+        program = built(library, "rhai_parse", "rhai_parse")
+    if words.wrong:
+        return [(wrong_programs, program)]
+    return tasks(program) + ([] if words.program else tasks_of_others(library))
 
 
 def main():
     begin, words = time.monotonic(), arguments()
     with tempfile.TemporaryDirectory() as folder:
-        library = batch.compile_forks(folder)
-        if words.program:
-            found = tasks(batch.Program(library, os.path.realpath(words.program)))
-        else:
-            found = tasks(built(library, "rhai_parse", "rhai_parse")) + tasks_of_others(library)
+        found = tasks_of(words, batch.compile_forks(folder))
         passed, failed = run_tasks(found, words.jobs)
     print(f"this took {time.monotonic() - begin:.0f} seconds")
     print(f"{passed} passed, {failed} failed")
