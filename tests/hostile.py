@@ -3,11 +3,11 @@
 (hostile/README.md). It prints each run that fails, and counts; the last line counts the runs, and the exit status is 1
 if any failed.
 
-usage: tests/hostile.py [--jobs N] [--wrong] [PROGRAM]
+usage: tests/hostile.py [--jobs N] [--wrong] [PROGRAM [TESTS]]
 
-Without PROGRAM it runs the one in crates/rhai_parse/out, which `rt ci` at the top of the repository or `rt run` in
-crates/rhai_parse built last, and then the program in crates/rhai_names_cli/out and the tests of the library, which
-`rt ci` built too. It keeps N processors busy, or all. With --wrong it tests the tests instead, in seconds: over some of
+PROGRAM is rhai-parse, and TESTS has the tests of the crate rhai_tests. Without PROGRAM both are those that `rt ci` at
+the top of the repository built last, and the program of crates/rhai_names_cli is run too. It keeps N processors busy,
+or all. With --wrong it tests the tests instead, in seconds: over some of
 the lists, wrong programs have to fail (hostile/wrong.py).
 """
 
@@ -26,6 +26,7 @@ sys.path.insert(0, str(ROOT / "tests" / "hostile"))
 import batch
 import calls
 import damaged
+import libraries
 import refused
 import stored
 import streams
@@ -63,6 +64,12 @@ def refused_in_a_call(program, name):
     return [complaint], {"requests for memory refused in tests of the library": requests}
 
 
+def libraries_after_refusals(tests, run):
+    """Checks what the library holds where memory is refused in this run."""
+    complaints, requests = libraries.check_run(tests, run, stored.of_table())
+    return complaints, {"requests for memory refused in runs whose library is looked at": requests}
+
+
 def refused_in_a_long_list(program):
     complaint, requests = streams.refused_in_a_long_list(program)
     return [complaint], {"requests for memory refused over 1,000 tokens": requests}
@@ -87,12 +94,18 @@ def wrong_programs(program):
     return list(wrong.check_all(program, list(chunks(stored.list_runs()[::SHOWN_TO_WRONG_PROGRAMS])))), {}
 
 
+def wrong_libraries(tests):
+    """Checks that the tests find each list after which a wrong program has a wrong library."""
+    runs = libraries.runs_with_functions(stored.list_runs())
+    return list(wrong.check_libraries(tests, runs[::SHOWN_TO_WRONG_PROGRAMS])), {}
+
+
 def built(library, crate, name):
     """A program that was built in a crate."""
     return batch.Program(library, os.path.realpath(ROOT / "crates" / crate / "out" / name))
 
 
-def tasks(program):
+def tasks_of_program(program):
     """What is to do with the program, as functions with what they are called with."""
     found = [(refused_in_a_long_list, program), (failing_streams, program), (stored_answers, program)]
     found += [(damaged_lists, program, same) for same in chunks(stored.list_runs())]
@@ -100,12 +113,16 @@ def tasks(program):
     return found
 
 
-def tasks_of_others(library):
-    """What is to do with the program that prints names, and with the tests of the library."""
-    names = built(library, "rhai_names_cli", "rhai_names_cli")
-    tests = built(library, "rhai_tests", "rhai_tests_tests")
-    found = [(refused_requests, names, same) for same in chunks(table.all_runs(table.CASES / "names"))]
-    return found + [(refused_in_a_call, tests, name) for name in calls.names(tests.path)]
+def tasks_of_names(names):
+    """What is to do with the program that prints names."""
+    return [(refused_requests, names, same) for same in chunks(table.all_runs(table.CASES / "names"))]
+
+
+def tasks_of_tests(tests):
+    """What is to do with the tests of the library."""
+    found = [(refused_in_a_call, tests, name) for name in calls.names(tests.path)]
+    runs = libraries.runs_with_functions(stored.list_runs())
+    return found + [(libraries_after_refusals, tests, run) for run in runs]
 
 
 def run_task(task):
@@ -137,24 +154,32 @@ def arguments():
     parser.add_argument("--jobs", type=int)
     parser.add_argument("--wrong", action="store_true")
     parser.add_argument("program", nargs="?")
+    parser.add_argument("tests", nargs="?")
     return parser.parse_args()
 
 
-def tasks_of(words, library):
-    """What these words of the command line ask for."""
+def programs(words, library):
+    """The programs with which the tests are made: rhai-parse, the tests of the library, and rhai-names, or none."""
     if words.program:
-        program = batch.Program(library, os.path.realpath(words.program))
-    else:
-        program = built(library, "rhai_parse", "rhai_parse")
+        named = [words.program, words.tests]
+        return [batch.Program(library, os.path.realpath(path)) if path else None for path in named] + [None]
+    crates = ("rhai_parse", "rhai_parse"), ("rhai_tests", "rhai_tests_tests"), ("rhai_names_cli", "rhai_names_cli")
+    return [built(library, *crate) for crate in crates]
+
+
+def tasks(words, library):
+    """What these words of the command line ask for."""
+    program, tests, names = programs(words, library)
     if words.wrong:
-        return [(wrong_programs, program)]
-    return tasks(program) + ([] if words.program else tasks_of_others(library))
+        return [(wrong_programs, program), *([(wrong_libraries, tests)] if tests else [])]
+    found = tasks_of_program(program) + (tasks_of_names(names) if names else [])
+    return found + (tasks_of_tests(tests) if tests else [])
 
 
 def main():
     begin, words = time.monotonic(), arguments()
     with tempfile.TemporaryDirectory() as folder:
-        found = tasks_of(words, batch.compile_forks(folder))
+        found = tasks(words, batch.compile_forks(folder))
         passed, failed = run_tasks(found, words.jobs)
     print(f"this took {time.monotonic() - begin:.0f} seconds")
     print(f"{passed} passed, {failed} failed")

@@ -5,6 +5,7 @@ import re
 from typing import NamedTuple
 
 import damaged
+import libraries
 import refused
 import stored
 from batch import Answer
@@ -103,6 +104,26 @@ def hides_refused_memory(question, answer):
     return question.program.answers(question.words, [question.list])[0] if answer.was_refused else answer
 
 
+def without_functions(answer, last):
+    """The answer to a refused list without the lines of the library, or without the last one."""
+    lines = answer.text.split("\n")
+    functions = [line for line in lines if line.startswith("fn ")]
+    if not functions or not lines[0].startswith("refused "):
+        return answer
+    dropped = functions[-1:] if last else functions
+    return answer._replace(printed="\n".join(line for line in lines if line not in dropped).encode())
+
+
+def empties_the_library(_, answer):
+    """Empties the library where it refuses."""
+    return without_functions(answer, last=False)
+
+
+def loses_the_last_function(_, answer):
+    """Takes the function that ended last out of the library where it refuses."""
+    return without_functions(answer, last=True)
+
+
 OVER_DAMAGED_LISTS = [
     invalid_target_at_once,
     long_is_too_deep,
@@ -120,6 +141,7 @@ WITH_MEMORY_REFUSED = [
     always_succeeds,
     hides_refused_memory,
 ]
+WITH_LIBRARIES = [empties_the_library, loses_the_last_function]
 
 
 class Recorded:
@@ -181,6 +203,11 @@ def check(recorded, chunks, change, complaints):
     return None
 
 
+def complaints_of_libraries(program, runs):
+    found = [libraries.check_run(program, run, stored.of_table())[0] for run in runs]
+    return sum(complaint is not None for complaints in found for complaint in complaints)
+
+
 def check_all(program, chunks):
     """Yields what is wrong with the tests, or nothing, for each wrong program over these runs, and the right one."""
     recorded = Recorded(program)
@@ -190,3 +217,10 @@ def check_all(program, chunks):
     ):
         for change in (right, *changes):
             yield check(recorded, chunks, change, complaints)
+
+
+def check_libraries(tests, runs):
+    """The same for programs with the tests of the library."""
+    recorded = Recorded(tests)
+    for change in (right, *WITH_LIBRARIES):
+        yield check(recorded, [runs], change, complaints_of_libraries)

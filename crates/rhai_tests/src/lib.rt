@@ -12,6 +12,8 @@ mod fn_names;
 #[cfg(test)]
 mod libraries;
 #[cfg(test)]
+mod lists;
+#[cfg(test)]
 mod long_scripts;
 #[cfg(test)]
 mod modules;

@@ -1,20 +1,21 @@
-//! The entry that hands a script to the optimizer.
+//! The entry that hands a script to the optimizer, at each level. Two tests make all rows, as in `allocation`: the one
+//! that is `.._refused` holds however memory is refused.
 
-use crate::script::stream_of_line;
+use crate::libraries::{Functions, holds_ended};
+use crate::script::{stream_of_line, tokens_taken};
 use rhai_parser::{
-    AST, Engine, FnLib, OptimizationLevel, ParseResult, ParseState, TokenizerControl,
+    AST, Engine, FnLib, OptimizationLevel, ParseError, ParseResult, ParseState, TokenizerControl,
 };
 use rhai_run::{Refused, accepted};
 use std::alloc::{AllocError, Global};
 use std::process::Abort;
 use std::test::Fail;
 
-const SCRIPT: &str = "let y = 1 ; fn f ( x ) { x } f ( | x | x + y )";
-
-// What the program prints of an answer.
+// What the program prints of an answer. Where memory ran out, so is the result.
 fn printed(alloc: Global, answer: ParseResult<AST>) -> Result<String, AllocError> {
     match answer {
         Ok(script) => accepted(alloc, &script),
+        Err(error) if error == ParseError::from(AllocError) => Err(AllocError),
         Err(error) => format!(in alloc; "refused {}", Refused(&error)),
     }
 }
@@ -32,48 +33,62 @@ fn read_plainly(rt: &impl Abort, alloc: Global, line: &str) -> Result<String, Al
     printed(alloc, script)
 }
 
-// Wants this answer to a line at this level, and so many functions in the library that is lent.
+// Wants the answer to a line at this level to be that without the optimizer, which begins with `wanted`, and in the
+// library that is lent exactly the functions that have ended.
 fn test_parse(
     rt: &impl Abort,
     alloc: Global,
-    line: &str,
     level: OptimizationLevel,
-    (wanted, count): (&str, usize),
+    (line, wanted, functions): (&str, &str, Functions),
 ) -> Result<(), AllocError> {
     let mut input = stream_of_line(rt, alloc, line)?;
     let mut lib = FnLib::new(alloc);
     let state = ParseState::new(alloc, None, &mut input, TokenizerControl, &mut lib);
-    let answer = printed(alloc, Engine::new(alloc).parse(state, level))?;
-    assert!(rt; answer.as_str() == wanted, "{answer}");
-    assert!(rt; lib.len() == count, "{line}");
+    let answer = Engine::new(alloc).parse(state, level);
+    let taken = tokens_taken(&mut input, line);
+    assert!(rt; holds_ended(&lib, functions, taken), "{line}");
+    let answer = printed(alloc, answer)?;
+    assert!(rt; lib.len() == functions.len(), "{line}");
+    assert!(rt; answer.as_str().starts_with(wanted), "{answer}");
+    let plain = read_plainly(rt, alloc, line)?;
+    assert!(rt; answer == plain, "{answer}");
     Ok(())
 }
 
-// At each level the tree and the functions are those that were read, and a refusal is the same.
-#[test]
-fn parse_at_each_level(rt: HostRuntime) -> Result<(), Fail> {
-    let alloc = rt.alloc();
-    let tree = read_plainly(&rt, alloc, SCRIPT)?;
+// Lines, with the beginning of the answer, and the functions in the library.
+const LINES: [(&str, &str, Functions); 3] = [
+    (
+        "let y = 1 ; fn f ( x ) { x } f ( | x | x + y )",
+        "accepted\nVar 1:1 y ",
+        &[("f", 1, 13), ("anon$0000000000000000", 2, 21)],
+    ),
+    (
+        "fn f () { } let",
+        "refused E13 none VariableExpected",
+        &[("f", 0, 5)],
+    ),
+    (") ;", "refused E2 1:1 BadInput unexpected )", &[]),
+];
+
+fn parse_at_each_level(rt: &impl Abort, alloc: Global) -> Result<(), AllocError> {
     for level in [
         OptimizationLevel::None,
         OptimizationLevel::Simple,
         OptimizationLevel::Full,
     ] {
-        test_parse(&rt, alloc, SCRIPT, level, (&tree, 2))?;
-        test_parse(
-            &rt,
-            alloc,
-            "fn f () { } let",
-            level,
-            ("refused E13 none VariableExpected", 1),
-        )?;
-        test_parse(
-            &rt,
-            alloc,
-            ") ;",
-            level,
-            ("refused E2 1:1 BadInput unexpected )", 0),
-        )?;
+        for line in LINES {
+            test_parse(rt, alloc, level, line)?;
+        }
     }
     Ok(())
+}
+
+#[test]
+fn parse_at_each_level_with_ample_memory(rt: HostRuntime) -> Result<(), Fail> {
+    Ok(parse_at_each_level(&rt, rt.alloc())?)
+}
+
+#[test]
+fn parse_at_each_level_refused(rt: HostRuntime) {
+    let _ = parse_at_each_level(&rt, rt.alloc());
 }
