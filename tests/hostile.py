@@ -26,6 +26,7 @@ sys.path.insert(0, str(ROOT / "tests" / "hostile"))
 import batch
 import calls
 import damaged
+import entries
 import libraries
 import refused
 import stored
@@ -34,6 +35,7 @@ import table
 import wrong
 
 RUNS_OF_A_TASK = 20
+RUNS_AT_EACH_LEVEL = 100  # of a task
 SHOWN_TO_WRONG_PROGRAMS = 20  # one run in so many
 
 
@@ -68,6 +70,16 @@ def libraries_after_refusals(tests, run):
     """Checks what the library holds where memory is refused in this run."""
     complaints, requests = libraries.check_run(tests, run, stored.of_table())
     return complaints, {"requests for memory refused in runs whose library is looked at": requests}
+
+
+def scripts_at_each_level(tests, runs):
+    """Checks what `parse` answers in these runs at each level."""
+    return entries.check_levels(tests, runs), {}
+
+
+def names_of_scripts(tests):
+    """Checks what `names_of_script` gives in the runs of rhai-names."""
+    return entries.check_names(tests), {}
 
 
 def refused_in_a_long_list(program):
@@ -121,8 +133,12 @@ def tasks_of_names(names):
 def tasks_of_tests(tests):
     """What is to do with the tests of the library."""
     found = [(refused_in_a_call, tests, name) for name in calls.names(tests.path)]
-    runs = libraries.runs_with_functions(stored.list_runs())
-    return found + [(libraries_after_refusals, tests, run) for run in runs]
+    runs = stored.list_runs()
+    found += [(libraries_after_refusals, tests, run) for run in libraries.runs_with_functions(runs)]
+    scripts = entries.scripts(runs)
+    starts = range(0, len(scripts), RUNS_AT_EACH_LEVEL)
+    found += [(scripts_at_each_level, tests, scripts[at : at + RUNS_AT_EACH_LEVEL]) for at in starts]
+    return [*found, (names_of_scripts, tests)]
 
 
 def run_task(task):

@@ -1,16 +1,17 @@
 """What the library holds after a refusal: exactly the functions and closures that have ended by then.
 
 Two tests of `rhai_tests` (lists.rt) read a list, and print the first line of the answer, how many tokens were taken,
-and the library. They are run over the lists of the table that have functions: with the tokenizer out of memory for each
-token, and with each request for memory refused. Where a function ends follows from the list alone (due.py).
+and the library. They make the runs of the table that have functions: with the tokenizer out of memory for each token,
+and with each request for memory refused. Where a function ends follows from the list alone (due.py).
 """
 
 from typing import NamedTuple
 
 import damaged
 from due import ended
+from entries import given
 
-TESTS = {"script": "lists::the_script_of_the_input", "expr": "lists::the_expression_of_the_input"}
+TESTS = {"script": "lists::the_library_after_a_script", "expr": "lists::the_library_after_an_expression"}
 
 
 class State(NamedTuple):
@@ -37,8 +38,8 @@ def functions_of(run):
 
 
 def runs_with_functions(runs):
-    """The runs with default settings in whose lists some function or closure ends."""
-    return [run for run in runs if len(run.words) == 1 and ended(run.lines, run.words)]
+    """The runs in whose lists some function or closure ends."""
+    return [run for run in runs if ended(run.lines, run.words)]
 
 
 def holds(run, found, fewest, most):
@@ -109,8 +110,8 @@ def places_read(run, stored):
 def check_run(program, run, stored):
     """What is wrong with the libraries of a run, or nothing, for each list that is given."""
     test, damages = (TESTS[run.words[0]],), places_read(run, stored)
-    answers = program.answers(test, [damage.list for damage in damages])
+    answers = program.answers(test, [given(run, damage.list) for damage in damages])
     found = [wrong_without_memory(run, damage.place, answer) for damage, answer in zip(damages, answers)]
-    after = program.answers(test, [run.list], refuse=True)
+    after = program.answers(test, [given(run, run.list)], refuse=True)
     found.append(wrong_after_requests(run, stored.tokens_read(run), after))
     return found, sum(answer.was_refused for answer in after)

@@ -16,6 +16,8 @@ mod lists;
 #[cfg(test)]
 mod long_scripts;
 #[cfg(test)]
+mod lookups;
+#[cfg(test)]
 mod modules;
 #[cfg(test)]
 mod nesting;

@@ -103,7 +103,7 @@ fn nested_to_the_limit_of_a_function(rt: &impl Abort, alloc: Global) -> Result<(
     Ok(())
 }
 
-fn limits_of_one_level_and_none(rt: &impl Abort, alloc: Global) -> Result<(), AllocError> {
+fn limits_of_one_level(rt: &impl Abort, alloc: Global) -> Result<(), AllocError> {
     let engine = Engine::new(alloc);
     let one = Change::Depth(0, 1);
     test_expr(rt, alloc, &engine, one, ("1", "accepted"))?;
@@ -114,14 +114,6 @@ fn limits_of_one_level_and_none(rt: &impl Abort, alloc: Global) -> Result<(), Al
     ] {
         test_script(rt, alloc, &engine, one, row)?;
     }
-    let line = nested(alloc, ("1 + ", "1", ""), 500)?;
-    test_expr(
-        &rt,
-        alloc,
-        &engine,
-        Change::Depth(0, 0),
-        (&line, "accepted"),
-    )?;
     Ok(())
 }
 
@@ -130,7 +122,7 @@ fn nesting(rt: &impl Abort, alloc: Global) -> Result<(), AllocError> {
     active_functions_after_a_script(rt, alloc)?;
     nested_to_the_limit_of_a_script(rt, alloc)?;
     nested_to_the_limit_of_a_function(rt, alloc)?;
-    limits_of_one_level_and_none(rt, alloc)
+    limits_of_one_level(rt, alloc)
 }
 
 #[test]
@@ -141,6 +133,22 @@ fn nesting_with_ample_memory(rt: HostRuntime) -> Result<(), Fail> {
 #[test]
 fn nesting_refused(rt: HostRuntime) {
     let _ = nesting(&rt, rt.alloc());
+}
+
+// Without a limit a run may be of any length.
+#[test]
+fn no_limit(rt: HostRuntime) -> Result<(), Fail> {
+    let alloc = rt.alloc();
+    let line = nested(alloc, ("1 + ", "1", ""), 500)?;
+    let unlimited = Change::Depth(0, 0);
+    test_expr(
+        &rt,
+        alloc,
+        &Engine::new(alloc),
+        unlimited,
+        (&line, "accepted"),
+    )?;
+    Ok(())
 }
 
 // The greatest level: without a limit it stays, and is refused at a limit.

@@ -11,8 +11,8 @@ use std::alloc::{AllocError, Global};
 use std::process::Abort;
 use std::test::Fail;
 
-// What the program prints of an answer. Where memory ran out, so is the result.
-fn printed(alloc: Global, answer: ParseResult<AST>) -> Result<String, AllocError> {
+/// What the program prints of an answer. Where memory ran out, so is the result.
+pub(crate) fn printed(alloc: Global, answer: ParseResult<AST>) -> Result<String, AllocError> {
     match answer {
         Ok(script) => accepted(alloc, &script),
         Err(error) if error == ParseError::from(AllocError) => Err(AllocError),

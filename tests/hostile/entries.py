@@ -1,0 +1,62 @@
+"""Calls of the library that the programs do not make: `parse` at each level, and `names_of_script`. Tests of
+`rhai_tests` (lists.rt) make them for a list that they read, with its limits and options."""
+
+import table
+
+AT_EACH_LEVEL, NAMES = "lists::a_script_at_each_level", "lists::the_names_of_a_script"
+LIMITS = {"expr_depth": "64", "fn_depth": "32", "functions": str(2**64 - 1), "array": "0", "map": "0", "options": "191"}
+OPTIONS = ("IF_EXPR", "SWITCH_EXPR", "LOOP_EXPR", "STMT_EXPR", "ANON_FN", "LOOPING", "STRICT_VAR", "SHADOWING")
+LEVELS = 3
+END = b"\ntest result: ok\n"  # what a test that passes prints last
+NO_MEMORY = "refused E36 none OutOfMemory"
+
+
+def given(run, text):
+    """What these tests read: a line of limits and options, and a list."""
+    *limits, options = {**LIMITS, **dict(word.split("=") for word in run.words[1:])}.values()
+    names = [name for bit, name in enumerate(OPTIONS) if int(options) >> bit & 1]
+    return " ".join([*limits, *names]).encode() + b"\n" + text
+
+
+def wrong(run, wanted, answer):
+    if (answer.printed, answer.status) == (wanted + END, 0):
+        return None
+    return f"{run.name}: status {answer.status}, {answer.text}"
+
+
+def scripts(runs):
+    """The runs of scripts. Where memory runs out the tests print nothing."""
+    return [run for run in runs if run.words[0] == "script" and run.first != NO_MEMORY]
+
+
+def check_levels(program, runs):
+    """What is wrong with what `parse` answers in these runs at each level: it has to be the answer of the table."""
+    answers = program.answers((AT_EACH_LEVEL,), [given(run, run.list) for run in runs])
+    # (a refusal has no line feed, and a line feed is printed after each answer)
+    wanted = [(run.answer + b"\n" if run.status == 0 else run.answer) * LEVELS for run in runs]
+    return [wrong(*one) for one in zip(runs, wanted, answers)]
+
+
+def lines_of_names(answer):
+    """A line of each function, and of each variable and call that it needs, of what `rhai-names` prints."""
+    for line in answer.decode().removesuffix("\n").split("\n"):
+        function, free, calls = line.replace(": free ", "\0").replace("; calls ", "\0").split("\0")
+        name, parameters = function.rsplit("/", 1)
+        this_type, _, name = name.rpartition(".")
+        yield f"fn {this_type or '-'} {name} {parameters}"
+        yield from (f"free {it}" for it in free.split(", ") if it != "-")
+        yield from (f"calls {it}" for it in calls.split(", ") if it != "-")
+
+
+def runs_of_names():
+    """The runs of rhai-names that are accepted."""
+    runs = table.all_runs(table.CASES / "names")
+    return [run for run in runs if run.words[0] == "script" and run.status == 0]
+
+
+def check_names(program):
+    """What is wrong with the names that `names_of_script` gives: they have to be those of the table."""
+    runs = runs_of_names()
+    answers = program.answers((NAMES,), [given(run, run.list) for run in runs])
+    wanted = ["".join(f"{line}\n" for line in lines_of_names(run.answer)).encode() for run in runs]
+    return [wrong(*one) for one in zip(runs, wanted, answers)]
