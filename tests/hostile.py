@@ -36,7 +36,7 @@ import wrong
 
 RUNS_OF_A_TASK = 20
 RUNS_AT_EACH_LEVEL = 100  # of a task
-SHOWN_TO_WRONG_PROGRAMS = 20  # one run in so many
+SHOWN_TO_WRONG_PROGRAMS = 40  # one run in so many
 
 
 def damaged_lists(program, runs):
