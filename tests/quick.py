@@ -1,12 +1,13 @@
 #!/usr/bin/env python3
-"""Runs tests without any proof, as in a fresh clone: those of the crates, and the table of cases with default settings.
+"""Runs the tests of a fresh clone, without any proof: those of the crates, and most worked cases.
+
 It takes some minutes, and prints what fails; the last line counts the tests, and the exit status is 1 if any failed.
 
 usage: tests/quick.py [--jobs N]
 
 Each crate's tests, and each program with the same words of the command line, are built once by `rt try`, which watches
-what runs. N of these are at work at once, or as many as there are processors. The other runs of the table, damaged
-lists and refused memory need the programs that `rt ci` builds.
+what runs. N of these are at work at once, or as many as there are processors. The cases are those with default limits
+and options. The others, damaged lists and refused memory need the programs that `rt ci` builds.
 """
 
 import argparse

@@ -1,4 +1,4 @@
-"""What the library holds after a refusal: exactly the functions and closures that have ended by then.
+"""What the library holds after a refusal: exactly what has ended by then.
 
 Two tests of `rhai_tests` (lists.rt) read a list, and print the first line of the answer, how many tokens were taken,
 and the library. They make the runs of the table that have functions: with the tokenizer out of memory for each token,

@@ -1,6 +1,7 @@
 #!/usr/bin/env python3
-"""Writes refusals.txt and trees.txt (README.md) anew, from the answers of another parser with the command line and
-formats of docs/FORMAT.md. Never use the program under test.
+"""Writes refusals.txt and trees.txt (README.md) anew, from the answers of another parser.
+
+It has to have the command line and formats of docs/FORMAT.md, and never is the program under test.
 
 usage: tests/hostile/store.py PROGRAM [WORD ..]
 

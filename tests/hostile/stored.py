@@ -1,4 +1,4 @@
-"""The answers to damaged lists that no rule gives (README.md): those in refusals.txt and trees.txt."""
+"""Answers to damaged lists that no rule gives: refusals.txt and trees.txt (README.md)."""
 
 import functools
 import hashlib

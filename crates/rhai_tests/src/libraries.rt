@@ -1,4 +1,4 @@
-//! What a library holds where memory ran out: what it held before, and then exactly the functions that have ended
+//! What a library holds where memory ran out. It is what it held before, and then exactly the functions that have ended
 //! since. A function has ended where a token after its own was taken, and has not where one of its own was not.
 
 use crate::script::{add_line, stream_of, stream_of_line, tokens_taken};

@@ -1,4 +1,4 @@
-//! What the look-ups of a state find, and the numbers of modules in trees, which the programs do not print.
+//! What the look-ups of a state find, and the numbers of modules in trees. The programs do not print these.
 
 use crate::script::{stream_of, stream_of_line};
 use rhai_parser::{Engine, Expr, FnLib, ParseState, Stmt, TokenizerControl};
