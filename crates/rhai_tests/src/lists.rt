@@ -1,6 +1,6 @@
 //! Calls of the library for a list of tokens on standard input. They print the answer, and what the library holds then.
-//! tests/hostile/libraries.py and entries.py make them over the table of cases, with its limits and options, and compare
-//! what is printed. Without an input they print nothing.
+//! tests/hostile/libraries.py and entries.py make them over the table of cases, with its limits and options, and
+//! compare what is printed. Without an input they print nothing.
 
 use crate::optimizing::printed;
 use rhai_names::names::FnNames;
