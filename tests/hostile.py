@@ -35,7 +35,7 @@ import table
 import wrong
 
 RUNS_OF_A_TASK = 20
-RUNS_AT_EACH_LEVEL = 100  # of a task
+RUNS_AT_A_LEVEL = 100  # of a task
 SHOWN_TO_WRONG_PROGRAMS = 40  # one run in so many
 
 
@@ -72,9 +72,9 @@ def libraries_after_refusals(tests, run):
     return complaints, {"requests for memory refused in runs whose library is looked at": requests}
 
 
-def scripts_at_each_level(tests, runs):
-    """Checks what `parse` answers in these runs at each level."""
-    return entries.check_levels(tests, runs), {}
+def scripts_at_a_level(tests, runs, level):
+    """Checks what `parse` answers in these runs at a level."""
+    return entries.check_level(tests, runs, level), {}
 
 
 def names_of_scripts(tests):
@@ -136,8 +136,8 @@ def tasks_of_tests(tests):
     runs = stored.list_runs()
     found += [(libraries_after_refusals, tests, run) for run in libraries.runs_with_functions(runs)]
     scripts = entries.scripts(runs)
-    starts = range(0, len(scripts), RUNS_AT_EACH_LEVEL)
-    found += [(scripts_at_each_level, tests, scripts[at : at + RUNS_AT_EACH_LEVEL]) for at in starts]
+    for at in range(0, len(scripts), RUNS_AT_A_LEVEL):
+        found += [(scripts_at_a_level, tests, scripts[at : at + RUNS_AT_A_LEVEL], level) for level in entries.LEVELS]
     return [*found, (names_of_scripts, tests)]
 
 

@@ -1,13 +1,14 @@
 #!/usr/bin/env python3
-"""Runs the tests of a fresh clone, without any proof: those of the crates, and most worked cases.
+"""Runs the tests of a fresh clone, without any proof: those of the crates, and the worked cases.
 
 It takes some minutes, and prints what fails; the last line counts the tests, and the exit status is 1 if any failed.
 
 usage: tests/quick.py [--jobs N]
 
-Each crate's tests, and each program with the same words of the command line, are built once by `rt try`, which watches
-what runs. N of these are at work at once, or as many as there are processors. The cases are those with default limits
-and options. The others, damaged lists and refused memory need the programs that `rt ci` builds.
+`rt try` builds the tests of each crate, and then watches them. N are at work at once, or as many as there are
+processors. The test `the_runs_of_a_file` of rhai_tests makes the runs of the table of cases. Lists that cannot be read
+are given to rhai-parse, and those of rhai-names to that. Bad words of the command line, damaged lists and refused
+memory need the programs that `rt ci` builds.
 """
 
 import argparse
@@ -24,9 +25,11 @@ ROOT = pathlib.Path(__file__).resolve().parent.parent
 sys.dont_write_bytecode = True
 sys.path.insert(0, str(ROOT / "tests" / "hostile"))
 
+import entries
 import table
 
-TESTS = ("rhai_tests", "rhai_parse", "rhai_run")  # crates with tests, those that take long first
+RUNS_OF_A_FILE = "rhai_tests"  # the crate with the test that makes the runs of a file
+TESTS = ("rhai_parse", "rhai_run")  # the other crates with tests
 SECONDS = "300"  # for a test
 STATUS = re.compile(r"^case=(\S+) run=ended status=(\d+) ", re.MULTILINE)
 PRINTED = re.compile(rb"^== (\d+)\n", re.MULTILINE)
@@ -38,15 +41,36 @@ def rt_try(crate, *words):
     return subprocess.run(command, cwd=ROOT / "crates" / crate, stdin=subprocess.DEVNULL, **output)
 
 
-def tests_of(crate):
-    """The tests of a crate: how many passed, and what failed."""
-    ran = rt_try(crate, "--test", "--seconds", SECONDS)
+def tests_of(crate, *words):
+    """The tests of a crate: what is printed, how many passed, and what failed."""
+    ran = rt_try(crate, "--test", "--seconds", SECONDS, *words)
     said = (ran.stdout + ran.stderr).decode(errors="replace")
     count = re.search(r"^test result: \w+\. (\d+) passed; (\d+) failed", said, re.MULTILINE)
     if count is None:
-        return 0, [f"the tests of {crate} did not run: {said[-2000:]}"]
-    failed = re.findall(r"^test (\S+) \.\.\. FAILED$", said, re.MULTILINE)
-    return int(count[1]), [f"the test {name} of {crate}" for name in failed]
+        return said, 0, [f"the tests of {crate} did not run: {said[-2000:]}"]
+    failed = re.findall(r"^test (\S+) \.\.\. FAILED\n(.*)", said, re.MULTILINE)
+    return said, int(count[1]), [f"the test {name} of {crate}: {why}" for name, why in failed]
+
+
+def tests_alone(crate):
+    return tests_of(crate)[1:]
+
+
+def record(run):
+    """A run as the test of the file has it: what it reads, and what it has to print."""
+    wanted = run.answer if run.status == 0 else run.answer.removesuffix(b"\n")
+    return entries.given(run, run.list) + b"\n###\n" + wanted
+
+
+def tests_with_runs(crate, runs):
+    """The tests of a crate, with a file of these runs, which count as tests too."""
+    with tempfile.NamedTemporaryFile() as file:
+        file.write(b"\n===\n".join(map(record, runs)))
+        file.flush()
+        said, passed, failed = tests_of(crate, "--data", f"runs={file.name}")
+    if re.search(f"^ *{len(runs)} runs$", said, re.MULTILINE):
+        return passed + len(runs), failed
+    return passed, [*failed, f"{len(runs)} runs of the table"]
 
 
 def answers(crate, words, lists):
@@ -69,11 +93,14 @@ def runs_of(crate, words, runs):
 
 def all_parts():
     """What is to be built and run, each as a function with what it is called with."""
-    found = [(tests_of, crate) for crate in TESTS]
-    for crate, folder in (("rhai_parse", table.CASES), ("rhai_names_cli", table.CASES / "names")):
-        runs = [run for run in table.all_runs(folder) if run.words in (("script",), ("expr",))]
-        for words in dict.fromkeys(run.words for run in runs):
-            found.append((runs_of, crate, words, [run for run in runs if run.words == words]))
+    runs = table.all_runs()
+    found = [(tests_with_runs, RUNS_OF_A_FILE, [run for run in runs if run.status != 2])]
+    found += [(tests_alone, crate) for crate in TESTS]
+    unreadable = [run for run in runs if run.status == 2]
+    for crate, some in (("rhai_parse", unreadable), ("rhai_names_cli", table.all_runs(table.CASES / "names"))):
+        for words in (("script",), ("expr",)):
+            same = [run for run in some if run.words == words]
+            found += [(runs_of, crate, words, same)] if same else []
     return found
 
 

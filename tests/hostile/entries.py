@@ -3,19 +3,19 @@ make them for a list that they read, with its limits and options."""
 
 import table
 
-AT_EACH_LEVEL, NAMES = "lists::a_script_at_each_level", "lists::the_names_of_a_script"
+AT_A_LEVEL, NAMES = "lists::a_script_at_a_level", "lists::the_names_of_a_script"
 LIMITS = {"expr_depth": "64", "fn_depth": "32", "functions": str(2**64 - 1), "array": "0", "map": "0", "options": "191"}
 OPTIONS = ("IF_EXPR", "SWITCH_EXPR", "LOOP_EXPR", "STMT_EXPR", "ANON_FN", "LOOPING", "STRICT_VAR", "SHADOWING")
-LEVELS = 3
+LEVELS = ("None", "Simple", "Full")
 END = b"\ntest result: ok\n"  # what a test that passes prints last
 NO_MEMORY = "refused E36 none OutOfMemory"
 
 
-def given(run, text):
-    """What these tests read: a line of limits and options, and a list."""
+def given(run, text, level="None"):
+    """What these tests read: a line with the entry, the level, limits and options, and a list."""
     *limits, options = {**LIMITS, **dict(word.split("=") for word in run.words[1:])}.values()
     names = [name for bit, name in enumerate(OPTIONS) if int(options) >> bit & 1]
-    return " ".join([*limits, *names]).encode() + b"\n" + text
+    return " ".join([run.words[0], level, *limits, *names]).encode() + b"\n" + text
 
 
 def wrong(run, wanted, answer):
@@ -29,11 +29,11 @@ def scripts(runs):
     return [run for run in runs if run.words[0] == "script" and run.first != NO_MEMORY]
 
 
-def check_levels(program, runs):
-    """What is wrong with what `parse` answers in these runs at each level: it has to be the answer of the table."""
-    answers = program.answers((AT_EACH_LEVEL,), [given(run, run.list) for run in runs])
+def check_level(program, runs, level):
+    """What is wrong with what `parse` answers in these runs at a level: it has to be the answer of the table."""
+    answers = program.answers((AT_A_LEVEL,), [given(run, run.list, level) for run in runs])
     # (a refusal has no line feed, and a line feed is printed after each answer)
-    wanted = [(run.answer + b"\n" if run.status == 0 else run.answer) * LEVELS for run in runs]
+    wanted = [run.answer + b"\n" if run.status == 0 else run.answer for run in runs]
     return [wrong(*one) for one in zip(runs, wanted, answers)]
 
 

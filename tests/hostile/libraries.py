@@ -1,8 +1,8 @@
 """What the library holds after a refusal: exactly what has ended by then.
 
-Two tests of `rhai_tests` (lists.rt) read a list, and print the first line of the answer, how many tokens were taken,
-and the library. They make the runs of the table that have functions: with the tokenizer out of memory for each token,
-and with each request for memory refused. Where a function ends follows from the list alone (due.py).
+A test of `rhai_tests` (lists.rt) reads a list, and prints the first line of the answer, how many tokens were taken, and
+the library. It makes the runs of the table that have functions: with the tokenizer out of memory for each token, and
+with each request for memory refused. Where a function ends follows from the list alone (due.py).
 """
 
 from typing import NamedTuple
@@ -11,7 +11,7 @@ import damaged
 from due import ended
 from entries import given
 
-TESTS = {"script": "lists::the_library_after_a_script", "expr": "lists::the_library_after_an_expression"}
+TEST = "lists::the_library_after_a_list"
 
 
 class State(NamedTuple):
@@ -109,9 +109,9 @@ def places_read(run, stored):
 
 def check_run(program, run, stored):
     """What is wrong with the libraries of a run, or nothing, for each list that is given."""
-    test, damages = (TESTS[run.words[0]],), places_read(run, stored)
-    answers = program.answers(test, [given(run, damage.list) for damage in damages])
+    damages = places_read(run, stored)
+    answers = program.answers((TEST,), [given(run, damage.list) for damage in damages])
     found = [wrong_without_memory(run, damage.place, answer) for damage, answer in zip(damages, answers)]
-    after = program.answers(test, [given(run, run.list)], refuse=True)
+    after = program.answers((TEST,), [given(run, run.list)], refuse=True)
     found.append(wrong_after_requests(run, stored.tokens_read(run), after))
     return found, sum(answer.was_refused for answer in after)

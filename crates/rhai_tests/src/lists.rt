@@ -1,6 +1,6 @@
-//! Calls of the library for a list of tokens on standard input. They print the answer, and what the library holds then.
-//! tests/hostile/libraries.py and entries.py make them over the table of cases, with its limits and options, and
-//! compare what is printed. Without an input they print nothing.
+//! Calls of the library for lists of tokens that are no part of this crate. tests/hostile/libraries.py and entries.py
+//! give one on standard input, from the table of cases, and compare what is printed. tests/quick.py gives the whole
+//! table as a file. Without an input the tests do nothing.
 
 use crate::optimizing::printed;
 use rhai_names::names::FnNames;
@@ -9,10 +9,11 @@ use rhai_parser::{
     AST, Engine, FnLib, LangOptions, OptimizationLevel, ParseResult, ParseState, Token,
     TokenStream, TokenizerControl,
 };
-use rhai_run::{Escaped, Refused, TokenList, decimal, read_lines, read_list};
+use rhai_run::{Escaped, ListError, Refused, TokenList, decimal, read_lines, read_list};
 use std::alloc::{AllocError, Global};
+use std::process::Abort;
 use std::test::Fail;
-use std::{io, str};
+use std::{fs, io, str};
 
 fn option(name: &str) -> Option<LangOptions> {
     Some(match name {
@@ -28,10 +29,46 @@ fn option(name: &str) -> Option<LangOptions> {
     })
 }
 
-// The engine with the limits and options of a line: the depths of scripts and functions, the numbers of functions,
-// items and properties, and then the names of all options that it has.
-fn engine_with(alloc: Global, line: &str) -> Option<Engine> {
-    let mut words = line.split(' ');
+// What a list is.
+#[derive(Clone, Copy)]
+enum Kind {
+    Script,
+    Expression,
+}
+
+fn kind(word: &str) -> Option<Kind> {
+    Some(match word {
+        "script" => Kind::Script,
+        "expr" => Kind::Expression,
+        _ => return None,
+    })
+}
+
+// How far the optimizer may go.
+fn level(word: &str) -> Option<OptimizationLevel> {
+    Some(match word {
+        "None" => OptimizationLevel::None,
+        "Simple" => OptimizationLevel::Simple,
+        "Full" => OptimizationLevel::Full,
+        _ => return None,
+    })
+}
+
+// What an input says.
+#[derive(Drop)]
+struct Given {
+    kind: Kind,
+    level: OptimizationLevel,
+    engine: Engine,
+    input: TokenStream,
+    // How many tokens the stream had.
+    count: usize,
+}
+
+// The engine of some words: the depths of scripts and functions; the numbers of functions, items and properties; and
+// then the names of all options.
+fn read_engine(alloc: Global, words: &str) -> Option<Engine> {
+    let mut words = words.split(' ');
     let mut engine = Engine::new(alloc);
     engine.set_max_expr_depth(decimal(words.next()?)?);
     engine.set_max_function_expr_depth(decimal(words.next()?)?);
@@ -45,23 +82,54 @@ fn engine_with(alloc: Global, line: &str) -> Option<Engine> {
     Some(engine)
 }
 
-// The stream of a list, and how many tokens it has.
-fn stream_of(list: TokenList) -> Option<(TokenStream, usize)> {
-    let count = list.entries.len();
-    if !list.entries.iter().all(|entry| entry.is_deliverable()) {
-        return None;
-    }
-    Some((TokenStream::new(list.entries, list.end), count))
+// A line of words: what the list is, the level, and the words of the engine.
+fn read_words(alloc: Global, line: &str) -> Option<(Kind, OptimizationLevel, Engine)> {
+    let (first, words) = line.split_once(' ')?;
+    let (second, words) = words.split_once(' ')?;
+    Some((kind(first)?, level(second)?, read_engine(alloc, words)?))
 }
 
-// How many tokens were taken of a stream, which had so many.
-fn tokens_taken(input: &mut TokenStream, count: usize) -> usize {
-    let mut left = 0usize;
-    for _ in 0..count {
-        left = left.saturating_add(usize::from(input.peek().0 != Token::EOF));
-        input.skip();
+// Reads an input: a line of words, and a list.
+fn read_given(alloc: Global, text: &str) -> Result<Option<Given>, ListError> {
+    let Some((line, list)) = text.split_once('\n') else {
+        return Ok(None);
+    };
+    let TokenList { entries, end } = read_list(alloc, list.as_bytes())?;
+    let Some((kind, level, engine)) = read_words(alloc, line) else {
+        return Ok(None);
+    };
+    if !entries.iter().all(|entry| entry.is_deliverable()) {
+        return Ok(None);
     }
-    count.saturating_sub(left)
+    let count = entries.len();
+    let input = TokenStream::new(entries, end);
+    Ok(Some(Given {
+        kind,
+        level,
+        engine,
+        input,
+        count,
+    }))
+}
+
+// What standard input says; nothing if it is empty.
+fn given(rt: &HostRuntime) -> Result<Option<Given>, Fail> {
+    let bytes = read_lines(rt.alloc(), &mut rt.reader())?;
+    if bytes.is_empty() {
+        return Ok(None);
+    }
+    let given = read_given(rt.alloc(), str::from_utf8(&bytes)?)?;
+    Ok(Some(given.ok_or("not a line of words and a list")?))
+}
+
+// How many tokens were taken of the stream.
+fn tokens_taken(given: &mut Given) -> usize {
+    let mut left = 0usize;
+    for _ in 0..given.count {
+        left = left.saturating_add(usize::from(given.input.peek().0 != Token::EOF));
+        given.input.skip();
+    }
+    given.count.saturating_sub(left)
 }
 
 // Prints the functions, each with its type, its name, and the number of its parameters.
@@ -77,110 +145,70 @@ fn print_library(rt: &HostRuntime, lib: &FnLib) -> io::Result<()> {
     Ok(())
 }
 
-// Prints the first line of an answer, which is the number of functions if there is one, how many tokens were taken, and
-// the library. Where the answer is no refusal, it has as many functions as the library.
+// Prints the first line of an answer, how many tokens were taken, and the library, which has all functions of a script.
 fn print_state(
     rt: &HostRuntime,
-    answer: &ParseResult<usize>,
-    taken: usize,
+    answer: &ParseResult<AST>,
+    given: &mut Given,
     lib: &FnLib,
 ) -> Result<(), Fail> {
     match answer {
-        Ok(functions) if *functions != lib.len() => Err("the answer lacks functions")?,
+        Ok(script) if script.functions.len() != lib.len() => Err("the answer lacks functions")?,
         Ok(_) => println!(rt; "accepted")?,
         Err(error) => println!(rt; "refused {}", Refused(error))?,
     }
-    println!(rt; "taken {taken}")?;
+    println!(rt; "taken {}", tokens_taken(given))?;
     print_library(rt, lib)?;
     Ok(())
 }
 
-// How many functions a script has.
-fn parse_script(
-    alloc: Global,
-    engine: &Engine,
-    input: &mut TokenStream,
-    lib: &mut FnLib,
-) -> ParseResult<usize> {
-    let mut state = ParseState::new(alloc, None, input, TokenizerControl, lib);
-    let (_, functions) = engine.parse_global_level(&mut state, |_settings| {})?;
-    Ok(functions.len())
+// The tree of a script.
+fn read_script(alloc: Global, given: &mut Given, lib: &mut FnLib) -> ParseResult<AST> {
+    let mut state = ParseState::new(alloc, None, &mut given.input, TokenizerControl, lib);
+    let read = given.engine.parse_global_level(&mut state, |_settings| {});
+    read.map(|(statements, functions)| AST {
+        statements,
+        functions,
+    })
 }
 
-// How many functions an expression has.
-fn parse_expr(
-    alloc: Global,
-    engine: &Engine,
-    input: &mut TokenStream,
-    lib: &mut FnLib,
-) -> ParseResult<usize> {
-    let state = ParseState::new(alloc, None, input, TokenizerControl, lib);
-    let level = OptimizationLevel::None;
-    let script = engine.parse_global_expr(state, |_settings| {}, level)?;
-    Ok(script.functions.len())
-}
-
-// Splits the input into the engine of its first line and the list.
-fn read_input(alloc: Global, input: &[u8]) -> Result<(Engine, TokenList), Fail> {
-    let (line, list) = str::from_utf8(input)?.split_once('\n').ok_or("one line")?;
-    let engine = engine_with(alloc, line).ok_or("not the line of limits and options")?;
-    Ok((engine, read_list(alloc, list.as_bytes())?))
+// The tree of a script or an expression.
+fn read(alloc: Global, given: &mut Given, lib: &mut FnLib) -> ParseResult<AST> {
+    match given.kind {
+        Kind::Script => read_script(alloc, given, lib),
+        Kind::Expression => {
+            let state = ParseState::new(alloc, None, &mut given.input, TokenizerControl, lib);
+            given
+                .engine
+                .parse_global_expr(state, |_settings| {}, given.level)
+        }
+    }
 }
 
 #[test]
-fn the_library_after_a_script(rt: HostRuntime) -> Result<(), Fail> {
-    let lines = read_lines(rt.alloc(), &mut rt.reader())?;
-    if lines.is_empty() {
+fn the_library_after_a_list(rt: HostRuntime) -> Result<(), Fail> {
+    let Some(mut given) = given(&rt)? else {
         return Ok(());
-    }
-    let (engine, list) = read_input(rt.alloc(), &lines)?;
-    let (mut input, count) = stream_of(list).ok_or("not to be delivered")?;
+    };
     let mut lib = FnLib::new(rt.alloc());
-    let answer = parse_script(rt.alloc(), &engine, &mut input, &mut lib);
-    print_state(&rt, &answer, tokens_taken(&mut input, count), &lib)
+    let answer = read(rt.alloc(), &mut given, &mut lib);
+    print_state(&rt, &answer, &mut given, &lib)
 }
 
-#[test]
-fn the_library_after_an_expression(rt: HostRuntime) -> Result<(), Fail> {
-    let lines = read_lines(rt.alloc(), &mut rt.reader())?;
-    if lines.is_empty() {
-        return Ok(());
-    }
-    let (engine, list) = read_input(rt.alloc(), &lines)?;
-    let (mut input, count) = stream_of(list).ok_or("not to be delivered")?;
-    let mut lib = FnLib::new(rt.alloc());
-    let answer = parse_expr(rt.alloc(), &engine, &mut input, &mut lib);
-    print_state(&rt, &answer, tokens_taken(&mut input, count), &lib)
-}
-
-// What `parse` answers to a script at a level.
-fn parse_at(
-    alloc: Global,
-    engine: &Engine,
-    mut input: TokenStream,
-    level: OptimizationLevel,
-) -> ParseResult<AST> {
+// What `parse` answers.
+fn parse(alloc: Global, given: &mut Given) -> ParseResult<AST> {
     let mut lib = FnLib::new(alloc);
-    let state = ParseState::new(alloc, None, &mut input, TokenizerControl, &mut lib);
-    engine.parse(state, level)
+    let state = ParseState::new(alloc, None, &mut given.input, TokenizerControl, &mut lib);
+    given.engine.parse(state, given.level)
 }
 
 #[test]
-fn a_script_at_each_level(rt: HostRuntime) -> Result<(), Fail> {
-    let lines = read_lines(rt.alloc(), &mut rt.reader())?;
-    if lines.is_empty() {
+fn a_script_at_a_level(rt: HostRuntime) -> Result<(), Fail> {
+    let Some(mut given) = given(&rt)? else {
         return Ok(());
-    }
-    for level in [
-        OptimizationLevel::None,
-        OptimizationLevel::Simple,
-        OptimizationLevel::Full,
-    ] {
-        let (engine, list) = read_input(rt.alloc(), &lines)?;
-        let (input, _) = stream_of(list).ok_or("not to be delivered")?;
-        let answer = parse_at(rt.alloc(), &engine, input, level);
-        println!(rt; "{}", printed(rt.alloc(), answer)?)?;
-    }
+    };
+    let answer = parse(rt.alloc(), &mut given);
+    println!(rt; "{}", printed(rt.alloc(), answer)?)?;
     Ok(())
 }
 
@@ -200,19 +228,60 @@ fn print_names(rt: &HostRuntime, names: &FnNames) -> io::Result<()> {
     Ok(())
 }
 
+// What `names_of_script` answers.
+fn names(alloc: Global, given: &mut Given) -> ParseResult<Vec<FnNames>> {
+    let mut lib = FnLib::new(alloc);
+    let mut state = ParseState::new(alloc, None, &mut given.input, TokenizerControl, &mut lib);
+    names_of_script(alloc, &given.engine, &mut state)
+}
+
 #[test]
 fn the_names_of_a_script(rt: HostRuntime) -> Result<(), Fail> {
-    let alloc = rt.alloc();
-    let lines = read_lines(alloc, &mut rt.reader())?;
-    if lines.is_empty() {
+    let Some(mut given) = given(&rt)? else {
         return Ok(());
+    };
+    for one in &names(rt.alloc(), &mut given)? {
+        print_names(&rt, one)?;
     }
-    let (engine, list) = read_input(alloc, &lines)?;
-    let (mut input, _) = stream_of(list).ok_or("not to be delivered")?;
+    Ok(())
+}
+
+// Compares what the program prints of an answer. A lack of memory is the tokenizer's.
+fn check_printed(
+    rt: &impl Abort,
+    alloc: Global,
+    answer: ParseResult<AST>,
+    wanted: &str,
+) -> Result<(), AllocError> {
+    let text = match printed(alloc, answer) {
+        Ok(text) => text,
+        Err(AllocError) => String::from_str(alloc, "refused E36 none OutOfMemory")?,
+    };
+    assert!(rt; text.as_str() == wanted, "{text} in place of {wanted}");
+    Ok(())
+}
+
+// Wants the answer of a record to its input.
+fn check_record(rt: &impl Abort, alloc: Global, record: &str) -> Result<(), Fail> {
+    let (input, wanted) = record.split_once("\n###\n").ok_or("no answer")?;
+    let mut given = read_given(alloc, input)?.ok_or("not a line of words and a list")?;
     let mut lib = FnLib::new(alloc);
-    let mut state = ParseState::new(alloc, None, &mut input, TokenizerControl, &mut lib);
-    for names in &names_of_script(alloc, &engine, &mut state)? {
-        print_names(&rt, names)?;
+    let answer = read(alloc, &mut given, &mut lib);
+    check_printed(rt, alloc, answer, wanted)?;
+    Ok(())
+}
+
+// The file `runs` has records, each an input with its answer.
+#[test]
+fn the_runs_of_a_file(rt: HostRuntime) -> Result<(), Fail> {
+    let Ok(text) = fs::read_to_string(&rt, "runs") else {
+        return Ok(());
+    };
+    let mut count = 0usize;
+    for record in text.split("\n===\n") {
+        check_record(&rt, rt.alloc(), record)?;
+        count = count.saturating_add(1);
     }
+    println!(rt; "{count} runs")?;
     Ok(())
 }
