@@ -7,8 +7,8 @@ usage: tests/hostile.py [--jobs N] [--wrong] [PROGRAM [TESTS]]
 
 PROGRAM is rhai-parse, and TESTS has the tests of the crate rhai_tests. Without PROGRAM both are those that `rt ci` at
 the top of the repository built last, and the program of crates/rhai_names_cli is run too. It keeps N processors busy,
-or all. With --wrong it tests the tests instead, in seconds: over some of
-the lists, wrong programs have to fail (hostile/wrong.py).
+or all. With --wrong it tests the tests instead, in seconds: over some lists, wrong programs have to fail
+(hostile/wrong.py).
 """
 
 import argparse
