@@ -57,9 +57,9 @@ def tests_alone(crate):
 
 
 def record(run):
-    """A run as the test of the file has it: what it reads, and what it has to print."""
+    """A run as the test of the file has it: what it reads, and what it has to print, without a refusal's line feed."""
     wanted = run.answer if run.status == 0 else run.answer.removesuffix(b"\n")
-    return entries.given(run, run.list) + b"\n###\n" + wanted
+    return entries.given(run, run.list.removesuffix(b"\n")) + b"\n###\n" + wanted
 
 
 def tests_with_runs(crate, runs):
