@@ -1,6 +1,6 @@
 -- What small functions of the code find.
-use Rattle.std.proofs.Common.{◌≡◌, ℕ, zero, suc, ◌+◌, ◌-◌, ◌<◌, ◌≤◌, Bool, true, false, not, cond, ◌&&◌, ◌||◌, ◌==◌, nat_le, nat_lt, min, List, [], ◌∷◌, ◌++◌, length, take, drop, get_or, refl, sym, ap, ◌∙◌, subst, arith, true≢false}
-use Rattle.std.proofs.lemmas.Bool.{and_parts, not-true, ltb-true, ltb-false, lt-ltb, le-ltb}
+use Rattle.std.proofs.Common.{◌≡◌, ℕ, zero, suc, ◌+◌, ◌-◌, ◌<◌, ◌≤◌, Bool, true, false, cond, ◌==◌, nat_lt, min, [], ◌∷◌, length, take, drop, get_or, refl, sym, ap, ◌∙◌, subst, arith, true≢false}
+use Rattle.std.proofs.lemmas.Bool.{and_parts, ltb-true, ltb-false, lt-ltb, le-ltb}
 use Rattle.std.proofs.lemmas.Bool.Decides.{nat_tests}
 use Rattle.std.proofs.lemmas.List.{take_at}
 use Rattle.std.specs.Char.{is_ascii_hexdigit}
@@ -15,7 +15,7 @@ use Rattle.rhai_tokenizer.specs.Bytes.{begins, begins_with, is_continuation, is_
 use Rattle.rhai_tokenizer.specs.CuttingMeanings.{is_plain}
 use Rattle.rhai_tokenizer.specs.CuttingStrings.{hex_run}
 use Rattle.rhai_tokenizer.specs.Meanings.{without_return}
-use Rattle.rhai_tokenizer.specs.Places.{at_line, past, past_byte}
+use Rattle.rhai_tokenizer.specs.Places.{at_line, past}
 use Rattle.rhai_tokenizer.specs.Runs.{first_of, run}
 use Rattle.rhai_tokenizer.specs.Strings.{character, continued}
 use Rattle.rhai_tokenizer.proofs.StringLemmas.{hex_split}

@@ -1,10 +1,10 @@
 -- Raw strings: what is read fits, and what fits is read.
 use Rattle.std.proofs.Common.{◌≡◌, ℕ, zero, suc, ◌+◌, ◌<◌, ◌≤◌, take, get_or, Bool, true, false, not, cond, ◌&&◌, ◌||◌, ◌==◌, [], ◌∷◌, ◌++◌, length, drop, refl, sym, ap, ◌∙◌, subst, arith, true≢false, append_assoc}
-use Rattle.std.proofs.lemmas.Bool.{and_parts, and_from, or_cases, eqb-true, not-true, not_from_false}
+use Rattle.std.proofs.lemmas.Bool.{and_parts, and_from, eqb-true, not-true, not_from_false}
 use Rattle.std.proofs.lemmas.List.{drop_at, drop-drop, drop_more, append-nil, length-append, length-drop}
 use Rattle.std.specs.List.{prefix_len}
 use Rattle.rhai_lower.specs.Texts.{Text}
-use Rattle.rhai_tokenizer.specs.Bytes.{begins_raw, begins_with, is_empty}
+use Rattle.rhai_tokenizer.specs.Bytes.{begins_raw, begins_with}
 use Rattle.rhai_tokenizer.specs.Pieces.{Piece, Raw, hashes, raw_letters, raw_fits, letters}
 use Rattle.rhai_tokenizer.specs.Cutting.{raw_text, raw_closed, raw_of, raw_from}
 use Rattle.rhai_tokenizer.proofs.ByteLemmas.{begins_itself, begins_split}

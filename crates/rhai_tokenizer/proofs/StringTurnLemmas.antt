@@ -1,10 +1,9 @@
 -- One turn through a string.
-use Rattle.std.proofs.Common.{◌≡◌, ℕ, zero, suc, ◌+◌, ◌<◌, ◌≤◌, Bool, true, false, not, cond, ◌&&◌, ◌||◌, ◌==◌, nat_lt, List, [], ◌∷◌, ◌++◌, length, take, drop, Option, Some, None, IsUtf8, lit<, lit≤, refl, sym, ap, ◌∙◌, subst, arith, true≢false, append_assoc, encode_utf8, inl, inr, ◌⊎◌}
-use Rattle.std.proofs.lemmas.Bool.{and_parts, and_from, and_left, or_parts, eqb-true, not-true, not-false, ltb-true, cond_both, cond-true, cond-false}
+use Rattle.std.proofs.Common.{◌≡◌, ℕ, zero, suc, ◌+◌, ◌<◌, ◌≤◌, Bool, true, false, not, cond, ◌&&◌, ◌||◌, ◌==◌, nat_lt, List, [], ◌∷◌, ◌++◌, length, take, drop, Option, Some, None, IsUtf8, lit<, refl, sym, ap, ◌∙◌, subst, arith, true≢false, append_assoc, encode_utf8, inl, inr, ◌⊎◌}
+use Rattle.std.proofs.lemmas.Bool.{and_parts, and_from, or_parts, eqb-true, not-true, not-false, ltb-true, cond-true}
 use Rattle.std.proofs.lemmas.Bool.Decides.{nat_tests}
 use Rattle.std.proofs.lemmas.List.{drop-drop, drop_at, take_at, length-append, length-drop, append-nil, length-take-le, take-append-drop, take-append-le}
 use Rattle.std.proofs.lemmas.Str.{encode_ascii, IsUtf8-append, IsUtf8-drop, IsUtf8-from_ascii, IsCharBoundary-from_rest}
-use Rattle.std.specs.Char.{is_ascii_hexdigit}
 use Rattle.std.specs.List.{concat, prefix_len, list_all}
 use Rattle.std.specs.Str.{IsCharBoundary}
 use lib.Utf8.{scalar}
@@ -14,10 +13,10 @@ use Rattle.rhai_tokenizer.specs.declared.place.Place.{Place}
 use Rattle.rhai_tokenizer.specs.declared.strings.Special.{Special}
 use Rattle.rhai_tokenizer.specs.declared.strings.Special.TheVariants.{Means, Spoils, Stops, Ends}
 use Rattle.rhai_tokenizer.specs.declared.strings.Special.TheVariants as special
-use Rattle.rhai_tokenizer.specs.Bytes.{begins, begins_with, in_line, is_continuation, is_empty, is_line_feed, is_run_of, spaces}
+use Rattle.rhai_tokenizer.specs.Bytes.{begins, in_line, is_continuation, is_empty, is_line_feed, spaces}
 use Rattle.rhai_tokenizer.specs.Places.{past}
 use Rattle.rhai_tokenizer.specs.Runs.{run, run_from}
-use Rattle.rhai_tokenizer.specs.Strings.{Part, Plain, LineEnd, Escaped, Coded, Doubled, Continues, Wrong, Cut, Ending, Closed, Unended, Interpolates, Style, Quote, Tick, Apostrophe, Fault, mark_of, escapes, line_end, part_letters, ending_letters, string_letters, string_fits, is_escape, digits_after, hex_value, escape_value, part_value, string_value, part_fits, spoiled, fault_at, or_fault, first_fault, past_column, continued, character}
+use Rattle.rhai_tokenizer.specs.Strings.{Part, Plain, LineEnd, Escaped, Coded, Doubled, Continues, Wrong, Cut, Ending, Closed, Unended, Interpolates, Style, Quote, Tick, Apostrophe, Fault, mark_of, escapes, line_end, part_letters, ending_letters, string_letters, string_fits, is_escape, digits_after, hex_value, escape_value, part_value, string_value, spoiled, fault_at, or_fault, first_fault, past_column, continued, character}
 use Rattle.rhai_tokenizer.specs.CuttingStrings.{hex_run, coded_at, wrong_at, line_at, escape_at, doubled_at, quoted_at, part_at, ending_at, parts_from, parts_length, ending_after, is_sure, coded_special, cut_special, number_special, wrong_special, line_special, escape_special, doubled_special, tick_special, quoted_special, special_at}
 use Rattle.std.specs.Prelude.{nat_le, is_some}
 use Rattle.std.proofs.lemmas.Bool.{eq-eqb, true_from_ne_false}
@@ -32,7 +31,7 @@ use Rattle.rhai_tokenizer.proofs.BoundaryLemmas.{before, small, small_bytes, is_
 use Rattle.rhai_tokenizer.proofs.ByteLemmas.{begins_split, first_of-member, run_is}
 use Rattle.rhai_tokenizer.proofs.RunLemmas.{run_stands}
 use Rattle.rhai_tokenizer.proofs.TableLemmas.{spaces_some}
-use Rattle.rhai_tokenizer.proofs.StringLemmas.{PartStands, Stand, StringStands, part_stands, string_stands, no_part, one_part, hex_few, hex_split, hex_all, end_stands}
+use Rattle.rhai_tokenizer.proofs.StringLemmas.{PartStands, Stand, part_stands, string_stands, no_part, one_part, hex_split, hex_all, end_stands}
 
 past-append : (s : Text) (p : Place) (t : Text) → past p (s ++ t) ≡ past (past p s) t
 past-append [] p t = refl

@@ -1,14 +1,14 @@
 -- What the tables say of symbols and words is what they mean.
-use Rattle.std.proofs.Common.{◌≡◌, Bool, true, false, cond, List, [], ◌∷◌, map, Option, Some, None, refl, sym, ap, ◌∙◌, true≢false, codes, All}
-use Rattle.std.proofs.lemmas.Bool.{or_cases, or_parts, false_from_ne_true}
+use Rattle.std.proofs.Common.{◌≡◌, Bool, true, false, cond, List, [], ◌∷◌, map, Some, None, refl, sym, ap, ◌∙◌, true≢false, codes}
+use Rattle.std.proofs.lemmas.Bool.{or_parts, false_from_ne_true}
 use Rattle.std.specs.List.{list_all}
 use Rattle.rhai_lower.specs.Texts.{Text, same_text}
 use Rattle.rhai_lower.specs.Names.{is_one_of, is_identifier}
-use Rattle.rhai_lower.specs.Lexemes.{Lexeme, Name, Reserved}
+use Rattle.rhai_lower.specs.Lexemes.{Lexeme, Name}
 use Rattle.rhai_lower.specs.Tokens.{literal_of}
 use Rattle.rhai_lower.specs.declared.token.Token.{Token}
 use Rattle.rhai_tokenizer.specs.declared.table.Meaning.{Meaning}
-use Rattle.rhai_tokenizer.specs.Cutting.{Table, lookup, symbol_table, word_table, table_texts}
+use Rattle.rhai_tokenizer.specs.Cutting.{Table, lookup, symbol_table, word_table}
 use Rattle.rhai_tokenizer.specs.CuttingMeanings.{meaning_of}
 use Rattle.rhai_tokenizer.specs.Symbols.{keywords, reserved_words, signs, reserved_symbols, refused_symbols, improper, or_token, symbol_lexeme, word_lexeme}
 use Rattle.rhai_tokenizer.proofs.ByteLemmas.{same_is, same_refl, at_member}

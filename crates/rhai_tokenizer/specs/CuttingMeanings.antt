@@ -1,5 +1,5 @@
 -- The token of a piece by its kind and its bytes. No definition: it stands between the code and the forms.
-use Rattle.std.specs.Prelude.{ℕ, Bool, true, false, not, ◌&&◌, ◌||◌, ◌==◌, nat_le, nat_lt, [], ◌∷◌, Option, Some, None, codes, drop, length, slice_index, if◌then◌else◌}
+use Rattle.std.specs.Prelude.{ℕ, Bool, true, false, not, ◌&&◌, ◌||◌, ◌==◌, nat_le, nat_lt, ◌∷◌, Option, Some, None, codes, drop, length, slice_index, if◌then◌else◌}
 use Rattle.std.specs.List.{list_all}
 use Rattle.rhai_lower.specs.Texts.{Text, same_text}
 use Rattle.rhai_lower.specs.Names.{is_word}
@@ -17,7 +17,7 @@ use Rattle.rhai_tokenizer.specs.declared.table.Meaning.{Meaning}
 use Rattle.rhai_tokenizer.specs.declared.table.Meaning.TheVariants.{Plain, Held, Refused}
 use Rattle.rhai_tokenizer.specs.Bytes.{base_of, begins_with}
 use Rattle.rhai_tokenizer.specs.Fixed.{token_of}
-use Rattle.rhai_tokenizer.specs.Meanings.{brace_of_symbol, integer_or, operand_after, without_return}
+use Rattle.rhai_tokenizer.specs.Meanings.{brace_of_symbol, integer_or, without_return}
 use Rattle.rhai_tokenizer.specs.Numbers.{digits_of, integer_value, radix_value}
 use Rattle.rhai_tokenizer.specs.Symbols.{improper, word_lexeme}
 

@@ -3,7 +3,7 @@ use Rattle.std.specs.Prelude.{◌≡◌, ◌+◌, ◌≤◌, take, drop, length}
 use Rattle.rhai_lower.specs.Texts.{Text}
 use Rattle.rhai_tokenizer.specs.declared.raw.RawString.{RawString}
 use Rattle.rhai_tokenizer.specs.Cutting.{raw_from}
-use Rattle.rhai_tokenizer.specs.Pieces.{Raw, hashes}
+use Rattle.rhai_tokenizer.specs.Pieces.{Raw}
 
 -- at the first `#`
 pub record IsRaw (t : Text) (r : RawString) : Type 0 where

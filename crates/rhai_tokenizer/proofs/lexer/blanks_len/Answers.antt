@@ -1,5 +1,3 @@
-use Rattle.std.proofs.Common.{◌∙◌, arith}
-use Rattle.std.proofs.lemmas.List.{take_rest, length-drop}
 use Rattle.rhai_tokenizer.proofs.BlankLemmas.{blanks_end, blanks_step}
 use Rattle.rhai_tokenizer.proofs.CommentLemmas.{room}
 use Rattle.rhai_tokenizer.proofs.lexer.blanks_len.Goals as goal

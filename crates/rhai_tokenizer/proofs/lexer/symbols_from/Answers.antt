@@ -1,4 +1,4 @@
-use Rattle.std.proofs.Common.{◌<◌, ◌≤◌, arith}
+use Rattle.std.proofs.Common.{◌<◌, arith}
 use Rattle.rhai_tokenizer.proofs.SegmentLemmas.{symbol_segment, entry_part}
 use Rattle.rhai_tokenizer.proofs.lexer.symbols_from.Goals as goal
 

@@ -1,4 +1,4 @@
-use Rattle.std.proofs.Common.{◌<◌, ◌≤◌, arith}
+use Rattle.std.proofs.Common.{◌<◌, arith}
 use Rattle.rhai_tokenizer.proofs.SegmentLemmas.{word_segment, lookup_part}
 use Rattle.rhai_tokenizer.proofs.meaning.words_from.Goals as goal
 

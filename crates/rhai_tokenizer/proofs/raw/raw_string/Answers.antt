@@ -1,8 +1,8 @@
-use Rattle.std.proofs.Common.{◌≡◌, ◌+◌, ◌-◌, ◌≤◌, ◌∙◌, ap, sym, arith, length, take, drop, [], ◌∷◌, ◌++◌, true, false}
+use Rattle.std.proofs.Common.{◌≡◌, ◌-◌, ◌∙◌, ap, sym, arith, length, take, drop, ◌∷◌, true, false}
 use Rattle.std.proofs.lemmas.List.{take_rest}
 use Rattle.rhai_lower.specs.Texts.{Text}
 use Rattle.rhai_tokenizer.specs.Bytes.{begins_with}
-use Rattle.rhai_tokenizer.proofs.RawLemmas.{RawKnown, raw_ends, raw_found, raw_goes, raw_known, raw_stops}
+use Rattle.rhai_tokenizer.proofs.RawLemmas.{raw_ends, raw_found, raw_goes, raw_known, raw_stops}
 use Rattle.rhai_tokenizer.proofs.raw.raw_string.Goals as goal
 
 pub slice_bounds-body-count : goal.slice_bounds-body-count

@@ -1,4 +1,3 @@
-use Rattle.std.proofs.Common.{◌∙◌, sym}
 use Rattle.rhai_tokenizer.proofs.StringTurnLemmas.{number_coded}
 use Rattle.rhai_tokenizer.proofs.strings.number_special.Goals as goal
 

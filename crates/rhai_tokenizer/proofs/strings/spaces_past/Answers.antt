@@ -1,4 +1,4 @@
-use Rattle.std.proofs.Common.{◌∙◌, ap, subst, arith, IsUtf8, length}
+use Rattle.std.proofs.Common.{◌∙◌, arith}
 use Rattle.rhai_tokenizer.proofs.StringTurnLemmas.{rest_utf8, spaces_end, spaces_turn, space_boundary}
 use Rattle.rhai_tokenizer.proofs.strings.spaces_past.Goals as goal
 

@@ -1,4 +1,4 @@
-use Rattle.std.proofs.Common.{◌∙◌, sym, ap, subst, arith, length, IsUtf8, ◌≡◌, refl}
+use Rattle.std.proofs.Common.{refl}
 use Rattle.rhai_tokenizer.proofs.StringTurnLemmas.{special_case, took_plain, took_nothing, took_first, took_later, none_from, same_goes}
 use Rattle.rhai_tokenizer.proofs.strings.take_special.Goals as goal
 
