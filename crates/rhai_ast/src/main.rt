@@ -7,7 +7,7 @@ mod source;
 
 use crate::list::print_list;
 use crate::options::{Options, command, options_of};
-use crate::source::{read_source, text_from};
+use crate::source::{read_source, script_of};
 use clap::Error;
 use rhai_tokenizer::{Limits, tokenize};
 use std::alloc::{AllocError, Global};
@@ -26,8 +26,7 @@ fn failed(rt: &HostRuntime, message: &str) -> u8 {
 
 // The list of the tokens of a text, after its first line if that is meant for the system.
 fn list_of(alloc: Global, text: &str, options: Options<'_>) -> Result<String, AllocError> {
-    let from = text_from(text);
-    let (_, script) = text.split_at(from);
+    let (from, script) = script_of(text);
     let limits = Limits {
         doc_comments: options.doc_comments,
         max_string_size: options.max_string_size,

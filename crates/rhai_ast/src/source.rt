@@ -12,11 +12,13 @@ pub fn read_source(rt: &HostRuntime, file: &str) -> io::Result<String> {
     }
 }
 
-/// Where the script begins in the text of a file: a first line that begins with `#!` is meant for the system, and is
-/// passed over but for its line feed.
-pub fn text_from(text: &str) -> usize {
+/// The script in the text of a file, and the byte at which it begins: a first line that begins with `#!` is meant for
+/// the system, and is passed over but for its line feed.
+pub fn script_of(text: &str) -> (usize, &str) {
     if !text.starts_with("#!") {
-        return 0;
+        return (0, text);
     }
-    text.find('\n').unwrap_or(text.len())
+    let at = text.find('\n').unwrap_or(text.len());
+    let (_, script) = text.split_at(at);
+    (at, script)
 }
