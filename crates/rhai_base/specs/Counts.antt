@@ -34,6 +34,10 @@ with_entered c = record c { active = one_more c.active; peak = max c.peak (one_m
 abbrev pub with_left : Counts → Counts
 with_left c = record c { active = c.active - 1 }
 
+-- so many grammar functions were active at once elsewhere: the peak is no lower
+abbrev pub with_peak : Counts → ℕ → Counts
+with_peak c n = record c { peak = max c.peak n }
+
 abbrev counted : ℕ → ℕ → ℕ → Counts
 counted begun active peak = record { begun = begun; active = active; peak = peak }
 
@@ -44,6 +48,8 @@ example :
     × (with_left (with_entered (with_entered none_yet)) ≡ counted 0 1 2)
     × (with_begun (with_ended none_yet) ≡ counted 1 0 0)
     × (with_left none_yet ≡ none_yet)
+    × (with_peak (counted 0 1 2) 5 ≡ counted 0 1 5)
+    × (with_peak (counted 0 1 2) 1 ≡ counted 0 1 2)
     × (with_begun (counted (2 ^ 64 - 1) 0 0) ≡ counted (2 ^ 64 - 1) 0 0)
 unfolding one_more
-example = (refl, refl, refl, refl, refl)
+example = (refl, refl, refl, refl, refl, refl, refl)

@@ -2,6 +2,7 @@
 
 ghost use Rattle.std.specs.Prelude.{◌≡◌};
 ghost use Rattle.rhai_base.specs.Counts.{counts_of, none_yet, with_begun, with_ended, with_entered, with_left};
+ghost use Rattle.rhai_base.specs.Counts.{with_peak};
 
 /// How many functions and closures have begun, and how many grammar functions are active.
 #[derive(Clone, Copy, PartialEq, Eq, Hash, Debug)]
@@ -69,5 +70,12 @@ impl ParseCounts {
         ensures { result ≡ (counts_of self.now).peak }
     {
         self.peak
+    }
+
+    /// Raises the peak to the one that other counts, which began as these, have reached. Does not allocate.
+    pub fn raise_peak(&mut self, reached: &ParseCounts)
+        ensures { counts_of self.new ≡ with_peak (counts_of self.old) (counts_of reached.now).peak }
+    {
+        self.peak = self.peak.max(reached.peak);
     }
 }

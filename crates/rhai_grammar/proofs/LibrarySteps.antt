@@ -1,5 +1,5 @@
 -- What is kept of an orderly library as functions begin and end.
-use Rattle.std.proofs.Common.{◌≡◌, ℕ, ◌+◌, ◌<◌, ◌^◌, true, ◌++◌, [], ◌∷◌, length, sym, ap, ◌∙◌, append_assoc}
+use Rattle.std.proofs.Common.{◌≡◌, ℕ, ◌+◌, ◌<◌, ◌≤◌, ◌^◌, true, ◌++◌, [], ◌∷◌, length, sym, ap, ◌∙◌, append_assoc}
 use Rattle.std.proofs.Common.{length-append, append-nil, arith, nat_lt}
 use Rattle.std.proofs.lemmas.Bool.{ltb-true}
 use Rattle.std.proofs.lemmas.List.{length-map}
@@ -13,32 +13,40 @@ new_last before [] x h e = (ap (is_new x.key) (sym (append-nil before)) ∙ e, t
 new_last before (y ∷ library) x h e =
     (h.0, new_last (before ++ y ∷ []) library x h.1 (ap (is_new x.key) (append_assoc before (y ∷ []) library) ∙ e))
 
+-- a library is orderly, and its limit is a number of at most 64 bits
+abbrev pub Kept : (limit begun : ℕ) → Library → Type 0
+Kept limit begun l = IsOrderly limit begun l × (limit ≤ 2 ^ 64)
+
 -- While one more has begun, the closures can be numbered.
-pub few_closures : (limit begun : ℕ) (l : Library) → IsOrderly limit (begun + 1) l → closure_count l < 2 ^ 64
-few_closures limit begun l h =
-    omega (arith, h.within, h.bound, count_by-le-length is_closure (keys_in l), length-map l (λ (x : Ended). x.key))
+pub few_closures : (limit begun : ℕ) (l : Library) → Kept limit (begun + 1) l → closure_count l < 2 ^ 64
+few_closures limit begun l (h, bound) =
+    omega (arith, h.within, bound, count_by-le-length is_closure (keys_in l), length-map l (λ (x : Ended). x.key))
 
 -- one begins where there is room for it
-pub one_begins : (limit begun : ℕ) (l : Library) → nat_lt (length l + begun) limit ≡ true → IsOrderly limit begun l
-    → IsOrderly limit (begun + 1) l
-one_begins limit begun l e h = record {
-  numbered = h.numbered;
-  keys = h.keys;
-  within = let less = ltb-true (length l + begun) limit e in omega (arith, less);
-  bound = h.bound;
-}
+pub one_begins : (limit begun : ℕ) (l : Library) → nat_lt (length l + begun) limit ≡ true → Kept limit begun l
+    → Kept limit (begun + 1) l
+one_begins limit begun l e (h, bound) = (
+  record {
+    numbered = h.numbered;
+    keys = h.keys;
+    within = let less = ltb-true (length l + begun) limit e in omega (arith, less);
+  },
+  bound,
+)
 
 -- one that had begun is given up
-pub one_stops : (limit begun : ℕ) (l : Library) → IsOrderly limit (begun + 1) l → IsOrderly limit begun l
-one_stops limit begun l h =
-    record { numbered = h.numbered; keys = h.keys; within = omega (arith, h.within); bound = h.bound }
+pub one_stops : (limit begun : ℕ) (l : Library) → Kept limit (begun + 1) l → Kept limit begun l
+one_stops limit begun l (h, bound) =
+    (record { numbered = h.numbered; keys = h.keys; within = omega (arith, h.within) }, bound)
 
 -- one that had begun joins the library
-pub one_ends : (limit begun : ℕ) (l : Library) (x : Ended) → IsOrderly limit (begun + 1) l → is_new x.key l ≡ true
-    → IsNumbered (with_ended l x) → IsOrderly limit begun (with_ended l x)
-one_ends limit begun l x h new numbered = record {
-  numbered = numbered;
-  keys = new_last [] l x h.keys new;
-  within = omega (arith, h.within, length-append l (x ∷ []));
-  bound = h.bound;
-}
+pub one_ends : (limit begun : ℕ) (l : Library) (x : Ended) → Kept limit (begun + 1) l → is_new x.key l ≡ true
+    → IsNumbered (with_ended l x) → Kept limit begun (with_ended l x)
+one_ends limit begun l x (h, bound) new numbered = (
+  record {
+    numbered = numbered;
+    keys = new_last [] l x h.keys new;
+    within = omega (arith, h.within, length-append l (x ∷ []));
+  },
+  bound,
+)

@@ -52,12 +52,9 @@ Uncalled x w called k = called ≡ false → (s t : Point) → Met k s t
 
 function : (comments : List Comment) (is_private : Option Position) (owner : Owner) (name : Text) (list : ParameterList) (opening : Position) (f : Body)
     → WellNumberedBlock (names (parameters_live (parameter_names list))) (T.block_tree opening f (parameters_live (parameter_names list)))
-    → WellNumberedFunction (function_tree comments is_private owner name list opening f)
+    → WellNumberedFunction [] (parameter_names list) (function_tree comments is_private owner name list opening f)
 function comments is_private owner name list opening f h = record {
-  captured = [];
-  own = parameter_names list;
   parameters_are = refl;
-  none = λ e. refl;
   body =
       subst (λ ns. WellNumberedBlock ns (T.block_tree opening f (parameters_live (parameter_names list))))
       (N.own_names (parameter_names list)) h;
@@ -65,16 +62,48 @@ function comments is_private owner name list opening f h = record {
 
 closure : (head : ClosureHead) (f : ClosureBody) (number : ℕ) (us : List Use)
     → WellNumberedStatement (names (parameters_live (declared_names head))) (T.body_tree f (parameters_live (declared_names head)))
-    → WellNumberedFunction (closure_tree head f number us)
+    → WellNumberedFunction (names_of us) (declared_names head) (closure_tree head f number us)
 closure head f number us h =
     let body = T.body_tree f (parameters_live (declared_names head)) in
     record {
-      captured = names_of us;
-      own = declared_names head;
       parameters_are = refl;
-      none = λ e. absurd cc;
       body = subst (λ ns. WellNumberedBlock ns (made_block body)) (N.own_names (declared_names head)) (N.made _ body h);
     }
+
+-- a closure whose body is right
+a_closure : (head : ClosureHead) (f : ClosureBody) (number : ℕ) (us : List Use) (c : Context) (w : Live)
+    (p : OperandPlace) (k : Demands)
+    → Gives (WellNumberedStatement (names (parameters_live (declared_names head))) (T.body_tree f (parameters_live (declared_names head))))
+    (W.closure_body f (level_up (in_closure c w)) (parameters_live (declared_names head)) Nothing) Nothing
+    → Gives (WellNumberedFunction (names_of us) (declared_names head) (closure_tree head f number us))
+    (W.primary (form.Closure head f number us) c w p k) k
+a_closure head f number us c w p k body =
+    shape (λ e. tok (test_in (past_it (closure_parameters head _) (test (apart_from body
+    (λ h. let x = closure head f number us h in
+    gets (λ u. x) (past_it (captured_names us c w _) (test_in (adds (record {
+      captured = names_of us;
+      own = declared_names head;
+      is = x;
+      none = λ e. absurd cc;
+    }))))))))))
+
+-- a function whose body is right
+a_function : (comments : List Comment) (is_private : Option Position) (at : Position) (owner : Owner) (name : Text)
+    (name_at : Position) (list : ParameterList) (opening : Position) (f : Body) (c : Context) (w : Live) (k : Demands)
+    → ((j : Demands) → Gives (WellNumberedBlock (names (parameters_live (parameter_names list))) (T.block_tree opening f (parameters_live (parameter_names list))))
+    (W.block f (level_up (level_up (in_function c w))) (parameters_live (parameter_names list)) j) j)
+    → Gives (WellNumberedFunction [] (parameter_names list) (function_tree comments is_private owner name list opening f))
+    (W.statement (form.Function comments is_private at owner name name_at list opening f) c w k) k
+a_function comments is_private at owner name name_at list opening f c w k body =
+    past_it (comments_at comments c) (past_it (function_at _ is_private at) (test (test_in (test (past_it (function_name owner name name_at)
+    (past_it (parameter_list list name _) (tok (test
+    (gets (λ h. function comments is_private owner name list opening f h.0)
+    (then (body _) (λ h. test_in (adds (record {
+      captured = [];
+      own = parameter_names list;
+      is = function comments is_private owner name list opening f h;
+      none = λ e. refl;
+    })))))))))))))
 
 -- ---- forms
 
@@ -101,11 +130,8 @@ mutual
       shape (λ e. gets (λ h d. N.made (names w) (T.construct_tree x w at) h)
       (tok (test (test (construct x (level_up (level_up c)) w at k)))))
   primary (form.Closure head f number us) called c w p k u =
-      let inner = in_closure c w in
-      shape (λ e. gets (λ h d. N.closure (bars_at head) number us (declared_names head) w)
-      (tok (test_in (past_it (closure_parameters head _) (test (apart_from
-      (closure_body f (level_up inner) (parameters_live (declared_names head)) Nothing)
-      (λ h. past_it (captured_names us c w _) (test_in (adds (closure head f number us h))))))))))
+      gets (λ h d. N.closure (bars_at head) number us (declared_names head) w) (a_closure head f number us c w p k
+      (closure_body f (level_up (in_closure c w)) (parameters_live (declared_names head)) Nothing))
   primary (form.Zero range at) called c w p k u = shape (λ e. gets (λ h d. tt) (ahead here))
 
   pub closure_body : (x : ClosureBody) (c : Context) (w : Live) (k : Demands)
@@ -241,11 +267,8 @@ mutual
       gets (λ h. (h, N.again w.block name w.slots (reused w.block name w.slots) refl))
       (tok (test (test (next (test (tok (tok (test (initializer value (level_up (level_up c)) w keyword k)))))))))
   statement (form.Function comments is_private at owner name name_at list opening body) c w k =
-      let inner = level_up (level_up (in_function c w)) in
-      past_it (comments_at comments c) (past_it (function_at _ is_private at) (test (test_in (test (past_it (function_name owner name name_at)
-      (past_it (parameter_list list name _) (tok (test (gets (λ h. h.1)
-      (then (block body opening inner (parameters_live (parameter_names list)) _)
-      (λ h. test_in (adds (function comments is_private owner name list opening body h)))))))))))))
+      gets (λ h. tt) (a_function comments is_private at owner name name_at list opening body c w k
+      (block body opening (level_up (level_up (in_function c w))) (parameters_live (parameter_names list))))
 
   pub construct : (x : Construct) (c : Context) (w : Live) (at : Position) (k : Demands)
       → Gives (WellNumberedStatement (names w) (T.construct_tree x w at)) (W.construct x c w at k) k
@@ -345,6 +368,11 @@ pub trees_are_well_numbered : TreesAreWellNumbered
 trees_are_well_numbered = record {
   expression = λ c w f s t m. whole s t (up_to (expressed f c w (run f _ _)) (next here)) m;
   script = λ c w fs s t m. whole s t (statements fs EndMark c w Nothing) m;
+  closure = λ c w p head f n us s t m. ((a_closure head f n us c w p Nothing
+      (closure_body f (level_up (in_closure c w)) (parameters_live (declared_names head)) Nothing)).given s t m).0;
+  function = λ c w comments is_private at owner name name_at list opening f s t m.
+      ((a_function comments is_private at owner name name_at list opening f c w Nothing
+      (block f opening (level_up (level_up (in_function c w))) (parameters_live (parameter_names list)))).given s t m).0;
   after = λ fs w. N.all_after fs w;
   latest = λ name ns. latest_number name (slots_of ns);
 }

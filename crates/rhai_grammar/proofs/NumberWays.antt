@@ -7,7 +7,8 @@ use Rattle.rhai_grammar.specs.Prelude.{with_captured, Comment, Adds, Ahead, Apar
 use Rattle.rhai_grammar.specs.Prelude.{Next, Nothing, Shape, Test, TestIn, Tok, Uses, Verdict, ◌▸◌, Alias, CatchName}
 use Rattle.rhai_grammar.specs.Prelude.{ClosureHead, LoopNames, Owner, ParameterList, Parameters, Path, Run, Ended}
 use Rattle.rhai_grammar.specs.Prelude.{Library, with_ended, qualified, Outermost, RightOf, Side, outermost}
-use Rattle.rhai_grammar.specs.Prelude.{WellNumberedFunction, WellNumberedLibrary, tree, Use, Node}
+use Rattle.rhai_grammar.specs.Prelude.{WellNumberedLibrary, tree, Use, Node}
+use Rattle.rhai_grammar.specs.TreeNumbers.{IsWellNumberedFunction}
 use Rattle.rhai_grammar.specs.Forms as form
 use Rattle.rhai_grammar.specs.Written as W
 use Rattle.rhai_grammar.specs.declared.list.CommaList.{CommaList}
@@ -53,11 +54,11 @@ captures {b = b} {u = u} h = record { given = λ s t x. h.given (capturing (b s.
 pub shape : {b : Bool} {P : Type 0} {ds k : Demands} → (b ≡ true → Gives P ds k) → Gives P (Shape b ▸ ds) k
 shape h = record { given = λ s t x. (h x.0).given s t x.1 }
 
-one_more : (l : Library) (x : Ended) → WellNumberedFunction x → WellNumberedLibrary l → WellNumberedLibrary (with_ended l x)
+one_more : (l : Library) (x : Ended) → IsWellNumberedFunction x → WellNumberedLibrary l → WellNumberedLibrary (with_ended l x)
 one_more [] x h k = (h, tt)
 one_more (y ∷ l) x h k = (k.0, one_more l x h k.1)
 
-pub adds : {x : Ended} {k : Demands} → WellNumberedFunction x → Gives (Unit {0}) (Adds x ▸ k) k
+pub adds : {x : Ended} {k : Demands} → IsWellNumberedFunction x → Gives (Unit {0}) (Adds x ▸ k) k
 adds {x = x} h = record { given = λ s t m. (tt, record { end = adding x s; met = m.1; kept = one_more s.library x h }) }
 
 -- one after the other, where the second may rest on the first

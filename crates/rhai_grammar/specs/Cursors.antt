@@ -1,8 +1,9 @@
 -- The code's stream as a delivered stream.
-use Rattle.std.specs.Prelude.{◌≡◌, ℕ, ◌+◌, Bool, true, false, List, [], ◌∷◌, max, refl}
+use Rattle.std.specs.Prelude.{◌≡◌, ℕ, ◌+◌, Bool, true, false, [], ◌∷◌, max, refl}
 use Rattle.rhai_lower.specs.Positions.{place}
 use Rattle.rhai_lower.specs.Lexemes.{Sign, lexeme}
-use Rattle.rhai_lower.specs.Streams.{Ask, Stream, stream_of}
+use Rattle.rhai_lower.specs.Streams as stream
+use Rattle.rhai_lower.specs.Streams.{Ask, Requests, Stream, stream_of}
 use Rattle.rhai_lower.specs.declared.position.Position.{Position}
 use Rattle.rhai_lower.specs.declared.token.Token.{Token}
 use Rattle.rhai_lower.specs.declared.token.Token.TheVariants.{Plus}
@@ -12,14 +13,14 @@ use Rattle.rhai_grammar.specs.Delivered.{Mode, code, text, Item, item, Tokens, E
 abbrev pub item_of : Token × Position → Item
 item_of t = item (lexeme t.0) t.1
 
--- the tokens that these requests deliver, up to the end mark at this position
-abbrev pub delivered : List Ask → Position → Tokens
-delivered [] end = Ends end
-delivered (a ∷ more) end = let rest = delivered more end in Then (item_of a.code) (item_of a.text) rest rest
+-- the tokens that these requests deliver
+abbrev pub delivered : Requests → Tokens
+delivered (stream.Ends end) = Ends end
+delivered (stream.Then a b s t) = Then (item_of a) (item_of b) (delivered s) (delivered t)
 
 -- the tokens that a stream will still deliver
 abbrev pub tokens_of : Stream → Tokens
-tokens_of s = delivered s.asks s.end
+tokens_of s = delivered s.requests
 
 -- the mode of a request; the flag says whether it is text mode
 abbrev pub mode_by : Bool → Mode

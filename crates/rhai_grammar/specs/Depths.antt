@@ -1,6 +1,6 @@
 -- How deep a form is: how many of its parts lie one in another. These are its expressions, blocks, functions and
 -- closures, counted together, and the greatest number counts.
-use Rattle.std.specs.Prelude.{◌≡◌, ℕ, ◌+◌, None, [], codes, max, refl}
+use Rattle.std.specs.Prelude.{◌≡◌, ℕ, ◌+◌, None, [], codes, false, max, refl}
 use Rattle.rhai_lower.specs.Positions.{place}
 use Rattle.rhai_grammar.specs.Forms as form
 use Rattle.rhai_grammar.specs.Forms.{Action, Arguments, Arms, Base, Body, Branch, CaseGuard, Cases, ClosureBody}
@@ -14,7 +14,8 @@ use Rattle.rhai_grammar.specs.RowsOfStrings.{jump_form, string_form}
 -- An expression, a block, a function and a closure are one deeper than what is deepest in them; what is none of these
 -- is as deep as what is deepest in it. A `Run` is an expression where an expression is due, as a value, an item, an
 -- argument, an index, a case or a guard: `1 + run_depth` is the depth of that. A `Body` is a block: `1 + body_depth` is
--- its depth. The statement of an arm, of a jump after `??` and of a closure is in no block of its own.
+-- its depth. The statement of an arm, and a jump after `??`, is in a block of its own, whose slots end with it. That of
+-- a closure is in none.
 abbrev mutual
   pub primary_depth : Primary → ℕ
   primary_depth (form.Value token at) = 0
@@ -46,7 +47,7 @@ abbrev mutual
   operand_depth (form.Linked x list) = max (base_depth x) (links_depth list)
   operand_depth (form.Signed sign at x) = operand_depth x
   operand_depth (form.NoOperand token at) = 0
-  operand_depth (form.Jump x) = statement_depth x
+  operand_depth (form.Jump x) = 1 + statement_depth x
 
   pub arguments_depth : Arguments → ℕ
   arguments_depth (form.EmptyPair at) = 0
@@ -138,7 +139,7 @@ abbrev mutual
   case_guard_depth (form.Guard at f) = 1 + run_depth f
 
   pub action_depth : Action → ℕ
-  action_depth (form.Does f) = statement_depth f
+  action_depth (form.Does f) = 1 + statement_depth f
   action_depth (form.Gives f) = 1 + run_depth f
 
   -- of a script, and of what is in a block
@@ -163,7 +164,10 @@ array_in_function =
 
 -- `fn f() { [1] }` is 4 deep: the function, its block, the array and its item. The expression `|| || x` is 5 deep: the
 -- whole, its closure, the expression of that, the inner closure, and `x`. The string `a${b}c` is 3 deep: itself, the
--- block, and `b`. And `a ?? return 1` is 2 deep: itself, and the 1.
+-- block, and `b`. And `a ?? return 1` is 3 deep: itself, the block of the jump, and the 1. The arm that is `let x;` is a
+-- block, and an arm that is the expression 1 is that alone.
 example : (statements_depth array_in_function ≡ 4) × (1 + run_depth nested_form ≡ 5) × (1 + run_depth string_form ≡ 3)
-    × (1 + run_depth jump_form ≡ 2)
-example = (refl, refl, refl, refl)
+    × (1 + run_depth jump_form ≡ 3)
+    × (action_depth (form.Does (form.Define false (place 1 1) (codes "x") (place 1 5) form.NoValue)) ≡ 1)
+    × (action_depth (form.Gives (number 1 1)) ≡ 1)
+example = (refl, refl, refl, refl, refl, refl)

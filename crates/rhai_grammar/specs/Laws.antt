@@ -1,6 +1,7 @@
 -- Laws of the definitions that users rely on.
 use Rattle.std.specs.Prelude.{◌≡◌, Bool, true, false, List, map, All, IsTrue}
 use Rattle.rhai_lower.specs.Entries.{ask_of, may_be_delivered}
+use Rattle.rhai_lower.specs.Streams.{requests_of}
 use Rattle.rhai_lower.specs.declared.position.Position.{Position}
 use Rattle.rhai_lower.specs.declared.stream.Entry.{Entry}
 use Rattle.rhai_grammar.specs.Causes.{Refusal}
@@ -17,7 +18,7 @@ use Rattle.rhai_grammar.specs.Spelling.{script_spelling, spelling, IsDelivered}
 use Rattle.rhai_grammar.specs.Demands.{Verdict, Wrong, Blames, Demands, Nothing, Tok, Ahead, Next, Test, Shape}
 use Rattle.rhai_grammar.specs.Demands.{◌▸◌, Adds, Apart, Captures, Literally, TestIn, Uses}
 use Rattle.rhai_grammar.specs.Demands.{verdict, Met, Missed}
-use Rattle.rhai_grammar.specs.Promises.{IsWritten, IsWrittenTo, expressions, scripts}
+use Rattle.rhai_grammar.specs.Promises.{IsWrittenTo, expressions, scripts}
 use Rattle.rhai_grammar.specs.Libraries.{Library}
 
 -- A form whose demands are met is spelled by the tokens that were taken.
@@ -55,14 +56,14 @@ pub record StreamsAreWhole : Type 0 where
 abbrev pub EntriesAreDelivered : Type 0
 EntriesAreDelivered =
     (entries : List Entry) (end : Position) → All (λ e. IsTrue (may_be_delivered e)) entries
-    → IsDelivered (delivered (map ask_of entries) end)
+    → IsDelivered (delivered (requests_of (map ask_of entries) end))
 
--- Two forms that fit and spell the same stream have the same tree.
+-- Two expressions that fit after the same functions and spell the same stream have the same tree and functions.
 abbrev pub FormsHaveOneTree : Type 0
 FormsHaveOneTree =
-    (context : Context) (live : Live) (library : Library) (s : Cursor) (f g : Run)
-    → IsWritten (expressions context live) f library s → IsWritten (expressions context live) g library s
-    → tree f live ≡ tree g live
+    (context : Context) (live : Live) (before : Library) (s : Cursor) (f g : Run) (after other : Library)
+    → IsWrittenTo (expressions context live) f before after s → IsWrittenTo (expressions context live) g before other s
+    → (tree f live ≡ tree g live) × (after ≡ other)
 
 -- Two scripts that fit after the same functions and spell the same stream have the same statements and functions, and
 -- leave the same slots and imports.

@@ -1,5 +1,5 @@
 -- Libraries whose closures are numbered, so that the name of the next closure is new.
-use Rattle.std.specs.Prelude.{◌≡◌, ◌<◌, ◌≤◌, ◌+◌, ◌^◌, ℕ, true, false, None, [], ◌∷◌, count_by, length, refl}
+use Rattle.std.specs.Prelude.{◌≡◌, ◌<◌, ◌≤◌, ◌+◌, ℕ, true, false, None, [], ◌∷◌, count_by, length, refl}
 use Rattle.std.specs.List.{Contains}
 use Rattle.rhai_lower.specs.Nodes.{braces, no_statements}
 use Rattle.rhai_lower.specs.Positions.{nowhere}
@@ -25,12 +25,11 @@ AreNew before [] = Unit {0}
 AreNew before (x ∷ more) = (is_new x.key before ≡ true) × AreNew (with_ended before x) more
 
 -- A library that parsing may leave: its closures are numbered, no two functions have one key, and with those that have
--- begun and not ended they are within the limit, which is a number of at most 64 bits.
+-- begun and not ended they are within the limit.
 pub record IsOrderly (limit begun : ℕ) (library : Library) : Type 0 where
   pub numbered : IsNumbered library
   pub keys : AreNew [] library
   pub within : length library + begun ≤ limit
-  pub bound : limit ≤ 2 ^ 64
 
 abbrev example_closure : (number : ℕ) → Ended
 example_closure number = record {

@@ -11,14 +11,21 @@ use Rattle.rhai_grammar.specs.Contexts.{Context, Live, in_block}
 use Rattle.rhai_grammar.specs.Definitions.{after_statement, after_statements, catch_live, define, is_exported}
 use Rattle.rhai_grammar.specs.Definitions.{loop_live, reused}
 use Rattle.rhai_grammar.specs.Forms as form
-use Rattle.rhai_grammar.specs.Forms.{Construct, ExprStatement, Named, Statement, Statements}
+use Rattle.rhai_grammar.specs.Forms.{Body, Closure, ClosureBody, ClosureHead, Construct, ExprStatement, Function}
+use Rattle.rhai_grammar.specs.Forms.{Named, Owner, ParameterList, Statement, Statements}
+use Rattle.rhai_grammar.specs.Closures.{declared_names}
+use Rattle.rhai_grammar.specs.Comments.{Comment}
+use Rattle.rhai_grammar.specs.Functions.{parameter_names}
 use Rattle.rhai_grammar.specs.Slots.{IsLatest, is_barrier, number, slot_from_latest}
 use Rattle.rhai_grammar.specs.Delivered.{Point}
-use Rattle.rhai_grammar.specs.Demands.{Demands, Met}
+use Rattle.rhai_grammar.specs.Demands.{Demands, Met, Nothing}
 use Rattle.rhai_grammar.specs.Promises.{expressions, scripts}
-use Rattle.rhai_grammar.specs.TreeNumbers.{WellNumbered, WellNumberedLibrary, WellNumberedStatements, names_after_all}
-use Rattle.rhai_grammar.specs.TreeNumbers.{names_in, number_among, slots_of}
-use Rattle.rhai_grammar.specs.Trees.{primary_tree, statement_trees, tree, variable_of}
+use Rattle.rhai_grammar.specs.TreeNumbers.{WellNumbered, WellNumberedFunction, WellNumberedLibrary}
+use Rattle.rhai_grammar.specs.TreeNumbers.{WellNumberedStatements, names_after_all, names_in, number_among, slots_of}
+use Rattle.rhai_grammar.specs.Trees.{closure_tree, function_tree, primary_tree, statement_trees, tree, variable_of}
+use Rattle.rhai_grammar.specs.Uses.{Use, names_of}
+use Rattle.rhai_grammar.specs.Written.{primary, statement}
+use Rattle.rhai_grammar.specs.declared.role.OperandPlace.{OperandPlace}
 
 -- A name that has a number in its tree is not called, that is not directly before what calls it or before `::`; and the
 -- slot with that number is the latest of the name.
@@ -94,13 +101,25 @@ AreNumbered {F} whole Right =
 
 -- In the trees of forms that fit, and of the functions and closures that end in them, every number is right at whatever
 -- depth: a variable has the number of its latest slot among those that are live there, and none exactly where it has no
--- slot or has a path. The names that a script leaves, by its tree, are those of the slots that are live after it. Only
--- in a form that does not fit may there be a reserved word that nothing calls, whose node has no number.
+-- slot or has a path. In the body of a closure its declared parameters are live, and the names that it captures have no
+-- number; in that of a function all its parameters are live. The names that a script leaves, by its tree, are those of
+-- the slots that are live after it. Only in a form that does not fit may there be a reserved word that nothing calls,
+-- whose node has no number.
 pub record TreesAreWellNumbered : Type 0 where
   pub expression : (context : Context) (live : Live) →
       AreNumbered (expressions context live) (λ f. WellNumbered (names_in live.slots) (tree f live))
   pub script : (context : Context) (live : Live) →
       AreNumbered (scripts context live) (λ fs. WellNumberedStatements (names_in live.slots) (statement_trees fs live))
+  pub closure : (context : Context) (live : Live) (place : OperandPlace) (head : ClosureHead) (body : ClosureBody)
+      (n : ℕ) (captured : List Use) (s t : Point)
+      → Met (primary (Closure head body n captured) context live place Nothing) s t
+      → WellNumberedFunction (names_of captured) (declared_names head) (closure_tree head body n captured)
+  pub function : (context : Context) (live : Live) (comments : List Comment) (is_private : Option Position)
+      (at : Position) (owner : Owner) (name : Text) (name_at : Position) (list : ParameterList) (opening : Position)
+      (body : Body) (s t : Point)
+      → Met (statement (Function comments is_private at owner name name_at list opening body) context live Nothing) s t
+      → WellNumberedFunction [] (parameter_names list) (
+      function_tree comments is_private owner name list opening body)
   pub after : (fs : Statements) (live : Live) →
       names_after_all (statement_trees fs live) (names_in live.slots) ≡ names_in (after_statements fs live).slots
   pub latest : (name : Text) (names : List Text) → IsLatest name (slots_of names) (number_among name names)

@@ -159,19 +159,24 @@ abbrev mutual
   WellNumberedCases names no_cases = Unit {0}
   WellNumberedCases names (one_case value arms cases) = WellNumbered names value × WellNumberedCases names cases
 
--- The numbers in the body of a function or closure are right where its own parameters are live. Those of a closure come
--- after the names that it captures, which have no number in its body; a function that is no closure captures none.
-pub record WellNumberedFunction (x : Ended) : Type 0 where
+-- A function or closure that captures these names has them as its first parameters, and then these of its own. The
+-- numbers in its body are right where its own parameters are live; the captured names have no number there.
+pub record WellNumberedFunction (captured own : List Text) (x : Ended) : Type 0 where
+  pub parameters_are : x.function.parameters ≡ captured ++ own
+  pub body : WellNumberedBlock own x.function.body
+
+-- So it is for some captured names, of which a function that is no closure has none. The tree alone does not tell how
+-- many a closure captures; `closure` and `function` in `TreesAreWellNumbered` name them.
+pub record IsWellNumberedFunction (x : Ended) : Type 0 where
   pub captured : List Text
   pub own : List Text
-  pub parameters_are : x.function.parameters ≡ captured ++ own
+  pub is : WellNumberedFunction captured own x
   pub none : is_closure x.key ≡ false → captured ≡ []
-  pub body : WellNumberedBlock own x.function.body
 
 -- All functions of a library are so.
 abbrev pub WellNumberedLibrary : Library → Type 0
 WellNumberedLibrary [] = Unit {0}
-WellNumberedLibrary (x ∷ library) = WellNumberedFunction x × WellNumberedLibrary library
+WellNumberedLibrary (x ∷ library) = IsWellNumberedFunction x × WellNumberedLibrary library
 
 -- ---- an example
 
@@ -194,37 +199,34 @@ example_tree =
     one_statement (block_statement (braces example_block (place 1 12) (place 1 26))) (
     one_statement (expression (example_use (Some 1) (codes "x") 28)) no_statements))
 
--- `fn f(x) { x }`
-abbrev example_function : Ended
-example_function = record {
+-- a function with these parameters whose body is one expression
+abbrev example_function : List Text → Node → Ended
+example_function parameters x = record {
   key = record { this_type = None; name = codes "f"; params = 1 };
   function = record {
     this_type = None;
     name = codes "f";
     is_private = false;
-    parameters = codes "x" ∷ [];
+    parameters = parameters;
     comments = [];
-    body = braces (one_statement (expression (example_use (Some 1) (codes "x") 11)) no_statements) (place 1 9)
-        (place 1 13);
+    body = braces (one_statement (expression x) no_statements) (place 1 9) (place 1 13);
   };
 }
 
 -- Before it, `y` has no slot; in the block it is the latest, and after the block it is gone, so that `x` has number 1.
--- In the function `x` is the only variable. In the body of `|x| y`, which captures `y`, that has no number.
+-- In a function `fn f(x) { x }` the only variable has number 1. In the body of `|x| y`, which captures `y`, that has no
+-- number, though it is a parameter.
 example : WellNumberedStatements [] example_tree × (names_after_all example_tree [] ≡ codes "x" ∷ [])
-    × (number_among (codes "x") (codes "x" ∷ codes "y" ∷ []) ≡ Some 2) × WellNumberedFunction example_function
-    × WellNumbered (codes "x" ∷ []) (example_use None (codes "y") 5)
+    × (number_among (codes "x") (codes "x" ∷ codes "y" ∷ []) ≡ Some 2)
+    × WellNumberedFunction [] (codes "x" ∷ []) (example_function (codes "x" ∷ []) (
+    example_use (Some 1) (codes "x") 11))
+    × WellNumberedFunction (codes "y" ∷ []) (codes "x" ∷ []) (example_function (codes "y" ∷ codes "x" ∷ []) (
+    example_use None (codes "y") 5))
 unfolding number
 example = (
   ((refl, tt), (((refl, tt), (refl, tt)), (refl, tt))),
   refl,
   refl,
-  record {
-    captured = [];
-    own = codes "x" ∷ [];
-    parameters_are = refl;
-    none = λ e. refl;
-    body = (refl, tt);
-  },
-  refl,
+  record { parameters_are = refl; body = (refl, tt) },
+  record { parameters_are = refl; body = (refl, tt) },
 )

@@ -9,6 +9,7 @@ pub mod LatestNames
 pub mod Slots
 pub mod SlotView
 pub mod Streams
+pub mod RequestCodes
 pub mod Entries
 pub mod View
 pub mod Optimizer

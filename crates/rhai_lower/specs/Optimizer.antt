@@ -1,4 +1,4 @@
--- What the optimizer makes of a script.
+-- What an optimizer makes of a script.
 use Rattle.std.specs.Prelude.{◌≡◌, List, Option, Vec}
 use Rattle.std.specs.Borrow.{Bor}
 use Rattle.std.specs.declared.alloc.Global.{Global}
@@ -9,12 +9,19 @@ use Rattle.rhai_lower.specs.declared.ast.Stmt.{Stmt}
 use Rattle.rhai_lower.specs.declared.ast.ScriptFuncDef.{ScriptFuncDef}
 use Rattle.rhai_lower.specs.declared.optimizer.OptimizationLevel.{OptimizationLevel}
 
+-- variables from outside, as the code hands them on
+abbrev pub Constants : Type 0
+Constants = Option (Bor (List SlotValue))
+
+-- Which scripts an optimizer may make of these constants, statements and functions at this level. What uses an
+-- optimizer is proved for each such relation.
+abbrev pub Makes : Type 1
+Makes = Constants → Vec Stmt Global → Vec (Rc ScriptFuncDef Global) Global → OptimizationLevel → AST → Type 0
+
 -- a script of these statements and functions
 abbrev pub script_of : Vec Stmt Global → Vec (Rc ScriptFuncDef Global) Global → AST
 script_of statements functions = record { statements = statements; functions = functions }
 
--- The optimizer makes this script of these statements and functions, where these variables come from outside, at this
--- level. What uses the optimizer rests on this word alone, whatever it says; this stand-in leaves the script as it is.
-unfoldable pub Optimized : (constants : Option (Bor (List SlotValue))) → Vec Stmt Global
-    → Vec (Rc ScriptFuncDef Global) Global → OptimizationLevel → AST → Type 0
-Optimized constants statements functions level script = script ≡ script_of statements functions
+-- the script as it is, whatever the constants and the level are
+abbrev pub unoptimized : Makes
+unoptimized constants statements functions level script = script ≡ script_of statements functions

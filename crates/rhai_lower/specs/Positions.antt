@@ -1,5 +1,6 @@
 -- Positions: a line and a column, each counted from 1, or none.
-use Rattle.std.specs.Prelude.{◌≡◌, ℕ, zero, suc, Option, Some, None, refl}
+use Rattle.std.specs.Prelude.{◌≡◌, ◌==◌, ◌||◌, ◌++◌, ℕ, zero, suc, Option, Some, None, List, codes, if◌then◌else◌, refl}
+use Rattle.std.specs.Fmt.{decimal, digits}
 use Rattle.rhai_lower.specs.declared.position.Position.{Position}
 
 -- the position at a line and a column
@@ -23,6 +24,12 @@ line_of p = from_one p.line
 abbrev pub column_of : Position → Option ℕ
 column_of p = from_one p.column
 
+-- how a position is printed: line and column in decimal, with a colon between them
+abbrev pub shown : Position → List ℕ
+shown p = if p.line == 0 || p.column == 0 then codes "none" else decimal p.line ++ codes ":" ++ decimal p.column
+
 -- The third column of the first line.
 example : (line_of (place 1 3) ≡ Some 1) × (column_of (place 1 3) ≡ Some 3) × (line_of nowhere ≡ None)
-example = (refl, refl, refl)
+    × (shown (place 12 3) ≡ codes "12:3") × (shown nowhere ≡ codes "none")
+unfolding digits
+example = (refl, refl, refl, refl, refl)

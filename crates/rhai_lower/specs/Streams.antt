@@ -3,42 +3,41 @@ use Rattle.std.specs.Prelude.{◌≡◌, Bool, true, false, List, [], ◌∷◌,
 use Rattle.rhai_lower.specs.Positions.{place}
 use Rattle.rhai_lower.specs.declared.position.Position.{Position}
 use Rattle.rhai_lower.specs.declared.token.Token.{Token}
-use Rattle.rhai_lower.specs.declared.token.Token.TheVariants.{EOF, Plus}
+use Rattle.rhai_lower.specs.declared.token.Token.TheVariants.{EOF, Minus, Plus}
 
--- what a request gives in each mode
-pub record Ask : Type 0 where
-  pub code : Token × Position
-  pub text : Token × Position
+-- What is left of a stream: what the next request gives in each mode, and what is left after it was made in that mode;
+-- at the end, the end mark's position.
+pub data Requests : Type 0 where
+  Ends : (end : Position) → Requests
+  Then : (in_code in_text : Token × Position) (after_code after_text : Requests) → Requests
 
--- the requests still to come, the end mark's position, the mode of the next request, and whether its token is peeked
+-- what is left, the mode of the next request, and whether its token is peeked
 pub record Stream : Type 0 where
-  pub asks : List Ask
-  pub end : Position
+  pub requests : Requests
   pub in_text : Bool
   pub peeked : Bool
 
--- a stream of which no token was requested
-abbrev pub stream_of : List Ask → Position → Stream
-stream_of asks end = record { asks = asks; end = end; in_text = false; peeked = false }
+-- a stream of which this is left; the next request is in code mode
+abbrev pub at_rest : Requests → Stream
+at_rest requests = record { requests = requests; in_text = false; peeked = false }
 
-abbrev pub in_mode : Bool → Ask → Token × Position
-in_mode text a = if text then a.text else a.code
+-- what a request gives
+abbrev pub given : Requests → (text : Bool) → Token × Position
+given (Ends end) text = (EOF, end)
+given (Then a b s t) text = if text then b else a
 
-abbrev pub first_of_asks : List Ask → Position → Bool → Token × Position
-first_of_asks [] end text = (EOF, end)
-first_of_asks (a ∷ more) end text = in_mode text a
+-- what is left after a request
+abbrev pub left_after : Requests → (text : Bool) → Requests
+left_after (Ends end) text = Ends end
+left_after (Then a b s t) text = if text then t else s
 
 -- the token that the next request gives
 abbrev pub asked : Stream → Token × Position
-asked s = first_of_asks s.asks s.end s.in_text
-
-abbrev pub rest_of_asks : List Ask → List Ask
-rest_of_asks [] = []
-rest_of_asks (a ∷ more) = more
+asked s = given s.requests s.in_text
 
 -- the stream after the next token was taken
 abbrev pub later : Stream → Stream
-later s = stream_of (rest_of_asks s.asks) s.end
+later s = at_rest (left_after s.requests s.in_text)
 
 -- the stream with its next token peeked
 abbrev pub peeking : Stream → Stream
@@ -48,10 +47,30 @@ peeking s = record s { peeked = true }
 abbrev pub in_text_next : Stream → Stream
 in_text_next s = record s { in_text = true }
 
+-- what a request gives in each mode, where the same is left after both
+pub record Ask : Type 0 where
+  pub code : Token × Position
+  pub text : Token × Position
+
+-- these requests one after the other, and then the end mark at this position
+abbrev pub requests_of : List Ask → Position → Requests
+requests_of [] end = Ends end
+requests_of (a ∷ more) end = let rest = requests_of more end in Then a.code a.text rest rest
+
+-- a stream of these requests, of which no token was requested
+abbrev pub stream_of : List Ask → Position → Stream
+stream_of asks end = at_rest (requests_of asks end)
+
 -- One token, and then the end mark forever.
 abbrev example_stream : Stream
 example_stream = stream_of (record { code = (Plus, place 1 1); text = (Plus, place 1 1) } ∷ []) (place 1 2)
 
+-- A stream that gives `+` in code mode and ends, and in text mode gives `-` and then what the first stream gives.
+abbrev example_two : Stream
+example_two = at_rest (Then (Plus, place 1 1) (Minus, place 1 1) (Ends (place 1 2)) example_stream.requests)
+
 example : (asked example_stream ≡ (Plus, place 1 1)) × (asked (later example_stream) ≡ (EOF, place 1 2))
     × (asked (later (later example_stream)) ≡ (EOF, place 1 2))
-example = (refl, refl, refl)
+    × (asked (later example_two) ≡ (EOF, place 1 2))
+    × (asked (later (in_text_next example_two)) ≡ (Plus, place 1 1))
+example = (refl, refl, refl, refl, refl)

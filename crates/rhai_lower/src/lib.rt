@@ -25,7 +25,7 @@ pub use name_index::NameIndex;
 pub use named_list::{HasName, NamedList, find_latest, is_named};
 pub use names::{is_reserved_keyword_or_symbol, is_valid_function_name, is_valid_identifier};
 pub use node::{LinkFlags, RangeCase};
-pub use optimizer::OptimizationLevel;
+pub use optimizer::{OptimizationLevel, Optimizer, Unoptimized};
 pub use position::Position;
 pub use scope::Scope;
 pub use stream::{Entry, TokenStream};

@@ -1,7 +1,7 @@
 //! `Position`: where tokens and nodes are in a script.
 
-ghost use Rattle.std.specs.Prelude.{◌≡◌, ◌<◌, ◌↔◌, IsSome, IfSome, IsTrue};
-ghost use Rattle.rhai_lower.specs.Positions.{place, line_of, column_of, nowhere};
+ghost use Rattle.std.specs.Prelude.{◌≡◌, ◌<◌, ◌↔◌, IsSome, IfSome, IsTrue, Some};
+ghost use Rattle.rhai_lower.specs.Positions.{place, line_of, column_of, nowhere, shown};
 
 use std::fmt;
 
@@ -63,6 +63,8 @@ impl Position {
 
 /// `line:column`, or `none`.
 impl fmt::Display for Position {
+    ghost output = { λ p. Some (shown p) };
+
     fn fmt<W: fmt::Write>(&self, f: &mut fmt::Formatter<W>) -> fmt::Result {
         match (self.line(), self.column()) {
             (Some(line), Some(column)) => write!(f, "{line}:{column}"),

@@ -69,14 +69,16 @@ pub struct TokenStream {
 
 impl Model for TokenStream {
     ghost use Rattle.std.specs.Prelude.{◌≡◌, ◌++◌, map, reverse};
-    ghost use Rattle.rhai_lower.specs.Streams.{Stream};
+    ghost use Rattle.rhai_lower.specs.Streams.{Stream, requests_of};
     ghost use Rattle.rhai_lower.specs.Entries.{ask_of, head_asks, head_text, head_peeked, EndsWith};
+    ghost use Rattle.rhai_lower.specs.RequestCodes.{stream_code};
 
     ghost Value = { Stream };
 
+    ghost coded = { stream_code };
+
     ghost view = { λ s. record {
-      asks = head_asks s.head s.taken ++ map ask_of (reverse s.rest.items);
-      end = s.end;
+      requests = requests_of (head_asks s.head s.taken ++ map ask_of (reverse s.rest.items)) s.end;
       in_text = head_text s.head;
       peeked = head_peeked s.head;
     } };

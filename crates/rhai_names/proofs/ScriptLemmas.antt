@@ -1,17 +1,18 @@
 -- The names of the functions that a script has.
-use Rattle.std.proofs.Common.{◌≡◌, ◌∙◌, ◌&&◌, not, List, [], ◌∷◌, map, sym, ap, subst}
+use Rattle.std.proofs.Common.{◌≡◌, ◌∙◌, ◌&&◌, true, not, List, [], ◌∷◌, ◌++◌, map, refl, sym, ap, subst}
 use Rattle.std.specs.List.{AllZip}
+use Rattle.std.proofs.lemmas.List.{map-append}
 use Rattle.std.specs.Prelude.{Err, Ok, Vec}
 use Rattle.std.specs.declared.alloc.Global.{Global}
 use Rattle.std.specs.declared.rc.Rc.{Rc}
 use Rattle.rhai_lower.specs.View.{function_view}
 use Rattle.rhai_lower.specs.declared.ast.ScriptFuncDef.{ScriptFuncDef}
-use Rattle.rhai_lower.specs.declared.ast.Stmt.{Stmt}
 use Rattle.rhai_grammar.specs.Contexts.{Context, Live}
 use Rattle.rhai_grammar.specs.Cursors.{Cursor}
 use Rattle.rhai_grammar.specs.Forms.{Statements}
 use Rattle.rhai_grammar.specs.Imports.{is_among}
-use Rattle.rhai_grammar.specs.Libraries.{Library}
+use Rattle.rhai_grammar.specs.Causes.{is_for_memory}
+use Rattle.rhai_grammar.specs.Libraries.{Ended, Library}
 use Rattle.rhai_grammar.specs.Promises.{IsWrittenTo, scripts}
 use Rattle.rhai_grammar.specs.declared.error.ParseError.{ParseError}
 use Rattle.rhai_lower.specs.Slots.{SlotValue}
@@ -20,7 +21,7 @@ use Rattle.rhai_lower.specs.Texts.{Text}
 use Rattle.rhai_parser.specs.Scripts.{ReadsScript, functions_in}
 use Rattle.rhai_names.specs.FnNames.{AreNamesOf, IsNamesOf, IsNamesOfWritten}
 use Rattle.rhai_names.specs.Laws.{AllReadTheirUses, ReadsItsUses}
-use Rattle.rhai_names.specs.Scripts.{ReadsNames}
+use Rattle.rhai_names.specs.Scripts.{AreNamesAfter, ReadsNames, Script}
 use Rattle.rhai_names.specs.WrittenFunctions.{WrittenFunction, ended_of, in_statements}
 use Rattle.rhai_names.specs.declared.names.FnNames.{FnNames}
 use Rattle.rhai_names.proofs.UseLemmas.{functions_read_their_uses}
@@ -46,46 +47,83 @@ all_written (w ∷ ws) (x ∷ names) u h = (written w x u.0 h.0, all_written ws 
 abbrev pub views : Vec (Rc ScriptFuncDef Global) Global → List Function
 views functions = map (λ f. function_view f.value) functions.items
 
--- what a script that fits says of the names of the functions after it
-by_form : (context : Context) (live : Live) (fs : Statements) (after : Library) (start : Cursor)
-    → IsWrittenTo (scripts context live) fs [] after start → (names : List FnNames) → AreNamesOf (functions_in after) names
-    → AllZip IsNamesOfWritten (in_statements fs) names
-by_form context live fs after start w names h =
-    let law = functions_read_their_uses in
-    let is : after ≡ map ended_of (in_statements fs) = sym w.2 ∙ law.functions context live fs _ w.0 w.1 in
-    all_written (in_statements fs) names (law.uses context live fs _ w.0 w.1) (subst (λ l. AreNamesOf (functions_in l) names) is h)
+-- the names of functions, and of others after them
+record Parted (fs gs : List Function) (names : List FnNames) : Type 0 where
+  first : List FnNames
+  second : List FnNames
+  is : names ≡ first ++ second
+  of_first : AreNamesOf fs first
+  of_second : AreNamesOf gs second
 
-abbrev pub Read : Type 0
-Read = Vec Stmt Global × Vec (Rc ScriptFuncDef Global) Global
-
-pub names_read : (context : Context) (live : Live) (before after : Library) (start left : Cursor) (script : Read) (slots : List SlotValue)
-    (imports : List Text) (names : Vec FnNames Global) → before ≡ []
-    → ReadsScript context live before after start left (Ok script) slots imports → AreNamesOf (views script.1) names.items
-    → ReadsNames context live after start left (Ok names)
-names_read context live before after start left script slots imports names none r n =
-    let read : ReadsScript context live [] after start left (Ok script) slots imports =
-    subst (λ b. ReadsScript context live b after start left (Ok script) slots imports) none r in
-    let a = read.accepted in
-    let h : AreNamesOf (functions_in after) names.items = subst (λ vs. AreNamesOf vs names.items) a.2.functions n in
+part : (fs gs : List Function) (names : List FnNames) → AreNamesOf (fs ++ gs) names → Parted fs gs names
+part [] gs names h = record { first = []; second = names; is = refl; of_first = tt; of_second = h }
+part (f ∷ fs) gs [] h = absurd h
+part (f ∷ fs) gs (x ∷ names) h =
+    let r = part fs gs names h.1 in
     record {
-      accepted = (a.0, a.1, by_form context live a.0 after start a.1 names.items h);
-      only = λ fs other w.
-          let o = read.only fs other w in
-          (by_form context live fs other start w names.items (subst (λ l. AreNamesOf (functions_in l) names.items) o.1 h), o.1);
-      refused = tt;
+      first = x ∷ r.first;
+      second = r.second;
+      is = ap (λ l. x ∷ l) r.is;
+      of_first = (h.0, r.of_first);
+      of_second = r.of_second;
     }
 
--- the same by the trees of the library alone, whatever it held before
-pub names_by_trees : (context : Context) (live : Live) (before after : Library) (start left : Cursor) (script : Read) (slots : List SlotValue)
-    (imports : List Text) (names : Vec FnNames Global) → ReadsScript context live before after start left (Ok script) slots imports
-    → AreNamesOf (views script.1) names.items → AreNamesOf (functions_in after) names.items
-names_by_trees context live before after start left script slots imports names r n =
-    subst (λ vs. AreNamesOf vs names.items) r.accepted.2.functions n
+-- what a script that fits says of the names of the functions after it
+by_form : (context : Context) (live : Live) (fs : Statements) (before after : Library) (start : Cursor)
+    → IsWrittenTo (scripts context live) fs before after start → (names : List FnNames)
+    → AreNamesOf (functions_in after) names → AreNamesAfter before fs names
+by_form context live fs before after start w names h =
+    let law = functions_read_their_uses in
+    let new = map ended_of (in_statements fs) in
+    let is : after ≡ before ++ new = sym w.2 ∙ law.functions context live fs _ w.0 w.1 in
+    let all : AreNamesOf (functions_in before ++ functions_in new) names =
+    subst (λ vs. AreNamesOf vs names) (ap functions_in is ∙ map-append (λ (e : Ended). e.function) before new) h in
+    let r = part (functions_in before) (functions_in new) names all in
+    record {
+      old = r.first;
+      new = r.second;
+      names_are = r.is;
+      of_old = r.of_first;
+      of_new = all_written (in_statements fs) r.second (law.uses context live fs _ w.0 w.1) r.of_second;
+    }
+
+pub names_read : (context : Context) (live : Live) (before after : Library) (start left : Cursor) (script : Script) (slots : List SlotValue)
+    (imports : List Text) (names : Vec FnNames Global)
+    → ReadsScript context live before after start left (Ok script) slots imports → AreNamesOf (views script.1) names.items
+    → ReadsNames context live before after start left slots imports (Ok names)
+names_read context live before after start left script slots imports names r n =
+    let a = r.accepted in
+    let h : AreNamesOf (functions_in after) names.items = subst (λ vs. AreNamesOf vs names.items) a.2.functions n in
+    record {
+      whole = record {
+        accepted = (a.0, a.1, by_form context live a.0 before after start a.1 names.items h);
+        only = λ fs other w.
+            let o = r.only fs other w in
+            (by_form context live fs before other start w names.items (subst (λ l. AreNamesOf (functions_in l) names.items) o.1 h), o.1);
+        refused = tt;
+      };
+      script = Ok script;
+      reads = r;
+      follows = n;
+    }
+
+-- memory ran out for the names alone
+pub names_unmade : (context : Context) (live : Live) (before after : Library) (start left : Cursor) (script : Script) (slots : List SlotValue)
+    (imports : List Text) (e : ParseError) → ReadsScript context live before after start left (Ok script) slots imports
+    → is_for_memory e ≡ true → ReadsNames context live before after start left slots imports (Err e)
+names_unmade context live before after start left script slots imports e r out = record {
+  whole = record { accepted = tt; only = λ fs other w. out; refused = λ told. let told = told in absurd cc };
+  script = Ok script;
+  reads = r;
+  follows = out;
+}
 
 pub names_refused : (context : Context) (live : Live) (before after : Library) (start left : Cursor) (e : ParseError)
-    (slots : List SlotValue) (imports : List Text) → before ≡ []
-    → ReadsScript context live before after start left (Err e) slots imports → ReadsNames context live after start left (Err e)
-names_refused context live before after start left e slots imports none r =
-    let read : ReadsScript context live [] after start left (Err e) slots imports =
-    subst (λ b. ReadsScript context live b after start left (Err e) slots imports) none r in
-    record { accepted = tt; only = λ fs other w. read.only fs other w; refused = read.refused }
+    (slots : List SlotValue) (imports : List Text) → ReadsScript context live before after start left (Err e) slots imports
+    → ReadsNames context live before after start left slots imports (Err e)
+names_refused context live before after start left e slots imports r = record {
+  whole = record { accepted = tt; only = λ fs other w. r.only fs other w; refused = r.refused };
+  script = Err e;
+  reads = r;
+  follows = refl;
+}

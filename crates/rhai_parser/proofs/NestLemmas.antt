@@ -5,10 +5,9 @@ use Rattle.rhai_lower.specs.Nodes as node
 use Rattle.rhai_grammar.specs.Contexts.{Context, Live}
 use Rattle.rhai_grammar.specs.Settings.{one_more}
 use Rattle.rhai_reading.specs.Reading.{Script}
-use Rattle.rhai_reading.specs.Running.{Done, Gives, Progress, result_of}
-use Rattle.rhai_grammar.specs.Promises.{UnlessMemory}
+use Rattle.rhai_reading.specs.Running.{Done, Progress, result_of}
 use Rattle.rhai_grammar.specs.declared.error.ParseError.{ParseError}
-use Rattle.rhai_base.specs.Counts.{Counts, with_entered, with_left}
+use Rattle.rhai_base.specs.Counts.{Counts, with_entered, with_peak}
 use Rattle.rhai_base.specs.declared.settings.ParseSettings.{ParseSettings}
 use Rattle.rhai_parser.specs.Engines.{EngineValue}
 use Rattle.std.specs.Prelude.{◌⊎◌}
@@ -18,7 +17,7 @@ use Rattle.rhai_grammar.specs.Forms.{Statements}
 use Rattle.rhai_grammar.specs.Libraries.{Library}
 use Rattle.rhai_grammar.specs.NumberedLibraries.{IsOrderly}
 use Rattle.rhai_grammar.specs.Promises.{IsWritten, scripts}
-use Rattle.rhai_parser.specs.Nesting.{ActiveAgain, NestsAsWritten, ReturnsTo, StaysWithin}
+use Rattle.rhai_parser.specs.Nesting.{KeepsCounts, NestsAsWritten, StaysWithin}
 use Rattle.rhai_reading.specs.Nesting.{Nesting, entered}
 use Rattle.rhai_reading.proofs.DepthMain.{script_nests}
 use Rattle.rhai_reading.proofs.Main.{IsNew}
@@ -28,9 +27,7 @@ use Rattle.rhai_base.specs.Frames.{FrameValue}
 use Rattle.rhai_parser.specs.Rooms.{Holds, IsWithin, Stays, function_room}
 use Rattle.rhai_parser.specs.declared.shared.Shared.{Shared}
 use Rattle.rhai_parser.proofs.Rooms.{function_room_most, gap_most}
-use Rattle.std.proofs.Common.{Bool, true, false, nat_lt, refl, inl, inr}
-use Rattle.std.proofs.lemmas.Bool.{ltb-false, ltb-true}
-use Rattle.rhai_reading.proofs.Grows.{Again, AgainSo, active_again}
+use Rattle.std.proofs.Common.{inl, inr}
 
 -- what the code's reader of a script leaves
 pub stays_read : (engine : EngineValue) (frame : FrameValue) (settings : ParseSettings) (old new : Shared)
@@ -46,12 +43,12 @@ stays_read engine frame settings old new h positive more =
     (h.nesting a top positive more (omega (arith, right, levels, function)) (le_refl a, le-max_left _ _)).1
 
 -- a library stays orderly in the state of an entry, from which its frame has how many have begun
-pub orderly_so : (engine : EngineValue) (begun here : ℕ) (old new : Library) → here ≡ begun
-    → (Holds engine.max_functions here old → Holds engine.max_functions here new)
+pub orderly_so : (engine : EngineValue) (begun here : ℕ) (old new : Library) → engine.max_functions ≤ 2 ^ 64
+    → here ≡ begun → (Holds engine.max_functions here old → Holds engine.max_functions here new)
     → IsOrderly engine.max_functions begun old → IsOrderly engine.max_functions begun new
 unfolding Holds
-orderly_so engine begun here old new is h =
-    subst (λ n. IsOrderly engine.max_functions n old → IsOrderly engine.max_functions n new) is h
+orderly_so engine begun here old new bound is h =
+    subst (λ n. IsOrderly engine.max_functions n old → IsOrderly engine.max_functions n new) is (λ g. (h (g, bound)).0)
 
 -- the entry itself is one more
 pub with_entry : (p a peak n : ℕ) → peak ≤ max (max p (one_more a)) (one_more a + 8 * (n + 1))
@@ -65,24 +62,28 @@ with_entry p a peak n h =
     let both : max (max p (min (a + 1) (2 ^ 64 - 1))) (min (a + 1) (2 ^ 64 - 1) + 8 * (n + 1)) ≤ max p (a + 8 * (n + 2)) = max-le first (omega (arith, less, right)) in
     omega (arith, h, both)
 
--- so it is for the entry, which is entered before and left after
+-- so it is for the entry, which is entered in counts of its own, and takes their peak
 pub entry_stays : (engine : EngineValue) (settings : ParseSettings) (old begun read left : Counts)
-    → begun ≡ with_entered old → left ≡ with_left read → StaysWithin 1 engine settings begun read
+    → begun ≡ with_entered old → left ≡ with_peak old read.peak → StaysWithin 1 engine settings begun read
     → StaysWithin 2 engine settings old left
-entry_stays engine settings old begun read left enters leaves stays = λ positive more.
+entry_stays engine settings old begun read left enters reached stays = λ positive more.
     let n = settings.max_expr_depth + engine.max_function_expr_depth in
     let h : read.peak ≤ max begun.peak (begun.active + 8 * (settings.max_expr_depth + engine.max_function_expr_depth + 1))
     = stays positive more in
-    let i : left.peak ≡ read.peak = ap (λ (c : Counts). c.peak) leaves in
+    let i : left.peak ≡ max old.peak read.peak = ap (λ (c : Counts). c.peak) reached in
     let j : read.peak ≤ max (max old.peak (one_more old.active)) (one_more old.active + 8 * (settings.max_expr_depth + engine.max_function_expr_depth + 1))
     = subst (λ (c : Counts). read.peak ≤ max c.peak (c.active + 8 * (settings.max_expr_depth + engine.max_function_expr_depth + 1))) enters h in
     subst (λ m. m ≤ max old.peak (old.active + 8 * (settings.max_expr_depth + engine.max_function_expr_depth + 2))) (sym i)
-    (with_entry old.peak old.active read.peak (settings.max_expr_depth + engine.max_function_expr_depth) j)
+    (max-le (le-max_left old.peak (old.active + 8 * (settings.max_expr_depth + engine.max_function_expr_depth + 2)))
+    (with_entry old.peak old.active read.peak (settings.max_expr_depth + engine.max_function_expr_depth) j))
 
--- what always holds holds unless memory ran out
-pub always : {A : Type 0} {P : Type 0} (r : Result A ParseError) → P → UnlessMemory (λ refused. P) r
-always (Ok x) p = p
-always (Err e) p = λ told. p
+-- all else of the counts is as before
+pub keeps_counts : (old left : Counts) (n : ℕ) → left ≡ with_peak old n → KeepsCounts old left
+keeps_counts old left n reached = record {
+  begun = ap (λ (c : Counts). c.begun) reached;
+  active = ap (λ (c : Counts). c.active) reached;
+  peak = subst (λ (c : Counts). old.peak ≤ c.peak) (sym reached) (le-max_left old.peak n);
+}
 
 -- ---- from below
 
@@ -103,51 +104,18 @@ pub if_ok : {A : Type 0} {P : Type 0} (r : Result A ParseError) → P → IfOk r
 if_ok (Ok x) p = p
 if_ok (Err e) p = tt
 
--- the entry is left
-pub nests_left : {A : Type 0} (c : Context) (w : Live) (before : Library) (s : Cursor) (read left : Counts) (r : Result A ParseError)
-    → left ≡ with_left read → IfOk r (λ x. NestsAsWritten c w before s read) → IfOk r (λ x. NestsAsWritten c w before s left)
-nests_left c w before s read left (Ok x) leaves nests =
-    subst (λ p. (fs : Statements) → IsWritten (scripts c w) fs before s → (2 ^ 64 - 1 ≤ p) ⊎ (1 + statements_depth fs ≤ p))
-    (sym (ap (λ (n : Counts). n.peak) leaves)) nests
-nests_left c w before s read left (Err e) leaves nests = tt
-
--- ---- as many are active as before
+-- the entry takes the peak
+pub nests_left : {A : Type 0} (c : Context) (w : Live) (before : Library) (s : Cursor) (old read left : Counts) (r : Result A ParseError)
+    → left ≡ with_peak old read.peak → IfOk r (λ x. NestsAsWritten c w before s read) → IfOk r (λ x. NestsAsWritten c w before s left)
+nests_left c w before s old read left (Ok x) reached nests = λ fs written.
+    subst (λ (n : Counts). (2 ^ 64 - 1 ≤ n.peak) ⊎ (1 + statements_depth fs ≤ n.peak)) (sym reached) (by _ (nests fs written))
+  where
+    by : (d : ℕ) → (2 ^ 64 - 1 ≤ read.peak) ⊎ (d ≤ read.peak)
+        → (2 ^ 64 - 1 ≤ max old.peak read.peak) ⊎ (d ≤ max old.peak read.peak)
+    by d (inl top) = let right = le-max_right old.peak read.peak in inl (omega (arith, top, right))
+    by d (inr deep) = let right = le-max_right old.peak read.peak in inr (omega (arith, deep, right))
+nests_left c w before s old read left (Err e) reached nests = tt
 
 -- what nests, of counts
 abbrev pub seen_of : Counts → Nesting
 seen_of n = record { active = n.active; peak = n.peak }
-
-again_counts : (old new : Counts) → Again (seen_of old) (seen_of new) → ActiveAgain old new × (old.peak ≤ new.peak)
-again_counts old new again = (again.active, again.peak)
-
--- what the code's reader of a script answers
-pub returns_read : {X : Type 0} (view : X → node.Statements × Live) (c : Context) (w : Live) (s t : Progress) (old new : Counts)
-    (r : Result X ParseError) → s.nesting ≡ seen_of old → t.nesting ≡ seen_of new → Gives view (result_of (Script c w) s) r t
-    → UnlessMemory (λ refused. ReturnsTo old new) r
-returns_read view c w s t old new (Ok x) first last gives = λ le.
-    again_counts old new (subst (λ n. Again n (seen_of new)) first (subst (Again s.nesting) last
-    (subst (AgainSo s.nesting) gives (active_again (Script c w) s (subst (λ (n : Nesting). n.active ≤ n.peak) (sym first) le)))))
-returns_read view c w s t old new (Err e) first last gives = λ told le.
-    again_counts old new (subst (λ n. Again n (seen_of new)) first (subst (Again s.nesting) last
-    (subst (AgainSo s.nesting) (gives.0 told) (active_again (Script c w) s (subst (λ (n : Nesting). n.active ≤ n.peak) (sym first) le)))))
-
--- so it is for the entry, which is entered before and left after
-pub entry_again : (old begun read left : Counts) → begun ≡ with_entered old → left ≡ with_left read → ReturnsTo begun read
-    → ActiveAgain old left
-unfolding one_more
-entry_again old begun read left enters leaves returns =
-    let told = subst (λ (c : Counts). ReturnsTo c read) enters returns (le-max_right old.peak (min (old.active + 1) (2 ^ 64 - 1))) in
-    subst (ActiveAgain old) (sym leaves) (by (nat_lt old.active (2 ^ 64 - 1)) refl told.0 told.1)
-  where
-    by : (b : Bool) → nat_lt old.active (2 ^ 64 - 1) ≡ b
-        → ((2 ^ 64 - 1 ≤ read.peak) ⊎ (read.active ≡ min (old.active + 1) (2 ^ 64 - 1)))
-        → max old.peak (min (old.active + 1) (2 ^ 64 - 1)) ≤ read.peak
-        → (2 ^ 64 - 1 ≤ read.peak) ⊎ (read.active - 1 ≡ old.active)
-    by b e (inl top) peak = inl top
-    by true e (inr same) peak =
-        let less = ltb-true old.active (2 ^ 64 - 1) e in
-        inr (omega (arith, same, less))
-    by false e (inr same) peak =
-        let more = ltb-false old.active (2 ^ 64 - 1) e in
-        let right = le-max_right old.peak (min (old.active + 1) (2 ^ 64 - 1)) in
-        inl (omega (arith, peak, more, right))

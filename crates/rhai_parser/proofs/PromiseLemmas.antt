@@ -22,8 +22,7 @@ use Rattle.rhai_grammar.specs.Definitions.{after_statements}
 use Rattle.rhai_grammar.specs.Promises.{HasRead, ReadsWhole, Returns, UnlessMemory, scripts}
 use Rattle.rhai_grammar.specs.declared.key.FnKey.{FnKey}
 use Rattle.rhai_base.specs.Libraries.{Begins, Grows, library_of}
-use Rattle.rhai_parser.specs.Scripts.{Accepts, Constants, IsMadeOf, IsScript, IsScriptOf, ReadsAst, ReadsExpression, ReadsScript, function_views, functions_in}
-use Rattle.rhai_lower.specs.Optimizer.{Optimized}
+use Rattle.rhai_parser.specs.Scripts.{Accepts, Constants, IsMadeOf, Makes, IsScript, IsScriptOf, ReadsAst, ReadsExpression, ReadsScript, function_views, functions_in}
 use Rattle.rhai_lower.specs.declared.optimizer.OptimizationLevel.{OptimizationLevel}
 use Rattle.rhai_grammar.specs.declared.error.ParseError.{ParseError}
 use Rattle.rhai_base.proofs.ErrorLemmas.{memory_cause}
@@ -142,19 +141,19 @@ module _ {F : Type 0} {g : Goal} {whole : F → Demands} {tree_of : F → Val g}
 
 -- ---- the two entries
 
-module _ (constants : Constants) (level : OptimizationLevel) (c : Context) (live : Live) (s left : Progress) where
+module _ (makes : Makes) (constants : Constants) (level : OptimizationLevel) (c : Context) (live : Live) (s left : Progress) where
   pub expression_done : (x : Node) (result : Result AST ParseError) → IsNew s → result_of (Whole c live) s ≡ Done x left
-      → Accepts constants level x left.library result
-      → ReadsExpression c live s.library left.library s.cursor left.cursor constants level result
+      → Accepts makes constants level x left.library result
+      → ReadsExpression makes c live s.library left.library s.cursor left.cursor constants level result
   expression_done x result mode e is =
-      reads_done (expression_entry c live) (λ f script. IsScriptOf constants level (tree f live) left.library script) s left x result mode e
-      (ran_out (IsScriptOf constants level x left.library) result is)
-      (λ f same. subst (λ y. Accepts constants level y left.library result) (sym same) is)
+      reads_done (expression_entry c live) (λ f script. IsScriptOf makes constants level (tree f live) left.library script) s left x result mode e
+      (ran_out (IsScriptOf makes constants level x left.library) result is)
+      (λ f same. subst (λ y. Accepts makes constants level y left.library result) (sym same) is)
 
   pub expression_fails : (e : ParseError) → IsNew s → Fails (result_of (Whole c live) s) e left
-      → ReadsExpression c live s.library left.library s.cursor left.cursor constants level (Err e)
+      → ReadsExpression makes c live s.library left.library s.cursor left.cursor constants level (Err e)
   expression_fails e mode fails =
-      reads_fails (expression_entry c live) (λ f script. IsScriptOf constants level (tree f live) left.library script) s left e mode fails
+      reads_fails (expression_entry c live) (λ f script. IsScriptOf makes constants level (tree f live) left.library script) s left e mode fails
 
 abbrev pub Read : Type 0
 Read = Vec Stmt Global × Vec (Rc ScriptFuncDef Global) Global
@@ -193,42 +192,45 @@ pub script_fails : (c : Context) (live : Live) (s left : Progress) (e : ParseErr
 script_fails c live s left e slots modules mode fails =
     reads_fails (script_entry c live) (λ fs script. IsScript fs live left.library script slots modules) s left e mode fails
 
--- ---- what the optimizer makes of a script
+-- ---- what an optimizer makes of a script
+
+-- what it makes of statements and functions, if it has memory
+pub made_of : (makes : Makes) (constants : Constants) (level : OptimizationLevel) (trees : Statements) (library : Library)
+    (ss : Vec Stmt Global) (fs : Vec (Rc ScriptFuncDef Global) Global) (result : Result AST ParseError)
+    → statement_views ss.items ≡ trees → function_views fs.items ≡ functions_in library
+    → IfOk result (makes constants ss fs level) → IfErr result (λ e. is_for_memory e ≡ true)
+    → Returns (IsMadeOf makes constants level trees library) result
+made_of makes constants level trees library ss fs (Ok script) trees_are functions_are so out = record {
+  statements = ss;
+  functions = fs;
+  trees_are = trees_are;
+  functions_are = functions_are;
+  optimized = so;
+}
+made_of makes constants level trees library ss fs (Err e) trees_are functions_are so out = out
 
 module _ (c : Context) (live : Live) (before after : Library) (s left : Cursor) (slots : List SlotValue) (modules : List Text)
-    (constants : Constants) (level : OptimizationLevel) where
-  makes : (read : Read) (fs : form.Statements) (result : Result AST ParseError) → IsScript fs live after read slots modules
-      → IfOk result (λ script. Optimized constants read.0 read.1 level script) → IfErr result (λ e. is_for_memory e ≡ true)
-      → Returns (λ script. IsMadeOf constants level (statement_trees fs live) after script) result
-  makes read fs (Ok script) is made out = record {
-    statements = read.0;
-    functions = read.1;
-    trees_are = is.statements;
-    functions_are = is.functions;
-    optimized = made;
-  }
-  makes read fs (Err e) is made out = out
+    (makes : Makes) (constants : Constants) (level : OptimizationLevel) where
+  made : (read : Read) (fs : form.Statements) (result : Result AST ParseError) → IsScript fs live after read slots modules
+      → IfOk result (makes constants read.0 read.1 level) → IfErr result (λ e. is_for_memory e ≡ true)
+      → Returns (IsMadeOf makes constants level (statement_trees fs live) after) result
+  made read fs result is =
+      made_of makes constants level (statement_trees fs live) after read.0 read.1 result is.statements is.functions
 
   pub ast_done : (read : Read) (result : Result AST ParseError) → ReadsScript c live before after s left (Ok read) slots modules
-      → IfOk result (λ script. Optimized constants read.0 read.1 level script) → IfErr result (λ e. is_for_memory e ≡ true)
-      → ReadsAst c live before after s left constants level result
-  ast_done read (Ok script) reads made out = record {
-    accepted = (let w = reads.accepted in (w.0, w.1, makes read w.0 (Ok script) w.2 made out));
-    only = λ fs other written. (let w = reads.only fs other written in (makes read fs (Ok script) w.0 made out, w.1));
+      → IfOk result (makes constants read.0 read.1 level) → IfErr result (λ e. is_for_memory e ≡ true)
+      → ReadsAst makes c live before after s left constants level result
+  ast_done read (Ok script) reads so out = record {
+    accepted = (let w = reads.accepted in (w.0, w.1, made read w.0 (Ok script) w.2 so out));
+    only = λ fs other written. (let w = reads.only fs other written in (made read fs (Ok script) w.0 so out, w.1));
     refused = tt;
   }
-  ast_done read (Err e) reads made out =
-      reads_none (scripts c live) (λ fs script. IsMadeOf constants level (statement_trees fs live) after script) before after s left e out
+  ast_done read (Err e) reads so out =
+      reads_none (scripts c live) (λ fs script. IsMadeOf makes constants level (statement_trees fs live) after script) before after s left e out
 
   pub ast_fails : (e : ParseError) → ReadsScript c live before after s left (Err e) slots modules
-      → ReadsAst c live before after s left constants level (Err e)
+      → ReadsAst makes c live before after s left constants level (Err e)
   ast_fails e reads = record { accepted = tt; only = reads.only; refused = reads.refused }
-
--- What holds unless memory ran out holds of a result that is made of another one.
-pub unless_on : {X : Type 0} {P Q : Type 0} (r : Result X ParseError) → (P → Q) → UnlessMemory (λ refused. P) r
-    → UnlessMemory (λ refused. Q) r
-unless_on (Ok x) f p = f p
-unless_on (Err e) f p = λ other. f (p other)
 
 -- what was read of a script, and is said of what is made of it, too
 pub read_on : {X Y : Type 0} (P : Bool → Type 0) (x : X) (result : Result Y ParseError) → (P false → P true)

@@ -60,10 +60,10 @@ given_up limit begun l h = one_stops limit begun l h
 pub function_ends : (limit begun : ℕ) (l : Library) (x : Ended) → is_closure x.key ≡ false → is_new x.key l ≡ true
     → Holds limit (begun + 1) l → Holds limit begun (with_ended l x)
 unfolding Holds
-function_ends limit begun l x other new h = one_ends limit begun l x h new (function_added l x h.numbered other)
+function_ends limit begun l x other new h = one_ends limit begun l x h new (function_added l x h.0.numbered other)
 
 pub closure_ends : (limit begun : ℕ) (l : Library) (x : Ended) → x.key.name ≡ closure_name (closure_count l)
     → is_new x.key l ≡ true → Holds limit (begun + 1) l → Holds limit begun (with_ended l x)
 unfolding Holds
 closure_ends limit begun l x named new h =
-    one_ends limit begun l x h new (closure_added l x h.numbered (few_closures limit begun l h) named)
+    one_ends limit begun l x h new (closure_added l x h.0.numbered (few_closures limit begun l h) named)

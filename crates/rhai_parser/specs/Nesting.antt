@@ -18,13 +18,12 @@ StaysWithin more engine settings before after =
     → after.peak
     ≤ max before.peak (before.active + 8 * (settings.max_expr_depth + engine.max_function_expr_depth + more))
 
--- As many parsing functions are active as before, unless as many were at once as a `usize` counts.
-abbrev pub ActiveAgain : (before after : Counts) → Type 0
-ActiveAgain before after = (2 ^ 64 - 1 ≤ after.peak) ⊎ (after.active ≡ before.active)
-
--- So it is, and the peak is no lower, if the peak was no lower than the number of those that were active.
-abbrev pub ReturnsTo : (before after : Counts) → Type 0
-ReturnsTo before after = before.active ≤ before.peak → ActiveAgain before after × (before.peak ≤ after.peak)
+-- As many functions and closures have begun as before, and as many parsing functions are active. The greatest number
+-- that was active at once is no lower.
+pub record KeepsCounts (before after : Counts) : Type 0 where
+  pub begun : after.begun ≡ before.begun
+  pub active : after.active ≡ before.active
+  pub peak : before.peak ≤ after.peak
 
 -- For each script that fits and spells the stream, at least as many parsing functions were active at once as its
 -- expressions, blocks, functions and closures lie one in another, and the entry; or as many as a `usize` counts.

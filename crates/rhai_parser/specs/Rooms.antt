@@ -1,6 +1,6 @@
 -- How many readers may be active below a reader. It also says what each reader leaves of that and of the library,
 -- whatever it answers.
-use Rattle.std.specs.Prelude.{◌≡◌, ℕ, ◌+◌, ◌-◌, ◌*◌, ◌≤◌, [], if◌then◌else◌, refl}
+use Rattle.std.specs.Prelude.{◌≡◌, ℕ, ◌+◌, ◌-◌, ◌*◌, ◌^◌, ◌≤◌, [], if◌then◌else◌, refl}
 use Rattle.rhai_lower.specs.Positions.{place}
 use Rattle.rhai_grammar.specs.NumberedLibraries.{IsOrderly}
 use Rattle.rhai_grammar.specs.Libraries.{Library}
@@ -18,9 +18,10 @@ use Rattle.rhai_parser.specs.declared.shared.Shared.{Shared}
 unfoldable pub IsWithin : (most top : ℕ) → ParseCounts → Type 0
 IsWithin most top c = ((counts_of c).active ≤ most) × ((counts_of c).peak ≤ top)
 
--- A library is as parsing may leave it, with so many functions that have begun and not ended.
+-- A library is as parsing may leave it, with so many functions that have begun and not ended; the limit is a number of
+-- at most 64 bits.
 unfoldable pub Holds : (limit begun : ℕ) → Library → Type 0
-Holds limit begun library = IsOrderly limit begun library
+Holds limit begun library = IsOrderly limit begun library × (limit ≤ 2 ^ 64)
 
 -- the readers that may be active in a function, where one may stand
 unfoldable pub function_room : EngineValue → ParseSettings → ℕ

@@ -1,6 +1,5 @@
 -- What the parser promises of the tree that it returns. Written forms alone are named there.
-use Rattle.std.specs.Prelude.{◌≡◌, List, Option, Result, Vec, map}
-use Rattle.std.specs.Borrow.{Bor}
+use Rattle.std.specs.Prelude.{◌≡◌, List, Result, Vec, map}
 use Rattle.std.specs.declared.alloc.Global.{Global}
 use Rattle.std.specs.declared.rc.Rc.{Rc}
 use Rattle.rhai_lower.specs.Texts.{Text}
@@ -19,7 +18,7 @@ use Rattle.rhai_grammar.specs.Libraries.{Library}
 use Rattle.rhai_grammar.specs.Promises.{ReadsWhole, Returns, expressions, scripts}
 use Rattle.rhai_grammar.specs.Trees.{statement_trees, tree}
 use Rattle.rhai_grammar.specs.declared.error.ParseError.{ParseError}
-use Rattle.rhai_lower.specs.Optimizer.{Optimized}
+pub use Rattle.rhai_lower.specs.Optimizer.{Constants, Makes}
 use Rattle.rhai_lower.specs.declared.optimizer.OptimizationLevel.{OptimizationLevel}
 
 -- lists of the code's functions
@@ -30,25 +29,21 @@ function_views fs = map (λ f. function_view f.value) fs
 abbrev pub functions_in : Library → List Function
 functions_in library = map (λ e. e.function) library
 
--- variables from outside, as the code hands them on
-abbrev pub Constants : Type 0
-Constants = Option (Bor (List SlotValue))
-
--- What the optimizer makes, with these constants and at this level, of statements that stand for these trees and of the
+-- What an optimizer makes, with these constants and at this level, of statements that stand for these trees and of the
 -- functions of a library.
-pub record IsMadeOf (constants : Constants) (level : OptimizationLevel) (trees : node.Statements) (library : Library)
-    (script : AST) : Type 0
+pub record IsMadeOf (makes : Makes) (constants : Constants) (level : OptimizationLevel) (trees : node.Statements)
+    (library : Library) (script : AST) : Type 0
   where
     pub statements : Vec Stmt Global
     pub functions : Vec (Rc ScriptFuncDef Global) Global
     pub trees_are : statement_views statements.items ≡ trees
     pub functions_are : function_views functions.items ≡ functions_in library
-    pub optimized : Optimized constants statements functions level script
+    pub optimized : makes constants statements functions level script
 
 -- the script of one expression
-abbrev pub IsScriptOf : Constants → OptimizationLevel → Node → Library → AST → Type 0
-IsScriptOf constants level x library script =
-    IsMadeOf constants level (one_statement (expression x) no_statements) library script
+abbrev pub IsScriptOf : Makes → Constants → OptimizationLevel → Node → Library → AST → Type 0
+IsScriptOf makes constants level x library script =
+    IsMadeOf makes constants level (one_statement (expression x) no_statements) library script
 
 -- the statements of a script with the functions of a library, and the slots and imports that are left after it
 pub record IsScript (fs : Statements) (live : Live) (library : Library)
@@ -61,15 +56,15 @@ pub record IsScript (fs : Statements) (live : Live) (library : Library)
     pub imports : modules ≡ (after_statements fs live).imports
 
 -- the script of this tree with these functions, unless memory ran out
-abbrev pub Accepts : Constants → OptimizationLevel → Node → Library → Result AST ParseError → Type 0
-Accepts constants level x library result = Returns (IsScriptOf constants level x library) result
+abbrev pub Accepts : Makes → Constants → OptimizationLevel → Node → Library → Result AST ParseError → Type 0
+Accepts makes constants level x library result = Returns (IsScriptOf makes constants level x library) result
 
--- A stream that is one expression is what the optimizer makes of its tree, with the functions that there are after it.
-abbrev pub ReadsExpression : Context → Live → (before after : Library) → (start left : Cursor) → Constants
+-- A stream that is one expression is what an optimizer makes of its tree, with the functions that there are after it.
+abbrev pub ReadsExpression : Makes → Context → Live → (before after : Library) → (start left : Cursor) → Constants
     → OptimizationLevel → Result AST ParseError → Type 0
-ReadsExpression context live before after start left constants level result =
-    ReadsWhole (expressions context live) (λ f script. IsScriptOf constants level (tree f live) after script) before
-    after start left result
+ReadsExpression makes context live before after start left constants level result =
+    ReadsWhole (expressions context live) (λ f script. IsScriptOf makes constants level (tree f live) after script)
+    before after start left result
 
 -- A stream that is a script gives its statements, the functions that there are after it, and the slots and imports that
 -- its statements leave.
@@ -80,9 +75,9 @@ ReadsScript context live before after start left result slots imports =
     ReadsWhole (scripts context live) (λ fs script. IsScript fs live after script slots imports) before after start
     left result
 
--- A stream that is a script is what the optimizer makes of its statements, with the functions that there are after it.
-abbrev pub ReadsAst : Context → Live → (before after : Library) → (start left : Cursor) → Constants
+-- A stream that is a script is what an optimizer makes of its statements, with the functions that there are after it.
+abbrev pub ReadsAst : Makes → Context → Live → (before after : Library) → (start left : Cursor) → Constants
     → OptimizationLevel → Result AST ParseError → Type 0
-ReadsAst context live before after start left constants level result =
-    ReadsWhole (scripts context live) (λ fs script. IsMadeOf constants level (statement_trees fs live) after script)
-    before after start left result
+ReadsAst makes context live before after start left constants level result =
+    ReadsWhole (scripts context live) (λ fs script. IsMadeOf makes constants level (statement_trees fs live) after
+    script) before after start left result

@@ -1,6 +1,6 @@
 //! `Engine`: the options and limits that scripts are read under.
 
-ghost use Rattle.std.specs.Prelude.{◌≡◌, ◌==◌, ◌++◌, ◌∷◌, [], OnErr, OnOk, map};
+ghost use Rattle.std.specs.Prelude.{◌≡◌, ◌≤◌, ◌^◌, ◌==◌, ◌++◌, ◌∷◌, [], OnErr, OnOk, map};
 ghost use Rattle.std.specs.Int.RustNames.{bit_and};
 ghost use Rattle.rhai_base.specs.Frames.{known_variables};
 ghost use Rattle.std.specs.Rc.{rc_str_bytes};
@@ -207,6 +207,13 @@ impl Engine {
         let name = RcStr::from_str(self.alloc, name)?;
         self.sub_modules.push(name)?;
         Ok(())
+    }
+
+    // The greatest number of functions has at most 64 bits, on which rests what the entries promise of libraries.
+    pub(crate) fn limits_functions(&self)
+        ensures { self.now.max_functions ≤ 2 ^ 64 }
+    {
+        let _limit = self.max_functions;
     }
 
     // What is known around a script: these variables, these imports, and the modules of the engine.

@@ -2,6 +2,7 @@
 
 ghost use Rattle.std.specs.Prelude.{◌≡◌, [], IfErr, List};
 ghost use Rattle.std.specs.Fn.{FnOnceReturnsAtMut, FnOnceTakesAtMut};
+ghost use Rattle.rhai_lower.specs.Optimizer.{unoptimized};
 ghost use Rattle.rhai_lower.specs.View.{view};
 ghost use Rattle.rhai_grammar.specs.Causes.{MemoryIsNowhere};
 ghost use Rattle.rhai_grammar.specs.Cursors.{cursor_of};
@@ -26,26 +27,30 @@ use crate::library::take_library;
 use crate::shared::Shared;
 use rhai_base::{FnLib, Frame, Library, ParseCounts, ParseSettings, ParseState, functions};
 use rhai_grammar::ParseResult;
-use rhai_lower::optimizer::{OptimizationLevel, optimize_into_ast};
-use rhai_lower::{AST, Expr, NamedList, Scope, Stmt, StringsInterner, TokenStream};
+use rhai_lower::{
+    AST, Expr, NamedList, OptimizationLevel, Optimizer, Scope, Stmt, StringsInterner, TokenStream,
+    Unoptimized,
+};
 
 impl Engine {
-    // The script of one expression and of all functions of a library, as the optimizer makes it.
+    // The script of one expression and of all functions of a library, as an optimizer makes it.
     #[tactic(auto, using(rhai_lower::proofs::Views::view_expression, crate::proofs::PromiseLemmas::functions_are))]
-    fn make_script(
+    fn make_script<O: Optimizer>(
         &self,
+        optimizer: &O,
         expr: Expr,
         lib: &FnLib,
         constants: Option<&Scope>,
         level: OptimizationLevel,
     ) -> ParseResult<AST>
-        ensures script { Accepts constants.entry level (view expr) (library_of lib.now.entries) result }
+        ensures script { Accepts (O.makes optimizer.now) constants.entry level (view expr)
+            (library_of lib.now.entries) result }
         ensures nowhere { IfErr result MemoryIsNowhere }
     {
         let statement = Stmt::Expr(expr);
         let statements = vec![in self.alloc(); statement]?;
         let functions = functions(self.alloc(), lib)?;
-        Ok(optimize_into_ast(self.alloc(), constants, statements, functions, level)?)
+        self.optimize(optimizer, constants, (statements, functions), level)
     }
 
     // Reads an expression that the end mark follows.
@@ -96,8 +101,9 @@ impl Engine {
     }
 
     // Reads the script of one expression that a whole stream is, with the functions of a library.
-    fn read_script(
+    fn read_script<O: Optimizer>(
         &self,
+        optimizer: &O,
         input: &mut TokenStream,
         lib: &mut FnLib,
         counts: &mut ParseCounts,
@@ -107,7 +113,7 @@ impl Engine {
         level: OptimizationLevel,
     ) -> ParseResult<AST>
         ensures reads { (cursor_of input.old).mode ≡ code
-            → ReadsExpression (context_of self.now frame.now settings) (live_of frame.now)
+            → ReadsExpression (O.makes optimizer.now) (context_of self.now frame.now settings) (live_of frame.now)
             (library_of lib.old.entries) (library_of lib.new.entries) (cursor_of input.old) (cursor_of input.new)
             constants.entry level result }
         ensures memory { UnlessMemory (HasRead (cursor_of input.old) (cursor_of input.new)) result }
@@ -120,18 +126,18 @@ impl Engine {
         let read = self.read_expression(input, &mut library, counts, frame, settings);
         *lib = library.into_functions();
         match read {
-            Ok(expr) => self.make_script(expr, lib, constants, level),
+            Ok(expr) => self.make_script(optimizer, expr, lib, constants, level),
             Err(error) => Err(error),
         }
     }
 
-    /// Reads the script of one expression that the whole stream is, up to its end mark, and hands its tree, with all
-    /// functions of the library, to the optimizer with the state's external constants. The closures of the expression
-    /// join the library, after the functions that it had; those that had ended before an error stay there.
+    /// Reads the script of one expression that the whole stream is, up to its end mark, as an [`AST`] that is not
+    /// optimized, whatever `level` is, with all functions of the library. The closures of the expression join the
+    /// library, after the functions that it had; those that had ended before an error stay there.
     ///
     /// `settings` may change the settings that the expression is read under: level 0 at 1:1, the engine's depth for a
     /// script, its options without `STMT_EXPR` and `LOOP_EXPR`, and the flags `GLOBAL_LEVEL` and
-    /// `DISALLOW_STATEMENTS_IN_BLOCKS`. `level` is how much the optimizer may do.
+    /// `DISALLOW_STATEMENTS_IN_BLOCKS`.
     ///
     /// An error tells why and where the stream is no such script; all are in docs/GRAMMAR.md, "Errors". `OutOfMemory`
     /// comes where memory ran out, or where the stream said so, and stands at no position.
@@ -144,7 +150,7 @@ impl Engine {
         requires { FnOnceTakesAtMut F.FnOnce settings (expr_settings self.now) }
         ensures reads { IsFresh state.entry → (chosen : _)
             × FnOnceReturnsAtMut F.FnOnce settings (expr_settings self.now) tt chosen
-            × ReadsExpression (starts_in self.now state.entry chosen) (live_in state.entry)
+            × ReadsExpression unoptimized (starts_in self.now state.entry chosen) (live_in state.entry)
             (library_of state.entry.lib.now.entries) (library_of state.exit.1.0.now.entries)
             (cursor_of state.entry.input.now) (cursor_of state.exit.0.now) state.entry.external_constants level
             result }
@@ -154,6 +160,37 @@ impl Engine {
         ensures orderly { KeepsOrder self.now (counts_of state.entry.counts)
             (library_of state.entry.lib.now.entries) (library_of state.exit.1.0.now.entries) }
     {
+        rebuild!(
+            state: input, lib, counts, tokenizer_control, expr_filter, external_constants, stack,
+            frame_pointer, external_vars, allow_capture, imports, global_imports
+        );
+        self.parse_global_expr_with(state, settings, level, &Unoptimized)
+    }
+
+    /// Reads the script of one expression as [`Engine::parse_global_expr`] does, and hands its tree, with all functions
+    /// of the library, to an optimizer, with the state's external constants. `level` is how much the optimizer may do.
+    /// Where it runs out of memory, the error is `OutOfMemory` at no position.
+    pub fn parse_global_expr_with<F: FnOnce(&mut ParseSettings), O: Optimizer>(
+        &self,
+        state: ParseState<'_, '_, '_>,
+        settings: F,
+        level: OptimizationLevel,
+        optimizer: &O,
+    ) -> ParseResult<AST>
+        requires { FnOnceTakesAtMut F.FnOnce settings (expr_settings self.now) }
+        ensures reads { IsFresh state.entry → (chosen : _)
+            × FnOnceReturnsAtMut F.FnOnce settings (expr_settings self.now) tt chosen
+            × ReadsExpression (O.makes optimizer.now) (starts_in self.now state.entry chosen) (live_in state.entry)
+            (library_of state.entry.lib.now.entries) (library_of state.exit.1.0.now.entries)
+            (cursor_of state.entry.input.now) (cursor_of state.exit.0.now) state.entry.external_constants level
+            result }
+        ensures memory { UnlessMemory (HasRead (cursor_of state.entry.input.now) (cursor_of state.exit.0.now)) result }
+        ensures nowhere { IfErr result MemoryIsNowhere }
+        ensures grows { Begins (library_of state.entry.lib.now.entries) (library_of state.exit.1.0.now.entries) }
+        ensures orderly { KeepsOrder self.now (counts_of state.entry.counts)
+            (library_of state.entry.lib.now.entries) (library_of state.exit.1.0.now.entries) }
+    {
+        self.limits_functions();
         let mut chosen = self.expr_settings();
         settings(&mut chosen);
         let ParseState {
@@ -175,6 +212,7 @@ impl Engine {
         let frame = Frame::new(stack, frame_pointer, imports, expr_filter, &known, begun);
         counts.nest_enter();
         self.read_script(
+            optimizer,
             input,
             lib,
             &mut counts,

@@ -11,6 +11,14 @@ macro_rules! nested {
     }};
 }
 
+/// Takes a state with these fields apart, and puts it together. As a parameter it cannot be proved to be passed on.
+macro_rules! rebuild {
+    ($state:ident: $($field:ident),*) => {
+        let ParseState { $($field),* } = $state;
+        let $state = ParseState { $($field),* };
+    };
+}
+
 mod blocks;
 mod chain;
 mod construct;
@@ -36,7 +44,7 @@ pub use rhai_base::{
     TokenizerControl, make_anonymous_fn, nest_peak,
 };
 pub use rhai_grammar::{ExprFilter, FnKey, InputError, ParseError, ParseErrorType, ParseResult};
-pub use rhai_lower::optimizer::OptimizationLevel;
+pub use rhai_lower::optimizer::{OptimizationLevel, Optimizer, Unoptimized};
 pub use rhai_lower::{
     AST, BinaryExpr, Entry, Expr, FlowControl, FnCallExpr, ForLoop, Ident, LexError, LinkFlags,
     LoopControl, Namespace, Position, RangeCase, Scope, ScriptFuncDef, Stmt, StmtBlock,

@@ -16,8 +16,8 @@ ghost use Rattle.rhai_reading.specs.Running.{Gives, result_of};
 ghost use Rattle.rhai_base.specs.Libraries.{Begins, Grows, library_of};
 ghost use Rattle.rhai_base.specs.Counts.{counts_of, none_yet, with_entered};
 ghost use Rattle.rhai_base.specs.States.{IsFresh};
-ghost use Rattle.rhai_lower.specs.Optimizer.{Optimized};
-ghost use Rattle.rhai_parser.specs.Nesting.{ActiveAgain, NestsAsWritten, ReturnsTo, StaysWithin};
+ghost use Rattle.rhai_lower.specs.Optimizer.{unoptimized};
+ghost use Rattle.rhai_parser.specs.Nesting.{KeepsCounts, NestsAsWritten, StaysWithin};
 ghost use Rattle.rhai_parser.specs.Engines.{script_settings};
 ghost use Rattle.rhai_parser.specs.Frames.{context_of};
 ghost use Rattle.rhai_parser.specs.Readers.{nesting_of};
@@ -32,10 +32,9 @@ use rhai_base::{
     FnLib, Frame, Library, ParseCounts, ParseSettingFlags, ParseSettings, ParseState, functions,
 };
 use rhai_grammar::{Closing, ParseResult};
-use rhai_lower::optimizer::{OptimizationLevel, optimize_into_ast};
 use rhai_lower::{
-    AST, NamedList, Position, Scope, ScriptFuncDef, Stmt, StmtBlockContainer, StringsInterner,
-    TokenStream,
+    AST, NamedList, OptimizationLevel, Optimizer, Position, Scope, ScriptFuncDef, Stmt,
+    StmtBlockContainer, StringsInterner, TokenStream, Unoptimized,
 };
 use std::mem;
 use std::rc::{Rc, RcStr};
@@ -84,7 +83,6 @@ impl Engine {
               nesting = nesting_of counts.new;
             }) }
         ensures stays { StaysWithin 1 self.now settings (counts_of counts.old) (counts_of counts.new) }
-        ensures returns { UnlessMemory (λ refused. ReturnsTo (counts_of counts.old) (counts_of counts.new)) result }
         ensures grows { Grows (library_of library.old) (library_of library.new) }
         ensures orderly { Holds self.now.max_functions frame.entry.begun (library_of library.old)
             → Holds self.now.max_functions frame.entry.begun (library_of library.new) }
@@ -160,7 +158,6 @@ impl Engine {
         ensures orderly { Holds self.now.max_functions frame.entry.begun (library_of lib.old.entries)
             → Holds self.now.max_functions frame.entry.begun (library_of lib.new.entries) }
         ensures stays { StaysWithin 1 self.now settings (counts_of counts.old) (counts_of counts.new) }
-        ensures returns { UnlessMemory (λ refused. ReturnsTo (counts_of counts.old) (counts_of counts.new)) result }
     {
         let mut library = take_library(self.alloc(), lib)?;
         let read = self.read_statements(
@@ -209,10 +206,10 @@ impl Engine {
         ensures grows { Begins (library_of state.old.lib.now.entries) (library_of state.new.lib.now.entries) }
         ensures orderly { KeepsOrder self.now (counts_of state.old.counts)
             (library_of state.old.lib.now.entries) (library_of state.new.lib.now.entries) }
-        ensures active { UnlessMemory (λ refused. ActiveAgain (counts_of state.old.counts) (counts_of state.new.counts))
-            result }
+        ensures counts { KeepsCounts (counts_of state.old.counts) (counts_of state.new.counts) }
         ensures kept { KeepsState state.old state.new }
     {
+        self.limits_functions();
         let mut chosen = self.script_settings();
         settings(&mut chosen);
         let alloc = self.alloc();
@@ -228,32 +225,32 @@ impl Engine {
             &known,
             state.counts.fn_begun(),
         );
-        state.counts.nest_enter();
+        let mut counts = state.counts;
+        counts.nest_enter();
         let read = self.parse_script(
             state.input,
             state.lib,
-            &mut state.counts,
+            &mut counts,
             frame,
             &mut state.stack,
             &mut state.imports,
             chosen,
         );
-        state.counts.nest_leave();
+        state.counts.raise_peak(&counts);
         drop(known);
         state.global_imports = around;
         read
     }
 
-    /// Reads a script up to the end mark of the stream, under the engine's settings for a script, and hands its
-    /// statements, with all functions of the library, to the optimizer with the state's external constants. The
-    /// functions and closures of the script join the library; those that had ended before an error stay there. `level`
-    /// is how much the optimizer may do.
+    /// Reads a script up to the end mark of the stream, under the engine's settings for a script, as an [`AST`] that is
+    /// not optimized, whatever `level` is. The functions and closures of the script join the library; those that had
+    /// ended before an error stay there.
     ///
     /// An error tells why and where the stream is no script; all are in docs/GRAMMAR.md, "Errors". `OutOfMemory` comes
     /// where memory ran out, or where the stream said so, and stands at no position.
     pub fn parse(&self, state: ParseState<'_, '_, '_>, level: OptimizationLevel) -> ParseResult<AST>
         ensures reads { IsFresh state.entry
-            → ReadsAst (starts_in self.now state.entry (script_settings self.now)) (live_in state.entry)
+            → ReadsAst unoptimized (starts_in self.now state.entry (script_settings self.now)) (live_in state.entry)
             (library_of state.entry.lib.now.entries) (library_of state.exit.1.0.now.entries)
             (cursor_of state.entry.input.now) (cursor_of state.exit.0.now) state.entry.external_constants level
             result }
@@ -263,6 +260,34 @@ impl Engine {
         ensures orderly { KeepsOrder self.now (counts_of state.entry.counts)
             (library_of state.entry.lib.now.entries) (library_of state.exit.1.0.now.entries) }
     {
+        rebuild!(
+            state: input, lib, counts, tokenizer_control, expr_filter, external_constants, stack,
+            frame_pointer, external_vars, allow_capture, imports, global_imports
+        );
+        self.parse_with(state, level, &Unoptimized)
+    }
+
+    /// Reads a script as [`Engine::parse`] does, and hands its statements, with all functions of the library, to an
+    /// optimizer, with the state's external constants. `level` is how much the optimizer may do. Where it runs out of
+    /// memory, the error is `OutOfMemory` at no position.
+    pub fn parse_with<O: Optimizer>(
+        &self,
+        state: ParseState<'_, '_, '_>,
+        level: OptimizationLevel,
+        optimizer: &O,
+    ) -> ParseResult<AST>
+        ensures reads { IsFresh state.entry
+            → ReadsAst (O.makes optimizer.now) (starts_in self.now state.entry (script_settings self.now))
+            (live_in state.entry) (library_of state.entry.lib.now.entries) (library_of state.exit.1.0.now.entries)
+            (cursor_of state.entry.input.now) (cursor_of state.exit.0.now) state.entry.external_constants level
+            result }
+        ensures memory { UnlessMemory (HasRead (cursor_of state.entry.input.now) (cursor_of state.exit.0.now)) result }
+        ensures nowhere { IfErr result MemoryIsNowhere }
+        ensures grows { Begins (library_of state.entry.lib.now.entries) (library_of state.exit.1.0.now.entries) }
+        ensures orderly { KeepsOrder self.now (counts_of state.entry.counts)
+            (library_of state.entry.lib.now.entries) (library_of state.exit.1.0.now.entries) }
+    {
+        self.limits_functions();
         let ParseState {
             input,
             lib,
@@ -293,23 +318,25 @@ impl Engine {
             settings,
         );
         match read {
-            Ok(read) => self.optimize(external_constants, read, level),
+            Ok(read) => self.optimize(optimizer, external_constants, read, level),
             Err(error) => Err(error),
         }
     }
 
-    // What the optimizer makes of the statements and functions of a script.
-    fn optimize(
+    // What an optimizer makes of the statements and functions of a script.
+    pub(crate) fn optimize<O: Optimizer>(
         &self,
+        optimizer: &O,
         constants: Option<&Scope>,
         read: (StmtBlockContainer, Vec<Rc<ScriptFuncDef>>),
         level: OptimizationLevel,
     ) -> ParseResult<AST>
-        ensures optimized { IfOk result (λ script. Optimized constants.entry read.0 read.1 level script) }
+        ensures optimized { IfOk result (O.makes optimizer.now constants.entry read.0 read.1 level) }
         ensures out { IfErr result (λ e. is_for_memory e ≡ true) }
         ensures nowhere { IfErr result MemoryIsNowhere }
     {
         let (statements, functions) = read;
-        Ok(optimize_into_ast(self.alloc(), constants, statements, functions, level)?)
+        let alloc = self.alloc();
+        Ok(optimizer.optimize_into_ast(alloc, constants, statements, functions, level)?)
     }
 }

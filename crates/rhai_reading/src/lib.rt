@@ -4,12 +4,13 @@
 
 ghost use Rattle.rhai_grammar.specs.Laws.{FormsHaveOneTree, ScriptsHaveOneTree};
 
-/// Two forms that fit and spell the same stream have one tree.
+/// Two expressions that fit and spell the same stream have one tree, and leave the same functions.
 pub fn forms_have_one_tree()
     ensures { FormsHaveOneTree }
 {}
 
-/// Two scripts that fit and spell the same stream have the same statements, and leave the same slots.
+/// Two scripts that fit and spell the same stream have the same statements, and leave the same functions, slots and
+/// imports.
 pub fn scripts_have_one_tree()
     ensures { ScriptsHaveOneTree }
 {}

@@ -177,7 +177,7 @@ pub jump : (x : Statement) → StatementRead x → OperandRead (form.Jump x)
 jump x reads c w place k s t b m =
     next (jump_stands place) m.0 (λ e.
     seen (jump_start_is (operand_start place (op_at s)) e) (R.right_at c w (pos_at s))
-    (part (reads (below_global c) (in_block w) k s t true m.1) (λ u l n. ret n)))
+    (deeper _ refl (reads (below_global c) (in_block w) k s t true m.1) (λ u l n. ret n)))
 
 -- elsewhere than on the right of an operator an operand is written
 pub no_first_operand : (token : Lexeme) (pos : Position) → FirstRead (form.NoOperand token pos)

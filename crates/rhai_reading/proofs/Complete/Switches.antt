@@ -72,7 +72,7 @@ case_guard at f expression c w k s t b m =
 pub does : (f : Statement) → StatementRead f → ActionRead (form.Does f)
 does f statement c w k s t b m =
     seen (not_true _ m.0) (R.action_on c w) (next action_due m.1.0 (λ e. if_false _ (no_end (op_at s) e)
-    (part (statement (below_global c) (in_block w) k s t true m.1.1) (λ u l n.
+    (deeper _ refl (statement (below_global c) (in_block w) k s t true m.1.1) (λ u l n.
     gives (ap (λ itself. (action_tree (form.Does f) w, itself)) (tree_ends_arm f (in_block w))) n))))
 
 pub gives_value : (f : Run) → ExpressionRead f → ActionRead (form.Gives f)

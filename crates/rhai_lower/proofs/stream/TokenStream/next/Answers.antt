@@ -1,6 +1,6 @@
 use Rattle.std.proofs.Common.{◌∙◌, ap, sym}
-use Rattle.rhai_lower.specs.Streams.{asked}
-use Rattle.rhai_lower.proofs.StreamLemmas.{asked_is_peeked}
+use Rattle.rhai_lower.specs.Streams.{asked, at_rest, later}
+use Rattle.rhai_lower.proofs.StreamLemmas.{asked_is_peeked, rest_is_left}
 use Rattle.rhai_lower.proofs.stream.TokenStream.next.Goals as goal
 
 pub returns-clause-value : goal.returns-clause-value
@@ -8,3 +8,8 @@ returns-clause-value c =
     c.replace.ensures.value
     ∙ sym (asked_is_peeked c.self.inside.head c.self.inside.taken c.self.inside.end c.self.inside.rest.items (ap (λ s. s.peeked) (c.self.view_is ∙ c.ask.ensures)) c.self.invariant)
     ∙ ap asked (c.self.view_is ∙ c.ask.ensures)
+
+pub returns-clause-after : goal.returns-clause-after
+returns-clause-after c =
+    sym (ap at_rest (rest_is_left c.self.inside.head c.self.inside.taken c.self.inside.end c.self.inside.rest.items (ap (λ s. s.peeked) (c.self.view_is ∙ c.ask.ensures)) c.self.invariant))
+    ∙ ap later (c.self.view_is ∙ c.ask.ensures)

@@ -1,6 +1,6 @@
-use Rattle.std.proofs.Common.{inr, [], ◌∙◌, ap, refl, rules, sym}
+use Rattle.std.proofs.Common.{[], ◌∙◌, ap, refl, rules, sym}
 use Rattle.std.proofs.lemmas.Result.{err_from_is_err_and}
-use Rattle.std.proofs.Math.Nat.{le-max_left, le_refl}
+use Rattle.std.proofs.Math.Nat.{le-max_left}
 use Rattle.rhai_lower.specs.View.{statement_views}
 use Rattle.rhai_grammar.specs.Causes.{refusal_of}
 use Rattle.rhai_grammar.specs.Cursors.{cursor_of}
@@ -10,7 +10,7 @@ use Rattle.rhai_base.specs.Counts.{counts_of}
 use Rattle.rhai_base.specs.Libraries.{library_of}
 use Rattle.rhai_parser.specs.Frames.{context_of}
 use Rattle.rhai_parser.specs.Readers.{nesting_of}
-use Rattle.rhai_parser.proofs.NestLemmas.{always, if_ok, nests_written, seen_of}
+use Rattle.rhai_parser.proofs.NestLemmas.{if_ok, nests_written, seen_of}
 use Rattle.rhai_parser.proofs.PromiseLemmas.{Entries, begins_read, begins_same, script_done, script_fails, has_read_done, has_read_fails, reads_none}
 use Rattle.rhai_reading.proofs.Main.{script_entry}
 use Rattle.rhai_parser.proofs.engine.Engine.parse_script.Goals as goal
@@ -85,9 +85,3 @@ returns-in-Ok-clause-grows c = begins_read _ _ _ _ c.in_ok-library.ensures.ok c.
 
 pub returns-in-Err-clause-grows : goal.returns-in-Err-clause-grows
 returns-in-Err-clause-grows c = begins_read _ _ _ _ c.in_ok-library.ensures.ok c.read_statements-read.ensures.grows c.into_functions.ensures
-
-pub returns-in_err-library-clause-returns : goal.returns-in_err-library-clause-returns
-returns-in_err-library-clause-returns c = always c.from_residual.result (λ le. (inr refl, le_refl _))
-
-pub returns-in-Ok-clause-returns : goal.returns-in-Ok-clause-returns
-returns-in-Ok-clause-returns c = always c.with_functions.result c.in-Ok.ensures.returns

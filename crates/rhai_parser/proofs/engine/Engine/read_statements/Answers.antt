@@ -1,14 +1,13 @@
-use Rattle.std.proofs.Common.{List, [], ap, refl, rules, subst, ◌≡◌}
+use Rattle.std.proofs.Common.{List, [], ap, rules, subst, ◌≡◌}
 use Rattle.rhai_grammar.specs.Cursors.{cursor_of}
 use Rattle.rhai_grammar.specs.Uses.{Use}
-use Rattle.rhai_base.specs.Counts.{counts_of}
 use Rattle.rhai_base.specs.Libraries.{library_of}
 use Rattle.rhai_base.specs.Uses.{uses_of}
 use Rattle.rhai_reading.specs.Reading.{Script}
 use Rattle.rhai_reading.specs.Running.{Gives, Progress, result_of}
 use Rattle.rhai_parser.specs.Frames.{context_of}
 use Rattle.rhai_parser.specs.Readers.{nesting_of, state_of, statements_of, with_live}
-use Rattle.rhai_parser.proofs.NestLemmas.{returns_read, stays_read}
+use Rattle.rhai_parser.proofs.NestLemmas.{stays_read}
 use Rattle.rhai_parser.proofs.engine.Engine.read_statements.Goals as goal
 
 pub returns-clause-reads : goal.returns-clause-reads
@@ -29,10 +28,3 @@ pub returns-clause-stays : goal.returns-clause-stays
 returns-clause-stays c =
     stays_read c.args.self.now c.args.frame c.args.settings _ c.parse_statements-statements.new.shared
     c.parse_statements-statements.ensures.stays
-
-pub returns-clause-returns : goal.returns-clause-returns
-returns-clause-returns c =
-    let left = c.parse_statements-statements.new.shared in
-    returns_read (with_live statements_of c.parse_statements-statements.new.frame) (context_of c.args.self.now c.args.frame c.args.settings) c.args.frame.live
-    (record { cursor = cursor_of c.args.input.now; library = library_of c.args.library.now; captured = uses_of c.new.result; nesting = nesting_of c.args.counts.now }) (state_of left)
-    (counts_of c.args.counts.now) (counts_of left.counts) c.parse_statements-statements.result refl refl c.parse_statements-statements.ensures.reads
