@@ -4,9 +4,9 @@ each token, and each string marked or unmarked as text."""
 from typing import NamedTuple
 
 from due import due
+from table import NO_MEMORY
 
 ERRORS = ("memory", "unterminated", "toolong 7", "number 1x", "improper =>", "unexpected §")
-NO_MEMORY = "refused E36 none OutOfMemory"
 MARKED = {"str": "tstr", "istr": "tistr", "tstr": "str", "tistr": "istr"}
 BY_RULE, STORED, SAME_LIST, TREE = "by a rule", "in refusals.txt", "by the table of cases", "in trees.txt"
 

@@ -39,8 +39,9 @@ class Unforeseen(ValueError):
 
 
 class Ended(NamedTuple):
-    """How many tokens were taken where a function or closure had ended, and how many had been looked at."""
+    """A function or closure, and how many tokens were taken where it had ended, and how many had been looked at."""
 
+    name: str
     taken: int
     looked_at: int
 
@@ -280,13 +281,14 @@ class Reader:
                 self.refuse("E7 MissingToken ,")
             self.takes(",")
 
-    def within(self, part):
-        """Reads a part that stands in a function or closure."""
+    def within(self, part, name=None):
+        """Reads a part that stands in a function of this name, or in a closure, which is named by those before it."""
         before = self.in_function, self.has_pipes, self.options
         self.in_function, self.has_pipes, self.options = True, True, self.in_functions
         part()
         self.in_function, self.has_pipes, self.options = before
-        self.ended.append(Ended(self.at, self.looked_at))
+        closures = sum(it.name.startswith("anon$") for it in self.ended)
+        self.ended.append(Ended(name or f"anon${closures:016x}", self.at, self.looked_at))
 
     def closure(self, token):
         def read():
@@ -317,7 +319,7 @@ class Reader:
         if self.peek() != "{":
             self.refuse(f"E26 FnMissingBody {name[2]}")
         before, self.is_expr = self.is_expr, False
-        self.within(self.block)
+        self.within(self.block, name[2])
         self.is_expr = before
 
     # Statements.

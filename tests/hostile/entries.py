@@ -8,7 +8,6 @@ LIMITS = {"expr_depth": "64", "fn_depth": "32", "functions": str(2**64 - 1), "ar
 OPTIONS = ("IF_EXPR", "SWITCH_EXPR", "LOOP_EXPR", "STMT_EXPR", "ANON_FN", "LOOPING", "STRICT_VAR", "SHADOWING")
 LEVELS = ("None", "Simple", "Full")
 END = b"\ntest result: ok\n"  # what a test that passes prints last
-NO_MEMORY = "refused E36 none OutOfMemory"
 
 
 def given(run, text, level="None"):
@@ -26,7 +25,7 @@ def wrong(run, wanted, answer):
 
 def scripts(runs):
     """The runs of scripts. Where memory runs out the tests print nothing."""
-    return [run for run in runs if run.words[0] == "script" and run.first != NO_MEMORY]
+    return [run for run in runs if run.words[0] == "script" and run.first != table.NO_MEMORY]
 
 
 def check_level(program, runs, level):

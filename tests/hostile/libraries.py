@@ -43,9 +43,11 @@ def runs_with_functions(runs):
 
 
 def holds(run, found, fewest, most):
-    """Whether the library has the first functions of the run, at least and at most so many."""
-    names = functions_of(run) if run.first == "accepted" else found.functions
-    return fewest <= len(found.functions) <= most and found.functions == names[: len(found.functions)]
+    """Whether the library has the first functions of the run, at least and at most so many. What they are besides their
+    names is known where the run is accepted."""
+    count, names = len(found.functions), [line.split(" ")[2] for line in found.functions]
+    is_of_run = run.first != "accepted" or found.functions == functions_of(run)[:count]
+    return fewest <= count <= most and names == [it.name for it in ended(run.lines, run.words)[:count]] and is_of_run
 
 
 def wrong_without_memory(run, place, answer):

@@ -1,6 +1,6 @@
 """Each request for memory refused in turn."""
 
-NO_MEMORY = b"refused E36 none OutOfMemory\n"
+from table import NO_MEMORY
 
 
 def wrong(run, found):
@@ -9,7 +9,7 @@ def wrong(run, found):
     if (last.printed, last.status) != (run.answer, run.status):
         return f"{run.name}: with ample memory status {last.status}: {last.first}"
     for number, answer in enumerate(refused, 1):
-        if (answer.printed, answer.status) != (NO_MEMORY, 1):
+        if (answer.printed, answer.status) != (f"{NO_MEMORY}\n".encode(), 1):
             return f"{run.name}: request {number} refused, and status {answer.status}: {answer.first}"
     return None if refused else f"{run.name}: it requests no memory"
 
