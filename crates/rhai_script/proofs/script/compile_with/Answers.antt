@@ -1,0 +1,51 @@
+-- A text is read as the stream of its pieces is.
+use Rattle.std.proofs.Common.{◌≡◌, [], Err, map, refl, rules, subst, sym}
+use Rattle.rhai_lower.specs.Entries.{ask_of}
+use Rattle.rhai_lower.specs.Streams.{stream_of}
+use Rattle.rhai_grammar.specs.Causes.{no_memory}
+use Rattle.rhai_grammar.specs.Contexts.{nothing_live}
+use Rattle.rhai_grammar.specs.Promises.{scripts}
+use Rattle.rhai_grammar.specs.Trees.{statement_trees}
+use Rattle.rhai_grammar.proofs.OrderLemmas.{libraries_stay_orderly}
+use Rattle.rhai_base.specs.Libraries.{library_of}
+use Rattle.rhai_parser.specs.Engines.{script_settings}
+use Rattle.rhai_parser.specs.Scripts.{IsMadeOf}
+use Rattle.rhai_tokenizer.specs.Readings.{Reads}
+use Rattle.rhai_script.specs.Scripts.{text_context}
+use Rattle.rhai_script.specs.Texts.{ReadsText}
+use Rattle.rhai_script.proofs.StateLemmas.{IsNew, fresh, stays_orderly, text_parsed}
+use Rattle.rhai_script.proofs.TextLemmas.{nothing_read}
+use Rattle.rhai_script.proofs.script.compile_with.Goals as goal
+
+pub returns-in_err-entries-clause-reads : goal.returns-in_err-entries-clause-reads
+returns-in_err-entries-clause-reads g c =
+    let is : c.from_residual.result ≡ Err no_memory = search rules in
+    let whole = scripts (text_context c.args.engine.now (script_settings c.args.engine.now) c.args.constants) nothing_live in
+    let Is = λ fs script. IsMadeOf (g.O.Optimizer.makes c.args.optimizer.now) c.args.constants c.args.level (statement_trees fs nothing_live) [] script in
+    record {
+      after = [];
+      reads = subst (ReadsText whole Is [] [] c.args.limits c.args.text.now) (sym is) (nothing_read whole Is [] [] c.args.limits c.args.text.now no_memory refl);
+      orderly = libraries_stay_orderly.empty c.args.engine.now.max_functions;
+    }
+
+pub returns-clause-reads : goal.returns-clause-reads
+returns-clause-reads g c =
+    let tokens = c.in_ok-entries.field-0 in
+    let r : Reads c.args.text.now c.args.limits tokens = search rules in
+    let e = c.new-state.ensures in
+    let input : c.new-state.result.input.now ≡ stream_of (map ask_of tokens.entries.items) tokens.end = search rules in
+    let lib : c.new-state.result.lib.now.entries ≡ [] = search rules in
+    let new : IsNew c.new-state.result (stream_of (map ask_of tokens.entries.items) tokens.end) c.args.constants = record {
+      input = input;
+      lib = lib;
+      counts = e.counts;
+      filter = e.filter;
+      constants = e.constants;
+      stack = e.stack;
+      frame = e.frame;
+      captured = e.captured;
+      capture = e.capture;
+      imports = e.imports;
+      global_imports = e.global_imports;
+    } in
+    ?
