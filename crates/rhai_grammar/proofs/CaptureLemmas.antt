@@ -13,6 +13,7 @@ use Rattle.rhai_grammar.specs.Written as W
 use Rattle.rhai_grammar.specs.declared.role.Closing.TheVariants.{EndMark}
 use Rattle.rhai_grammar.specs.declared.role.OperandPlace.{OperandPlace}
 use Rattle.rhai_grammar.proofs.EventLemmas as happens
+use Rattle.rhai_grammar.proofs.SparedTokens.{end_due}
 use Rattle.rhai_grammar.proofs.EventParts.{closure_parameters, expressed}
 use Rattle.rhai_grammar.proofs.EventEffects.{captured_is, captured_outside, library_is}
 use Rattle.rhai_grammar.proofs.EventSteps.{Does, Scope, all_of, deeper, here, is_closure, next, on, scope_of}
@@ -70,7 +71,7 @@ first q es ds s t e n h m = elim (h.stopped s t e n m) [ inl f ↦ f.1 | inr r �
 -- whole expressions and scripts
 pub whole_expression : (c : Context) (w : Live) (f : Run) → Does (scope_of c) (events f w) (W.whole_expression f c w) Nothing
 whole_expression c w f =
-    all_of (on (expressed f c w (happens.run f _ _ (refl, refl, refl) (refl, refl, refl))) (next here))
+    all_of (on (expressed f c w (happens.run f _ _ (refl, refl, refl) (refl, refl, refl))) (next end_due here))
 
 pub whole_script : (c : Context) (w : Live) (fs : Statements)
     → Does (scope_of c) (script_events fs w) (W.whole_script fs c w) Nothing

@@ -8,23 +8,26 @@ use Rattle.std.specs.Cmp.Lexicographic as L
 use Rattle.std.specs.List.{list_all, starts_with}
 use Rattle.std.specs.Prelude.{Option, codes, drop, nat_eq, not, take, if◌then◌else◌}
 use Rattle.rhai_grammar.specs.Prelude.{SlotValue, Lexeme, is_identifier, Text, Position, Refusal, refusal, closure_name}
-use Rattle.rhai_grammar.specs.Prelude.{Context, Mode, Point, adding, code, is_memory, next_at, with_captured, Adds}
+use Rattle.rhai_grammar.specs.Prelude.{Context, Mode, Point, adding, code, is_memory, next_at, with_captured}
 use Rattle.rhai_grammar.specs.Prelude.{Apart, Blames, Demands, Fine, Met, Missed, Next, Nothing, Otherwise, Test}
 use Rattle.rhai_grammar.specs.Prelude.{TestIn, verdict, ◌▸◌, is_due, Owner, is_new, may_begin, names_function, untyped}
 use Rattle.rhai_grammar.specs.Prelude.{is_closure, Ended, Library, closure_count, with_ended, IsNumbered}
-use Rattle.rhai_grammar.specs.Prelude.{Use, HoldsFirst, ended_in, Event, HasEnded, ends_only, used_at}
+use Rattle.rhai_grammar.specs.Prelude.{duplicate_of, Use, HoldsFirst, ended_in, Event, HasEnded, ends_only, used_at}
 use Rattle.rhai_lower.specs.Names.{begins_with_letter, first_but_underscore, is_reserved, is_word}
-use Rattle.rhai_grammar.specs.Causes.{FnMissingName}
+use Rattle.rhai_grammar.specs.Causes.{FnMissingName, TooManyFunctions}
 use Rattle.rhai_grammar.specs.Delivered as D
 use Rattle.rhai_grammar.specs.Forms as form
+use Rattle.rhai_grammar.specs.LibraryLaws.{duplicates_closure}
 use Rattle.rhai_grammar.specs.Written as W
 use Rattle.rhai_grammar.specs.declared.due.DueToken.TheVariants as due
-use Rattle.rhai_grammar.proofs.EventEffects.{holds_front, holds_later, holds_own, captured_after, captured_ends}
-use Rattle.rhai_grammar.proofs.EventEffects.{captured_on, captured_outside, library_after, library_ends, library_on}
-use Rattle.rhai_grammar.proofs.EventEffects.{library_used}
-use Rattle.rhai_grammar.proofs.EventSteps.{Does, Is, Orderly, Reached, Scope, Stops, deeper, shape, stop, tok}
-use Rattle.rhai_grammar.proofs.LibraryLemmas.{closure_added, function_added}
+use Rattle.rhai_grammar.proofs.Duplicates.{refused, same_cause}
+use Rattle.rhai_grammar.proofs.EventEffects.{holds_front, holds_later, holds_none, holds_own, captured_after}
+use Rattle.rhai_grammar.proofs.EventEffects.{captured_ends, captured_on, captured_outside, library_after, library_ends}
+use Rattle.rhai_grammar.proofs.EventEffects.{library_on, library_used}
+use Rattle.rhai_grammar.proofs.EventSteps.{Does, Is, Misses, Orderly, Scope, Stops, deeper, shape, stop, tok}
+use Rattle.rhai_grammar.proofs.LibraryLemmas.{closure_added, function_added, key_is_new}
 use Rattle.rhai_grammar.proofs.LibrarySteps.{Kept, few_closures, one_begins, one_ends, one_stops}
+use Rattle.rhai_grammar.proofs.SparedTokens as spares
 
 -- ---- libraries with one more function
 
@@ -44,33 +47,40 @@ one_begun q c l m i e f g =
 abbrev one_more : Scope → Scope
 one_more q = deeper true q
 
--- the end of a body, where the functions stay numbered with its own
+-- the functions at the end of a body, which stay numbered with its own: if that one's key is there, it is no closure
+abbrev Ready : Scope → Ended → Library → Type 0
+Ready q x l = Begun q l × IsNumbered (with_ended l x) × (is_new x.key l ≡ false → is_closure x.key ≡ false)
+
+-- the end of a body
 record Ran (q : Scope) (from l : Library) (us : List Use) (x : Ended) (k : Demands) (t : Point) : Type 0 where
   end : Point
   met : Met k end t
   library : end.library ≡ l
   captured : end.captured ≡ us
-  orderly : Begun q from → Begun q end.library × IsNumbered (with_ended end.library x)
+  orderly : Begun q from → Ready q x end.library
 
 record Halted (q : Scope) (from l : Library) (x : Ended) (k : Demands) (e : Refusal) (n : Mode) (t : Point) : Type 0
   where
     end : Point
     missed : Missed k end e n t
     library : end.library ≡ l
-    orderly : Begun q from → Begun q end.library × IsNumbered (with_ended end.library x)
+    orderly : Begun q from → Ready q x end.library
+
+-- A body stops before these demands, or they are missed at its end.
+abbrev Breaks : Scope → (from : Library) → List Event → Ended → Demands → Refusal → Mode → (t : Point) → Type 0
+Breaks q from es x k e n t = Stops (one_more q) from es e t ⊎ Halted q from (library_after es from) x k e n t
 
 -- what happens in a body, seen from around it
 pub record Runs (q : Scope) (es : List Event) (x : Ended) (ds k : Demands) : Type 0 where
   did : (s t : Point) → Met ds s t
       → Ran q s.library (library_after es s.library) (captured_after q.inside es s.library s.captured) x k t
-  stopped : (s t : Point) (e : Refusal) (n : Mode) → Missed ds s e n t
-      → Stops (one_more q) s.library es t ⊎ Halted q s.library (library_after es s.library) x k e n t
+  stopped : (s t : Point) (e : Refusal) (n : Mode) → Missed ds s e n t → Breaks q s.library es x k e n t
 
 -- From where a function or closure may begin to where it has ended.
-pub ended : {q : Scope} (c : Context) {es : List Event} {x : Ended} {ds body k : Demands} {why other : Refusal} → Is q c
-    → Does q [] ds body → Runs q es x body (TestIn (is_new x.key) other ▸ Adds x ▸ k)
-    → Does q (es ++ HasEnded x ∷ []) (TestIn (may_begin c) why ▸ ds) k
-ended {q = q} c {es = es} {x = x} {ds = ds} {body = inside} {k = k} {why = why} {other = other} i path body = record {
+pub ended : {q : Scope} (c : Context) {es : List Event} {x : Ended} {ds body k : Demands} (at : Position) → Is q c
+    → Does q [] ds body → Runs q es x body (W.function_ends x at k)
+    → Does q (es ++ HasEnded x ∷ []) (TestIn (may_begin c) (refusal TooManyFunctions at) ▸ ds) k
+ended {q = q} c {es = es} {x = x} {ds = ds} {body = inside} {k = k} at i path body = record {
   did = λ s t m.
       let r = path.did s t m.1 in
       let p = body.did r.end t r.met in
@@ -92,12 +102,15 @@ ended {q = q} c {es = es} {x = x} {ds = ds} {body = inside} {k = k} {why = why} 
 }
   where
     last : (s t : Point) (e : Refusal) (n : Mode) (p : Point) → p.library ≡ library_after es s.library
-        → (Orderly q s.library → Begun q p.library × IsNumbered (with_ended p.library x))
-        → Missed (TestIn (is_new x.key) other ▸ Adds x ▸ k) p e n t
-        → Stops q s.library (es ++ HasEnded x ∷ []) t ⊎ Reached q s.library (library_after (es ++ HasEnded x ∷ []) s.library) k e n t
+        → (Orderly q s.library → Ready q x p.library) → Missed (W.function_ends x at k) p e n t
+        → Misses q s.library (es ++ HasEnded x ∷ []) k e n t
     last s t e n p l g (inl a) = inl (
-      λ o. (stop q es p t a.3).0 (one_stops q.functions q.begun p.library (g o).0),
-      holds_later es (HasEnded x ∷ []) s.library p.library t.library l (stop q (HasEnded x ∷ []) p t a.3).1,
+      λ o.
+          let h = g o in
+          (stop q es p t e (same_cause e (duplicate_of x.key at) a.1 (h.2 a.0)) a.3).0
+          (one_stops q.functions q.begun p.library h.0),
+      holds_later es (HasEnded x ∷ []) s.library p.library t.library l
+          (holds_none (HasEnded x ∷ []) p.library t.library (ap (λ (y : Point). y.library) a.3)),
     )
     last s t e n p l g (inr b) = inr (record {
       end = adding x p;
@@ -107,9 +120,8 @@ ended {q = q} c {es = es} {x = x} {ds = ds} {body = inside} {k = k} {why = why} 
     })
 
     later : (s t : Point) (e : Refusal) (n : Mode) (r : Point) → r.library ≡ s.library
-        → (Orderly q s.library → Begun q r.library)
-        → Stops (one_more q) r.library es t ⊎ Halted q r.library (library_after es r.library) x (TestIn (is_new x.key) other ▸ Adds x ▸ k) e n t
-        → Stops q s.library (es ++ HasEnded x ∷ []) t ⊎ Reached q s.library (library_after (es ++ HasEnded x ∷ []) s.library) k e n t
+        → (Orderly q s.library → Begun q r.library) → Breaks q r.library es x (W.function_ends x at k) e n t
+        → Misses q s.library (es ++ HasEnded x ∷ []) k e n t
     later s t e n r l g (inl h) = inl (
       λ o. h.0 (g o),
       holds_front es (HasEnded x ∷ []) s.library t.library (subst (λ m. HoldsFirst m (ended_in es) t.library) l h.1),
@@ -117,18 +129,19 @@ ended {q = q} c {es = es} {x = x} {ds = ds} {body = inside} {k = k} {why = why} 
     later s t e n r l g (inr p) =
         last s t e n p.end (p.library ∙ ap (library_after es) l) (λ o. p.orderly (g o)) p.missed
 
-    after : (s t : Point) (e : Refusal) (n : Mode) → may_begin c s.library ≡ true
-        → Stops q s.library [] t ⊎ Reached q s.library s.library inside e n t
-        → Stops q s.library (es ++ HasEnded x ∷ []) t ⊎ Reached q s.library (library_after (es ++ HasEnded x ∷ []) s.library) k e n t
+    after : (s t : Point) (e : Refusal) (n : Mode) → may_begin c s.library ≡ true → Misses q s.library [] inside e n t
+        → Misses q s.library (es ++ HasEnded x ∷ []) k e n t
     after s t e n room (inl h) =
         inl (h.0, holds_front [] (es ++ HasEnded x ∷ []) s.library t.library h.1)
     after s t e n room (inr r) =
         later s t e n r.end r.library (one_begun q c s.library r.end.library i room r.library)
         (body.stopped r.end t e n r.missed)
 
-    first : (s t : Point) (e : Refusal) (n : Mode) → Missed (TestIn (may_begin c) why ▸ ds) s e n t
-        → Stops q s.library (es ++ HasEnded x ∷ []) t ⊎ Reached q s.library (library_after (es ++ HasEnded x ∷ []) s.library) k e n t
-    first s t e n (inl a) = inl (stop q (es ++ HasEnded x ∷ []) s t a.3)
+    first : (s t : Point) (e : Refusal) (n : Mode)
+        → Missed (TestIn (may_begin c) (refusal TooManyFunctions at) ▸ ds) s e n t
+        → Misses q s.library (es ++ HasEnded x ∷ []) k e n t
+    first s t e n (inl a) =
+        inl (stop q (es ++ HasEnded x ∷ []) s t e (same_cause e (refusal TooManyFunctions at) a.1 refl) a.3)
     first s t e n (inr b) = after s t e n b.0 (path.stopped s t e n b.1)
 
 -- the body of a function whose name is not that of a closure
@@ -144,20 +157,19 @@ function_runs {q = q} {es = es} {x = x} {ds = ds} {k = k} other h = record {
         captured =
             r.captured ∙ captured_outside es s.library s.captured
             ∙ sym (captured_ends q.inside es s.library s.captured);
-        orderly = λ g. let o = r.orderly g in (o, function_added r.end.library x o.0.numbered other);
+        orderly = λ g. let o = r.orderly g in (o, function_added r.end.library x o.0.numbered other, λ old. other);
       };
   stopped = λ s t e n m. by s t e n (h.stopped s t e n m);
 }
   where
-    by : (s t : Point) (e : Refusal) (n : Mode)
-        → Stops (deeper false q) s.library es t ⊎ Reached (deeper false q) s.library (library_after es s.library) k e n t
-        → Stops (one_more q) s.library (ends_only es) t ⊎ Halted q s.library (library_after (ends_only es) s.library) x k e n t
+    by : (s t : Point) (e : Refusal) (n : Mode) → Misses (deeper false q) s.library es k e n t
+        → Breaks q s.library (ends_only es) x k e n t
     by s t e n (inl g) = inl (g.0, holds_own es s.library t.library g.1)
     by s t e n (inr r) = inr (record {
       end = r.end;
       missed = r.missed;
       library = r.library ∙ sym (library_ends es s.library);
-      orderly = λ g. let o = r.orderly g in (o, function_added r.end.library x o.0.numbered other);
+      orderly = λ g. let o = r.orderly g in (o, function_added r.end.library x o.0.numbered other, λ old. other);
     })
 
 -- The body of a closure, after which the names that it captures are used.
@@ -188,26 +200,26 @@ closure_runs {q = q} slots {es = es} {x = x} {ds = ds} {more = more} {k = k} {n 
     to_there s between end e l = sym (ap (λ (x : Point). x.library) e) ∙ l ∙ sym (library_ends es s.library)
 
     named : (between end : Point) (l : Library) → end ≡ between → closure_count between.library ≡ n → l ≡ between.library
-        → Begun q end.library → Begun q l × IsNumbered (with_ended l x)
+        → Begun q end.library → Ready q x l
     named between end l e count same g =
-        let o : Begun q l = subst (λ m. Begun q m) (ap (λ (p : Point). p.library) e ∙ sym same) g in (
+        let o : Begun q l = subst (λ m. Begun q m) (ap (λ (p : Point). p.library) e ∙ sym same) g in
+        let few = few_closures q.functions q.begun l o in
+        let is : x.key.name ≡ closure_name (closure_count l) =
+        name ∙ ap closure_name (sym (ap closure_count same ∙ count)) in (
           o,
-          closure_added l x o.0.numbered (few_closures q.functions q.begun l o)
-              (name ∙ ap closure_name (sym (ap closure_count same ∙ count))),
+          closure_added l x o.0.numbered few is,
+          λ old. absurd (let new = key_is_new l x.key o.0.numbered few is in cc),
         )
 
-    body : (s t : Point) (e : Refusal) (m : Mode)
-        → Stops (one_more q) s.library es t ⊎ Reached (one_more q) s.library (library_after es s.library) Nothing e m t
-        → Stops (one_more q) s.library es t
+    body : (s t : Point) (e : Refusal) (m : Mode) → Misses (one_more q) s.library es Nothing e m t
+        → Stops (one_more q) s.library es e t
     body s t e m (inl h) = h
     body s t e m (inr r) = absurd r.missed
 
     later : (s between end t : Point) (e : Refusal) (m : Mode) → end ≡ between → end.library ≡ library_after es s.library
         → closure_count between.library ≡ n → (Begun q s.library → Begun q end.library)
-        → Stops q between.library (used_at slots us) t
-        ⊎ Reached q between.library (library_after (used_at slots us) between.library) k e m t
-        → Stops (one_more q) s.library (ends_only es ++ used_at slots us) t
-        ⊎ Halted q s.library (library_after (ends_only es ++ used_at slots us) s.library) x k e m t
+        → Misses q between.library (used_at slots us) k e m t
+        → Breaks q s.library (ends_only es ++ used_at slots us) x k e m t
     later s between end t e m there l count o (inl h) = inl (
       λ g. h.0 (one_stops q.functions q.begun between.library (subst (λ (p : Point). Begun q p.library) there (o g))),
       holds_later (ends_only es) (used_at slots us) s.library between.library t.library (to_there s between end there l) h.1,
@@ -222,8 +234,7 @@ closure_runs {q = q} slots {es = es} {x = x} {ds = ds} {more = more} {k = k} {n 
     })
 
     first : (s t : Point) (e : Refusal) (m : Mode) → Missed (Apart ds n us ▸ more) s e m t
-        → Stops (one_more q) s.library (ends_only es ++ used_at slots us) t
-        ⊎ Halted q s.library (library_after (ends_only es ++ used_at slots us) s.library) x k e m t
+        → Breaks q s.library (ends_only es ++ used_at slots us) x k e m t
     first s t e m (inl x) =
         let h = body s t e m (f.stopped (D.apart s) t e m x) in
         inl (h.0, holds_front (ends_only es) (used_at slots us) s.library t.library (holds_own es s.library t.library h.1))
@@ -234,11 +245,14 @@ closure_runs {q = q} slots {es = es} {x = x} {ds = ds} {more = more} {k = k} {n 
 -- ---- names of functions
 
 -- A test that does not hold is missed.
-dead_test : {q : Scope} {b : Bool} {r : Refusal} {es : List Event} {ds k : Demands} → b ≡ false
-    → Does q es (Test b r ▸ ds) k
-dead_test {q = q} {es = es} e = record {
+dead_test : {q : Scope} {b : Bool} {r : Refusal} {es : List Event} {ds k : Demands} → duplicates_closure r.cause ≡ false
+    → b ≡ false → Does q es (Test b r ▸ ds) k
+dead_test {q = q} {r = r} {es = es} d e = record {
   did = λ s t m. absurd (let f = m.0 in cc);
-  stopped = λ s t x n m. elim m [ inl a ↦ inl (stop q es s t a.3) | inr b ↦ absurd (let f = b.0 in cc) ];
+  stopped = λ s t x n m. elim m [
+    | inl a ↦ inl (stop q es s t x (same_cause x r a.1 d) a.3)
+    | inr b ↦ absurd (let f = b.0 in cc)
+  ];
 }
 
 untyped_not : (m d f : Bool) (r : Refusal) → f ≡ false
@@ -258,7 +272,7 @@ dead_untyped : {q : Scope} (name : Text) (at : Position) {es : List Event} {ds k
 dead_untyped {q = q} name at {es = es} e = record {
   did = λ s t m. absurd (untyped_fails name at (next_at code s).lexeme e m.0);
   stopped = λ s t x n m. elim m [
-    | inl a ↦ inl (stop q es s t a.2)
+    | inl a ↦ inl (stop q es s t x (refused (untyped name at) (next_at code s) x (spares.untyped name at) a.0) a.2)
     | inr b ↦ absurd (untyped_fails name at (next_at code s).lexeme e b.0)
   ];
 }
@@ -266,8 +280,9 @@ dead_untyped {q = q} name at {es = es} e = record {
 -- No function that fits has a name that functions may not have.
 pub dead_name : {q : Scope} (x : Owner) (name : Text) (at : Position) {es : List Event} (more : Demands) {k : Demands}
     → names_function name ≡ false → Does q es (W.function_name x name at more) k
-dead_name form.NoOwner name at more e = tok (dead_untyped name at e)
-dead_name (form.Of type type_at dot) name at more e = shape (tok (tok (tok (dead_test e))))
+dead_name form.NoOwner name at more e = tok spares.type_or_name_due (dead_untyped name at e)
+dead_name (form.Of type type_at dot) name at more e =
+    shape (tok spares.type_or_name_due (tok (spares.after_type type) (tok spares.function_name_due (dead_test refl e))))
 
 words_only : (name : Text) → names_function name ≡ true → list_all is_word name ≡ true
 unfolding names_function

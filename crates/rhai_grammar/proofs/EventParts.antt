@@ -1,5 +1,5 @@
 -- What happens along the demands of the parts of forms: names, and what uses none.
-use Rattle.std.proofs.Common.{◌≡◌, ◌⊎◌, inl, inr, Bool, true, false, ◌&&◌, ◌||◌, not, List, [], ◌∷◌, ◌++◌, refl, ap}
+use Rattle.std.proofs.Common.{◌≡◌, inl, inr, Bool, true, false, ◌&&◌, ◌||◌, not, List, [], ◌∷◌, ◌++◌, refl, ap}
 use Rattle.std.proofs.Common.{◌∙◌, if◌then◌else◌}
 use Rattle.std.specs.Prelude.{Option, Some, None}
 use Rattle.rhai_grammar.specs.Prelude.{Lexeme, Sign, Node, Text, Position, calls, excludes_use, qualifies, guard_fault}
@@ -15,88 +15,106 @@ use Rattle.rhai_grammar.specs.Forms as form
 use Rattle.rhai_grammar.specs.Settings as S
 use Rattle.rhai_grammar.specs.Verdicts as V
 use Rattle.rhai_grammar.specs.Written as W
+use Rattle.rhai_grammar.specs.declared.due.DueToken.TheVariants as due
 use Rattle.rhai_grammar.specs.declared.list.CommaList.{CommaList}
 use Rattle.rhai_grammar.specs.declared.list.CommaList.TheVariants as lists
 use Rattle.rhai_grammar.specs.declared.role.OperandPlace.{OperandPlace}
-use Rattle.rhai_grammar.proofs.EventSteps.{Does, Is, Reached, Scope, Stops, stop, all_of, captures, here, next, on}
+use Rattle.rhai_grammar.proofs.Duplicates.{Spares, has_duplicate, refused}
+use Rattle.rhai_grammar.proofs.SparedFaults as faults
+use Rattle.rhai_grammar.proofs.SparedTokens as spares
+use Rattle.rhai_grammar.proofs.EventSteps.{Does, Is, Misses, Scope, stop, all_of, captures, here, next, on}
 use Rattle.rhai_grammar.proofs.EventSteps.{shape, test, tok, unfaulted_by}
 
 -- ---- what no names are used in
 
 pub raised : {q : Scope} (side : Side) {k : Demands} → Does q [] (W.raise_after side k) k
 raised Outermost = here
-raised (RightOf op height) = test here
+raised (RightOf op height) = test refl here
 
-pub unfaulted : {q : Scope} (r : Option _) {k : Demands} → Does q [] (W.unfaulted r k) k
-unfaulted r = unfaulted_by r here
+pub unfaulted : {q : Scope} (r : Option Refusal) {k : Demands} → has_duplicate r ≡ false → Does q [] (W.unfaulted r k) k
+unfaulted r d = unfaulted_by r d here
 
 -- the two ends of an expression
 pub expressed : {q : Scope} (f : Run) (c : Context) (w : Live) {es : List Event} {k : Demands}
     → Does q es (W.run f (outermost (level_up c) w) (W.ended c k)) (W.ended c k) → Does q es (W.expression f c w k) k
-expressed f c w h = next (all_of (on h (next here)))
+expressed f c w h =
+    next (spares.room_due c) (all_of (on h (next (spares.run_ends c.filter) here)))
 
 -- a guard, and what `for` goes over
 pub guarded : {q : Scope} (f : Run) (c : Context) (w : Live) {es : List Event} {k : Demands}
     → ((j : Demands) → Does q es (W.run f (outermost (level_up c) w) j) j)
     → Does q es (W.as_guard (W.run f) (tree f w) c w k) k
 guarded f c w h =
-    next (all_of (on (expressed f c w (h _)) (all_of (on (unfaulted (guard_fault (tree f w))) (next here)))))
+    let x = tree f w in
+    next spares.guard_begins (all_of (on (expressed f c w (h _))
+    (all_of (on (unfaulted (guard_fault x) (faults.guard_fault x)) (next spares.guard_ends here)))))
 
 pub iterated : {q : Scope} (f : Run) (c : Context) (w : Live) {es : List Event} {k : Demands}
     → ((j : Demands) → Does q es (W.run f (outermost (level_up c) w) j) j)
     → Does q es (W.as_iterated (W.run f) (tree f w) c w k) k
-iterated f c w h = next (all_of (on (expressed f c w (h _)) (unfaulted (iterated_fault (tree f w)))))
+iterated f c w h =
+    let x = tree f w in
+    next spares.guard_begins (all_of (on (expressed f c w (h _))
+    (unfaulted (iterated_fault x) (faults.iterated_fault x))))
 
 pub path : {q : Scope} (x : Path) (imports : List Text) (y : Node) (k : Demands) → Does q [] (W.path x imports y k) k
-path form.NoPath imports y k = next here
-path (form.Scoped colons name at rest) imports y k = shape (tok (tok (path rest imports (qualified imports y name at) k)))
+path form.NoPath imports y k = next (spares.unqualified y) here
+path (form.Scoped colons name at rest) imports y k =
+    shape (tok spares.anything (tok spares.name_due (path rest imports (qualified imports y name at) k)))
 
 pub banged : {q : Scope} (x : Bool) (bang : Position) {k : Demands} → Does q [] (W.banged x bang k) k
 banged false bang = here
-banged true bang = next here
+banged true bang = next (spares.no_bang bang) here
 
 pub other_name : {q : Scope} (x : Alias) (k : Demands) → Does q [] (W.other_name x k) k
-other_name form.NoAlias k = next here
-other_name (form.As as_at name at) k = tok (tok here)
+other_name form.NoAlias k = next (spares.absent due.As) here
+other_name (form.As as_at name at) k = tok spares.anything (tok spares.name_due here)
 
 pub named : {q : Scope} (x : LoopNames) (k : Demands) → Does q [] (W.loop_names x k) k
-named (form.Variable name at) k = tok here
-named (form.Counted opening name at comma counter counter_at closing) k = tok (tok (tok (tok (test (tok here)))))
+named (form.Variable name at) k = tok spares.loop_variable_due here
+named (form.Counted opening name at comma counter counter_at closing) k =
+    tok spares.loop_variable_due (tok spares.name_due (tok (spares.due due.Comma) (tok spares.name_due (test refl
+    (tok (spares.due due.RightParen) here)))))
 
 pub caught_by : {q : Scope} (x : CatchName) (k : Demands) → Does q [] (W.catch_name x k) k
-caught_by form.NoName k = next here
-caught_by (form.Caught opening name at closing) k = tok (tok (tok here))
+caught_by form.NoName k = next (spares.absent due.LeftParen) here
+caught_by (form.Caught opening name at closing) k =
+    tok spares.anything (tok spares.name_due (tok (spares.due due.RightParen) here))
 
 further_comments : {q : Scope} (xs : List Comment) (first : Position) (c : Context) {k : Demands}
     → Does q [] (W.further_comments xs first c k) k
 further_comments [] first c = here
-further_comments (x ∷ xs) first c = tok (further_comments xs first c)
+further_comments (x ∷ xs) first c = tok (spares.after_comment c first) (further_comments xs first c)
 
 pub comments_at : {q : Scope} (xs : List Comment) (c : Context) {k : Demands} → Does q [] (W.comments_at xs c k) k
 comments_at [] c = here
-comments_at (x ∷ xs) c = tok (test (further_comments xs x.at c))
+comments_at (x ∷ xs) c = tok spares.anything (test refl (further_comments xs x.at c))
 
 pub function_at : {q : Scope} (others : Lexeme → Verdict) (is_private : Option Position) (at : Position) {k : Demands}
-    → Does q [] (W.function_at others is_private at k) k
-function_at others None at = tok here
-function_at others (Some first) at = tok (tok here)
+    → Spares others → Does q [] (W.function_at others is_private at k) k
+function_at others None at d = tok d here
+function_at others (Some first) at d = tok d (tok (spares.due due.Fn) here)
 
 pub function_name : {q : Scope} (x : Owner) (name : Text) (at : Position) {k : Demands}
     → Does q [] (W.function_name x name at k) k
-function_name form.NoOwner name at = tok (next here)
-function_name (form.Of type type_at dot) name at = shape (tok (tok (tok (test here))))
+function_name form.NoOwner name at = tok spares.type_or_name_due (next (spares.untyped name at) here)
+function_name (form.Of type type_at dot) name at =
+    shape (tok spares.type_or_name_due (tok (spares.after_type type) (tok spares.function_name_due (test refl here))))
 
 pub parameters : {q : Scope} (x : Parameters) (parts : CommaList) (function : Text) (before : List Text) (k : Demands)
     → Does q [] (W.parameters x parts function before k) k
-parameters (form.NoParameter closing) parts function before k = tok here
-parameters (form.LastParameter name at closing) parts function before k = tok (test (tok here))
+parameters (form.NoParameter closing) parts function before k = tok (spares.parameter_due parts) here
+parameters (form.LastParameter name at closing) parts function before k =
+    tok (spares.parameter_due parts) (test refl (tok (spares.following_due parts) here))
 parameters (form.Parameter name at comma rest) parts function before k =
-    tok (test (tok (parameters rest parts function (before ++ name ∷ []) k)))
+    tok (spares.parameter_due parts) (test refl (tok (spares.following_due parts)
+    (parameters rest parts function (before ++ name ∷ []) k)))
 
 pub parameter_list : {q : Scope} (x : ParameterList) (function : Text) (k : Demands)
     → Does q [] (W.parameter_list x function k) k
-parameter_list (form.EmptyParameters at) function k = tok here
-parameter_list (form.ListedParameters opening list) function k = tok (parameters list lists.Parameters function [] k)
+parameter_list (form.EmptyParameters at) function k = tok (spares.parameters_due function) here
+parameter_list (form.ListedParameters opening list) function k =
+    tok (spares.parameters_due function) (parameters list lists.Parameters function [] k)
 
 pub closure_parameters : {q : Scope} (x : ClosureHead) (k : Demands) → Does q [] (W.closure_parameters x k) k
 closure_parameters (form.Bars at) k = here
@@ -105,12 +123,12 @@ closure_parameters (form.Declared opening list) k = parameters list lists.Closur
 pub captured_names : {q : Scope} (us : List Use) (c : Context) (w : Live) (k : Demands) → Is q c
     → Does q (used_at w.slots us) (W.captured_names us c w k) k
 captured_names [] c w k i = here
-captured_names (u ∷ us) c w k i = captures c w u i (captured_names us c w k i)
+captured_names (u ∷ us) c w k i = captures c w u i refl (captured_names us c w k i)
 
 pub separated : {q : Scope} (comma : Option Position) (itself : Bool) (k : Demands)
     → Does q [] (W.separated comma itself k) k
-separated None itself k = next here
-separated (Some at) itself k = tok here
+separated None itself k = next (spares.arm_ends itself) here
+separated (Some at) itself k = tok spares.anything here
 
 -- ---- names
 
@@ -179,9 +197,13 @@ bang_follows x (form.Scoped colons name at rest) imports y bang b k e s t m =
 -- a name that is used, and one that is not
 name_stopped : {q : Scope} (c : Context) (w : Live) (p : OperandPlace) (name : Text) (at : Position) (k : Demands)
     (s t : Point) (e : Refusal) (n : Mode) → Missed (W.primary (form.Named name at) c w p k) s e n t
-    → Stops q s.library [] t ⊎ Reached q s.library s.library k e n t
-name_stopped {q = q} c w p name at k s t e n (inl a) = inl (stop q [] s t a.2)
-name_stopped {q = q} c w p name at k s t e n (inr (is, inl a)) = inl (stop q [] (past code s) t a.2)
+    → Misses q s.library [] k e n t
+name_stopped {q = q} c w p name at k s t e n (inl a) =
+    inl (stop q [] s t e (refused (V.operand_due c p) (next_at code s) e (spares.operand_due c p) a.0) a.2)
+name_stopped {q = q} c w p name at k s t e n (inr (is, inl a)) =
+    let r = past code s in
+    let v = V.after_name c w name at s.library in
+    inl (stop q [] r t e (refused v (next_at code r) e (spares.after_name c w name at s.library) a.0) a.2)
 name_stopped {q = q} c w p name at k s t e n (inr (is, inr b)) = inr (record {
   end =
       capturing (captures_use c w name s.library (next_at code (past code s)).lexeme) (record { name = name; at = at })

@@ -9,10 +9,12 @@ use Rattle.rhai_grammar.specs.Prelude.{Lexeme, Refusal, in_closure, Context, Liv
 use Rattle.rhai_grammar.specs.Prelude.{Point, capturing, past, Ahead, Captures, Demands, Literally, Met, Missed, Next}
 use Rattle.rhai_grammar.specs.Prelude.{Nothing, Shape, Test, TestIn, Tok, Verdict, ◌▸◌, in_function, Library}
 use Rattle.rhai_grammar.specs.Prelude.{is_captured, IsOrderly, Use, noted, HoldsFirst, ended_in, as_called, Event, Used}
-use Rattle.rhai_grammar.specs.Prelude.{is_free}
+use Rattle.rhai_grammar.specs.Prelude.{is_free, as_literal, code, next_at}
+use Rattle.rhai_grammar.specs.LibraryLaws.{duplicates_closure}
 use Rattle.rhai_grammar.specs.Settings as S
 use Rattle.rhai_grammar.specs.Written as W
 use Rattle.rhai_grammar.proofs.EventEffects.{holds_called, holds_front, holds_later, holds_none, captured_after}
+use Rattle.rhai_grammar.proofs.Duplicates.{Spares, has_duplicate, literal, refused, same_cause}
 use Rattle.rhai_grammar.proofs.LibrarySteps.{Kept}
 use Rattle.rhai_grammar.proofs.EventEffects.{captured_called, library_called, captured_on, library_after, library_on}
 
@@ -50,23 +52,31 @@ pub record Reached (q : Scope) (from l : Library) (k : Demands) (e : Refusal) (n
   pub library : end.library ≡ l
   pub orderly : Orderly q from → Orderly q end.library
 
+-- The functions alone are within the limit, and the refusal is not that a closure's key is there.
+abbrev pub Left : Scope → Refusal → Library → Type 0
+Left q e l = Within q l × (duplicates_closure e.cause ≡ false)
+
 -- They are missed before others, after the first of these events.
-abbrev pub Stops : Scope → (from : Library) → List Event → (t : Point) → Type 0
-Stops q from es t = (Orderly q from → Within q t.library) × HoldsFirst from (ended_in es) t.library
+abbrev pub Stops : Scope → (from : Library) → List Event → Refusal → (t : Point) → Type 0
+Stops q from es e t = (Orderly q from → Left q e t.library) × HoldsFirst from (ended_in es) t.library
+
+-- Either so, or these are missed.
+abbrev pub Misses : Scope → (from : Library) → List Event → Demands → Refusal → Mode → (t : Point) → Type 0
+Misses q from es k e n t = Stops q from es e t ⊎ Reached q from (library_after es from) k e n t
 
 -- Where demands are met, these events happen up to where the others are. Where they are missed, that is before the others,
 -- or these are missed.
 pub record Does (q : Scope) (es : List Event) (ds k : Demands) : Type 0 where
   pub did : (s t : Point) → Met ds s t
       → Passed q s.library (library_after es s.library) (captured_after q.inside es s.library s.captured) k t
-  pub stopped : (s t : Point) (e : Refusal) (n : Mode) → Missed ds s e n t
-      → Stops q s.library es t ⊎ Reached q s.library (library_after es s.library) k e n t
+  pub stopped : (s t : Point) (e : Refusal) (n : Mode) → Missed ds s e n t → Misses q s.library es k e n t
 
 -- where the demands stop at once
-pub stop : (q : Scope) (es : List Event) (s t : Point) → t ≡ s → Stops q s.library es t
-stop q es s t e = (
-  λ g. subst (λ (p : Point). Within q p.library) (sym e) (within q s.library g),
-  holds_none es s.library t.library (ap (λ (p : Point). p.library) e),
+pub stop : (q : Scope) (es : List Event) (s t : Point) (e : Refusal) → duplicates_closure e.cause ≡ false → t ≡ s
+    → Stops q s.library es e t
+stop q es s t e d same = (
+  λ g. (subst (λ (p : Point). Within q p.library) (sym same) (within q s.library g), d),
+  holds_none es s.library t.library (ap (λ (p : Point). p.library) same),
 )
 
 pub here : {q : Scope} {k : Demands} → Does q [] k k
@@ -75,39 +85,54 @@ here = record {
   stopped = λ s t e n m. inr (record { end = s; missed = m; library = refl; orderly = λ g. g });
 }
 
-pub tok : {q : Scope} {m : Mode} {i : Item} {v : Lexeme → Verdict} {es : List Event} {ds k : Demands} → Does q es ds k
-    → Does q es (Tok m i v ▸ ds) k
-tok {q = q} {m = m} {es = es} h = record {
+pub tok : {q : Scope} {m : Mode} {i : Item} {v : Lexeme → Verdict} {es : List Event} {ds k : Demands} → Spares v
+    → Does q es ds k → Does q es (Tok m i v ▸ ds) k
+tok {q = q} {m = m} {v = v} {es = es} d h = record {
   did = λ s t e. h.did (past m s) t e.1;
-  stopped = λ s t e n x. elim x [ inl a ↦ inl (stop q es s t a.2) | inr b ↦ h.stopped (past m s) t e n b.1 ];
+  stopped = λ s t e n x. elim x [
+    | inl a ↦ inl (stop q es s t e (refused v (next_at m s) e d a.0) a.2)
+    | inr b ↦ h.stopped (past m s) t e n b.1
+  ];
 }
 
-pub ahead : {q : Scope} {i : Item} {v : Lexeme → Verdict} {es : List Event} {ds k : Demands} → Does q es ds k
-    → Does q es (Ahead i v ▸ ds) k
-ahead {q = q} {es = es} h = record {
+pub ahead : {q : Scope} {i : Item} {v : Lexeme → Verdict} {es : List Event} {ds k : Demands} → Spares v
+    → Does q es ds k → Does q es (Ahead i v ▸ ds) k
+ahead {q = q} {v = v} {es = es} d h = record {
   did = λ s t e. h.did s t e.1;
-  stopped = λ s t e n x. elim x [ inl a ↦ inl (stop q es s t a.2) | inr b ↦ h.stopped s t e n b.1 ];
+  stopped = λ s t e n x. elim x [
+    | inl a ↦ inl (stop q es s t e (refused v (next_at code s) e d a.0) a.2)
+    | inr b ↦ h.stopped s t e n b.1
+  ];
 }
 
-pub next : {q : Scope} {v : Lexeme → Verdict} {es : List Event} {ds k : Demands} → Does q es ds k
+pub next : {q : Scope} {v : Lexeme → Verdict} {es : List Event} {ds k : Demands} → Spares v → Does q es ds k
     → Does q es (Next v ▸ ds) k
-next {q = q} {es = es} h = record {
+next {q = q} {v = v} {es = es} d h = record {
   did = λ s t e. h.did s t e.1;
-  stopped = λ s t e n x. elim x [ inl a ↦ inl (stop q es s t a.2) | inr b ↦ h.stopped s t e n b.1 ];
+  stopped = λ s t e n x. elim x [
+    | inl a ↦ inl (stop q es s t e (refused v (next_at code s) e d a.0) a.2)
+    | inr b ↦ h.stopped s t e n b.1
+  ];
 }
 
-pub test : {q : Scope} {b : Bool} {r : Refusal} {es : List Event} {ds k : Demands} → Does q es ds k
-    → Does q es (Test b r ▸ ds) k
-test {q = q} {es = es} h = record {
+pub test : {q : Scope} {b : Bool} {r : Refusal} {es : List Event} {ds k : Demands} → duplicates_closure r.cause ≡ false
+    → Does q es ds k → Does q es (Test b r ▸ ds) k
+test {q = q} {r = r} {es = es} d h = record {
   did = λ s t e. h.did s t e.1;
-  stopped = λ s t e n x. elim x [ inl a ↦ inl (stop q es s t a.3) | inr b ↦ h.stopped s t e n b.1 ];
+  stopped = λ s t e n x. elim x [
+    | inl a ↦ inl (stop q es s t e (same_cause e r a.1 d) a.3)
+    | inr b ↦ h.stopped s t e n b.1
+  ];
 }
 
-pub test_in : {q : Scope} {b : Library → Bool} {r : Refusal} {es : List Event} {ds k : Demands} → Does q es ds k
-    → Does q es (TestIn b r ▸ ds) k
-test_in {q = q} {es = es} h = record {
+pub test_in : {q : Scope} {b : Library → Bool} {r : Refusal} {es : List Event} {ds k : Demands}
+    → duplicates_closure r.cause ≡ false → Does q es ds k → Does q es (TestIn b r ▸ ds) k
+test_in {q = q} {r = r} {es = es} d h = record {
   did = λ s t e. h.did s t e.1;
-  stopped = λ s t e n x. elim x [ inl a ↦ inl (stop q es s t a.3) | inr b ↦ h.stopped s t e n b.1 ];
+  stopped = λ s t e n x. elim x [
+    | inl a ↦ inl (stop q es s t e (same_cause e r a.1 d) a.3)
+    | inr b ↦ h.stopped s t e n b.1
+  ];
 }
 
 pub shape : {q : Scope} {b : Bool} {es : List Event} {ds k : Demands} → Does q es ds k → Does q es (Shape b ▸ ds) k
@@ -132,14 +157,11 @@ on {q = q} {a = a} {b = b} {k = k} {j = j} f g = record {
   stopped = λ s t e n m. by s t e n (f.stopped s t e n m);
 }
   where
-    by : (s t : Point) (e : Refusal) (n : Mode)
-        → Stops q s.library a t ⊎ Reached q s.library (library_after a s.library) k e n t
-        → Stops q s.library (a ++ b) t ⊎ Reached q s.library (library_after (a ++ b) s.library) j e n t
+    by : (s t : Point) (e : Refusal) (n : Mode) → Misses q s.library a k e n t → Misses q s.library (a ++ b) j e n t
     by s t e n (inl h) = inl (h.0, holds_front a b s.library t.library h.1)
     by s t e n (inr r) = later (g.stopped r.end t e n r.missed)
       where
-        later : Stops q r.end.library b t ⊎ Reached q r.end.library (library_after b r.end.library) j e n t
-            → Stops q s.library (a ++ b) t ⊎ Reached q s.library (library_after (a ++ b) s.library) j e n t
+        later : Misses q r.end.library b j e n t → Misses q s.library (a ++ b) j e n t
         later (inl h) =
             inl (λ o. h.0 (r.orderly o), holds_later a b s.library r.end.library t.library r.library h.1)
         later (inr p) = inr (record {
@@ -171,9 +193,8 @@ called {q = q} {a = a} {ds = ds} {k = k} h = record {
   stopped = λ s t e n m. by s t e n (h.stopped s t e n m);
 }
   where
-    by : (s t : Point) (e : Refusal) (n : Mode)
-        → Stops q s.library a t ⊎ Reached q s.library (library_after a s.library) k e n t
-        → Stops q s.library (as_called a) t ⊎ Reached q s.library (library_after (as_called a) s.library) k e n t
+    by : (s t : Point) (e : Refusal) (n : Mode) → Misses q s.library a k e n t
+        → Misses q s.library (as_called a) k e n t
     by s t e n (inl f) = inl (f.0, holds_called a s.library t.library f.1)
     by s t e n (inr r) = inr (record {
       end = r.end;
@@ -204,15 +225,13 @@ literally {q = q} {a = a} {b = b} {ds = ds} {more = more} {k = k} f g = record {
   stopped = λ s t e n m. by s t e n m;
 }
   where
-    within_it : (s t : Point) (e : Refusal) (n : Mode)
-        → Stops q s.library a t ⊎ Reached q s.library (library_after a s.library) Nothing e n t → Stops q s.library a t
+    within_it : (s t : Point) (e : Refusal) (n : Mode) → Misses q s.library a Nothing e n t → Stops q s.library a e t
     within_it s t e n (inl h) = h
     within_it s t e n (inr r) = absurd r.missed
 
     later : (s between t : Point) (e : Refusal) (n : Mode)
         → Passed q s.library (library_after a s.library) (captured_after q.inside a s.library s.captured) Nothing between
-        → Stops q between.library b t ⊎ Reached q between.library (library_after b between.library) k e n t
-        → Stops q s.library (a ++ b) t ⊎ Reached q s.library (library_after (a ++ b) s.library) k e n t
+        → Misses q between.library b k e n t → Misses q s.library (a ++ b) k e n t
     later s between t e n r (inl h) = inl (
       λ o. h.0 (subst (λ (x : Point). Orderly q x.library) r.met (r.orderly o)),
       holds_later a b s.library between.library t.library (sym (ap (λ (x : Point). x.library) r.met) ∙ r.library) h.1,
@@ -227,16 +246,19 @@ literally {q = q} {a = a} {b = b} {ds = ds} {more = more} {k = k} f g = record {
     })
 
     by : (s t : Point) (e : Refusal) (n : Mode) → Missed (Literally ds ▸ more) s e n t
-        → Stops q s.library (a ++ b) t ⊎ Reached q s.library (library_after (a ++ b) s.library) k e n t
+        → Misses q s.library (a ++ b) k e n t
     by s t e n (inl m) =
         let h = within_it s t m.0 n (f.stopped s t m.0 n m.1) in
-        inl (h.0, holds_front a b s.library t.library h.1)
+        inl (
+          λ o. let r = h.0 o in (r.0, same_cause e (as_literal m.0) m.2 (literal m.0 r.1)),
+          holds_front a b s.library t.library h.1,
+        )
     by s t e n (inr m) = later s m.0 t e n (f.did s m.0 m.1) (g.stopped m.0 t e n m.2)
 
-pub unfaulted_by : {q : Scope} {es : List Event} {k j : Demands} (r : Option Refusal) → Does q es k j
-    → Does q es (W.unfaulted r k) j
-unfaulted_by None h = h
-unfaulted_by (Some e) h = test h
+pub unfaulted_by : {q : Scope} {es : List Event} {k j : Demands} (r : Option Refusal) → has_duplicate r ≡ false
+    → Does q es k j → Does q es (W.unfaulted r k) j
+unfaulted_by None d h = h
+unfaulted_by (Some e) d h = test d h
 
 -- ---- contexts
 
@@ -275,15 +297,15 @@ is_closure c w i = (
 
 -- a captured name, used where its closure ends
 pub captures : {q : Scope} (c : Context) (w : Live) (u : Use) {holds : Library → Bool} {r : Refusal} {es : List Event}
-    {ds k : Demands} → Is q c → Does q es ds k
+    {ds k : Demands} → Is q c → duplicates_closure r.cause ≡ false → Does q es ds k
     → Does q (Used u w.slots false ∷ es) (Captures holds r (is_captured c w u.name) u ▸ ds) k
-captures {q = q} c w u {es = es} {k = k} i h = record {
+captures {q = q} c w u {r = r} {es = es} {k = k} i d h = record {
   did = λ s t m.
       subst (λ (b : Bool). Passed q s.library (library_after es s.library) (captured_after q.inside es s.library
       (noted (b && is_free w.slots s.library u.name) u s.captured)) k t) i.0
       (h.did (capturing (is_captured c w u.name s.library) u s) t m.1);
   stopped = λ s t e n x. elim x [
-    | inl a ↦ inl (stop q es s t a.3)
+    | inl a ↦ inl (stop q es s t e (same_cause e r a.1 d) a.3)
     | inr b ↦ h.stopped (capturing (is_captured c w u.name s.library) u s) t e n b.1
   ];
 }

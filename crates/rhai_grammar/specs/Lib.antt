@@ -59,5 +59,6 @@ pub mod SlotLaws
 pub mod TreeNumbers
 pub mod NumberedLibraries
 pub mod LibraryLaws
+pub mod PlaceLaws
 pub mod Imports
 pub mod Prelude

@@ -1,5 +1,5 @@
 -- Libraries whose closures are numbered, so that the name of the next closure is new.
-use Rattle.std.specs.Prelude.{◌≡◌, ◌<◌, ◌≤◌, ◌+◌, ◌^◌, ℕ, true, false, None, [], ◌∷◌, count_by, length, refl}
+use Rattle.std.specs.Prelude.{◌≡◌, ◌<◌, ◌≤◌, ◌+◌, ℕ, true, false, None, [], ◌∷◌, count_by, length, refl}
 use Rattle.std.specs.List.{Contains}
 use Rattle.rhai_lower.specs.Nodes.{braces, no_statements}
 use Rattle.rhai_lower.specs.Positions.{nowhere}

@@ -1,4 +1,4 @@
--- The token that is peeked is the one that the next request gives, and what is left after it.
+-- The token that is peeked, and what is left after it.
 use Rattle.std.proofs.Common.{◌≡◌, true, false, List, ◌++◌, ◌∙◌, ap, map, refl, reverse, subst, sym, true≢false}
 use Rattle.rhai_lower.specs.Entries.{EndsWith, ask_of, head_asks, head_peeked, head_text}
 use Rattle.rhai_lower.specs.Streams.{given, left_after, requests_of}

@@ -1,6 +1,7 @@
 -- The names of the functions that a script has.
-use Rattle.std.proofs.Common.{◌≡◌, ◌∙◌, ◌&&◌, true, not, List, [], ◌∷◌, ◌++◌, map, map-append, refl, sym, ap, subst}
+use Rattle.std.proofs.Common.{◌≡◌, ◌∙◌, ◌&&◌, true, not, List, [], ◌∷◌, ◌++◌, map, refl, sym, ap, subst}
 use Rattle.std.specs.List.{AllZip}
+use Rattle.std.proofs.lemmas.List.{map-append}
 use Rattle.std.specs.Prelude.{Err, Ok, Vec}
 use Rattle.std.specs.declared.alloc.Global.{Global}
 use Rattle.std.specs.declared.rc.Rc.{Rc}

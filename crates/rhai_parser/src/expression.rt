@@ -160,6 +160,10 @@ impl Engine {
         ensures orderly { KeepsOrder self.now (counts_of state.entry.counts)
             (library_of state.entry.lib.now.entries) (library_of state.exit.1.0.now.entries) }
     {
+        rebuild!(
+            state: input, lib, counts, tokenizer_control, expr_filter, external_constants, stack,
+            frame_pointer, external_vars, allow_capture, imports, global_imports
+        );
         self.parse_global_expr_with(state, settings, level, &Unoptimized)
     }
 

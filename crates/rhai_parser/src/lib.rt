@@ -11,6 +11,14 @@ macro_rules! nested {
     }};
 }
 
+/// Takes a state with these fields apart, and puts it together. As a parameter it cannot be proved to be passed on.
+macro_rules! rebuild {
+    ($state:ident: $($field:ident),*) => {
+        let ParseState { $($field),* } = $state;
+        let $state = ParseState { $($field),* };
+    };
+}
+
 mod blocks;
 mod chain;
 mod construct;

@@ -27,7 +27,7 @@ returns-in-Ok-clause-reads g c = λ fresh.
     let reads = subst (λ (s : ParseSettings). ReadsScript (starts_in engine c.args.state s) (live_in c.args.state) (library_of c.args.state.lib.now.entries)
     (library_of script.new.lib.entries) (cursor_of c.args.state.input.now) (cursor_of script.new.input) (Ok c.in-Ok.read) script.new.stack
     (map rc_str_bytes script.new.imports.items)) c.script_settings-settings.ensures in_frame in
-    ast_done (g.O.Optimizer.makes c.args.optimizer.now) (starts_in engine c.args.state (script_settings engine)) (live_in c.args.state) _ _ _ _ _ _ c.args.state.external_constants c.args.level
+    ast_done (starts_in engine c.args.state (script_settings engine)) (live_in c.args.state) _ _ _ _ _ _ (g.O.Optimizer.makes c.args.optimizer.now) c.args.state.external_constants c.args.level
     c.in-Ok.read c.optimize.result reads c.optimize.ensures.optimized c.optimize.ensures.out
 
 pub returns-in-Ok-clause-memory : goal.returns-in-Ok-clause-memory
@@ -51,7 +51,7 @@ returns-clause-reads g c = λ fresh.
     let reads = subst (λ (s : ParseSettings). ReadsScript (starts_in engine c.args.state s) (live_in c.args.state) (library_of c.args.state.lib.now.entries)
     (library_of script.new.lib.entries) (cursor_of c.args.state.input.now) (cursor_of script.new.input) (Err c.in-Err.error) script.new.stack
     (map rc_str_bytes script.new.imports.items)) c.script_settings-settings.ensures in_frame in
-    ast_fails (g.O.Optimizer.makes c.args.optimizer.now) (starts_in engine c.args.state (script_settings engine)) (live_in c.args.state) _ _ _ _ _ _ c.args.state.external_constants c.args.level c.in-Err.error reads
+    ast_fails (starts_in engine c.args.state (script_settings engine)) (live_in c.args.state) _ _ _ _ _ _ (g.O.Optimizer.makes c.args.optimizer.now) c.args.state.external_constants c.args.level c.in-Err.error reads
 
 pub returns-clause-orderly : goal.returns-clause-orderly
 returns-clause-orderly g c =
