@@ -1,13 +1,12 @@
 -- Facts about the tables, by computing them.
-use Rattle.std.proofs.Common.{◌≡◌, ℕ, Bool, true, false, not, ◌&&◌, ◌||◌, List, [], ◌∷◌, ◌++◌, codes, refl, sym}
+use Rattle.std.proofs.Common.{◌≡◌, ℕ, Bool, true, false, not, ◌&&◌, ◌||◌, [], ◌∷◌, ◌++◌, refl, sym}
 use Rattle.std.proofs.lemmas.Bool.{not-true}
 use Rattle.std.specs.List.{list_all}
 use Rattle.rhai_lower.specs.Texts.{Text, same_text}
 use Rattle.rhai_lower.specs.Names.{is_one_of}
 use Rattle.rhai_tokenizer.specs.Bytes.{begins_any, is_empty, blanks, spaces}
 use Rattle.rhai_tokenizer.specs.Runs.{first_of}
-use Rattle.std.specs.Char.{is_ascii_digit}
-use Rattle.std.proofs.Common.{◌==◌, nat_le, drop, arith, inl, inr, ◌⊎◌, ◌≤◌, ap, ◌∙◌, subst}
+use Rattle.std.proofs.Common.{◌==◌, nat_le, drop, arith, inl, inr, ◌⊎◌, ◌≤◌, subst}
 use Rattle.std.proofs.lemmas.Bool.{and_parts, cases_eq, or_cases, eqb-true, leb-true}
 use Rattle.rhai_tokenizer.specs.declared.class.First.{First}
 use Rattle.rhai_tokenizer.specs.declared.class.First.TheVariants as first
@@ -15,7 +14,7 @@ use Rattle.rhai_tokenizer.specs.Bytes.{begins, begins_decimal, begins_raw}
 use Rattle.rhai_tokenizer.specs.Symbols.{symbols, signs, reserved_symbols, refused_symbols}
 use Rattle.rhai_tokenizer.specs.Pieces.{begins_in}
 use Rattle.rhai_tokenizer.specs.Cutting.{first_class, symbol_table, table_texts}
-use Rattle.rhai_tokenizer.proofs.ByteLemmas.{at_member, begins_one, begins_like, falling, same_is}
+use Rattle.rhai_tokenizer.proofs.ByteLemmas.{at_member, begins_like, falling, same_is}
 use Rattle.rhai_tokenizer.proofs.RunLemmas.{Again, Some}
 
 blanks_are_some : list_all (λ u. not (is_empty u)) blanks ≡ true

@@ -1,5 +1,5 @@
 -- The token of a piece by its kind and its bytes. No definition: it stands between the code and the forms.
-use Rattle.std.specs.Prelude.{ℕ, Bool, true, false, not, ◌&&◌, ◌||◌, ◌==◌, nat_le, nat_lt, [], ◌∷◌, Option, Some, None, codes, drop, length, slice_index, if◌then◌else◌}
+use Rattle.std.specs.Prelude.{ℕ, Bool, true, false, not, ◌&&◌, ◌||◌, ◌==◌, nat_le, nat_lt, ◌∷◌, Option, Some, None, codes, drop, length, slice_index, if◌then◌else◌}
 use Rattle.std.specs.List.{list_all}
 use Rattle.rhai_lower.specs.Texts.{Text, same_text}
 use Rattle.rhai_lower.specs.Names.{is_word}
@@ -8,6 +8,8 @@ use Rattle.rhai_lower.specs.declared.token.Token.{Token}
 use Rattle.rhai_lower.specs.declared.token.Token.TheVariants as token
 use Rattle.rhai_tokenizer.specs.declared.braces.Brace.{Brace}
 use Rattle.rhai_tokenizer.specs.declared.braces.Brace.TheVariants as brace
+use Rattle.rhai_tokenizer.specs.declared.class.First.{First}
+use Rattle.rhai_tokenizer.specs.declared.class.First.TheVariants as first
 use Rattle.rhai_tokenizer.specs.declared.lexer.Kind.{Kind}
 use Rattle.rhai_tokenizer.specs.declared.lexer.Kind.TheVariants as kind
 use Rattle.rhai_tokenizer.specs.declared.limits.Limits.{Limits}
@@ -15,7 +17,7 @@ use Rattle.rhai_tokenizer.specs.declared.table.Meaning.{Meaning}
 use Rattle.rhai_tokenizer.specs.declared.table.Meaning.TheVariants.{Plain, Held, Refused}
 use Rattle.rhai_tokenizer.specs.Bytes.{base_of, begins_with}
 use Rattle.rhai_tokenizer.specs.Fixed.{token_of}
-use Rattle.rhai_tokenizer.specs.Meanings.{brace_of_symbol, integer_or, operand_after, without_return}
+use Rattle.rhai_tokenizer.specs.Meanings.{brace_of_symbol, integer_or, without_return}
 use Rattle.rhai_tokenizer.specs.Numbers.{digits_of, integer_value, radix_value}
 use Rattle.rhai_tokenizer.specs.Symbols.{improper, word_lexeme}
 
@@ -91,10 +93,77 @@ cut_token limits (kind.Symbol m) operand t = Some (cut_symbol operand m t)
 cut_token limits kind.NotIn operand t = Some (Sign token.NotIn)
 cut_token limits kind.Stray operand t = Some (Faulty (UnexpectedInput t))
 
+-- all bytes of a piece of this kind take a column
+abbrev pub is_plain_kind : Kind → Bool
+is_plain_kind kind.Blank = false
+is_plain_kind kind.LineComment = false
+is_plain_kind kind.BlockComment = false
+is_plain_kind kind.Stray = false
+is_plain_kind k = true
+
+-- a string begins with a byte of this class
+abbrev pub is_string_class : First → Bool
+is_string_class first.Quote = true
+is_string_class first.Tick = true
+is_string_class first.Apostrophe = true
+is_string_class k = false
+
 abbrev pub cut_brace : Kind → Text → Brace
 cut_brace (kind.Symbol m) t = brace_of_symbol t
 cut_brace k t = brace.Stays
 
 -- whether a sign begins an operand after a token
 abbrev pub operand_after_token : (operand : Bool) → Token → Bool
-operand_after_token operand t = operand_after operand (lexeme t)
+operand_after_token operand (token.LexError e) = true
+operand_after_token operand (token.Comment t) = operand
+operand_after_token operand token.SemiColon = true
+operand_after_token operand token.Colon = true
+operand_after_token operand token.Comma = true
+operand_after_token operand token.ExclusiveRange = true
+operand_after_token operand token.InclusiveRange = true
+operand_after_token operand token.LeftBrace = true
+operand_after_token operand token.LeftParen = true
+operand_after_token operand token.LeftBracket = true
+operand_after_token operand token.QuestionBracket = true
+operand_after_token operand token.Equals = true
+operand_after_token operand token.Pipe = true
+operand_after_token operand token.Or = true
+operand_after_token operand token.Bang = true
+operand_after_token operand token.XOr = true
+operand_after_token operand token.And = true
+operand_after_token operand token.Ampersand = true
+operand_after_token operand token.EqualsTo = true
+operand_after_token operand token.NotEqualsTo = true
+operand_after_token operand token.In = true
+operand_after_token operand token.NotIn = true
+operand_after_token operand token.LessThan = true
+operand_after_token operand token.LessThanEqualsTo = true
+operand_after_token operand token.GreaterThan = true
+operand_after_token operand token.GreaterThanEqualsTo = true
+operand_after_token operand token.Plus = true
+operand_after_token operand token.Minus = true
+operand_after_token operand token.Multiply = true
+operand_after_token operand token.Divide = true
+operand_after_token operand token.Modulo = true
+operand_after_token operand token.PowerOf = true
+operand_after_token operand token.LeftShift = true
+operand_after_token operand token.RightShift = true
+operand_after_token operand token.UnaryPlus = true
+operand_after_token operand token.UnaryMinus = true
+operand_after_token operand token.PlusAssign = true
+operand_after_token operand token.MinusAssign = true
+operand_after_token operand token.MultiplyAssign = true
+operand_after_token operand token.DivideAssign = true
+operand_after_token operand token.ModuloAssign = true
+operand_after_token operand token.PowerOfAssign = true
+operand_after_token operand token.LeftShiftAssign = true
+operand_after_token operand token.RightShiftAssign = true
+operand_after_token operand token.AndAssign = true
+operand_after_token operand token.OrAssign = true
+operand_after_token operand token.XOrAssign = true
+operand_after_token operand token.If = true
+operand_after_token operand token.While = true
+operand_after_token operand token.Until = true
+operand_after_token operand token.Return = true
+operand_after_token operand token.Throw = true
+operand_after_token operand t = false

@@ -1,12 +1,11 @@
 //! Reads raw strings.
 
-ghost use Rattle.std.specs.Prelude.{◌≡◌, ◌+◌, ◌≤◌, ◌∷◌, true, length, drop};
-ghost use Rattle.rhai_tokenizer.specs.Bytes.{begins_with};
-ghost use Rattle.rhai_tokenizer.specs.Pieces as specs;
-ghost use Rattle.rhai_tokenizer.specs.Cutting as spec;
+ghost use Rattle.std.specs.Prelude.{◌≡◌, [], ◌∷◌, true, drop, length};
+ghost use Rattle.rhai_tokenizer.specs.Bytes.{begins_raw, begins_with};
+ghost use Rattle.rhai_tokenizer.specs.RawTurns.{IsRaw};
 
 use crate::class::Class;
-use crate::lexer::run_len;
+use crate::lexer::{begins_with, run_len};
 
 /// How a raw string is made up, in bytes.
 #[derive(Clone, Copy, Debug)]
@@ -19,22 +18,28 @@ pub struct RawString {
     pub is_closed: bool,
 }
 
-// The `"` of an end with so many `#` stands here.
-fn ends(hashes: usize, z: &[u8]) -> bool
-    ensures { result ≡ begins_with (34 ∷ specs.hashes hashes) z.now }
+// The end of a raw string with these `#` stands here.
+fn ends(hashes: &[u8], z: &[u8]) -> bool
+    ensures { result ≡ begins_with (34 ∷ hashes.now) z.now }
 {
     match z {
-        [b'"', rest @ ..] => hashes <= run_len(Class::Hash, &rest[..hashes.min(rest.len())]),
+        [b, rest @ ..] => *b == b'"' && begins_with(hashes, rest),
         _ => false,
     }
 }
 
-/// The raw string after its first `#`.
-pub fn raw_string(z: &[u8]) -> RawString {
-    let hashes = 1 + run_len(Class::Hash, z);
+/// The raw string at the front of a text, which begins with `#`.
+pub fn raw_string(z: &[u8]) -> RawString
+    requires hash { begins_with (35 ∷ []) z.now ≡ true }
+    requires raw { begins_raw (drop 1 z.now) ≡ true }
+    ensures { IsRaw z.now result }
+{
+    let hashes = run_len(Class::Hash, z);
+    let (marks, after) = z.split_at(hashes);
+    let body = &after[1..];
     let mut len = 0;
-    while hashes + len < z.len() {
-        if ends(hashes, &z[hashes + len..]) {
+    while len < body.len() {
+        if ends(marks, &body[len..]) {
             return RawString {
                 hashes,
                 len,
