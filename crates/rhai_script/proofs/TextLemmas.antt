@@ -10,17 +10,23 @@ use Rattle.rhai_grammar.specs.Demands.{Demands}
 use Rattle.rhai_grammar.specs.Libraries.{Library}
 use Rattle.rhai_grammar.specs.Promises.{HasRead, ReadsWhole, UnlessMemory}
 use Rattle.rhai_grammar.specs.declared.error.ParseError.{ParseError}
+use Rattle.rhai_tokenizer.specs.Pieces.{Piece}
 use Rattle.rhai_tokenizer.specs.Readings.{Reads}
 use Rattle.rhai_tokenizer.specs.declared.limits.Limits.{Limits}
 use Rattle.rhai_tokenizer.specs.declared.tokens.Tokens as T
-use Rattle.rhai_tokenizer.proofs.ReadingLemmas.{texts_have_one_reading}
+use Rattle.rhai_tokenizer.specs.Cutting.{pieces_from}
+use Rattle.rhai_tokenizer.specs.Meanings.{after as piece_after, at_start}
+use Rattle.rhai_tokenizer.proofs.AfterLemmas.{leaves}
+use Rattle.rhai_tokenizer.proofs.ReadingLemmas.{read_fits}
 use Rattle.rhai_script.specs.Deliveries.{cursor_in}
 use Rattle.rhai_script.specs.Texts.{IsTextOf, ReadsText}
 use Rattle.rhai_script.proofs.DeliveryLemmas.{streams_agree}
 
 -- every text is pieces that fit
-a_reading : (limits : Limits) (text : Text) → (ps : _) × IsTextOf limits ps text
-a_reading limits text = let r = texts_have_one_reading.some limits text in (r.0, (r.1, r.2))
+a_reading : (limits : Limits) (text : Text) → (ps : List Piece) × IsTextOf limits ps text
+a_reading limits text =
+    let r = read_fits (piece_after limits) (leaves limits) at_start text in
+    (pieces_from (piece_after limits) 0 at_start text, (r.1, r.0))
 
 -- Where memory ran out, nothing is promised.
 pub nothing_read : {F X : Type 0} (whole : F → Demands) (Is : F → X → Type 0) (before after : Library) (limits : Limits) (text : Text)

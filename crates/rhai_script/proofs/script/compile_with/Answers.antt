@@ -3,30 +3,20 @@ use Rattle.std.proofs.Common.{◌≡◌, [], Err, map, refl, rules, subst, sym}
 use Rattle.rhai_lower.specs.Entries.{ask_of}
 use Rattle.rhai_lower.specs.Streams.{stream_of}
 use Rattle.rhai_grammar.specs.Causes.{no_memory}
-use Rattle.rhai_grammar.specs.Contexts.{nothing_live}
 use Rattle.rhai_grammar.specs.Promises.{scripts}
 use Rattle.rhai_grammar.specs.Trees.{statement_trees}
-use Rattle.rhai_grammar.proofs.OrderLemmas.{libraries_stay_orderly}
-use Rattle.rhai_base.specs.Libraries.{library_of}
 use Rattle.rhai_parser.specs.Engines.{script_settings}
 use Rattle.rhai_parser.specs.Scripts.{IsMadeOf}
 use Rattle.rhai_tokenizer.specs.Readings.{Reads}
-use Rattle.rhai_script.specs.Scripts.{text_context}
-use Rattle.rhai_script.specs.Texts.{ReadsText}
-use Rattle.rhai_script.proofs.StateLemmas.{IsNew, fresh, stays_orderly, text_parsed}
-use Rattle.rhai_script.proofs.TextLemmas.{nothing_read}
+use Rattle.rhai_script.specs.Scripts.{ReadsTextAsAst}
+use Rattle.rhai_script.proofs.StateLemmas.{IsNew, a_script, fresh, no_script, stays_orderly, text_parsed}
 use Rattle.rhai_script.proofs.script.compile_with.Goals as goal
 
 pub returns-in_err-entries-clause-reads : goal.returns-in_err-entries-clause-reads
 returns-in_err-entries-clause-reads g c =
     let is : c.from_residual.result ≡ Err no_memory = search rules in
-    let whole = scripts (text_context c.args.engine.now (script_settings c.args.engine.now) c.args.constants) nothing_live in
-    let Is = λ fs script. IsMadeOf (g.O.Optimizer.makes c.args.optimizer.now) c.args.constants c.args.level (statement_trees fs nothing_live) [] script in
-    record {
-      after = [];
-      reads = subst (ReadsText whole Is [] [] c.args.limits c.args.text.now) (sym is) (nothing_read whole Is [] [] c.args.limits c.args.text.now no_memory refl);
-      orderly = libraries_stay_orderly.empty c.args.engine.now.max_functions;
-    }
+    subst (ReadsTextAsAst (g.O.Optimizer.makes c.args.optimizer.now) c.args.engine.now c.args.constants c.args.level c.args.limits c.args.text.now) (sym is)
+    (no_script (g.O.Optimizer.makes c.args.optimizer.now) c.args.engine.now c.args.constants c.args.level c.args.limits c.args.text.now)
 
 pub returns-clause-reads : goal.returns-clause-reads
 returns-clause-reads g c =
@@ -48,4 +38,9 @@ returns-clause-reads g c =
       imports = e.imports;
       global_imports = e.global_imports;
     } in
-    ?
+    let state = c.new-state.result in
+    let read = c.parse_with.ensures.reads (fresh state _ _ c.args.constants new) in
+    a_script (g.O.Optimizer.makes c.args.optimizer.now) c.args.engine.now c.args.constants c.args.level c.args.limits c.args.text.now c.parse_with.result _
+    (text_parsed scripts (λ after k w fs script. IsMadeOf (g.O.Optimizer.makes c.args.optimizer.now) k c.args.level (statement_trees fs w) after script)
+    c.args.engine.now (script_settings c.args.engine.now) (script_settings c.args.engine.now) state c.args.constants c.args.limits c.args.text.now c.parse_with.result tokens _ _ r refl new read c.parse_with.ensures.memory)
+    (stays_orderly c.args.engine.now state _ c.args.constants _ new c.parse_with.ensures.orderly)
