@@ -34,7 +34,7 @@ use Rattle.rhai_tokenizer.specs.declared.limits.Limits.{Limits}
 use Rattle.rhai_tokenizer.specs.declared.tokens.Tokens as T
 use Rattle.rhai_script.specs.Scripts.{ReadsTextAsAst, ReadsTextAsExpression, text_context}
 use Rattle.rhai_script.specs.Texts.{ReadsText}
-use Rattle.rhai_script.proofs.TextLemmas.{nothing_read, text_read}
+use Rattle.rhai_script.proofs.TextLemmas.{StandWhereNamed, nothing_read, text_read}
 
 -- A state as it is made, over this stream, with an empty library.
 pub record IsNew (state : StateValue) (stream : Stream) (outside : Constants) : Type 0 where
@@ -103,7 +103,8 @@ stays_orderly engine state stream constants after n keeps =
 
 -- What forms demand, and what the answer is, by what they stand in, the functions after it, the constants and what is
 -- live before.
-module _ {F X : Type 0} (whole : Context → Live → F → Demands) (Is : Library → Constants → Live → F → X → Type 0) where
+module _ {F X : Type 0} (whole : Context → Live → F → Demands) (Is : Library → Constants → Live → F → X → Type 0)
+    (stand : (context : Context) (live : Live) → StandWhereNamed (whole context live)) where
   pub text_parsed : (engine : EngineValue) (chosen settings : ParseSettings) (state : StateValue) (constants : Constants)
       (limits : Limits) (text : Text) (result : Result X ParseError) (tokens : T.Tokens) (after : Library) (left : Cursor)
       → Reads text limits tokens → chosen ≡ settings
@@ -125,7 +126,7 @@ module _ {F X : Type 0} (whole : Context → Live → F → Demands) (Is : Libra
       (live_is state stream constants n) p1 in
       let p3 = subst (λ l. ReadsWhole (whole context nothing_live) (Is after constants nothing_live) (library_of l) after (cursor_of state.input.now) left result) n.lib p2 in
       let p4 = subst (λ s. ReadsWhole (whole context nothing_live) (Is after constants nothing_live) [] after (cursor_of s) left result) n.input p3 in
-      text_read (whole context nothing_live) (Is after constants nothing_live) [] after limits text result tokens left r p4
+      text_read (whole context nothing_live) (Is after constants nothing_live) [] after limits text result tokens left (stand context nothing_live) r p4
       (subst (λ s. UnlessMemory (HasRead (cursor_of s) left) result) n.input memory)
 
 -- ---- the promises of the calls

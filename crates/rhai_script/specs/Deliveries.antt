@@ -1,5 +1,6 @@
 -- The stream that the pieces of a text are to the parser.
-use Rattle.std.specs.Prelude.{◌≡◌, codes, false, List, [], ◌∷◌, if◌then◌else◌, refl}
+use Rattle.std.specs.Prelude.{◌≡◌, ◌⊎◌, codes, false, List, [], ◌∷◌, if◌then◌else◌, map, refl}
+use Rattle.std.specs.List.{Contains}
 use Rattle.rhai_lower.specs.Lexemes.{Faulty, Interpolated, Lexeme, Name, String, UnexpectedInput}
 use Rattle.rhai_lower.specs.Positions.{place}
 use Rattle.rhai_lower.specs.declared.position.Position.{Position}
@@ -32,6 +33,14 @@ tokens_in limits ps = delivers (items limits at_start ps) (at_place (past start 
 -- the stream of which no token was requested
 abbrev pub cursor_in : Limits → List Piece → Cursor
 cursor_in limits ps = record { tokens = tokens_in limits ps; mode = code; peeked = false }
+
+-- This is the position of one of these tokens, or of the end mark, which is at `end`.
+abbrev pub IsPlaceOf : List Item → (end at : Position) → Type 0
+IsPlaceOf is end at = Contains (map (λ i. i.at) is) at ⊎ (at ≡ end)
+
+-- the same of the tokens of the pieces of a whole text
+abbrev pub IsPlaceIn : Limits → List Piece → Position → Type 0
+IsPlaceIn limits ps at = IsPlaceOf (items limits at_start ps) (at_place (past start (spelled ps))) at
 
 -- `x` delivers a name.
 example : asked (cursor_in (record { doc_comments = false; max_string_size = 0 }) (Word (codes "x") ∷ []))

@@ -4,6 +4,7 @@ use Rattle.rhai_lower.specs.Entries.{ask_of}
 use Rattle.rhai_lower.specs.Streams.{stream_of}
 use Rattle.rhai_grammar.specs.Causes.{no_memory}
 use Rattle.rhai_grammar.specs.Promises.{expressions}
+use Rattle.rhai_grammar.proofs.PlaceLemmas.{refusals_stand_at_tokens}
 use Rattle.rhai_grammar.specs.Trees.{tree}
 use Rattle.rhai_parser.specs.Engines.{expr_settings}
 use Rattle.rhai_parser.specs.Scripts.{IsScriptOf}
@@ -45,6 +46,6 @@ returns-clause-reads g c =
     let chosen : read.0 ≡ expr_settings c.args.engine.now = sym left.leaves ∙ same ∙ left.shows in
     an_expression (g.O.Optimizer.makes c.args.optimizer.now) c.args.engine.now c.args.constants c.args.level c.args.limits c.args.text.now c.parse_global_expr_with.result _
     (text_parsed expressions (λ after k w f script. IsScriptOf (g.O.Optimizer.makes c.args.optimizer.now) k c.args.level (tree f w) after script)
-    c.args.engine.now read.0 (expr_settings c.args.engine.now) state c.args.constants c.args.limits c.args.text.now c.parse_global_expr_with.result tokens _ _ r chosen new read.2
+    refusals_stand_at_tokens.expression_named c.args.engine.now read.0 (expr_settings c.args.engine.now) state c.args.constants c.args.limits c.args.text.now c.parse_global_expr_with.result tokens _ _ r chosen new read.2
     c.parse_global_expr_with.ensures.memory)
     (stays_orderly c.args.engine.now state _ c.args.constants _ new c.parse_global_expr_with.ensures.orderly)

@@ -4,6 +4,7 @@ use Rattle.rhai_lower.specs.Entries.{ask_of}
 use Rattle.rhai_lower.specs.Streams.{stream_of}
 use Rattle.rhai_grammar.specs.Causes.{no_memory}
 use Rattle.rhai_grammar.specs.Promises.{scripts}
+use Rattle.rhai_grammar.proofs.PlaceLemmas.{refusals_stand_at_tokens}
 use Rattle.rhai_grammar.specs.Trees.{statement_trees}
 use Rattle.rhai_parser.specs.Engines.{script_settings}
 use Rattle.rhai_parser.specs.Scripts.{IsMadeOf}
@@ -42,5 +43,5 @@ returns-clause-reads g c =
     let read = c.parse_with.ensures.reads (fresh state _ _ c.args.constants new) in
     a_script (g.O.Optimizer.makes c.args.optimizer.now) c.args.engine.now c.args.constants c.args.level c.args.limits c.args.text.now c.parse_with.result _
     (text_parsed scripts (λ after k w fs script. IsMadeOf (g.O.Optimizer.makes c.args.optimizer.now) k c.args.level (statement_trees fs w) after script)
-    c.args.engine.now (script_settings c.args.engine.now) (script_settings c.args.engine.now) state c.args.constants c.args.limits c.args.text.now c.parse_with.result tokens _ _ r refl new read c.parse_with.ensures.memory)
+    refusals_stand_at_tokens.script_named c.args.engine.now (script_settings c.args.engine.now) (script_settings c.args.engine.now) state c.args.constants c.args.limits c.args.text.now c.parse_with.result tokens _ _ r refl new read c.parse_with.ensures.memory)
     (stays_orderly c.args.engine.now state _ c.args.constants _ new c.parse_with.ensures.orderly)
