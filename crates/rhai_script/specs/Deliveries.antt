@@ -1,6 +1,9 @@
 -- The stream that the pieces of a text are to the parser.
 use Rattle.std.specs.Prelude.{◌≡◌, ◌⊎◌, codes, false, List, [], ◌∷◌, if◌then◌else◌, map, refl}
 use Rattle.std.specs.List.{Contains}
+use Rattle.rhai_lower.specs.Entries.{ask_of}
+use Rattle.rhai_lower.specs.Streams.{Stream, stream_of}
+use Rattle.rhai_lower.specs.Texts.{Text}
 use Rattle.rhai_lower.specs.Lexemes.{Faulty, Interpolated, Lexeme, Name, String, UnexpectedInput}
 use Rattle.rhai_lower.specs.Positions.{place}
 use Rattle.rhai_lower.specs.declared.position.Position.{Position}
@@ -10,7 +13,8 @@ use Rattle.rhai_tokenizer.specs.declared.limits.Limits.{Limits}
 use Rattle.rhai_tokenizer.specs.Meanings.{at_start}
 use Rattle.rhai_tokenizer.specs.Pieces.{Piece, Word, spelled}
 use Rattle.rhai_tokenizer.specs.Places.{at_place, past, start}
-use Rattle.rhai_tokenizer.specs.Readings.{Item, items}
+use Rattle.rhai_tokenizer.specs.Readings.{Item, Reads, items}
+use Rattle.rhai_tokenizer.specs.declared.tokens.Tokens as T
 use Rattle.rhai_tokenizer.specs.Symbols.{keywords, reserved_words}
 
 -- a text of an interpolated string, after one of its blocks, as it is delivered in code mode
@@ -33,6 +37,12 @@ tokens_in limits ps = delivers (items limits at_start ps) (at_place (past start 
 -- the stream of which no token was requested
 abbrev pub cursor_in : Limits → List Piece → Cursor
 cursor_in limits ps = record { tokens = tokens_in limits ps; mode = code; peeked = false }
+
+-- a stream of the tokens of a text
+pub record IsStreamOf (limits : Limits) (text : Text) (stream : Stream) : Type 0 where
+  pub tokens : T.Tokens
+  pub reads : Reads text limits tokens
+  pub is : stream ≡ stream_of (map ask_of tokens.entries.items) tokens.end
 
 -- This is the position of one of these tokens, or of the end mark, which is at `end`.
 abbrev pub IsPlaceOf : List Item → (end at : Position) → Type 0

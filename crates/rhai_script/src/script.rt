@@ -1,9 +1,10 @@
 //! `compile` and its kin: they read the text of a script, or of one expression.
 
-ghost use Rattle.std.specs.Prelude.{◌≡◌, IfErr, None};
+ghost use Rattle.std.specs.Prelude.{IfErr, IfOk, None};
 ghost use Rattle.rhai_grammar.specs.Causes.{MemoryIsNowhere};
 ghost use Rattle.rhai_lower.specs.Optimizer.{unoptimized};
 ghost use Rattle.rhai_lower.specs.declared.optimizer.OptimizationLevel.TheVariants as level;
+ghost use Rattle.rhai_script.specs.Deliveries.{IsStreamOf};
 ghost use Rattle.rhai_script.specs.Scripts.{ReadsTextAsAst, ReadsTextAsExpression};
 
 use rhai_parser::{
@@ -13,7 +14,15 @@ use rhai_parser::{
 use rhai_tokenizer::limits::Limits;
 use rhai_tokenizer::tokenizer::tokenize;
 use rhai_tokenizer::tokens::Tokens;
-use std::alloc::Global;
+use std::alloc::{AllocError, Global};
+
+// The stream of the tokens of a text.
+fn stream_of(alloc: Global, text: &str, limits: Limits) -> Result<TokenStream, AllocError>
+    ensures { IfOk result (IsStreamOf limits text.now) }
+{
+    let Tokens { entries, end, .. } = tokenize(alloc, text, limits)?;
+    Ok(TokenStream::new(entries, end))
+}
 
 /// Reads the text of a script, under the engine's settings for one, as an [`AST`] that is not optimized. `limits` says
 /// whether doc comments join their functions, and how long strings may be.
@@ -43,8 +52,7 @@ pub fn compile_with<O: Optimizer>(
     ensures reads { ReadsTextAsAst (O.makes optimizer.now) engine.now constants.entry level limits text.now result }
     ensures nowhere { IfErr result MemoryIsNowhere }
 {
-    let Tokens { entries, end, .. } = tokenize(alloc, text, limits)?;
-    let mut input = TokenStream::new(entries, end);
+    let mut input = stream_of(alloc, text, limits)?;
     let mut lib = FnLib::new(alloc);
     let state = ParseState::new(alloc, constants, &mut input, TokenizerControl, &mut lib);
     engine.parse_with(state, level, optimizer)
@@ -80,8 +88,7 @@ pub fn compile_expression_with<O: Optimizer>(
         result }
     ensures nowhere { IfErr result MemoryIsNowhere }
 {
-    let Tokens { entries, end, .. } = tokenize(alloc, text, limits)?;
-    let mut input = TokenStream::new(entries, end);
+    let mut input = stream_of(alloc, text, limits)?;
     let mut lib = FnLib::new(alloc);
     let state = ParseState::new(alloc, constants, &mut input, TokenizerControl, &mut lib);
     engine.parse_global_expr_with(state, |_settings| {}, level, optimizer)
