@@ -5,17 +5,23 @@ usage: tests/texts.py [PROGRAM]
 
 Without PROGRAM it runs the one that `rt run` in crates/rhai_ast built last. It runs the rows of docs/GRAMMAR.md, each
 script of examples/ that has a list of tokens beside it, texts that are hard to read, and for each kind of piece a
-short text and a long one: the long one has to take time in proportion. The last line counts the runs; the exit status
-is 1 if any failed.
+short text and a long one: the long one has to take time in proportion. For each script and each row it also refuses
+each request for memory in turn. The last line counts the runs; the exit status is 1 if any failed.
 """
 
 import json
 import pathlib
 import subprocess
 import sys
+import tempfile
 import time
 
 ROOT = pathlib.Path(__file__).resolve().parent.parent
+sys.dont_write_bytecode = True
+sys.path.insert(0, str(ROOT / "tests" / "hostile"))
+
+import batch
+
 EXTRA = 1.5  # how much longer than in proportion a long text may take
 
 # A kind of piece, and the text that is repeated.
@@ -64,12 +70,17 @@ class Runs:
             print(f"failed: {title}: {told}")
 
 
-def check_rows(runs):
-    """Runs the rows of the grammar."""
+def rows():
+    """Answers the rows of the grammar: each as it stands there, its text, and its tokens without positions."""
     block = (ROOT / "docs/GRAMMAR.md").read_text(encoding="utf-8").split("```tokens\n")[1].split("```")[0]
     for row in block.splitlines():
         text, after = json.JSONDecoder().raw_decode(row)
-        wanted = [word.strip() for word in row[after:].strip().split("  ")] + ["eof"]
+        yield row, text, [word.strip() for word in row[after:].strip().split("  ")] + ["eof"]
+
+
+def check_rows(runs):
+    """Runs the rows of the grammar."""
+    for row, text, wanted in rows():
         status, lines, _ = runs.tokens(text)
         got = [line.split(" ", 1)[1] for line in lines]
         runs.check(row, (status, got) == (0, wanted), f"status {status}, {got}")
@@ -111,6 +122,20 @@ def check_hard(runs):
     runs.check("no file", run.returncode == 2 and b"no such file" in run.stderr, run)
 
 
+def check_refused(runs):
+    """Refuses each request for memory of the examples and of the rows in turn: nothing is printed, and the run fails."""
+    texts = [script.read_bytes() for script in sorted((ROOT / "examples").glob("*.rhai"))]
+    texts += [text.encode("utf-8") for _, text, _ in rows()]
+    with tempfile.TemporaryDirectory() as folder:
+        library = batch.compile_forks(folder)
+        for text in texts:
+            found = batch.answers(library, [runs.program, "tokens", "--doc", "-"], [text], refuse=True)
+            runs.check("memory is requested", len(found) > 1, text)
+            for number, answer in enumerate(found, 1):
+                good = not answer.was_refused or (answer.status, answer.printed) == (2, b"")
+                runs.check(f"request {number} of {text[:40]}", good, answer)
+
+
 def repeated(kind, size):
     """Answers a text of about this many bytes that repeats a kind of piece."""
     if "{n}" in kind:
@@ -136,6 +161,7 @@ def main():
     check_rows(runs)
     check_examples(runs)
     check_hard(runs)
+    check_refused(runs)
     check_growth(runs)
     print(f"{runs.passed} passed, {runs.failed} failed")
     return 1 if runs.failed else 0
