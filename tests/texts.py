@@ -123,8 +123,8 @@ def check_hard(runs):
 
 
 def check_refused(runs):
-    """Refuses each request for memory of the examples and of the rows in turn. The run fails and prints nothing, or does
-    without and prints the whole list."""
+    """Refuses each request for memory of the examples and of the rows in turn. The run fails, and prints nothing, or it
+    does without, and prints the whole list."""
     texts = [script.read_bytes() for script in sorted((ROOT / "examples").glob("*.rhai"))]
     texts += [text.encode("utf-8") for _, text, _ in rows()]
     with tempfile.TemporaryDirectory() as folder:

@@ -73,14 +73,14 @@ pub blank_other : (t : Text) → (first.Space ≡ first_class (get_or t 0 0) →
 blank_other [] h k = sym nothing_blank
 blank_other (c ∷ t) h k =
     let none : begins_any blanks (c ∷ t) ≡ false = false_from_ne_true (begins_any blanks (c ∷ t))
-        (λ e. by (first_class c) refl (kind e)) in
+    (λ e. by (first_class c) refl (kind e)) in
     sym (ap length (first_none blanks (c ∷ t) none))
   where
     kind : begins_any blanks (c ∷ t) ≡ true → is_blank_class (first_class c) ≡ true
     kind e =
         let (member, front) = first_of-member blanks (c ∷ t) e in
         first_byte (first_of blanks (c ∷ t)) front (at_member (begins (λ d. is_blank_class (first_class d))) blanks
-            (first_of blanks (c ∷ t)) member blank_classes)
+        (first_of blanks (c ∷ t)) member blank_classes)
       where
         first_byte : (s : Text) → begins_with s (c ∷ t) ≡ true → begins (λ d. is_blank_class (first_class d)) s ≡ true
             → is_blank_class (first_class c) ≡ true
@@ -116,7 +116,7 @@ blanks_end z at n total is none e =
 pub blanks_step : (z : Text) (at n : ℕ) (total : ℕ) → n ≡ length (first_of blanks (take (length z - at) (drop at z)))
     → (n ≡ 0 → ⊥)
     → at + length (concat (run_from blanks 0 (drop at z))) ≡ total
-        → (at + n) + length (concat (run_from blanks 0 (drop (at + n) z))) ≡ total
+    → (at + n) + length (concat (run_from blanks 0 (drop (at + n) z))) ≡ total
 blanks_step z at n total is some e =
     let same : n ≡ length (first_of blanks (drop at z)) = is ∙ ap (λ x. length (first_of blanks x)) (take_rest z at) in
     let positive : 0 < n = omega arith in
@@ -124,8 +124,8 @@ blanks_step z at n total is some e =
     let rest : drop (length (first_of blanks (drop at z))) (drop at z) ≡ drop (at + n) z =
     ap (λ m. drop m (drop at z)) (sym same) ∙ drop-drop n at z in
     let len : length (concat (run_from blanks 0 (drop at z)))
-        ≡ length (first_of blanks (drop at z)) + length (concat (run_from blanks 0 (drop (at + n) z))) =
+    ≡ length (first_of blanks (drop at z)) + length (concat (run_from blanks 0 (drop (at + n) z))) =
     ap (λ x. length (concat x)) goes ∙ (length-append (first_of blanks (drop at z))
-        (concat (run_from blanks 0 (drop (length (first_of blanks (drop at z))) (drop at z))))
+    (concat (run_from blanks 0 (drop (length (first_of blanks (drop at z))) (drop at z))))
     ∙ ap (λ x. length (first_of blanks (drop at z)) + length (concat (run_from blanks 0 x))) rest) in
     omega (arith, len, e, same)

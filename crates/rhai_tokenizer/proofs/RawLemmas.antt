@@ -21,8 +21,11 @@ stretched n (c ∷ u) = by (begins_with (34 ∷ hashes n) (c ∷ u)) refl (stret
     by : (b : Bool) → begins_with (34 ∷ hashes n) (c ∷ u) ≡ b → Stretched n u (raw_text n u) (raw_closed n u)
         → Stretched n (c ∷ u) (cond b [] (c ∷ raw_text n u)) (cond b true (raw_closed n u))
     by true e ih = (begins_split (34 ∷ hashes n) (c ∷ u) e, refl)
-    by false e ih = (ap (λ x. c ∷ x) ih.0, and_from _ _
-        (not_from_false _ (ap (λ x. begins_with (34 ∷ hashes n) (c ∷ x)) ih.0 ∙ e)) ih.1)
+    by false e ih = (
+      ap (λ x. c ∷ x) ih.0,
+      and_from _ _
+          (not_from_false _ (ap (λ x. begins_with (34 ∷ hashes n) (c ∷ x)) ih.0 ∙ e)) ih.1,
+    )
 
 pub hashes_shift : (n : ℕ) (u : Text) → hashes n ++ (35 ∷ u) ≡ 35 ∷ (hashes n ++ u)
 hashes_shift zero u = refl
@@ -46,7 +49,7 @@ whole_stands n u some =
     let s = stretched n u in
     let more : Text = raw_letters n (raw_text n u) (raw_closed n u) in
     let rest : drop (length (hashes n ++ (34 ∷ raw_letters n (raw_text n u) (raw_closed n u)))) (hashes n ++ (34 ∷ u))
-        ≡ drop (length (raw_letters n (raw_text n u) (raw_closed n u))) u =
+    ≡ drop (length (raw_letters n (raw_text n u) (raw_closed n u))) u =
     drop_both (hashes n) (34 ∷ raw_letters n (raw_text n u) (raw_closed n u)) (34 ∷ u) in
     record {
       hashes_of = n;
@@ -56,7 +59,7 @@ whole_stands n u some =
       some = some;
       split = ap (λ x. (hashes n ++ (34 ∷ raw_letters n (raw_text n u) (raw_closed n u))) ++ x) rest
           ∙ (append_assoc (hashes n) (34 ∷ raw_letters n (raw_text n u) (raw_closed n u))
-              (drop (length (raw_letters n (raw_text n u) (raw_closed n u))) u)
+          (drop (length (raw_letters n (raw_text n u) (raw_closed n u))) u)
           ∙ ap (λ x. hashes n ++ (34 ∷ x)) s.0);
       fits = ap (raw_fits n (raw_text n u) (raw_closed n u)) rest ∙ s.1;
     }
@@ -93,7 +96,7 @@ again n [] false [] h = (refl, refl)
 again n [] false (c ∷ next) h = absurd (true≢false (sym h))
 again n (c ∷ t) closed next h =
     let (never, more) = and_parts (not (begins_with (34 ∷ hashes n) (c ∷ (raw_letters n t closed ++ next))))
-        (raw_fits n t closed next) h in
+    (raw_fits n t closed next) h in
     let e : begins_with (34 ∷ hashes n) (c ∷ (raw_letters n t closed ++ next)) ≡ false = not-true _ never in
     let (text, end) = again n t closed next more in
     (rw e (ap (λ x. c ∷ x) text), rw e end)
@@ -105,7 +108,7 @@ raw_again n t closed next h =
     ap (raw_from 1) (append_assoc (hashes n) (34 ∷ raw_letters (suc n) t closed) next)
     ∙ (from_hashes n 1 (suc n) (raw_letters (suc n) t closed ++ next) (omega arith)
     ∙ (ap (λ x. Raw (suc n) x (raw_closed (suc n) (raw_letters (suc n) t closed ++ next))) text
-        ∙ ap (λ x. Raw (suc n) t x) end))
+    ∙ ap (λ x. Raw (suc n) t x) end))
 
 -- ---- the code
 
@@ -130,9 +133,9 @@ raw_body n k (c ∷ t) h e = by (c == 34) (c == 35) refl refl h e (λ j. raw_bod
     by : (a b : Bool) → (c == 34) ≡ a → (c == 35) ≡ b → (a || (b && begins_raw t)) ≡ true → k
         ≡ n + cond b (1 + prefix_len (λ c. c == 35) t) 0
         → (begins_raw t ≡ true → k ≡ suc n + prefix_len (λ c. c == 35) t → raw_from (suc n) t
-            ≡ raw_of k (drop (prefix_len (λ c. c == 35) t + 1) t))
+        ≡ raw_of k (drop (prefix_len (λ c. c == 35) t + 1) t))
         → cond a (raw_of n t) (raw_from (suc n) t) ≡ raw_of k
-            (drop (cond b (1 + prefix_len (λ c. c == 35) t) 0 + 1) (c ∷ t))
+        (drop (cond b (1 + prefix_len (λ c. c == 35) t) 0 + 1) (c ∷ t))
     by true true f g h e ih = let bad : 34 ≡ 35 = sym (eqb-true c 34 f) ∙ eqb-true c 35 g in absurd (omega (arith, bad))
     by true false f g h e ih = let same : n ≡ k = omega (arith, e) in ap (λ x. raw_of x t) same
     by false true f g h e ih =
@@ -180,7 +183,7 @@ pub raw_stops : (n : ℕ) (marks body : Text) (len : ℕ) → marks ≡ hashes n
     ≡ raw_closed n (drop len body) → (raw_text n body ≡ take len body) × (raw_closed n body ≡ true)
 raw_stops n marks body len m h text closed =
     let e : begins_with (34 ∷ hashes n) (drop len body)
-        ≡ true = ap (λ x. begins_with (34 ∷ x) (drop len body)) (sym m) ∙ h in
+    ≡ true = ap (λ x. begins_with (34 ∷ x) (drop len body)) (sym m) ∙ h in
     let at = stop (drop len body) e in
     (text ∙ (ap (λ x. take len body ++ x) at.0 ∙ append-nil (take len body)), closed ∙ at.1)
   where
@@ -192,10 +195,10 @@ pub raw_goes : (n : ℕ) (marks body : Text) (len : ℕ) → marks ≡ hashes n 
     → begins_with (34 ∷ marks) (drop len body) ≡ false → raw_text n body ≡ take len body ++ raw_text n (drop len body)
     → raw_closed n body ≡ raw_closed n (drop len body)
     → (raw_text n body ≡ take (len + 1) body ++ raw_text n (drop (len + 1) body))
-        × (raw_closed n body ≡ raw_closed n (drop (len + 1) body))
+    × (raw_closed n body ≡ raw_closed n (drop (len + 1) body))
 raw_goes n marks body len m within h text closed =
     let e : begins_with (34 ∷ hashes n) (drop len body)
-        ≡ false = ap (λ x. begins_with (34 ∷ x) (drop len body)) (sym m) ∙ h in
+    ≡ false = ap (λ x. begins_with (34 ∷ x) (drop len body)) (sym m) ∙ h in
     let more = drop_more body len 0 within in
     let at = step (get_or body len 0) (drop (len + 1) body) (ap (begins_with (34 ∷ hashes n)) (sym more) ∙ e) in
     let grown : take len body ++ (get_or body len 0 ∷ []) ≡ take (len + 1) body = take_more body len 0 within in (
@@ -219,9 +222,11 @@ pub raw_ends : (n : ℕ) (body : Text) (len : ℕ) → length body ≤ len → l
     ≡ take len body ++ raw_text n (drop len body) → raw_closed n body ≡ raw_closed n (drop len body)
     → (raw_text n body ≡ take len body) × (raw_closed n body ≡ false)
 raw_ends n body len a b text closed =
-    let none : drop len body ≡ [] = past body len a in
-    (text ∙ (ap (λ x. take len body ++ raw_text n x) none ∙ append-nil (take len body)), closed
-        ∙ ap (raw_closed n) none)
+    let none : drop len body ≡ [] = past body len a in (
+      text ∙ (ap (λ x. take len body ++ raw_text n x) none ∙ append-nil (take len body)),
+      closed
+          ∙ ap (raw_closed n) none,
+    )
   where
     past : (t : Text) (k : ℕ) → length t ≤ k → drop k t ≡ []
     past [] zero h = refl

@@ -48,7 +48,7 @@ run_step ts some [] h =
 run_step ts some (c ∷ t) h =
     let (member, front) = first_of-member ts (c ∷ t) h in
     rw h (ap (λ x. first_of ts (c ∷ t) ∷ x) (from_drop ts (length (drop 1 (first_of ts (c ∷ t)))) t
-        ∙ ap (run_from ts 0) (shifted (first_of ts (c ∷ t)) c t (some (first_of ts (c ∷ t)) member))))
+    ∙ ap (run_from ts 0) (shifted (first_of ts (c ∷ t)) c t (some (first_of ts (c ∷ t)) member))))
 
 stands_none : (ts : List Text) (t : Text) → begins_any ts t ≡ false → RunStands ts t (run_from ts 0 t)
 stands_none ts t h = subst (RunStands ts t) (sym (run_none ts t h)) (refl, not_from_false (begins_any ts t) h)
@@ -63,7 +63,7 @@ stands_step ts s t ss m front (split, fits) =
           (drop (length (concat ss)) (drop (length s) t)) ∙ (ap (λ x. s ++ x) split ∙ begins_split s t front)),
       subst (λ (x : Text). ((is_one_of ts s && list_all (is_one_of ts) ss) && not (begins_any ts x)) ≡ true) (sym rest)
           (and_from (is_one_of ts s && list_all (is_one_of ts) ss) _
-              (and_from (is_one_of ts s) (list_all (is_one_of ts) ss) m all) stop),
+          (and_from (is_one_of ts s) (list_all (is_one_of ts) ss) m all) stop),
     )
 
 shorter : (s t : Text) (n : ℕ) → is_empty s ≡ false → length t ≤ suc n → length (drop (length s) t) ≤ n
@@ -87,7 +87,7 @@ within (suc n) ts some t h = by (begins_any ts t) refl (λ u. within n ts some u
         let (member, front) = first_of-member ts t e in
         subst (RunStands ts t) (sym (run_step ts some t e))
         (stands_step ts (first_of ts t) t _ member front
-            (ih (drop (length (first_of ts t)) t) (shorter (first_of ts t) t n (some (first_of ts t) member) h)))
+        (ih (drop (length (first_of ts t)) t) (shorter (first_of ts t) t n (some (first_of ts t) member) h)))
 
 pub run_stands : (ts : List Text) → Some ts → (t : Text) → RunStands ts t (run_from ts 0 t)
 run_stands ts some t = within (length t) ts some t (omega arith)

@@ -64,7 +64,7 @@ split xs i j h =
     let same : i + (j - i) ≡ j = omega arith in
     let rest : drop (j - i) (drop i xs) ≡ drop j xs = drop-drop (j - i) i xs ∙ ap (λ n. drop n xs) same in
     ap (λ y. take i xs ++ (take (j - i) (drop i xs) ++ y)) (sym rest)
-        ∙ (ap (λ y. take i xs ++ y) (take-append-drop (j - i) (drop i xs)) ∙ take-append-drop i xs)
+    ∙ (ap (λ y. take i xs ++ y) (take-append-drop (j - i) (drop i xs)) ∙ take-append-drop i xs)
 
 -- what is outside of a segment begins with another byte
 abbrev pub is_segment : Table → List ℕ → (size : ℕ) → ℕ → Bool
@@ -81,11 +81,11 @@ pub record Segment (xs : Table) (starts : List ℕ) (size b : ℕ) : Type 0 wher
 segment : (xs : Table) (starts : List ℕ) (size b : ℕ) → is_segment xs starts size b ≡ true → Segment xs starts size b
 segment xs starts size b h =
     let (bounds, offs) = and_parts (nat_le (get_or starts b 0) (get_or starts (b + 1) 0)
-        && nat_le (get_or starts (b + 1) 0) size) _ h in
+    && nat_le (get_or starts (b + 1) 0) size) _ h in
     let (order, within) = and_parts (nat_le (get_or starts b 0) (get_or starts (b + 1) 0))
-        (nat_le (get_or starts (b + 1) 0) size) bounds in
+    (nat_le (get_or starts (b + 1) 0) size) bounds in
     let (before, after) = and_parts (list_all (is_off b) (take (get_or starts b 0) xs))
-        (list_all (is_off b) (drop (get_or starts (b + 1) 0) xs)) offs in
+    (list_all (is_off b) (drop (get_or starts (b + 1) 0) xs)) offs in
     record { order = leb-true _ _ order; within = leb-true _ _ within; before = before; after = after }
 
 symbol_segments : agree_below (is_segment symbol_table SYMBOL_STARTS 73) (λ b. true) 256 ≡ true
@@ -106,23 +106,23 @@ word_segment b h = segment word_table WORD_STARTS 63 b
 
 pub entry_segment : (xs : Table) (starts : List ℕ) (size b : ℕ) (t : Text) → Segment xs starts size b
     → entry_of (take (get_or starts (b + 1) 0 - get_or starts b 0) (drop (get_or starts b 0) xs)) (b ∷ t)
-        ≡ entry_of xs (b ∷ t)
+    ≡ entry_of xs (b ∷ t)
 entry_segment xs starts size b t s =
     let i : ℕ = get_or starts b 0 in
     let j : ℕ = get_or starts (b + 1) 0 in
     sym (entry_stop b t (take (j - i) (drop i xs)) (drop j xs) s.after)
     ∙ (sym (entry_skip b t (take i xs) (take (j - i) (drop i xs) ++ drop j xs) s.before)
-        ∙ ap (λ y. entry_of y (b ∷ t)) (split xs i j s.order))
+    ∙ ap (λ y. entry_of y (b ∷ t)) (split xs i j s.order))
 
 pub lookup_segment : (xs : Table) (starts : List ℕ) (size b : ℕ) (t : Text) → Segment xs starts size b
     → lookup (take (get_or starts (b + 1) 0 - get_or starts b 0) (drop (get_or starts b 0) xs)) (b ∷ t)
-        ≡ lookup xs (b ∷ t)
+    ≡ lookup xs (b ∷ t)
 lookup_segment xs starts size b t s =
     let i : ℕ = get_or starts b 0 in
     let j : ℕ = get_or starts (b + 1) 0 in
     sym (lookup_stop b t (take (j - i) (drop i xs)) (drop j xs) s.after)
     ∙ (sym (lookup_skip b t (take i xs) (take (j - i) (drop i xs) ++ drop j xs) s.before)
-        ∙ ap (λ y. lookup y (b ∷ t)) (split xs i j s.order))
+    ∙ ap (λ y. lookup y (b ∷ t)) (split xs i j s.order))
 
 -- the part of the code's table
 part : {B : Type 0} (f : B → Text × Meaning) (xs : List B) (n i : ℕ) → map f (take n (drop i xs))
@@ -132,22 +132,22 @@ part f xs n i = sym (take-map f n (drop i xs)) ∙ ap (take n) (sym (drop-map f 
 pub entry_part : {B : Type 0} (f : B → Text × Meaning) (xs : List B) (table : Table) (given starts : List ℕ)
     (size b : ℕ) (t : Text) → map f xs ≡ table → given ≡ starts → Segment table starts size b
     → entry_of (map f (take (get_or given (b + 1) 0 - get_or given b 0) (drop (get_or given b 0) xs))) (b ∷ t)
-        ≡ entry_of table (b ∷ t)
+    ≡ entry_of table (b ∷ t)
 entry_part f xs table given starts size b t is e s =
     ap (λ x. entry_of x (b ∷ t)) (part f xs (get_or given (b + 1) 0 - get_or given b 0) (get_or given b 0)
-        ∙ ap (λ x. take (get_or given (b + 1) 0 - get_or given b 0) (drop (get_or given b 0) x)) is)
+    ∙ ap (λ x. take (get_or given (b + 1) 0 - get_or given b 0) (drop (get_or given b 0) x)) is)
     ∙ (ap (λ g. entry_of (take (get_or g (b + 1) 0 - get_or g b 0) (drop (get_or g b 0) table)) (b ∷ t)) e
-        ∙ entry_segment table starts size b t s)
+    ∙ entry_segment table starts size b t s)
 
 pub lookup_part : {B : Type 0} (f : B → Text × Meaning) (xs : List B) (table : Table) (given starts : List ℕ)
     (size b : ℕ) (t : Text) → map f xs ≡ table → given ≡ starts → Segment table starts size b
     → lookup (map f (take (get_or given (b + 1) 0 - get_or given b 0) (drop (get_or given b 0) xs))) (b ∷ t)
-        ≡ lookup table (b ∷ t)
+    ≡ lookup table (b ∷ t)
 lookup_part f xs table given starts size b t is e s =
     ap (λ x. lookup x (b ∷ t)) (part f xs (get_or given (b + 1) 0 - get_or given b 0) (get_or given b 0)
-        ∙ ap (λ x. take (get_or given (b + 1) 0 - get_or given b 0) (drop (get_or given b 0) x)) is)
+    ∙ ap (λ x. take (get_or given (b + 1) 0 - get_or given b 0) (drop (get_or given b 0) x)) is)
     ∙ (ap (λ g. lookup (take (get_or g (b + 1) 0 - get_or g b 0) (drop (get_or g b 0) table)) (b ∷ t)) e
-        ∙ lookup_segment table starts size b t s)
+    ∙ lookup_segment table starts size b t s)
 
 pub word_none : None ≡ lookup word_table []
 unfolding word_table

@@ -57,31 +57,31 @@ front_within s t e = omega (arith, ap length e, length-append s (drop (length s)
 
 pub part_goes : (style : Style) (column : ℕ) (place : Place) (t : Text) (p : Part) → part_at style t ≡ Some p
     → Goes style column place t (length (part_letters style p)) (part_value style column place p)
-        (fault_at place (spoiled p (letters_of style (drop (length (part_letters style p)) t))))
+    (fault_at place (spoiled p (letters_of style (drop (length (part_letters style p)) t))))
 part_goes style column place t p h =
     let s = part_front style t p h in
     let rest : Text = drop (length (part_letters style p)) t in
     let one = one_part style t p h in
     let front : take (length (part_letters style p)) t
-        ≡ part_letters style p = front_take (part_letters style p) t s.split in
+    ≡ part_letters style p = front_take (part_letters style p) t s.split in
     let ends : end_of style t ≡ end_of style (drop (length (part_letters style p)) t) =
     ap (λ ps. ending_after style ps t) one
     ∙ ap (ending_at style) (sym (drop-drop (parts_length style
-        (parts_from style 0 (drop (length (part_letters style p)) t))) (length (part_letters style p)) t)) in
+    (parts_from style 0 (drop (length (part_letters style p)) t))) (length (part_letters style p)) t)) in
     record {
       values = ap (string_value style column place) one
           ∙ ap (λ x. part_value style column place p
           ++ string_value style column (past place x) (parts_from style 0 rest)) (sym front);
       faults = ap (λ ps. first_fault style place ps (end_of style t)) one
           ∙ (ap (λ e. or_fault (fault_at place (spoiled p (string_letters style (parts_from style 0 rest) e)))
-              (first_fault style (past place (part_letters style p)) (parts_from style 0 rest) e)) ends
+          (first_fault style (past place (part_letters style p)) (parts_from style 0 rest) e)) ends
           ∙ ap (λ x. or_fault (fault_at place (spoiled p (letters_of style rest)))
-              (first_fault style (past place x) (parts_from style 0 rest) (end_of style rest))) (sym front));
+          (first_fault style (past place x) (parts_from style 0 rest) (end_of style rest))) (sym front));
       ends = ends;
       letters =
           ap (λ ps. string_letters style ps (end_of style t)) one
           ∙ (ap (λ e. part_letters style p ++ string_letters style (parts_from style 0 rest) e) ends
-              ∙ ap (λ x. x ++ letters_of style rest) (sym front));
+          ∙ ap (λ x. x ++ letters_of style rest) (sym front));
       within = front_within (part_letters style p) t s.split;
     }
 
@@ -92,12 +92,12 @@ stays style column place t = record { values = refl; faults = refl; ends = refl;
 sure_plain : (style : Style) (c : ℕ) (t : Text) → is_sure style c ≡ true → part_at style (c ∷ t) ≡ Some (Plain c)
 sure_plain Quote c t h =
     let (quote, more) = or_parts (c == 34) (c == 92
-        || is_line_feed c) (not-true (c == 34 || (c == 92 || is_line_feed c)) h) in
+    || is_line_feed c) (not-true (c == 34 || (c == 92 || is_line_feed c)) h) in
     let (slash, line) = or_parts (c == 92) (is_line_feed c) more in
     rw (quote, slash, line) refl
 sure_plain Apostrophe c t h =
     let (quote, more) = or_parts (c == 39) (c == 92
-        || is_line_feed c) (not-true (c == 39 || (c == 92 || is_line_feed c)) h) in
+    || is_line_feed c) (not-true (c == 39 || (c == 92 || is_line_feed c)) h) in
     let (slash, line) = or_parts (c == 92) (is_line_feed c) more in
     rw (quote, slash, line) refl
 sure_plain Tick c t h =
@@ -114,13 +114,13 @@ take_more (suc n) m (c ∷ t) h = let e : suc n + m ≡ suc (n + m) = omega arit
 -- two steps are one
 pub goes_on : (style : Style) (column : ℕ) (place : Place) (t : Text) (n m : ℕ) (v w : Text) (f g : Option Fault)
     → Goes style column place t n v f → Goes style column (past place (take n t)) (drop n t) m w g
-        → Goes style column place t (n + m) (v ++ w) (or_fault f g)
+    → Goes style column place t (n + m) (v ++ w) (or_fault f g)
 goes_on style column place t n m v w f g x y =
     let moved : drop m (drop n t) ≡ drop (n + m) t = drop-drop m n t in
     let front : take n t ++ take m (drop n t) ≡ take (n + m) t = take_more n m t x.within in
     let place_is : past (past place (take n t)) (take m (drop n t))
-        ≡ past place (take (n + m) t) = sym (past-append (take n t) place (take m (drop n t)))
-        ∙ ap (past place) front in
+    ≡ past place (take (n + m) t) = sym (past-append (take n t) place (take m (drop n t)))
+    ∙ ap (past place) front in
     record {
       values = x.values ∙ (ap (λ z. v ++ z) y.values
           ∙ (sym (append_assoc v w _) ∙ (ap (λ z. (v ++ w) ++ value_of style column z (drop m (drop n t))) place_is
@@ -148,14 +148,14 @@ sure_goes style column place (c ∷ t) = by (is_sure style c) refl (λ p. sure_g
     by : (b : Bool) → is_sure style c ≡ b → ((p : Place)
         → Goes style column p t (prefix_len (is_sure style) t) (take (prefix_len (is_sure style) t) t) None)
         → Goes style column place (c ∷ t) (cond b (1 + prefix_len (is_sure style) t) 0)
-            (take (cond b (1 + prefix_len (is_sure style) t) 0) (c ∷ t)) None
+        (take (cond b (1 + prefix_len (is_sure style) t) 0) (c ∷ t)) None
     by true e ih =
         let n : 1 + prefix_len (is_sure style) t ≡ suc (prefix_len (is_sure style) t) = omega arith in
         let g = goes_on style column place (c ∷ t) 1 (prefix_len (is_sure style) t) (c
-            ∷ []) (take (prefix_len (is_sure style) t) t) None None (one_goes style column place c t e)
-            (ih (past place (c ∷ []))) in
+        ∷ []) (take (prefix_len (is_sure style) t) t) None None (one_goes style column place c t e)
+        (ih (past place (c ∷ []))) in
         subst (λ (k : ℕ). Goes style column place (c ∷ t) (1 + prefix_len (is_sure style) t) (take k (c ∷ t)) None)
-            (sym n) g
+        (sym n) g
     by false e ih = stays style column place (c ∷ t)
 
 pub sure_goes_at : (style : Style) (column : ℕ) (place : Place) (t : Text) (n : ℕ) → n ≡ prefix_len (is_sure style) t
@@ -188,7 +188,7 @@ pub sure_boundary : (style : Style) (t : Text) (n : ℕ) → n ≡ prefix_len (i
 sure_boundary style t n n_is within =
     let b = before (take n t) (drop n t) (unsure_stops style (drop n t) (unsure style t (drop n t) n n_is refl)) in
     subst (λ (x : Text). IsCharBoundary x n) (take-append-drop n t)
-        (subst (λ (k : ℕ). IsCharBoundary (take n t ++ drop n t) k) (length-take-le n t within) b)
+    (subst (λ (k : ℕ). IsCharBoundary (take n t ++ drop n t) k) (length-take-le n t within) b)
 
 -- ---- what stands after an escape that is cut
 
@@ -218,7 +218,7 @@ some_letters style t x h = by (letters_of style t) refl
         let s = string_stands style t in
         let whole : drop (length (letters_of style t)) t ≡ t = ap (λ y. drop (length y) t) e in
         let fits : string_fits style (parts_from style 0 t) (end_of style t) t
-            ≡ true = ap (string_fits style (parts_from style 0 t) (end_of style t)) (sym whole) ∙ s.fits in
+        ≡ true = ap (string_fits style (parts_from style 0 t) (end_of style t)) (sym whole) ∙ s.fits in
         absurd (true≢false (sym h ∙ empty_ends style (parts_from style 0 t) (end_of style t) t x fits (ap is_empty e)))
     by (c ∷ s) e = ap is_empty e
 
@@ -238,7 +238,7 @@ same_character : (style : Style) (t : Text) → is_empty (letters_of style t) �
 same_character style t h =
     let s = string_stands style t in
     by (letters_of style t) (drop (length (letters_of style t)) t) h
-        (ends style (parts_from style 0 t) (end_of style t) _ s.fits) ∙ ap character s.split
+    (ends style (parts_from style 0 t) (end_of style t) _ s.fits) ∙ ap character s.split
   where
     stop : (x : Text) (next : Text) → begins is_continuation next ≡ false → continued (x ++ next) ≡ continued x
     stop [] [] h = refl
@@ -260,7 +260,7 @@ same_character style t h =
     by (c ∷ x) next e (inr (b ∷ u, d, l, same)) =
         let rest : x ≡ u ++ d ∷ [] = cc in
         ap (λ r. c ∷ cond (nat_lt c 128) [] r) (ap continued rest
-            ∙ (sym (close u next d l) ∙ ap (λ y. continued (y ++ next)) (sym rest)))
+        ∙ (sym (close u next d l) ∙ ap (λ y. continued (y ++ next)) (sym rest)))
 
 -- ---- parts that do not begin with a sure byte
 
@@ -276,11 +276,11 @@ abbrev pub IsSpecial : Style → ℕ → Place → Text → Special → Type 0
 IsSpecial style column place t (Means n c) = Special_goes style column place t n (encode_utf8 c) None
 IsSpecial style column place t (special.Continues n) =
     (IsUtf8 t → IsCharBoundary t n) × Special_goes style column place t
-        (n + length (concat (run_from spaces 0 (drop n t))))
-        (past_column column (past place (take n t)) (run_from spaces 0 (drop n t))) None
+    (n + length (concat (run_from spaces 0 (drop n t))))
+    (past_column column (past place (take n t)) (run_from spaces 0 (drop n t))) None
 IsSpecial style column place t (Spoils n k b) =
     (IsUtf8 t → IsCharBoundary t k) × (b ≤ length t)
-        × Special_goes style column place t n [] (Some (record { text = take k t; place = past place (take b t) }))
+    × Special_goes style column place t n [] (Some (record { text = take k t; place = past place (take b t) }))
 IsSpecial style column place t (Stops n) = Special_goes style column place t n [] None
 IsSpecial style column place t Ends = part_at style t ≡ None
 
@@ -288,20 +288,20 @@ IsSpecial style column place t Ends = part_at style t ≡ None
 known : (style : Style) (column : ℕ) (place : Place) (t : Text) (p : Part) (n : ℕ) (v : Text) (f : Option Fault)
     → part_at style t ≡ Some p → length (part_letters style p) ≡ n
     → part_value style column place p ≡ v → fault_at place (spoiled p (letters_of style (drop n t))) ≡ f
-        → (IsUtf8 t → IsCharBoundary t n) → Special_goes style column place t n v f
+    → (IsUtf8 t → IsCharBoundary t n) → Special_goes style column place t n v f
 known style column place t p n v f h len value fault cut =
     let s = part_front style t p h in
     let some = some_part (part_letters style p) s.some in
     let g : Goes style column place t (length (part_letters style p)) (part_value style column place p)
-        (fault_at place (spoiled p (letters_of style (drop (length (part_letters style p)) t)))) = part_goes style
-        column place t p h in
+    (fault_at place (spoiled p (letters_of style (drop (length (part_letters style p)) t)))) = part_goes style
+    column place t p h in
     let g' : Goes style column place t n (part_value style column place p)
-        (fault_at place (spoiled p (letters_of style (drop n t)))) =
+    (fault_at place (spoiled p (letters_of style (drop n t)))) =
     subst (λ (x : ℕ). Goes style column place t x (part_value style column place p)
-        (fault_at place (spoiled p (letters_of style (drop x t))))) len g in
+    (fault_at place (spoiled p (letters_of style (drop x t))))) len g in
     let g'' : Goes style column place t n v (fault_at place (spoiled p (letters_of style (drop n t)))) = subst
-        (λ (x : Text). Goes style column place t n x (fault_at place (spoiled p (letters_of style (drop n t))))) value
-        g' in
+    (λ (x : Text). Goes style column place t n x (fault_at place (spoiled p (letters_of style (drop n t))))) value
+    g' in
     record {
       goes = subst (λ (x : Option Fault). Goes style column place t n v x) fault g'';
       some = omega (arith, some, len);
@@ -339,9 +339,9 @@ doubled_special_is style column place mark t m a p = by (begins (λ d. d == mark
         → IsSpecial style column place (mark ∷ t) (cond b (Means 2 mark) Ends)
     by true e =
         known style column place (mark ∷ t) Doubled 2 (encode_utf8 mark) None (p ∙ rw e refl) refl (ap (λ x. x ∷ []) m
-            ∙ one_ascii mark (ltb-true mark 128 a)) refl
+        ∙ one_ascii mark (ltb-true mark 128 a)) refl
         (cut_at (mark ∷ (mark ∷ [])) (mark ∷ t) 2 (front t e) refl (and_from (nat_lt mark 128) (nat_lt mark 128
-            && true) a (and_from (nat_lt mark 128) true a refl)))
+        && true) a (and_from (nat_lt mark 128) true a refl)))
     by false e = p ∙ rw e refl
 
 tick_special_is : (column : ℕ) (place : Place) (c : ℕ) (t : Text) → is_sure Tick c ≡ false
@@ -406,16 +406,19 @@ wrong_is style column place c t p =
     let front : take (2 + length (run is_continuation t)) (92 ∷ (c ∷ t)) ≡ 92 ∷ (c ∷ run is_continuation t) =
     ap (λ n. take n (92 ∷ (c ∷ t))) (sym len) ∙ front_take (92 ∷ (c ∷ run is_continuation t)) (92 ∷ (c ∷ t)) s.split in
     let stop : begins is_continuation (drop (length (run is_continuation t)) t)
-        ≡ false = not-true _ (and_parts (list_all is_continuation (run is_continuation t)) _
-        (run_is is_continuation t)).1 in
+    ≡ false = not-true _ (and_parts (list_all is_continuation (run is_continuation t)) _
+    (run_is is_continuation t)).1 in
     let cut : IsUtf8 (92 ∷ (c ∷ t)) → IsCharBoundary (92
-        ∷ (c ∷ t)) (2 + length (run is_continuation t)) = λ u. stop_cut (92 ∷ (c ∷ run is_continuation t)) (92
-        ∷ (c ∷ t)) (2 + length (run is_continuation t)) s.split len stop in (
+    ∷ (c ∷ t)) (2 + length (run is_continuation t)) = λ u. stop_cut (92 ∷ (c ∷ run is_continuation t)) (92
+    ∷ (c ∷ t)) (2 + length (run is_continuation t)) s.split len stop in (
       cut,
       omega arith,
       known style column place (92 ∷ (c ∷ t)) (wrong_at c t) (2 + length (run is_continuation t)) []
-          (Some (record { text = take (2 + length (run is_continuation t)) (92 ∷ (c ∷ t)); place = past place (92
-          ∷ []) })) p len refl
+          (Some (record {
+            text = take (2 + length (run is_continuation t)) (92 ∷ (c ∷ t));
+            place = past place (92
+                ∷ []);
+          })) p len refl
           (ap (λ x. Some (record { text = x; place = past place (92 ∷ []) })) (sym front)) cut,
     )
 
@@ -456,8 +459,8 @@ character_cut (c ∷ t) u = by (nat_lt c 128) refl
     by true e = ascii_cut (c ∷ []) (c ∷ t) refl (and_from (is_small c) true e refl) u
     by false e =
         let whole : (c ∷ continued t) ++ drop (length (c ∷ continued t)) (c ∷ t) ≡ c
-            ∷ t = ap (λ b. (c ∷ cond b [] (continued t))
-            ++ drop (length (c ∷ cond b [] (continued t))) (c ∷ t)) (sym e) ∙ character_front (c ∷ t) in
+        ∷ t = ap (λ b. (c ∷ cond b [] (continued t))
+        ++ drop (length (c ∷ cond b [] (continued t))) (c ∷ t)) (sym e) ∙ character_front (c ∷ t) in
         stop_cut (c ∷ continued t) (c ∷ t) (length (c ∷ continued t)) whole refl (character_stops c t e)
 
 cut_is : (style : Style) (column : ℕ) (place : Place) (f t : Text) (n : ℕ) → escapes style ≡ true → part_at style t
@@ -483,21 +486,21 @@ cut_is style column place f t n x p len small = by (begins in_line (drop n t)) r
     spoils : (b : Bool) → is_empty (letters_of style (drop n t)) ≡ b → b ≡ false
         → character (letters_of style (drop n t)) ≡ character (drop n t)
         → fault_at place (cond b None (Some (92 ∷ (f ++ character (letters_of style (drop n t))), 1 + length f)))
-            ≡ Some (record { text = take (n + length (character (drop n t))) t; place = past place (take n t) })
+        ≡ Some (record { text = take (n + length (character (drop n t))) t; place = past place (take n t) })
     spoils true e k same = absurd (true≢false k)
     spoils false e k same =
         let more : take (length (character (drop n t))) (drop n t)
-            ≡ character (drop n t) = front_take (character (drop n t)) (drop n t) (character_front (drop n t)) in
+        ≡ character (drop n t) = front_take (character (drop n t)) (drop n t) (character_front (drop n t)) in
         let text : 92 ∷ (f ++ character (letters_of style (drop n t))) ≡ take (n + length (character (drop n t))) t =
         ap (λ y. (92 ∷ f) ++ y) (same ∙ sym more) ∙ (ap (λ y. y
-            ++ take (length (character (drop n t))) (drop n t)) (sym front)
-            ∙ take_more n (length (character (drop n t))) t within) in
+        ++ take (length (character (drop n t))) (drop n t)) (sym front)
+        ∙ take_more n (length (character (drop n t))) t within) in
         let one : 1 + length f ≡ length (92 ∷ f) = omega arith in
         let at : take (1 + length f) (92 ∷ (f ++ character (letters_of style (drop n t)))) ≡ take n t =
         ap (λ k. take k (92 ∷ (f ++ character (letters_of style (drop n t))))) one
-            ∙ (take_at (92 ∷ f) (character (letters_of style (drop n t))) (length (92 ∷ f)) refl ∙ sym front) in
+        ∙ (take_at (92 ∷ f) (character (letters_of style (drop n t))) (length (92 ∷ f)) refl ∙ sym front) in
         ap (λ y. Some (record { text = 92 ∷ (f ++ character (letters_of style (drop n t))); place = past place y }))
-            at ∙ ap (λ y. Some (record { text = y; place = past place (take n t) })) text
+        at ∙ ap (λ y. Some (record { text = y; place = past place (take n t) })) text
 
     stops : is_empty (letters_of style (drop n t)) ≡ true
         → fault_at place (spoiled (Cut f) (letters_of style (drop n t))) ≡ None
@@ -546,7 +549,7 @@ coded_is style column place m ds t k p len small = by (scalar (hex_value 0 ds)) 
     at =
         let fits : 1 + k ≤ length (92 ∷ (m ∷ ds)) = omega (arith, two) in
         ap (λ n. take (1 + n) (92 ∷ (m ∷ ds))) len ∙
-            (sym (take-append-le (1 + k) (92 ∷ (m ∷ ds)) (drop (2 + k) (92 ∷ (m ∷ t))) fits) ∙ ap (take (1 + k)) split)
+        (sym (take-append-le (1 + k) (92 ∷ (m ∷ ds)) (drop (2 + k) (92 ∷ (m ∷ t))) fits) ∙ ap (take (1 + k)) split)
 
     by : (b : Bool) → scalar (hex_value 0 ds) ≡ b → IsSpecial style column place (92
         ∷ (m ∷ t)) (cond b (Means (2 + k) (hex_value 0 ds)) (Spoils (2 + k) (2 + k) (1 + k)))
@@ -559,14 +562,14 @@ coded_is style column place m ds t k p len small = by (scalar (hex_value 0 ds)) 
           (Some (record { text = take (2 + k) (92 ∷ (m ∷ t)); place = past place (take (1 + k) (92 ∷ (m ∷ t))) })) p
           two (rw e refl)
           (rw e (ap (λ y. Some (record { text = 92 ∷ (m ∷ ds); place = past place y })) at
-              ∙ ap (λ y. Some (record { text = y; place = past place (take (1 + k) (92 ∷ (m ∷ t))) })) (sym front)))
-              here,
+          ∙ ap (λ y. Some (record { text = y; place = past place (take (1 + k) (92 ∷ (m ∷ t))) })) (sym front)))
+          here,
     )
 
 number_is : (style : Style) (column : ℕ) (place : Place) (m : ℕ) (t : Text) → escapes style ≡ true
     → nat_lt 0 (digits_after m) ≡ true
     → part_at style (92 ∷ (m ∷ t)) ≡ Some (coded_at m (hex_run (digits_after m) t))
-        → IsSpecial style column place (92 ∷ (m ∷ t)) (number_special (digits_after m) t)
+    → IsSpecial style column place (92 ∷ (m ∷ t)) (number_special (digits_after m) t)
 number_is style column place m t x some p = by (length (hex_run (digits_after m) t) == digits_after m) refl p
   where
     digits : Text
@@ -579,51 +582,55 @@ number_is style column place m t x some p = by (length (hex_run (digits_after m)
     by : (b : Bool) → (length (hex_run (digits_after m) t) == digits_after m) ≡ b → part_at style (92 ∷ (m ∷ t))
         ≡ Some (cond b (Coded m (hex_run (digits_after m) t)) (Cut (m ∷ hex_run (digits_after m) t)))
         → IsSpecial style column place (92 ∷ (m ∷ t))
-            (cond b (coded_special (digits_after m) (hex_run (digits_after m) t))
-            (cut_special (2 + length (hex_run (digits_after m) t)) (drop (length (hex_run (digits_after m) t)) t)))
+        (cond b (coded_special (digits_after m) (hex_run (digits_after m) t))
+        (cut_special (2 + length (hex_run (digits_after m) t)) (drop (length (hex_run (digits_after m) t)) t)))
     by true e p = coded_is style column place m (hex_run (digits_after m) t) t (digits_after m) p
         (eqb-true (length (hex_run (digits_after m) t)) (digits_after m) e) small
     by false e p =
         let two : length (92 ∷ (m ∷ hex_run (digits_after m) t))
-            ≡ 2 + length (hex_run (digits_after m) t) = omega arith in
+        ≡ 2 + length (hex_run (digits_after m) t) = omega arith in
         let moved : drop (2 + length (hex_run (digits_after m) t)) (92 ∷ (m ∷ t))
-            ≡ drop (length (hex_run (digits_after m) t)) t = ap (λ n. drop n (92 ∷ (m ∷ t))) (sym two) in
+        ≡ drop (length (hex_run (digits_after m) t)) t = ap (λ n. drop n (92 ∷ (m ∷ t))) (sym two) in
         subst (λ (y : Text). IsSpecial style column place (92
-            ∷ (m ∷ t)) (cut_special (2 + length (hex_run (digits_after m) t)) y)) moved
+        ∷ (m ∷ t)) (cut_special (2 + length (hex_run (digits_after m) t)) y)) moved
         (cut_is style column place (m ∷ hex_run (digits_after m) t) (92
-            ∷ (m ∷ t)) (2 + length (hex_run (digits_after m) t)) x p two small)
+        ∷ (m ∷ t)) (2 + length (hex_run (digits_after m) t)) x p two small)
 
 -- ---- a line that goes on
 
 line_is : (column : ℕ) (place : Place) (returns : Bool) (t : Text) (n : ℕ) → length (92 ∷ line_end returns) ≡ n
     → list_all is_small (92 ∷ line_end returns) ≡ true
     → part_at Quote ((92 ∷ line_end returns) ++ t) ≡ Some (Continues returns (run_from spaces 0 t))
-        → IsSpecial Quote column place ((92 ∷ line_end returns) ++ t) (special.Continues n)
+    → IsSpecial Quote column place ((92 ∷ line_end returns) ++ t) (special.Continues n)
 line_is column place returns t n len small p =
     let whole_text : Text = (92 ∷ line_end returns) ++ t in
     let rest : drop n ((92 ∷ line_end returns) ++ t) ≡ t = drop_at (92 ∷ line_end returns) t n len in
     let front : take n ((92 ∷ line_end returns) ++ t) ≡ 92
-        ∷ line_end returns = take_at (92 ∷ line_end returns) t n len in
+    ∷ line_end returns = take_at (92 ∷ line_end returns) t n len in
     let s = part_front Quote ((92 ∷ line_end returns) ++ t) (Continues returns (run_from spaces 0 t)) p in
     let all : list_all (is_one_of spaces) (run_from spaces 0 t)
-        ≡ true = (and_parts (list_all (is_one_of spaces) (run_from spaces 0 t)) _
-        (run_stands spaces spaces_some t).1).0 in
+    ≡ true = (and_parts (list_all (is_one_of spaces) (run_from spaces 0 t)) _
+    (run_stands spaces spaces_some t).1).0 in
     let utf8 : IsUtf8 (92 ∷ (line_end returns ++ concat (run_from spaces 0 t))) = IsUtf8-append (92
-        ∷ line_end returns) (concat (run_from spaces 0 t)) (ascii_utf8 (92 ∷ line_end returns) small)
-        (concat_utf8 (run_from spaces 0 t) all) in
+    ∷ line_end returns) (concat (run_from spaces 0 t)) (ascii_utf8 (92 ∷ line_end returns) small)
+    (concat_utf8 (run_from spaces 0 t) all) in
     let size : length (92 ∷ (line_end returns ++ concat (run_from spaces 0 t)))
-        ≡ n + length (concat (run_from spaces 0 t)) = omega (arith, length-append (92
-        ∷ line_end returns) (concat (run_from spaces 0 t)), len) in
+    ≡ n + length (concat (run_from spaces 0 t)) = omega (
+      arith,
+      length-append (92
+          ∷ line_end returns) (concat (run_from spaces 0 t)),
+      len,
+    ) in
     let cut : IsUtf8 ((92 ∷ line_end returns) ++ t)
-        → IsCharBoundary ((92 ∷ line_end returns) ++ t) (n + length (concat (run_from spaces 0 t))) =
+    → IsCharBoundary ((92 ∷ line_end returns) ++ t) (n + length (concat (run_from spaces 0 t))) =
     λ u. subst (λ (k : ℕ). IsCharBoundary ((92 ∷ line_end returns) ++ t) k) size (whole_cut (92
-        ∷ (line_end returns ++ concat (run_from spaces 0 t))) ((92 ∷ line_end returns) ++ t) s.split utf8 u) in
+    ∷ (line_end returns ++ concat (run_from spaces 0 t))) ((92 ∷ line_end returns) ++ t) s.split utf8 u) in
     let done = known Quote column place ((92 ∷ line_end returns)
-        ++ t) (Continues returns (run_from spaces 0 t)) (n + length (concat (run_from spaces 0 t)))
-        (past_column column (past place (92 ∷ line_end returns)) (run_from spaces 0 t)) None p size refl refl cut in
+    ++ t) (Continues returns (run_from spaces 0 t)) (n + length (concat (run_from spaces 0 t)))
+    (past_column column (past place (92 ∷ line_end returns)) (run_from spaces 0 t)) None p size refl refl cut in
     let P : Text → Text → Type 0 = λ y z. Special_goes Quote column place ((92 ∷ line_end returns)
-        ++ t) (n + length (concat (run_from spaces 0 y))) (past_column column (past place z) (run_from spaces 0 y))
-        None in (
+    ++ t) (n + length (concat (run_from spaces 0 y))) (past_column column (past place z) (run_from spaces 0 y))
+    None in (
       λ u. cut_at (92 ∷ line_end returns) ((92 ∷ line_end returns)
           ++ t) n (ap (λ y. (92 ∷ line_end returns) ++ y) rest) len small u,
       subst (λ (y : Text). P y (take n ((92 ∷ line_end returns) ++ t))) (sym rest)
@@ -645,7 +652,7 @@ quote_line_is column place c t p = by (is_line_feed c) (c == 13 && begins is_lin
         → IsSpecial Quote column place (92 ∷ (c ∷ t)) (special.Continues 2)
     feed e p =
         let P : ℕ → Type 0 = λ x. part_at Quote (92 ∷ (x ∷ t)) ≡ Some (Continues false (run_from spaces 0 t))
-            → IsSpecial Quote column place (92 ∷ (x ∷ t)) (special.Continues 2) in
+        → IsSpecial Quote column place (92 ∷ (x ∷ t)) (special.Continues 2) in
         subst P (sym (eqb-true c 10 e)) (λ q. line_is column place false t 2 refl refl q) p
 
     return : (t : Text) → (c == 13 && begins is_line_feed t) ≡ true → part_at Quote (92 ∷ (c ∷ t))
@@ -655,16 +662,16 @@ quote_line_is column place c t p = by (is_line_feed c) (c == 13 && begins is_lin
     return (d ∷ t) e p =
         let (cr, lf) = and_parts (c == 13) (is_line_feed d) e in
         let P : ℕ → ℕ → Type 0 = λ x y. part_at Quote (92 ∷ (x ∷ (y ∷ t)))
-            ≡ Some (Continues true (run_from spaces 0 t))
-            → IsSpecial Quote column place (92 ∷ (x ∷ (y ∷ t))) (special.Continues 3) in
+        ≡ Some (Continues true (run_from spaces 0 t))
+        → IsSpecial Quote column place (92 ∷ (x ∷ (y ∷ t))) (special.Continues 3) in
         subst (λ (x : ℕ). P x d) (sym (eqb-true c 13 cr))
-            (subst (λ (y : ℕ). P 13 y) (sym (eqb-true d 10 lf)) (λ q. line_is column place true t 3 refl refl q)) p
+        (subst (λ (y : ℕ). P 13 y) (sym (eqb-true d 10 lf)) (λ q. line_is column place true t 3 refl refl q)) p
 
     by : (a b : Bool) → is_line_feed c ≡ a → (c == 13 && begins is_line_feed t) ≡ b
         → part_at Quote (92 ∷ (c ∷ t)) ≡ Some (cond a (Continues false (run_from spaces 0 t))
-            (cond b (Continues true (run_from spaces 0 (drop 1 t))) (wrong_at c t)))
+        (cond b (Continues true (run_from spaces 0 (drop 1 t))) (wrong_at c t)))
         → IsSpecial Quote column place (92 ∷ (c ∷ t))
-            (cond a (special.Continues 2) (cond b (special.Continues 3) (wrong_special t)))
+        (cond a (special.Continues 2) (cond b (special.Continues 3) (wrong_special t)))
     by true b e f p = feed e p
     by false true e f p = return t f p
     by false false e f p = wrong_is Quote column place c t p
@@ -677,7 +684,7 @@ apostrophe_line_is column place c t p = by (is_line_feed c) refl p
         → IsSpecial Apostrophe column place (92 ∷ (c ∷ t)) (Stops 1)
     feed e p =
         let P : ℕ → Type 0 = λ x. part_at Apostrophe (92 ∷ (x ∷ t)) ≡ Some (Cut [])
-            → IsSpecial Apostrophe column place (92 ∷ (x ∷ t)) (Stops 1) in
+        → IsSpecial Apostrophe column place (92 ∷ (x ∷ t)) (Stops 1) in
         subst P (sym (eqb-true c 10 e)) (λ q. cut_is Apostrophe column place [] (92 ∷ (10 ∷ t)) 1 refl q refl refl) p
 
     by : (a : Bool) → is_line_feed c ≡ a → part_at Apostrophe (92 ∷ (c ∷ t)) ≡ Some (cond a (Cut []) (wrong_at c t))
@@ -699,13 +706,13 @@ escape_is style column place (c ∷ t) x p = by (is_escape style c) (nat_lt 0 (d
   where
     by : (a b : Bool) → is_escape style c ≡ a → nat_lt 0 (digits_after c) ≡ b
         → part_at style (92 ∷ (c ∷ t)) ≡ Some (cond a (Escaped c)
-            (cond b (coded_at c (hex_run (digits_after c) t)) (line_at style c t)))
+        (cond b (coded_at c (hex_run (digits_after c) t)) (line_at style c t)))
         → IsSpecial style column place (92 ∷ (c ∷ t))
-            (cond a (Means 2 (escape_value c)) (cond b (number_special (digits_after c) t) (line_special style c t)))
+        (cond a (Means 2 (escape_value c)) (cond b (number_special (digits_after c) t) (line_special style c t)))
     by true b e f p =
         let (small, value) = escape_small style c e in
         known style column place (92 ∷ (c ∷ t)) (Escaped c) 2 (encode_utf8 (escape_value c)) None p refl
-            (one_ascii (escape_value c) value) refl
+        (one_ascii (escape_value c) value) refl
         (cut_at (92 ∷ (c ∷ [])) (92 ∷ (c ∷ t)) 2 refl refl (and_from (is_small c) true small refl))
     by false true e f p = number_is style column place c t x f p
     by false false e f p = line_special_is style column place c t x p
@@ -714,21 +721,21 @@ quoted_is : (style : Style) (column : ℕ) (place : Place) (c : ℕ) (t : Text) 
     → nat_lt (mark_of style) 128 ≡ true → part_at style (c ∷ t) ≡ quoted_at style c t
     → part_at style (mark_of style ∷ t) ≡ doubled_at (mark_of style) t
     → not (c == mark_of style || (c == 92 || is_line_feed c)) ≡ false
-        → IsSpecial style column place (c ∷ t) (quoted_special style c t)
+    → IsSpecial style column place (c ∷ t) (quoted_special style c t)
 quoted_is style column place c t x m p q h = by (c == mark_of style) (c == 92) (is_line_feed c) refl refl refl p
     (not-false (c == mark_of style || (c == 92 || is_line_feed c)) h)
   where
     by : (a b d : Bool) → (c == mark_of style) ≡ a → (c == 92) ≡ b → is_line_feed c ≡ d
         → part_at style (c ∷ t) ≡ cond a (doubled_at (mark_of style) t)
-            (cond b (Some (escape_at style t)) (cond d None (Some (Plain c)))) → (a || (b || d)) ≡ true
+        (cond b (Some (escape_at style t)) (cond d None (Some (Plain c)))) → (a || (b || d)) ≡ true
         → IsSpecial style column place (c ∷ t) (cond a (doubled_special (mark_of style) t)
-            (cond b (escape_special style t) Ends))
+        (cond b (escape_special style t) Ends))
     by true b d e f g p k =
         subst (λ (y : ℕ). IsSpecial style column place (y ∷ t) (doubled_special (mark_of style) t))
-            (sym (eqb-true c (mark_of style) e)) (doubled_special_is style column place (mark_of style) t refl m q)
+        (sym (eqb-true c (mark_of style) e)) (doubled_special_is style column place (mark_of style) t refl m q)
     by false true d e f g p k =
         let P : ℕ → Type 0 = λ y. part_at style (y ∷ t) ≡ Some (escape_at style t)
-            → IsSpecial style column place (y ∷ t) (escape_special style t) in
+        → IsSpecial style column place (y ∷ t) (escape_special style t) in
         subst P (sym (eqb-true c 92 f)) (escape_is style column place t x) p
     by false false true e f g p k = p
     by false false false e f g p k = absurd (true≢false (sym k))
@@ -746,7 +753,7 @@ number_coded n k t front s e f len same =
     let whole : take (length (hex_run n t)) t ≡ hex_run n t = front_take (hex_run n t) t (hex_split n t) in
     let all : (length (hex_run n t) == n) ≡ true = eq-eqb (length (hex_run n t)) n (sym len ∙ same) in
     e ∙ (ap (coded_special n) (f ∙ (ap (λ x. take x t) len ∙ whole))
-        ∙ sym (cond-true (length (hex_run n t) == n) _ _ all))
+    ∙ sym (cond-true (length (hex_run n t) == n) _ _ all))
 
 -- ---- what the code takes
 
@@ -758,9 +765,15 @@ special_case style column place t bytes s h b e = subst (IsSpecial style column 
 pub took_plain : (style : Style) (column : ℕ) (place : Place) (t : Text) (n : ℕ) (v old new : Text)
     (f : Option CodeFault) → Special_goes style column place t n v None → new ≡ old ++ v
     → Took style column place t n old new f f
-took_plain style column place t n v old new f s e = record
-    { value = v; fault_is = None; goes = s.goes; values = e; faults = sym (or_none (fault_of f)); some = s.some;
-    boundary = s.boundary }
+took_plain style column place t n v old new f s e = record {
+  value = v;
+  fault_is = None;
+  goes = s.goes;
+  values = e;
+  faults = sym (or_none (fault_of f));
+  some = s.some;
+  boundary = s.boundary;
+}
 
 pub took_nothing : (style : Style) (column : ℕ) (place : Place) (t : Text) (n : ℕ) (old : Text) (f : Option CodeFault)
     → Special_goes style column place t n [] None → Took style column place t n old old f f
@@ -770,8 +783,16 @@ pub took_first : (style : Style) (column : ℕ) (place : Place) (t : Text) (n : 
     (f : Option CodeFault) (f' : CodeFault) → Special_goes style column place t n [] (Some g) → f ≡ None
     → fault_of (Some f') ≡ Some g → Took style column place t n old old f (Some f')
 took_first style column place t n old g f f' s none e =
-    record { value = []; fault_is = Some g; goes = s.goes; values = sym (append-nil old); faults = e
-        ∙ ap (λ x. or_fault (fault_of x) (Some g)) (sym none); some = s.some; boundary = s.boundary }
+    record {
+      value = [];
+      fault_is = Some g;
+      goes = s.goes;
+      values = sym (append-nil old);
+      faults = e
+          ∙ ap (λ x. or_fault (fault_of x) (Some g)) (sym none);
+      some = s.some;
+      boundary = s.boundary;
+    }
 
 pub none_from : (f : Option CodeFault) (b : Bool) → is_some f ≡ not b → b ≡ true → f ≡ None
 none_from None b h e = refl
@@ -781,20 +802,26 @@ pub took_later : (style : Style) (column : ℕ) (place : Place) (t : Text) (n : 
     (f : Option CodeFault) → Special_goes style column place t n [] (Some g) → is_some f ≡ true
     → Took style column place t n old old f f
 took_later style column place t n old g None s h = absurd (true≢false (sym h))
-took_later style column place t n old g (Some f) s h = record
-    { value = []; fault_is = Some g; goes = s.goes; values = sym (append-nil old); faults = refl; some = s.some;
-    boundary = s.boundary }
+took_later style column place t n old g (Some f) s h = record {
+  value = [];
+  fault_is = Some g;
+  goes = s.goes;
+  values = sym (append-nil old);
+  faults = refl;
+  some = s.some;
+  boundary = s.boundary;
+}
 
 -- ---- the white space of a continued line
 
 pub spaces_end : (column : ℕ) (place here : Place) (t rest bytes old new : Text) (at n : ℕ) → n
     ≡ length (first_of spaces bytes) → bytes ≡ rest → n ≡ 0
     → new ++ past_column column here (run_from spaces 0 rest) ≡ old ++ past_column column place (run_from spaces 0 t)
-        → at + length (concat (run_from spaces 0 rest)) ≡ length (concat (run_from spaces 0 t))
+    → at + length (concat (run_from spaces 0 rest)) ≡ length (concat (run_from spaces 0 t))
     → at + length rest ≡ length t → PassesSpaces column place t at old new
 spaces_end column place here t rest bytes old new at n is b none vs ls w =
     let stop : run_from spaces 0 rest ≡ [] = run_ends spaces spaces_some rest
-        (ap (λ x. length (first_of spaces x)) (sym b) ∙ (sym is ∙ none)) in
+    (ap (λ x. length (first_of spaces x)) (sym b) ∙ (sym is ∙ none)) in
     let empty : length (concat (run_from spaces 0 rest)) ≡ 0 = ap (λ x. length (concat x)) stop in
     record {
       values = sym (append-nil new) ∙ (ap (λ x. new ++ past_column column here x) (sym stop) ∙ vs);
@@ -804,8 +831,8 @@ spaces_end column place here t rest bytes old new at n is b none vs ls w =
 
 space_goes : (rest bytes : Text) (n : ℕ) → n ≡ length (first_of spaces bytes) → bytes ≡ rest → (n ≡ 0 → ⊥)
     → (n ≡ length (first_of spaces rest)) × (run_from spaces 0 rest ≡ first_of spaces rest
-        ∷ run_from spaces 0 (drop n rest)) × (first_of spaces rest ++ drop n rest ≡ rest)
-        × (is_one_of spaces (first_of spaces rest) ≡ true)
+    ∷ run_from spaces 0 (drop n rest)) × (first_of spaces rest ++ drop n rest ≡ rest)
+    × (is_one_of spaces (first_of spaces rest) ≡ true)
 space_goes rest bytes n is b some =
     let same : n ≡ length (first_of spaces rest) = is ∙ ap (λ x. length (first_of spaces x)) b in
     let positive : 0 < length (first_of spaces rest) = omega arith in
@@ -827,9 +854,9 @@ pub space_boundary : (rest bytes : Text) (n : ℕ) → n ≡ length (first_of sp
 space_boundary rest bytes n is b some u =
     let g = space_goes rest bytes n is b some in
     let cut = whole (first_of spaces rest) (drop n rest) (subst IsUtf8 (sym g.2) u)
-        (space_utf8 (first_of spaces rest) g.3) in
+    (space_utf8 (first_of spaces rest) g.3) in
     subst (λ (k : ℕ). IsCharBoundary rest k) (sym g.0)
-        (subst (λ (x : Text). IsCharBoundary x (length (first_of spaces rest))) g.2 cut)
+    (subst (λ (x : Text). IsCharBoundary x (length (first_of spaces rest))) g.2 cut)
 
 pub record SpacesKept (column : ℕ) (here here' : Place) (rest more : Text) (n : ℕ) (v v' : Text) : Type 0 where
   pub values : v' ++ past_column column here' (run_from spaces 0 more) ≡ v
@@ -839,23 +866,23 @@ pub record SpacesKept (column : ℕ) (here here' : Place) (rest more : Text) (n 
 pub spaces_turn : (column : ℕ) (here here' : Place) (rest bytes space given more v v' : Text) (n : ℕ) → n
     ≡ length (first_of spaces bytes) → bytes ≡ rest → (n ≡ 0 → ⊥)
     → space ≡ take n rest → more ≡ drop n rest → v' ≡ v ++ cond (nat_le here.column column) [] space → given ≡ space
-        → here' ≡ past here given → SpacesKept column here here' rest more n v v'
+    → here' ≡ past here given → SpacesKept column here here' rest more n v v'
 spaces_turn column here here' rest bytes space given more v v' n is b some front back vs gs ps =
     let g = space_goes rest bytes n is b some in
     let same : space ≡ first_of spaces rest = front
-        ∙ (ap (λ k. take k rest) g.0 ∙ (ap (λ x. take (length (first_of spaces rest)) x) (sym g.2)
-        ∙ take_at (first_of spaces rest) (drop n rest) (length (first_of spaces rest)) refl)) in
+    ∙ (ap (λ k. take k rest) g.0 ∙ (ap (λ x. take (length (first_of spaces rest)) x) (sym g.2)
+    ∙ take_at (first_of spaces rest) (drop n rest) (length (first_of spaces rest)) refl)) in
     record {
       values =
           ap (λ x. x ++ past_column column here' (run_from spaces 0 more)) vs
           ∙ (append_assoc v (cond (nat_le here.column column) [] space)
-              (past_column column here' (run_from spaces 0 more))
+          (past_column column here' (run_from spaces 0 more))
           ∙ (ap (λ x. v ++ (cond (nat_le here.column column) [] space
-              ++ past_column column x (run_from spaces 0 more))) (ps ∙ ap (past here) (gs ∙ same))
+          ++ past_column column x (run_from spaces 0 more))) (ps ∙ ap (past here) (gs ∙ same))
           ∙ (ap (λ x. v ++ (cond (nat_le here.column column) [] x
-              ++ past_column column (past here (first_of spaces rest)) (run_from spaces 0 more))) same
+          ++ past_column column (past here (first_of spaces rest)) (run_from spaces 0 more))) same
           ∙ (ap (λ x. v ++ (cond (nat_le here.column column) [] (first_of spaces rest)
-              ++ past_column column (past here (first_of spaces rest)) (run_from spaces 0 x))) back
+          ++ past_column column (past here (first_of spaces rest)) (run_from spaces 0 x))) back
           ∙ ap (λ x. v ++ past_column column here x) (sym g.1)))));
       lens = ap (λ x. length (concat x)) g.1 ∙ (length-append (first_of spaces rest)
           (concat (run_from spaces 0 (drop n rest)))
@@ -877,42 +904,42 @@ pub record Kept (style : Style) (column : ℕ) (here here' : Place) (t last : Te
 pub turn_kept : (style : Style) (column : ℕ) (here middle here' : Place) (t more last sure front v v1 v2 : Text)
     (n m : ℕ) (f f' : Option CodeFault) → n ≡ prefix_len (is_sure style) t → sure ≡ take n t → more ≡ drop n t
     → v1 ≡ v ++ sure → middle ≡ past here sure → Took style column middle more m v1 v2 f f' → front ≡ take m more
-        → last ≡ drop m more → here' ≡ past middle front → Kept style column here here' t last (n + m) v v2 f f'
+    → last ≡ drop m more → here' ≡ past middle front → Kept style column here here' t last (n + m) v v2 f f'
 turn_kept style column here middle here' t more last sure front v v1 v2 n m f f' n_is sure_is more_is v1_is middle_is
     took front_is last_is here_is =
     let mid : middle ≡ past here (take n t) = middle_is ∙ ap (past here) sure_is in
     let second : Goes style column (past here (take n t)) (drop n t) m took.value took.fault_is =
     subst (λ (p : Place). Goes style column p (drop n t) m took.value took.fault_is) mid
-        (subst (λ (x : Text). Goes style column middle x m took.value took.fault_is) more_is took.goes) in
+    (subst (λ (x : Text). Goes style column middle x m took.value took.fault_is) more_is took.goes) in
     let g = goes_on style column here t n m (take n t) took.value None took.fault_is
-        (sure_goes_at style column here t n n_is) second in
+    (sure_goes_at style column here t n n_is) second in
     let moved : last ≡ drop (n + m) t = last_is ∙ (ap (drop m) more_is ∙ drop-drop m n t) in
     let whole : take n t ++ take m (drop n t) ≡ take (n + m) t = take_more n m t
-        (sure_goes_at style column here t n n_is).within in
+    (sure_goes_at style column here t n n_is).within in
     let placed : here' ≡ past here (take (n + m) t) = here_is
-        ∙ (ap (λ p. past p front) mid ∙ (ap (past (past here (take n t))) (front_is ∙ ap (take m) more_is)
-        ∙ (sym (past-append (take n t) here (take m (drop n t))) ∙ ap (past here) whole))) in
+    ∙ (ap (λ p. past p front) mid ∙ (ap (past (past here (take n t))) (front_is ∙ ap (take m) more_is)
+    ∙ (sym (past-append (take n t) here (take m (drop n t))) ∙ ap (past here) whole))) in
     let v_is : v2 ≡ v ++ (take n t ++ took.value) = took.values
-        ∙ (ap (λ x. x ++ took.value) (v1_is ∙ ap (λ x. v ++ x) sure_is) ∙ append_assoc v (take n t) took.value) in
+    ∙ (ap (λ x. x ++ took.value) (v1_is ∙ ap (λ x. v ++ x) sure_is) ∙ append_assoc v (take n t) took.value) in
     let rest : Text = drop (n + m) t in
     record {
       values = ap (λ x. v2 ++ value_of style column here' x) moved
           ∙ (ap (λ p. v2 ++ value_of style column p (drop (n + m) t)) placed
           ∙ (ap (λ x. x ++ value_of style column (past here (take (n + m) t)) (drop (n + m) t)) v_is
           ∙ (append_assoc v (take n t ++ took.value)
-              (value_of style column (past here (take (n + m) t)) (drop (n + m) t))
-              ∙ ap (λ x. v ++ x) (sym g.values))));
+          (value_of style column (past here (take (n + m) t)) (drop (n + m) t))
+          ∙ ap (λ x. v ++ x) (sym g.values))));
       faults = ap (λ x. or_fault (fault_of f') (wrong_of style here' x)) moved
           ∙ (ap (λ p. or_fault (fault_of f') (wrong_of style p (drop (n + m) t))) placed
           ∙ (ap (λ x. or_fault x (wrong_of style (past here (take (n + m) t)) (drop (n + m) t))) took.faults
           ∙ (sym (or_assoc (fault_of f) took.fault_is (wrong_of style (past here (take (n + m) t)) (drop (n + m) t)))
-              ∙ ap (or_fault (fault_of f)) (sym g.faults))));
+          ∙ ap (or_fault (fault_of f)) (sym g.faults))));
       ends = ap (end_of style) moved ∙ sym g.ends;
       lens =
           let size : length (take (n + m) t) ≡ n + m = length-take-le (n + m) t g.within in
           ap length g.letters ∙ (length-append (take (n + m) t) (letters_of style (drop (n + m) t))
-              ∙ (ap (λ k. k + length (letters_of style (drop (n + m) t))) size
-              ∙ ap (λ x. (n + m) + length (letters_of style x)) (sym moved)));
+          ∙ (ap (λ k. k + length (letters_of style (drop (n + m) t))) size
+          ∙ ap (λ x. (n + m) + length (letters_of style x)) (sym moved)));
       places = ap (λ x. past here' (letters_of style x)) moved
           ∙ (ap (λ p. past p (letters_of style (drop (n + m) t))) placed
           ∙ (sym (past-append (take (n + m) t) here (letters_of style (drop (n + m) t)))
@@ -921,7 +948,7 @@ turn_kept style column here middle here' t more last sure front v v1 v2 n m f f'
 
 none_ends : (style : Style) (column : ℕ) (place : Place) (t : Text) → part_at style t ≡ None
     → (value_of style column place t ≡ []) × (wrong_of style place t ≡ None) × (end_of style t ≡ ending_at style t)
-        × (letters_of style t ≡ ending_letters style (ending_at style t))
+    × (letters_of style t ≡ ending_letters style (ending_at style t))
 none_ends style column place t h =
     let none = no_part style t h in
     let ends : end_of style t ≡ ending_at style t = ap (λ ps. ending_after style ps t) none in (
@@ -934,32 +961,32 @@ none_ends style column place t h =
 pub turn_ends : (style : Style) (column : ℕ) (place here middle : Place) (z t more sure v v1 v2 : Text) (n len m : ℕ)
     (f f' : Option CodeFault) (content : Content) → n ≡ prefix_len (is_sure style) t → sure ≡ take n t → more ≡ drop n t
     → v1 ≡ v ++ sure → middle ≡ past here sure → (part_at style more ≡ None) × (v2 ≡ v1) × (fault_of f' ≡ fault_of f)
-        → turns.Ends style middle more content.ending m content.place → content.fault ≡ f' → content.len ≡ (len + n) + m
+    → turns.Ends style middle more content.ending m content.place → content.fault ≡ f' → content.len ≡ (len + n) + m
     → v ++ value_of style column here t ≡ value_of style column place z
-        → or_fault (fault_of f) (wrong_of style here t) ≡ wrong_of style place z → end_of style t ≡ end_of style z
+    → or_fault (fault_of f) (wrong_of style here t) ≡ wrong_of style place z → end_of style t ≡ end_of style z
     → len + length (letters_of style t) ≡ length (letters_of style z) → len + length t ≡ length z
-        → past here (letters_of style t) ≡ past place (letters_of style z) → IsContent style column place z v2 content
+    → past here (letters_of style t) ≡ past place (letters_of style z) → IsContent style column place z v2 content
 turn_ends style column place here middle z t more sure v v1 v2 n len m f f' content n_is sure_is more_is v1_is
     middle_is (none, v2_is, same) end cf cl vs fs es ls w ps =
     let g = sure_goes_at style column here t n n_is in
     let mid : middle ≡ past here (take n t) = middle_is ∙ ap (past here) sure_is in
     let stop = none_ends style column (past here (take n t)) (drop n t) (subst (λ (x : Text). part_at style x
-        ≡ None) more_is none) in
+    ≡ None) more_is none) in
     let ends : end_of style t ≡ ending_at style more = g.ends ∙ (stop.2 ∙ ap (ending_at style) (sym more_is)) in
     let last : letters_of style (drop n t) ≡ ending_letters style (ending_at style more) = stop.3
-        ∙ ap (λ x. ending_letters style (ending_at style x)) (sym more_is) in
+    ∙ ap (λ x. ending_letters style (ending_at style x)) (sym more_is) in
     let split : ending_letters style (ending_at style more)
-        ++ drop (length (ending_letters style (ending_at style more))) more
-        ≡ more = (end_stands style more none).split in
+    ++ drop (length (ending_letters style (ending_at style more))) more
+    ≡ more = (end_stands style more none).split in
     let front : take m more ≡ ending_letters style (ending_at style more) = ap (λ k. take k more) end.len
-        ∙ front_take (ending_letters style (ending_at style more)) more split in
+    ∙ front_take (ending_letters style (ending_at style more)) more split in
     let letters : letters_of style t ≡ take n t ++ take m more = g.letters
-        ∙ ap (λ x. take n t ++ x) (last ∙ sym front) in
+    ∙ ap (λ x. take n t ++ x) (last ∙ sym front) in
     let size : length (take n t) ≡ n = length-take-le n t g.within in
     let size' : length (take m more) ≡ m = length-take-le m more end.within in
     let total : length (letters_of style t) ≡ n + m = ap length letters
-        ∙ (length-append (take n t) (take m more) ∙ (ap (λ k. k + length (take m more)) size
-        ∙ ap (λ k. n + k) size')) in
+    ∙ (length-append (take n t) (take m more) ∙ (ap (λ k. k + length (take m more)) size
+    ∙ ap (λ k. n + k) size')) in
     record {
       value_is = v2_is ∙ (v1_is ∙ (ap (λ x. v ++ x) (sure_is
           ∙ (sym (append-nil (take n t)) ∙ (ap (λ x. take n t ++ x) (sym stop.0) ∙ sym g.values))) ∙ vs));

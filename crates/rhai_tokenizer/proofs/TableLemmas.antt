@@ -33,8 +33,11 @@ unfolding blanks lib.Utf8.encode
 blank_begins next = refl
 
 pub blanks_again : Again blanks
-blanks_again s next m = (at_member (λ u. begins_any blanks (u ++ next)) blanks s m (blank_begins next), same_is _ _
-    (at_member (λ u. same_text (first_of blanks (u ++ next)) u) blanks s m (blank_first next)))
+blanks_again s next m = (
+  at_member (λ u. begins_any blanks (u ++ next)) blanks s m (blank_begins next),
+  same_is _ _
+      (at_member (λ u. same_text (first_of blanks (u ++ next)) u) blanks s m (blank_first next)),
+)
 
 spaces_are_some : list_all (λ u. not (is_empty u)) spaces ≡ true
 unfolding spaces blanks lib.Utf8.encode
@@ -52,8 +55,11 @@ unfolding spaces blanks lib.Utf8.encode
 space_begins next = refl
 
 pub spaces_again : Again spaces
-spaces_again s next m = (at_member (λ u. begins_any spaces (u ++ next)) spaces s m (space_begins next), same_is _ _
-    (at_member (λ u. same_text (first_of spaces (u ++ next)) u) spaces s m (space_first next)))
+spaces_again s next m = (
+  at_member (λ u. begins_any spaces (u ++ next)) spaces s m (space_begins next),
+  same_is _ _
+      (at_member (λ u. same_text (first_of spaces (u ++ next)) u) spaces s m (space_first next)),
+)
 
 -- ---- symbols
 
