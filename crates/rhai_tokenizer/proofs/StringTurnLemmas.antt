@@ -10,9 +10,9 @@ use lib.Utf8.{scalar}
 use Rattle.rhai_lower.specs.Texts.{Text}
 use Rattle.rhai_lower.specs.Names.{is_one_of}
 use Rattle.rhai_tokenizer.specs.declared.place.Place.{Place}
-use Rattle.rhai_tokenizer.specs.declared.strings.Special.{Special}
-use Rattle.rhai_tokenizer.specs.declared.strings.Special.TheVariants.{Means, Spoils, Stops, Ends}
-use Rattle.rhai_tokenizer.specs.declared.strings.Special.TheVariants as special
+use Rattle.rhai_tokenizer.specs.declared.special.Special.{Special}
+use Rattle.rhai_tokenizer.specs.declared.special.Special.TheVariants.{Means, Spoils, Stops, Ends}
+use Rattle.rhai_tokenizer.specs.declared.special.Special.TheVariants as special
 use Rattle.rhai_tokenizer.specs.Bytes.{begins, in_line, is_continuation, is_empty, is_line_feed, spaces}
 use Rattle.rhai_tokenizer.specs.Places.{past}
 use Rattle.rhai_tokenizer.specs.Runs.{run, run_from}
