@@ -20,7 +20,8 @@ pub first_none : (ts : List Text) (t : Text) → begins_any ts t ≡ false → f
 first_none [] t h = refl
 first_none (s ∷ ss) t h = by (begins_with s t) refl h (first_none ss t)
   where
-    by : (b : Bool) → begins_with s t ≡ b → (b || begins_any ss t) ≡ false → (begins_any ss t ≡ false → first_of ss t ≡ []) → cond b s (first_of ss t) ≡ []
+    by : (b : Bool) → begins_with s t ≡ b → (b || begins_any ss t) ≡ false
+        → (begins_any ss t ≡ false → first_of ss t ≡ []) → cond b s (first_of ss t) ≡ []
     by true e h ih = absurd (true≢false h)
     by false e h ih = ih h
 
@@ -33,7 +34,8 @@ some_begins ts some t h =
     longer [] h = absurd (true≢false h)
     longer (c ∷ s) h = omega arith
 
-begins_cases : (ts : List Text) (t : Text) (P : Type 0) → (begins_any ts t ≡ true → P) → (begins_any ts t ≡ false → P) → P
+begins_cases : (ts : List Text) (t : Text) (P : Type 0) → (begins_any ts t ≡ true → P) → (begins_any ts t ≡ false → P)
+    → P
 begins_cases ts t P yes_it not_it = by (begins_any ts t) refl
   where
     by : (b : Bool) → begins_any ts t ≡ b → P
@@ -41,10 +43,13 @@ begins_cases ts t P yes_it not_it = by (begins_any ts t) refl
     by false e = not_it e
 
 pub run_ends : (ts : List Text) → Some ts → (t : Text) → length (first_of ts t) ≡ 0 → run_from ts 0 t ≡ []
-run_ends ts some t h = begins_cases ts t (run_from ts 0 t ≡ []) (λ e. let n = some_begins ts some t e in absurd (omega (arith, n, h))) (run_none ts t)
+run_ends ts some t h = begins_cases ts t (run_from ts 0 t
+    ≡ []) (λ e. let n = some_begins ts some t e in absurd (omega (arith, n, h))) (run_none ts t)
 
-pub run_goes : (ts : List Text) → Some ts → (t : Text) → 0 < length (first_of ts t) → run_from ts 0 t ≡ first_of ts t ∷ run_from ts 0 (drop (length (first_of ts t)) t)
-run_goes ts some t h = begins_cases ts t _ (run_step ts some t) (λ e. let n = first_none ts t e in absurd (omega (arith, h, ap length n)))
+pub run_goes : (ts : List Text) → Some ts → (t : Text) → 0 < length (first_of ts t) → run_from ts 0 t ≡ first_of ts t
+    ∷ run_from ts 0 (drop (length (first_of ts t)) t)
+run_goes ts some t h = begins_cases ts t _ (run_step ts some t)
+    (λ e. let n = first_none ts t e in absurd (omega (arith, h, ap length n)))
 
 -- ---- one character
 
@@ -63,20 +68,25 @@ blank_space (c ∷ t) h e =
     sym (ap length (blanks_again (c ∷ []) t (near_blank c near)).1)
 
 -- no white space begins with a byte of another class
-pub blank_other : (t : Text) → (first.Space ≡ first_class (get_or t 0 0) → ⊥) → (first.Far ≡ first_class (get_or t 0 0) → ⊥) → 0 ≡ length (first_of blanks t)
+pub blank_other : (t : Text) → (first.Space ≡ first_class (get_or t 0 0) → ⊥)
+    → (first.Far ≡ first_class (get_or t 0 0) → ⊥) → 0 ≡ length (first_of blanks t)
 blank_other [] h k = sym nothing_blank
 blank_other (c ∷ t) h k =
-    let none : begins_any blanks (c ∷ t) ≡ false = false_from_ne_true (begins_any blanks (c ∷ t)) (λ e. by (first_class c) refl (kind e)) in
+    let none : begins_any blanks (c ∷ t) ≡ false = false_from_ne_true (begins_any blanks (c ∷ t))
+    (λ e. by (first_class c) refl (kind e)) in
     sym (ap length (first_none blanks (c ∷ t) none))
   where
     kind : begins_any blanks (c ∷ t) ≡ true → is_blank_class (first_class c) ≡ true
     kind e =
         let (member, front) = first_of-member blanks (c ∷ t) e in
-        first_byte (first_of blanks (c ∷ t)) front (at_member (begins (λ d. is_blank_class (first_class d))) blanks (first_of blanks (c ∷ t)) member blank_classes)
+        first_byte (first_of blanks (c ∷ t)) front (at_member (begins (λ d. is_blank_class (first_class d))) blanks
+        (first_of blanks (c ∷ t)) member blank_classes)
       where
-        first_byte : (s : Text) → begins_with s (c ∷ t) ≡ true → begins (λ d. is_blank_class (first_class d)) s ≡ true → is_blank_class (first_class c) ≡ true
+        first_byte : (s : Text) → begins_with s (c ∷ t) ≡ true → begins (λ d. is_blank_class (first_class d)) s ≡ true
+            → is_blank_class (first_class c) ≡ true
         first_byte [] e b = absurd (true≢false (sym b))
-        first_byte (d ∷ s) e b = ap (λ x. is_blank_class (first_class x)) (eqb-true c d (and_parts (c == d) (begins_with s t) e).0) ∙ b
+        first_byte (d ∷ s) e b = ap (λ x. is_blank_class (first_class x))
+            (eqb-true c d (and_parts (c == d) (begins_with s t) e).0) ∙ b
 
     by : (k : First) → first_class c ≡ k → is_blank_class (first_class c) ≡ true → ⊥
     by first.Space e b = h (sym e)
@@ -94,7 +104,8 @@ blank_other (c ∷ t) h k =
 
 -- ---- a run
 
-pub blanks_end : (z : Text) (at n : ℕ) (total : ℕ) → n ≡ length (first_of blanks (take (length z - at) (drop at z))) → n ≡ 0
+pub blanks_end : (z : Text) (at n : ℕ) (total : ℕ) → n ≡ length (first_of blanks (take (length z - at) (drop at z)))
+    → n ≡ 0
     → at + length (concat (run_from blanks 0 (drop at z))) ≡ total → at ≡ total
 blanks_end z at n total is none e =
     let same : n ≡ length (first_of blanks (drop at z)) = is ∙ ap (λ x. length (first_of blanks x)) (take_rest z at) in
@@ -102,15 +113,19 @@ blanks_end z at n total is none e =
     let len : length (concat (run_from blanks 0 (drop at z))) ≡ 0 = ap (λ x. length (concat x)) stop in
     omega (arith, len, e)
 
-pub blanks_step : (z : Text) (at n : ℕ) (total : ℕ) → n ≡ length (first_of blanks (take (length z - at) (drop at z))) → (n ≡ 0 → ⊥)
-    → at + length (concat (run_from blanks 0 (drop at z))) ≡ total → (at + n) + length (concat (run_from blanks 0 (drop (at + n) z))) ≡ total
+pub blanks_step : (z : Text) (at n : ℕ) (total : ℕ) → n ≡ length (first_of blanks (take (length z - at) (drop at z)))
+    → (n ≡ 0 → ⊥)
+    → at + length (concat (run_from blanks 0 (drop at z))) ≡ total
+    → (at + n) + length (concat (run_from blanks 0 (drop (at + n) z))) ≡ total
 blanks_step z at n total is some e =
     let same : n ≡ length (first_of blanks (drop at z)) = is ∙ ap (λ x. length (first_of blanks x)) (take_rest z at) in
     let positive : 0 < n = omega arith in
     let goes = run_goes blanks blanks_some (drop at z) (omega (arith, same, positive)) in
     let rest : drop (length (first_of blanks (drop at z))) (drop at z) ≡ drop (at + n) z =
     ap (λ m. drop m (drop at z)) (sym same) ∙ drop-drop n at z in
-    let len : length (concat (run_from blanks 0 (drop at z))) ≡ length (first_of blanks (drop at z)) + length (concat (run_from blanks 0 (drop (at + n) z))) =
-    ap (λ x. length (concat x)) goes ∙ (length-append (first_of blanks (drop at z)) (concat (run_from blanks 0 (drop (length (first_of blanks (drop at z))) (drop at z))))
+    let len : length (concat (run_from blanks 0 (drop at z)))
+    ≡ length (first_of blanks (drop at z)) + length (concat (run_from blanks 0 (drop (at + n) z))) =
+    ap (λ x. length (concat x)) goes ∙ (length-append (first_of blanks (drop at z))
+    (concat (run_from blanks 0 (drop (length (first_of blanks (drop at z))) (drop at z))))
     ∙ ap (λ x. length (first_of blanks (drop at z)) + length (concat (run_from blanks 0 x))) rest) in
     omega (arith, len, e, same)

@@ -24,7 +24,8 @@ pub length-run : (p : ℕ → Bool) (t : Text) → prefix_len p t ≡ length (ru
 length-run p [] = refl
 length-run p (c ∷ t) = by (p c) (length-run p t)
   where
-    by : (b : Bool) → prefix_len p t ≡ length (run p t) → cond b (1 + prefix_len p t) 0 ≡ length (cond b (c ∷ run p t) [])
+    by : (b : Bool) → prefix_len p t ≡ length (run p t) → cond b (1 + prefix_len p t) 0
+        ≡ length (cond b (c ∷ run p t) [])
     by true ih = omega (arith, ih)
     by false ih = refl
 
@@ -33,7 +34,8 @@ length_run = length-run is_continuation
 
 -- ---- places
 
-plain_run : (t : Text) (line column : ℕ) → list_all is_plain t ≡ true → column ≤ 65535 → past (at_line line column) t ≡ at_line line (min 65535 (column + length t))
+plain_run : (t : Text) (line column : ℕ) → list_all is_plain t ≡ true → column ≤ 65535 → past (at_line line column) t
+    ≡ at_line line (min 65535 (column + length t))
 plain_run [] line column h fits = let e : column ≡ min 65535 (column + 0) = omega arith in ap (at_line line) e
 plain_run (c ∷ t) line column h fits =
     let (here, more) = and_parts (is_plain c) (list_all is_plain t) h in
@@ -41,7 +43,9 @@ plain_run (c ∷ t) line column h fits =
     let first : is_continuation c ≡ false = grind (arith, nat_tests) in
     rw (feed, first) (by (nat_lt column 65535) refl (λ k f. plain_run t line k more f))
   where
-    by : (b : Bool) → nat_lt column 65535 ≡ b → ((k : ℕ) → k ≤ 65535 → past (at_line line k) t ≡ at_line line (min 65535 (k + length t))) → past (cond b (at_line line (column + 1)) (at_line line column)) t ≡ at_line line (min 65535 (column + length (c ∷ t)))
+    by : (b : Bool) → nat_lt column 65535 ≡ b → ((k : ℕ) → k ≤ 65535 → past (at_line line k) t
+        ≡ at_line line (min 65535 (k + length t))) → past (cond b (at_line line (column + 1)) (at_line line column)) t
+        ≡ at_line line (min 65535 (column + length (c ∷ t)))
     by true e ih =
         let less = ltb-true column 65535 e in
         let same : min 65535 ((column + 1) + length t) ≡ min 65535 (column + length (c ∷ t)) = omega arith in
@@ -51,12 +55,14 @@ plain_run (c ∷ t) line column h fits =
         let same : min 65535 (column + length t) ≡ min 65535 (column + length (c ∷ t)) = omega (arith, full) in
         ih column fits ∙ ap (at_line line) same
 
-pub past_within : (p : Place) (t : Text) (len : ℕ) → p.column ≤ 65535 → length t ≡ len → list_all is_plain t ≡ true → len < 65535 - p.column → at_line p.line (p.column + len) ≡ past p t
+pub past_within : (p : Place) (t : Text) (len : ℕ) → p.column ≤ 65535 → length t ≡ len → list_all is_plain t ≡ true
+    → len < 65535 - p.column → at_line p.line (p.column + len) ≡ past p t
 past_within p t len fits size plain room =
     let same : min 65535 (p.column + length t) ≡ p.column + len = omega arith in
     sym (plain_run t p.line p.column plain fits ∙ ap (at_line p.line) same)
 
-pub past_full : (p : Place) (t : Text) (len : ℕ) → p.column ≤ 65535 → length t ≡ len → list_all is_plain t ≡ true → 65535 - p.column ≤ len → at_line p.line 65535 ≡ past p t
+pub past_full : (p : Place) (t : Text) (len : ℕ) → p.column ≤ 65535 → length t ≡ len → list_all is_plain t ≡ true
+    → 65535 - p.column ≤ len → at_line p.line 65535 ≡ past p t
 past_full p t len fits size plain room =
     let same : min 65535 (p.column + length t) ≡ 65535 = omega arith in
     sym (plain_run t p.line p.column plain fits ∙ ap (at_line p.line) same)
@@ -71,7 +77,8 @@ pub character_one : (t : Text) → 1 ≤ length t → get_or t 0 0 < 128 → 1 �
 character_one [] h l = absurd (omega arith)
 character_one (c ∷ t) h l = let e = lt-ltb c 128 l in rw e refl
 
-pub character_more : (t : Text) (n : ℕ) → 1 ≤ length t → 128 ≤ get_or t 0 0 → n ≡ prefix_len is_continuation (drop 1 t) → 1 + n ≡ length (character t)
+pub character_more : (t : Text) (n : ℕ) → 1 ≤ length t → 128 ≤ get_or t 0 0 → n
+    ≡ prefix_len is_continuation (drop 1 t) → 1 + n ≡ length (character t)
 character_more [] n h l e = absurd (omega arith)
 character_more (c ∷ t) n h l e =
     let f = le-ltb c 128 l in
@@ -83,12 +90,14 @@ hex_count zero t = refl
 hex_count (suc n) [] = refl
 hex_count (suc n) (c ∷ t) = by (is_ascii_hexdigit c) (hex_count n t)
   where
-    by : (b : Bool) → prefix_len is_ascii_hexdigit (take n t) ≡ length (hex_run n t) → cond b (1 + prefix_len is_ascii_hexdigit (take n t)) 0 ≡ length (cond b (c ∷ hex_run n t) [])
+    by : (b : Bool) → prefix_len is_ascii_hexdigit (take n t) ≡ length (hex_run n t)
+        → cond b (1 + prefix_len is_ascii_hexdigit (take n t)) 0 ≡ length (cond b (c ∷ hex_run n t) [])
     by true ih = omega (arith, ih)
     by false ih = refl
 
 pub hex_front : (n k : ℕ) (t : Text) → k ≡ length (hex_run n t) → take k t ≡ hex_run n t
-hex_front n k t e = ap (λ x. take x t) e ∙ (ap (take (length (hex_run n t))) (sym (hex_split n t)) ∙ take_at (hex_run n t) (drop (length (hex_run n t)) t) (length (hex_run n t)) refl)
+hex_front n k t e = ap (λ x. take x t) e ∙ (ap (take (length (hex_run n t))) (sym (hex_split n t))
+    ∙ take_at (hex_run n t) (drop (length (hex_run n t)) t) (length (hex_run n t)) refl)
 
 -- ---- white space
 
@@ -107,7 +116,8 @@ space_feed (c ∷ t) h = subst (λ (x : ℕ). 0 ≡ length (first_of spaces (x �
     feed : (c : ℕ) → is_line_feed c ≡ true → c ≡ 10
     feed c h = grind (arith, nat_tests)
 
-pub space_other : (t : Text) (n : ℕ) → begins is_line_feed t ≡ false → n ≡ length (first_of blanks t) → n ≡ length (first_of spaces t)
+pub space_other : (t : Text) (n : ℕ) → begins is_line_feed t ≡ false → n ≡ length (first_of blanks t) → n
+    ≡ length (first_of spaces t)
 space_other [] n h e = e ∙ ap (λ ts. length (first_of ts [])) spaces_are
 space_other (c ∷ t) n h e = e ∙ (ap (λ ts. length (first_of ts (c ∷ t))) spaces_are ∙ rw h refl)
 
@@ -139,13 +149,15 @@ pub line_empty : (t : Text) → length t ≤ 0 → t ≡ without_return t
 line_empty [] h = refl
 line_empty (c ∷ t) h = absurd (omega arith)
 
-pub few_digits : (n k m : ℕ) (t : Text) → m ≡ min n (length t) → k ≡ prefix_len is_ascii_hexdigit (take m t) → k ≡ length (hex_run n t)
+pub few_digits : (n k m : ℕ) (t : Text) → m ≡ min n (length t) → k ≡ prefix_len is_ascii_hexdigit (take m t) → k
+    ≡ length (hex_run n t)
 few_digits n k m t is e = e ∙ (ap (prefix_len is_ascii_hexdigit) (ap (λ x. take x t) is ∙ taken n t) ∙ hex_count n t)
   where
     taken : (n : ℕ) (t : Text) → take (min n (length t)) t ≡ take n t
     taken zero t = let e : min 0 (length t) ≡ 0 = omega arith in rw e refl
     taken (suc n) [] = let e : min (suc n) 0 ≡ 0 = omega arith in rw e refl
-    taken (suc n) (c ∷ t) = let e : min (suc n) (length (c ∷ t)) ≡ suc (min n (length t)) = omega arith in rw e (ap (λ x. c ∷ x) (taken n t))
+    taken (suc n) (c ∷ t) = let e : min (suc n) (length (c ∷ t))
+        ≡ suc (min n (length t)) = omega arith in rw e (ap (λ x. c ∷ x) (taken n t))
 
 pub after_mark : (mark : ℕ) (t : Text) → mark < 128 → begins_with (mark ∷ []) t ≡ true → IsUtf8 t → IsCharBoundary t 1
 after_mark mark t small h u =

@@ -33,7 +33,11 @@ unfolding blanks lib.Utf8.encode
 blank_begins next = refl
 
 pub blanks_again : Again blanks
-blanks_again s next m = (at_member (λ u. begins_any blanks (u ++ next)) blanks s m (blank_begins next), same_is _ _ (at_member (λ u. same_text (first_of blanks (u ++ next)) u) blanks s m (blank_first next)))
+blanks_again s next m = (
+  at_member (λ u. begins_any blanks (u ++ next)) blanks s m (blank_begins next),
+  same_is _ _
+      (at_member (λ u. same_text (first_of blanks (u ++ next)) u) blanks s m (blank_first next)),
+)
 
 spaces_are_some : list_all (λ u. not (is_empty u)) spaces ≡ true
 unfolding spaces blanks lib.Utf8.encode
@@ -51,7 +55,11 @@ unfolding spaces blanks lib.Utf8.encode
 space_begins next = refl
 
 pub spaces_again : Again spaces
-spaces_again s next m = (at_member (λ u. begins_any spaces (u ++ next)) spaces s m (space_begins next), same_is _ _ (at_member (λ u. same_text (first_of spaces (u ++ next)) u) spaces s m (space_first next)))
+spaces_again s next m = (
+  at_member (λ u. begins_any spaces (u ++ next)) spaces s m (space_begins next),
+  same_is _ _
+      (at_member (λ u. same_text (first_of spaces (u ++ next)) u) spaces s m (space_first next)),
+)
 
 -- ---- symbols
 
@@ -109,7 +117,8 @@ unfolding table_texts symbol_table
 hash_alone next = refl
 
 -- symbols of one byte
-pub is_symbol : (is_one_of symbols (47 ∷ []) ≡ true) × (is_one_of symbols (33 ∷ []) ≡ true) × (is_one_of symbols (45 ∷ []) ≡ true) × (is_one_of symbols (35 ∷ []) ≡ true)
+pub is_symbol : (is_one_of symbols (47 ∷ []) ≡ true) × (is_one_of symbols (33 ∷ []) ≡ true)
+    × (is_one_of symbols (45 ∷ []) ≡ true) × (is_one_of symbols (35 ∷ []) ≡ true)
 unfolding symbols signs reserved_symbols refused_symbols
 is_symbol = (refl, refl, refl, refl)
 
@@ -154,7 +163,9 @@ near_one c a b = elim (cases_eq c 9) [
   ]
 ]
 
-one_blank : (is_one_of blanks (32 ∷ []) ≡ true) × (is_one_of blanks (9 ∷ []) ≡ true) × (is_one_of blanks (10 ∷ []) ≡ true) × (is_one_of blanks (11 ∷ []) ≡ true) × (is_one_of blanks (12 ∷ []) ≡ true) × (is_one_of blanks (13 ∷ []) ≡ true)
+one_blank : (is_one_of blanks (32 ∷ []) ≡ true) × (is_one_of blanks (9 ∷ []) ≡ true)
+    × (is_one_of blanks (10 ∷ []) ≡ true) × (is_one_of blanks (11 ∷ []) ≡ true) × (is_one_of blanks (12 ∷ []) ≡ true)
+    × (is_one_of blanks (13 ∷ []) ≡ true)
 unfolding blanks lib.Utf8.encode
 one_blank = (refl, refl, refl, refl, refl, refl)
 

@@ -20,17 +20,412 @@ Right f (e ∷ es) = (f e.0 ≡ meaning_of e.0 e.1) × Right f es
 
 words_right : Right word_lexeme word_table
 unfolding word_table keywords reserved_words
-words_right = (refl, (refl, (refl, (refl, (refl, (refl, (refl, (refl, (refl, (refl, (refl, (refl, (refl, (refl, (refl, (refl, (refl, (refl, (refl, (refl, (refl, (refl, (refl, (refl, (refl, (refl, (refl, (refl, (refl, (refl, (refl, (refl, (refl, (refl, (refl, (refl, (refl, (refl, (refl, (refl, (refl, (refl, (refl, (refl, (refl, (refl, (refl, (refl, (refl, (refl, (refl, (refl, (refl, (refl, (refl, (refl, (refl, (refl, (refl, (refl, (refl, (refl, (refl, tt)))))))))))))))))))))))))))))))))))))))))))))))))))))))))))))))
+words_right = (
+  refl,
+  (
+    refl,
+    (
+      refl,
+      (
+        refl,
+        (
+          refl,
+          (
+            refl,
+            (
+              refl,
+              (
+                refl,
+                (
+                  refl,
+                  (
+                    refl,
+                    (
+                      refl,
+                      (
+                        refl,
+                        (
+                          refl,
+                          (
+                            refl,
+                            (
+                              refl,
+                              (
+                                refl,
+                                (
+                                  refl,
+                                  (
+                                    refl,
+                                    (
+                                      refl,
+                                      (
+                                        refl,
+                                        (
+                                          refl,
+                                          (
+                                            refl,
+                                            (
+                                              refl,
+                                              (
+                                                refl,
+                                                (
+                                                  refl,
+                                                  (
+                                                    refl,
+                                                    (
+                                                      refl,
+                                                      (
+                                                        refl,
+                                                        (
+                                                          refl,
+                                                          (
+                                                            refl,
+                                                            (
+                                                              refl,
+                                                              (
+                                                                refl,
+                                                                (
+                                                                  refl,
+                                                                  (
+                                                                    refl,
+                                                                    (
+                                                                      refl,
+                                                                      (
+                                                                        refl,
+                                                                        (
+                                                                          refl,
+                                                                          (
+                                                                            refl,
+                                                                            (
+                                                                              refl,
+                                                                              (
+                                                                                refl,
+                                                                                (
+                                                                                  refl,
+                                                                                  (
+                                                                                    refl,
+                                                                                    (
+                                                                                      refl,
+                                                                                      (
+                                                                                        refl,
+                                                                                        (
+                                                                                          refl,
+                                                                                          (
+                                                                                            refl,
+                                                                                            (
+                                                                                              refl,
+                                                                                              (
+                                                                                                refl,
+                                                                                                (
+                                                                                                  refl,
+                                                                                                  (
+                                                                                                    refl,
+                                                                                                    (
+                                                                                                      refl,
+                                                                                                      (
+                                                                                                        refl,
+                                                                                                        (
+                                                                                                          refl,
+                                                                                                          (
+                                                                                                            refl,
+                                                                                                            (
+                                                                                                              refl,
+                                                                                                              (
+                                                                                                                refl,
+                                                                                                                (
+                                                                                                                  refl,
+                                                                                                                  (
+                                                                                                                    refl,
+                                                                                                                    (
+                                                                                                                      refl,
+                                                                                                                      (
+                                                                                                                        refl,
+                                                                                                                        (
+                                                                                                                          refl,
+                                                                                                                          (
+                                                                                                                            refl,
+                                                                                                                            (refl, tt),
+                                                                                                                          ),
+                                                                                                                        ),
+                                                                                                                      ),
+                                                                                                                    ),
+                                                                                                                  ),
+                                                                                                                ),
+                                                                                                              ),
+                                                                                                            ),
+                                                                                                          ),
+                                                                                                        ),
+                                                                                                      ),
+                                                                                                    ),
+                                                                                                  ),
+                                                                                                ),
+                                                                                              ),
+                                                                                            ),
+                                                                                          ),
+                                                                                        ),
+                                                                                      ),
+                                                                                    ),
+                                                                                  ),
+                                                                                ),
+                                                                              ),
+                                                                            ),
+                                                                          ),
+                                                                        ),
+                                                                      ),
+                                                                    ),
+                                                                  ),
+                                                                ),
+                                                              ),
+                                                            ),
+                                                          ),
+                                                        ),
+                                                      ),
+                                                    ),
+                                                  ),
+                                                ),
+                                              ),
+                                            ),
+                                          ),
+                                        ),
+                                      ),
+                                    ),
+                                  ),
+                                ),
+                              ),
+                            ),
+                          ),
+                        ),
+                      ),
+                    ),
+                  ),
+                ),
+              ),
+            ),
+          ),
+        ),
+      ),
+    ),
+  ),
+)
 
 symbols_right : Right symbol_lexeme symbol_table
 unfolding symbol_table signs reserved_symbols refused_symbols
-symbols_right = (refl, (refl, (refl, (refl, (refl, (refl, (refl, (refl, (refl, (refl, (refl, (refl, (refl, (refl, (refl, (refl, (refl, (refl, (refl, (refl, (refl, (refl, (refl, (refl, (refl, (refl, (refl, (refl, (refl, (refl, (refl, (refl, (refl, (refl, (refl, (refl, (refl, (refl, (refl, (refl, (refl, (refl, (refl, (refl, (refl, (refl, (refl, (refl, (refl, (refl, (refl, (refl, (refl, (refl, (refl, (refl, (refl, (refl, (refl, (refl, (refl, (refl, (refl, (refl, (refl, (refl, (refl, (refl, (refl, (refl, (refl, (refl, (refl, tt)))))))))))))))))))))))))))))))))))))))))))))))))))))))))))))))))))))))))
+symbols_right = (
+  refl,
+  (
+    refl,
+    (
+      refl,
+      (
+        refl,
+        (
+          refl,
+          (
+            refl,
+            (
+              refl,
+              (
+                refl,
+                (
+                  refl,
+                  (
+                    refl,
+                    (
+                      refl,
+                      (
+                        refl,
+                        (
+                          refl,
+                          (
+                            refl,
+                            (
+                              refl,
+                              (
+                                refl,
+                                (
+                                  refl,
+                                  (
+                                    refl,
+                                    (
+                                      refl,
+                                      (
+                                        refl,
+                                        (
+                                          refl,
+                                          (
+                                            refl,
+                                            (
+                                              refl,
+                                              (
+                                                refl,
+                                                (
+                                                  refl,
+                                                  (
+                                                    refl,
+                                                    (
+                                                      refl,
+                                                      (
+                                                        refl,
+                                                        (
+                                                          refl,
+                                                          (
+                                                            refl,
+                                                            (
+                                                              refl,
+                                                              (
+                                                                refl,
+                                                                (
+                                                                  refl,
+                                                                  (
+                                                                    refl,
+                                                                    (
+                                                                      refl,
+                                                                      (
+                                                                        refl,
+                                                                        (
+                                                                          refl,
+                                                                          (
+                                                                            refl,
+                                                                            (
+                                                                              refl,
+                                                                              (
+                                                                                refl,
+                                                                                (
+                                                                                  refl,
+                                                                                  (
+                                                                                    refl,
+                                                                                    (
+                                                                                      refl,
+                                                                                      (
+                                                                                        refl,
+                                                                                        (
+                                                                                          refl,
+                                                                                          (
+                                                                                            refl,
+                                                                                            (
+                                                                                              refl,
+                                                                                              (
+                                                                                                refl,
+                                                                                                (
+                                                                                                  refl,
+                                                                                                  (
+                                                                                                    refl,
+                                                                                                    (
+                                                                                                      refl,
+                                                                                                      (
+                                                                                                        refl,
+                                                                                                        (
+                                                                                                          refl,
+                                                                                                          (
+                                                                                                            refl,
+                                                                                                            (
+                                                                                                              refl,
+                                                                                                              (
+                                                                                                                refl,
+                                                                                                                (
+                                                                                                                  refl,
+                                                                                                                  (
+                                                                                                                    refl,
+                                                                                                                    (
+                                                                                                                      refl,
+                                                                                                                      (
+                                                                                                                        refl,
+                                                                                                                        (
+                                                                                                                          refl,
+                                                                                                                          (
+                                                                                                                            refl,
+                                                                                                                            (
+                                                                                                                              refl,
+                                                                                                                              (
+                                                                                                                                refl,
+                                                                                                                                (
+                                                                                                                                  refl,
+                                                                                                                                  (
+                                                                                                                                    refl,
+                                                                                                                                    (
+                                                                                                                                      refl,
+                                                                                                                                      (
+                                                                                                                                        refl,
+                                                                                                                                        (
+                                                                                                                                          refl,
+                                                                                                                                          (refl, (refl, (refl, (refl, tt)))),
+                                                                                                                                        ),
+                                                                                                                                      ),
+                                                                                                                                    ),
+                                                                                                                                  ),
+                                                                                                                                ),
+                                                                                                                              ),
+                                                                                                                            ),
+                                                                                                                          ),
+                                                                                                                        ),
+                                                                                                                      ),
+                                                                                                                    ),
+                                                                                                                  ),
+                                                                                                                ),
+                                                                                                              ),
+                                                                                                            ),
+                                                                                                          ),
+                                                                                                        ),
+                                                                                                      ),
+                                                                                                    ),
+                                                                                                  ),
+                                                                                                ),
+                                                                                              ),
+                                                                                            ),
+                                                                                          ),
+                                                                                        ),
+                                                                                      ),
+                                                                                    ),
+                                                                                  ),
+                                                                                ),
+                                                                              ),
+                                                                            ),
+                                                                          ),
+                                                                        ),
+                                                                      ),
+                                                                    ),
+                                                                  ),
+                                                                ),
+                                                              ),
+                                                            ),
+                                                          ),
+                                                        ),
+                                                      ),
+                                                    ),
+                                                  ),
+                                                ),
+                                              ),
+                                            ),
+                                          ),
+                                        ),
+                                      ),
+                                    ),
+                                  ),
+                                ),
+                              ),
+                            ),
+                          ),
+                        ),
+                      ),
+                    ),
+                  ),
+                ),
+              ),
+            ),
+          ),
+        ),
+      ),
+    ),
+  ),
+)
 
-found_right : (f : Text → Lexeme) (xs : Table) (t : Text) (m : Meaning) → Right f xs → lookup xs t ≡ Some m → f t ≡ meaning_of t m
+found_right : (f : Text → Lexeme) (xs : Table) (t : Text) (m : Meaning) → Right f xs → lookup xs t ≡ Some m → f t
+    ≡ meaning_of t m
 found_right f [] t m r h = absurd cc
 found_right f (e ∷ es) t m (here, more) h = by (same_text e.0 t) refl h (found_right f es t m more)
   where
-    by : (b : Bool) → same_text e.0 t ≡ b → cond b (Some e.1) (lookup es t) ≡ Some m → (lookup es t ≡ Some m → f t ≡ meaning_of t m) → f t ≡ meaning_of t m
+    by : (b : Bool) → same_text e.0 t ≡ b → cond b (Some e.1) (lookup es t) ≡ Some m
+        → (lookup es t ≡ Some m → f t ≡ meaning_of t m) → f t ≡ meaning_of t m
     by true g h ih =
         let same : e.0 ≡ t = same_is e.0 t g in
         let is : e.1 ≡ m = cc in
@@ -52,10 +447,12 @@ not_there : (xs : Table) (t : Text) → lookup xs t ≡ None → is_one_of (map 
 not_there [] t h = refl
 not_there (e ∷ es) t h = by (same_text e.0 t) refl h (not_there es t)
   where
-    by : (b : Bool) → same_text e.0 t ≡ b → cond b (Some e.1) (lookup es t) ≡ None → (lookup es t ≡ None → is_one_of (map (λ e. e.0) es) t ≡ false) → is_one_of (map (λ e. e.0) (e ∷ es)) t ≡ false
+    by : (b : Bool) → same_text e.0 t ≡ b → cond b (Some e.1) (lookup es t) ≡ None
+        → (lookup es t ≡ None → is_one_of (map (λ e. e.0) es) t ≡ false) → is_one_of (map (λ e. e.0) (e ∷ es)) t ≡ false
     by true g h ih = absurd cc
     by false g h ih =
-        let other : same_text t e.0 ≡ false = false_from_ne_true (same_text t e.0) (λ k. true≢false (sym (same_turned t e.0 k) ∙ g)) in
+        let other : same_text t e.0 ≡ false = false_from_ne_true (same_text t e.0)
+        (λ k. true≢false (sym (same_turned t e.0 k) ∙ g)) in
         rw other (ih h)
 
 word_texts : List Text
@@ -69,14 +466,18 @@ reserved_there : list_all (is_one_of word_texts) reserved_words ≡ true
 unfolding word_texts word_table reserved_words
 reserved_there = refl
 
-outside : (ts us : List Text) (t : Text) → list_all (is_one_of us) ts ≡ true → is_one_of us t ≡ false → is_one_of ts t ≡ false
-outside ts us t h no_one = false_from_ne_true (is_one_of ts t) (λ e. true≢false (sym (at_member (is_one_of us) ts t e h) ∙ no_one))
+outside : (ts us : List Text) (t : Text) → list_all (is_one_of us) ts ≡ true → is_one_of us t ≡ false → is_one_of ts t
+    ≡ false
+outside ts us t h no_one = false_from_ne_true (is_one_of ts t)
+    (λ e. true≢false (sym (at_member (is_one_of us) ts t e h) ∙ no_one))
 
 no_token : (ks : List Token) (t : Text) (l : Lexeme) → is_one_of (map literal_of ks) t ≡ false → or_token ks t l ≡ l
 no_token [] t l h = refl
-no_token (k ∷ ks) t l h = let (here, more) = or_parts (same_text t (literal_of k)) (is_one_of (map literal_of ks) t) h in rw here (no_token ks t l more)
+no_token (k ∷ ks) t l h = let (here, more) = or_parts (same_text t (literal_of k)) (is_one_of (map literal_of ks) t)
+    h in rw here (no_token ks t l more)
 
-pub word_other : (t : Text) → lookup word_table t ≡ None → word_lexeme t ≡ cond (is_identifier t) (Name t) (improper t (codes "not a valid name"))
+pub word_other : (t : Text) → lookup word_table t ≡ None → word_lexeme t
+    ≡ cond (is_identifier t) (Name t) (improper t (codes "not a valid name"))
 unfolding word_texts
 word_other t h =
     let none = not_there word_table t h in

@@ -84,11 +84,13 @@ abbrev pub cut_token : Limits → Kind → (operand : Bool) → Text → Option 
 cut_token limits kind.Blank operand t = None
 cut_token limits kind.LineComment operand t =
     if limits.doc_comments && is_doc_line_piece t then Some (Comment (without_return t)) else None
-cut_token limits kind.BlockComment operand t = if limits.doc_comments && is_doc_block_piece t then Some (Comment t) else None
+cut_token limits kind.BlockComment operand t = if limits.doc_comments && is_doc_block_piece t then Some (Comment t)
+    else None
 cut_token limits kind.Word operand t = Some (word_lexeme t)
 cut_token limits kind.Integer operand t = Some (cut_integer false t)
 cut_token limits kind.Negative operand t = Some (cut_integer true (drop 1 t))
-cut_token limits kind.Radix operand t = Some (integer_or (digits_of (drop 2 t)) (radix_value (base_of (slice_index t 1)) (drop 2 t)))
+cut_token limits kind.Radix operand t = Some (integer_or (digits_of (drop 2 t))
+    (radix_value (base_of (slice_index t 1)) (drop 2 t)))
 cut_token limits (kind.Symbol m) operand t = Some (cut_symbol operand m t)
 cut_token limits kind.NotIn operand t = Some (Sign token.NotIn)
 cut_token limits kind.Stray operand t = Some (Faulty (UnexpectedInput t))

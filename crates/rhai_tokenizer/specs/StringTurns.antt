@@ -30,7 +30,8 @@ abbrev pub wrong_of : Style → Place → Text → Option Fault
 wrong_of style place t = first_fault style place (parts_from style 0 t) (end_of style t)
 
 -- what the text says from here on is this, and what it says after so many bytes
-pub record Goes (style : Style) (column : ℕ) (place : Place) (t : Text) (n : ℕ) (value : Text) (fault : Option Fault) : Type 0 where
+pub record Goes (style : Style) (column : ℕ) (place : Place) (t : Text) (n : ℕ) (value : Text)
+    (fault : Option Fault) : Type 0 where
   pub values : value_of style column place t ≡ value ++ value_of style column (past place (take n t)) (drop n t)
   pub faults : wrong_of style place t ≡ or_fault fault (wrong_of style (past place (take n t)) (drop n t))
   pub ends : end_of style t ≡ end_of style (drop n t)
@@ -38,7 +39,8 @@ pub record Goes (style : Style) (column : ℕ) (place : Place) (t : Text) (n : �
   pub within : n ≤ length t
 
 -- a front of the text joined the value, and its fault the first one
-pub record Took (style : Style) (column : ℕ) (place : Place) (t : Text) (n : ℕ) (old new : Text) (fault fault' : Option CodeFault) : Type 0 where
+pub record Took (style : Style) (column : ℕ) (place : Place) (t : Text) (n : ℕ) (old new : Text)
+    (fault fault' : Option CodeFault) : Type 0 where
   pub value : Text
   pub fault_is : Option Fault
   pub goes : Goes style column place t n value fault_is
@@ -48,8 +50,10 @@ pub record Took (style : Style) (column : ℕ) (place : Place) (t : Text) (n : �
   pub boundary : IsUtf8 t → IsCharBoundary t n
 
 -- the same, or the string ends
-abbrev pub Takes : Style → (column : ℕ) → Place → Text → Option ℕ → (old new : Text) → (fault fault' : Option CodeFault) → Type 0
-Takes style column place t None old new fault fault' = (part_at style t ≡ None) × (new ≡ old) × (fault_of fault' ≡ fault_of fault)
+abbrev pub Takes : Style → (column : ℕ) → Place → Text → Option ℕ → (old new : Text)
+    → (fault fault' : Option CodeFault) → Type 0
+Takes style column place t None old new fault fault' = (part_at style t ≡ None) × (new ≡ old)
+    × (fault_of fault' ≡ fault_of fault)
 Takes style column place t (Some n) old new fault fault' = Took style column place t n old new fault fault'
 
 -- the white space of a continued line joined the value

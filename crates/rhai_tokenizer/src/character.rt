@@ -6,7 +6,8 @@ ghost use Rattle.rhai_lower.specs.Lexemes.{lexeme};
 ghost use Rattle.rhai_tokenizer.specs.Meanings.{character_lexeme};
 
 use crate::meaning::improper;
-use crate::strings::{Ending, character_len};
+use crate::special::character_len;
+use crate::strings::Ending;
 use rhai_lower::token::{LexError, Token};
 use std::alloc::{AllocError, Global};
 
