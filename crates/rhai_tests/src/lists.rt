@@ -36,7 +36,7 @@ enum Kind {
     Expression,
 }
 
-fn kind(word: &str) -> Option<Kind> {
+fn kind_of(word: &str) -> Option<Kind> {
     Some(match word {
         "script" => Kind::Script,
         "expr" => Kind::Expression,
@@ -86,7 +86,7 @@ fn read_engine(alloc: Global, words: &str) -> Option<Engine> {
 fn read_words(alloc: Global, line: &str) -> Option<(Kind, OptimizationLevel, Engine)> {
     let (first, words) = line.split_once(' ')?;
     let (second, words) = words.split_once(' ')?;
-    Some((kind(first)?, level(second)?, read_engine(alloc, words)?))
+    Some((kind_of(first)?, level(second)?, read_engine(alloc, words)?))
 }
 
 // Reads an input: a line of words, and a list.
@@ -113,7 +113,7 @@ fn read_given(alloc: Global, text: &str) -> Result<Option<Given>, ListError> {
 }
 
 // What standard input says; nothing if it is empty.
-fn given(rt: &HostRuntime) -> Result<Option<Given>, Fail> {
+fn read_input(rt: &HostRuntime) -> Result<Option<Given>, Fail> {
     let bytes = read_lines(rt.alloc(), &mut rt.reader())?;
     if bytes.is_empty() {
         return Ok(None);
@@ -187,7 +187,7 @@ fn read(alloc: Global, given: &mut Given, lib: &mut FnLib) -> ParseResult<AST> {
 
 #[test]
 fn the_library_after_a_list(rt: HostRuntime) -> Result<(), Fail> {
-    let Some(mut given) = given(&rt)? else {
+    let Some(mut given) = read_input(&rt)? else {
         return Ok(());
     };
     let mut lib = FnLib::new(rt.alloc());
@@ -204,7 +204,7 @@ fn parse(alloc: Global, given: &mut Given) -> ParseResult<AST> {
 
 #[test]
 fn a_script_at_a_level(rt: HostRuntime) -> Result<(), Fail> {
-    let Some(mut given) = given(&rt)? else {
+    let Some(mut given) = read_input(&rt)? else {
         return Ok(());
     };
     let answer = parse(rt.alloc(), &mut given);
@@ -237,7 +237,7 @@ fn names(alloc: Global, given: &mut Given) -> ParseResult<Vec<FnNames>> {
 
 #[test]
 fn the_names_of_a_script(rt: HostRuntime) -> Result<(), Fail> {
-    let Some(mut given) = given(&rt)? else {
+    let Some(mut given) = read_input(&rt)? else {
         return Ok(());
     };
     for one in &names(rt.alloc(), &mut given)? {

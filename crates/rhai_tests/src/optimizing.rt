@@ -2,11 +2,11 @@
 //! that is `.._refused` holds however memory is refused.
 
 use crate::libraries::{Functions, holds_ended};
-use crate::script::{stream_of_line, tokens_taken};
+use crate::script::{printed_refusal, stream_of_line, tokens_taken};
 use rhai_parser::{
-    AST, Engine, FnLib, OptimizationLevel, ParseError, ParseResult, ParseState, TokenizerControl,
+    AST, Engine, FnLib, OptimizationLevel, ParseResult, ParseState, TokenizerControl,
 };
-use rhai_run::{Refused, accepted};
+use rhai_run::accepted;
 use std::alloc::{AllocError, Global};
 use std::process::Abort;
 use std::test::Fail;
@@ -15,8 +15,10 @@ use std::test::Fail;
 pub(crate) fn printed(alloc: Global, answer: ParseResult<AST>) -> Result<String, AllocError> {
     match answer {
         Ok(script) => accepted(alloc, &script),
-        Err(error) if error == ParseError::from(AllocError) => Err(AllocError),
-        Err(error) => format!(in alloc; "refused {}", Refused(&error)),
+        Err(error) => {
+            let refusal = printed_refusal(alloc, &error)?;
+            format!(in alloc; "refused {refusal}")
+        }
     }
 }
 

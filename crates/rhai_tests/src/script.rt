@@ -2,8 +2,8 @@
 //! 1, and the end mark at no position.
 
 use rhai_parser::{
-    AST, Engine, Entry, FnLib, LangOptions, OptimizationLevel, ParseError, ParseResult,
-    ParseSettingFlags, ParseSettings, ParseState, Position, Scope, Token, TokenStream,
+    AST, Engine, Entry, FnLib, LangOptions, OptimizationLevel, ParseError, ParseErrorType,
+    ParseResult, ParseSettingFlags, ParseSettings, ParseState, Position, Scope, Token, TokenStream,
     TokenizerControl, nest_peak,
 };
 use rhai_run::Refused;
@@ -182,6 +182,14 @@ impl Change {
     }
 }
 
+/// What the program prints of an error after the word `refused`. Where memory ran out, so is the result.
+pub(crate) fn printed_refusal(alloc: Global, error: &ParseError) -> Result<String, AllocError> {
+    if error.0 == ParseErrorType::OutOfMemory {
+        return Err(AllocError);
+    }
+    format!(in alloc; "{}", Refused(error))
+}
+
 /// Compares an answer with what the program prints of it: `accepted`, or what stands after the word `refused`. Where
 /// memory ran out, the answer is want of memory, and so is the result.
 pub(crate) fn check<T: Drop>(
@@ -192,8 +200,7 @@ pub(crate) fn check<T: Drop>(
 ) -> Result<(), AllocError> {
     let printed = match answer {
         Ok(_) => String::from_str(alloc, "accepted")?,
-        Err(error) if error == ParseError::from(AllocError) => return Err(AllocError),
-        Err(error) => format!(in alloc; "{}", Refused(&error))?,
+        Err(error) => printed_refusal(alloc, &error)?,
     };
     assert!(rt;
         printed.as_str() == wanted,
