@@ -3,13 +3,15 @@
 (hostile/README.md). It prints each run that fails, and counts; the last line counts the runs, and the exit status is 1
 if any failed.
 
-usage: tests/hostile.py [PROGRAM]
+usage: tests/hostile.py [--jobs N] [--wrong] [PROGRAM [TESTS]]
 
-Without PROGRAM it runs the one in crates/rhai_parse/out, which `rt ci` at the top of the repository or `rt run` in
-crates/rhai_parse built last, and then the program in crates/rhai_names_cli/out and the tests of the library, which
-`rt ci` built too.
+PROGRAM is rhai-parse, and TESTS has the tests of the crate rhai_tests. Without PROGRAM both are those that `rt ci` at
+the top of the repository built last, and the program of crates/rhai_names_cli is run too. It keeps N processors busy,
+or all. With --wrong it tests the tests instead, in seconds: over some lists, wrong programs have to fail
+(hostile/wrong.py).
 """
 
+import argparse
 import multiprocessing
 import os
 import pathlib
@@ -24,42 +26,69 @@ sys.path.insert(0, str(ROOT / "tests" / "hostile"))
 import batch
 import calls
 import damaged
+import entries
+import libraries
 import refused
+import stored
 import streams
 import table
+import wrong
 
 RUNS_OF_A_TASK = 20
+RUNS_AT_A_LEVEL = 100  # of a task
+SHOWN_TO_WRONG_PROGRAMS = 40  # one run in so many
 
 
-def damaged_lists(library, program, runs):
+def damaged_lists(program, runs):
     """Checks all damaged forms of the lists of these runs."""
-    found = damaged.check_runs(library, program, runs)
-    counts = {
-        "damaged lists, with the answer that is derived": sum(it.derived for it in found),
-        "damaged lists where a test fails before": sum(it.fail_before for it in found),
-    }
-    return [it.wrong[0] if it.wrong else None for it in found], counts
+    found = damaged.check_runs(program, runs, stored.of_table())
+    totals = {}
+    for source, count in (pair for counts in found for pair in counts.of.items()):
+        what = f"damaged lists, with the answer that stands {source}"
+        totals[what] = totals.get(what, 0) + count
+    return [it.wrong[0] if it.wrong else None for it in found], totals
 
 
-def refused_requests(library, program, runs):
+def stored_answers(_program):
+    """Checks that each stored answer is of a token of the table."""
+    return list(stored.of_table().stale(stored.list_runs())) or [None], {}
+
+
+def refused_requests(program, runs):
     """Refuses each request for memory of these runs in turn."""
-    wrong, requests = refused.check_runs(library, program, runs)
-    return wrong, {"requests for memory refused in the table": requests}
+    complaints, requests = refused.check_runs(program, runs)
+    return complaints, {"requests for memory refused in the table": requests}
 
 
-def refused_in_a_call(library, program, name):
+def refused_in_a_call(program, name):
     """Refuses each request for memory of a test of the library in turn."""
-    wrong, requests = calls.check(library, program, name)
-    return [wrong], {"requests for memory refused in tests of the library": requests}
+    complaint, requests = calls.check(program, name)
+    return [complaint], {"requests for memory refused in tests of the library": requests}
 
 
-def refused_in_a_long_list(library, program):
-    wrong, requests = streams.refused_in_a_long_list(library, program)
-    return [wrong], {"requests for memory refused over 1,000 tokens": requests}
+def libraries_after_refusals(tests, run):
+    """Checks what the library holds where memory is refused in this run."""
+    complaints, requests = libraries.check_run(tests, run, stored.of_table())
+    return complaints, {"requests for memory refused in runs whose library is looked at": requests}
 
 
-def failing_streams(_library, program):
-    return streams.check(program), {}
+def scripts_at_a_level(tests, runs, level):
+    """Checks what `parse` answers in these runs at a level."""
+    return entries.check_level(tests, runs, level), {}
+
+
+def names_of_scripts(tests):
+    """Checks what `names_of_script` gives in the runs of rhai-names."""
+    return entries.check_names(tests), {}
+
+
+def refused_in_a_long_list(program):
+    complaint, requests = streams.refused_in_a_long_list(program)
+    return [complaint], {"requests for memory refused over 1,000 tokens": requests}
+
+
+def failing_streams(program):
+    return streams.check(program.path), {}
 
 
 def chunks(runs):
@@ -72,53 +101,102 @@ def chunks(runs):
             yield same[first : first + RUNS_OF_A_TASK]
 
 
-def built(crate, name):
+def wrong_programs(program):
+    """Checks that the tests find each list to which a wrong program gives a wrong answer."""
+    return list(wrong.check_all(program, list(chunks(stored.list_runs()[::SHOWN_TO_WRONG_PROGRAMS])))), {}
+
+
+def wrong_libraries(tests):
+    """Checks that the tests find each list after which a wrong program has a wrong library."""
+    runs = libraries.runs_with_functions(stored.list_runs())
+    return list(wrong.check_libraries(tests, runs[::SHOWN_TO_WRONG_PROGRAMS])), {}
+
+
+def built(library, crate, name):
     """A program that was built in a crate."""
-    return os.path.realpath(ROOT / "crates" / crate / "out" / name)
+    return batch.Program(library, os.path.realpath(ROOT / "crates" / crate / "out" / name))
 
 
-def tasks(program):
+def tasks_of_program(program):
     """What is to do with the program, as functions with what they are called with."""
-    runs = table.all_runs()
-    found = [(refused_in_a_long_list, program), (failing_streams, program)]
-    found += [(damaged_lists, program, same) for same in chunks(run for run in runs if run.status != 2)]
-    found += [(refused_requests, program, same) for same in chunks(runs)]
+    found = [(refused_in_a_long_list, program), (failing_streams, program), (stored_answers, program)]
+    found += [(damaged_lists, program, same) for same in chunks(stored.list_runs())]
+    found += [(refused_requests, program, same) for same in chunks(table.all_runs())]
     return found
 
 
-def tasks_of_others():
-    """What is to do with the program that prints names, and with the tests of the library."""
-    names = built("rhai_names_cli", "rhai_names_cli")
-    tests = built("rhai_tests", "rhai_tests_tests")
-    found = [(refused_requests, names, same) for same in chunks(table.all_runs(table.CASES / "names"))]
-    return found + [(refused_in_a_call, tests, name) for name in calls.names(tests)]
+def tasks_of_names(names):
+    """What is to do with the program that prints names."""
+    return [(refused_requests, names, same) for same in chunks(table.all_runs(table.CASES / "names"))]
 
 
-def run_task(library, task):
+def tasks_of_tests(tests):
+    """What is to do with the tests of the library."""
+    found = [(refused_in_a_call, tests, name) for name in calls.names(tests.path)]
+    runs = stored.list_runs()
+    found += [(libraries_after_refusals, tests, run) for run in libraries.runs_with_functions(runs)]
+    scripts = entries.scripts(runs)
+    for at in range(0, len(scripts), RUNS_AT_A_LEVEL):
+        found += [(scripts_at_a_level, tests, scripts[at : at + RUNS_AT_A_LEVEL], level) for level in entries.LEVELS]
+    return [*found, (names_of_scripts, tests)]
+
+
+def run_task(task):
     function, *arguments = task
     try:
-        return (function.__name__, *function(library, *arguments))
+        return (function.__name__, *function(*arguments))
     except Exception as error:
         return function.__name__, [f"{type(error).__name__}: {error}"], {}
 
 
-def main():
-    begin = time.monotonic()
-    found = tasks(os.path.realpath(sys.argv[1])) if sys.argv[1:] else tasks(built("rhai_parse", "rhai_parse"))
-    if not sys.argv[1:]:
-        found += tasks_of_others()
+def run_tasks(found, jobs):
+    """Runs all tasks, prints what fails and the counts, and returns how many runs passed and how many failed."""
     passed, failed, totals = 0, 0, {}
-    with tempfile.TemporaryDirectory() as folder, multiprocessing.Pool() as pool:
-        library = batch.compile_forks(folder)
-        work = [(library, task) for task in found]
-        for name, wrong, counts in pool.starmap(run_task, work, chunksize=1):
-            for complaint in filter(None, wrong):
+    stored.of_table()  # (read once, before there are more processes)
+    with multiprocessing.Pool(jobs) as pool:
+        for name, complaints, counts in pool.imap(run_task, found):
+            for complaint in filter(None, complaints):
                 print(f"failed: {name}: {complaint}")
-            failed += sum(it is not None for it in wrong)
-            passed += sum(it is None for it in wrong)
+            failed += sum(it is not None for it in complaints)
+            passed += sum(it is None for it in complaints)
             totals.update((what, totals.get(what, 0) + count) for what, count in counts.items())
     for what, count in totals.items():
         print(f"{count} {what}")
+    return passed, failed
+
+
+def arguments():
+    parser = argparse.ArgumentParser(usage=__doc__.split("usage: ")[1].split("\n")[0])
+    parser.add_argument("--jobs", type=int)
+    parser.add_argument("--wrong", action="store_true")
+    parser.add_argument("program", nargs="?")
+    parser.add_argument("tests", nargs="?")
+    return parser.parse_args()
+
+
+def programs(words, library):
+    """The programs with which the tests are made: rhai-parse, the tests of the library, and rhai-names, or none."""
+    if words.program:
+        named = [words.program, words.tests]
+        return [batch.Program(library, os.path.realpath(path)) if path else None for path in named] + [None]
+    crates = ("rhai_parse", "rhai_parse"), ("rhai_tests", "rhai_tests_tests"), ("rhai_names_cli", "rhai_names_cli")
+    return [built(library, *crate) for crate in crates]
+
+
+def tasks(words, library):
+    """What these words of the command line ask for."""
+    program, tests, names = programs(words, library)
+    if words.wrong:
+        return [(wrong_programs, program), *([(wrong_libraries, tests)] if tests else [])]
+    found = tasks_of_program(program) + (tasks_of_names(names) if names else [])
+    return found + (tasks_of_tests(tests) if tests else [])
+
+
+def main():
+    begin, words = time.monotonic(), arguments()
+    with tempfile.TemporaryDirectory() as folder:
+        found = tasks(words, batch.compile_forks(folder))
+        passed, failed = run_tasks(found, words.jobs)
     print(f"this took {time.monotonic() - begin:.0f} seconds")
     print(f"{passed} passed, {failed} failed")
     return failed != 0

@@ -18,8 +18,12 @@ class Answer(NamedTuple):
     was_refused: bool  # whether a request for memory was
 
     @property
+    def text(self):
+        return self.printed.decode(errors="replace")
+
+    @property
     def first(self):
-        return self.printed.decode(errors="replace").split("\n")[0]
+        return self.text.split("\n")[0]
 
 
 def compile_forks(folder):
@@ -35,17 +39,26 @@ def set_limits():
     resource.setrlimit(resource.RLIMIT_CORE, (0, 0))
 
 
-def answers(library, command, lists, refuse=False):
-    """The answers of a command to these lists, in order; for `refuse` those to each list again and again, until no
-    request was refused."""
-    batch = b"".join(b"%d\n" % len(it) + it for it in lists)
-    environment = {"LD_PRELOAD": library, **({"REFUSE": "1"} if refuse else {})}
-    output = {"stdout": subprocess.PIPE, "stderr": subprocess.DEVNULL}
-    ran = subprocess.run(command, input=batch, env=environment, preexec_fn=set_limits, **output)
-    ends, begin, found = END.finditer(ran.stdout), 0, []
-    for end in ends:
-        found.append(Answer(ran.stdout[begin : end.start()], int(end[1]), bool(end[2])))
-        begin = end.end()
-    if ran.returncode or sum(not it.was_refused for it in found) != len(lists):
-        raise RuntimeError(f"{command} ended with {ran.returncode}, after {len(found)} answers to {len(lists)} lists")
-    return found
+class Program(NamedTuple):
+    """A program that is run so. `more` are words after those of a run."""
+
+    library: str  # what compile_forks returned
+    path: str
+    more: tuple = ()
+
+    def answers(self, words, lists, refuse=False):
+        """The answers to these lists, in order; for `refuse` those to each list again and again, until no request was
+        refused."""
+        command = [self.path, *words, *self.more]
+        batch = b"".join(b"%d\n" % len(it) + it for it in lists)
+        environment = {"LD_PRELOAD": self.library, **({"REFUSE": "1"} if refuse else {})}
+        output = {"stdout": subprocess.PIPE, "stderr": subprocess.DEVNULL}
+        ran = subprocess.run(command, input=batch, env=environment, preexec_fn=set_limits, **output)
+        begin, found = 0, []
+        for end in END.finditer(ran.stdout):
+            found.append(Answer(ran.stdout[begin : end.start()], int(end[1]), bool(end[2])))
+            begin = end.end()
+        if ran.returncode or sum(not it.was_refused for it in found) != len(lists):
+            said = f"after {len(found)} answers to {len(lists)} lists"
+            raise RuntimeError(f"{command} ended with {ran.returncode}, {said}")
+        return found

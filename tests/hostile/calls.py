@@ -3,27 +3,24 @@ whatever is refused, and the other, `.._with_ample_memory`, to fail where a requ
 
 import subprocess
 
-from batch import answers
-
 AMPLE, REFUSED = "_with_ample_memory", "_refused"
 
 
-def names(program):
-    """The names of the tests that are in pairs."""
-    listed = subprocess.run([program, "--list"], stdout=subprocess.PIPE, check=True, text=True).stdout
+def names(path):
+    """The names of the tests that are in pairs, of the program with the tests."""
+    listed = subprocess.run([path, "--list"], stdout=subprocess.PIPE, check=True, text=True).stdout
     found = [line.removesuffix(": test") for line in listed.splitlines()]
     pairs = [name for name in found if name.endswith((AMPLE, REFUSED))]
     if not pairs:
-        raise RuntimeError(f"{program} has no tests in pairs")
+        raise RuntimeError(f"{path} has no tests in pairs")
     return pairs
 
 
-def check(library, program, name):
+def check(program, name):
     """Checks a test. The result is what is wrong with it, and how many requests were refused."""
-    found = answers(library, [program, name], [b""], refuse=True)
+    found = program.answers([name], [b""], refuse=True)
     for number, answer in enumerate(found, 1):
         wants_pass = name.endswith(REFUSED) or not answer.was_refused
         if (answer.status == 0) != wants_pass:
-            text = answer.printed.decode(errors="replace")
-            return f"{name}: request {number}, status {answer.status}: {text}", number
+            return f"{name}: request {number}, status {answer.status}: {answer.text}", number
     return (None if len(found) > 1 else f"{name}: it requests no memory"), len(found) - 1

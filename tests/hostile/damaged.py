@@ -1,24 +1,36 @@
 """Each place of each list of the table damaged: an error of the tokenizer in place of each token, the list cut before
 each token, and each string marked or unmarked as text."""
 
-import re
 from typing import NamedTuple
 
-from batch import answers
 from due import due
+from table import NO_MEMORY
 
 ERRORS = ("memory", "unterminated", "toolong 7", "number 1x", "improper =>", "unexpected §")
-NO_MEMORY = "refused E36 none OutOfMemory"
 MARKED = {"str": "tstr", "istr": "tistr", "tstr": "str", "tistr": "istr"}
-MAY_END = ("|", "||", "return", "throw", "break")  # tokens after which a list may end that may also go on
-STRICT_VAR = 64
-FEWEST_AT_DEFAULT_DEPTH = 16  # tokens that reach it: a function may be 32 levels deep, and a `(` takes two
+BY_RULE, STORED, SAME_LIST, TREE = "by a rule", "in refusals.txt", "by the table of cases", "in trees.txt"
 
 
 class Damage(NamedTuple):
     place: int  # of the token
     what: str  # an error, `cut` or `mark`
     lines: list
+
+    @property
+    def list(self):
+        return "".join(f"{line}\n" for line in self.lines).encode()
+
+    @property
+    def unmarks(self):
+        """Whether a string loses its mark."""
+        return self.what == "mark" and self.lines[self.place].split(" ")[1] in ("str", "istr")
+
+    @property
+    def kind(self):
+        """How refusals.txt calls it. A string that is marked is as an error."""
+        if self.unmarks:
+            return "unmarked"
+        return "cut" if self.what == "cut" else "errors"
 
 
 def damages(lines):
@@ -33,121 +45,106 @@ def damages(lines):
             yield Damage(place, "mark", [*before, " ".join([position, MARKED[kind], *text]), *after])
 
 
-def tokens_read(run, found):
-    """How many tokens the run over the undamaged list reads: an error for want of memory is refused where it is."""
+def tokens_read(run):
+    """How many tokens a run reads, where refusals.txt says nothing: all of them where it is accepted, else those up to
+    the first one at the position of the refusal, and all of them if that is the end mark's."""
     if run.first == "accepted":
         return len(run.lines) - 1
-    if run.first == NO_MEMORY:
-        return next(at for at, line in enumerate(run.lines) if line.endswith(" err memory")) + 1
-    refused = [answer.first == NO_MEMORY for damage, answer in found if damage.what == "memory"]
-    return refused.index(False) if False in refused else len(refused)
+    wanted = " err memory" if run.first == NO_MEMORY else f"{run.first.split(' ')[2]} "
+    for place, line in enumerate(run.lines[:-1]):
+        if line.endswith(wanted) or line.startswith(wanted):
+            return place + 1
+    return len(run.lines) - 1
 
 
-def reads_the_right_number(run, read):
-    """Whether the token or end mark at which something else is due is the last one that the run reads."""
-    if not re.match("refused (E1|E7) ", run.first):
-        return True
-    last = run.lines[read - 1 :]
-    return run.first.split(" ")[2] in [line.split(" ")[0] for line in last[: 2 if len(last) == 2 else 1]]
-
-
-def refuses_the_right_comment(run, read):
-    """Whether a doc comment that is refused is the one that is due, and what decides it the last token or end mark that
-    the run reads."""
-    if not run.first.startswith("refused E37 "):
-        return True
-    met = due(run.lines, run.words)
-    return met.answer == run.first and read == min(met.place + 1, len(run.lines) - 1)
-
-
-def derived(run, damage, read):
-    """The first line of the answer to a damaged list, if no test fails before; nothing where no rule gives it."""
-    if damage.place >= read:
-        return run.first
+def by_rule(run, damage):
+    """The first line of the answer to a list that is damaged at a token that is read, if no test fails before. Nothing
+    for a string in code mode that loses its mark: no rule gives its answer."""
     if damage.what == "memory":
         return NO_MEMORY
     if damage.what != "mark":
         return due(damage.lines, run.words).answer
-    position, kind, *text = damage.lines[damage.place].split(" ", 2)
+    position, _, *text = damage.lines[damage.place].split(" ", 2)
     error = " ".join([position, "err", "unexpected", *text])
     met = due([*damage.lines[: damage.place], error], run.words)
     if met.in_text:
         return run.first
-    return met.answer if kind in ("tstr", "tistr") else None
+    return None if damage.unmarks else met.answer
 
 
-def may_fail_before(first, damage, words):
-    """Whether this may be the refusal of a test or a raise for what stands before the damaged place."""
-    _, kind, place, *payload = first.split(" ")
-    before = [line.split(" ", 2) for line in damage.lines[: damage.place + (kind == "E34")]]
-    there = [token for token in before if token[0] == place]
-    options = next((int(it[8:]) for it in words if it.startswith("options=")), 0)
-    if kind in ("E18", "E19"):
-        return options & STRICT_VAR and ["id", payload[1]] in [token[1:] for token in there]
-    if kind == "E34":
-        return there and (any("depth=" in it for it in words) or len(before) > FEWEST_AT_DEFAULT_DEPTH)
-    if payload == ["ExprExpected", "literal"]:
-        return there and ["sym", "switch"] in [token[1:] for token in before]
-    return there and kind in ("E4", "E5", "E8", "E9", "E10", "E11", "E22", "E24", "E28", "E30", "E31")
+class Wanted(NamedTuple):
+    """The answer that a damaged list has to get."""
+
+    source: str  # what says so
+    answer: str  # the whole answer, or `accepted` and the checksum of the whole
 
 
-class Counts:
-    """How many damaged lists there were, and what is wrong with them."""
+def wanted(run, damage, stored):
+    """The answer to a damaged list, by the rules, the table of cases, and what is stored."""
+    if damage.place >= stored.tokens_read(run):
+        return Wanted(BY_RULE, run.answer.decode())
+    first, line = by_rule(run, damage), stored.answer(run, damage)
+    if line is not None:
+        if line == first:
+            raise ValueError(f"{line!r} is needless in refusals.txt")
+        return Wanted(STORED, line if line.startswith("accepted ") else f"{line}\n")
+    if first is None:
+        raise ValueError("refusals.txt lacks its answer")
+    if damage.what == "mark" and first == run.first:
+        return Wanted(BY_RULE, run.answer.decode())
+    return wanted_tree(run, damage, stored) if first == "accepted" else Wanted(BY_RULE, f"{first}\n")
 
-    def __init__(self):
-        self.derived = 0
-        self.fail_before = 0
-        self.wrong = []
 
-    def add(self, other):
-        self.derived += other.derived
-        self.fail_before += other.fail_before
-        self.wrong += other.wrong
+def wanted_tree(run, damage, stored):
+    """The answer to a list that is cut and accepted."""
+    same = stored.same_list(run, damage)
+    if same is not None:
+        return Wanted(SAME_LIST, same)
+    return Wanted(TREE, f"accepted {stored.checksum(run, damage)}")
 
 
-def differ(run, place, fail_before):
-    """Whether a test fails before this place, and not for each error, nor with one refusal. Where a closure's body or a
-    jump's value begins, an error is refused there, while the end of a list means that there is none."""
-    errors = {what for what in fail_before if what in ERRORS}
-    may_be_absent = place > 0 and run.lines[place - 1].split(" ")[-1] in MAY_END
-    if not fail_before or (not errors and may_be_absent):
+def is_answer(answer, text, checksum):
+    """Whether the whole answer and the status are these."""
+    is_accepted = text.startswith("accepted")
+    if answer.status != (0 if is_accepted else 1):
         return False
-    return errors != set(ERRORS[1:]) or len(set(fail_before.values())) > 1
+    if text.startswith("accepted "):
+        return answer.first == "accepted" and text == f"accepted {checksum(answer.printed)}"
+    return answer.printed == text.encode()
 
 
-def check_place(run, read, found, counts):
-    """Checks all damaged forms of one place."""
-    fail_before, place = {}, found[0][0].place
-    for damage, answer in found:
-        wanted = derived(run, damage, read)
-        is_own = place >= read or (damage.what == "mark" and wanted == run.first)
-        if (answer.printed == run.answer) if is_own else (answer.first == wanted or wanted is None):
-            counts.derived += 1
-            continue
-        counts.fail_before += 1
-        fail_before[damage.what] = answer.first
-        if damage.what == "memory" or answer.status != 1 or not may_fail_before(answer.first, damage, run.words):
-            counts.wrong.append(f"{run.name}: {damage.what} at {place}: {answer.first}, wanted {wanted}")
-    if differ(run, place, fail_before):
-        counts.wrong.append(f"{run.name}: not one refusal at {place}: {fail_before}")
+class Counts(NamedTuple):
+    """How many damaged lists there were, by what gives their answers, and what is wrong with them."""
+
+    of: dict
+    wrong: list
 
 
-def check(run, found):
+def check(run, found, stored):
     """Checks the answers to all damaged forms of the list of a run."""
-    counts = Counts()
-    read = tokens_read(run, found)
-    if not reads_the_right_number(run, read):
-        counts.wrong.append(f"{run.name}: it reads {read} tokens")
-    if not refuses_the_right_comment(run, read):
-        counts.wrong.append(f"{run.name}: another comment is due, or it reads {read} tokens")
-    for place in range(len(run.lines) - 1):
-        check_place(run, read, [it for it in found if it[0].place == place], counts)
+    counts = Counts({}, [])
+    for damage, answer in found:
+        place = f"{run.name}: {damage.what} at token {damage.place + 1}"
+        try:
+            source, text = wanted(run, damage, stored)
+        except (ValueError, KeyError) as error:
+            counts.wrong.append(f"{place}: {error}")
+            continue
+        counts.of[source] = counts.of.get(source, 0) + 1
+        if not is_answer(answer, text, stored.checksum_of):
+            counts.wrong.append(f"{place}: status {answer.status}, {answer.first}, wanted {text[:200]}")
     return counts
 
 
-def check_runs(library, program, runs):
+def answers(program, runs):
+    """Yields each of these runs, all with the same words, with its damaged lists and the answers to these."""
+    forms = [list(damages(run.lines)) for run in runs]
+    lists = [damage.list for form in forms for damage in form]
+    found = iter(program.answers(runs[0].words, lists))
+    for run, form in zip(runs, forms):
+        yield run, [(damage, next(found)) for damage in form]
+
+
+def check_runs(program, runs, stored):
     """Checks runs with the same words."""
-    forms = [[damage for damage in damages(run.lines)] for run in runs]
-    lists = ["".join(f"{line}\n" for line in damage.lines).encode() for form in forms for damage in form]
-    found = iter(answers(library, [program, *runs[0].words], lists))
-    return [check(run, [(damage, next(found)) for damage in form]) for run, form in zip(runs, forms)]
+    return [check(run, found, stored) for run, found in answers(program, runs)]

@@ -34,8 +34,16 @@ class Answer(Exception):
     """The answer to the list, if it is a refusal."""
 
 
-class Unforeseen(Exception):
+class Unforeseen(ValueError):
     """A token stands here that cannot."""
+
+
+class Ended(NamedTuple):
+    """A function or closure, and how many tokens were taken where it had ended, and how many had been looked at."""
+
+    name: str
+    taken: int
+    looked_at: int
 
 
 class Reader:
@@ -55,9 +63,12 @@ class Reader:
         self.has_pipes = True  # whether `|` is an operator
         self.ends = False  # whether the statement read last ends by itself
         self.in_text = set()  # the places of the tokens asked for in text mode
+        self.looked_at = 0  # how many tokens were
+        self.ended = []  # of each function and closure that has ended
 
     def peek(self):
         """The token here, as it is written; the kind, where it has a payload."""
+        self.looked_at = max(self.looked_at, self.at + 1)
         token = self.tokens[self.at]
         return token[2] if token[1] == "sym" else token[1]
 
@@ -270,12 +281,14 @@ class Reader:
                 self.refuse("E7 MissingToken ,")
             self.takes(",")
 
-    def within(self, part):
-        """Reads a part that stands in a function or closure."""
+    def within(self, part, name=None):
+        """Reads a part that stands in a function of this name, or in a closure, which is named by those before it."""
         before = self.in_function, self.has_pipes, self.options
         self.in_function, self.has_pipes, self.options = True, True, self.in_functions
         part()
         self.in_function, self.has_pipes, self.options = before
+        closures = sum(it.name.startswith("anon$") for it in self.ended)
+        self.ended.append(Ended(name or f"anon${closures:016x}", self.at, self.looked_at))
 
     def closure(self, token):
         def read():
@@ -306,7 +319,7 @@ class Reader:
         if self.peek() != "{":
             self.refuse(f"E26 FnMissingBody {name[2]}")
         before, self.is_expr = self.is_expr, False
-        self.within(self.block)
+        self.within(self.block, name[2])
         self.is_expr = before
 
     # Statements.
@@ -506,9 +519,8 @@ class Due(NamedTuple):
     in_text: bool  # whether it is asked for in text mode
 
 
-def due(lines, words):
-    """What is due at the end of a list, which is its first error of the tokenizer or its end mark."""
-    reader, answer = Reader(lines, words), "accepted"
+def read(reader):
+    """Reads all of its list, and returns the first line of the answer."""
     try:
         if reader.is_expr:
             reader.expression()
@@ -517,5 +529,21 @@ def due(lines, words):
         else:
             reader.script()
     except Answer as refused:
-        answer = str(refused)
-    return Due(answer, reader.at, reader.at in reader.in_text)
+        return str(refused)
+    return "accepted"
+
+
+def due(lines, words):
+    """What is due at the end of a list, which is its first error of the tokenizer or its end mark."""
+    reader = Reader(lines, words)
+    return Due(read(reader), reader.at, reader.at in reader.in_text)
+
+
+def ended(lines, words):
+    """The functions and closures that end in a list, in order, up to a token that is refused for what it is."""
+    reader = Reader(lines, words)
+    try:
+        read(reader)
+    except Unforeseen:
+        pass
+    return reader.ended

@@ -85,13 +85,18 @@ def thousand_tokens():
     return "".join(f"{line}\n" for line in lines).encode()
 
 
-def refused_in_a_long_list(library, program):
+def tree_of_thousand_tokens():
+    """What is printed of them: each sign has all to its left as its first operand."""
+    signs = [f"{'  ' * (500 - sign)}FnCall 1:{2 * sign} + - 2 -" for sign in range(499, 0, -1)]
+    names = [f"{'  ' * (501 - max(name, 1))}Variable 1:{2 * name + 1} - x{name} -" for name in range(500)]
+    return "".join(f"{line}\n" for line in ["accepted", "Expr", *signs, *names, "functions 0"]).encode()
+
+
+def refused_in_a_long_list(program):
     """Refuses each request for memory over 1,000 tokens. The result is what is wrong, and how many were refused."""
-    words, text = ("script", "expr_depth=0"), thousand_tokens()
-    answer, _ = ran([program, *words], text)
-    if answer.count(b" Variable ") != 500 or not answer.startswith(b"accepted\n"):
-        return "1,000 tokens are not accepted", 0
-    [wrong], requests = refused.check_runs(library, program, [Run("1,000 tokens", text, words, answer)])
+    words = ("script", "expr_depth=0")
+    run = Run("1,000 tokens", thousand_tokens(), words, tree_of_thousand_tokens())
+    [wrong], requests = refused.check_runs(program, [run])
     return wrong, requests
 
 

@@ -5,6 +5,7 @@ import re
 from typing import NamedTuple
 
 CASES = pathlib.Path(__file__).parent.parent / "cases"
+NO_MEMORY = "refused E36 none OutOfMemory"
 ESCAPES = {b"n": b"\n", b"r": b"\r", b"t": b"\t", b"\\": b"\\"}
 
 

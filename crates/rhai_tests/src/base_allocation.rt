@@ -343,8 +343,9 @@ fn comments_refused(rt: HostRuntime) {
     let _ = comments(&rt, rt.alloc());
 }
 
-fn texts_and_blocks(alloc: Global) -> Result<(), AllocError> {
-    make_anonymous_fn(alloc, 7)?;
+fn texts_and_blocks(rt: &impl Abort, alloc: Global) -> Result<(), AllocError> {
+    let name = make_anonymous_fn(alloc, 255)?;
+    assert!(rt; name.as_str() == "anon$00000000000000ff");
     Token::IntegerConstant(-7).text(alloc)?;
     let seven = Expr::IntegerConstant(7, Position::NONE);
     StmtBlock::from_stmt(alloc, Stmt::Expr(seven))?;
@@ -353,12 +354,12 @@ fn texts_and_blocks(alloc: Global) -> Result<(), AllocError> {
 
 #[test]
 fn texts_and_blocks_with_ample_memory(rt: HostRuntime) -> Result<(), Fail> {
-    Ok(texts_and_blocks(rt.alloc())?)
+    Ok(texts_and_blocks(&rt, rt.alloc())?)
 }
 
 #[test]
 fn texts_and_blocks_refused(rt: HostRuntime) {
-    let _ = texts_and_blocks(rt.alloc());
+    let _ = texts_and_blocks(&rt, rt.alloc());
 }
 
 // A copy shares its texts and allocates nothing, but it is refused where a text has as many owners as can be counted.

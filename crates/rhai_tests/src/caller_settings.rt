@@ -1,12 +1,13 @@
-//! Settings that only the caller's closure can change. No list of tokens shows what they do.
+//! Settings that only the caller's closure can change. No list of tokens shows what they do. Two tests make all rows,
+//! as in `allocation`: the one that is `.._refused` holds however memory is refused.
 
 use crate::script::{Change, test_expr, test_script};
 use rhai_parser::{Engine, LangOptions, ParseSettingFlags};
+use std::alloc::{AllocError, Global};
+use std::process::Abort;
 use std::test::Fail;
 
-#[test]
-fn flags_of_a_script(rt: HostRuntime) -> Result<(), Fail> {
-    let alloc = rt.alloc();
+fn flags_of_a_script(rt: &impl Abort, alloc: Global) -> Result<(), AllocError> {
     let engine = Engine::new(alloc);
     let below = Change::Clear(ParseSettingFlags::GLOBAL_LEVEL);
     let breakable = Change::Set(ParseSettingFlags::BREAKABLE);
@@ -18,14 +19,12 @@ fn flags_of_a_script(rt: HostRuntime) -> Result<(), Fail> {
         (single, ("{ 1 ; 2 }", "E7 1:5 MissingToken }")),
         (Change::Depth(2, 2), ("1", "E34 1:1 ExprTooDeep")),
     ] {
-        test_script(&rt, alloc, &engine, change, row)?;
+        test_script(rt, alloc, &engine, change, row)?;
     }
     Ok(())
 }
 
-#[test]
-fn flags_of_an_expression(rt: HostRuntime) -> Result<(), Fail> {
-    let alloc = rt.alloc();
+fn flags_of_an_expression(rt: &impl Abort, alloc: Global) -> Result<(), AllocError> {
     let mut engine = Engine::new(alloc);
     engine.set_options(engine.options() | LangOptions::STRICT_VAR);
     let nothing = Change::Nothing;
@@ -40,16 +39,14 @@ fn flags_of_an_expression(rt: HostRuntime) -> Result<(), Fail> {
         (quoted, ("#{ a : 1 }", "E12 1:4 PropertyExpected")),
         (quoted, ("#{ \"a\" : 1 }", "accepted")),
     ] {
-        test_expr(&rt, alloc, &engine, change, row)?;
+        test_expr(rt, alloc, &engine, change, row)?;
     }
     Ok(())
 }
 
 // In a function and in a closure, the options are the engine's, but a function has strict variables where the script
 // has them.
-#[test]
-fn options_apart_from_the_engine(rt: HostRuntime) -> Result<(), Fail> {
-    let alloc = rt.alloc();
+fn options_apart_from_the_engine(rt: &impl Abort, alloc: Global) -> Result<(), AllocError> {
     let engine = Engine::new(alloc);
     let no_if = Change::Without(LangOptions::IF_EXPR);
     let strict = Change::With(LangOptions::STRICT_VAR);
@@ -63,10 +60,25 @@ fn options_apart_from_the_engine(rt: HostRuntime) -> Result<(), Fail> {
         (strict, ("x", "E18 1:1 VariableUndefined x")),
         (strict, ("fn f () { x }", "E18 1:11 VariableUndefined x")),
     ] {
-        test_script(&rt, alloc, &engine, change, row)?;
+        test_script(rt, alloc, &engine, change, row)?;
     }
     let no_closures = Change::Without(LangOptions::ANON_FN);
     let row = ("| x | x", "E2 1:1 BadInput unexpected |");
-    test_expr(&rt, alloc, &engine, no_closures, row)?;
-    Ok(())
+    test_expr(rt, alloc, &engine, no_closures, row)
+}
+
+fn settings(rt: &impl Abort, alloc: Global) -> Result<(), AllocError> {
+    flags_of_a_script(rt, alloc)?;
+    flags_of_an_expression(rt, alloc)?;
+    options_apart_from_the_engine(rt, alloc)
+}
+
+#[test]
+fn settings_with_ample_memory(rt: HostRuntime) -> Result<(), Fail> {
+    Ok(settings(&rt, rt.alloc())?)
+}
+
+#[test]
+fn settings_refused(rt: HostRuntime) {
+    let _ = settings(&rt, rt.alloc());
 }

@@ -1,6 +1,7 @@
 //! The call that reads a script for its functions' names. What it finds in which script is in the table of cases.
 
-use crate::script::stream_of_line;
+use crate::libraries::{Functions, holds_ended};
+use crate::script::{stream_of_line, tokens_taken};
 use rhai_names::names::FnNames;
 use rhai_names::script::names_of_script;
 use rhai_parser::{
@@ -13,17 +14,26 @@ use std::test::Fail;
 // Its closure captures `a` and `c`, and ends first.
 const SCRIPT: &str = "fn f ( a ) { | b | a + b . m ( c ) } fn g () { f ( 1 ) }";
 
-// Reads a script for its names. The second result is how many functions the library holds.
+const FUNCTIONS: Functions = &[("anon$0000000000000000", 3, 17), ("f", 1, 18), ("g", 0, 27)];
+
+// Reads a script for its names. The library has to hold exactly those of its functions that have ended.
 fn read(
     rt: &impl Abort,
     alloc: Global,
     line: &str,
-) -> Result<(ParseResult<Vec<FnNames>>, usize), AllocError> {
+    functions: Functions,
+) -> Result<ParseResult<Vec<FnNames>>, AllocError> {
     let mut input = stream_of_line(rt, alloc, line)?;
     let mut lib = FnLib::new(alloc);
     let mut state = ParseState::new(alloc, None, &mut input, TokenizerControl, &mut lib);
     let answer = names_of_script(alloc, &Engine::new(alloc), &mut state);
-    Ok((answer, state.lib.len()))
+    let taken = tokens_taken(state.input, line);
+    assert!(rt; holds_ended(state.lib, functions, taken), "{line}");
+    assert!(rt;
+        answer.is_err() || state.lib.len() == functions.len(),
+        "{line}"
+    );
+    Ok(answer)
 }
 
 // Wants a function with this name and so many parameters, free names and calls.
@@ -37,10 +47,9 @@ fn check(rt: &impl Abort, names: &FnNames, name: &str, counts: (usize, usize, us
 }
 
 fn names(rt: &impl Abort, alloc: Global) -> Result<(), AllocError> {
-    let (answer, held) = read(rt, alloc, SCRIPT)?;
-    match answer {
+    match read(rt, alloc, SCRIPT, FUNCTIONS)? {
         Ok(list) => {
-            assert!(rt; list.len() == 3 && held == 3);
+            assert!(rt; list.len() == 3);
             let wanted = [
                 ("anon$0000000000000000", (3, 0, 1)),
                 ("f", (1, 1, 0)),
@@ -52,7 +61,7 @@ fn names(rt: &impl Abort, alloc: Global) -> Result<(), AllocError> {
             Ok(())
         }
         Err(error) => {
-            assert!(rt; error == ParseError::from(AllocError) && held <= 3);
+            assert!(rt; error == ParseError::from(AllocError));
             Err(AllocError)
         }
     }
@@ -70,7 +79,7 @@ fn names_refused(rt: HostRuntime) {
 
 #[test]
 fn names_of_no_function(rt: HostRuntime) -> Result<(), Fail> {
-    let (answer, _) = read(&rt, rt.alloc(), "let x = 1 ;")?;
+    let answer = read(&rt, rt.alloc(), "let x = 1 ;", &[])?;
     assert!(rt; answer.is_ok_and(|list| list.is_empty()));
     Ok(())
 }
@@ -78,8 +87,7 @@ fn names_of_no_function(rt: HostRuntime) -> Result<(), Fail> {
 // The function before the error stays.
 #[test]
 fn names_of_no_script(rt: HostRuntime) -> Result<(), Fail> {
-    let (answer, held) = read(&rt, rt.alloc(), "fn f () { } fn")?;
-    let refused = answer.is_err_and(|error| error.0 == ParseErrorType::FnMissingName);
-    assert!(rt; refused && held == 1);
+    let answer = read(&rt, rt.alloc(), "fn f () { } fn", &[("f", 0, 5)])?;
+    assert!(rt; answer.is_err_and(|error| error.0 == ParseErrorType::FnMissingName));
     Ok(())
 }

@@ -12,13 +12,18 @@ mod fn_names;
 #[cfg(test)]
 mod libraries;
 #[cfg(test)]
+mod lists;
+#[cfg(test)]
 mod long_scripts;
+#[cfg(test)]
+mod lookups;
 #[cfg(test)]
 mod modules;
 #[cfg(test)]
 mod nesting;
 #[cfg(test)]
 mod optimizing;
+mod plugged;
 #[cfg(test)]
 mod random_scripts;
 #[cfg(test)]

@@ -1,7 +1,7 @@
-//! What a library holds where memory ran out. It holds what it held before, followed by functions that have ended
-//! since.
+//! What a library holds where memory ran out. It is what it held before, and then exactly the functions that have ended
+//! since. A function has ended where a token after its own was taken, and has not where one of its own was not.
 
-use crate::script::{add_line, stream_of, stream_of_line};
+use crate::script::{add_line, stream_of, stream_of_line, tokens_taken};
 use rhai_parser::{
     Engine, Entry, FnLib, LexError, OptimizationLevel, ParseError, ParseResult, ParseState,
     Position, Token, TokenizerControl,
@@ -14,24 +14,36 @@ use std::test::Fail;
 const FOUR: &str = "fn zulu ( x ) { x + 1 } fn alpha ( a , b ) { a + b } fn alpha ( a ) { a } \
      fn mike () { 1 } zulu ( 1 ) + alpha ( 2 , 3 ) + alpha ( 4 ) + mike ()";
 
-// Names of functions, each with the number of its parameters.
-type Functions = &'static [(&'static str, usize)];
+/// Functions in the order in which they end: the name, the number of parameters, and the number of the last token.
+pub(crate) type Functions = &'static [(&'static str, usize, usize)];
 
-const FUNCTIONS_OF_FOUR: Functions = &[("zulu", 1), ("alpha", 2), ("alpha", 1), ("mike", 0)];
+const FUNCTIONS_OF_FOUR: Functions = &[
+    ("zulu", 1, 10),
+    ("alpha", 2, 22),
+    ("alpha", 1, 30),
+    ("mike", 0, 36),
+];
 
-// Whether the functions of the library are the first of these, in this order.
-fn are_first(lib: &FnLib, functions: Functions) -> bool {
+/// Whether a library holds exactly those of these functions that have ended where so many tokens were taken. One whose
+/// last token was taken last may have ended or not: what it needs is requested then.
+pub(crate) fn holds_ended(lib: &FnLib, functions: Functions, taken: usize) -> bool {
     for (key, function) in lib.keys().zip(functions.iter()) {
-        let (name, params) = *function;
-        if key.name.as_str() != name || key.params != params {
+        let (name, params, last) = *function;
+        if key.name.as_str() != name || key.params != params || taken < last {
             return false;
         }
     }
-    lib.len() <= functions.len()
+    match functions.get(lib.len()) {
+        Some((_, _, last)) => taken <= *last,
+        None => lib.len() == functions.len(),
+    }
 }
 
-// Wants an answer that is no refusal, or the refusal for want of memory.
-fn unless_memory<T: Drop>(rt: &impl Abort, answer: ParseResult<T>) -> Result<T, AllocError> {
+/// Wants an answer that is no refusal, or the refusal for want of memory.
+pub(crate) fn unless_memory<T: Drop>(
+    rt: &impl Abort,
+    answer: ParseResult<T>,
+) -> Result<T, AllocError> {
     match answer {
         Ok(tree) => Ok(tree),
         Err(error) => {
@@ -56,7 +68,7 @@ fn functions_before(rt: &impl Abort, alloc: Global, place: usize) -> Result<usiz
     let mut state = ParseState::new(alloc, None, &mut input, TokenizerControl, &mut lib);
     let answer = Engine::new(alloc).parse_global_level(&mut state, |_settings| {});
     assert!(rt; unless_memory(rt, answer).is_err(), "{place}");
-    assert!(rt; are_first(state.lib, FUNCTIONS_OF_FOUR), "{place}");
+    assert!(rt; holds_ended(state.lib, FUNCTIONS_OF_FOUR, place), "{place}");
     Ok(state.lib.len())
 }
 
@@ -83,28 +95,28 @@ const SCRIPTS: [(&str, Functions); 3] = [
     (
         FOUR,
         &[
-            ("first", 0),
-            ("zulu", 1),
-            ("alpha", 2),
-            ("alpha", 1),
-            ("mike", 0),
+            ("first", 0, 0),
+            ("zulu", 1, 10),
+            ("alpha", 2, 22),
+            ("alpha", 1, 30),
+            ("mike", 0, 36),
         ],
     ),
     (
         "|| || x",
         &[
-            ("first", 0),
-            ("anon$0000000000000000", 1),
-            ("anon$0000000000000001", 1),
+            ("first", 0, 0),
+            ("anon$0000000000000000", 1, 3),
+            ("anon$0000000000000001", 1, 3),
         ],
     ),
     (
         "fn f ( a ) { | b | a + b } f ( 1 ) ; | c | c",
         &[
-            ("first", 0),
-            ("anon$0000000000000000", 2),
-            ("f", 1),
-            ("anon$0000000000000001", 1),
+            ("first", 0, 0),
+            ("anon$0000000000000000", 2, 12),
+            ("f", 1, 13),
+            ("anon$0000000000000001", 1, 22),
         ],
     ),
 ];
@@ -122,8 +134,9 @@ fn read_after_first(
     unless_memory(rt, engine.parse_global_level(&mut state, |_settings| {}))?;
     *state.input = stream_of_line(rt, alloc, line)?;
     let answer = engine.parse_global_level(&mut state, |_settings| {});
+    let taken = tokens_taken(state.input, line);
+    assert!(rt; holds_ended(state.lib, functions, taken), "{line}");
     let held = state.lib.len();
-    assert!(rt; 1 <= held && are_first(state.lib, functions), "{line}");
     unless_memory(rt, answer)?;
     assert!(rt; held == functions.len(), "{line}");
     Ok(())
@@ -136,7 +149,8 @@ fn read_to_optimize(rt: &impl Abort, alloc: Global) -> Result<(), AllocError> {
     let mut lib = FnLib::new(alloc);
     let state = ParseState::new(alloc, None, &mut input, TokenizerControl, &mut lib);
     let answer = engine.parse(state, OptimizationLevel::Full);
-    assert!(rt; are_first(&lib, FUNCTIONS_OF_FOUR));
+    let taken = tokens_taken(&mut input, FOUR);
+    assert!(rt; holds_ended(&lib, FUNCTIONS_OF_FOUR, taken));
     unless_memory(rt, answer)?;
     assert!(rt; lib.len() == 4);
     Ok(())

@@ -2,21 +2,28 @@
 
 use crate::script::{Change, test_expr};
 use rhai_parser::{Engine, LangOptions};
+use std::alloc::{AllocError, Global};
+use std::process::Abort;
 use std::test::Fail;
 
-#[test]
-fn modules_of_the_engine_are_known(rt: HostRuntime) -> Result<(), Fail> {
-    let alloc = rt.alloc();
+// A module of the engine is known, and so is `global`.
+fn modules_of_the_engine(rt: &impl Abort, alloc: Global) -> Result<(), AllocError> {
     let mut engine = Engine::new(alloc);
     engine.set_options(engine.options() | LangOptions::STRICT_VAR);
-    test_expr(
-        &rt,
-        alloc,
-        &engine,
-        Change::Nothing,
-        ("m :: x", "E19 1:1 ModuleUndefined m"),
-    )?;
+    let nothing = Change::Nothing;
+    let unknown = ("m :: x", "E19 1:1 ModuleUndefined m");
+    test_expr(rt, alloc, &engine, nothing, unknown)?;
     engine.add_sub_module("m")?;
-    test_expr(&rt, alloc, &engine, Change::Nothing, ("m :: x", "accepted"))?;
-    Ok(())
+    test_expr(rt, alloc, &engine, nothing, ("m :: x", "accepted"))?;
+    test_expr(rt, alloc, &engine, nothing, ("global :: x", "accepted"))
+}
+
+#[test]
+fn modules_of_the_engine_with_ample_memory(rt: HostRuntime) -> Result<(), Fail> {
+    Ok(modules_of_the_engine(&rt, rt.alloc())?)
+}
+
+#[test]
+fn modules_of_the_engine_refused(rt: HostRuntime) {
+    let _ = modules_of_the_engine(&rt, rt.alloc());
 }

@@ -1,4 +1,5 @@
-//! How deeply scripts may nest, and how many grammar functions are active then.
+//! How deeply scripts may nest, and how many grammar functions are active then. Two tests make all rows, as in
+//! `allocation`: the one that is `.._refused` holds however memory is refused.
 
 use crate::script::{Change, check, stream_of, stream_of_line, test_expr, test_script};
 use rhai_parser::{
@@ -9,32 +10,28 @@ use std::alloc::{AllocError, Global};
 use std::process::Abort;
 use std::test::Fail;
 
-#[test]
-fn peak_of_the_empty_script(rt: HostRuntime) -> Result<(), Fail> {
-    let alloc = rt.alloc();
-    let mut input = stream_of(&rt, Vec::new(alloc));
+fn peak_of_the_empty_script(rt: &impl Abort, alloc: Global) -> Result<(), AllocError> {
+    let mut input = stream_of(rt, Vec::new(alloc));
     let mut lib = FnLib::new(alloc);
     let mut state = ParseState::new(alloc, None, &mut input, TokenizerControl, &mut lib);
     assert!(rt; nest_peak(&state) == 0);
     let answer = Engine::new(alloc).parse_global_level(&mut state, |_settings| {});
-    check(&rt, alloc, answer, "accepted")?;
+    check(rt, alloc, answer, "accepted")?;
     assert!(rt; nest_peak(&state) == 1);
     Ok(())
 }
 
 // After a script as many grammar functions are active as before it: here three, so that it takes as many more as the
 // peak is above three to reach the peak again.
-#[test]
-fn active_functions_after_a_script(rt: HostRuntime) -> Result<(), Fail> {
-    let alloc = rt.alloc();
-    let mut input = stream_of_line(&rt, alloc, "fn f ( x ) { ! x } f ( [ 1 + 2 ] )")?;
+fn active_functions_after_a_script(rt: &impl Abort, alloc: Global) -> Result<(), AllocError> {
+    let mut input = stream_of_line(rt, alloc, "fn f ( x ) { ! x } f ( [ 1 + 2 ] )")?;
     let mut lib = FnLib::new(alloc);
     let mut state = ParseState::new(alloc, None, &mut input, TokenizerControl, &mut lib);
     for _ in 0..3 {
         state.counts.nest_enter();
     }
     let answer = Engine::new(alloc).parse_global_level(&mut state, |_settings| {});
-    check(&rt, alloc, answer, "accepted")?;
+    check(rt, alloc, answer, "accepted")?;
     let peak = nest_peak(&state);
     assert!(rt; peak > 3);
     for _ in 3..peak {
@@ -78,16 +75,14 @@ fn test_nested(
 
 // The peak is at least the number of forms one in another, with the entry, and at most eight for each level that a
 // script and a function may have, and for two more.
-#[test]
-fn nested_to_the_limit_of_a_script(rt: HostRuntime) -> Result<(), Fail> {
-    let alloc = rt.alloc();
+fn nested_to_the_limit_of_a_script(rt: &impl Abort, alloc: Global) -> Result<(), AllocError> {
     for (parts, times, wanted) in [
         (("( ", "1", " )"), 31, "accepted"),
         (("( ", "1", " )"), 32, "E34 1:63 ExprTooDeep"),
         (("{ ", "{ }", " }"), 31, "accepted"),
         (("{ ", "{ }", " }"), 32, "E34 1:65 ExprTooDeep"),
     ] {
-        let peak = test_nested(&rt, alloc, parts, times, wanted)?;
+        let peak = test_nested(rt, alloc, parts, times, wanted)?;
         assert!(rt; 32 <= peak && peak <= 784, "{peak}");
     }
     Ok(())
@@ -99,36 +94,58 @@ fn function(alloc: Global, groups: usize) -> Result<String, AllocError> {
     format!(in alloc; "fn f () {{ {body} }}")
 }
 
-#[test]
-fn nested_to_the_limit_of_a_function(rt: HostRuntime) -> Result<(), Fail> {
-    let alloc = rt.alloc();
+fn nested_to_the_limit_of_a_function(rt: &impl Abort, alloc: Global) -> Result<(), AllocError> {
     let engine = Engine::new(alloc);
     for (groups, wanted) in [(14, "accepted"), (15, "E34 1:39 ExprTooDeep")] {
         let line = function(alloc, groups)?;
-        test_script(&rt, alloc, &engine, Change::Nothing, (&line, wanted))?;
+        test_script(rt, alloc, &engine, Change::Nothing, (&line, wanted))?;
     }
     Ok(())
 }
 
-#[test]
-fn limits_of_one_level_and_none(rt: HostRuntime) -> Result<(), Fail> {
-    let alloc = rt.alloc();
+fn limits_of_one_level(rt: &impl Abort, alloc: Global) -> Result<(), AllocError> {
     let engine = Engine::new(alloc);
     let one = Change::Depth(0, 1);
-    test_expr(&rt, alloc, &engine, one, ("1", "accepted"))?;
+    test_expr(rt, alloc, &engine, one, ("1", "accepted"))?;
     for row in [
         ("return", "accepted"),
         ("1", "E34 1:1 ExprTooDeep"),
         ("{ }", "E34 1:1 ExprTooDeep"),
     ] {
-        test_script(&rt, alloc, &engine, one, row)?;
+        test_script(rt, alloc, &engine, one, row)?;
     }
+    Ok(())
+}
+
+fn nesting(rt: &impl Abort, alloc: Global) -> Result<(), AllocError> {
+    peak_of_the_empty_script(rt, alloc)?;
+    active_functions_after_a_script(rt, alloc)?;
+    nested_to_the_limit_of_a_script(rt, alloc)?;
+    nested_to_the_limit_of_a_function(rt, alloc)?;
+    limits_of_one_level(rt, alloc)
+}
+
+#[test]
+fn nesting_with_ample_memory(rt: HostRuntime) -> Result<(), Fail> {
+    Ok(nesting(&rt, rt.alloc())?)
+}
+
+#[test]
+fn nesting_refused(rt: HostRuntime) {
+    let _ = nesting(&rt, rt.alloc());
+}
+
+// Without a limit a run may be of any length.
+#[test]
+fn no_limit(rt: HostRuntime) -> Result<(), Fail> {
+    let alloc = rt.alloc();
     let line = nested(alloc, ("1 + ", "1", ""), 500)?;
+    let unlimited = Change::Depth(0, 0);
     test_expr(
         &rt,
         alloc,
-        &engine,
-        Change::Depth(0, 0),
+        &Engine::new(alloc),
+        unlimited,
         (&line, "accepted"),
     )?;
     Ok(())

@@ -1,25 +1,24 @@
-//! The entries that hand a script to an optimizer.
+//! The entry that hands a script to the optimizer, at each level. Two tests make all rows, as in `allocation`: the one
+//! that is `.._refused` holds however memory is refused.
 
-ghost use Rattle.std.specs.Prelude.{◌≡◌};
-
-use crate::script::stream_of_line;
+use crate::libraries::{Functions, holds_ended};
+use crate::script::{printed_refusal, stream_of_line, tokens_taken};
 use rhai_parser::{
-    AST, Engine, FnLib, OptimizationLevel, Optimizer, ParseResult, ParseState, Scope,
-    ScriptFuncDef, StmtBlockContainer, TokenizerControl,
+    AST, Engine, FnLib, OptimizationLevel, ParseResult, ParseState, TokenizerControl,
 };
-use rhai_run::{Refused, accepted};
+use rhai_run::accepted;
 use std::alloc::{AllocError, Global};
 use std::process::Abort;
-use std::rc::Rc;
 use std::test::Fail;
 
-const SCRIPT: &str = "let y = 1 ; fn f ( x ) { x } f ( | x | x + y )";
-
-// What the program prints of an answer.
-fn printed(alloc: Global, answer: ParseResult<AST>) -> Result<String, AllocError> {
+/// What the program prints of an answer. Where memory ran out, so is the result.
+pub(crate) fn printed(alloc: Global, answer: ParseResult<AST>) -> Result<String, AllocError> {
     match answer {
         Ok(script) => accepted(alloc, &script),
-        Err(error) => format!(in alloc; "refused {}", Refused(&error)),
+        Err(error) => {
+            let refusal = printed_refusal(alloc, &error)?;
+            format!(in alloc; "refused {refusal}")
+        }
     }
 }
 
@@ -36,119 +35,62 @@ fn read_plainly(rt: &impl Abort, alloc: Global, line: &str) -> Result<String, Al
     printed(alloc, script)
 }
 
-// Wants this answer to a line at this level, and so many functions in the library that is lent.
+// Wants the answer to a line at this level to be that without the optimizer, which begins with `wanted`, and in the
+// library that is lent exactly the functions that have ended.
 fn test_parse(
     rt: &impl Abort,
     alloc: Global,
-    line: &str,
     level: OptimizationLevel,
-    (wanted, count): (&str, usize),
+    (line, wanted, functions): (&str, &str, Functions),
 ) -> Result<(), AllocError> {
     let mut input = stream_of_line(rt, alloc, line)?;
     let mut lib = FnLib::new(alloc);
     let state = ParseState::new(alloc, None, &mut input, TokenizerControl, &mut lib);
-    let answer = printed(alloc, Engine::new(alloc).parse(state, level))?;
-    assert!(rt; answer.as_str() == wanted, "{answer}");
-    assert!(rt; lib.len() == count, "{line}");
+    let answer = Engine::new(alloc).parse(state, level);
+    let taken = tokens_taken(&mut input, line);
+    assert!(rt; holds_ended(&lib, functions, taken), "{line}");
+    let answer = printed(alloc, answer)?;
+    assert!(rt; lib.len() == functions.len(), "{line}");
+    assert!(rt; answer.as_str().starts_with(wanted), "{answer}");
+    let plain = read_plainly(rt, alloc, line)?;
+    assert!(rt; answer == plain, "{answer}");
     Ok(())
 }
 
-// At each level the tree and the functions are those that were read, and a refusal is the same.
-#[test]
-fn parse_at_each_level(rt: HostRuntime) -> Result<(), Fail> {
-    let alloc = rt.alloc();
-    let tree = read_plainly(&rt, alloc, SCRIPT)?;
+// Lines, with the beginning of the answer, and the functions in the library.
+const LINES: [(&str, &str, Functions); 3] = [
+    (
+        "let y = 1 ; fn f ( x ) { x } f ( | x | x + y )",
+        "accepted\nVar 1:1 y ",
+        &[("f", 1, 13), ("anon$0000000000000000", 2, 21)],
+    ),
+    (
+        "fn f () { } let",
+        "refused E13 none VariableExpected",
+        &[("f", 0, 5)],
+    ),
+    (") ;", "refused E2 1:1 BadInput unexpected )", &[]),
+];
+
+fn parse_at_each_level(rt: &impl Abort, alloc: Global) -> Result<(), AllocError> {
     for level in [
         OptimizationLevel::None,
         OptimizationLevel::Simple,
         OptimizationLevel::Full,
     ] {
-        test_parse(&rt, alloc, SCRIPT, level, (&tree, 2))?;
-        test_parse(
-            &rt,
-            alloc,
-            "fn f () { } let",
-            level,
-            ("refused E13 none VariableExpected", 1),
-        )?;
-        test_parse(
-            &rt,
-            alloc,
-            ") ;",
-            level,
-            ("refused E2 1:1 BadInput unexpected )", 0),
-        )?;
-    }
-    Ok(())
-}
-
-// An optimizer that keeps statements only with constants and at level `Simple`, and has no memory at level `Full`.
-struct Telling;
-
-impl Optimizer for Telling {
-    ghost makes = { λ _ constants statements functions level script. script.functions ≡ functions };
-
-    fn optimize_into_ast(
-        &self,
-        alloc: Global,
-        constants: Option<&Scope>,
-        statements: StmtBlockContainer,
-        functions: Vec<Rc<ScriptFuncDef>>,
-        level: OptimizationLevel,
-    ) -> Result<AST, AllocError> {
-        if level == OptimizationLevel::Full {
-            return Err(AllocError);
+        for line in LINES {
+            test_parse(rt, alloc, level, line)?;
         }
-        let kept = constants.is_some() && level == OptimizationLevel::Simple;
-        let statements = if kept { statements } else { Vec::new(alloc) };
-        Ok(AST {
-            statements,
-            functions,
-        })
-    }
-}
-
-// How many statements the optimizer leaves of a line, read as a script or as one expression; none if it refuses.
-fn statements_left(
-    rt: &impl Abort,
-    alloc: Global,
-    constants: Option<&Scope>,
-    level: OptimizationLevel,
-    (line, is_script): (&str, bool),
-) -> Result<Option<usize>, AllocError> {
-    let mut input = stream_of_line(rt, alloc, line)?;
-    let mut lib = FnLib::new(alloc);
-    let state = ParseState::new(alloc, constants, &mut input, TokenizerControl, &mut lib);
-    let engine = Engine::new(alloc);
-    let answer = if is_script {
-        engine.parse_with(state, level, &Telling)
-    } else {
-        engine.parse_global_expr_with(state, |_settings| {}, level, &Telling)
-    };
-    match answer {
-        Ok(script) => Ok(Some(script.statements.len())),
-        Err(_) => Ok(None),
-    }
-}
-
-// The optimizer gets the constants and the level of the call, and the call has its answer.
-#[test]
-fn optimizers_are_plugged_in(rt: HostRuntime) -> Result<(), Fail> {
-    let alloc = rt.alloc();
-    let constants = Scope::new(alloc);
-    for (line, is_script, count) in [("1 ; 2", true, 2), ("1 + 2", false, 1)] {
-        let read = (line, is_script);
-        let kept = statements_left(
-            &rt,
-            alloc,
-            Some(&constants),
-            OptimizationLevel::Simple,
-            read,
-        )?;
-        let without = statements_left(&rt, alloc, None, OptimizationLevel::Simple, read)?;
-        let other = statements_left(&rt, alloc, Some(&constants), OptimizationLevel::None, read)?;
-        let full = statements_left(&rt, alloc, Some(&constants), OptimizationLevel::Full, read)?;
-        assert!(rt; (kept, without, other, full) == (Some(count), Some(0), Some(0), None));
     }
     Ok(())
+}
+
+#[test]
+fn parse_at_each_level_with_ample_memory(rt: HostRuntime) -> Result<(), Fail> {
+    Ok(parse_at_each_level(&rt, rt.alloc())?)
+}
+
+#[test]
+fn parse_at_each_level_refused(rt: HostRuntime) {
+    let _ = parse_at_each_level(&rt, rt.alloc());
 }

@@ -2,8 +2,9 @@
 //! 1, and the end mark at no position.
 
 use rhai_parser::{
-    AST, Engine, Entry, FnLib, LangOptions, OptimizationLevel, ParseResult, ParseSettingFlags,
-    ParseSettings, ParseState, Position, Token, TokenStream, TokenizerControl, nest_peak,
+    AST, Engine, Entry, FnLib, LangOptions, OptimizationLevel, ParseError, ParseErrorType,
+    ParseResult, ParseSettingFlags, ParseSettings, ParseState, Position, Scope, Token, TokenStream,
+    TokenizerControl, nest_peak,
 };
 use rhai_run::Refused;
 use std::alloc::{AllocError, Global};
@@ -181,7 +182,16 @@ impl Change {
     }
 }
 
-/// Compares an answer with what the program prints of it: `accepted`, or what stands after the word `refused`.
+/// What the program prints of an error after the word `refused`. Where memory ran out, so is the result.
+pub(crate) fn printed_refusal(alloc: Global, error: &ParseError) -> Result<String, AllocError> {
+    if error.0 == ParseErrorType::OutOfMemory {
+        return Err(AllocError);
+    }
+    format!(in alloc; "{}", Refused(error))
+}
+
+/// Compares an answer with what the program prints of it: `accepted`, or what stands after the word `refused`. Where
+/// memory ran out, the answer is want of memory, and so is the result.
 pub(crate) fn check<T: Drop>(
     rt: &impl Abort,
     alloc: Global,
@@ -190,7 +200,7 @@ pub(crate) fn check<T: Drop>(
 ) -> Result<(), AllocError> {
     let printed = match answer {
         Ok(_) => String::from_str(alloc, "accepted")?,
-        Err(error) => format!(in alloc; "{}", Refused(&error))?,
+        Err(error) => printed_refusal(alloc, &error)?,
     };
     assert!(rt;
         printed.as_str() == wanted,
@@ -199,19 +209,71 @@ pub(crate) fn check<T: Drop>(
     Ok(())
 }
 
-/// Wants this answer to a line that is one expression.
+/// How many tokens of a line were taken of a stream.
+pub(crate) fn tokens_taken(input: &mut TokenStream, line: &str) -> usize {
+    let mut taken = 0usize;
+    for _ in line.split(' ') {
+        let is_left = input.peek().0 != Token::EOF;
+        input.skip();
+        taken = taken.saturating_add(usize::from(!is_left));
+    }
+    taken
+}
+
+// Wants a library of so many functions to have kept them, and to have another one only if the whole line was taken: no
+// function ends before the end of its line in these tests.
+fn check_library(rt: &impl Abort, lib: &FnLib, before: usize, input: &mut TokenStream, line: &str) {
+    let is_whole = tokens_taken(input, line) == line.split(' ').count();
+    let more = lib.len().saturating_sub(before);
+    assert!(rt;
+        lib.len() >= before && more <= usize::from(is_whole),
+        "{line}"
+    );
+}
+
+/// Wants this answer to a line that is one expression, in this state, and its closure in the library only if it ended.
+pub(crate) fn test_expr_in(
+    rt: &impl Abort,
+    alloc: Global,
+    engine: &Engine,
+    change: Change,
+    constants: Option<&Scope>,
+    (line, wanted): (&str, &str),
+) -> Result<(), AllocError> {
+    let mut input = stream_of_line(rt, alloc, line)?;
+    let mut lib = FnLib::new(alloc);
+    let state = ParseState::new(alloc, constants, &mut input, TokenizerControl, &mut lib);
+    let settings = |settings: &mut ParseSettings| change.apply(settings);
+    let answer = engine.parse_global_expr(state, settings, OptimizationLevel::Full);
+    check_library(rt, &lib, 0, &mut input, line);
+    check(rt, alloc, answer, wanted)
+}
+
+/// Wants this answer to a line that is one expression, where the caller gives no constants.
 pub(crate) fn test_expr(
     rt: &impl Abort,
     alloc: Global,
     engine: &Engine,
     change: Change,
+    row: (&str, &str),
+) -> Result<(), AllocError> {
+    test_expr_in(rt, alloc, engine, change, None, row)
+}
+
+/// Wants this answer to a line that is a script, in this state, and its function in the library only if it ended.
+pub(crate) fn test_script_in(
+    rt: &impl Abort,
+    alloc: Global,
+    engine: &Engine,
+    change: Change,
+    state: &mut ParseState<'_, '_, '_>,
     (line, wanted): (&str, &str),
 ) -> Result<(), AllocError> {
-    let mut input = stream_of_line(rt, alloc, line)?;
-    let mut lib = FnLib::new(alloc);
-    let state = ParseState::new(alloc, None, &mut input, TokenizerControl, &mut lib);
+    *state.input = stream_of_line(rt, alloc, line)?;
+    let before = state.lib.len();
     let settings = |settings: &mut ParseSettings| change.apply(settings);
-    let answer = engine.parse_global_expr(state, settings, OptimizationLevel::None);
+    let answer = engine.parse_global_level(state, settings);
+    check_library(rt, state.lib, before, state.input, line);
     check(rt, alloc, answer, wanted)
 }
 
@@ -221,13 +283,11 @@ pub(crate) fn test_script(
     alloc: Global,
     engine: &Engine,
     change: Change,
-    (line, wanted): (&str, &str),
+    row: (&str, &str),
 ) -> Result<usize, AllocError> {
-    let mut input = stream_of_line(rt, alloc, line)?;
+    let mut input = stream_of(rt, Vec::new(alloc));
     let mut lib = FnLib::new(alloc);
     let mut state = ParseState::new(alloc, None, &mut input, TokenizerControl, &mut lib);
-    let settings = |settings: &mut ParseSettings| change.apply(settings);
-    let answer = engine.parse_global_level(&mut state, settings);
-    check(rt, alloc, answer, wanted)?;
+    test_script_in(rt, alloc, engine, change, &mut state, row)?;
     Ok(nest_peak(&state))
 }

@@ -1,0 +1,11 @@
+//! From the text of a script to its tree. A host names this crate alone: it gives out what is needed of those below.
+#![tactic(auto)]
+
+pub mod script;
+
+pub use rhai_parser::{
+    AST, Engine, FnLib, LangOptions, OptimizationLevel, Optimizer, ParseError, ParseErrorType,
+    ParseResult, Position, Scope, Unoptimized,
+};
+pub use rhai_tokenizer::limits::Limits;
+pub use script::{compile, compile_expression, compile_expression_with, compile_with};

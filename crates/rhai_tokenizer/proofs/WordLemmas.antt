@@ -1,0 +1,485 @@
+-- What the tables say of symbols and words is what they mean.
+use Rattle.std.proofs.Common.{◌≡◌, Bool, true, false, cond, List, [], ◌∷◌, map, Some, None, refl, sym, ap, ◌∙◌, true≢false, codes}
+use Rattle.std.proofs.lemmas.Bool.{or_parts, false_from_ne_true}
+use Rattle.std.specs.List.{list_all}
+use Rattle.rhai_lower.specs.Texts.{Text, same_text}
+use Rattle.rhai_lower.specs.Names.{is_one_of, is_identifier}
+use Rattle.rhai_lower.specs.Lexemes.{Lexeme, Name}
+use Rattle.rhai_lower.specs.Tokens.{literal_of}
+use Rattle.rhai_lower.specs.declared.token.Token.{Token}
+use Rattle.rhai_tokenizer.specs.declared.table.Meaning.{Meaning}
+use Rattle.rhai_tokenizer.specs.Cutting.{Table, lookup, symbol_table, word_table}
+use Rattle.rhai_tokenizer.specs.CuttingMeanings.{meaning_of}
+use Rattle.rhai_tokenizer.specs.Symbols.{keywords, reserved_words, signs, reserved_symbols, refused_symbols, improper, or_token, symbol_lexeme, word_lexeme}
+use Rattle.rhai_tokenizer.proofs.ByteLemmas.{same_is, same_refl, at_member}
+
+-- the entries mean what they say
+abbrev Right : (Text → Lexeme) → Table → Type 0
+Right f [] = Unit {0}
+Right f (e ∷ es) = (f e.0 ≡ meaning_of e.0 e.1) × Right f es
+
+words_right : Right word_lexeme word_table
+unfolding word_table keywords reserved_words
+words_right = (
+  refl,
+  (
+    refl,
+    (
+      refl,
+      (
+        refl,
+        (
+          refl,
+          (
+            refl,
+            (
+              refl,
+              (
+                refl,
+                (
+                  refl,
+                  (
+                    refl,
+                    (
+                      refl,
+                      (
+                        refl,
+                        (
+                          refl,
+                          (
+                            refl,
+                            (
+                              refl,
+                              (
+                                refl,
+                                (
+                                  refl,
+                                  (
+                                    refl,
+                                    (
+                                      refl,
+                                      (
+                                        refl,
+                                        (
+                                          refl,
+                                          (
+                                            refl,
+                                            (
+                                              refl,
+                                              (
+                                                refl,
+                                                (
+                                                  refl,
+                                                  (
+                                                    refl,
+                                                    (
+                                                      refl,
+                                                      (
+                                                        refl,
+                                                        (
+                                                          refl,
+                                                          (
+                                                            refl,
+                                                            (
+                                                              refl,
+                                                              (
+                                                                refl,
+                                                                (
+                                                                  refl,
+                                                                  (
+                                                                    refl,
+                                                                    (
+                                                                      refl,
+                                                                      (
+                                                                        refl,
+                                                                        (
+                                                                          refl,
+                                                                          (
+                                                                            refl,
+                                                                            (
+                                                                              refl,
+                                                                              (
+                                                                                refl,
+                                                                                (
+                                                                                  refl,
+                                                                                  (
+                                                                                    refl,
+                                                                                    (
+                                                                                      refl,
+                                                                                      (
+                                                                                        refl,
+                                                                                        (
+                                                                                          refl,
+                                                                                          (
+                                                                                            refl,
+                                                                                            (
+                                                                                              refl,
+                                                                                              (
+                                                                                                refl,
+                                                                                                (
+                                                                                                  refl,
+                                                                                                  (
+                                                                                                    refl,
+                                                                                                    (
+                                                                                                      refl,
+                                                                                                      (
+                                                                                                        refl,
+                                                                                                        (
+                                                                                                          refl,
+                                                                                                          (
+                                                                                                            refl,
+                                                                                                            (
+                                                                                                              refl,
+                                                                                                              (
+                                                                                                                refl,
+                                                                                                                (
+                                                                                                                  refl,
+                                                                                                                  (
+                                                                                                                    refl,
+                                                                                                                    (
+                                                                                                                      refl,
+                                                                                                                      (
+                                                                                                                        refl,
+                                                                                                                        (
+                                                                                                                          refl,
+                                                                                                                          (
+                                                                                                                            refl,
+                                                                                                                            (refl, tt),
+                                                                                                                          ),
+                                                                                                                        ),
+                                                                                                                      ),
+                                                                                                                    ),
+                                                                                                                  ),
+                                                                                                                ),
+                                                                                                              ),
+                                                                                                            ),
+                                                                                                          ),
+                                                                                                        ),
+                                                                                                      ),
+                                                                                                    ),
+                                                                                                  ),
+                                                                                                ),
+                                                                                              ),
+                                                                                            ),
+                                                                                          ),
+                                                                                        ),
+                                                                                      ),
+                                                                                    ),
+                                                                                  ),
+                                                                                ),
+                                                                              ),
+                                                                            ),
+                                                                          ),
+                                                                        ),
+                                                                      ),
+                                                                    ),
+                                                                  ),
+                                                                ),
+                                                              ),
+                                                            ),
+                                                          ),
+                                                        ),
+                                                      ),
+                                                    ),
+                                                  ),
+                                                ),
+                                              ),
+                                            ),
+                                          ),
+                                        ),
+                                      ),
+                                    ),
+                                  ),
+                                ),
+                              ),
+                            ),
+                          ),
+                        ),
+                      ),
+                    ),
+                  ),
+                ),
+              ),
+            ),
+          ),
+        ),
+      ),
+    ),
+  ),
+)
+
+symbols_right : Right symbol_lexeme symbol_table
+unfolding symbol_table signs reserved_symbols refused_symbols
+symbols_right = (
+  refl,
+  (
+    refl,
+    (
+      refl,
+      (
+        refl,
+        (
+          refl,
+          (
+            refl,
+            (
+              refl,
+              (
+                refl,
+                (
+                  refl,
+                  (
+                    refl,
+                    (
+                      refl,
+                      (
+                        refl,
+                        (
+                          refl,
+                          (
+                            refl,
+                            (
+                              refl,
+                              (
+                                refl,
+                                (
+                                  refl,
+                                  (
+                                    refl,
+                                    (
+                                      refl,
+                                      (
+                                        refl,
+                                        (
+                                          refl,
+                                          (
+                                            refl,
+                                            (
+                                              refl,
+                                              (
+                                                refl,
+                                                (
+                                                  refl,
+                                                  (
+                                                    refl,
+                                                    (
+                                                      refl,
+                                                      (
+                                                        refl,
+                                                        (
+                                                          refl,
+                                                          (
+                                                            refl,
+                                                            (
+                                                              refl,
+                                                              (
+                                                                refl,
+                                                                (
+                                                                  refl,
+                                                                  (
+                                                                    refl,
+                                                                    (
+                                                                      refl,
+                                                                      (
+                                                                        refl,
+                                                                        (
+                                                                          refl,
+                                                                          (
+                                                                            refl,
+                                                                            (
+                                                                              refl,
+                                                                              (
+                                                                                refl,
+                                                                                (
+                                                                                  refl,
+                                                                                  (
+                                                                                    refl,
+                                                                                    (
+                                                                                      refl,
+                                                                                      (
+                                                                                        refl,
+                                                                                        (
+                                                                                          refl,
+                                                                                          (
+                                                                                            refl,
+                                                                                            (
+                                                                                              refl,
+                                                                                              (
+                                                                                                refl,
+                                                                                                (
+                                                                                                  refl,
+                                                                                                  (
+                                                                                                    refl,
+                                                                                                    (
+                                                                                                      refl,
+                                                                                                      (
+                                                                                                        refl,
+                                                                                                        (
+                                                                                                          refl,
+                                                                                                          (
+                                                                                                            refl,
+                                                                                                            (
+                                                                                                              refl,
+                                                                                                              (
+                                                                                                                refl,
+                                                                                                                (
+                                                                                                                  refl,
+                                                                                                                  (
+                                                                                                                    refl,
+                                                                                                                    (
+                                                                                                                      refl,
+                                                                                                                      (
+                                                                                                                        refl,
+                                                                                                                        (
+                                                                                                                          refl,
+                                                                                                                          (
+                                                                                                                            refl,
+                                                                                                                            (
+                                                                                                                              refl,
+                                                                                                                              (
+                                                                                                                                refl,
+                                                                                                                                (
+                                                                                                                                  refl,
+                                                                                                                                  (
+                                                                                                                                    refl,
+                                                                                                                                    (
+                                                                                                                                      refl,
+                                                                                                                                      (
+                                                                                                                                        refl,
+                                                                                                                                        (
+                                                                                                                                          refl,
+                                                                                                                                          (refl, (refl, (refl, (refl, tt)))),
+                                                                                                                                        ),
+                                                                                                                                      ),
+                                                                                                                                    ),
+                                                                                                                                  ),
+                                                                                                                                ),
+                                                                                                                              ),
+                                                                                                                            ),
+                                                                                                                          ),
+                                                                                                                        ),
+                                                                                                                      ),
+                                                                                                                    ),
+                                                                                                                  ),
+                                                                                                                ),
+                                                                                                              ),
+                                                                                                            ),
+                                                                                                          ),
+                                                                                                        ),
+                                                                                                      ),
+                                                                                                    ),
+                                                                                                  ),
+                                                                                                ),
+                                                                                              ),
+                                                                                            ),
+                                                                                          ),
+                                                                                        ),
+                                                                                      ),
+                                                                                    ),
+                                                                                  ),
+                                                                                ),
+                                                                              ),
+                                                                            ),
+                                                                          ),
+                                                                        ),
+                                                                      ),
+                                                                    ),
+                                                                  ),
+                                                                ),
+                                                              ),
+                                                            ),
+                                                          ),
+                                                        ),
+                                                      ),
+                                                    ),
+                                                  ),
+                                                ),
+                                              ),
+                                            ),
+                                          ),
+                                        ),
+                                      ),
+                                    ),
+                                  ),
+                                ),
+                              ),
+                            ),
+                          ),
+                        ),
+                      ),
+                    ),
+                  ),
+                ),
+              ),
+            ),
+          ),
+        ),
+      ),
+    ),
+  ),
+)
+
+found_right : (f : Text → Lexeme) (xs : Table) (t : Text) (m : Meaning) → Right f xs → lookup xs t ≡ Some m → f t
+    ≡ meaning_of t m
+found_right f [] t m r h = absurd cc
+found_right f (e ∷ es) t m (here, more) h = by (same_text e.0 t) refl h (found_right f es t m more)
+  where
+    by : (b : Bool) → same_text e.0 t ≡ b → cond b (Some e.1) (lookup es t) ≡ Some m
+        → (lookup es t ≡ Some m → f t ≡ meaning_of t m) → f t ≡ meaning_of t m
+    by true g h ih =
+        let same : e.0 ≡ t = same_is e.0 t g in
+        let is : e.1 ≡ m = cc in
+        ap f (sym same) ∙ (here ∙ (ap (λ x. meaning_of x e.1) same ∙ ap (meaning_of t) is))
+    by false g h ih = ih h
+
+pub word_right : (t : Text) (m : Meaning) → lookup word_table t ≡ Some m → word_lexeme t ≡ meaning_of t m
+word_right t m h = found_right word_lexeme word_table t m words_right h
+
+pub symbol_right : (t : Text) (m : Meaning) → lookup symbol_table t ≡ Some m → symbol_lexeme t ≡ meaning_of t m
+symbol_right t m h = found_right symbol_lexeme symbol_table t m symbols_right h
+
+-- ---- other words
+
+same_turned : (a b : Text) → same_text a b ≡ true → same_text b a ≡ true
+same_turned a b h = ap (λ x. same_text x a) (sym (same_is a b h)) ∙ same_refl a
+
+not_there : (xs : Table) (t : Text) → lookup xs t ≡ None → is_one_of (map (λ e. e.0) xs) t ≡ false
+not_there [] t h = refl
+not_there (e ∷ es) t h = by (same_text e.0 t) refl h (not_there es t)
+  where
+    by : (b : Bool) → same_text e.0 t ≡ b → cond b (Some e.1) (lookup es t) ≡ None
+        → (lookup es t ≡ None → is_one_of (map (λ e. e.0) es) t ≡ false) → is_one_of (map (λ e. e.0) (e ∷ es)) t ≡ false
+    by true g h ih = absurd cc
+    by false g h ih =
+        let other : same_text t e.0 ≡ false = false_from_ne_true (same_text t e.0)
+        (λ k. true≢false (sym (same_turned t e.0 k) ∙ g)) in
+        rw other (ih h)
+
+word_texts : List Text
+word_texts = map (λ e. e.0) word_table
+
+keywords_there : list_all (is_one_of word_texts) (map literal_of keywords) ≡ true
+unfolding word_texts word_table keywords
+keywords_there = refl
+
+reserved_there : list_all (is_one_of word_texts) reserved_words ≡ true
+unfolding word_texts word_table reserved_words
+reserved_there = refl
+
+outside : (ts us : List Text) (t : Text) → list_all (is_one_of us) ts ≡ true → is_one_of us t ≡ false → is_one_of ts t
+    ≡ false
+outside ts us t h no_one = false_from_ne_true (is_one_of ts t)
+    (λ e. true≢false (sym (at_member (is_one_of us) ts t e h) ∙ no_one))
+
+no_token : (ks : List Token) (t : Text) (l : Lexeme) → is_one_of (map literal_of ks) t ≡ false → or_token ks t l ≡ l
+no_token [] t l h = refl
+no_token (k ∷ ks) t l h = let (here, more) = or_parts (same_text t (literal_of k)) (is_one_of (map literal_of ks) t)
+    h in rw here (no_token ks t l more)
+
+pub word_other : (t : Text) → lookup word_table t ≡ None → word_lexeme t
+    ≡ cond (is_identifier t) (Name t) (improper t (codes "not a valid name"))
+unfolding word_texts
+word_other t h =
+    let none = not_there word_table t h in
+    let reserved : is_one_of reserved_words t ≡ false = outside reserved_words word_texts t reserved_there none in
+    no_token keywords t _ (outside (map literal_of keywords) word_texts t keywords_there none) ∙ rw reserved refl

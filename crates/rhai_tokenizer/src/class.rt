@@ -1,0 +1,119 @@
+//! Classes of bytes: what begins with a byte, and what goes on with it.
+
+ghost use Rattle.std.specs.Prelude.{◌≡◌, ◌≤◌};
+ghost use Rattle.std.specs.Char.{digit_value};
+ghost use Rattle.rhai_tokenizer.specs.Bytes.{base_of, is_digit_after};
+ghost use Rattle.rhai_tokenizer.specs.Cutting as spec;
+
+/// What begins with a byte.
+#[derive(Clone, Copy)]
+pub enum First {
+    /// A word.
+    Letter,
+    /// An integer.
+    Digit,
+    /// White space.
+    Space,
+    /// White space, or a character that begins no token.
+    Far,
+    /// A string.
+    Quote,
+    /// A back-ticked string.
+    Tick,
+    /// A character.
+    Apostrophe,
+    /// A comment, or a symbol.
+    Slash,
+    /// `!in`, or another symbol.
+    Bang,
+    /// An integer with its sign, or a symbol.
+    Minus,
+    /// A raw string, or a symbol.
+    Hash,
+    /// A symbol, or a character that begins no token.
+    Other,
+}
+
+/// What begins with this byte.
+pub fn first_class(byte: u8) -> First
+    ensures { result ≡ spec.first_class byte }
+{
+    match byte {
+        b'a'..=b'z' | b'A'..=b'Z' | b'_' => First::Letter,
+        b'0'..=b'9' => First::Digit,
+        b' ' | 9..=13 => First::Space,
+        128..=255 => First::Far,
+        b'"' => First::Quote,
+        b'`' => First::Tick,
+        b'\'' => First::Apostrophe,
+        b'/' => First::Slash,
+        b'!' => First::Bang,
+        b'-' => First::Minus,
+        b'#' => First::Hash,
+        _ => First::Other,
+    }
+}
+
+/// Bytes of one kind, as a piece goes on with them.
+#[derive(Clone, Copy)]
+pub enum Class {
+    Word,
+    Digit,
+    Figure,
+    Line,
+    Continuation,
+    Hexadecimal,
+    Hash,
+}
+
+/// Whether a byte is of the class.
+pub fn is_in(class: Class, b: u8) -> bool
+    ensures { result ≡ spec.is_in class b }
+{
+    match class {
+        Class::Word => b.is_ascii_alphanumeric() || b == b'_',
+        Class::Digit => b.is_ascii_digit(),
+        Class::Figure => b.is_ascii_digit() || b == b'_',
+        Class::Line => !(b == b'\n'),
+        Class::Continuation => 128 <= b && b < 192,
+        Class::Hexadecimal => b.is_ascii_hexdigit(),
+        Class::Hash => b == b'#',
+    }
+}
+
+/// The base of an integer that begins with `0` and this byte, or 0.
+pub fn base_of(marker: u8) -> u8
+    ensures value { result ≡ base_of marker }
+    ensures within { result ≤ 16 }
+{
+    match marker {
+        b'x' | b'X' => 16,
+        b'o' | b'O' => 8,
+        b'b' | b'B' => 2,
+        _ => 0,
+    }
+}
+
+/// Whether an integer with this marker goes on with a byte.
+pub fn is_digit_after(marker: u8, b: u8) -> bool
+    ensures { result ≡ is_digit_after marker b }
+{
+    (if base_of(marker) == 16 {
+        b.is_ascii_hexdigit()
+    } else {
+        b.is_ascii_digit()
+    }) || b == b'_'
+}
+
+/// The value of a digit, or 36.
+pub fn digit(b: u8) -> u8
+    ensures value { result ≡ digit_value b }
+    ensures within { result ≤ 36 }
+{
+    match b {
+        b'0'..=b'9' => b - b'0',
+        b'A'..=b'Z' => b - b'A' + 10,
+        b'a'..=b'z' => b - b'a' + 10,
+        _ => 36,
+    }
+}
