@@ -1,7 +1,6 @@
 -- What a text is as a script, and as one expression, where nothing was parsed before.
 use Rattle.std.specs.Prelude.{[], Result}
 use Rattle.rhai_lower.specs.Texts.{Text}
-use Rattle.rhai_lower.specs.Nodes.{expression, no_statements, one_statement}
 use Rattle.rhai_lower.specs.declared.ast.AST.{AST}
 use Rattle.rhai_lower.specs.declared.optimizer.OptimizationLevel.{OptimizationLevel}
 use Rattle.rhai_grammar.specs.Contexts.{Context, nothing_live}

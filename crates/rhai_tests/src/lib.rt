@@ -23,6 +23,7 @@ mod modules;
 mod nesting;
 #[cfg(test)]
 mod optimizing;
+#[cfg(test)]
 mod plugged;
 #[cfg(test)]
 mod random_scripts;
