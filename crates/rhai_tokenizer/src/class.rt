@@ -35,6 +35,7 @@ pub enum First {
 }
 
 /// What begins with this byte.
+#[inline(always)]
 pub fn first_class(byte: u8) -> First
     ensures { result ≡ spec.first_class byte }
 {
@@ -67,6 +68,7 @@ pub enum Class {
 }
 
 /// Whether a byte is of the class.
+#[inline(always)]
 pub fn is_in(class: Class, b: u8) -> bool
     ensures { result ≡ spec.is_in class b }
 {
