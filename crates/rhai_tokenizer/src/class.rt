@@ -1,6 +1,7 @@
 //! Classes of bytes: what begins with a byte, and what goes on with it.
 
-ghost use Rattle.std.specs.Prelude.{◌≡◌, ◌≤◌};
+ghost use Rattle.std.specs.Prelude.{◌≡◌, ◌≤◌, length};
+ghost use Rattle.rhai_lower.specs.Names.{is_word};
 ghost use Rattle.std.specs.Char.{digit_value};
 ghost use Rattle.rhai_tokenizer.specs.Bytes.{base_of, is_digit_after};
 ghost use Rattle.rhai_tokenizer.specs.Cutting as spec;
@@ -67,13 +68,40 @@ pub enum Class {
     Hash,
 }
 
+// For each byte, 1 if a word goes on with it.
+static WORD_BYTES: [u8; 256] = [
+    0, 0, 0, 0, 0, 0, 0, 0, 0, 0, 0, 0, 0, 0, 0, 0, 0, 0, 0, 0, 0, 0, 0, 0, 0, 0, 0, 0, 0, 0, 0, 0,
+    0, 0, 0, 0, 0, 0, 0, 0, 0, 0, 0, 0, 0, 0, 0, 0, 1, 1, 1, 1, 1, 1, 1, 1, 1, 1, 0, 0, 0, 0, 0, 0,
+    0, 1, 1, 1, 1, 1, 1, 1, 1, 1, 1, 1, 1, 1, 1, 1, 1, 1, 1, 1, 1, 1, 1, 1, 1, 1, 1, 0, 0, 0, 0, 1,
+    0, 1, 1, 1, 1, 1, 1, 1, 1, 1, 1, 1, 1, 1, 1, 1, 1, 1, 1, 1, 1, 1, 1, 1, 1, 1, 1, 0, 0, 0, 0, 0,
+    0, 0, 0, 0, 0, 0, 0, 0, 0, 0, 0, 0, 0, 0, 0, 0, 0, 0, 0, 0, 0, 0, 0, 0, 0, 0, 0, 0, 0, 0, 0, 0,
+    0, 0, 0, 0, 0, 0, 0, 0, 0, 0, 0, 0, 0, 0, 0, 0, 0, 0, 0, 0, 0, 0, 0, 0, 0, 0, 0, 0, 0, 0, 0, 0,
+    0, 0, 0, 0, 0, 0, 0, 0, 0, 0, 0, 0, 0, 0, 0, 0, 0, 0, 0, 0, 0, 0, 0, 0, 0, 0, 0, 0, 0, 0, 0, 0,
+    0, 0, 0, 0, 0, 0, 0, 0, 0, 0, 0, 0, 0, 0, 0, 0, 0, 0, 0, 0, 0, 0, 0, 0, 0, 0, 0, 0, 0, 0, 0, 0,
+];
+
+fn word_bytes() -> &'static [u8]
+    ensures value { result.now ≡ WORD_BYTES }
+    ensures len { length result.now ≡ 256 }
+{
+    &WORD_BYTES
+}
+
+// Whether a word goes on with a byte.
+#[inline(always)]
+fn is_word(b: u8) -> bool
+    ensures { result ≡ is_word b }
+{
+    word_bytes()[b as usize] == 1
+}
+
 /// Whether a byte is of the class.
 #[inline(always)]
 pub fn is_in(class: Class, b: u8) -> bool
     ensures { result ≡ spec.is_in class b }
 {
     match class {
-        Class::Word => b.is_ascii_alphanumeric() || b == b'_',
+        Class::Word => is_word(b),
         Class::Digit => b.is_ascii_digit(),
         Class::Figure => b.is_ascii_digit() || b == b'_',
         Class::Line => !(b == b'\n'),

@@ -1,4 +1,4 @@
-//! `Interner`: names, of which equal ones are made once.
+//! `Interner`: names and values of strings, of which equal ones are made once.
 
 ghost use Rattle.std.specs.Prelude.{◌≡◌, IfOk};
 ghost use Rattle.std.specs.Rc.{rc_str_bytes};
@@ -7,7 +7,7 @@ use std::alloc::{AllocError, Global};
 use std::collections::HashSet;
 use std::rc::RcStr;
 
-/// The names of a text, each made once.
+/// The names and the values of strings of a text, each made once.
 #[derive(Drop)]
 pub struct Interner {
     names: HashSet<RcStr>,

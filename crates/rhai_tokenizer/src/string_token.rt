@@ -11,6 +11,7 @@ ghost use Rattle.rhai_tokenizer.specs.StringTurns.{fault_of};
 ghost use Rattle.rhai_tokenizer.specs.Turns.{quoted_of};
 
 use crate::character::character_token;
+use crate::interner::Interner;
 use crate::limits::Limits;
 use crate::place::Place;
 use crate::special::Style;
@@ -27,29 +28,40 @@ fn is_too_long(limits: Limits, value: &str) -> bool
 }
 
 /// The token of a string of this value. Returns `AllocError` if memory runs out.
-pub fn string_token(alloc: Global, limits: Limits, value: &str) -> Result<Token, AllocError>
+pub fn string_token(
+    alloc: Global,
+    names: &mut Interner,
+    limits: Limits,
+    value: &str,
+) -> Result<Token, AllocError>
     ensures value { IfOk result (λ t. lexeme t ≡ within limits String value.now) }
     ensures delivered { IfOk result (λ t. token_may_be_delivered t ≡ true) }
 {
     if is_too_long(limits, value) {
         return Ok(Token::LexError(LexError::StringTooLong(limits.max_string_size)));
     }
-    Ok(Token::StringConstant(RcStr::from_str(alloc, value)?))
+    Ok(Token::StringConstant(names.name(alloc, value)?))
 }
 
-fn interpolated_token(alloc: Global, limits: Limits, value: &str) -> Result<Token, AllocError>
+fn interpolated_token(
+    alloc: Global,
+    names: &mut Interner,
+    limits: Limits,
+    value: &str,
+) -> Result<Token, AllocError>
     ensures value { IfOk result (λ t. lexeme t ≡ within limits Interpolated value.now) }
     ensures delivered { IfOk result (λ t. token_may_be_delivered t ≡ true) }
 {
     if is_too_long(limits, value) {
         return Ok(Token::LexError(LexError::StringTooLong(limits.max_string_size)));
     }
-    Ok(Token::InterpolatedString(RcStr::from_str(alloc, value)?))
+    Ok(Token::InterpolatedString(names.name(alloc, value)?))
 }
 
 /// The token of a part of a back-ticked string. Returns `AllocError` if memory runs out.
 pub fn ticked_token(
     alloc: Global,
+    names: &mut Interner,
     limits: Limits,
     value: &str,
     ending: Ending,
@@ -58,8 +70,8 @@ pub fn ticked_token(
     ensures delivered { IfOk result (λ t. token_may_be_delivered t ≡ true) }
 {
     match ending {
-        Ending::Closed => string_token(alloc, limits, value),
-        Ending::Interpolates => interpolated_token(alloc, limits, value),
+        Ending::Closed => string_token(alloc, names, limits, value),
+        Ending::Interpolates => interpolated_token(alloc, names, limits, value),
         Ending::Unended => Ok(Token::LexError(LexError::UnterminatedString)),
     }
 }
@@ -67,6 +79,7 @@ pub fn ticked_token(
 // The token of a string or a character without wrong escapes.
 fn quoted_token(
     alloc: Global,
+    names: &mut Interner,
     limits: Limits,
     style: Style,
     value: &str,
@@ -78,7 +91,7 @@ fn quoted_token(
     match style {
         Style::Apostrophe => character_token(alloc, value, ending),
         _ => match ending {
-            Ending::Closed => string_token(alloc, limits, value),
+            Ending::Closed => string_token(alloc, names, limits, value),
             Ending::Unended | Ending::Interpolates => {
                 Ok(Token::LexError(LexError::UnterminatedString))
             }
@@ -98,6 +111,7 @@ fn wrong_escape(alloc: Global, text: RcStr) -> Result<Token, AllocError>
 /// The token of a string or a character, and where it stands. Returns `AllocError` if memory runs out.
 pub fn faulty_or(
     alloc: Global,
+    names: &mut Interner,
     limits: Limits,
     style: Style,
     place: Place,
@@ -111,6 +125,9 @@ pub fn faulty_or(
 {
     match fault {
         Some(Fault { text, place }) => Ok((wrong_escape(alloc, text)?, place)),
-        None => Ok((quoted_token(alloc, limits, style, value, ending)?, place)),
+        None => Ok((
+            quoted_token(alloc, names, limits, style, value, ending)?,
+            place,
+        )),
     }
 }
