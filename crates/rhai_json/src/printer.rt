@@ -1,0 +1,269 @@
+//! `Printer`: a tree, written without recursion. A chain and a run of operators nest as deep as they are long, so what
+//! is still to be written is kept in a list.
+
+use crate::cases::put_indices;
+use crate::expr::{expr_kind, put_expr_fields};
+use crate::fields::{begin_node, put_ident, put_position};
+use crate::out::Out;
+use crate::stmt::{put_statement_fields, statement_kind};
+use rhai_lower::{
+    BinaryExpr, Expr, FlowControl, Ident, LoopControl, Stmt, StmtBlock, SwitchCase,
+    SwitchCasesCollection,
+};
+use std::alloc::{AllocError, Global};
+
+/// A part that is still to be written. Of a list these are the items that are left, and its end.
+#[derive(Clone, Copy)]
+pub enum Part<'a> {
+    Expr(&'a Expr),
+    Exprs(&'a [Expr]),
+    Properties(&'a [(Ident, Expr)]),
+    Stmts(&'a [Stmt]),
+    Block(&'a StmtBlock),
+    Arms(&'a [BinaryExpr]),
+    Cases(&'a [SwitchCase]),
+    /// The key of what comes next.
+    Key(&'static str),
+    /// The key of a list that comes next, and its beginning.
+    List(&'static str),
+    EndObject,
+    Null,
+}
+
+/// What was written so far, and what is still to be written: the part that comes next is the last one.
+#[derive(Drop)]
+pub struct Printer<'a> {
+    pub out: Out,
+    left: Vec<Part<'a>>,
+}
+
+impl<'a> Printer<'a> {
+    /// Goes on after what was written. Does not allocate.
+    pub fn new(alloc: Global, out: Out) -> Self {
+        Printer {
+            out,
+            left: Vec::new(alloc),
+        }
+    }
+
+    /// The text that was written.
+    pub fn into_text(self) -> String {
+        let Printer { out, left: _ } = self;
+        out.into_text()
+    }
+
+    fn push(&mut self, part: Part<'a>) -> Result<(), AllocError> {
+        self.left.push(part)?;
+        Ok(())
+    }
+
+    // A part and its key.
+    fn push_member(&mut self, key: &'static str, part: Part<'a>) -> Result<(), AllocError> {
+        self.push(part)?;
+        self.push(Part::Key(key))
+    }
+
+    fn push_list(&mut self, key: &'static str, part: Part<'a>) -> Result<(), AllocError> {
+        self.push(part)?;
+        self.push(Part::List(key))
+    }
+
+    fn push_pair(&mut self, pair: &'a BinaryExpr) -> Result<(), AllocError> {
+        self.push_member("rhs", Part::Expr(&pair.rhs))?;
+        self.push_member("lhs", Part::Expr(&pair.lhs))
+    }
+
+    fn push_flow(&mut self, flow: &'a FlowControl) -> Result<(), AllocError> {
+        self.push_member("branch", Part::Block(&flow.branch))?;
+        self.push_member("body", Part::Block(&flow.body))?;
+        self.push_member("expr", Part::Expr(&flow.expr))
+    }
+
+    // The guard or the value of a loop, and its body.
+    fn push_loop(&mut self, expr: &'a Expr, body: &'a StmtBlock) -> Result<(), AllocError> {
+        self.push_member("body", Part::Block(body))?;
+        self.push_member("expr", Part::Expr(expr))
+    }
+
+    fn push_guarded(&mut self, control: &'a LoopControl) -> Result<(), AllocError> {
+        self.push_loop(&control.expr, &control.body)
+    }
+
+    fn push_switch(
+        &mut self,
+        item: &'a Expr,
+        cases: &'a SwitchCasesCollection,
+    ) -> Result<(), AllocError> {
+        self.push_list("cases", Part::Cases(&cases.cases))?;
+        self.push_list("expressions", Part::Arms(&cases.expressions))?;
+        self.push_member("item", Part::Expr(item))
+    }
+
+    // The value of `return` or `break`, or null.
+    fn push_value(&mut self, value: &'a Option<Box<Expr>>) -> Result<(), AllocError> {
+        match value {
+            Some(value) => self.push_member("value", Part::Expr(value)),
+            None => self.push_member("value", Part::Null),
+        }
+    }
+
+    // What stands in an expression.
+    fn push_parts(&mut self, expr: &'a Expr) -> Result<(), AllocError> {
+        match expr {
+            Expr::InterpolatedString(parts, _) => self.push_list("parts", Part::Exprs(parts)),
+            Expr::Array(items, _) => self.push_list("items", Part::Exprs(items)),
+            Expr::And(list, _) | Expr::Or(list, _) | Expr::Coalesce(list, _) => {
+                self.push_list("operands", Part::Exprs(list))
+            }
+            Expr::Map(properties, _) => {
+                self.push_list("properties", Part::Properties(properties))
+            }
+            Expr::FnCall(call, _) | Expr::MethodCall(call, _) => {
+                self.push_list("args", Part::Exprs(&call.args))
+            }
+            Expr::Dot(pair, _, _) | Expr::Index(pair, _, _) => self.push_pair(pair),
+            Expr::Stmt(block) => self.push_member("block", Part::Block(block)),
+            Expr::Unit(_)
+            | Expr::BoolConstant(_, _)
+            | Expr::IntegerConstant(_, _)
+            | Expr::CharConstant(_, _)
+            | Expr::StringConstant(_, _)
+            | Expr::FnPointer(_, _, _)
+            | Expr::Variable(_, _)
+            | Expr::ThisPtr(_)
+            | Expr::Property(_, _) => Ok(()),
+        }
+    }
+
+    // What stands in a statement.
+    fn push_statement_parts(&mut self, statement: &'a Stmt) -> Result<(), AllocError> {
+        match statement {
+            Stmt::If(flow, _) | Stmt::TryCatch(flow, _) => self.push_flow(flow),
+            Stmt::Switch { item, cases, .. } => self.push_switch(item, cases),
+            Stmt::While(control, _) | Stmt::Do { control, .. } => self.push_guarded(control),
+            Stmt::For(control, _) => self.push_loop(&control.expr, &control.body),
+            Stmt::Var { value, .. } => self.push_member("value", Part::Expr(value)),
+            Stmt::Assignment { operands, .. } => self.push_pair(operands),
+            Stmt::Expr(expr) => self.push_member("expr", Part::Expr(expr)),
+            Stmt::Block(block) => self.push_member("block", Part::Block(block)),
+            Stmt::BreakLoop { value, .. } | Stmt::Return { value, .. } => self.push_value(value),
+            Stmt::Import { path, .. } => self.push_member("path", Part::Expr(path)),
+            Stmt::Noop(_) | Stmt::Export { .. } | Stmt::Share(_, _) => Ok(()),
+        }
+    }
+
+    fn put_expr(&mut self, expr: &'a Expr) -> Result<(), AllocError> {
+        begin_node(&mut self.out, expr_kind(expr), expr.position())?;
+        put_expr_fields(&mut self.out, expr)?;
+        self.push(Part::EndObject)?;
+        self.push_parts(expr)
+    }
+
+    fn put_statement(&mut self, statement: &'a Stmt) -> Result<(), AllocError> {
+        begin_node(
+            &mut self.out,
+            statement_kind(statement),
+            statement.position(),
+        )?;
+        put_statement_fields(&mut self.out, statement)?;
+        self.push(Part::EndObject)?;
+        self.push_statement_parts(statement)
+    }
+
+    fn put_block(&mut self, block: &'a StmtBlock) -> Result<(), AllocError> {
+        self.out.begin_object()?;
+        put_position(&mut self.out, "start", block.start)?;
+        put_position(&mut self.out, "end", block.end)?;
+        self.push(Part::EndObject)?;
+        self.push_list("statements", Part::Stmts(&block.statements))
+    }
+
+    fn put_exprs(&mut self, list: &'a [Expr]) -> Result<(), AllocError> {
+        match list.split_first() {
+            None => self.out.end_array(),
+            Some((first, others)) => {
+                self.push(Part::Exprs(others))?;
+                self.put_expr(first)
+            }
+        }
+    }
+
+    fn put_statements(&mut self, list: &'a [Stmt]) -> Result<(), AllocError> {
+        match list.split_first() {
+            None => self.out.end_array(),
+            Some((first, others)) => {
+                self.push(Part::Stmts(others))?;
+                self.put_statement(first)
+            }
+        }
+    }
+
+    fn put_properties(&mut self, list: &'a [(Ident, Expr)]) -> Result<(), AllocError> {
+        match list.split_first() {
+            None => self.out.end_array(),
+            Some((first, others)) => {
+                self.push(Part::Properties(others))?;
+                self.out.begin_object()?;
+                put_ident(&mut self.out, &first.0)?;
+                self.push(Part::EndObject)?;
+                self.push_member("value", Part::Expr(&first.1))
+            }
+        }
+    }
+
+    fn put_arms(&mut self, list: &'a [BinaryExpr]) -> Result<(), AllocError> {
+        match list.split_first() {
+            None => self.out.end_array(),
+            Some((first, others)) => {
+                self.push(Part::Arms(others))?;
+                self.out.begin_object()?;
+                self.push(Part::EndObject)?;
+                self.push_pair(first)
+            }
+        }
+    }
+
+    fn put_cases(&mut self, list: &'a [SwitchCase]) -> Result<(), AllocError> {
+        match list.split_first() {
+            None => self.out.end_array(),
+            Some((first, others)) => {
+                self.push(Part::Cases(others))?;
+                self.out.begin_object()?;
+                put_indices(&mut self.out, first)?;
+                self.push(Part::EndObject)?;
+                self.push_member("value", Part::Expr(&first.value))
+            }
+        }
+    }
+
+    fn put_list_start(&mut self, key: &'static str) -> Result<(), AllocError> {
+        self.out.key(key)?;
+        self.out.begin_array()
+    }
+
+    // Writes the front of a part; what stands behind it comes next.
+    fn put_part(&mut self, part: Part<'a>) -> Result<(), AllocError> {
+        match part {
+            Part::Expr(expr) => self.put_expr(expr),
+            Part::Exprs(list) => self.put_exprs(list),
+            Part::Properties(list) => self.put_properties(list),
+            Part::Stmts(list) => self.put_statements(list),
+            Part::Block(block) => self.put_block(block),
+            Part::Arms(list) => self.put_arms(list),
+            Part::Cases(list) => self.put_cases(list),
+            Part::Key(key) => self.out.key(key),
+            Part::List(key) => self.put_list_start(key),
+            Part::EndObject => self.out.end_object(),
+            Part::Null => self.out.null(),
+        }
+    }
+
+    /// Writes a part of a tree, with all that stands in it.
+    pub fn put(&mut self, part: Part<'a>) -> Result<(), AllocError> {
+        self.push(part)?;
+        while let Some(part) = self.left.pop() {
+            self.put_part(part)?;
+        }
+        Ok(())
+    }
+}
