@@ -13,3 +13,5 @@ pub mod RequestCodes
 pub mod Entries
 pub mod View
 pub mod Optimizer
+pub mod Walks
+pub mod WalkState

@@ -14,6 +14,7 @@ pub mod position;
 pub mod scope;
 pub mod stream;
 pub mod token;
+pub mod walk;
 
 pub use ast::{
     AST, BinaryExpr, Expr, FlowControl, FnCallExpr, ForLoop, Ident, LoopControl, Namespace,
@@ -30,3 +31,4 @@ pub use position::Position;
 pub use scope::Scope;
 pub use stream::{Entry, TokenStream};
 pub use token::{LexError, Token};
+pub use walk::{Node, Walk};
