@@ -1,11 +1,12 @@
 -- One part more, and the first node less, in what a walk has still to give.
-use Rattle.std.proofs.Common.{◌≡◌, ◌∙◌, List, [], ◌∷◌, ◌++◌, IsOk, OnOk, Option, Result, Ok, Err, ap, append_assoc, refl, reverse, sym}
+use Rattle.std.proofs.Common.{◌≡◌, ◌∙◌, ℕ, Bool, true, false, List, [], ◌∷◌, ◌++◌, IsOk, OnOk, Option, Some, None, Result, Ok, Err, ap, append_assoc, inl, inr, refl, reverse, subst, sym}
 use Rattle.std.proofs.lemmas.List.{append-nil, reverse-append}
 use Rattle.std.specs.List.{flat_map}
 use Rattle.std.specs.declared.alloc.AllocError.{AllocError}
-use Rattle.rhai_lower.specs.WalkState.{optional_part_walk, part_walk, pending_walk}
-use Rattle.rhai_lower.specs.Walks.{Visit, Visited, walk_of}
+use Rattle.rhai_lower.specs.WalkState.{Calls, Gives, optional_part_walk, part_walk, pending_walk, visited}
+use Rattle.rhai_lower.specs.Walks.{Left, Visit, Visited, all_left, walk_of}
 use Rattle.rhai_lower.specs.declared.walk.Due.{Due}
+use Rattle.rhai_lower.specs.declared.walk.Node.{Node}
 use Rattle.rhai_lower.specs.declared.walk.Part.{Part}
 
 pub pending_push : (ds : List Due) (d : Due) → pending_walk (ds ++ d ∷ []) ≡ part_walk d.depth d.part ++ pending_walk ds
@@ -34,3 +35,28 @@ first_taken before between after d v rest e f g =
     ap pending_walk e ∙ pending_push between d ∙ ap (λ vs. vs ++ pending_walk between) f
     ∙ append_assoc (walk_of d.depth v) (optional_part_walk d.depth rest) (pending_walk between)
     ∙ ap (λ vs. walk_of d.depth v ++ vs) (sym g)
+
+-- The calls from a node on, by the answer at this node.
+pub called_on : {F : Type 0} (step : F → ℕ → Node → Bool → F → Type 0) (before after : Left) (o : Option (ℕ × Node))
+    (depth : ℕ) (n : Node) (now next : F) (answer all : Bool) (last : F)
+    → Gives before (Ok o) after → o ≡ Some (depth, n) → step now depth n answer next → answer ≡ true
+    → Calls step next (all_left after) all last → Calls step now (all_left before) all last
+called_on step before after o depth n now next answer all last given is s accepts rest =
+    let given : Gives before (Ok (Some (depth, n))) after = subst (λ o. Gives before (Ok o) after) is given in
+    let s : step now depth n true next = subst (λ b. step now depth n b next) accepts s in
+    subst (λ vs. Calls step now vs all last) (sym given.0) (n, refl, inl (next, s, rest))
+
+pub stopped : {F : Type 0} (step : F → ℕ → Node → Bool → F → Type 0) (before after : Left) (o : Option (ℕ × Node))
+    (depth : ℕ) (n : Node) (now last : F) (answer : Bool)
+    → Gives before (Ok o) after → o ≡ Some (depth, n) → step now depth n answer last → answer ≡ false
+    → Calls step now (all_left before) false last
+stopped step before after o depth n now last answer given is s refuses =
+    let given : Gives before (Ok (Some (depth, n))) after = subst (λ o. Gives before (Ok o) after) is given in
+    let s : step now depth n false last = subst (λ b. step now depth n b last) refuses s in
+    subst (λ vs. Calls step now vs false last) (sym given.0) (n, refl, inr (s, refl))
+
+pub ended : {F : Type 0} (step : F → ℕ → Node → Bool → F → Type 0) (before after : Left) (o : Option (ℕ × Node)) (now : F)
+    → Gives before (Ok o) after → o ≡ None → Calls step now (all_left before) true now
+ended step before after o now given is =
+    let given : Gives before (Ok None) after = subst (λ o. Gives before (Ok o) after) is given in
+    subst (λ vs. Calls step now vs true now) (sym given.0) (refl, refl)

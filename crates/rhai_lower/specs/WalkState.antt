@@ -1,5 +1,5 @@
 -- What the state of a walk stands for: which nodes it has still to give.
-use Rattle.std.specs.Prelude.{◌≡◌, ℕ, Option, Some, None, Result, Ok, Err, List, [], ◌∷◌, ◌++◌, map, reverse}
+use Rattle.std.specs.Prelude.{◌≡◌, ℕ, Bool, true, false, ◌⊎◌, Option, Some, None, Result, Ok, Err, List, [], ◌∷◌, ◌++◌, map, reverse}
 use Rattle.std.specs.List.{flat_map}
 use Rattle.std.specs.declared.alloc.AllocError.{AllocError}
 use Rattle.rhai_lower.specs.View.{arm_views, block_view, case_views, function_view, property_views, statement_view}
@@ -7,6 +7,7 @@ use Rattle.rhai_lower.specs.View.{statement_views, view, views}
 use Rattle.rhai_lower.specs.Walks.{Left, Visit, Visited, all_left, arms_walk, block, case, cases_walk, deeper, function}
 use Rattle.rhai_lower.specs.Walks.{functions_walk, inside, node, nodes_walk, range, ranges_walk, statement}
 use Rattle.rhai_lower.specs.Walks.{statements_walk, values_walk, walk_of}
+use Rattle.rhai_lower.specs.declared.ast.AST.{AST}
 use Rattle.rhai_lower.specs.declared.ast.BinaryExpr.{out-BinaryExpr}
 use Rattle.rhai_lower.specs.declared.ast.FlowControl.{out-FlowControl}
 use Rattle.rhai_lower.specs.declared.ast.SwitchCase.{out-SwitchCase}
@@ -96,3 +97,18 @@ given_walk (Some given) = inside (deeper given.0) (visited given.1)
 -- what a walk of the code has still to give
 abbrev pub left : Walk → Left
 left w = record { parts = given_walk w.given; after = pending_walk w.pending.items }
+
+-- the walk over a script: its statements, and then its functions
+abbrev pub script_walk : AST → List Visit
+script_walk script =
+    statements_walk 0 (statement_views script.statements.items)
+    ++ functions_walk 0 (map (λ f. function_view f.value) script.functions.items)
+
+-- The calls of a closure at the nodes of a walk, each with its depth, in this order, until one answers no. `step` says
+-- what a call may answer, and in which state it leaves the closure; `all` says whether all answers are yes.
+abbrev pub Calls : {F : Type 0} → (F → ℕ → Node → Bool → F → Type 0) → F → List Visit → Bool → F → Type 0
+Calls step now [] all last = (all ≡ true) × (last ≡ now)
+Calls {F} step now (v ∷ vs) all last =
+    (given : Node) × (visited given ≡ v.1)
+    × (((next : F) × step now v.0 given true next × Calls step next vs all last)
+    ⊎ (step now v.0 given false last × (all ≡ false)))

@@ -1,5 +1,5 @@
 -- A walk over a tree: it gives each node once, before its parts, in the order in which they are written.
-use Rattle.std.specs.Prelude.{◌≡◌, ℕ, ℤ, ◌+◌, ◌-◌, ◌^◌, pos, List, [], ◌∷◌, ◌++◌, map, min, refl}
+use Rattle.std.specs.Prelude.{◌≡◌, ℕ, ◌+◌, ◌-◌, ◌^◌, List, [], ◌∷◌, ◌++◌, map, min, refl}
 use Rattle.rhai_lower.specs.Nodes.{Arms, Block, Cases, Function, Node, Nodes, Optional, Properties, Statement}
 use Rattle.rhai_lower.specs.Nodes.{Statements}
 use Rattle.rhai_lower.specs.Nodes.{absent, array, assignment, block_statement, block_value, boolean, braces, break_loop}
@@ -9,8 +9,10 @@ use Rattle.rhai_lower.specs.Nodes.{integer, interpolated, method_call, no_arms, 
 use Rattle.rhai_lower.specs.Nodes.{no_statements, noop, object_map, one_arm, one_case, one_node, one_property}
 use Rattle.rhai_lower.specs.Nodes.{one_statement, pointer, present, property, return_statement, share, string}
 use Rattle.rhai_lower.specs.Nodes.{switch_statement, this, try_catch, unit, var_statement, variable, while_statement}
-use Rattle.rhai_lower.specs.Positions.{nowhere}
+use Rattle.rhai_lower.specs.Texts.{Text}
+use Rattle.rhai_lower.specs.declared.node.LinkFlags.{LinkFlags}
 use Rattle.rhai_lower.specs.declared.node.RangeCase.{RangeCase}
+use Rattle.rhai_lower.specs.declared.position.Position.{Position}
 
 -- What a walk gives: an expression, a statement, a block of a construct, a case or a range of a `switch`, a function.
 pub data Visited : Type 0 where
@@ -138,6 +140,17 @@ walk_of d v = (d, v) ∷ inside (deeper d) v
 abbrev pub functions_walk : ℕ → List Function → List Visit
 functions_walk d [] = []
 functions_walk d (f ∷ fs) = walk_of d (function f) ++ functions_walk d fs
+
+-- Of `this.p;` the statement comes first, then the chain, and then both of its parts. A block that is a statement has
+-- its statements as its parts.
+example : (at : Position) (flags : LinkFlags) (name : Text)
+    → (walk_of 0 (statement (expression (dot (this at) (property name at) flags at)))
+    ≡ (0, statement (expression (dot (this at) (property name at) flags at)))
+    ∷ (1, node (dot (this at) (property name at) flags at)) ∷ (2, node (this at)) ∷ (2, node (property name at)) ∷ [])
+    × (inside 7 (statement (block_statement (braces (one_statement (noop at) no_statements) at at)))
+    ≡ (7, statement (noop at)) ∷ [])
+unfolding inside_node inside_statement inside_block statements_walk deeper
+example at flags name = (refl, refl)
 
 -- What is left of a walk: what stands inside the node that was given last, and what comes after that.
 pub record Left : Type 0 where

@@ -4,14 +4,14 @@
 ghost use Rattle.std.specs.Prelude.{◌≡◌, ◌++◌, ◌<◌, ℕ, [], IfOk, IsOk, OnErr, OnOk, map, vec_capacity, vec_len};
 ghost use Rattle.rhai_lower.specs.View.{arm_views, block_view, case_views, function_view, property_views};
 ghost use Rattle.rhai_lower.specs.View.{statement_view, statement_views, view, views};
-ghost use Rattle.rhai_lower.specs.WalkState.{Gives, Splits, left, optional_part_walk, part_walk, pending_walk, visited};
-ghost use Rattle.rhai_lower.specs.WalkState.{ways_walk};
+ghost use Rattle.rhai_lower.specs.WalkState.{Gives, Splits, left, optional_part_walk, part_walk, pending_walk};
+ghost use Rattle.rhai_lower.specs.WalkState.{Calls, script_walk, visited, ways_walk};
 ghost use Rattle.rhai_lower.specs.Walks.{all_left, arms_walk, cases_walk, deeper, functions_walk, inside, inside_node};
 ghost use Rattle.rhai_lower.specs.Walks.{inside_statement, nodes_walk, ranges_walk, statements_walk, values_walk};
 ghost use Rattle.rhai_lower.specs.Walks.{walk_of};
 
 use crate::ast::{
-    BinaryExpr, Expr, FlowControl, Ident, ScriptFuncDef, Stmt, StmtBlock, SwitchCase,
+    AST, BinaryExpr, Expr, FlowControl, Ident, ScriptFuncDef, Stmt, StmtBlock, SwitchCase,
     SwitchCasesCollection,
 };
 use crate::node::RangeCase;
@@ -261,12 +261,19 @@ pub struct Walk<'a> {
 }
 
 impl<'a> Walk<'a> {
+    // The walk over two parts, one after the other.
     #[tactic(auto, using(crate::proofs::WalkLemmas::alone, crate::proofs::WalkLemmas::nothing_left))]
-    fn of_part(alloc: Global, part: Option<Part<'a>>) -> Result<Self, AllocError>
-        ensures { IfOk result (λ w. all_left (left w) ≡ optional_part_walk 0 part.entry) }
+    fn of_parts(
+        alloc: Global,
+        first: Option<Part<'a>>,
+        second: Option<Part<'a>>,
+    ) -> Result<Self, AllocError>
+        ensures { IfOk result (λ w. all_left (left w)
+            ≡ optional_part_walk 0 first.entry ++ optional_part_walk 0 second.entry) }
     {
         let mut pending = Vec::new(alloc);
-        put(&mut pending, 0, part)?;
+        put(&mut pending, 0, second)?;
+        put(&mut pending, 0, first)?;
         Ok(Walk {
             given: None,
             pending,
@@ -275,20 +282,32 @@ impl<'a> Walk<'a> {
 
     /// The walk over a node and all that stands in it; the node itself has depth 0. Returns `AllocError` if memory runs
     /// out.
+    #[tactic(auto, using(crate::proofs::WalkLemmas::alone))]
     pub fn new(alloc: Global, node: Node<'a>) -> Result<Self, AllocError>
         ensures { IfOk result (λ w. all_left (left w) ≡ walk_of 0 (visited node.entry)) }
     {
-        Walk::of_part(alloc, Some(Part::One(node)))
+        Walk::of_parts(alloc, Some(Part::One(node)), None)
+    }
+
+    /// The walk over a script: its statements, and then its functions, in the order in which they end. They have depth
+    /// 0. Returns `AllocError` if memory runs out.
+    pub fn of_ast(alloc: Global, script: &'a AST) -> Result<Self, AllocError>
+        ensures { IfOk result (λ w. all_left (left w) ≡ script_walk script.now) }
+    {
+        let statements = Part::stmts(&script.statements);
+        Walk::of_parts(alloc, statements, Part::functions(&script.functions))
     }
 
     /// The walk over statements, which have depth 0. Returns `AllocError` if memory runs out.
+    #[tactic(auto, using(crate::proofs::WalkLemmas::alone))]
     pub fn of_statements(alloc: Global, statements: &'a [Stmt]) -> Result<Self, AllocError>
         ensures { IfOk result (λ w. all_left (left w) ≡ statements_walk 0 (statement_views statements.now)) }
     {
-        Walk::of_part(alloc, Part::stmts(statements))
+        Walk::of_parts(alloc, Part::stmts(statements), None)
     }
 
     /// The walk over functions, which have depth 0. Returns `AllocError` if memory runs out.
+    #[tactic(auto, using(crate::proofs::WalkLemmas::alone))]
     pub fn of_functions(
         alloc: Global,
         functions: &'a [Rc<ScriptFuncDef>],
@@ -296,7 +315,7 @@ impl<'a> Walk<'a> {
         ensures { IfOk result (λ w. all_left (left w)
             ≡ functions_walk 0 (map (λ f. function_view f.value) functions.now)) }
     {
-        Walk::of_part(alloc, Part::functions(functions))
+        Walk::of_parts(alloc, Part::functions(functions), None)
     }
 
     // Puts the parts of the node that was given last before all that comes then.
@@ -350,4 +369,25 @@ fn one_deeper(depth: usize) -> usize
     ensures { result ≡ deeper depth }
 {
     depth.saturating_add(1)
+}
+
+impl AST {
+    /// Calls `visit` with each node of the script and its depth, in the order of `Walk::of_ast`, until it answers
+    /// `false`. Returns whether it answered `true` for every node, or `AllocError` if memory runs out.
+    pub fn walk<'a, F: FnMut(usize, Node<'a>) -> bool>(
+        &'a self,
+        alloc: Global,
+        mut visit: F,
+    ) -> Result<bool, AllocError>
+        requires { F.IsAlwaysCallable visit }
+        ensures { IfOk result (λ all. (last : F) × Calls F.step visit (script_walk self.now) all last) }
+    {
+        let mut walk = Walk::of_ast(alloc, self)?;
+        while let Some((depth, node)) = walk.next()? {
+            if !visit(depth, node) {
+                return Ok(false);
+            }
+        }
+        Ok(true)
+    }
 }
