@@ -15,3 +15,4 @@ pub mod View
 pub mod Optimizer
 pub mod Walks
 pub mod WalkState
+pub mod Signatures
