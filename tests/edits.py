@@ -28,7 +28,7 @@ import time
 ROOT = pathlib.Path(__file__).resolve().parent.parent
 EDITS = ROOT / "tests/edits"
 TABLE = EDITS / "refused.tsv"
-DEFINITION = re.compile(r"^(?:unfoldable |abbrev |record |data |variant )*(?:pub )?(?:unfoldable |abbrev |record |data )*(?:pub )?([^\s:({]+)")
+DEFINITION = re.compile(r"(?:(?:unfoldable|abbrev|record|data|pub) )*([^\s:({]+)")
 
 
 def run(*words, folder=ROOT):
