@@ -1,7 +1,8 @@
 use Rattle.rhai_grammar.proofs.message.ParseErrorTypeDisplay.fmt.Goals as goal
 
 pub returns-in-FnDuplicatedParam-clause-writes : goal.returns-in-FnDuplicatedParam-clause-writes
-returns-in-FnDuplicatedParam-clause-writes g c = rw c.in-FnDuplicatedParam.is c.write-in-FnDuplicatedParam.ensures.writes
+returns-in-FnDuplicatedParam-clause-writes g c =
+    rw c.in-FnDuplicatedParam.is c.write-in-FnDuplicatedParam.ensures.writes
 
 pub returns-in-FnDuplicatedDefinition-clause-writes :
     goal.returns-in-FnDuplicatedDefinition-clause-writes
