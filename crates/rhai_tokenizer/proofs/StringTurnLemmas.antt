@@ -26,16 +26,13 @@ use Rattle.rhai_tokenizer.specs.Bytes.{begins_any}
 use Rattle.rhai_tokenizer.specs.Runs.{first_of}
 use Rattle.rhai_tokenizer.specs.StringTurns.{Goes, IsContent, Took, PassesSpaces, end_of, fault_of, letters_of, value_of, wrong_of}
 use Rattle.rhai_tokenizer.specs.StringTurns as turns
+use Rattle.rhai_tokenizer.proofs.PlaceLemmas.{past-append}
 use Rattle.rhai_tokenizer.proofs.BlankLemmas.{first_none, run_ends, run_goes}
 use Rattle.rhai_tokenizer.proofs.BoundaryLemmas.{before, small, small_bytes, is_small, whole, ends, digits_small, concat_utf8, space_utf8}
 use Rattle.rhai_tokenizer.proofs.ByteLemmas.{begins_split, first_of-member, run_is}
 use Rattle.rhai_tokenizer.proofs.RunLemmas.{run_stands}
 use Rattle.rhai_tokenizer.proofs.TableLemmas.{spaces_some}
 use Rattle.rhai_tokenizer.proofs.StringLemmas.{PartStands, Stand, part_stands, string_stands, no_part, one_part, hex_split, hex_all, end_stands}
-
-past-append : (s : Text) (p : Place) (t : Text) → past p (s ++ t) ≡ past (past p s) t
-past-append [] p t = refl
-past-append (c ∷ s) p t = past-append s _ t
 
 or_none : (f : Option Fault) → or_fault f None ≡ f
 or_none None = refl
