@@ -68,12 +68,11 @@ blank_space (c ∷ t) h e =
     sym (ap length (blanks_again (c ∷ []) t (near_blank c near)).1)
 
 -- no white space begins with a byte of another class
-pub blank_other : (t : Text) → (first.Space ≡ first_class (get_or t 0 0) → ⊥)
-    → (first.Far ≡ first_class (get_or t 0 0) → ⊥) → 0 ≡ length (first_of blanks t)
-blank_other [] h k = sym nothing_blank
-blank_other (c ∷ t) h k =
+pub blank_other : (t : Text) → is_blank_class (first_class (get_or t 0 0)) ≡ false → 0 ≡ length (first_of blanks t)
+blank_other [] h = sym nothing_blank
+blank_other (c ∷ t) h =
     let none : begins_any blanks (c ∷ t) ≡ false = false_from_ne_true (begins_any blanks (c ∷ t))
-    (λ e. by (first_class c) refl (kind e)) in
+    (λ e. true≢false (sym (kind e) ∙ h)) in
     sym (ap length (first_none blanks (c ∷ t) none))
   where
     kind : begins_any blanks (c ∷ t) ≡ true → is_blank_class (first_class c) ≡ true
@@ -87,20 +86,6 @@ blank_other (c ∷ t) h k =
         first_byte [] e b = absurd (true≢false (sym b))
         first_byte (d ∷ s) e b = ap (λ x. is_blank_class (first_class x))
             (eqb-true c d (and_parts (c == d) (begins_with s t) e).0) ∙ b
-
-    by : (k : First) → first_class c ≡ k → is_blank_class (first_class c) ≡ true → ⊥
-    by first.Space e b = h (sym e)
-    by first.Far e b = k (sym e)
-    by first.Letter e b = true≢false (sym b ∙ ap is_blank_class e)
-    by first.Digit e b = true≢false (sym b ∙ ap is_blank_class e)
-    by first.Quote e b = true≢false (sym b ∙ ap is_blank_class e)
-    by first.Tick e b = true≢false (sym b ∙ ap is_blank_class e)
-    by first.Apostrophe e b = true≢false (sym b ∙ ap is_blank_class e)
-    by first.Slash e b = true≢false (sym b ∙ ap is_blank_class e)
-    by first.Bang e b = true≢false (sym b ∙ ap is_blank_class e)
-    by first.Minus e b = true≢false (sym b ∙ ap is_blank_class e)
-    by first.Hash e b = true≢false (sym b ∙ ap is_blank_class e)
-    by first.Other e b = true≢false (sym b ∙ ap is_blank_class e)
 
 -- ---- a run
 

@@ -1,6 +1,6 @@
 -- One turn of the reading of a text, by what its code knows of the piece.
-use Rattle.std.proofs.Common.{◌≡◌, ℕ, ◌+◌, ◌-◌, Bool, true, false, ◌||◌, not, List, [], ◌∷◌, Option, None, cond, codes, drop, take, length, reverse, refl, sym, ap, ◌∙◌, subst, true≢false}
-use Rattle.std.proofs.lemmas.List.{append-nil}
+use Rattle.std.proofs.Common.{◌≡◌, ℕ, ◌+◌, ◌-◌, ◌≤◌, Bool, true, false, ◌||◌, not, List, [], ◌∷◌, Option, None, cond, codes, drop, take, length, reverse, IsUtf8, refl, sym, ap, ◌∙◌, subst, arith, true≢false}
+use Rattle.std.proofs.lemmas.List.{append-nil, length-take-le}
 use Rattle.std.specs.Prelude.{IfSome, option_map, slice_index}
 use Rattle.std.specs.List.{concat, prefix_len}
 use Rattle.rhai_lower.specs.Entries.{token_may_be_delivered}
@@ -20,7 +20,7 @@ use Rattle.rhai_tokenizer.specs.declared.place.Place.{Place}
 use Rattle.rhai_tokenizer.specs.declared.reading.Reading.{Reading}
 use Rattle.rhai_tokenizer.specs.declared.tokens.Tokens.{Tokens}
 use Rattle.rhai_tokenizer.specs.Bytes.{begins_raw, blanks, is_empty}
-use Rattle.rhai_tokenizer.specs.Cutting.{first_class, next_at, piece_at, sign_cut}
+use Rattle.rhai_tokenizer.specs.Cutting.{first_class, next_at, piece_at, number_cut, sign_cut}
 use Rattle.rhai_tokenizer.specs.CuttingMeanings.{cut_brace, cut_token}
 use Rattle.rhai_tokenizer.specs.Meanings.{Found, brace_of_symbol, braces_after, opens_after, operand_then, text_after}
 use Rattle.rhai_tokenizer.specs.Places.{past}
@@ -143,4 +143,26 @@ joins_none out in_text from to = record {
   entries = sym (append-nil _);
   spans = sym (append-nil _);
   delivered = λ d. d;
+}
+
+-- an integer
+pub number_piece : (limits : Limits) (o : Bool) (place : Place) (t bytes : Text) (k : Kind) (n : ℕ)
+    → is_empty t ≡ false → first.Digit ≡ first_class (slice_index t 0) → bytes ≡ t
+    → ◌≡◌ {A = Kind × ℕ} (k, n) (number_cut (slice_index bytes 0) (take (length bytes - 1) (drop 1 bytes)))
+    → IsCut limits o place t k n
+number_piece limits o place t bytes k n some c e is =
+    known_cut limits first.Digit o place t bytes k n some c refl (λ e. absurd (true≢false (sym (ap is_hash e)))) e is
+
+-- the bytes of a piece that is cut
+pub record Cuts (t bytes : Text) (n : ℕ) : Type 0 where
+  pub within : n ≤ length t
+  pub front : take n bytes ≡ take n t
+  pub len : length (take n bytes) ≡ n
+
+pub cuts : (limits : Limits) (o : Bool) (place : Place) (t bytes : Text) (k : Kind) (n : ℕ)
+    → IsCut limits o place t k n → IsUtf8 t → bytes ≡ t → Cuts t bytes n
+cuts limits o place t bytes k n cut u e = let (within, rest) = cut.boundary u in record {
+  within = within;
+  front = ap (take n) e;
+  len = length-take-le n bytes (omega (arith, within, ap length e));
 }

@@ -66,25 +66,26 @@ pub enum Class {
     Continuation,
     Hexadecimal,
     Hash,
+    Second,
 }
 
-// For each byte, 1 if a word goes on with it.
-static WORD_BYTES: [u8; 256] = [
+// For each byte: 1 if a word goes on with it, 2 if a symbol does, else 0.
+static BYTES: [u8; 256] = [
     0, 0, 0, 0, 0, 0, 0, 0, 0, 0, 0, 0, 0, 0, 0, 0, 0, 0, 0, 0, 0, 0, 0, 0, 0, 0, 0, 0, 0, 0, 0, 0,
-    0, 0, 0, 0, 0, 0, 0, 0, 0, 0, 0, 0, 0, 0, 0, 0, 1, 1, 1, 1, 1, 1, 1, 1, 1, 1, 0, 0, 0, 0, 0, 0,
-    0, 1, 1, 1, 1, 1, 1, 1, 1, 1, 1, 1, 1, 1, 1, 1, 1, 1, 1, 1, 1, 1, 1, 1, 1, 1, 1, 0, 0, 0, 0, 1,
-    0, 1, 1, 1, 1, 1, 1, 1, 1, 1, 1, 1, 1, 1, 1, 1, 1, 1, 1, 1, 1, 1, 1, 1, 1, 1, 1, 0, 0, 0, 0, 0,
+    0, 0, 0, 0, 0, 0, 2, 0, 0, 2, 2, 2, 0, 2, 2, 0, 1, 1, 1, 1, 1, 1, 1, 1, 1, 1, 2, 2, 2, 2, 2, 2,
+    0, 1, 1, 1, 1, 1, 1, 1, 1, 1, 1, 1, 1, 1, 1, 1, 1, 1, 1, 1, 1, 1, 1, 1, 1, 1, 1, 2, 0, 0, 0, 1,
+    0, 1, 1, 1, 1, 1, 1, 1, 1, 1, 1, 1, 1, 1, 1, 1, 1, 1, 1, 1, 1, 1, 1, 1, 1, 1, 1, 0, 2, 0, 0, 0,
     0, 0, 0, 0, 0, 0, 0, 0, 0, 0, 0, 0, 0, 0, 0, 0, 0, 0, 0, 0, 0, 0, 0, 0, 0, 0, 0, 0, 0, 0, 0, 0,
     0, 0, 0, 0, 0, 0, 0, 0, 0, 0, 0, 0, 0, 0, 0, 0, 0, 0, 0, 0, 0, 0, 0, 0, 0, 0, 0, 0, 0, 0, 0, 0,
     0, 0, 0, 0, 0, 0, 0, 0, 0, 0, 0, 0, 0, 0, 0, 0, 0, 0, 0, 0, 0, 0, 0, 0, 0, 0, 0, 0, 0, 0, 0, 0,
     0, 0, 0, 0, 0, 0, 0, 0, 0, 0, 0, 0, 0, 0, 0, 0, 0, 0, 0, 0, 0, 0, 0, 0, 0, 0, 0, 0, 0, 0, 0, 0,
 ];
 
-fn word_bytes() -> &'static [u8]
-    ensures value { result.now ≡ WORD_BYTES }
+fn bytes() -> &'static [u8]
+    ensures value { result.now ≡ BYTES }
     ensures len { length result.now ≡ 256 }
 {
-    &WORD_BYTES
+    &BYTES
 }
 
 // Whether a word goes on with a byte.
@@ -92,7 +93,23 @@ fn word_bytes() -> &'static [u8]
 fn is_word(b: u8) -> bool
     ensures { result ≡ is_word b }
 {
-    word_bytes()[b as usize] == 1
+    bytes()[b as usize] == 1
+}
+
+// Whether a symbol that does not begin with `#` goes on with a byte.
+#[inline(always)]
+fn is_second(b: u8) -> bool
+    ensures { result ≡ spec.is_second b }
+{
+    bytes()[b as usize] == 2
+}
+
+/// Whether a byte is white space.
+#[inline(always)]
+pub fn is_space(b: u8) -> bool
+    ensures { result ≡ spec.is_space b }
+{
+    b == b' ' || (9 <= b && b <= 13)
 }
 
 /// Whether a byte is of the class.
@@ -108,6 +125,7 @@ pub fn is_in(class: Class, b: u8) -> bool
         Class::Continuation => 128 <= b && b < 192,
         Class::Hexadecimal => b.is_ascii_hexdigit(),
         Class::Hash => b == b'#',
+        Class::Second => is_second(b),
     }
 }
 

@@ -20,15 +20,24 @@ impl Interner {
         Interner { names }
     }
 
+    // A name that is not yet among them.
+    #[inline(never)]
+    fn new_name(&mut self, alloc: Global, text: &str) -> Result<RcStr, AllocError>
+        ensures { IfOk result (λ t. rc_str_bytes t ≡ text.now) }
+    {
+        let name = RcStr::from_str(alloc, text)?;
+        self.names.insert(name.clone()?)?;
+        Ok(name)
+    }
+
     /// The name with this text. Returns `AllocError` if memory runs out.
+    #[inline(always)]
     pub fn name(&mut self, alloc: Global, text: &str) -> Result<RcStr, AllocError>
         ensures { IfOk result (λ t. rc_str_bytes t ≡ text.now) }
     {
         if let Some(name) = self.names.get(text) {
             return name.clone();
         }
-        let name = RcStr::from_str(alloc, text)?;
-        self.names.insert(name.clone()?)?;
-        Ok(name)
+        self.new_name(alloc, text)
     }
 }

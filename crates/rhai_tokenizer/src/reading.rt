@@ -13,9 +13,9 @@ ghost use Rattle.rhai_tokenizer.specs.Turns.{IsPlace, IsReady, IsTurn, Joins, be
 use crate::braces::{follow, opens_after, symbol_brace};
 use crate::class::{Class, First, first_class};
 use crate::front::{Front, Tools, front_of};
-use crate::lexer::{Kind, blanks_past, run_len, sign};
+use crate::lexer::{Kind, blanks_past, number_piece, plain_sign, run_len};
 use crate::limits::Limits;
-use crate::meaning::{fixed_symbol, operand_after, word_token};
+use crate::meaning::{fixed_symbol, integer_token, operand_after, word_token};
 use crate::place::{Place, START, past_plain, position};
 use crate::table::{Fixed, Meaning};
 use crate::tokens::{Span, Tokens};
@@ -223,6 +223,28 @@ fn word(reading: &mut Reading, rest: &str) -> Result<usize, AllocError>
     Ok(len)
 }
 
+// An integer.
+#[inline(always)]
+fn number(reading: &mut Reading, limits: Limits, rest: &str) -> Result<usize, AllocError>
+    requires ready { IsReady reading.old rest.now }
+    requires code { reading.old.in_text ≡ false }
+    requires class { First.Digit ≡ first_class (slice_index rest.now 0) }
+    ensures { IfOk result (λ n. IsTurn limits reading.old reading.new rest.now n) }
+{
+    let bytes = rest.as_bytes();
+    let (kind, len) = number_piece(bytes[0], &bytes[1..]);
+    match kind {
+        Kind::Integer => {
+            let text = &bytes[..len];
+            let token = integer_token(reading.tools.alloc, false, text)?;
+            take(reading, token, len)?;
+            reading.opens = false;
+            Ok(len)
+        }
+        _ => any(reading, limits, rest),
+    }
+}
+
 // The token of a symbol that always is this token.
 #[inline(always)]
 fn fixed_of(kind: Kind) -> Option<Fixed>
@@ -246,7 +268,7 @@ fn symbol(reading: &mut Reading, limits: Limits, rest: &str) -> Result<usize, Al
     ensures { IfOk result (λ n. IsTurn limits reading.old reading.new rest.now n) }
 {
     let bytes = rest.as_bytes();
-    let (kind, len) = sign(bytes[0], &bytes[1..], bytes);
+    let (kind, len) = plain_sign(bytes[0], &bytes[1..], bytes);
     match fixed_of(kind) {
         Some(fixed) => {
             let text = &bytes[..len];
@@ -272,6 +294,7 @@ pub fn turn(reading: &mut Reading, limits: Limits, rest: &str) -> Result<usize, 
     match first_class(rest.as_bytes()[0]) {
         First::Space => Ok(blank(reading, rest)),
         First::Letter => word(reading, rest),
+        First::Digit => number(reading, limits, rest),
         First::Other => symbol(reading, limits, rest),
         _ => any(reading, limits, rest),
     }
