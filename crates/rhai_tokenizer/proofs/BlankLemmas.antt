@@ -4,13 +4,12 @@ use Rattle.std.proofs.lemmas.Bool.{and_parts, false_from_ne_true}
 use Rattle.std.proofs.lemmas.List.{take_rest, drop-drop, length-append}
 use Rattle.std.specs.List.{concat}
 use Rattle.rhai_lower.specs.Texts.{Text}
-use Rattle.rhai_tokenizer.specs.declared.class.First.{First}
 use Rattle.rhai_tokenizer.specs.declared.class.First.TheVariants as first
 use Rattle.rhai_tokenizer.specs.Bytes.{begins, begins_any, begins_with, blanks, is_empty}
 use Rattle.rhai_tokenizer.specs.Cutting.{first_class}
 use Rattle.rhai_tokenizer.specs.Runs.{first_of, run_from}
 use Rattle.rhai_tokenizer.proofs.ByteLemmas.{first_of-member}
-use Rattle.rhai_tokenizer.proofs.PieceLemmas.{ClassFacts, class_facts}
+use Rattle.rhai_tokenizer.proofs.FirstLemmas.{ClassFacts, class_facts}
 use Rattle.rhai_tokenizer.proofs.RunLemmas.{Some, run_none, run_step}
 use Rattle.rhai_tokenizer.proofs.TableLemmas.{blank_classes, blanks_again, blanks_some, near_blank, is_blank_class}
 use Rattle.rhai_tokenizer.proofs.ByteLemmas.{at_member}

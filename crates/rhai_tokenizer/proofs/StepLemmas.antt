@@ -1,5 +1,5 @@
 -- One turn of the reading of a text, by what its code knows of the piece.
-use Rattle.std.proofs.Common.{◌≡◌, ℕ, ◌+◌, ◌-◌, ◌≤◌, Bool, true, false, ◌||◌, not, List, [], ◌∷◌, Option, None, cond, codes, drop, take, length, reverse, IsUtf8, refl, sym, ap, ◌∙◌, subst, arith, true≢false}
+use Rattle.std.proofs.Common.{◌≡◌, ℕ, ◌+◌, ◌-◌, ◌≤◌, Bool, true, false, ◌||◌, [], ◌∷◌, Option, None, cond, codes, drop, take, length, reverse, IsUtf8, refl, sym, ap, ◌∙◌, subst, arith, true≢false}
 use Rattle.std.proofs.lemmas.List.{append-nil, length-take-le}
 use Rattle.std.specs.Prelude.{IfSome, option_map, slice_index}
 use Rattle.std.specs.List.{concat, prefix_len}
@@ -19,13 +19,13 @@ use Rattle.rhai_tokenizer.specs.declared.limits.Limits.{Limits}
 use Rattle.rhai_tokenizer.specs.declared.place.Place.{Place}
 use Rattle.rhai_tokenizer.specs.declared.reading.Reading.{Reading}
 use Rattle.rhai_tokenizer.specs.declared.tokens.Tokens.{Tokens}
-use Rattle.rhai_tokenizer.specs.Bytes.{begins_raw, blanks, is_empty}
+use Rattle.rhai_tokenizer.specs.Bytes.{blanks, is_empty}
 use Rattle.rhai_tokenizer.specs.Cutting.{first_class, next_at, piece_at, number_cut, sign_cut}
 use Rattle.rhai_tokenizer.specs.CuttingMeanings.{cut_brace, cut_token}
 use Rattle.rhai_tokenizer.specs.Meanings.{Found, brace_of_symbol, braces_after, opens_after, operand_then, text_after}
 use Rattle.rhai_tokenizer.specs.Places.{past}
 use Rattle.rhai_tokenizer.specs.Runs.{run_from}
-use Rattle.rhai_tokenizer.specs.Turns.{IsFront, IsReady, IsTurn, Joins, before_of, due, found_of}
+use Rattle.rhai_tokenizer.specs.Turns.{IsFront, IsTurn, Joins, before_of, due, found_of}
 use Rattle.rhai_tokenizer.proofs.FrontLemmas.{IsCut, front_is, is_cut, known_cut, token_found}
 use Rattle.rhai_tokenizer.proofs.TurnLemmas.{before_after}
 

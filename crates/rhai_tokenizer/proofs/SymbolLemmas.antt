@@ -1,6 +1,6 @@
--- Symbols of one byte, where no longer one begins.
-use Rattle.std.proofs.Common.{◌≡◌, ℕ, Bool, true, false, not, cond, ◌&&◌, ◌||◌, ◌==◌, List, [], ◌∷◌, Some, refl, sym, ap, ◌∙◌, true≢false}
-use Rattle.std.proofs.lemmas.Bool.{and_parts, eqb-true, not-true}
+-- What the table says of symbols, and those of one byte.
+use Rattle.std.proofs.Common.{◌≡◌, ℕ, Bool, true, false, cond, ◌&&◌, ◌||◌, ◌==◌, [], ◌∷◌, Some, refl, sym, ap, ◌∙◌, true≢false}
+use Rattle.std.proofs.lemmas.Bool.{and_parts, eqb-true}
 use Rattle.std.specs.List.{list_all}
 use Rattle.rhai_lower.specs.Texts.{Text}
 use Rattle.rhai_tokenizer.specs.declared.lexer.Kind.{Kind}
@@ -8,8 +8,230 @@ use Rattle.rhai_tokenizer.specs.declared.lexer.Kind.TheVariants as kind
 use Rattle.rhai_tokenizer.specs.declared.table.Fixed.{Fixed}
 use Rattle.rhai_tokenizer.specs.declared.table.Meaning.{Meaning}
 use Rattle.rhai_tokenizer.specs.declared.table.Meaning.TheVariants.{Plain}
-use Rattle.rhai_tokenizer.specs.Bytes.{begins, begins_with}
-use Rattle.rhai_tokenizer.specs.Cutting.{Table, cut_entry, entry_cut, entry_of, goes_on, is_second, sign_cut, symbol_table}
+use Rattle.rhai_tokenizer.specs.Bytes.{begins_with}
+use Rattle.rhai_tokenizer.specs.Cutting.{Table, cut_entry, entry_cut, entry_of, goes_on, sign_cut, symbol_table}
+use Rattle.std.proofs.Common.{◌≡◌, Bool, true, false, cond, [], ◌∷◌, Some, refl, sym, ap, ◌∙◌, true≢false}
+use Rattle.rhai_lower.specs.Texts.{Text}
+use Rattle.rhai_tokenizer.specs.Cutting.{Table, lookup, symbol_table}
+use Rattle.rhai_tokenizer.specs.CuttingMeanings.{meaning_of}
+use Rattle.rhai_tokenizer.specs.Symbols.{signs, reserved_symbols, refused_symbols, symbol_lexeme}
+use Rattle.rhai_tokenizer.proofs.WordLemmas.{Right, found_right}
+
+symbols_right : Right symbol_lexeme symbol_table
+unfolding symbol_table signs reserved_symbols refused_symbols
+symbols_right = (
+  refl,
+  (
+    refl,
+    (
+      refl,
+      (
+        refl,
+        (
+          refl,
+          (
+            refl,
+            (
+              refl,
+              (
+                refl,
+                (
+                  refl,
+                  (
+                    refl,
+                    (
+                      refl,
+                      (
+                        refl,
+                        (
+                          refl,
+                          (
+                            refl,
+                            (
+                              refl,
+                              (
+                                refl,
+                                (
+                                  refl,
+                                  (
+                                    refl,
+                                    (
+                                      refl,
+                                      (
+                                        refl,
+                                        (
+                                          refl,
+                                          (
+                                            refl,
+                                            (
+                                              refl,
+                                              (
+                                                refl,
+                                                (
+                                                  refl,
+                                                  (
+                                                    refl,
+                                                    (
+                                                      refl,
+                                                      (
+                                                        refl,
+                                                        (
+                                                          refl,
+                                                          (
+                                                            refl,
+                                                            (
+                                                              refl,
+                                                              (
+                                                                refl,
+                                                                (
+                                                                  refl,
+                                                                  (
+                                                                    refl,
+                                                                    (
+                                                                      refl,
+                                                                      (
+                                                                        refl,
+                                                                        (
+                                                                          refl,
+                                                                          (
+                                                                            refl,
+                                                                            (
+                                                                              refl,
+                                                                              (
+                                                                                refl,
+                                                                                (
+                                                                                  refl,
+                                                                                  (
+                                                                                    refl,
+                                                                                    (
+                                                                                      refl,
+                                                                                      (
+                                                                                        refl,
+                                                                                        (
+                                                                                          refl,
+                                                                                          (
+                                                                                            refl,
+                                                                                            (
+                                                                                              refl,
+                                                                                              (
+                                                                                                refl,
+                                                                                                (
+                                                                                                  refl,
+                                                                                                  (
+                                                                                                    refl,
+                                                                                                    (
+                                                                                                      refl,
+                                                                                                      (
+                                                                                                        refl,
+                                                                                                        (
+                                                                                                          refl,
+                                                                                                          (
+                                                                                                            refl,
+                                                                                                            (
+                                                                                                              refl,
+                                                                                                              (
+                                                                                                                refl,
+                                                                                                                (
+                                                                                                                  refl,
+                                                                                                                  (
+                                                                                                                    refl,
+                                                                                                                    (
+                                                                                                                      refl,
+                                                                                                                      (
+                                                                                                                        refl,
+                                                                                                                        (
+                                                                                                                          refl,
+                                                                                                                          (
+                                                                                                                            refl,
+                                                                                                                            (
+                                                                                                                              refl,
+                                                                                                                              (
+                                                                                                                                refl,
+                                                                                                                                (
+                                                                                                                                  refl,
+                                                                                                                                  (
+                                                                                                                                    refl,
+                                                                                                                                    (
+                                                                                                                                      refl,
+                                                                                                                                      (
+                                                                                                                                        refl,
+                                                                                                                                        (
+                                                                                                                                          refl,
+                                                                                                                                          (refl, (refl, (refl, (refl, tt)))),
+                                                                                                                                        ),
+                                                                                                                                      ),
+                                                                                                                                    ),
+                                                                                                                                  ),
+                                                                                                                                ),
+                                                                                                                              ),
+                                                                                                                            ),
+                                                                                                                          ),
+                                                                                                                        ),
+                                                                                                                      ),
+                                                                                                                    ),
+                                                                                                                  ),
+                                                                                                                ),
+                                                                                                              ),
+                                                                                                            ),
+                                                                                                          ),
+                                                                                                        ),
+                                                                                                      ),
+                                                                                                    ),
+                                                                                                  ),
+                                                                                                ),
+                                                                                              ),
+                                                                                            ),
+                                                                                          ),
+                                                                                        ),
+                                                                                      ),
+                                                                                    ),
+                                                                                  ),
+                                                                                ),
+                                                                              ),
+                                                                            ),
+                                                                          ),
+                                                                        ),
+                                                                      ),
+                                                                    ),
+                                                                  ),
+                                                                ),
+                                                              ),
+                                                            ),
+                                                          ),
+                                                        ),
+                                                      ),
+                                                    ),
+                                                  ),
+                                                ),
+                                              ),
+                                            ),
+                                          ),
+                                        ),
+                                      ),
+                                    ),
+                                  ),
+                                ),
+                              ),
+                            ),
+                          ),
+                        ),
+                      ),
+                    ),
+                  ),
+                ),
+              ),
+            ),
+          ),
+        ),
+      ),
+    ),
+  ),
+)
+
+pub symbol_right : (t : Text) (m : Meaning) → lookup symbol_table t ≡ Some m → symbol_lexeme t ≡ meaning_of t m
+symbol_right t m h = found_right symbol_lexeme symbol_table t m symbols_right h
+
+-- ---- symbols of one byte, where no longer one begins
 
 -- a longer symbol begins with `#`, or it goes on as those do that may be longer
 abbrev is_usual : Text → Bool

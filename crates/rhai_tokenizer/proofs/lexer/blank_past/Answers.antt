@@ -1,4 +1,4 @@
-use Rattle.std.proofs.Common.{◌≡◌, ◌<◌, ◌∙◌, sym, get_or, arith}
+use Rattle.std.proofs.Common.{◌<◌, ◌∙◌, sym, get_or, arith}
 use Rattle.rhai_tokenizer.proofs.BlankLemmas.{blank_empty, blank_other, blank_space}
 use Rattle.rhai_tokenizer.proofs.ClassLemmas.{other_byte, space_byte}
 use Rattle.rhai_tokenizer.proofs.lexer.blank_past.Goals as goal
