@@ -30,7 +30,7 @@ use Rattle.rhai_tokenizer.proofs.SpecialLemmas.{Special_goes, IsSpecial, known, 
 coded_is : (style : Style) (column : ℕ) (place : Place) (m : ℕ) (ds t : Text) (k : ℕ) → part_at style (92 ∷ (m ∷ t))
     ≡ Some (Coded m ds) → length ds ≡ k → list_all is_small (92 ∷ (m ∷ ds)) ≡ true
     → IsSpecial style column place (92 ∷ (m ∷ t)) (coded_special k ds)
-coded_is style column place m ds t k p len small = by (scalar (hex_value 0 ds)) refl
+coded_is style column place m ds t k p len small = by (scalar (hex_value ds)) refl
   where
     s : PartStands style (92 ∷ (m ∷ t)) (Coded m ds)
     s = part_front style (92 ∷ (m ∷ t)) (Coded m ds) p
@@ -56,9 +56,9 @@ coded_is style column place m ds t k p len small = by (scalar (hex_value 0 ds)) 
         ap (λ n. take (1 + n) (92 ∷ (m ∷ ds))) len ∙
         (sym (take-append-le (1 + k) (92 ∷ (m ∷ ds)) (drop (2 + k) (92 ∷ (m ∷ t))) fits) ∙ ap (take (1 + k)) split)
 
-    by : (b : Bool) → scalar (hex_value 0 ds) ≡ b → IsSpecial style column place (92
-        ∷ (m ∷ t)) (cond b (Means (2 + k) (hex_value 0 ds)) (Spoils (2 + k) (2 + k) (1 + k)))
-    by true e = known style column place (92 ∷ (m ∷ t)) (Coded m ds) (2 + k) (encode_utf8 (hex_value 0 ds)) None p two
+    by : (b : Bool) → scalar (hex_value ds) ≡ b → IsSpecial style column place (92
+        ∷ (m ∷ t)) (cond b (Means (2 + k) (hex_value ds)) (Spoils (2 + k) (2 + k) (1 + k)))
+    by true e = known style column place (92 ∷ (m ∷ t)) (Coded m ds) (2 + k) (encode_utf8 (hex_value ds)) None p two
         (rw e refl) (rw e refl) here
     by false e = (
       here,

@@ -223,7 +223,6 @@ found_right f (e ∷ es) t m (here, more) h = by (same_text e.0 t) refl h (found
 pub word_right : (t : Text) (m : Meaning) → lookup word_table t ≡ Some m → word_lexeme t ≡ meaning_of t m
 word_right t m h = found_right word_lexeme word_table t m words_right h
 
-
 -- ---- other words
 
 same_turned : (a b : Text) → same_text a b ≡ true → same_text b a ≡ true

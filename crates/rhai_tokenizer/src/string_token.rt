@@ -4,7 +4,7 @@ ghost use Rattle.std.specs.Prelude.{◌≡◌, ◌&&◌, ◌<◌, true, Some, co
 ghost use Rattle.std.specs.Rc.{rc_str_bytes};
 ghost use Rattle.rhai_lower.specs.Entries.{token_may_be_delivered};
 ghost use Rattle.rhai_lower.specs.Lexemes.{Interpolated, String, UnterminatedString, lexeme};
-ghost use Rattle.rhai_tokenizer.specs.Meanings.{ticked_lexeme, unless_faulty, within};
+ghost use Rattle.rhai_tokenizer.specs.Meanings.{string_lexeme, unless_faulty, within};
 ghost use Rattle.rhai_tokenizer.specs.Strings.{escapes};
 ghost use Rattle.rhai_tokenizer.specs.Symbols.{improper};
 ghost use Rattle.rhai_tokenizer.specs.StringTurns.{fault_of};
@@ -66,7 +66,7 @@ pub fn ticked_token(
     value: &str,
     ending: Ending,
 ) -> Result<Token, AllocError>
-    ensures value { IfOk result (λ t. lexeme t ≡ ticked_lexeme limits value.now ending) }
+    ensures value { IfOk result (λ t. lexeme t ≡ string_lexeme limits value.now ending) }
     ensures delivered { IfOk result (λ t. token_may_be_delivered t ≡ true) }
 {
     match ending {
@@ -90,12 +90,7 @@ fn quoted_token(
 {
     match style {
         Style::Apostrophe => character_token(alloc, value, ending),
-        _ => match ending {
-            Ending::Closed => string_token(alloc, names, limits, value),
-            Ending::Unended | Ending::Interpolates => {
-                Ok(Token::LexError(LexError::UnterminatedString))
-            }
-        },
+        _ => ticked_token(alloc, names, limits, value, ending),
     }
 }
 
