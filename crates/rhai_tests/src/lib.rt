@@ -35,3 +35,5 @@ mod script;
 mod states;
 #[cfg(test)]
 mod text_mode;
+#[cfg(test)]
+mod texts;
