@@ -33,7 +33,7 @@ a_reading limits text =
     (pieces_from (piece_after limits) 0 at_start text, (r.1, r.0))
 
 -- Where memory ran out, nothing is promised.
-pub nothing_read : {F X : Type 0} (whole : F → Demands) (Is : F → X → Type 0) (before after : Library) (limits : Limits) (text : Text)
+abbrev pub nothing_read : {F X : Type 0} (whole : F → Demands) (Is : F → X → Type 0) (before after : Library) (limits : Limits) (text : Text)
     (e : ParseError) → is_for_memory e ≡ true → ReadsText whole Is before after limits text (Err e)
 nothing_read whole Is before after limits text e memory = record {
   reading = a_reading limits text;
@@ -66,7 +66,7 @@ refusal_placed whole Is before after limits ps (Err e) left stand reads = λ tol
     (stand before after r.0 (cursor_in limits ps) left (refusal_of e) r.1.named)
 
 -- The tokens of a text are read as its pieces are.
-pub text_read : {F X : Type 0} (whole : F → Demands) (Is : F → X → Type 0) (before after : Library) (limits : Limits) (text : Text)
+abbrev pub text_read : {F X : Type 0} (whole : F → Demands) (Is : F → X → Type 0) (before after : Library) (limits : Limits) (text : Text)
     (result : Result X ParseError) (tokens : T.Tokens) (left : Cursor) → StandWhereNamed whole → Reads text limits tokens
     → ReadsWhole whole Is before after (cursor_of (stream_of (map ask_of tokens.entries.items) tokens.end)) left result
     → UnlessMemory (HasRead (cursor_of (stream_of (map ask_of tokens.entries.items) tokens.end)) left) result

@@ -91,10 +91,10 @@ NestsWithin engine peak =
 pub record IsGiven (context : Context) (limits : Limits) (ps : List Piece) (before : Library) (left : Cursor)
     (result : Result GlobalLevel Refused) : Type 0
   where
-    pub spans : IfOk result (λ script. script.spans.items ≡ spans limits at_start 0 ps)
-    pub deep : IfOk result (λ script.
+    pub script_spans : IfOk result (λ script. script.spans.items ≡ spans limits at_start 0 ps)
+    pub script_depth : IfOk result (λ script.
         NestsAsWritten context nothing_live before (cursor_in limits ps) (reaching script.nest_peak))
-    pub refused : IfErr result (λ r. is_for_memory r.error ≡ false → r.spans.items ≡ spans limits at_start 0 ps)
+    pub refusal_spans : IfErr result (λ r. is_for_memory r.error ≡ false → r.spans.items ≡ spans limits at_start 0 ps)
     pub incomplete : IfErr result (λ r. is_for_memory r.error ≡ false
         → r.is_incomplete ≡ may_go_on left (spans limits at_start 0 ps))
     pub final : IfErr result (λ r. is_for_memory r.error ≡ false → r.is_incomplete ≡ false

@@ -11,11 +11,11 @@ ghost use Rattle.rhai_grammar.specs.Promises.{HasRead, UnlessMemory};
 ghost use Rattle.rhai_base.specs.Libraries.{Begins, library_of};
 ghost use Rattle.rhai_parser.specs.Nesting.{NestsAsWritten};
 ghost use Rattle.rhai_parser.specs.Scripts.{ReadsScript};
-ghost use Rattle.rhai_script.specs.GlobalLevels.{NestsWithin, ReadsTextAsScript, is_unended, may_go_on, reaching, script_context, touches_end};
+ghost use Rattle.rhai_script.specs.GlobalLevels.{NestsWithin, ReadsTextAsScript, reaching, script_context};
+ghost use Rattle.rhai_script.specs.GlobalLevels.{is_unended, may_go_on, touches_end};
 
 use rhai_base::cursor::take;
 use rhai_base::leaves::tokens::is_end;
-use rhai_base::nest_peak;
 use rhai_lower::LexError;
 use rhai_parser::{
     Engine, FnLib, ParseError, ParseErrorType, ParseResult, ParseState, Position, Scope,
@@ -51,7 +51,7 @@ pub struct Refused {
     pub error: ParseError,
     /// The bytes of the text on which each token stands, and last the end mark; none if memory ran out before.
     pub spans: Vec<Span>,
-    /// Whether a longer text may be a script, so that a prompt should ask for more: the parser stopped at the end of the
+    /// Whether a longer text may be a script, so that a prompt asks for more: the parser stopped at the end of the
     /// text, or at a string that the end of the text cuts. Where it is not so, no script has tokens that begin with
     /// those that the parser saw. It is not so where memory ran out.
     pub is_incomplete: bool,
@@ -99,13 +99,26 @@ fn read_stream(
 {
     let mut state = ParseState::new(alloc, constants, input, TokenizerControl, lib);
     let script = engine.parse_global_level(&mut state, |_settings| {});
-    let nest_peak = nest_peak(&state);
-    let ParseState { stack, imports, .. } = state;
+    // Taken apart as a whole: what is lent is known afterwards only so.
+    let ParseState {
+        input: _input,
+        lib: _lib,
+        counts,
+        tokenizer_control: _tokenizer_control,
+        expr_filter: _expr_filter,
+        external_constants: _external_constants,
+        stack: scope,
+        frame_pointer: _frame_pointer,
+        external_vars: _external_vars,
+        allow_capture: _allow_capture,
+        imports,
+        global_imports: _global_imports,
+    } = state;
     Reading {
         script,
-        scope: stack,
+        scope,
         imports,
-        nest_peak,
+        nest_peak: counts.nest_peak(),
     }
 }
 
@@ -185,9 +198,9 @@ fn out_of_memory(alloc: Global) -> Refused
 }
 
 /// Reads the text of a script, under the engine's settings for one, with the functions of `lib` and with these
-/// variables from outside: its statements, before an optimizer, all functions that `lib` has then, and the variables and
-/// imports that are live after it. `limits` says whether doc comments join their functions, and how long strings may
-/// be.
+/// variables from outside: its statements, before an optimizer, all functions that `lib` has then, and the variables
+/// and imports that are live after it. `limits` says whether doc comments join their functions, and how long strings
+/// may be.
 ///
 /// The functions and closures of the script join `lib`; those that had ended before an error stay there. An error tells
 /// why and where the text is no script; all are in docs/GRAMMAR.md, "Errors". `OutOfMemory` comes where memory ran out,
