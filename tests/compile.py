@@ -1,5 +1,5 @@
 #!/usr/bin/env python3
-"""Gives the scripts of the table of cases as text to `compile`, and prints each run that fails.
+"""Gives the scripts of the table of cases as text to `compile`. Each run that fails is printed.
 
 usage: tests/compile.py [TOKENS TESTS]
 

@@ -1,4 +1,4 @@
--- Where the end mark was not seen, no script has tokens that begin with those that were seen.
+-- No script has the tokens that a final refusal saw. The end mark is not among them.
 use Rattle.std.proofs.Common.{◌≡◌, ◌∙◌, ℕ, ◌+◌, ◌≤◌, zero, suc, Bool, true, false, true≢false, List, [], ◌∷◌, ap, arith, length, refl, subst, sym}
 use Rattle.std.specs.Prelude.{drop, take}
 use Rattle.rhai_lower.specs.declared.position.Position.{Position}

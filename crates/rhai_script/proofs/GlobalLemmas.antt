@@ -78,7 +78,7 @@ module _ (engine : EngineValue) (constants : Constants) (limits : Limits) (text 
   context = script_context engine constants
 
   pub script_read : (script : GlobalLevel) → ReadsWhole (scripts context nothing_live) (IsGlobalLevel after) before after start left (Ok script)
-      → UnlessMemory (HasRead start left) (Ok {E = ParseError} script) → script.spans ≡ tokens.spans
+      → HasRead start left false → script.spans ≡ tokens.spans
       → NestsAsWritten context nothing_live before start (reaching script.nest_peak) → NestsWithin engine script.nest_peak
       → ReadsTextAsScript engine constants limits text before after (Ok script)
   script_read script reads memory spans deep nests = record {
@@ -87,7 +87,7 @@ module _ (engine : EngineValue) (constants : Constants) (limits : Limits) (text 
     given = λ ps is.
         let spelled = read.only ps is.0 is.1 in
         record {
-          script_spans = subst (λ (s : Vec Span Global). s.items ≡ _) (sym spans) spelled.spans;
+          script_spans = ap (λ (s : Vec Span Global). s.items) spans ∙ spelled.spans;
           script_depth = subst (λ s. NestsAsWritten context nothing_live before s (reaching script.nest_peak)) (streams_agree limits tokens ps spelled) deep;
           refusal_spans = tt;
           incomplete = tt;
@@ -99,7 +99,7 @@ module _ (engine : EngineValue) (constants : Constants) (limits : Limits) (text 
   }
 
   pub script_refused : (refused : Refused) → ReadsWhole (scripts context nothing_live) (IsGlobalLevel after) before after start left (Err refused.error)
-      → UnlessMemory (HasRead start left) (Err {A = GlobalLevel} refused.error) → refused.spans ≡ tokens.spans
+      → (is_for_memory refused.error ≡ false → HasRead start left true) → refused.spans ≡ tokens.spans
       → refused.is_incomplete ≡ (if is_for_memory refused.error then false else may_go_on left tokens.spans.items)
       → NestsWithin engine refused.nest_peak
       → ReadsTextAsScript engine constants limits text before after (Err refused)
@@ -114,7 +114,7 @@ module _ (engine : EngineValue) (constants : Constants) (limits : Limits) (text 
         record {
           script_spans = tt;
           script_depth = tt;
-          refusal_spans = λ told. subst (λ (s : Vec Span Global). s.items ≡ _) (sym spans) spelled.spans;
+          refusal_spans = λ told. ap (λ (s : Vec Span Global). s.items) spans ∙ spelled.spans;
           incomplete = λ told. goes_on told ∙ ap (may_go_on left) spelled.spans;
           final = λ told ends.
               let r = reads.refused told in
@@ -180,6 +180,6 @@ script_unread engine constants limits text before refused error complete peak =
         final = λ told. absurd (true≢false (sym out ∙ told));
       };
       nests = tt;
-      refusal_nests = λ deep deep_functions. subst (λ n. n ≤ _) (sym peak) (omega arith);
+      refusal_nests = subst (NestsWithin engine) (sym peak) (λ deep deep_functions. omega arith);
       memory = λ told. complete;
     }

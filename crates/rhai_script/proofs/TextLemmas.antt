@@ -27,7 +27,7 @@ use Rattle.rhai_script.proofs.DeliveryLemmas.{streams_agree}
 use Rattle.rhai_script.proofs.PlaceLemmas.{seen_place}
 
 -- every text is pieces that fit
-a_reading : (limits : Limits) (text : Text) → (ps : List Piece) × IsTextOf limits ps text
+pub a_reading : (limits : Limits) (text : Text) → (ps : List Piece) × IsTextOf limits ps text
 a_reading limits text =
     let r = read_fits (piece_after limits) (leaves limits) at_start text in
     (pieces_from (piece_after limits) 0 at_start text, (r.1, r.0))
@@ -55,7 +55,7 @@ StandWhereNamed whole =
     (before after : Library) (taken : List Taken) (start left : Cursor) (e : Refusal)
     → IsNamed whole before after taken start left e → StandsAmong taken (asked left) e.at
 
-refusal_placed : {F X : Type 0} (whole : F → Demands) (Is : F → X → Type 0) (before after : Library) (limits : Limits)
+pub refusal_placed : {F X : Type 0} (whole : F → Demands) (Is : F → X → Type 0) (before after : Library) (limits : Limits)
     (ps : List Piece) (result : Result X ParseError) (left : Cursor) → StandWhereNamed whole
     → ReadsWhole whole Is before after (cursor_in limits ps) left result
     → IfErr result (λ e. is_for_memory e ≡ false → IsPlaceIn limits ps e.1)

@@ -1,4 +1,4 @@
--- What is promised of a text that is read as a script, with a library and with variables from outside.
+-- What is promised of a script's text, with a library and variables from outside.
 use Rattle.std.specs.Prelude.{◌≡◌, ℕ, ◌+◌, ◌*◌, ◌≤◌, Bool, true, false, Err, IfErr, IfOk, List, [], ◌∷◌, Ok, Result}
 use Rattle.std.specs.Prelude.{if◌then◌else◌, length, map, refl, take, ◌&&◌, ◌||◌, ◌==◌}
 use Rattle.std.specs.Rc.{rc_str_bytes}

@@ -1,4 +1,4 @@
-//! `compile_global_level`: reads the text of a script with what a host knows, and gives what it goes on with.
+//! `compile_global_level`: reads a script's text with what a host knows. It gives what the host goes on with.
 
 ghost use Rattle.std.specs.Prelude.{◌≡◌, false, IfErr, IfOk, if◌then◌else◌, map};
 ghost use Rattle.std.specs.Rc.{rc_str_bytes};

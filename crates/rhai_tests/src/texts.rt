@@ -1,5 +1,5 @@
-//! Texts of scripts: what a host goes on with, when a prompt asks for more, and texts that are no part of this crate.
-//! tests/compile.py gives those on standard input, made of the table of cases. Without an input that test does nothing.
+//! Texts of scripts: what a host goes on with, and when a prompt asks for more. Others come from outside of the crate:
+//! tests/compile.py gives them on standard input, made of the table of cases. Without an input that test does nothing.
 
 use crate::lists::{Kind, read_words};
 use crate::optimizing::printed;
