@@ -1,0 +1,12 @@
+pub mod Looked
+pub mod Lawful
+pub mod SameOperands
+pub mod SameStatements
+pub mod Same
+pub mod Faults
+pub mod Tidies
+pub mod DerivedSound
+pub mod DerivedComplete
+pub mod DerivedMain
+pub mod DerivedDepth
+pub mod LawLemmas

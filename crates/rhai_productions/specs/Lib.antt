@@ -1,0 +1,15 @@
+pub mod Views
+pub mod Schema
+pub mod RulesOfLists
+pub mod RulesOfCalls
+pub mod RulesOfOperands
+pub mod RulesOfConstructs
+pub mod RulesOfStatements
+pub mod RulesOfSwitches
+pub mod RulesOfFunctions
+pub mod Rules
+pub mod Derived
+pub mod Tidiness
+pub mod Agreement
+pub mod Promised
+pub mod Laws

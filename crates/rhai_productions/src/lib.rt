@@ -1,0 +1,4 @@
+//! What is written where, as data: productions, their readers and forms, and laws of them.
+#![tactic(auto)]
+
+pub mod laws;
