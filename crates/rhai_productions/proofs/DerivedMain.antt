@@ -320,7 +320,7 @@ module _ {F O X : Type 0} {g : Goal} {whole : F → Demands} {stopping : O → D
     refused = λ told. refused E s left (refusal_of e) mode (fails.0 told) (same ∙ told);
   }
 
--- ---- the entries over derived forms
+-- ---- the entries, over forms that follow from productions
 
 entry_sound : (n : ℕ) (g : Goal) (s : Point) (o : Outcome (Val g)) → S.Ensures (Read production g (production g) s)
     (Halts production g (production g) s) o

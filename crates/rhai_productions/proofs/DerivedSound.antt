@@ -3,13 +3,13 @@ use Rattle.std.proofs.Common.{◌≡◌, ℕ, zero, suc, Bool, true, false, Some
 use Rattle.std.proofs.Common.{subst}
 use Rattle.std.proofs.Common.{if◌then◌else◌}
 use Rattle.rhai_lower.specs.declared.token.Token.TheVariants as token
-use Rattle.rhai_grammar.specs.Prelude.{Lexeme, Sign, Position, Cause, Refusal, refusal, Item, item, code, text, Use}
+use Rattle.rhai_grammar.specs.Prelude.{Mode, Lexeme, Sign, Position, Cause, Refusal, refusal, Item, item, code, text, Use}
 use Rattle.rhai_grammar.specs.Prelude.{Ended, Library}
-use Rattle.rhai_grammar.specs.Prelude.{Verdict, Fine, Wrong, Blames, Otherwise, Demands, Nothing, ◌▸◌, is_memory}
+use Rattle.rhai_grammar.specs.Prelude.{Fine, Wrong, Blames, Otherwise, Demands, Nothing, is_memory}
 use Rattle.rhai_grammar.specs.Prelude.{is_at_last}
 use Rattle.rhai_grammar.specs.Prelude.{Point, past, next_at, adding, capturing, with_captured, apart, closure_count}
 use Rattle.rhai_grammar.specs.Prelude.{is_due, not_due}
-use Rattle.rhai_grammar.specs.Prelude.{is_text, unexpected, StandsAtLast, as_literal}
+use Rattle.rhai_grammar.specs.Prelude.{unexpected, StandsAtLast, as_literal}
 use Rattle.rhai_grammar.specs.declared.due.DueToken.TheVariants.{RightBrace}
 use Rattle.rhai_reading.specs.Reading.{Goal, Val, Prog, Ret, Fail, Take, body}
 use Rattle.rhai_reading.specs.Histories.{State, Outcome, Done, Refused, Unfinished, calls}
@@ -49,10 +49,11 @@ module _ (rule : (g : Goal) → Production (Val g)) where
   -- what is shown of the rest is shown of the whole
   rest_by : (h : Goal) (p q : Production (Val h)) (from t : Point)
       → ((x : Val h) (f : F.Filled rule h p x) → (g : F.Filled rule h q x)
-      × ((k : Demands) (o : Aim) → Way (F.demanded rule f k) t o → Way (F.demanded rule g k) from o)) → ((f : F.Stopped
-      rule h p) → (g : F.Stopped rule h q) × ((e : Refusal) (n : Rattle.rhai_grammar.specs.Prelude.Mode) (u : Point)
-      → Way (F.stopped rule f) t (Astray e n u) → Way (F.stopped rule g) from (Astray e n u))) → (o : Outcome (Val
-      h)) → Ensures (Read h p t) (Halts h p t) o → Ensures (Read h q from) (Halts h q from) o
+      × ((k : Demands) (o : Aim) → Way (F.demanded rule f k) t o → Way (F.demanded rule g k) from o))
+      → ((f : F.Stopped rule h p) → (g : F.Stopped rule h q)
+      × ((e : Refusal) (n : Mode) (u : Point) → Way (F.stopped rule f) t (Astray e n u)
+      → Way (F.stopped rule g) from (Astray e n u)))
+      → (o : Outcome (Val h)) → Ensures (Read h p t) (Halts h p t) o → Ensures (Read h q from) (Halts h q from) o
   rest_by h p q from t done halts (Done x u) r =
       let g = done x r.1.form in (r.0, record { form = g.0; on = λ k o w. g.1 k o (r.1.on k o w) })
   rest_by h p q from t done halts (Refused e u) r = λ m.
@@ -63,10 +64,11 @@ module _ (rule : (g : Goal) → Production (Val g)) where
 
   then_ : {call : Histories} (h : Goal) (p q : Production (Val h)) (from t : Point)
       → ((x : Val h) (f : F.Filled rule h p x) → (g : F.Filled rule h q x)
-      × ((k : Demands) (o : Aim) → Way (F.demanded rule f k) t o → Way (F.demanded rule g k) from o)) → ((f : F.Stopped
-      rule h p) → (g : F.Stopped rule h q) × ((e : Refusal) (n : Rattle.rhai_grammar.specs.Prelude.Mode) (u : Point)
-      → Way (F.stopped rule f) t (Astray e n u) → Way (F.stopped rule g) from (Astray e n u))) → {r : Prog (Val
-      h)} {s : Point} {b : Bool} → Goes call h p t r s b → Goes call h q from r s b
+      × ((k : Demands) (o : Aim) → Way (F.demanded rule f k) t o → Way (F.demanded rule g k) from o))
+      → ((f : F.Stopped rule h p) → (g : F.Stopped rule h q)
+      × ((e : Refusal) (n : Mode) (u : Point) → Way (F.stopped rule f) t (Astray e n u)
+      → Way (F.stopped rule g) from (Astray e n u)))
+      → {r : Prog (Val h)} {s : Point} {b : Bool} → Goes call h p t r s b → Goes call h q from r s b
   then_ h p q from t done halts g = record { shown = rest_by h p q from t done halts _ g.shown }
 
   -- the token that was looked at is refused

@@ -13,3 +13,14 @@ pub mod Tidiness
 pub mod Agreement
 pub mod Promised
 pub mod Laws
+pub mod Events
+pub mod EventLaws
+pub mod Quiet
+pub mod Watched
+pub mod Kept
+pub mod Numbered
+pub mod Always
+pub mod ChainForms
+pub mod Runs
+pub mod Shaped
+pub mod StreamLaws

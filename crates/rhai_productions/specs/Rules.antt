@@ -60,8 +60,8 @@ production (goal.Import context live at) = import_of context live at
 production (goal.Export context live at) = choose view.Defined (export_by context live at)
 production goal.Alias = alias
 production (goal.Statement context live) = choose (view.StartOf context) (statement_by context live)
-production (goal.Statements closing context live before) = choose (view.PlaceIn closing) (statements closing context
-    live before)
+production (goal.Statements closing context live before) = choose (view.PlaceIn closing)
+    (statements closing context live before)
 production goal.BlockStart = block_start
 production (goal.Inside context live) = inside_by context live (has_single_blocks context)
 production (goal.Block context live at) = block_of context live at
@@ -90,8 +90,8 @@ production (goal.FunctionStatement context live comments first at is_private) =
 production (goal.Function context comments at is_private) = function context comments at is_private
 production goal.FunctionHead = function_head
 production (goal.ParameterList function) = choose view.Calls (parameters_by function)
-production (goal.Parameters parts function before) = choose (view.ParameterAt parts) (parameter_by parts function
-    before)
+production (goal.Parameters parts function before) = choose (view.ParameterAt parts)
+    (parameter_by parts function before)
 production (goal.Closure context live at by) = knows (may_begin context) (refusal cause.TooManyFunctions at)
     (closure_by context live at by)
 production (goal.ClosureBody context live) = closure_body context live

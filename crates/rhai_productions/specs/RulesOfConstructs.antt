@@ -42,14 +42,14 @@ braced context live at = part goal.BlockStart (λ opening. raise context at (λ 
 
 -- an expression that may be a truth value and no assignment; it begins with no `{`
 abbrev pub guard : Context → Live → Production Node
-guard context live = if_next (is_due due_token.LeftBrace) (never (λ _.
-    guard_expected)) (part (goal.Expression context live) (λ x.
-    faultless (guard_fault x) (if_next (is_due due_token.Equals) (never (λ _. no_assignment)) (give x))))
+guard context live = if_next (is_due due_token.LeftBrace) (never (λ _. guard_expected))
+    (part (goal.Expression context live) (λ x. faultless (guard_fault x)
+    (if_next (is_due due_token.Equals) (never (λ _. no_assignment)) (give x))))
 
 -- what `for` goes over: an expression that begins with no `{` and may be iterated
 abbrev pub iterated : Context → Live → Production Node
-iterated context live = if_next (is_due due_token.LeftBrace) (never (λ _.
-    guard_expected)) (part (goal.Expression context live) (λ x. tested x (iterated_fault x)))
+iterated context live = if_next (is_due due_token.LeftBrace) (never (λ _. guard_expected))
+    (part (goal.Expression context live) (λ x. tested x (iterated_fault x)))
 
 -- a guard, a block, and what follows `else`
 abbrev pub conditional : Context → Live → Position → Production node.Statement

@@ -66,8 +66,8 @@ function context comments at is_private = part goal.FunctionHead (λ head. part 
 
 -- A function, at the global level alone. There has to be room for it; it is one level deeper, with settings of its own;
 -- and no function with its key is there when it ends.
-abbrev pub function_statement : Context → Live → List Comment → Position → Position → Bool → Production (node.Statement
-    × Live)
+abbrev pub function_statement : Context → Live → List Comment → Position → Position → Bool
+    → Production (node.Statement × Live)
 function_statement context live comments first at is_private =
     must (is_global context) (refusal cause.WrongFnDefinition first) (knows (may_begin context)
     (refusal cause.TooManyFunctions at) (raise (in_function context live) at (λ deeper.

@@ -26,15 +26,15 @@ parted parts on end after.Nothing = never (not_after parts)
 -- an argument, and those that follow; a comma may stand before the `)`
 abbrev pub items_of : Context → Live → Nodes → Production Nodes
 items_of context live before = part (goal.Expression context live) (λ x. choose (view.PartOf lists.Arguments)
-    (parted lists.Arguments (if_next (λ token. is_close (after_part lists.Arguments token)) (this (λ token at.
-    give (with_node before x))) (part (goal.Items context live (with_node before x)) give))
+    (parted lists.Arguments (if_next (λ token. is_close (after_part lists.Arguments token))
+    (this (λ _ at. give (with_node before x))) (part (goal.Items context live (with_node before x)) give))
     (give (with_node before x))))
 
 -- arguments after their `(`, one level deeper than the name that they follow
 abbrev pub arguments_of : Context → Live → Position → Production Nodes
-arguments_of context live name = if_next no_argument (never (missing (codes ")"))) (if_next (λ token.
-    is_close (after_part lists.Arguments token)) (this (λ token at. give no_nodes)) (raise context name (λ deeper.
-    part (goal.Items deeper live no_nodes) give)))
+arguments_of context live name = if_next no_argument (never (missing (codes ")")))
+    (if_next (λ token. is_close (after_part lists.Arguments token)) (this (λ _ at. give no_nodes))
+    (raise context name (λ deeper. part (goal.Items deeper live no_nodes) give)))
 
 -- the `]` of an array, or one more item, one level deeper, and so on up to the `]`
 abbrev pub element_by : Context → Live → Position → Nodes → ItemPlace → Production Nodes
@@ -47,9 +47,10 @@ element_by context live opening before place.Nothing = never (no_item context.si
 -- the `}` of an object map, or the name of one more property and its colon; no name stands twice
 abbrev pub key_by : Context → Properties → KeyPlace → Production (Option (Text × Position))
 key_by context before FieldsEnd = this (λ _ at. give None)
-key_by context before (AKey key) = this (λ _ at. unless (has_key key before) (refusal (cause.DuplicatedProperty key)
-    at) (due due_token.Colon (if_next (λ m. full context.sizes.map (property_count before)) (never (λ m.
-    too_many_fields context.sizes.map)) (give (Some (key, at))))))
+key_by context before (AKey key) = this (λ _ at. unless (has_key key before)
+    (refusal (cause.DuplicatedProperty key) at) (due due_token.Colon (
+    if_next (λ _. full context.sizes.map (property_count before)) (never (λ _. too_many_fields context.sizes.map))
+    (give (Some (key, at))))))
 key_by context before (NoKey why) = never (λ _. why)
 
 -- the value of a property, one level deeper, and the properties after it

@@ -22,16 +22,18 @@ use Rattle.rhai_reading.specs.Goals as goal
 -- After a reserved word: a call, if it may be called; else it is `this`, in a function, or is refused.
 abbrev pub word_of : Context → Text → Position → Production Node
 word_of context word at = if_next (λ token. may_be_called word && calls token) (give (variable_of None word at))
-    (if is_this word then must (is_in_function context.settings) (refusal (cause.BadInput (cause.ImproperSymbol word))
-    at) (give (this_node at)) else stop (refusal (cause.Reserved word) at))
+    (if is_this word then must (is_in_function context.settings)
+    (refusal (cause.BadInput (cause.ImproperSymbol word)) at) (give (this_node at))
+    else stop (refusal (cause.Reserved word) at))
 
 -- a primary, by what its first token begins
 abbrev pub primary_by : Context → Live → Beginning → Production Node
 primary_by context live begin.Value = this (λ token at. give (value_of token at))
-primary_by context live begin.Name = this (λ token at. uses excludes_use (λ fs m. excludes_use m
-    || may_use context live fs (text_of token)) (refusal (cause.VariableUndefined (text_of token)) at) (λ fs m.
-    captures_use context live (text_of token) fs m) (record { name = text_of token; at = at }) (λ excluded.
-    give (name_tree live.slots excluded (text_of token) at)))
+primary_by context live begin.Name = this (λ token at. uses excludes_use
+    (λ fs following. excludes_use following || may_use context live fs (text_of token))
+    (refusal (cause.VariableUndefined (text_of token)) at)
+    (λ fs following. captures_use context live (text_of token) fs following) (record { name = text_of token; at = at })
+    (λ excluded. give (name_tree live.slots excluded (text_of token) at)))
 primary_by context live begin.Word = this (λ token at. word_of context (text_of token) at)
 primary_by context live begin.Group = this (λ _ at. raise context at (λ deeper. part (goal.Expression deeper live)
     (λ x. due due_token.RightParen (give x))))
@@ -41,11 +43,12 @@ primary_by context live begin.Map = this (λ _ at. raise context at (λ deeper.
     part (goal.Fields deeper live at no_properties) (λ ps. give (object_map ps at))))
 primary_by context live begin.Interpolated = this (λ token at. raise context at (λ deeper.
     part (goal.Segments deeper live at (added_text no_nodes (text_of token) at)) (λ ns. give (interpolated ns at))))
-primary_by context live (begin.Construct kind) = if may_be_value context kind then this (λ _ at.
-    raise context at (λ deeper. raise deeper at (λ inside. part (goal.Construct inside live at kind) (λ f.
-    give (block_value (made_block f)))))) else never no_operand
-primary_by context live (begin.Closure by) = if may_be_closure context by then this (λ _ at.
-    part (goal.Closure context live at by) give) else never no_operand
+primary_by context live (begin.Construct kind) = if may_be_value context kind
+    then this (λ _ at. raise context at (λ deeper. raise deeper at (λ inside.
+    part (goal.Construct inside live at kind) (λ f. give (block_value (made_block f))))))
+    else never no_operand
+primary_by context live (begin.Closure by) = if may_be_closure context by
+    then this (λ _ at. part (goal.Closure context live at by) give) else never no_operand
 primary_by context live begin.Sign = never unexpected
 primary_by context live begin.Range = here (λ at. give (integer (pos 0) at))
 primary_by context live begin.Nothing = never no_operand
@@ -76,9 +79,9 @@ follower_by Other = give None
 abbrev pub binary_on : Context → Live → Position → ℕ → Node → ℕ × Bool → Production Node
 binary_on context live at parent lhs op = this (λ token pos. part (goal.RightOperand context live (place_after token))
     (λ y. part (goal.NextOperator context.filter) (λ next. raise context at (λ deeper.
-    part (goal.BinaryOp deeper live (position_of y) op.0 y) (λ r. must (boolean_holds token lhs) (mismatched lhs)
-    (must (boolean_holds token r) (mismatched r) (part (goal.BinaryOp deeper live pos parent
-    (operator_tree token pos lhs r)) give)))))))
+    part (goal.BinaryOp deeper live (position_of y) op.0 y) (λ r.
+    must (boolean_holds token lhs) (mismatched lhs) (must (boolean_holds token r) (mismatched r)
+    (part (goal.BinaryOp deeper live pos parent (operator_tree token pos lhs r)) give)))))))
 
 -- what follows an operand in a run of some strength: an operator that goes on with it, or what ends it
 abbrev pub binary_of : Context → Live → Position → ℕ → Node → Option (ℕ × Bool) → Production Node
@@ -99,6 +102,7 @@ whole context live = part (goal.Expression context live) (λ x. if_next is_end (
 -- which is refused at the first text.
 abbrev pub segments_of : Context → Live → Position → Nodes → Production Nodes
 segments_of context live start before = part goal.BlockStart (λ opening. raise context start (λ deeper.
-    part (goal.Inside deeper live) (λ fs. part goal.TextAfter (λ t. if t.2 then give (added_text (with_node before
-    (block_value (braces fs opening t.0))) t.1 t.3) else part (goal.Segments context live start
+    part (goal.Inside deeper live) (λ fs. part goal.TextAfter (λ t.
+    if t.2 then give (added_text (with_node before (block_value (braces fs opening t.0))) t.1 t.3)
+    else part (goal.Segments context live start
     (added_text (with_node before (block_value (braces fs opening t.0))) t.1 t.3)) give))))

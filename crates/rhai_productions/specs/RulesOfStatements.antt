@@ -79,8 +79,8 @@ private_of context live comments first = take (is_due due_token.Fn) (not_due due
     part (goal.FunctionStatement context live comments first at true) give)
 
 -- what doc comments belong to: a function, which may be private
-abbrev pub documented_by : Context → Live → List Comment → Position → StatementStart → Production (node.Statement
-    × Live)
+abbrev pub documented_by : Context → Live → List Comment → Position → StatementStart
+    → Production (node.Statement × Live)
 documented_by context live comments first start.Function = this (λ _ at.
     part (goal.FunctionStatement context live comments at at false) give)
 documented_by context live comments first start.Private = this (λ _ at. private_of context live comments at)
@@ -130,8 +130,8 @@ after_one closing context live fs true = part (goal.Statements closing context l
 after_one closing context live fs false = choose (EndIn closing) (separated closing context live fs)
 
 -- the end of a list of statements, or one more and what follows it
-abbrev pub statements : Closing → Context → Live → node.Statements → StatementPlace → Production (node.Statements
-    × Live)
+abbrev pub statements : Closing → Context → Live → node.Statements → StatementPlace
+    → Production (node.Statements × Live)
 statements closing context live before stands.Close = give (before, live)
 statements closing context live before stands.Statement = part (goal.Statement context live) (λ f.
     after_one closing context f.1 (with_kept before f.0) (ends_itself f.0))
