@@ -34,3 +34,15 @@ pub mod ShapesOfStatements
 pub mod Shapes
 pub mod WholeLemmas
 pub mod Fairness
+pub mod LineLemmas
+pub mod LinesOfLists
+pub mod LinesOfOperands
+pub mod LinesOfChains
+pub mod LinesOfStatements
+pub mod LinesOfJumps
+pub mod LinesOfConstructs
+pub mod LinesOfLoops
+pub mod LinesOfSwitches
+pub mod LinesOfModules
+pub mod LinesOfFunctions
+pub mod LinesOfClosures

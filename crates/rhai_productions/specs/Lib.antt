@@ -24,3 +24,15 @@ pub mod ChainForms
 pub mod Runs
 pub mod Shaped
 pub mod StreamLaws
+pub mod Lines
+pub mod LinesOfLists
+pub mod LinesOfOperands
+pub mod LinesOfChains
+pub mod LinesOfStatements
+pub mod LinesOfJumps
+pub mod LinesOfConstructs
+pub mod LinesOfLoops
+pub mod LinesOfSwitches
+pub mod LinesOfModules
+pub mod LinesOfFunctions
+pub mod LinesOfClosures

@@ -3,3 +3,4 @@
 
 pub mod form_laws;
 pub mod laws;
+pub mod lines;
