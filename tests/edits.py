@@ -123,11 +123,13 @@ def answer(printed):
     if not last:
         return None, (lines or ["nothing was printed"])[-1][:200]
     notes = [line for line in lines if re.match(r"(note: )?(\./)?(src|proofs|specs)/\S+:\d+:\d+:", line)]
-    code = [line for line in notes if "proofs/" not in line.split(":")[0 if line[0] != "n" else 1]]
-    note = (code or notes or [""])[0]
-    clause = re.search(r"\(`([^`]*)`\)", note)
-    where = clause.group(1) if clause else note[:100].replace("\t", " ")
-    return last.startswith("logic=not-proved"), where if code else f"a proof by hand: {where}"
+    notes = [line for line in notes if "large solution" not in line]
+    code = [line for line in notes if not re.match(r"(note: )?(\./)?proofs/", line)]
+    owed = [line for line in lines if " must prove: " in line]
+    note = (code or owed or notes or [""])[0]
+    clause = re.search(r"\(`([^`]*)`\)|`([^`]*)` of proofs", note)
+    where = (clause.group(1) or clause.group(2)) if clause else note[:100].replace("\t", " ")
+    return last.startswith("logic=not-proved"), where if code or owed else f"a proof by hand: {where}"
 
 
 def tried(edit, home):
