@@ -1,9 +1,9 @@
 -- One part more, and the first node less, in what a walk has still to give.
-use Rattle.std.proofs.Common.{◌≡◌, ◌∙◌, ℕ, Bool, true, false, List, [], ◌∷◌, ◌++◌, IsOk, OnOk, Option, Some, None, Result, Ok, Err, ap, append_assoc, inl, inr, refl, reverse, subst, sym}
+use Rattle.std.proofs.Common.{◌≡◌, ◌∙◌, ℕ, Bool, true, false, List, [], ◌∷◌, ◌++◌, IsOk, OnOk, Option, Some, None, Result, Ok, Err, ap, append_assoc, inl, inr, refl, subst, sym}
 use Rattle.std.proofs.lemmas.List.{append-nil, reverse-append}
 use Rattle.std.specs.List.{flat_map}
 use Rattle.std.specs.declared.alloc.AllocError.{AllocError}
-use Rattle.rhai_lower.specs.WalkState.{Calls, Gives, optional_part_walk, part_walk, pending_walk, visited}
+use Rattle.rhai_lower.specs.WalkState.{Calls, Gives, optional_part_walk, part_walk, pending_walk}
 use Rattle.rhai_lower.specs.Walks.{Left, Visit, Visited, all_left, walk_of}
 use Rattle.rhai_lower.specs.declared.walk.Due.{Due}
 use Rattle.rhai_lower.specs.declared.walk.Node.{Node}

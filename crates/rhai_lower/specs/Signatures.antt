@@ -1,5 +1,5 @@
 -- The signatures of functions, as they are shown.
-use Rattle.std.specs.Prelude.{◌≡◌, ◌++◌, Bool, true, false, List, [], ◌∷◌, Option, Some, None, codes, refl}
+use Rattle.std.specs.Prelude.{◌≡◌, ◌++◌, Bool, true, false, [], ◌∷◌, Option, Some, None, codes, refl}
 use Rattle.std.specs.List.{join_by}
 use Rattle.rhai_lower.specs.Nodes.{Block, Function}
 use Rattle.rhai_lower.specs.Texts.{Text}
