@@ -1,0 +1,166 @@
+-- Each production is read as the reading program says: the table.
+use Rattle.std.proofs.Common.{Bool, Option, Some, None, List, [], ◌∷◌, refl}
+use Rattle.std.proofs.Common.{if◌then◌else◌}
+use Rattle.rhai_reading.specs.Reading as R
+use Rattle.rhai_reading.specs.Reading.{Goal, Val, Prog, Ret, Fail, Peek, Take, Call, Know, body}
+use Rattle.rhai_reading.specs.Moves.{Moves}
+use Rattle.rhai_productions.specs.Schema as S
+use Rattle.rhai_productions.specs.Schema.{Production, give, never, this, choose, if_next, must, knows, adds, due}
+use Rattle.rhai_productions.specs.Schema.{faultless, unless, run, run_from, stop}
+use Rattle.rhai_productions.specs.Rules as P
+use Rattle.rhai_productions.specs.Rules.{production}
+use Rattle.rhai_productions.specs.Agreement.{Agrees}
+use Rattle.rhai_productions.proofs.Looked.{Lawful, AgreesAt, equal, equal_at, at_once, look, again, taken, part_so}
+use Rattle.rhai_productions.proofs.Looked.{or_else, test, both}
+use Rattle.rhai_grammar.specs.Statements.{statement_place}
+use Rattle.rhai_grammar.specs.Verdicts.{next_key}
+use Rattle.rhai_grammar.specs.Causes as cause
+use Rattle.rhai_grammar.specs.declared.due.DueToken.TheVariants as due_token
+use Rattle.rhai_grammar.specs.declared.list.CommaList.TheVariants as lists
+use Rattle.rhai_grammar.specs.declared.role.StatementStart.TheVariants as start
+use Rattle.rhai_grammar.specs.Prelude.{Lexeme, Position, refusal, Context, Live, text_of}
+use Rattle.rhai_grammar.specs.Prelude.{is_due}
+use Rattle.rhai_grammar.specs.Prelude.{is_global}
+use Rattle.rhai_grammar.specs.Prelude.{is_name, no_variable}
+use Rattle.rhai_grammar.specs.Prelude.{has_single_blocks}
+use Rattle.rhai_grammar.specs.Prelude.{after_part}
+use Rattle.rhai_grammar.specs.Prelude.{node_count}
+use Rattle.rhai_grammar.specs.Prelude.{Comment}
+use Rattle.rhai_grammar.specs.Prelude.{beginning, calling, linking}
+use Rattle.rhai_grammar.specs.Prelude.{follower_of, defines}
+use Rattle.rhai_grammar.specs.Prelude.{arm_place, parameter_place, item_place, operand_start}
+use Rattle.rhai_grammar.specs.Prelude.{statement_start, do_end}
+use Rattle.rhai_productions.specs.Schema.{name}
+use Rattle.rhai_grammar.specs.declared.role.StatementStart.{StatementStart}
+use Rattle.rhai_productions.proofs.SameOperands.{same_items, same_element}
+use Rattle.rhai_productions.proofs.SameOperands.{same_key, same_field, same_called}
+use Rattle.rhai_productions.proofs.SameOperands.{same_postfix, same_links, same_index, same_member}
+use Rattle.rhai_productions.proofs.SameOperands.{same_operand, same_right, same_primary, same_segments, same_follower}
+use Rattle.rhai_productions.proofs.SameOperands.{same_binary}
+use Rattle.rhai_productions.proofs.SameStatements.{same_construct, same_guard}
+use Rattle.rhai_productions.proofs.SameStatements.{same_iterated, same_do_end}
+use Rattle.rhai_productions.proofs.SameStatements.{same_statements, same_jump, same_evaluated, same_inside, same_arms}
+use Rattle.rhai_productions.proofs.SameStatements.{same_arm, same_action, same_arm_end, same_default_end}
+use Rattle.rhai_productions.proofs.SameStatements.{same_closure, same_head}
+use Rattle.rhai_productions.proofs.SameStatements.{same_parameters, same_parameter, same_counted}
+
+-- ---- where the reading program looks twice at one token
+
+module _ {Z : Type 0} (m : Moves Z) (law : Lawful m) where
+  abbrev Same : Goal → Type 0
+  Same g = Agrees m (run (production g)) (body g)
+
+  same_export : (c : Context) (w : Live) (at : Position) (l : Lexeme) (pos : Position) (v : Option Bool)
+      → AgreesAt m law l pos (run_from (P.export_by c w at v) (Some (l, pos))) (R.export_at c w at pos v)
+  same_export c w at l pos (Some constant) = equal_at m law refl
+  same_export c w at l pos None = again m law _ (equal_at m law refl)
+
+  same_loop_names : (l : Lexeme) (at : Position)
+      → AgreesAt m law l at (run_from P.loop_names (Some (l, at))) (R.loop_names_at l)
+  same_loop_names l at =
+      both m law (equal m law (λ i. if is_due due_token.LeftParen l then Take (Peek (λ n p. if is_name n
+      then Take (R.match_token due_token.Comma (Peek (λ k q. if is_name k
+      then Take (same_counted (text_of n) (text_of k) q i)
+      else Fail (refusal (no_variable k) q)))) else Fail (refusal (no_variable n) p)))
+      else (if is_name l then Take (R.match_token due_token.In (Ret (text_of l, None)))
+      else Fail (refusal (no_variable l) at))))
+      (or_else m law (is_due due_token.LeftParen l) (Take (R.match_name R.first_of_two))
+      (again m law (λ k p. if is_name k then Take (R.match_token due_token.In (Ret (text_of k, None)))
+      else Fail (refusal (no_variable k) p))
+      (equal_at m law refl)))
+
+  same_private : (c : Context) (w : Live) (comments : List Comment) (at : Position)
+      → Agrees m (Take (run (P.private_of c w comments at))) (R.private_on c w comments at)
+  same_private c w comments at = taken m law (look m law (λ l pos. again m law _ (equal_at m law refl)))
+
+  same_documented : (c : Context) (w : Live) (first : Position) (comments : List Comment) (l : Lexeme) (at : Position)
+      (v : StatementStart) → Agrees m (run_from (P.documented_by c w comments first v) (Some (l, at)))
+      (R.documented_at c w first comments at v)
+  same_documented c w first comments l at start.Private = same_private c w comments at
+  same_documented c w first comments l at _ = equal m law refl
+
+  same_comment : (c : Context) (w : Live) (first : Comment) → Agrees m (run (must (is_global c)
+      (refusal cause.WrongDocComment first.at) (S.part (R.Comments (first ∷ [])) (λ comments.
+      choose (S.StartOf c) (P.documented_by c w comments first.at))))) (R.documented c w first)
+  same_comment c w first = test m law (is_global c) _ (part_so m law (R.Comments (first ∷ [])) (λ comments.
+      look m law (λ l at. at_once m law (same_documented c w first.at comments l at (statement_start c l)))))
+
+  same_statement : (c : Context) (w : Live) (l : Lexeme) (at : Position) (v : StatementStart)
+      → AgreesAt m law l at (run_from (P.statement_by c w v) (Some (l, at))) (R.statement_at c w at v)
+  same_statement c w l at start.Private = at_once m law (same_private c w [] at)
+  same_statement c w l at start.Comment =
+      again m law (λ k p. Take (R.documented c w (R.comment_of k p)))
+      (at_once m law (taken m law (same_comment c w (R.comment_of l at))))
+  same_statement c w l at _ = equal_at m law refl
+
+  same_default : (c : Context) (w : Live) (default : Position) (l : Lexeme) (at : Position)
+      → AgreesAt m law l at (run_from (P.default_arm c w default) (Some (l, at))) (R.default_at c w default l at)
+  same_default c w default l at = or_else m law (is_due due_token.If l) _ (again m law _ (equal_at m law refl))
+
+  -- Each production is read as the reading program says.
+  pub same : (g : Goal) → Same g
+  same (R.Whole c w) = equal m law refl
+  same (R.Expression c w) = equal m law refl
+  same (R.Operand c w) = equal m law (λ i. Peek (λ l at. same_operand c w l at (beginning l) i))
+  same (R.RightOperand c w place) = equal m law (λ i. Peek (λ l at. same_right c w l at (operand_start place l) i))
+  same (R.Primary c w) = equal m law (λ i. Peek (λ l at. same_primary c w l at (beginning l) i))
+  same (R.Called c w name q) = equal m law (λ i. Peek (λ l at. same_called c w name q l at (calling l) i))
+  same (R.Path w x) = equal m law refl
+  same (R.Links w spot) = equal m law (λ i. Peek (λ l at. same_links w spot l at (linking l) i))
+  same (R.Index c w indexed) = equal m law (same_index c w indexed)
+  same (R.Member c w) = equal m law (same_member c w)
+  same (R.Postfix c w x) = equal m law (same_postfix c w x)
+  same (R.Arguments c w at) = equal m law refl
+  same (R.Items c w before) = equal m law (same_items c w before)
+  same (R.Elements c w opening before) = equal m law (λ i. Peek (λ l at.
+      same_element c w opening before l at (item_place c.sizes.array (node_count before) l) i))
+  same (R.Fields c w opening before) =
+      equal m law (λ i. Call (R.NextKey c before) (λ v. same_field c w opening before v i))
+  same (R.Segments c w start before) = equal m law (same_segments c w start before)
+  same R.TextAfter = equal m law refl
+  same (R.Jump c w at) = equal m law (same_jump c w at)
+  same (R.NextKey c before) = equal m law (λ i. Peek (λ l at. same_key c before l at (next_key c.settings before l) i))
+  same (R.NextOperator filter) = equal m law (λ i. Peek (λ l at. same_follower at l (follower_of filter l) i))
+  same (R.BinaryOp c w at parent lhs) =
+      equal m law (λ i. Call (R.NextOperator c.filter) (λ v. same_binary c w at parent lhs v i))
+  same (R.ExprStatement c w) = equal m law (same_evaluated c w)
+  same (R.VarName c w) = equal m law refl
+  same (R.Initializer c w at) = equal m law refl
+  same (R.Definition c w at k e) = equal m law refl
+  same (R.Import c w at) = equal m law refl
+  same (R.Export c w at) = look m law (λ l pos. same_export c w at l pos (defines l))
+  same R.Alias = equal m law refl
+  same (R.Statement c w) = look m law (λ l at. same_statement c w l at (statement_start c l))
+  same (R.Statements closing c w before) = equal m law (λ i. Peek (λ l at.
+      same_statements closing c w before l at (statement_place closing l) i))
+  same R.BlockStart = look m law (λ l at. again m law _ (equal_at m law refl))
+  same (R.Inside c w) = equal m law (same_inside c w (has_single_blocks c))
+  same (R.Block c w at) = equal m law refl
+  same (R.BlockEnd at fs) = look m law (λ l end. again m law _ (equal_at m law refl))
+  same (R.Construct c w at kind) = equal m law (same_construct c w at kind)
+  same (R.Braced c w at) = equal m law refl
+  same (R.Guard c w) = equal m law (same_guard c w)
+  same (R.Iterated c w) = equal m law (same_iterated c w)
+  same (R.Conditional c w at) = equal m law refl
+  same (R.Branch c w at) = equal m law refl
+  same R.LoopNames = look m law same_loop_names
+  same R.Catch = equal m law refl
+  same R.DoEnd = equal m law (λ i. Peek (λ l at. same_do_end (do_end l) l at i))
+  same (R.Arms c w before) = equal m law (λ i. Peek (λ l at. same_arms c w before l at (arm_place l) i))
+  same (R.Arm c w before) = equal m law (same_arm c w before)
+  same (R.DefaultArm c w default) = look m law (same_default c w default)
+  same (R.Cases c w before) = equal m law refl
+  same (R.Case c w) = equal m law refl
+  same (R.CaseGuard c w) = equal m law refl
+  same (R.Action c w) = equal m law (same_action c w (has_single_blocks c))
+  same (R.ArmEnd itself) = equal m law (λ i. Peek (λ l at. same_arm_end itself l at (after_part lists.Arms l) i))
+  same (R.DefaultEnd default) = equal m law (λ i. Peek (λ l at. same_default_end default l at (arm_place l) i))
+  same (R.Comments before) = equal m law refl
+  same (R.FunctionStatement c w comments first at is_private) = equal m law refl
+  same (R.Function c comments at is_private) = equal m law refl
+  same R.FunctionHead = equal m law same_head
+  same (R.ParameterList function) = equal m law (λ i. Peek (λ l at. same_parameters function l at (calling l) i))
+  same (R.Parameters parts function before) = equal m law (λ i. Peek (λ l at.
+      same_parameter parts function before l at (parameter_place parts l) i))
+  same (R.Closure c w at by) = equal m law (same_closure c w at by)
+  same (R.ClosureBody c w) = equal m law refl
