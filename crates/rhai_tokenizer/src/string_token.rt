@@ -21,6 +21,7 @@ use std::alloc::{AllocError, Global};
 use std::rc::{Rc, RcStr};
 
 // Whether a string of this value is too long.
+#[inline(always)]
 fn is_too_long(limits: Limits, value: &str) -> bool
     ensures { result ≡ (nat_lt 0 limits.max_string_size && nat_lt limits.max_string_size (length value.now)) }
 {
@@ -28,6 +29,7 @@ fn is_too_long(limits: Limits, value: &str) -> bool
 }
 
 /// The token of a string of this value. Returns `AllocError` if memory runs out.
+#[inline(always)]
 pub fn string_token(
     alloc: Global,
     names: &mut Interner,
@@ -43,6 +45,7 @@ pub fn string_token(
     Ok(Token::StringConstant(names.name(alloc, value)?))
 }
 
+#[inline(always)]
 fn interpolated_token(
     alloc: Global,
     names: &mut Interner,
@@ -59,6 +62,7 @@ fn interpolated_token(
 }
 
 /// The token of a part of a back-ticked string. Returns `AllocError` if memory runs out.
+#[inline(always)]
 pub fn ticked_token(
     alloc: Global,
     names: &mut Interner,
@@ -77,6 +81,7 @@ pub fn ticked_token(
 }
 
 // The token of a string or a character without wrong escapes.
+#[inline(always)]
 fn quoted_token(
     alloc: Global,
     names: &mut Interner,
@@ -95,6 +100,7 @@ fn quoted_token(
 }
 
 // The error of a wrong escape.
+#[inline(never)]
 fn wrong_escape(alloc: Global, text: RcStr) -> Result<Token, AllocError>
     ensures value { IfOk result (λ t. lexeme t ≡ improper (rc_str_bytes text) (codes "not a valid escape sequence")) }
     ensures delivered { IfOk result (λ t. token_may_be_delivered t ≡ true) }
@@ -104,6 +110,7 @@ fn wrong_escape(alloc: Global, text: RcStr) -> Result<Token, AllocError>
 }
 
 /// The token of a string or a character, and where it stands. Returns `AllocError` if memory runs out.
+#[inline(always)]
 pub fn faulty_or(
     alloc: Global,
     names: &mut Interner,
