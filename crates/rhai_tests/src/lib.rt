@@ -34,4 +34,6 @@ mod script;
 #[cfg(test)]
 mod states;
 #[cfg(test)]
+mod text_allocation;
+#[cfg(test)]
 mod text_mode;

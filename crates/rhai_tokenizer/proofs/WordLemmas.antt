@@ -1,4 +1,4 @@
--- What the tables say of symbols and words is what they mean.
+-- What the table says of words.
 use Rattle.std.proofs.Common.{◌≡◌, Bool, true, false, cond, List, [], ◌∷◌, map, Some, None, refl, sym, ap, ◌∙◌, true≢false, codes}
 use Rattle.std.proofs.lemmas.Bool.{or_parts, false_from_ne_true}
 use Rattle.std.specs.List.{list_all}
@@ -8,13 +8,12 @@ use Rattle.rhai_lower.specs.Lexemes.{Lexeme, Name}
 use Rattle.rhai_lower.specs.Tokens.{literal_of}
 use Rattle.rhai_lower.specs.declared.token.Token.{Token}
 use Rattle.rhai_tokenizer.specs.declared.table.Meaning.{Meaning}
-use Rattle.rhai_tokenizer.specs.Cutting.{Table, lookup, symbol_table, word_table}
+use Rattle.rhai_tokenizer.specs.Cutting.{Table, lookup, word_table}
 use Rattle.rhai_tokenizer.specs.CuttingMeanings.{meaning_of}
-use Rattle.rhai_tokenizer.specs.Symbols.{keywords, reserved_words, signs, reserved_symbols, refused_symbols, improper, or_token, symbol_lexeme, word_lexeme}
+use Rattle.rhai_tokenizer.specs.Symbols.{keywords, reserved_words, improper, or_token, word_lexeme}
 use Rattle.rhai_tokenizer.proofs.ByteLemmas.{same_is, same_refl, at_member}
 
--- the entries mean what they say
-abbrev Right : (Text → Lexeme) → Table → Type 0
+abbrev pub Right : (Text → Lexeme) → Table → Type 0
 Right f [] = Unit {0}
 Right f (e ∷ es) = (f e.0 ≡ meaning_of e.0 e.1) × Right f es
 
@@ -208,218 +207,7 @@ words_right = (
   ),
 )
 
-symbols_right : Right symbol_lexeme symbol_table
-unfolding symbol_table signs reserved_symbols refused_symbols
-symbols_right = (
-  refl,
-  (
-    refl,
-    (
-      refl,
-      (
-        refl,
-        (
-          refl,
-          (
-            refl,
-            (
-              refl,
-              (
-                refl,
-                (
-                  refl,
-                  (
-                    refl,
-                    (
-                      refl,
-                      (
-                        refl,
-                        (
-                          refl,
-                          (
-                            refl,
-                            (
-                              refl,
-                              (
-                                refl,
-                                (
-                                  refl,
-                                  (
-                                    refl,
-                                    (
-                                      refl,
-                                      (
-                                        refl,
-                                        (
-                                          refl,
-                                          (
-                                            refl,
-                                            (
-                                              refl,
-                                              (
-                                                refl,
-                                                (
-                                                  refl,
-                                                  (
-                                                    refl,
-                                                    (
-                                                      refl,
-                                                      (
-                                                        refl,
-                                                        (
-                                                          refl,
-                                                          (
-                                                            refl,
-                                                            (
-                                                              refl,
-                                                              (
-                                                                refl,
-                                                                (
-                                                                  refl,
-                                                                  (
-                                                                    refl,
-                                                                    (
-                                                                      refl,
-                                                                      (
-                                                                        refl,
-                                                                        (
-                                                                          refl,
-                                                                          (
-                                                                            refl,
-                                                                            (
-                                                                              refl,
-                                                                              (
-                                                                                refl,
-                                                                                (
-                                                                                  refl,
-                                                                                  (
-                                                                                    refl,
-                                                                                    (
-                                                                                      refl,
-                                                                                      (
-                                                                                        refl,
-                                                                                        (
-                                                                                          refl,
-                                                                                          (
-                                                                                            refl,
-                                                                                            (
-                                                                                              refl,
-                                                                                              (
-                                                                                                refl,
-                                                                                                (
-                                                                                                  refl,
-                                                                                                  (
-                                                                                                    refl,
-                                                                                                    (
-                                                                                                      refl,
-                                                                                                      (
-                                                                                                        refl,
-                                                                                                        (
-                                                                                                          refl,
-                                                                                                          (
-                                                                                                            refl,
-                                                                                                            (
-                                                                                                              refl,
-                                                                                                              (
-                                                                                                                refl,
-                                                                                                                (
-                                                                                                                  refl,
-                                                                                                                  (
-                                                                                                                    refl,
-                                                                                                                    (
-                                                                                                                      refl,
-                                                                                                                      (
-                                                                                                                        refl,
-                                                                                                                        (
-                                                                                                                          refl,
-                                                                                                                          (
-                                                                                                                            refl,
-                                                                                                                            (
-                                                                                                                              refl,
-                                                                                                                              (
-                                                                                                                                refl,
-                                                                                                                                (
-                                                                                                                                  refl,
-                                                                                                                                  (
-                                                                                                                                    refl,
-                                                                                                                                    (
-                                                                                                                                      refl,
-                                                                                                                                      (
-                                                                                                                                        refl,
-                                                                                                                                        (
-                                                                                                                                          refl,
-                                                                                                                                          (refl, (refl, (refl, (refl, tt)))),
-                                                                                                                                        ),
-                                                                                                                                      ),
-                                                                                                                                    ),
-                                                                                                                                  ),
-                                                                                                                                ),
-                                                                                                                              ),
-                                                                                                                            ),
-                                                                                                                          ),
-                                                                                                                        ),
-                                                                                                                      ),
-                                                                                                                    ),
-                                                                                                                  ),
-                                                                                                                ),
-                                                                                                              ),
-                                                                                                            ),
-                                                                                                          ),
-                                                                                                        ),
-                                                                                                      ),
-                                                                                                    ),
-                                                                                                  ),
-                                                                                                ),
-                                                                                              ),
-                                                                                            ),
-                                                                                          ),
-                                                                                        ),
-                                                                                      ),
-                                                                                    ),
-                                                                                  ),
-                                                                                ),
-                                                                              ),
-                                                                            ),
-                                                                          ),
-                                                                        ),
-                                                                      ),
-                                                                    ),
-                                                                  ),
-                                                                ),
-                                                              ),
-                                                            ),
-                                                          ),
-                                                        ),
-                                                      ),
-                                                    ),
-                                                  ),
-                                                ),
-                                              ),
-                                            ),
-                                          ),
-                                        ),
-                                      ),
-                                    ),
-                                  ),
-                                ),
-                              ),
-                            ),
-                          ),
-                        ),
-                      ),
-                    ),
-                  ),
-                ),
-              ),
-            ),
-          ),
-        ),
-      ),
-    ),
-  ),
-)
-
-found_right : (f : Text → Lexeme) (xs : Table) (t : Text) (m : Meaning) → Right f xs → lookup xs t ≡ Some m → f t
+pub found_right : (f : Text → Lexeme) (xs : Table) (t : Text) (m : Meaning) → Right f xs → lookup xs t ≡ Some m → f t
     ≡ meaning_of t m
 found_right f [] t m r h = absurd cc
 found_right f (e ∷ es) t m (here, more) h = by (same_text e.0 t) refl h (found_right f es t m more)
@@ -434,9 +222,6 @@ found_right f (e ∷ es) t m (here, more) h = by (same_text e.0 t) refl h (found
 
 pub word_right : (t : Text) (m : Meaning) → lookup word_table t ≡ Some m → word_lexeme t ≡ meaning_of t m
 word_right t m h = found_right word_lexeme word_table t m words_right h
-
-pub symbol_right : (t : Text) (m : Meaning) → lookup symbol_table t ≡ Some m → symbol_lexeme t ≡ meaning_of t m
-symbol_right t m h = found_right symbol_lexeme symbol_table t m symbols_right h
 
 -- ---- other words
 

@@ -28,10 +28,7 @@ is_plain c = nat_lt c 128 && not (c == 10)
 abbrev pub is_small : ℕ → Bool
 is_small c = nat_lt c 128
 
--- past all integers
-abbrev pub too_large : ℕ
-too_large = 0x8000_0000_0000_0001
-
+-- past all integers of 64 bits
 abbrev pub past_bits : ℕ
 past_bits = 0x1_0000_0000_0000_0000
 
