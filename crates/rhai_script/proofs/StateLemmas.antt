@@ -192,6 +192,15 @@ script_parsed engine chosen settings state stream held constants after left resu
     let p3 = subst (λ l. ReadsScript context nothing_live (library_of l) after (cursor_of state.input.now) left result slots modules) n.lib p2 in
     subst (λ s. ReadsScript context nothing_live (library_of held) after (cursor_of s) left result slots modules) n.input p3
 
+-- the same with what is left under other names
+pub script_left : {context : Context} {live : Live} {before : Library} {start : Cursor} {result : Read} {slots : List SlotValue}
+    {modules : List Text} (read found : Functions) (left seen : Cursor) → read ≡ found → left ≡ seen
+    → ReadsScript context live before (library_of read) start left result slots modules
+    → ReadsScript context live before (library_of found) start seen result slots modules
+script_left {context} {live} {before} {start} {result} {slots} {modules} read found left seen same here reads =
+    subst (λ k. ReadsScript context live before (library_of found) start k result slots modules) here
+    (subst (λ es. ReadsScript context live before (library_of es) start left result slots modules) same reads)
+
 -- What keeps the order from these counts keeps it in a new state.
 pub order_kept : (engine : EngineValue) (state : StateValue) (stream : Stream) (held : Functions) (constants : Constants) (after : Library)
     → IsNew state stream held constants → KeepsOrder engine (counts_of state.counts) (library_of state.lib.now.entries) after

@@ -8,7 +8,7 @@ use Rattle.rhai_base.specs.Libraries.{library_of}
 use Rattle.rhai_parser.specs.Engines.{script_settings}
 use Rattle.rhai_parser.specs.Scripts.{ReadsScript}
 use Rattle.rhai_script.specs.GlobalLevels.{script_context}
-use Rattle.rhai_script.proofs.StateLemmas.{IsNew, fresh, order_kept, script_parsed}
+use Rattle.rhai_script.proofs.StateLemmas.{IsNew, fresh, order_kept, script_left, script_parsed}
 use Rattle.rhai_script.proofs.global_level.read_stream.Goals as goal
 
 pub returns-clause-reads : goal.returns-clause-reads
@@ -36,14 +36,7 @@ returns-clause-reads c =
         c.args.lib.now.entries c.args.constants (library_of state.lib.now.entries) (cursor_of state.input.now)
         c.parse_global_level-script.result state.stack (map rc_str_bytes state.imports.items) chosen new
         (reads.2 (fresh c.new-state.result c.args.input.now c.args.lib.now.entries c.args.constants new c.requires)).0 in
-    let lib : state.lib.now ≡ c.lib-1.given.0 = search rules in
-    let input : state.input.now ≡ c.input-1.given.0 = search rules in
-    subst (λ l. ReadsScript (script_context c.args.engine.now c.args.constants) nothing_live (library_of c.args.lib.now.entries)
-        (library_of l.entries) (cursor_of c.args.input.now) (cursor_of c.input-1.given.0) c.parse_global_level-script.result state.stack
-        (map rc_str_bytes state.imports.items)) lib
-    (subst (λ s. ReadsScript (script_context c.args.engine.now c.args.constants) nothing_live (library_of c.args.lib.now.entries)
-        (library_of state.lib.now.entries) (cursor_of c.args.input.now) (cursor_of s) c.parse_global_level-script.result state.stack
-        (map rc_str_bytes state.imports.items)) input parsed)
+    script_left state.lib.now.entries _ (cursor_of state.input.now) _ (search rules) (search rules) parsed
 
 pub returns-clause-orderly : goal.returns-clause-orderly
 returns-clause-orderly c =
@@ -62,8 +55,7 @@ returns-clause-orderly c =
       global_imports = e.global_imports;
     } in
     let state = c.parse_global_level-script.new.state in
-    let lib : state.lib.now ≡ c.lib-1.given.0 = search rules in
-    subst (λ l. IsOrderly c.args.engine.now.max_functions 0 (library_of c.args.lib.now.entries)
-        → IsOrderly c.args.engine.now.max_functions 0 (library_of l.entries)) lib
+    subst (λ es. IsOrderly c.args.engine.now.max_functions 0 (library_of c.args.lib.now.entries)
+        → IsOrderly c.args.engine.now.max_functions 0 (library_of es)) (search rules)
     (order_kept c.args.engine.now c.new-state.result c.args.input.now c.args.lib.now.entries c.args.constants
     (library_of state.lib.now.entries) new c.parse_global_level-script.ensures.orderly)
