@@ -1,8 +1,10 @@
 //! From the text of a script to its tree. A host names this crate alone: it gives out what is needed of those below.
 #![tactic(auto)]
 
+pub mod global_level;
 pub mod script;
 
+pub use global_level::{GlobalLevel, Refused, compile_global_level};
 pub use rhai_parser::{
     AST, Engine, FnLib, LangOptions, OptimizationLevel, Optimizer, ParseError, ParseErrorType,
     ParseResult, Position, Scope, Unoptimized,

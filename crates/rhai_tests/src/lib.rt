@@ -37,3 +37,5 @@ mod states;
 mod text_allocation;
 #[cfg(test)]
 mod text_mode;
+#[cfg(test)]
+mod texts;

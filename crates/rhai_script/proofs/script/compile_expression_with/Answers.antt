@@ -1,5 +1,5 @@
 -- A text is read as the stream of its pieces is.
-use Rattle.std.proofs.Common.{◌≡◌, ◌∙◌, [], Err, map, rules, subst, sym}
+use Rattle.std.proofs.Common.{◌≡◌, ◌∙◌, [], Err, map, refl, rules, subst, sym}
 use Rattle.rhai_lower.specs.Entries.{ask_of}
 use Rattle.rhai_lower.specs.Streams.{stream_of}
 use Rattle.rhai_grammar.specs.Causes.{no_memory}
@@ -26,7 +26,7 @@ returns-clause-reads g c =
     let e = c.new-state.ensures in
     let input : c.new-state.result.input.now ≡ c.in_ok-input.input = search rules in
     let lib : c.new-state.result.lib.now.entries ≡ [] = search rules in
-    let new : IsNew c.new-state.result (stream_of (map ask_of tokens.entries.items) tokens.end) c.args.constants = record {
+    let new : IsNew c.new-state.result (stream_of (map ask_of tokens.entries.items) tokens.end) [] c.args.constants = record {
       input = input ∙ given.is;
       lib = lib;
       counts = e.counts;
@@ -40,7 +40,7 @@ returns-clause-reads g c =
       global_imports = e.global_imports;
     } in
     let state = c.new-state.result in
-    let read = c.parse_global_expr_with.ensures.reads (fresh state (map ask_of tokens.entries.items) tokens.end c.args.constants new) in
+    let read = c.parse_global_expr_with.ensures.reads (fresh state (stream_of (map ask_of tokens.entries.items) tokens.end) [] c.args.constants new refl) in
     let left = read.1 in
     let same : left.left.now ≡ left.shown.now = search rules in
     let chosen : read.0 ≡ expr_settings c.args.engine.now = sym left.leaves ∙ same ∙ left.shows in

@@ -26,7 +26,7 @@ returns-clause-reads g c =
     let e = c.new-state.ensures in
     let input : c.new-state.result.input.now ≡ c.in_ok-input.input = search rules in
     let lib : c.new-state.result.lib.now.entries ≡ [] = search rules in
-    let new : IsNew c.new-state.result (stream_of (map ask_of tokens.entries.items) tokens.end) c.args.constants = record {
+    let new : IsNew c.new-state.result (stream_of (map ask_of tokens.entries.items) tokens.end) [] c.args.constants = record {
       input = input ∙ given.is;
       lib = lib;
       counts = e.counts;
@@ -40,7 +40,7 @@ returns-clause-reads g c =
       global_imports = e.global_imports;
     } in
     let state = c.new-state.result in
-    let read = c.parse_with.ensures.reads (fresh state (map ask_of tokens.entries.items) tokens.end c.args.constants new) in
+    let read = c.parse_with.ensures.reads (fresh state (stream_of (map ask_of tokens.entries.items) tokens.end) [] c.args.constants new refl) in
     a_script (g.O.Optimizer.makes c.args.optimizer.now) c.args.engine.now c.args.constants c.args.level c.args.limits c.args.text.now c.parse_with.result _
     (text_parsed scripts (λ after k w fs script. IsMadeOf (g.O.Optimizer.makes c.args.optimizer.now) k c.args.level (statement_trees fs w) after script)
     refusals_stand_at_tokens.script_named c.args.engine.now (script_settings c.args.engine.now) (script_settings c.args.engine.now) state c.args.constants c.args.limits c.args.text.now c.parse_with.result tokens _ _ given.reads refl new read c.parse_with.ensures.memory)
