@@ -7,6 +7,7 @@ mod files;
 mod list;
 mod names;
 mod options;
+mod place;
 mod refusal;
 mod settings;
 mod source;

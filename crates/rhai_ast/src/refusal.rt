@@ -1,20 +1,15 @@
 //! What is told of a file that is not accepted.
 
+use crate::place::refused_token;
 use crate::settings::Settings;
 use crate::source::{NotText, script_of};
 use rhai_report::{
     Report, Source, Style, print_report, push_visible, report_of,
 };
-use rhai_script::{ParseError, Position};
-use rhai_tokenizer::{Tokens, tokenize};
+use rhai_script::ParseError;
+use rhai_tokenizer::tokenize;
 use std::alloc::{AllocError, Global};
 use std::io;
-
-// The index of the token at this position; that of the end mark if no token is there.
-fn index_at(tokens: &Tokens, pos: Position) -> usize {
-    let found = tokens.entries.iter().position(|entry| entry.pos == pos);
-    found.unwrap_or(tokens.entries.len())
-}
 
 /// What is told of a script that is refused with this error. Returns `AllocError` if memory runs out.
 pub fn refusal_report(
@@ -24,7 +19,7 @@ pub fn refusal_report(
     error: &ParseError,
 ) -> Result<Report, AllocError> {
     let tokens = tokenize(alloc, script_of(source), settings.limits)?;
-    let index = index_at(&tokens, error.1);
+    let index = refused_token(alloc, settings, source, &tokens, error.1)?;
     report_of(alloc, source, &tokens, index, error, settings.outside)
 }
 

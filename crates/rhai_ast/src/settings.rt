@@ -1,10 +1,11 @@
 //! What scripts are read under.
 
 use clap::ArgMatches;
-use rhai_lower::is_valid_identifier;
+use rhai_lower::{TokenStream, is_valid_identifier};
+use rhai_parser::{ParseState, TokenizerControl};
 use rhai_report::Outside;
 use rhai_script::{
-    AST, Engine, LangOptions, Limits, OptimizationLevel, ParseResult, Scope, Unoptimized,
+    AST, Engine, FnLib, LangOptions, Limits, OptimizationLevel, ParseResult, Scope, Unoptimized,
     compile_expression_with, compile_with,
 };
 use std::alloc::{AllocError, Global};
@@ -127,6 +128,20 @@ impl<'m> Settings<'m> {
             compile_expression_with(alloc, engine, text, *limits, constants, level, &Unoptimized)
         } else {
             compile_with(alloc, engine, text, *limits, constants, level, &Unoptimized)
+        }
+    }
+
+    /// The tree of a stream of tokens, as [`Settings::parse`] of a text.
+    pub fn parse_stream(&self, alloc: Global, input: &mut TokenStream) -> ParseResult<AST> {
+        let mut lib = FnLib::new(alloc);
+        let constants = Some(&self.constants);
+        let state = ParseState::new(alloc, constants, input, TokenizerControl, &mut lib);
+        let level = OptimizationLevel::None;
+        if self.is_expression {
+            self.engine
+                .parse_global_expr_with(state, |_settings| {}, level, &Unoptimized)
+        } else {
+            self.engine.parse_with(state, level, &Unoptimized)
         }
     }
 }

@@ -12,12 +12,8 @@ fn malformed(alloc: Global, text: &str) -> Result<String, AllocError> {
     format!(in alloc; "Invalid number: '{text}'")
 }
 
-fn improper(alloc: Global, symbol: &str, note: &str) -> Result<String, AllocError> {
-    if note.is_empty() {
-        format!(in alloc; "Invalid symbol encountered: '{symbol}'")
-    } else {
-        String::from_str(alloc, note)
-    }
+fn improper(alloc: Global, symbol: &str) -> Result<String, AllocError> {
+    format!(in alloc; "Invalid symbol encountered: '{symbol}'")
 }
 
 fn of_lex_error(alloc: Global, error: &LexError) -> Result<String, AllocError> {
@@ -25,7 +21,7 @@ fn of_lex_error(alloc: Global, error: &LexError) -> Result<String, AllocError> {
         LexError::UnterminatedString => String::from_str(alloc, "Open string is not terminated"),
         LexError::StringTooLong(limit) => format!(in alloc; "String is too long (max {limit})"),
         LexError::MalformedNumber(text) => malformed(alloc, text.as_str()),
-        LexError::ImproperSymbol(symbol) => improper(alloc, symbol.0.as_str(), symbol.1.as_str()),
+        LexError::ImproperSymbol(symbol) => improper(alloc, symbol.0.as_str()),
         LexError::UnexpectedInput(text) => unexpected(alloc, text.as_str()),
         LexError::OutOfMemory => String::from_str(alloc, "Out of memory"),
     }
@@ -36,7 +32,7 @@ fn of_input(alloc: Global, error: &InputError) -> Result<String, AllocError> {
         InputError::UnexpectedInput(text) => unexpected(alloc, text.as_str()),
         InputError::Lexer(error) => of_lex_error(alloc, error),
         InputError::MalformedNumber(text) => malformed(alloc, text.as_str()),
-        InputError::ImproperSymbol(text, note) => improper(alloc, text.as_str(), note.as_str()),
+        InputError::ImproperSymbol(text, _) => improper(alloc, text.as_str()),
     }
 }
 
@@ -90,7 +86,7 @@ fn fixed(kind: &ParseErrorType) -> &'static str {
     }
 }
 
-/// Why a script is refused. Returns `AllocError` if memory runs out.
+/// Why a script is refused, but for the note on a symbol ([`symbol_note`]). Returns `AllocError` if memory runs out.
 pub fn message_of(alloc: Global, kind: &ParseErrorType) -> Result<String, AllocError> {
     match kind {
         ParseErrorType::BadInput(error) => of_input(alloc, error),
@@ -142,5 +138,16 @@ pub fn message_of(alloc: Global, kind: &ParseErrorType) -> Result<String, AllocE
             format!(in alloc; "{text} exceeds the maximum limit ({limit})")
         }
         other => String::from_str(alloc, fixed(other)),
+    }
+}
+
+/// What is said of a symbol that is not allowed.
+pub fn symbol_note(kind: &ParseErrorType) -> Option<&str> {
+    match kind {
+        ParseErrorType::BadInput(InputError::ImproperSymbol(_, note)) => Some(note.as_str()),
+        ParseErrorType::BadInput(InputError::Lexer(LexError::ImproperSymbol(symbol))) => {
+            Some(symbol.1.as_str())
+        }
+        _ => None,
     }
 }

@@ -2,7 +2,8 @@
 
 use crate::brackets::{closed_by_text, innermost_open, opened_by, opening_note};
 use crate::declared::{Declared, declared_names};
-use crate::mark::{Mark, mark_of};
+use crate::mark::mark_of;
+use crate::message::symbol_note;
 use crate::report::{Note, Outside, Source};
 use crate::similar::most_similar;
 use rhai_grammar::ParseErrorType;
@@ -36,6 +37,15 @@ fn opening(
     }))
 }
 
+// A note without a place, if there is a text.
+fn remark(alloc: Global, text: &str) -> Result<Option<Note>, AllocError> {
+    if text.is_empty() {
+        return Ok(None);
+    }
+    let text = String::from_str(alloc, text)?;
+    Ok(Some(Note { text, mark: None }))
+}
+
 // The name that was meant in place of one that is not known.
 fn meant(
     alloc: Global,
@@ -49,8 +59,7 @@ fn meant(
     let Some(other) = most_similar(alloc, name, &names)? else {
         return Ok(None);
     };
-    let text = format!(in alloc; "did you mean `{other}`?")?;
-    Ok(Some(Note { text, mark: None }))
+    remark(alloc, &format!(in alloc; "did you mean `{other}`?")?)
 }
 
 // The note on a refusal of this kind.
@@ -81,12 +90,12 @@ fn note_of(
             outside.modules,
             name.as_str(),
         ),
-        _ => Ok(None),
+        _ => remark(alloc, symbol_note(kind).unwrap_or("")),
     }
 }
 
 /// What may help where a script is refused for this reason, at the token of this index: where the bracket was opened
-/// that has to be closed, or which name was meant. Returns `AllocError` if memory runs out.
+/// that has to be closed, which name was meant, or what is said of a symbol. Returns `AllocError` if memory runs out.
 pub fn notes_of(
     alloc: Global,
     source: Source<'_>,

@@ -1,5 +1,7 @@
 //! How a report is printed: a message, the line where, and notes. docs/FORMAT.md describes it.
 
+ghost use Rattle.std.specs.Prelude.{◌≡◌, ◌≤◌, ◌<◌, ◌-◌, ◌^◌};
+
 use crate::mark::Mark;
 use crate::report::{Report, Source};
 use crate::snippet::{Snippet, snippet_of};
@@ -22,14 +24,14 @@ struct Look {
 }
 
 // How many digits a number has.
-fn digits_of(number: usize) -> usize {
-    let mut digits = 1;
-    let mut rest = number / 10;
-    while rest > 0 {
-        digits += 1;
-        rest /= 10;
+fn digits_of(number: usize) -> usize
+    ensures fits { number < 10 ^ result }
+    ensures least { (0 < number → 10 ^ (result - 1) ≤ number) × (number ≡ 0 → result ≡ 1) }
+{
+    match number.checked_ilog10() {
+        Some(power) => usize::try_from(power).unwrap_or(0).saturating_add(1),
+        None => 1,
     }
-    digits
 }
 
 // The greatest number of a line that a report shows.

@@ -40,11 +40,11 @@ pub fn push_fill(out: &mut String, fill: char, columns: usize) -> Result<(), All
 /// Adds what is as wide as a shown text: tabs where that has tabs, and else `fill`. Returns `AllocError` if memory runs
 /// out.
 pub fn push_as_wide(out: &mut String, fill: char, text: &str) -> Result<(), AllocError> {
-    let mut before = "";
-    for part in text.split('\t') {
-        out.push_str(before)?;
+    for (index, part) in text.split('\t').enumerate() {
+        if index > 0 {
+            out.push('\t')?;
+        }
         push_fill(out, fill, part.width())?;
-        before = "\t";
     }
     Ok(())
 }
