@@ -3,11 +3,11 @@
 
 usage: tests/diagnostics.py [PROGRAM]
 
-Without PROGRAM it runs the one that `rt run` in crates/rhai_ast built last. Each tests/diagnostics/NAME.rhai has what is
-told of it beside it, written by hand from docs/GRAMMAR.md and docs/FORMAT.md, and the options that it needs. Further
-runs are of several files, of files that cannot be read, of wrong words, of long and odd texts, and of random ones, where
-each report has to show the line and the column that it names. The last line counts the runs; the exit status is 1 if
-any failed.
+Without PROGRAM it runs the one that `rt run` in crates/rhai_ast built last. Each tests/diagnostics/NAME.rhai has what
+is told of it beside it, written by hand from docs/GRAMMAR.md and docs/FORMAT.md, and the options that it needs. Further
+runs are of several files, of files that cannot be read, of wrong words, of long and odd texts, with each request for
+memory refused in turn, and of random texts, where each report has to show the line and the column that it names. The
+last line counts the runs; the exit status is 1 if any failed.
 """
 
 import os
@@ -19,6 +19,11 @@ import sys
 import tempfile
 
 ROOT = pathlib.Path(__file__).resolve().parent.parent
+sys.dont_write_bytecode = True
+sys.path.insert(0, str(ROOT / "tests" / "hostile"))
+
+import batch
+
 CASES = ROOT / "tests/diagnostics"
 
 # A report: its message, its place, its line, what is underlined, and its notes.
@@ -62,7 +67,8 @@ class Runs:
 
     def expect(self, title, got, wanted):
         """Counts a run by its status and outputs."""
-        self.check(title, got == wanted, "\n" + "\n".join(map(str, got)) + "\n-- wanted:\n" + "\n".join(map(str, wanted)))
+        told = [*map(str, got), "-- wanted:", *map(str, wanted)]
+        self.check(title, got == wanted, "\n" + "\n".join(told))
 
 
 def options_of(case):
@@ -92,7 +98,8 @@ def check_accepted(runs):
     runs.expect("names", got, (0, "f/1: free y, z; calls g/1\ng/1: free -; calls -\n", ""))
     got = runs.run("check", "--expression", "--strict", "--constant", "a", "--constant", "b", "-", text="a + b")
     runs.expect("an expression", got, (0, "", ""))
-    got = runs.run("check", "--strict", "--module", "m", "--max-depth", "0", "-", text="m::f(" + "(" * 70 + "1" + ")" * 71)
+    deep = "m::f(" + "(" * 70 + "1" + ")" * 71
+    got = runs.run("check", "--strict", "--module", "m", "--max-depth", "0", "-", text=deep)
     runs.expect("a module", got, (0, "", ""))
 
 
@@ -191,6 +198,17 @@ def check_odd(runs):
         runs.check(title, good, f"status {status}, {got}, {told[:1000]}")
 
 
+def check_refused(runs, folder):
+    """Refuses each request for memory of some cases in turn: the script is still refused, or the run fails."""
+    program = batch.Program(batch.compile_forks(folder), runs.program)
+    for name in ("missing_brace", "variable_undefined", "wrong_escape"):
+        case = CASES / f"{name}.rhai"
+        found = program.answers(["check", *options_of(case), "-"], [case.read_bytes()], refuse=True)
+        failed = sum(answer.status == 2 for answer in found)
+        good = all(answer.status in (1, 2) and not answer.printed for answer in found) and found[-1].status == 1
+        runs.check(f"refused memory of {name}", good and failed > len(found) // 2, f"{failed} of {len(found)}")
+
+
 def random_texts(count):
     """Answers random texts: of pieces, and of cases with some characters changed."""
     chance = random.Random(1)
@@ -251,6 +269,7 @@ def main():
     with tempfile.TemporaryDirectory() as folder:
         check_files(runs, pathlib.Path(folder))
         check_random(runs, pathlib.Path(folder))
+        check_refused(runs, folder)
     print(f"{runs.passed} passed, {runs.failed} failed")
     return 1 if runs.failed else 0
 

@@ -42,10 +42,7 @@ fn numbered_stream(mut entries: Vec<Entry>) -> Option<TokenStream> {
         entry.pos = numbered(number);
     }
     let end = numbered(entries.len());
-    if !entries.iter().all(|entry| entry.is_deliverable()) {
-        return None;
-    }
-    Some(TokenStream::new(entries, end))
+    TokenStream::checked(entries, end).ok()
 }
 
 // The index of the token at which a script is refused, found by numbers in place of positions.

@@ -3,7 +3,7 @@
 use crate::brackets::{closed_by_text, innermost_open, opened_by, opening_note};
 use crate::declared::{Declared, declared_names};
 use crate::mark::mark_of;
-use crate::message::symbol_note;
+use crate::message::symbol_of;
 use crate::report::{Note, Outside, Source};
 use crate::similar::most_similar;
 use rhai_grammar::ParseErrorType;
@@ -90,7 +90,7 @@ fn note_of(
             outside.modules,
             name.as_str(),
         ),
-        _ => remark(alloc, symbol_note(kind).unwrap_or("")),
+        _ => remark(alloc, symbol_of(kind).map_or("", |symbol| symbol.note)),
     }
 }
 
