@@ -1,7 +1,7 @@
 //! Where a program tells what is wrong, and how a run ends.
 
-use std::io::{self, IsTerminal};
 use rhai_report::Style;
+use std::io::{self, IsTerminal};
 
 /// The status of a run that was fine.
 pub const FINE: u8 = 0;
@@ -32,7 +32,11 @@ impl<'r> Console<'r> {
         };
         Console {
             rt,
-            style: if is_coloured { Style::COLOURS } else { Style::PLAIN },
+            style: if is_coloured {
+                Style::COLOURS
+            } else {
+                Style::PLAIN
+            },
             has_told: false,
         }
     }

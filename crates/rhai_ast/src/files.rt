@@ -4,7 +4,7 @@ use crate::console::{Console, FAILED, FINE, REFUSED};
 use crate::list::print_list;
 use crate::names::lines_of;
 use crate::options::Task;
-use crate::refusal::{no_text_text, refusal_text, unreadable_text};
+use crate::refusal::{not_utf8_text, refusal_text, unreadable_text};
 use crate::settings::Settings;
 use crate::source::{NotText, read_bytes, script_of, source_of, text_of};
 use rhai_names::names::names_of;
@@ -46,8 +46,8 @@ impl<'r, 'm> Run<'r, 'm> {
     }
 
     // Tells that a file is no text.
-    fn tell_no_text(&mut self, name: &str, place: NotText) -> u8 {
-        let text = no_text_text(self.rt.alloc(), self.console.style, name, place);
+    fn tell_not_utf8(&mut self, name: &str, place: NotText) -> u8 {
+        let text = not_utf8_text(self.rt.alloc(), self.console.style, name, place);
         self.tell(text, FAILED)
     }
 
@@ -76,8 +76,9 @@ impl<'r, 'm> Run<'r, 'm> {
     // Prints the tokens of a script.
     fn print_tokens(&mut self, source: Source<'_>) -> u8 {
         let alloc = self.rt.alloc();
-        let list = tokenize(alloc, script_of(source), self.settings.limits)
-            .and_then(|tokens| print_list(alloc, &tokens, source.start, self.spans));
+        let list = tokenize(alloc, script_of(source), self.settings.limits).and_then(
+            |tokens| print_list(alloc, &tokens, source.start, self.spans),
+        );
         self.print(list)
     }
 
@@ -90,8 +91,9 @@ impl<'r, 'm> Run<'r, 'm> {
                 self.print(tree)
             }
             Task::Names => {
-                let names = names_of(alloc, &script.functions)
-                    .and_then(|names| lines_of(alloc, &names));
+                let names = names_of(alloc, &script.functions).and_then(|names| lines_of(
+                    alloc, &names,
+                ));
                 self.print(names)
             }
             _ => FINE,
@@ -113,7 +115,7 @@ impl<'r, 'm> Run<'r, 'm> {
         };
         let text = match text_of(bytes.as_slice()) {
             Ok(text) => text,
-            Err(place) => return self.tell_no_text(name, place),
+            Err(place) => return self.tell_not_utf8(name, place),
         };
         let source = source_of(name, text);
         match self.task {

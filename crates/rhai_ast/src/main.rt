@@ -13,8 +13,8 @@ mod settings;
 mod source;
 
 use crate::console::{Console, FAILED};
-use crate::options::{command, task_of};
 use crate::files::Run;
+use crate::options::{command, task_of};
 use crate::settings::{Settings, outside_of, wrong_name};
 use clap::{ArgMatches, Error};
 use std::env;
@@ -26,7 +26,10 @@ fn run_command(rt: &HostRuntime, matches: &ArgMatches<'_>) -> Result<u8, Error> 
         return Ok(FAILED);
     };
     if let Some((option, name)) = wrong_name(outside_of(words)) {
-        let _ = eprintln!(rt; "error: invalid value '{name}' for '{option} <NAME>': no identifier");
+        let _ = eprintln!(rt;
+            "error: invalid value '{name}' for '{option} <NAME>': no identifier\n"
+        );
+        let _ = rt.eprintln("For more information, try '--help'.");
         return Ok(FAILED);
     }
     let mut run = Run {

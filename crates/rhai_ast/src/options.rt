@@ -1,6 +1,7 @@
 //! The words of the command line.
 
 use clap::{Arg, ArgAction, ArgMatches, Command, value_parser};
+use rhai_script::LangOptions;
 use std::alloc::{AllocError, Global};
 
 /// What a command does.
@@ -16,26 +17,64 @@ pub enum Task {
     Names,
 }
 
-/// Options that a command has not got, or that forbid a part of the language, by their names.
-const FORBIDDING: [(&str, &str); 7] = [
-    ("no-if-expr", "Refuse `if` as an expression"),
-    ("no-switch-expr", "Refuse `switch` as an expression"),
-    ("no-loop-expr", "Refuse loops as expressions"),
-    ("no-stmt-expr", "Refuse blocks as expressions"),
-    ("no-closures", "Refuse closures"),
-    ("no-looping", "Refuse loops"),
-    ("no-shadowing", "Refuse a variable of a name that is there already"),
+/// An option that forbids a part of the language.
+#[derive(Clone, Copy, Debug)]
+pub struct Forbidding {
+    /// Its name.
+    pub name: &'static str,
+    /// What it forbids.
+    pub part: LangOptions,
+    help: &'static str,
+}
+
+/// The options that forbid parts of the language.
+pub const FORBIDDING: [Forbidding; 7] = [
+    Forbidding {
+        name: "no-if-expr",
+        part: LangOptions::IF_EXPR,
+        help: "Refuse `if` as an expression",
+    },
+    Forbidding {
+        name: "no-switch-expr",
+        part: LangOptions::SWITCH_EXPR,
+        help: "Refuse `switch` as an expression",
+    },
+    Forbidding {
+        name: "no-loop-expr",
+        part: LangOptions::LOOP_EXPR,
+        help: "Refuse loops as expressions",
+    },
+    Forbidding {
+        name: "no-stmt-expr",
+        part: LangOptions::STMT_EXPR,
+        help: "Refuse blocks as expressions",
+    },
+    Forbidding {
+        name: "no-closures",
+        part: LangOptions::ANON_FN,
+        help: "Refuse closures",
+    },
+    Forbidding {
+        name: "no-looping",
+        part: LangOptions::LOOPING,
+        help: "Refuse loops",
+    },
+    Forbidding {
+        name: "no-shadowing",
+        part: LangOptions::SHADOWING,
+        help: "Refuse a variable of a name that is there already",
+    },
 ];
 
-/// Options with a number, by their names.
+// Options with a number: their names and their help.
 const NUMBERS: [(&str, &str); 5] = [
     (
         "max-depth",
-        "How deeply a script may nest outside its functions [default: 64]; with 0, no limit, a deep one overflows the stack",
+        "How deeply a script may nest outside functions [default: 64]; 0 is no limit but the stack",
     ),
     (
         "max-fn-depth",
-        "How deeply a function may nest [default: 32]; with 0, no limit, a deep one overflows the stack",
+        "How deeply a function may nest [default: 32]; 0 is no limit but the stack",
     ),
     (
         "max-functions",
@@ -107,14 +146,26 @@ fn with_text<'a>(alloc: Global, command: Command<'a>) -> Result<Command<'a>, All
 fn with_language<'a>(alloc: Global, command: Command<'a>) -> Result<Command<'a>, AllocError> {
     let mut command = with_text(alloc, command)?
         .arg(flag(alloc, "expression", "The text is one expression"))?
-        .arg(flag(alloc, "strict", "All variables and modules have to be known"))?
-        .arg(name(alloc, "constant", "A variable that is known from outside, with --strict"))?
-        .arg(name(alloc, "module", "A module that is known from outside, with --strict"))?;
+        .arg(flag(
+            alloc,
+            "strict",
+            "All variables and modules have to be known",
+        ))?
+        .arg(name(
+            alloc,
+            "constant",
+            "A variable that is known from outside, with --strict",
+        ))?
+        .arg(name(
+            alloc,
+            "module",
+            "A module that is known from outside, with --strict",
+        ))?;
     for (option, help) in NUMBERS {
         command = command.arg(number(alloc, option, help))?;
     }
-    for (option, help) in FORBIDDING {
-        command = command.arg(flag(alloc, option, help))?;
+    for option in FORBIDDING {
+        command = command.arg(flag(alloc, option.name, option.help))?;
     }
     Ok(command)
 }

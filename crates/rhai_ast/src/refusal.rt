@@ -3,9 +3,7 @@
 use crate::place::refused_token;
 use crate::settings::Settings;
 use crate::source::{NotText, script_of};
-use rhai_report::{
-    Report, Source, Style, print_report, push_visible, report_of,
-};
+use rhai_report::{Report, Source, Style, print_report, push_visible, report_of};
 use rhai_script::ParseError;
 use rhai_tokenizer::tokenize;
 use std::alloc::{AllocError, Global};
@@ -64,14 +62,19 @@ pub fn unreadable_text(
 }
 
 /// What is told of a file that is no text. Returns `AllocError` if memory runs out.
-pub fn no_text_text(
+pub fn not_utf8_text(
     alloc: Global,
     style: Style,
     name: &str,
     place: NotText,
 ) -> Result<String, AllocError> {
     let mut text = title(alloc, style, name)?;
-    let Style { edge, strong, plain, .. } = style;
+    let Style {
+        edge,
+        strong,
+        plain,
+        ..
+    } = style;
     let NotText {
         byte,
         value,
@@ -83,7 +86,8 @@ pub fn no_text_text(
     write!(text, ":{line}:{column}\n")?;
     write!(
         text,
-        "  {edge}={plain} {strong}note{plain}: byte {byte}, counted from 0, is 0x{value:02x} and belongs to no character\n"
+        "  {edge}={plain} {strong}note{plain}: byte {byte}, counted from 0, "
     )?;
+    write!(text, "is 0x{value:02x} and belongs to no character\n")?;
     Ok(text)
 }

@@ -1,5 +1,6 @@
 //! What scripts are read under.
 
+use crate::options::FORBIDDING;
 use clap::ArgMatches;
 use rhai_lower::{TokenStream, is_valid_identifier};
 use rhai_parser::{ParseState, TokenizerControl};
@@ -33,18 +34,9 @@ pub fn limits_of(words: &ArgMatches<'_>) -> Limits {
 
 // The parts of the language that these words leave.
 fn options_of(words: &ArgMatches<'_>, mut options: LangOptions) -> LangOptions {
-    let parts = [
-        ("no-if-expr", LangOptions::IF_EXPR),
-        ("no-switch-expr", LangOptions::SWITCH_EXPR),
-        ("no-loop-expr", LangOptions::LOOP_EXPR),
-        ("no-stmt-expr", LangOptions::STMT_EXPR),
-        ("no-closures", LangOptions::ANON_FN),
-        ("no-looping", LangOptions::LOOPING),
-        ("no-shadowing", LangOptions::SHADOWING),
-    ];
-    for (name, part) in parts {
-        if words.get_flag(name) {
-            options -= part;
+    for option in FORBIDDING {
+        if words.get_flag(option.name) {
+            options -= option.part;
         }
     }
     if words.get_flag("strict") {

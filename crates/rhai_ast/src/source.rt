@@ -2,10 +2,8 @@
 
 use rhai_report::Source;
 use std::alloc::Global;
-use std::fmt;
-use std::fs;
 use std::io::{self, Read};
-use std::str;
+use std::{fmt, fs, str};
 
 /// The bytes of a file, or of the standard input for `-`. Returns an error if they cannot be read.
 pub fn read_bytes(rt: &HostRuntime, file: &str) -> io::Result<Vec<u8>> {
@@ -35,7 +33,9 @@ fn place_of(bytes: &[u8], valid: usize) -> NotText {
     let before = bytes.get(..valid).unwrap_or(bytes);
     let line = before.iter().filter(|byte| **byte == b'\n').count();
     let start = before.iter().rposition(|byte| *byte == b'\n');
-    let front = before.get(start.map_or(0, |feed| feed.saturating_add(1))..).unwrap_or(&[]);
+    let front = before
+        .get(start.map_or(0, |feed| feed.saturating_add(1))..)
+        .unwrap_or(&[]);
     let columns = str::from_utf8(front).map_or(0, |front| front.chars().count());
     NotText {
         byte: valid,
@@ -50,8 +50,8 @@ pub fn text_of(bytes: &[u8]) -> Result<&str, NotText> {
     str::from_utf8(bytes).map_err(|error| place_of(bytes, error.valid_up_to()))
 }
 
-// The byte at which the script begins in the text of a file: a first line that begins with `#!` is meant for the system,
-// and is passed over but for its line feed.
+// The byte at which the script begins in the text of a file: a first line that begins with `#!` is meant for the
+// system, and is passed over but for its line feed.
 fn script_start(text: &str) -> usize {
     if text.starts_with("#!") {
         text.find('\n').unwrap_or(text.len())

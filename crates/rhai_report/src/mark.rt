@@ -86,13 +86,7 @@ fn escape_mark(text: &str, from: usize, span: Span, pos: Position, len: usize) -
 /// The mark of a token: its bytes, which are `span` in the script. That of a wrong escape in a string is the escape
 /// alone, at the position `pos` of the error, which is that of the character that spoils it. `text` is the file, in
 /// which the script begins at byte `from`; without a `token` the mark is that of the end.
-pub fn mark_of(
-    text: &str,
-    from: usize,
-    span: Span,
-    pos: Position,
-    token: Option<&Token>,
-) -> Mark {
+pub fn mark_of(text: &str, from: usize, span: Span, pos: Position, token: Option<&Token>) -> Mark {
     let Span { start, stop } = in_file(from, span);
     let escape = match escape_len(token) {
         0 => None,

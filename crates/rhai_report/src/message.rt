@@ -16,7 +16,10 @@ pub struct Symbol<'a> {
 /// The symbol that an error is about, if it is not allowed.
 pub fn symbol_of(kind: &ParseErrorType) -> Option<Symbol<'_>> {
     match kind {
-        ParseErrorType::BadInput(InputError::ImproperSymbol(text, note)) => Some(Symbol { text, note }),
+        ParseErrorType::BadInput(InputError::ImproperSymbol(text, note)) => Some(Symbol {
+            text,
+            note,
+        }),
         ParseErrorType::BadInput(InputError::Lexer(LexError::ImproperSymbol(symbol))) => {
             Some(Symbol {
                 text: &symbol.0,

@@ -29,7 +29,13 @@ fn opening(
     if opened_by(&entry.token) != closed_by_text(missing) {
         return Ok(None);
     }
-    let mark = mark_of(source.text, source.start, *span, entry.pos, Some(&entry.token));
+    let mark = mark_of(
+        source.text,
+        source.start,
+        *span,
+        entry.pos,
+        Some(&entry.token),
+    );
     let text = String::from_str(alloc, opening_note(&entry.token))?;
     Ok(Some(Note {
         text,
