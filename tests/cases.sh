@@ -120,7 +120,6 @@ run_example() {
     run "$words" 0
 }
 
-# Compares the code of README.md, "Use it as a library", with the function that a test calls.
 # Compares the code that the document $1 shows with the function $2 of a test.
 compare_code() {
     local shown called
