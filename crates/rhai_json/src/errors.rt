@@ -11,7 +11,7 @@ use std::alloc::AllocError;
 pub enum Payload<'a> {
     Nothing,
     Text(&'static str, &'a str),
-    Texts([(&'static str, &'a str); 2]),
+    Texts(&'static str, &'a str, &'static str, &'a str),
     Number(&'static str, usize),
     TextAndNumber(&'static str, &'a str, &'static str, usize),
     Input(&'a InputError),
@@ -33,7 +33,7 @@ fn describe_lex_error(error: &LexError) -> Described<'_> {
         }
         LexError::ImproperSymbol(symbol) => Described(
             "ImproperSymbol",
-            Payload::Texts([("symbol", &symbol.0), ("note", &symbol.1)]),
+            Payload::Texts("symbol", &symbol.0, "note", &symbol.1),
         ),
         LexError::UnexpectedInput(text) => {
             Described("UnexpectedInput", Payload::Text("text", text))
@@ -53,22 +53,22 @@ fn describe_input_error(error: &InputError) -> Described<'_> {
         }
         InputError::ImproperSymbol(symbol, note) => Described(
             "ImproperSymbol",
-            Payload::Texts([("symbol", symbol), ("note", note)]),
+            Payload::Texts("symbol", symbol, "note", note),
         ),
     }
 }
 
 // What is written where, the kind of a value, or a note names.
-fn payload(kind: &ParseErrorType) -> Payload<'_> {
+fn payload_of(kind: &ParseErrorType) -> Payload<'_> {
     match kind {
         ParseErrorType::BadInput(error) => Payload::Input(error),
         ParseErrorType::UnknownOperator(symbol) => Payload::Text("symbol", symbol),
         ParseErrorType::MissingToken(token, note) => {
-            Payload::Texts([("token", token), ("note", note)])
+            Payload::Texts("token", token, "note", note)
         }
         ParseErrorType::ExprExpected(what) => Payload::Text("what", what),
         ParseErrorType::MismatchedType(expected, found) => {
-            Payload::Texts([("expected", expected), ("found", found)])
+            Payload::Texts("expected", expected, "found", found)
         }
         ParseErrorType::MalformedIndexExpr(note)
         | ParseErrorType::MalformedCapture(note)
@@ -83,7 +83,7 @@ fn payload(kind: &ParseErrorType) -> Payload<'_> {
         | ParseErrorType::FnMissingBody(name)
         | ParseErrorType::AssignmentToConstant(name) => Payload::Text("name", name),
         ParseErrorType::FnDuplicatedParam(name, param) => {
-            Payload::Texts([("name", name), ("param", param)])
+            Payload::Texts("name", name, "param", param)
         }
         ParseErrorType::FnDuplicatedDefinition(name, params) => {
             Payload::TextAndNumber("name", name, "params", *params)
@@ -138,7 +138,7 @@ fn kind_name(kind: &ParseErrorType) -> &'static str {
 fn put_lex_fields(out: &mut Out, payload: Payload<'_>) -> Result<(), AllocError> {
     match payload {
         Payload::Text(key, text) => put_text(out, key, text),
-        Payload::Texts([(key, text), (other, more)]) => {
+        Payload::Texts(key, text, other, more) => {
             put_text(out, key, text)?;
             put_text(out, other, more)
         }
@@ -199,6 +199,6 @@ pub fn put_refusal(out: &mut Out, kind: &ParseErrorType) -> Result<(), AllocErro
     put_text(out, "kind", kind_name(kind))?;
     out.key("payload")?;
     out.begin_object()?;
-    put_fields(out, payload(kind))?;
+    put_fields(out, payload_of(kind))?;
     out.end_object()
 }

@@ -1,15 +1,24 @@
 //! The fields of an expression that hold no further node.
 
+ghost use Rattle.std.specs.Prelude.{◌≡◌, OnOk, codes};
+ghost use Rattle.std.specs.Char.{encode_utf8};
+ghost use Rattle.rhai_lower.specs.View.{called, named, view};
+ghost use Rattle.rhai_json.specs.Fields.{◌▷◌, number_field, text_field};
+ghost use Rattle.rhai_json.specs.Trees.{call_fields, kind_of, link_fields, own_fields, variable_fields};
+
 use crate::fields::{
-    put_flag, put_integer, put_namespace, put_number, put_offset, put_optional_number,
-    put_optional_text, put_text,
+    put_flag, put_integer, put_namespace, put_number, put_offset, put_optional_number, put_sign,
+    put_text,
 };
 use crate::out::Out;
 use rhai_lower::{Expr, FnCallExpr, LinkFlags, VariableExpr};
 use std::alloc::AllocError;
 
 /// Rhai's name of the kind of an expression.
-pub fn expr_kind(expr: &Expr) -> &'static str {
+#[tactic(auto, unfolding(crate::specs::Trees::kind_of))]
+pub fn expr_kind(expr: &Expr) -> &'static str
+    ensures { result.now ≡ kind_of (view expr.now) }
+{
     match expr {
         Expr::Unit(_) => "Unit",
         Expr::BoolConstant(_, _) => "BoolConstant",
@@ -34,39 +43,51 @@ pub fn expr_kind(expr: &Expr) -> &'static str {
     }
 }
 
-fn put_character(out: &mut Out, character: char) -> Result<(), AllocError> {
+fn put_character(out: &mut Out, character: char) -> Result<(), AllocError>
+    ensures { OnOk result (out.new ≡ text_field (codes "value") (encode_utf8 character) out.old) }
+{
     out.key("value")?;
     out.character(character)
 }
 
-fn put_pointer(out: &mut Out, name: &str, params: usize) -> Result<(), AllocError> {
+fn put_pointer(out: &mut Out, name: &str, params: usize) -> Result<(), AllocError>
+    ensures { OnOk result (out.new ≡ out.old ▷ text_field (codes "name") name.now ▷ number_field (codes "params") params) }
+{
     put_text(out, "name", name)?;
     put_number(out, "params", params)
 }
 
-fn put_variable(out: &mut Out, variable: &VariableExpr) -> Result<(), AllocError> {
+fn put_variable(out: &mut Out, variable: &VariableExpr) -> Result<(), AllocError>
+    ensures { OnOk result (out.new ≡ variable_fields (named variable.now) out.old) }
+{
     put_offset(out, "index", variable.index)?;
     put_text(out, "name", &variable.name)?;
     put_namespace(out, &variable.namespace)
 }
 
-fn put_call(out: &mut Out, call: &FnCallExpr) -> Result<(), AllocError> {
+fn put_call(out: &mut Out, call: &FnCallExpr) -> Result<(), AllocError>
+    ensures { OnOk result (out.new ≡ call_fields (called call.now) out.old) }
+{
     put_text(out, "name", &call.name)?;
     put_namespace(out, &call.namespace)?;
     put_optional_number(out, "script_args", call.script_args)?;
     put_number(out, "native_args", call.native_args)?;
     put_flag(out, "capture_parent_scope", call.capture_parent_scope)?;
-    let op_token = call.op_token.as_ref().map(|token| token.literal_syntax());
-    put_optional_text(out, "op_token", op_token)
+    put_sign(out, "op_token", &call.op_token)
 }
 
-fn put_link(out: &mut Out, flags: LinkFlags) -> Result<(), AllocError> {
+fn put_link(out: &mut Out, flags: LinkFlags) -> Result<(), AllocError>
+    ensures { OnOk result (out.new ≡ link_fields flags out.old) }
+{
     put_flag(out, "negated", flags.negated)?;
     put_flag(out, "terminating", flags.terminating)
 }
 
 /// The fields of an expression that hold no further node.
-pub fn put_expr_fields(out: &mut Out, expr: &Expr) -> Result<(), AllocError> {
+#[tactic(auto, unfolding(crate::specs::Trees::own_fields))]
+pub fn put_expr_fields(out: &mut Out, expr: &Expr) -> Result<(), AllocError>
+    ensures { OnOk result (out.new ≡ own_fields (view expr.now) out.old) }
+{
     match expr {
         Expr::BoolConstant(value, _) => put_flag(out, "value", *value),
         Expr::IntegerConstant(value, _) => put_integer(out, "value", *value),
