@@ -34,3 +34,9 @@ less_left before between after p e f =
     let a = ap weights (ap pieces_of e ∙ pushed between p) in
     let b = first_weight (piece_of p) (pieces_of between) in
     omega arith
+
+-- Where nothing is left of one piece that was due alone, it is written.
+pub all_written : (left due before : List Piece) (p : Piece) (out now old : List Token) → left ≡ [] → before ≡ []
+    → due ≡ p ∷ before → now ≡ old → all_json left out ≡ all_json due now → out ≡ piece_json p old
+all_written left due before p out now old l b d n e =
+    sym (ap (λ ps. all_json ps out) l) ∙ e ∙ ap (λ ps. all_json ps now) (d ∙ ap (λ ps. p ∷ ps) b) ∙ ap (piece_json p) n

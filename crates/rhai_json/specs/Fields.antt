@@ -16,24 +16,24 @@ ts ▷ more = more ts
 unfoldable pub put : Token → List Token → List Token
 put t ts = ts ++ t ∷ []
 
-abbrev pub text_field : Text → Text → List Token → List Token
+unfoldable pub text_field : Text → Text → List Token → List Token
 text_field name t ts = ts ▷ put (key name) ▷ put (string t)
 
-abbrev pub number_field : Text → ℕ → List Token → List Token
+unfoldable pub number_field : Text → ℕ → List Token → List Token
 number_field name n ts = ts ▷ put (key name) ▷ put (number (decimal n))
 
-abbrev pub integer_field : Text → ℤ → List Token → List Token
+unfoldable pub integer_field : Text → ℤ → List Token → List Token
 integer_field name n ts = ts ▷ put (key name) ▷ put (number (signed_decimal n))
 
-abbrev pub flag_field : Text → Bool → List Token → List Token
+unfoldable pub flag_field : Text → Bool → List Token → List Token
 flag_field name b ts = ts ▷ put (key name) ▷ put (boolean b)
 
 -- a text or a number, or null
-abbrev pub optional_text_field : Text → Option Text → List Token → List Token
+unfoldable pub optional_text_field : Text → Option Text → List Token → List Token
 optional_text_field name None ts = ts ▷ put (key name) ▷ put null
 optional_text_field name (Some t) ts = text_field name t ts
 
-abbrev pub optional_number_field : Text → Option ℕ → List Token → List Token
+unfoldable pub optional_number_field : Text → Option ℕ → List Token → List Token
 optional_number_field name None ts = ts ▷ put (key name) ▷ put null
 optional_number_field name (Some n) ts = number_field name n ts
 
@@ -44,7 +44,7 @@ place_value (Some line) (Some column) ts =
 place_value (Some line) None ts = ts ▷ put null
 place_value None column ts = ts ▷ put null
 
-abbrev pub position_field : Text → Position → List Token → List Token
+unfoldable pub position_field : Text → Position → List Token → List Token
 position_field name p ts = ts ▷ put (key name) ▷ place_value (line_of p) (column_of p)
 
 -- the items of a list, each written by this
@@ -56,27 +56,27 @@ items write (x ∷ xs) ts = items write xs (write x ts)
 abbrev pub list_field : {A : Type 0} → Text → (A → List Token → List Token) → List A → List Token → List Token
 list_field name write xs ts = ts ▷ put (key name) ▷ put begin_array ▷ items write xs ▷ put end_array
 
-abbrev pub texts_field : Text → List Text → List Token → List Token
+unfoldable pub texts_field : Text → List Text → List Token → List Token
 texts_field name = list_field name (λ t. put (string t))
 
-abbrev pub numbers_field : Text → List ℕ → List Token → List Token
+unfoldable pub numbers_field : Text → List ℕ → List Token → List Token
 numbers_field name = list_field name (λ n. put (number (decimal n)))
 
 -- a name and its position
-abbrev pub ident_fields : Text → Position → List Token → List Token
+unfoldable pub ident_fields : Text → Position → List Token → List Token
 ident_fields name p ts = ts ▷ text_field (codes "name") name ▷ position_field (codes "position") p
 
 abbrev pub step_value : (Text × Position) → List Token → List Token
 step_value s ts = ts ▷ put begin_object ▷ ident_fields s.0 s.1 ▷ put end_object
 
 -- the path before a name, and the offset of its import
-abbrev pub namespace_field : List (Text × Position) → Option ℕ → List Token → List Token
+unfoldable pub namespace_field : List (Text × Position) → Option ℕ → List Token → List Token
 namespace_field path index ts =
     ts ▷ put (key (codes "namespace")) ▷ put begin_object ▷ list_field (codes "path") step_value path
     ▷ optional_number_field (codes "index") index ▷ put end_object
 
 -- the kind and the position of a node, which begin its object
-abbrev pub node_start : Text → Position → List Token → List Token
+unfoldable pub node_start : Text → Position → List Token → List Token
 node_start kind p ts =
     ts ▷ put begin_object ▷ text_field (codes "kind") kind ▷ position_field (codes "position") p
 
@@ -84,5 +84,5 @@ node_start kind p ts =
 example : (position_field (codes "position") (place 1 3) [] ≡ key (codes "position") ∷ begin_object ∷ key (codes "line")
     ∷ number (codes "1") ∷ key (codes "column") ∷ number (codes "3") ∷ end_object ∷ [])
     × (position_field (codes "end") nowhere [] ≡ key (codes "end") ∷ null ∷ [])
-unfolding put digits
+unfolding position_field number_field put digits
 example = (refl, refl)

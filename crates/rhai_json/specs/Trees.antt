@@ -279,12 +279,17 @@ unfoldable mutual
       ts ▷ put begin_object ▷ numbers_field (codes "indices") indices ▷ put (key (codes "value")) ▷ node_json x
       ▷ put end_object ▷ cases_json cases
 
--- a function, with its body behind all else
+-- what is known of a function beside its body
+abbrev pub head_fields : Function → List Token → List Token
+head_fields f ts =
+    ts ▷ text_field (codes "name") f.name ▷ optional_text_field (codes "this_type") f.this_type
+    ▷ flag_field (codes "private") f.is_private ▷ texts_field (codes "params") f.parameters
+    ▷ texts_field (codes "comments") f.comments
+
+-- a function
 abbrev pub function_json : Function → List Token → List Token
 function_json f ts =
-    ts ▷ put begin_object ▷ text_field (codes "name") f.name ▷ optional_text_field (codes "this_type") f.this_type
-    ▷ flag_field (codes "private") f.is_private ▷ texts_field (codes "params") f.parameters
-    ▷ texts_field (codes "comments") f.comments ▷ put (key (codes "body")) ▷ block_json f.body ▷ put end_object
+    ts ▷ put begin_object ▷ head_fields f ▷ put (key (codes "body")) ▷ block_json f.body ▷ put end_object
 
 -- the tokens of a script's tree
 abbrev pub script_json : Statements → List Function → List Token

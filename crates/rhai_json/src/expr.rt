@@ -43,6 +43,7 @@ pub fn expr_kind(expr: &Expr) -> &'static str
     }
 }
 
+#[tactic(auto, unfolding(crate::specs::Fields::text_field))]
 fn put_character(out: &mut Out, character: char) -> Result<(), AllocError>
     ensures { OnOk result (out.new ≡ text_field (codes "value") (encode_utf8 character) out.old) }
 {

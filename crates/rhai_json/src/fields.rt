@@ -16,6 +16,7 @@ use std::alloc::AllocError;
 use std::num::NonZeroUsize;
 use std::rc::RcStr;
 
+#[tactic(auto, unfolding(crate::specs::Fields::text_field))]
 pub fn put_text(out: &mut Out, key: &str, text: &str) -> Result<(), AllocError>
     ensures { OnOk result (out.new ≡ text_field key.now text.now out.old) }
 {
@@ -23,6 +24,7 @@ pub fn put_text(out: &mut Out, key: &str, text: &str) -> Result<(), AllocError>
     out.text(text)
 }
 
+#[tactic(auto, unfolding(crate::specs::Fields::number_field))]
 pub fn put_number(out: &mut Out, key: &str, number: usize) -> Result<(), AllocError>
     ensures { OnOk result (out.new ≡ number_field key.now number out.old) }
 {
@@ -30,6 +32,7 @@ pub fn put_number(out: &mut Out, key: &str, number: usize) -> Result<(), AllocEr
     out.number(number)
 }
 
+#[tactic(auto, unfolding(crate::specs::Fields::integer_field))]
 pub fn put_integer(out: &mut Out, key: &str, number: i64) -> Result<(), AllocError>
     ensures { OnOk result (out.new ≡ integer_field key.now number out.old) }
 {
@@ -37,6 +40,7 @@ pub fn put_integer(out: &mut Out, key: &str, number: i64) -> Result<(), AllocErr
     out.integer(number)
 }
 
+#[tactic(auto, unfolding(crate::specs::Fields::flag_field))]
 pub fn put_flag(out: &mut Out, key: &str, flag: bool) -> Result<(), AllocError>
     ensures { OnOk result (out.new ≡ flag_field key.now flag out.old) }
 {
@@ -45,6 +49,7 @@ pub fn put_flag(out: &mut Out, key: &str, flag: bool) -> Result<(), AllocError>
 }
 
 /// A text, or null.
+#[tactic(auto, unfolding(crate::specs::Fields::optional_text_field, crate::specs::Fields::text_field))]
 pub fn put_optional_text(out: &mut Out, key: &str, text: Option<&str>) -> Result<(), AllocError>
     ensures { OnOk result (out.new ≡ optional_text_field key.now (option_map (λ t. t.now) text.entry) out.old) }
 {
@@ -56,6 +61,7 @@ pub fn put_optional_text(out: &mut Out, key: &str, text: Option<&str>) -> Result
 }
 
 /// A number, or null.
+#[tactic(auto, unfolding(crate::specs::Fields::optional_number_field, crate::specs::Fields::number_field))]
 pub fn put_optional_number(
     out: &mut Out,
     key: &str,
@@ -78,6 +84,7 @@ pub fn put_offset(out: &mut Out, key: &str, offset: Option<NonZeroUsize>) -> Res
 }
 
 /// A line and a column, or null.
+#[tactic(auto, unfolding(crate::specs::Fields::position_field))]
 pub fn put_position(out: &mut Out, key: &str, pos: Position) -> Result<(), AllocError>
     ensures { OnOk result (out.new ≡ position_field key.now pos out.old) }
 {
@@ -111,6 +118,7 @@ pub fn sign_text(token: &Token) -> &'static str
 }
 
 /// An operator, or null.
+#[tactic(auto, unfolding(crate::specs::Fields::optional_text_field))]
 pub fn put_sign(out: &mut Out, key: &str, token: &Option<Token>) -> Result<(), AllocError>
     ensures { OnOk result (out.new
         ≡ optional_text_field key.now (option_map written_sign (option_map lexeme token.now)) out.old) }
@@ -122,6 +130,7 @@ pub fn put_sign(out: &mut Out, key: &str, token: &Option<Token>) -> Result<(), A
 }
 
 /// An array of texts.
+#[tactic(auto, unfolding(crate::specs::Fields::texts_field))]
 pub fn put_texts(out: &mut Out, key: &str, texts: &[RcStr]) -> Result<(), AllocError>
     ensures { OnOk result (out.new ≡ texts_field key.now (map rc_str_bytes texts.now) out.old) }
 {
@@ -134,6 +143,7 @@ pub fn put_texts(out: &mut Out, key: &str, texts: &[RcStr]) -> Result<(), AllocE
 }
 
 /// An array of numbers.
+#[tactic(auto, unfolding(crate::specs::Fields::numbers_field))]
 pub fn put_numbers(out: &mut Out, key: &str, numbers: &[usize]) -> Result<(), AllocError>
     ensures { OnOk result (out.new ≡ numbers_field key.now numbers.now out.old) }
 {
@@ -146,6 +156,7 @@ pub fn put_numbers(out: &mut Out, key: &str, numbers: &[usize]) -> Result<(), Al
 }
 
 /// A name and its position.
+#[tactic(auto, unfolding(crate::specs::Fields::ident_fields))]
 pub fn put_ident(out: &mut Out, ident: &Ident) -> Result<(), AllocError>
     ensures { OnOk result (out.new ≡ ident_fields (rc_str_bytes ident.now.name) ident.now.pos out.old) }
 {
@@ -174,6 +185,7 @@ fn put_path(out: &mut Out, path: &[Ident]) -> Result<(), AllocError>
 }
 
 /// The path before a name, and the offset of its import.
+#[tactic(auto, unfolding(crate::specs::Fields::namespace_field))]
 pub fn put_namespace(out: &mut Out, namespace: &Namespace) -> Result<(), AllocError>
     ensures { OnOk result (out.new ≡ namespace_field (path_of namespace.now) (module_index_of namespace.now) out.old) }
 {
@@ -185,6 +197,7 @@ pub fn put_namespace(out: &mut Out, namespace: &Namespace) -> Result<(), AllocEr
 }
 
 /// The kind and the position of a node, which begin its object.
+#[tactic(auto, unfolding(crate::specs::Fields::node_start))]
 pub fn begin_node(out: &mut Out, kind: &str, pos: Position) -> Result<(), AllocError>
     ensures { OnOk result (out.new ≡ node_start kind.now pos out.old) }
 {

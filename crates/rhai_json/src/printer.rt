@@ -66,7 +66,7 @@ impl<'a> Printer<'a> {
 
     /// The text that was written.
     pub fn into_text(self) -> String
-        ensures { string_bytes result ≡ print self.out }
+        ensures { string_bytes result ≡ print self.entry.out }
     {
         let Printer { out, left: _ } = self;
         out.into_text()
@@ -140,16 +140,16 @@ impl<'a> Printer<'a> {
     fn push_switch(
         &mut self,
         item: &'a Expr,
-        cases: &'a SwitchCasesCollection,
+        choice: &'a SwitchCasesCollection,
     ) -> Result<(), AllocError>
         ensures out { self.new.out ≡ self.old.out }
         ensures left { OnOk result (pieces self.new ≡ name (codes "item") ∷ node (view item.now)
-            ∷ list_of (codes "expressions") ∷ arms (arm_views (out-SwitchCasesCollection cases.now).expressions.items)
-            ∷ list_of (codes "cases") ∷ cases (case_views (out-SwitchCasesCollection cases.now).cases.items)
+            ∷ list_of (codes "expressions") ∷ arms (arm_views (out-SwitchCasesCollection choice.now).expressions.items)
+            ∷ list_of (codes "cases") ∷ cases (case_views (out-SwitchCasesCollection choice.now).cases.items)
             ∷ pieces self.old) }
     {
-        self.push_list("cases", Part::Cases(&cases.cases))?;
-        self.push_list("expressions", Part::Arms(&cases.expressions))?;
+        self.push_list("cases", Part::Cases(&choice.cases))?;
+        self.push_list("expressions", Part::Arms(&choice.expressions))?;
         self.push_member("item", Part::Expr(item))
     }
 
@@ -166,7 +166,7 @@ impl<'a> Printer<'a> {
     }
 
     // What stands in an expression, and the end of its object.
-    #[tactic(auto, unfolding(crate::specs::Left::node_weight, crate::specs::Trees::node_json))]
+    #[tactic(auto, using(rhai_lower::proofs::Views::view_map), unfolding(crate::specs::Left::node_weight, crate::specs::Trees::node_json))]
     fn push_parts(&mut self, expr: &'a Expr) -> Result<(), AllocError>
         ensures out { self.new.out ≡ self.old.out }
         ensures same { OnOk result ((ts : List Token) → all_json (pieces self.new) (begun (view expr.now) ts)
@@ -202,7 +202,7 @@ impl<'a> Printer<'a> {
     }
 
     // What stands in a statement, and the end of its object.
-    #[tactic(auto, unfolding(crate::specs::Left::statement_weight, crate::specs::Left::optional_weight, crate::specs::Trees::statement_json, crate::specs::Trees::value_json))]
+    #[tactic(auto, using(rhai_lower::proofs::Views::view_switch), unfolding(crate::specs::Left::statement_weight, crate::specs::Left::optional_weight, crate::specs::Trees::statement_json, crate::specs::Trees::value_json))]
     fn push_statement_parts(&mut self, statement: &'a Stmt) -> Result<(), AllocError>
         ensures out { self.new.out ≡ self.old.out }
         ensures same { OnOk result ((ts : List Token)
@@ -254,17 +254,17 @@ impl<'a> Printer<'a> {
     }
 
     #[tactic(auto, unfolding(crate::specs::Left::block_weight, crate::specs::Trees::block_json))]
-    fn put_block(&mut self, block: &'a StmtBlock) -> Result<(), AllocError>
+    fn put_block(&mut self, body: &'a StmtBlock) -> Result<(), AllocError>
         ensures same { OnOk result (all_json (pieces self.new) self.new.out
-            ≡ all_json (pieces self.old) (piece_json (block (block_view block.now)) self.old.out)) }
+            ≡ all_json (pieces self.old) (piece_json (block (block_view body.now)) self.old.out)) }
         ensures less { OnOk result
-            (weights (pieces self.new) < weight (block (block_view block.now)) + weights (pieces self.old)) }
+            (weights (pieces self.new) < weight (block (block_view body.now)) + weights (pieces self.old)) }
     {
         self.out.begin_object()?;
-        put_position(&mut self.out, "start", block.start)?;
-        put_position(&mut self.out, "end", block.end)?;
+        put_position(&mut self.out, "start", body.start)?;
+        put_position(&mut self.out, "end", body.end)?;
         self.push(Part::EndObject)?;
-        self.push_list("statements", Part::Stmts(&block.statements))
+        self.push_list("statements", Part::Stmts(&body.statements))
     }
 
     #[tactic(auto, unfolding(crate::specs::Left::nodes_weight, crate::specs::Trees::nodes_json))]
