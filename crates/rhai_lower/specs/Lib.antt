@@ -11,5 +11,6 @@ pub mod SlotView
 pub mod Streams
 pub mod RequestCodes
 pub mod Entries
+pub mod Messages
 pub mod View
 pub mod Optimizer
