@@ -32,7 +32,10 @@ fn tell(
         return without_text(BAD_ARGUMENT, 0);
     };
     match str::from_utf8(bytes) {
-        Ok(text) => give(out, answer(alloc, &engine, text, limits_of(options), kind, told)),
+        Ok(text) => give(
+            out,
+            answer(alloc, &engine, text, limits_of(options), kind, told),
+        ),
         Err(error) => without_text(NOT_UTF8, error.valid_up_to()),
     }
 }

@@ -8,5 +8,7 @@ mod options;
 mod scripts;
 
 pub use answer::RhaiAnswer;
-pub use exports::{rhai_names_at, rhai_options_default, rhai_parse_at, rhai_tokens_at, rhai_version};
+pub use exports::{
+    rhai_names_at, rhai_options_default, rhai_parse_at, rhai_tokens_at, rhai_version,
+};
 pub use options::RhaiOptions;

@@ -2,11 +2,10 @@
 
 ghost use Rattle.std.specs.Prelude.{◌≡◌, ◌^◌, ◌-◌};
 
+use bitflags::Flags;
 use rhai_parser::{Engine, LangOptions};
 use rhai_tokenizer::Limits;
 use std::alloc::Global;
-
-use bitflags::Flags;
 
 /// The options and limits that a script is read under.
 #[repr(C)]

@@ -36,7 +36,13 @@ pub enum Told {
 /// The answer on a text: `Ok` if it is accepted, and `Err` with why it is refused.
 pub type Answer = Result<String, String>;
 
-fn read(alloc: Global, engine: &Engine, text: &str, limits: Limits, kind: Kind) -> ParseResult<AST> {
+fn read(
+    alloc: Global,
+    engine: &Engine,
+    text: &str,
+    limits: Limits,
+    kind: Kind,
+) -> ParseResult<AST> {
     match kind {
         Kind::Script => compile(alloc, engine, text, limits),
         Kind::Expression => compile_expression(alloc, engine, text, limits),

@@ -1,8 +1,13 @@
 -- One piece more, or one less, in what is still to be written.
 use Rattle.std.proofs.Common.{◌≡◌, ◌∙◌, ◌+◌, ◌<◌, List, [], ◌∷◌, ◌++◌, ap, arith, map, refl, reverse, sym}
 use Rattle.std.proofs.lemmas.List.{map-append, reverse-append}
-use Rattle.json.specs.Token.{Token}
-use Rattle.rhai_json.specs.Left.{Piece, all_json, piece_json, piece_of, pieces_of, weight, weights}
+use Rattle.std.specs.Prelude.{codes}
+use Rattle.json.specs.Token.{Token, end_object}
+use Rattle.rhai_lower.specs.Nodes.{Node, Properties, object_map}
+use Rattle.rhai_lower.specs.declared.position.Position.{Position}
+use Rattle.rhai_json.specs.Fields.{put}
+use Rattle.rhai_json.specs.Left.{Piece, all_json, closing, list_of, piece_json, piece_of, pieces_of, properties, weight, weights}
+use Rattle.rhai_json.specs.Trees.{begun, list_start, node_json, properties_json}
 use Rattle.rhai_json.specs.declared.printer.Part.{Part}
 
 pub pushed : (ps : List Part) (p : Part) → pieces_of (ps ++ p ∷ []) ≡ piece_of p ∷ pieces_of ps
@@ -40,3 +45,14 @@ pub all_written : (left due before : List Piece) (p : Piece) (out now old : List
     → due ≡ p ∷ before → now ≡ old → all_json left out ≡ all_json due now → out ≡ piece_json p old
 all_written left due before p out now old l b d n e =
     sym (ap (λ ps. all_json ps out) l) ∙ e ∙ ap (λ ps. all_json ps now) (d ∙ ap (λ ps. p ∷ ps) b) ∙ ap (piece_json p) n
+
+-- An object map that is begun is whole once its properties and its end are written.
+pub map_written : (x : Node) (at : Position) (ps qs : Properties) (old mid new : List Piece) (ts : List Token)
+    → x ≡ object_map ps at → qs ≡ ps → mid ≡ closing ∷ old
+    → new ≡ list_of (codes "properties") ∷ properties qs ∷ mid → all_json new (begun x ts) ≡ all_json old (node_json x ts)
+unfolding node_json
+map_written x at ps qs old mid new ts e q m n =
+    ap (λ l. all_json l (begun x ts)) n ∙ ap (λ l. all_json (list_of (codes "properties") ∷ properties qs ∷ l) (begun x ts)) m
+    ∙ ap (λ r. all_json old (put end_object (properties_json r (list_start (codes "properties") (begun x ts))))) q
+    ∙ ap (λ y. all_json old (put end_object (properties_json ps (list_start (codes "properties") (begun y ts))))) e
+    ∙ sym (ap (λ y. all_json old (node_json y ts)) e)

@@ -4,7 +4,8 @@ use crate::errors::put_refusal;
 use crate::fields::{put_number, put_optional_number, put_optional_text, put_text};
 use crate::out::Out;
 use rhai_grammar::ParseError;
-use rhai_tokenizer::Span;
+use rhai_lower::Position;
+use rhai_tokenizer::{Span, Tokens};
 use std::alloc::{AllocError, Global};
 
 /// A refusal, and what a reader is told of it.
@@ -14,12 +15,25 @@ pub struct Diagnostic<'a> {
     pub file: Option<&'a str>,
     /// Why the script is refused, and where.
     pub error: &'a ParseError,
-    /// The cause in words.
-    pub message: &'a str,
     /// The bytes of the token at which the script is refused, if there is one.
     pub span: Option<Span>,
     /// What else a reader is told, in this order.
     pub notes: &'a [String],
+}
+
+/// The bytes of the token that stands at a position, or of the end mark; `None` if none stands there, or more than one
+/// does, as where positions are as great as they can be.
+pub fn span_at(tokens: &Tokens, pos: Position) -> Option<Span> {
+    let mut found = None;
+    if tokens.end == pos {
+        found = tokens.spans.last().copied();
+    }
+    for (entry, span) in tokens.entries.iter().zip(tokens.spans.iter()) {
+        if entry.pos == pos && found.replace(*span).is_some() {
+            return None;
+        }
+    }
+    found
 }
 
 /// The bytes from `start` to before `stop`, or null.
@@ -43,16 +57,17 @@ fn put_notes(out: &mut Out, notes: &[String]) -> Result<(), AllocError> {
     out.end_array()
 }
 
-/// A refusal as one JSON object: `file` (or null), `kind` and `payload` (what the error names), `message`, `line` and
-/// `column` (from 1, or null for none), `span` (the token's bytes, or null) and `notes`. docs/JSON.md has the payload
-/// of each kind. Returns `AllocError` if memory runs out.
+/// A refusal as one JSON object: `file` (or null), `kind` and `payload` (what the error names), `message` (Rhai's,
+/// without the position), `line` and `column` (from 1, or null for none), `span` (the token's bytes, or null) and
+/// `notes`. docs/JSON.md has the payload of each kind. Returns `AllocError` if memory runs out.
 pub fn diagnostic_json(alloc: Global, diagnostic: &Diagnostic<'_>) -> Result<String, AllocError> {
     let ParseError(kind, pos) = diagnostic.error;
     let mut out = Out::new(alloc);
     out.begin_object()?;
     put_optional_text(&mut out, "file", diagnostic.file)?;
     put_refusal(&mut out, kind)?;
-    put_text(&mut out, "message", diagnostic.message)?;
+    let message = format!(in alloc; "{kind}")?;
+    put_text(&mut out, "message", message.as_str())?;
     put_optional_number(&mut out, "line", pos.line().map(|line| line as usize))?;
     put_optional_number(
         &mut out,
