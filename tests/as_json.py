@@ -1,5 +1,5 @@
 #!/usr/bin/env python3
-"""Runs scripts through `rhai-ast .. --json`, and prints each run that fails.
+"""Runs scripts through `rhai-ast` for their JSON, and prints each run that fails.
 
 usage: tests/as_json.py [PROGRAM]
 

@@ -14,3 +14,6 @@ pub mod Entries
 pub mod Messages
 pub mod View
 pub mod Optimizer
+pub mod Walks
+pub mod WalkState
+pub mod Signatures
