@@ -1,6 +1,6 @@
-//! The tokenizer, over texts of which each piece allocates, once: no contract says that memory is left. Each text is
-//! read by a function that ends with `AllocError` where memory is refused, and two tests run it: one wants it to come to
-//! its end, with ample memory. The other, `.._refused`, lets it end early, and holds however memory is refused
+//! Texts that the tokenizer allocates for, each once: no contract says that memory is left. Each text is read by a
+//! function that ends with `AllocError` where memory is refused, and two tests run it: one wants it to come to its end,
+//! with ample memory. The other, `.._refused`, lets it end early, and holds however memory is refused
 //! (tests/hostile/calls.py): what was asserted on the way has to hold all the same.
 
 use rhai_lower::{LexError, Token};

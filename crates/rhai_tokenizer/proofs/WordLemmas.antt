@@ -13,205 +13,25 @@ use Rattle.rhai_tokenizer.specs.CuttingMeanings.{meaning_of}
 use Rattle.rhai_tokenizer.specs.Symbols.{keywords, reserved_words, improper, or_token, word_lexeme}
 use Rattle.rhai_tokenizer.proofs.ByteLemmas.{same_is, same_refl, at_member}
 
+-- the texts of a table mean what it says
 abbrev pub Right : (Text → Lexeme) → Table → Type 0
-Right f [] = Unit {0}
-Right f (e ∷ es) = (f e.0 ≡ meaning_of e.0 e.1) × Right f es
+Right f es = map (λ e. f e.0) es ≡ map (λ e. meaning_of e.0 e.1) es
 
 words_right : Right word_lexeme word_table
 unfolding word_table keywords reserved_words
-words_right = (
-  refl,
-  (
-    refl,
-    (
-      refl,
-      (
-        refl,
-        (
-          refl,
-          (
-            refl,
-            (
-              refl,
-              (
-                refl,
-                (
-                  refl,
-                  (
-                    refl,
-                    (
-                      refl,
-                      (
-                        refl,
-                        (
-                          refl,
-                          (
-                            refl,
-                            (
-                              refl,
-                              (
-                                refl,
-                                (
-                                  refl,
-                                  (
-                                    refl,
-                                    (
-                                      refl,
-                                      (
-                                        refl,
-                                        (
-                                          refl,
-                                          (
-                                            refl,
-                                            (
-                                              refl,
-                                              (
-                                                refl,
-                                                (
-                                                  refl,
-                                                  (
-                                                    refl,
-                                                    (
-                                                      refl,
-                                                      (
-                                                        refl,
-                                                        (
-                                                          refl,
-                                                          (
-                                                            refl,
-                                                            (
-                                                              refl,
-                                                              (
-                                                                refl,
-                                                                (
-                                                                  refl,
-                                                                  (
-                                                                    refl,
-                                                                    (
-                                                                      refl,
-                                                                      (
-                                                                        refl,
-                                                                        (
-                                                                          refl,
-                                                                          (
-                                                                            refl,
-                                                                            (
-                                                                              refl,
-                                                                              (
-                                                                                refl,
-                                                                                (
-                                                                                  refl,
-                                                                                  (
-                                                                                    refl,
-                                                                                    (
-                                                                                      refl,
-                                                                                      (
-                                                                                        refl,
-                                                                                        (
-                                                                                          refl,
-                                                                                          (
-                                                                                            refl,
-                                                                                            (
-                                                                                              refl,
-                                                                                              (
-                                                                                                refl,
-                                                                                                (
-                                                                                                  refl,
-                                                                                                  (
-                                                                                                    refl,
-                                                                                                    (
-                                                                                                      refl,
-                                                                                                      (
-                                                                                                        refl,
-                                                                                                        (
-                                                                                                          refl,
-                                                                                                          (
-                                                                                                            refl,
-                                                                                                            (
-                                                                                                              refl,
-                                                                                                              (
-                                                                                                                refl,
-                                                                                                                (
-                                                                                                                  refl,
-                                                                                                                  (
-                                                                                                                    refl,
-                                                                                                                    (
-                                                                                                                      refl,
-                                                                                                                      (
-                                                                                                                        refl,
-                                                                                                                        (
-                                                                                                                          refl,
-                                                                                                                          (
-                                                                                                                            refl,
-                                                                                                                            (refl, tt),
-                                                                                                                          ),
-                                                                                                                        ),
-                                                                                                                      ),
-                                                                                                                    ),
-                                                                                                                  ),
-                                                                                                                ),
-                                                                                                              ),
-                                                                                                            ),
-                                                                                                          ),
-                                                                                                        ),
-                                                                                                      ),
-                                                                                                    ),
-                                                                                                  ),
-                                                                                                ),
-                                                                                              ),
-                                                                                            ),
-                                                                                          ),
-                                                                                        ),
-                                                                                      ),
-                                                                                    ),
-                                                                                  ),
-                                                                                ),
-                                                                              ),
-                                                                            ),
-                                                                          ),
-                                                                        ),
-                                                                      ),
-                                                                    ),
-                                                                  ),
-                                                                ),
-                                                              ),
-                                                            ),
-                                                          ),
-                                                        ),
-                                                      ),
-                                                    ),
-                                                  ),
-                                                ),
-                                              ),
-                                            ),
-                                          ),
-                                        ),
-                                      ),
-                                    ),
-                                  ),
-                                ),
-                              ),
-                            ),
-                          ),
-                        ),
-                      ),
-                    ),
-                  ),
-                ),
-              ),
-            ),
-          ),
-        ),
-      ),
-    ),
-  ),
-)
+words_right = refl
 
 pub found_right : (f : Text → Lexeme) (xs : Table) (t : Text) (m : Meaning) → Right f xs → lookup xs t ≡ Some m → f t
     ≡ meaning_of t m
 found_right f [] t m r h = absurd cc
-found_right f (e ∷ es) t m (here, more) h = by (same_text e.0 t) refl h (found_right f es t m more)
+found_right f (e ∷ es) t m r h = by (same_text e.0 t) refl h (found_right f es t m more)
   where
+    here : f e.0 ≡ meaning_of e.0 e.1
+    here = cc
+
+    more : Right f es
+    more = cc
+
     by : (b : Bool) → same_text e.0 t ≡ b → cond b (Some e.1) (lookup es t) ≡ Some m
         → (lookup es t ≡ Some m → f t ≡ meaning_of t m) → f t ≡ meaning_of t m
     by true g h ih =

@@ -42,7 +42,8 @@ note n =
     else (if n == 1 then codes "'!==' is not a valid operator. This is not JavaScript! Should it be '!='?"
     else (if n == 2 then codes "'->' is not a valid symbol. This is not C or C++!"
     else (if n == 3 then codes "'<-' is not a valid symbol. Should it be '<='?"
-    else (if n == 4 then codes "':=' is not a valid assignment operator. This is not Go or Pascal! Should it be simply '='?"
+    else (if n == 4
+    then codes "':=' is not a valid assignment operator. This is not Go or Pascal! Should it be simply '='?"
     else (if n == 5 then codes "':;' is not a valid symbol. Should it be '::'?"
     else (if n == 6 then codes "'::<>' is not a valid symbol. This is not Rust! Should it be '::'?"
     else (if n == 7 then codes "'(* .. *)' is not a valid comment format. This is not Pascal! Should it be '/* .. */'?"

@@ -8,7 +8,7 @@ ghost use Rattle.rhai_tokenizer.specs.Cutting.{first_class};
 ghost use Rattle.rhai_tokenizer.specs.CuttingMeanings.{is_plain};
 ghost use Rattle.rhai_tokenizer.specs.Meanings.{at_start, operand_then};
 ghost use Rattle.rhai_tokenizer.specs.Places.{past};
-ghost use Rattle.rhai_tokenizer.specs.Turns.{IsPlace, IsReady, IsTurn, Joins, before_of, found_of};
+ghost use Rattle.rhai_tokenizer.specs.Turns.{IsFront, IsPlace, IsReady, IsTurn, Joins, before_of, found_of};
 
 use crate::braces::{follow, opens_after, symbol_brace};
 use crate::class::{Class, First, first_class};
@@ -87,7 +87,8 @@ fn push(
     requires place { IsPlace place }
     requires delivered { token_may_be_delivered token ≡ true }
     ensures after { IfOk result (λ o. o ≡ operand_then operand (found_of place (Some token))) }
-    ensures joined { IfOk result (λ o. Joins out.old out.new in_text span.start span.stop (found_of place (Some token))) }
+    ensures joined { IfOk result (λ o. Joins out.old out.new in_text span.start span.stop
+        (found_of place (Some token))) }
 {
     let next = operand_after(operand, &token);
     let pos = position(place);
@@ -120,21 +121,15 @@ fn join(
     }
 }
 
-// Any piece.
-#[inline(never)]
-fn any(reading: &mut Reading, limits: Limits, rest: &str) -> Result<usize, AllocError>
-    requires { IsReady reading.old rest.now }
+// A piece with its token joins.
+#[inline(always)]
+fn add(reading: &mut Reading, limits: Limits, rest: &str, piece: Front) -> Result<usize, AllocError>
+    requires ready { IsReady reading.old rest.now }
+    requires front { IsFront limits reading.old.in_text reading.old.operand reading.old.place rest.now piece }
     ensures { IfOk result (λ n. IsTurn limits reading.old reading.new rest.now n) }
 {
-    let piece = front_of(
-        &mut reading.tools,
-        limits,
-        reading.in_text,
-        reading.operand,
-        reading.is_hashed,
-        reading.place,
-        rest,
-    )?;
+    let _limits = limits;
+    let _rest = rest;
     let Front {
         token,
         place,
@@ -146,20 +141,34 @@ fn any(reading: &mut Reading, limits: Limits, rest: &str) -> Result<usize, Alloc
     let start = reading.at;
     let stop = start + len;
     let span = Span { start, stop };
-    reading.operand = join(
-        &mut reading.out,
-        token,
-        reading.operand,
-        reading.in_text,
-        place,
-        span,
-    )?;
+    let (operand, in_text) = (reading.operand, reading.in_text);
+    reading.operand = join(&mut reading.out, token, operand, in_text, place, span)?;
     reading.in_text = follow(&mut reading.braces, brace, reading.opens)?;
     reading.opens = opens_after(brace);
     reading.is_hashed = is_hash;
     reading.place = after;
     reading.at = stop;
     Ok(len)
+}
+
+// Any piece.
+#[inline(never)]
+fn any(reading: &mut Reading, limits: Limits, rest: &str) -> Result<usize, AllocError>
+    requires { IsReady reading.old rest.now }
+    ensures { IfOk result (λ n. IsTurn limits reading.old reading.new rest.now n) }
+{
+    let (in_text, operand) = (reading.in_text, reading.operand);
+    let (is_hashed, place) = (reading.is_hashed, reading.place);
+    let piece = front_of(
+        &mut reading.tools,
+        limits,
+        in_text,
+        operand,
+        is_hashed,
+        place,
+        rest,
+    )?;
+    add(reading, limits, rest, piece)
 }
 
 // White space.
