@@ -4,7 +4,7 @@ use Rattle.std.proofs.Common.{refl}
 use Rattle.rhai_grammar.specs.Prelude.{kept_after, kept_comments, last_hex_digits, module_number, names_function, one_more}
 use Rattle.rhai_grammar.specs.Slots.{number}
 use Rattle.rhai_productions.specs.LinesOfOperands.{LinesOfOperands}
-use Rattle.rhai_productions.proofs.LineLemmas.{reads, refuses}
+use Rattle.rhai_productions.proofs.LineLemmas.{reads, reads_script, refuses}
 
 pub lines_of_operands : LinesOfOperands
 unfolding digits kept_after kept_comments last_hex_digits module_number names_function one_more number
@@ -73,4 +73,5 @@ lines_of_operands = record {
   refused_51 = refuses _ refl refl;
   refused_52 = refuses _ refl refl;
   refused_53 = refuses _ refl refl;
+  refused_54 = refuses _ refl refl;
 }
