@@ -4,7 +4,7 @@ use Rattle.std.proofs.Common.{refl}
 use Rattle.rhai_grammar.specs.Prelude.{kept_after, kept_comments, last_hex_digits, module_number, names_function, one_more}
 use Rattle.rhai_grammar.specs.Slots.{number}
 use Rattle.rhai_productions.specs.LinesOfLoops.{LinesOfLoops}
-use Rattle.rhai_productions.proofs.LineLemmas.{reads, reads_script, refuses}
+use Rattle.rhai_productions.proofs.LineLemmas.{reads_script, refuses}
 
 pub lines_of_loops : LinesOfLoops
 unfolding digits kept_after kept_comments last_hex_digits module_number names_function one_more number

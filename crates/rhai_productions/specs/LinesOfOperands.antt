@@ -1,5 +1,5 @@
 -- Lines of tokens that are operators, signs, ranges and names, and lines that are refused there.
-use Rattle.std.specs.Prelude.{None, false, true, codes, pos, negsuc, [], ◌∷◌}
+use Rattle.std.specs.Prelude.{None, false, codes, pos, negsuc, [], ◌∷◌}
 use Rattle.rhai_lower.specs.Lexemes.{Integer, Name, Reserved, Faulty, Sign, UnterminatedString}
 use Rattle.rhai_lower.specs.Nodes as node
 use Rattle.rhai_lower.specs.Positions.{place}
