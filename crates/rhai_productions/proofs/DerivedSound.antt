@@ -384,9 +384,8 @@ module _ (rule : (g : Goal) → Production (Val g)) where
           λ p l q. both h (k p l q) (tidy p l q) in
           record { new = λ s b. text_on h k rest s b; seen = λ s m. text_on h k rest s true }
 
-  -- Where each reading program is that of its production, what it comes to is the tree of a form that is written there,
-  -- or
-  -- an open form misses a demand.
+  -- Where each reading program is that of its production, what it comes to is the tree of a form that is written
+  -- there, or an open form misses a demand.
   pub sound : ((g : Goal) → Agrees histories (run (rule g)) (body g)) → ((g : Goal) → Tidy (rule g)) → (n : ℕ)
       (g : Goal) (s : Point) (b : Bool) → Tells (Read g (rule g) s) (Halts g (rule g) s) (calls n g (at s b))
   sound same tidy zero g s b = record { told = tt }

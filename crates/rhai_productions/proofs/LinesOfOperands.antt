@@ -73,4 +73,5 @@ lines_of_operands = record {
   refused_51 = refuses _ refl refl;
   refused_52 = refuses _ refl refl;
   refused_53 = refuses _ refl refl;
+  refused_54 = refuses _ refl refl;
 }

@@ -1,5 +1,5 @@
--- Outside of closures nothing is captured.
--- Each lemma is of the rule of its name, and goes by cases of what the next token decides.
+-- Outside of closures nothing is captured. Each lemma is of the rule of its name, and goes by cases of what the next
+-- token decides.
 use Rattle.std.proofs.Common.{◌≡◌, ℕ, Bool, true, false, not, ◌&&◌, ◌||◌, ◌++◌, List, [], ◌∷◌, Option, Some, None, refl}
 use Rattle.std.proofs.Common.{ap, sym, ◌∙◌, if◌then◌else◌}
 use Rattle.std.specs.Prelude.{◌==◌}

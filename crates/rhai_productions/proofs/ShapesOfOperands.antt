@@ -1,5 +1,5 @@
--- Productions of operands, calls and lists are alike up to positions.
--- Each lemma is of the rule of its name, and goes by cases of what the next token decides.
+-- Productions of operands, calls and lists are alike up to positions. Each lemma is of the rule of its name, and goes
+-- by cases of what the next token decides.
 use Rattle.std.proofs.Common.{◌≡◌, ℕ, Bool, true, false, List, Option, Some, None, refl, ap, ◌∙◌}
 use Rattle.std.proofs.Common.{sym, if◌then◌else◌}
 use Rattle.std.specs.Prelude.{option_map}

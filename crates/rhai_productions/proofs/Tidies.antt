@@ -1,5 +1,5 @@
--- What is refused by a test in a production has a position of its own.
--- Each lemma is of the rule of its name, and goes by cases of what the next token decides.
+-- What is refused by a test in a production has a position of its own. Each lemma is of the rule of its name, and
+-- goes by cases of what the next token decides.
 use Rattle.std.proofs.Common.{ℕ, Bool, true, false, Option, Some, None, List, [], ◌∷◌, refl, if◌then◌else◌}
 use Rattle.rhai_reading.specs.Reading as R
 use Rattle.rhai_reading.specs.Reading.{Goal}

@@ -46,9 +46,8 @@ abbrev pub IsGroupedChain : {c : Context} {w : Live} {a : Node} → Form product
 IsGroupedChain (form (choose l at f)) y ls more = GroupedBy (beginning l) f y ls more
 
 -- A chain in parentheses that is followed by links has the tree of the chain written without the parentheses, whether
--- the two
--- forms fit or not: if its root and its links are those, they are equal, and if they are so up to positions, equal up
--- to these.
+-- the two forms fit or not: if its root and its links are those, they are equal, and if they are so up to positions,
+-- equal up to these.
 pub record ChainsAreJoined : Type 0 where
   pub equal : (c d : Context) (w v : Live) (a b y : Node) (f : Form production (Operand c w) a)
       (e : Form production (Operand d v) b) (links more : List Link) → IsGroupedChain f y links more

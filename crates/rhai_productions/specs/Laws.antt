@@ -38,9 +38,8 @@ abbrev pub cursor_of : State → Cursor
 cursor_of t = record { tokens = t.point.tokens; mode = t.mode; peeked = t.peeked }
 
 -- What is read for a goal, by calls that are at most n deep: what is given is the tree of a form that is met on the
--- way,
--- up to where the stream is left. A refusal, unless memory ran out, comes with an open form that misses its last demand
--- where the stream is left, and has that demand's cause and position.
+-- way, up to where the stream is left. A refusal, unless memory ran out, comes with an open form that misses its last
+-- demand where the stream is left, and has that demand's cause and position.
 pub record FormsAreSound : Type 0 where
   pub mode : (g : Goal) (n : ℕ) (s : Point) (looked : Bool) (x : Val g) (t : State)
       → calls n g (state_at s looked) ≡ Done x t → t.mode ≡ code

@@ -1,5 +1,5 @@
 -- Lines of tokens that are operators, signs, ranges and names, and lines that are refused there.
-use Rattle.std.specs.Prelude.{None, false, codes, pos, [], ◌∷◌}
+use Rattle.std.specs.Prelude.{None, false, codes, pos, negsuc, [], ◌∷◌}
 use Rattle.rhai_lower.specs.Lexemes.{Integer, Name, Reserved, Faulty, Sign, UnterminatedString}
 use Rattle.rhai_lower.specs.Nodes as node
 use Rattle.rhai_lower.specs.Positions.{place}
@@ -105,154 +105,157 @@ pub record LinesOfOperands : Type 0 where
   pub refused_10 : Refuses (expression_by (record new_engine { depth = 2 })) ((Name (codes "a"), 1) ∷
       (Sign token.Or, 3) ∷ (Name (codes "b"), 6) ∷ (Sign token.And, 8) ∷ (Name (codes "c"), 11) ∷ []) 12
       cause.ExprTooDeep 6
+  -- a minus before the least integer
+  pub refused_11 : Refuses expression ((Sign token.UnaryMinus, 1) ∷ (Integer (negsuc 9223372036854775807), 2) ∷ []) 22
+      (cause.BadInput (cause.MalformedNumber (codes "--9223372036854775808"))) 1
   -- `-`
-  pub refused_11 : Refuses expression ((Sign token.UnaryMinus, 1) ∷ []) 2 cause.UnexpectedEOF 2
+  pub refused_12 : Refuses expression ((Sign token.UnaryMinus, 1) ∷ []) 2 cause.UnexpectedEOF 2
   -- `-*`
-  pub refused_12 : Refuses expression ((Sign token.UnaryMinus, 1) ∷ (Sign token.Multiply, 2) ∷ []) 3 (cause.BadInput
+  pub refused_13 : Refuses expression ((Sign token.UnaryMinus, 1) ∷ (Sign token.Multiply, 2) ∷ []) 3 (cause.BadInput
       (cause.UnexpectedInput (codes "*"))) 2
   -- `-`
-  pub refused_13 : Refuses (expression_by (record new_engine { depth = 1 })) ((Sign token.UnaryMinus, 1) ∷ []) 2
+  pub refused_14 : Refuses (expression_by (record new_engine { depth = 1 })) ((Sign token.UnaryMinus, 1) ∷ []) 2
       cause.ExprTooDeep 1
   -- `!x`
-  pub refused_14 : Refuses (expression_by (record new_engine { depth = 1 })) ((Sign token.Bang, 1) ∷
+  pub refused_15 : Refuses (expression_by (record new_engine { depth = 1 })) ((Sign token.Bang, 1) ∷
       (Name (codes "x"), 2) ∷ []) 3 cause.ExprTooDeep 1
   -- `..`
-  pub refused_15 : Refuses expression ((Sign token.ExclusiveRange, 1) ∷ []) 3 cause.UnexpectedEOF 3
+  pub refused_16 : Refuses expression ((Sign token.ExclusiveRange, 1) ∷ []) 3 cause.UnexpectedEOF 3
   -- `5.. |`
-  pub refused_16 : Refuses (expression_by (record new_engine { options = 175; for_expressions = 163; depth = 1 }))
+  pub refused_17 : Refuses (expression_by (record new_engine { options = 175; for_expressions = 163; depth = 1 }))
       ((Integer (pos 5), 1) ∷ (Sign token.ExclusiveRange, 2) ∷ (Sign token.Pipe, 5) ∷ []) 6 (cause.BadInput
       (cause.UnexpectedInput (codes "|"))) 5
   -- `5.. |`
-  pub refused_17 : Refuses (expression_by (record new_engine { depth = 1 })) ((Integer (pos 5), 1) ∷
+  pub refused_18 : Refuses (expression_by (record new_engine { depth = 1 })) ((Integer (pos 5), 1) ∷
       (Sign token.ExclusiveRange, 2) ∷ (Sign token.Pipe, 5) ∷ []) 6 (cause.MissingToken (codes "|")) 6
   -- `..5`
-  pub refused_18 : Refuses (expression_by (record new_engine { depth = 1 })) ((Sign token.ExclusiveRange, 1) ∷
+  pub refused_19 : Refuses (expression_by (record new_engine { depth = 1 })) ((Sign token.ExclusiveRange, 1) ∷
       (Integer (pos 5), 3) ∷ []) 4 cause.ExprTooDeep 1
   -- `5.. ]`
-  pub refused_19 : Refuses (expression_by (record new_engine { depth = 1 })) ((Integer (pos 5), 1) ∷
+  pub refused_20 : Refuses (expression_by (record new_engine { depth = 1 })) ((Integer (pos 5), 1) ∷
       (Sign token.ExclusiveRange, 2) ∷ (Sign token.RightBracket, 5) ∷ []) 6 cause.ExprTooDeep 1
   -- `5.. }`
-  pub refused_20 : Refuses (expression_by (record new_engine { depth = 1 })) ((Integer (pos 5), 1) ∷
+  pub refused_21 : Refuses (expression_by (record new_engine { depth = 1 })) ((Integer (pos 5), 1) ∷
       (Sign token.ExclusiveRange, 2) ∷ (Sign token.RightBrace, 5) ∷ []) 6 cause.ExprTooDeep 1
   -- `5.. )`
-  pub refused_21 : Refuses (expression_by (record new_engine { depth = 1 })) ((Integer (pos 5), 1) ∷
+  pub refused_22 : Refuses (expression_by (record new_engine { depth = 1 })) ((Integer (pos 5), 1) ∷
       (Sign token.ExclusiveRange, 2) ∷ (Sign token.RightParen, 5) ∷ []) 6 cause.ExprTooDeep 1
   -- `5.. ,`
-  pub refused_22 : Refuses (expression_by (record new_engine { depth = 1 })) ((Integer (pos 5), 1) ∷
+  pub refused_23 : Refuses (expression_by (record new_engine { depth = 1 })) ((Integer (pos 5), 1) ∷
       (Sign token.ExclusiveRange, 2) ∷ (Sign token.Comma, 5) ∷ []) 6 cause.ExprTooDeep 1
   -- `x`
-  pub refused_23 : Refuses (expression_by (record new_engine { options = 255; for_expressions = 243 }))
+  pub refused_24 : Refuses (expression_by (record new_engine { options = 255; for_expressions = 243 }))
       ((Name (codes "x"), 1) ∷ []) 2 (cause.VariableUndefined (codes "x")) 1
   -- `x y`
-  pub refused_24 : Refuses expression ((Name (codes "x"), 1) ∷ (Name (codes "y"), 3) ∷ []) 4 (cause.BadInput
+  pub refused_25 : Refuses expression ((Name (codes "x"), 1) ∷ (Name (codes "y"), 3) ∷ []) 4 (cause.BadInput
       (cause.UnexpectedInput (codes "y"))) 3
   -- `x y`
-  pub refused_25 : Refuses script ((Name (codes "x"), 1) ∷ (Name (codes "y"), 3) ∷ []) 4 (cause.MissingToken
+  pub refused_26 : Refuses script ((Name (codes "x"), 1) ∷ (Name (codes "y"), 3) ∷ []) 4 (cause.MissingToken
       (codes ";")) 3
   -- `print`
-  pub refused_26 : Refuses expression ((Reserved (codes "print"), 1) ∷ []) 6 (cause.Reserved (codes "print")) 1
+  pub refused_27 : Refuses expression ((Reserved (codes "print"), 1) ∷ []) 6 (cause.Reserved (codes "print")) 1
   -- `this`
-  pub refused_27 : Refuses expression ((Reserved (codes "this"), 1) ∷ []) 5 (cause.BadInput (cause.ImproperSymbol
+  pub refused_28 : Refuses expression ((Reserved (codes "this"), 1) ∷ []) 5 (cause.BadInput (cause.ImproperSymbol
       (codes "this"))) 1
   -- `(1)`
-  pub refused_28 : Refuses (expression_by (record new_engine { depth = 1 })) ((Sign token.LeftParen, 1) ∷
+  pub refused_29 : Refuses (expression_by (record new_engine { depth = 1 })) ((Sign token.LeftParen, 1) ∷
       (Integer (pos 1), 2) ∷ (Sign token.RightParen, 3) ∷ []) 4 cause.ExprTooDeep 1
   -- `- - 5`
-  pub refused_29 : Refuses (expression_by (record new_engine { depth = 2 })) ((Sign token.UnaryMinus, 1) ∷
+  pub refused_30 : Refuses (expression_by (record new_engine { depth = 2 })) ((Sign token.UnaryMinus, 1) ∷
       (Sign token.UnaryMinus, 3) ∷ (Integer (pos 5), 5) ∷ []) 6 cause.ExprTooDeep 3
   -- `1 + !x`
-  pub refused_30 : Refuses (expression_by (record new_engine { depth = 1 })) ((Integer (pos 1), 1) ∷
+  pub refused_31 : Refuses (expression_by (record new_engine { depth = 1 })) ((Integer (pos 1), 1) ∷
       (Sign token.Plus, 3) ∷ (Sign token.Bang, 5) ∷ (Name (codes "x"), 6) ∷ []) 7 cause.ExprTooDeep 5
   -- `1 + (2)`
-  pub refused_31 : Refuses (expression_by (record new_engine { depth = 1 })) ((Integer (pos 1), 1) ∷
+  pub refused_32 : Refuses (expression_by (record new_engine { depth = 1 })) ((Integer (pos 1), 1) ∷
       (Sign token.Plus, 3) ∷ (Sign token.LeftParen, 5) ∷ (Integer (pos 2), 6) ∷ (Sign token.RightParen, 7) ∷ []) 8
       cause.ExprTooDeep 5
   -- `1 + +5 * 3`
-  pub refused_32 : Refuses (expression_by (record new_engine { depth = 2 })) ((Integer (pos 1), 1) ∷
+  pub refused_33 : Refuses (expression_by (record new_engine { depth = 2 })) ((Integer (pos 1), 1) ∷
       (Sign token.Plus, 3) ∷ (Sign token.UnaryPlus, 5) ∷ (Integer (pos 5), 6) ∷ (Sign token.Multiply, 8) ∷
       (Integer (pos 3), 10) ∷ []) 11 cause.ExprTooDeep 6
   -- `y`
-  pub refused_33 : Refuses (expression_by (record new_engine { options = 255; for_expressions = 243 }))
+  pub refused_34 : Refuses (expression_by (record new_engine { options = 255; for_expressions = 243 }))
       ((Name (codes "y"), 1) ∷ []) 2 (cause.VariableUndefined (codes "y")) 1
   -- `const x = 1; x += 2`
-  pub refused_34 : Refuses (script_by (record new_engine { options = 255 })) ((Sign token.Const, 1) ∷
+  pub refused_35 : Refuses (script_by (record new_engine { options = 255 })) ((Sign token.Const, 1) ∷
       (Name (codes "x"), 7) ∷ (Sign token.Equals, 9) ∷ (Integer (pos 1), 11) ∷ (Sign token.SemiColon, 12) ∷
       (Name (codes "x"), 14) ∷ (Sign token.PlusAssign, 16) ∷ (Integer (pos 2), 19) ∷ []) 20
       (cause.AssignmentToConstant (codes "x")) 14
   -- `n::f!()`
-  pub refused_35 : Refuses (expression_by (record new_engine { options = 255; for_expressions = 243 }))
+  pub refused_36 : Refuses (expression_by (record new_engine { options = 255; for_expressions = 243 }))
       ((Name (codes "n"), 1) ∷ (Sign token.DoubleColon, 2) ∷ (Name (codes "f"), 4) ∷ (Sign token.Bang, 5) ∷
       (Sign token.Unit, 6) ∷ []) 8 (cause.BadInput (cause.UnexpectedInput (codes "!"))) 5
   -- `f! y`
-  pub refused_36 : Refuses (expression_by (record new_engine { options = 255; for_expressions = 243 }))
+  pub refused_37 : Refuses (expression_by (record new_engine { options = 255; for_expressions = 243 }))
       ((Name (codes "f"), 1) ∷ (Sign token.Bang, 2) ∷ (Name (codes "y"), 4) ∷ []) 5 (cause.MissingToken (codes "(")) 4
   -- `this.x`
-  pub refused_37 : Refuses (expression_by (record new_engine { options = 255; for_expressions = 243 }))
+  pub refused_38 : Refuses (expression_by (record new_engine { options = 255; for_expressions = 243 }))
       ((Reserved (codes "this"), 1) ∷ (Sign token.Period, 5) ∷ (Name (codes "x"), 6) ∷ []) 7 (cause.BadInput
       (cause.ImproperSymbol (codes "this"))) 1
   -- `switch 1 { y => 2 }`
-  pub refused_38 : Refuses (expression_by (record new_engine { options = 255; for_expressions = 243 }))
+  pub refused_39 : Refuses (expression_by (record new_engine { options = 255; for_expressions = 243 }))
       ((Sign token.Switch, 1) ∷ (Integer (pos 1), 8) ∷ (Sign token.LeftBrace, 10) ∷ (Name (codes "y"), 12) ∷
       (Sign token.DoubleArrow, 14) ∷ (Integer (pos 2), 17) ∷ (Sign token.RightBrace, 19) ∷ []) 20 (cause.ExprExpected
       (codes "literal")) 12
   -- `switch 1 { y => 2 }`
-  pub refused_39 : Refuses expression ((Sign token.Switch, 1) ∷ (Integer (pos 1), 8) ∷ (Sign token.LeftBrace, 10) ∷
+  pub refused_40 : Refuses expression ((Sign token.Switch, 1) ∷ (Integer (pos 1), 8) ∷ (Sign token.LeftBrace, 10) ∷
       (Name (codes "y"), 12) ∷ (Sign token.DoubleArrow, 14) ∷ (Integer (pos 2), 17) ∷ (Sign token.RightBrace, 19) ∷
       []) 20 (cause.ExprExpected (codes "a literal")) 12
   -- an error of the tokenizer after the `::` of a module that is not known
-  pub refused_40 : Refuses (expression_by (record new_engine { options = 255; for_expressions = 243 }))
+  pub refused_41 : Refuses (expression_by (record new_engine { options = 255; for_expressions = 243 }))
       ((Name (codes "n"), 1) ∷ (Sign token.DoubleColon, 2) ∷ (Faulty UnterminatedString, 4) ∷ []) 7 (cause.BadInput
       (cause.Lexer UnterminatedString)) 4
   -- `let x; { let y; let x }`, without shadowing
-  pub refused_41 : Refuses (script_by (record new_engine { options = 127 })) ((Sign token.Let, 1) ∷
+  pub refused_42 : Refuses (script_by (record new_engine { options = 127 })) ((Sign token.Let, 1) ∷
       (Name (codes "x"), 5) ∷ (Sign token.SemiColon, 6) ∷ (Sign token.LeftBrace, 8) ∷ (Sign token.Let, 10) ∷
       (Name (codes "y"), 14) ∷ (Sign token.SemiColon, 15) ∷ (Sign token.Let, 17) ∷ (Name (codes "x"), 21) ∷
       (Sign token.RightBrace, 23) ∷ []) 24 (cause.VariableExists (codes "x")) 21
   -- `n::x`
-  pub refused_42 : Refuses (expression_by (record new_engine { options = 255; for_expressions = 243 }))
+  pub refused_43 : Refuses (expression_by (record new_engine { options = 255; for_expressions = 243 }))
       ((Name (codes "n"), 1) ∷ (Sign token.DoubleColon, 2) ∷ (Name (codes "x"), 4) ∷ []) 5 (cause.ModuleUndefined
       (codes "n")) 1
   -- `n::f(1 2)`
-  pub refused_43 : Refuses (expression_by (record new_engine { options = 255; for_expressions = 243 }))
+  pub refused_44 : Refuses (expression_by (record new_engine { options = 255; for_expressions = 243 }))
       ((Name (codes "n"), 1) ∷ (Sign token.DoubleColon, 2) ∷ (Name (codes "f"), 4) ∷ (Sign token.LeftParen, 5) ∷
       (Integer (pos 1), 6) ∷ (Integer (pos 2), 8) ∷ (Sign token.RightParen, 9) ∷ []) 10 (cause.MissingToken
       (codes ",")) 8
   -- `n::f(`
-  pub refused_44 : Refuses (expression_by (record new_engine { options = 255; for_expressions = 243 }))
+  pub refused_45 : Refuses (expression_by (record new_engine { options = 255; for_expressions = 243 }))
       ((Name (codes "n"), 1) ∷ (Sign token.DoubleColon, 2) ∷ (Name (codes "f"), 4) ∷ (Sign token.LeftParen, 5) ∷ []) 6
       (cause.MissingToken (codes ")")) 6
   -- `n::x.1`
-  pub refused_45 : Refuses (expression_by (record new_engine { options = 255; for_expressions = 243 }))
+  pub refused_46 : Refuses (expression_by (record new_engine { options = 255; for_expressions = 243 }))
       ((Name (codes "n"), 1) ∷ (Sign token.DoubleColon, 2) ∷ (Name (codes "x"), 4) ∷ (Sign token.Period, 5) ∷
       (Integer (pos 1), 6) ∷ []) 7 cause.PropertyExpected 6
   -- `n::x[`
-  pub refused_46 : Refuses (expression_by (record new_engine { options = 255; for_expressions = 243 }))
+  pub refused_47 : Refuses (expression_by (record new_engine { options = 255; for_expressions = 243 }))
       ((Name (codes "n"), 1) ∷ (Sign token.DoubleColon, 2) ∷ (Name (codes "x"), 4) ∷ (Sign token.LeftBracket, 5) ∷ [])
       6 cause.UnexpectedEOF 6
   -- `n::x[1`
-  pub refused_47 : Refuses (expression_by (record new_engine { options = 255; for_expressions = 243 }))
+  pub refused_48 : Refuses (expression_by (record new_engine { options = 255; for_expressions = 243 }))
       ((Name (codes "n"), 1) ∷ (Sign token.DoubleColon, 2) ∷ (Name (codes "x"), 4) ∷ (Sign token.LeftBracket, 5) ∷
       (Integer (pos 1), 6) ∷ []) 7 (cause.MissingToken (codes "]")) 7
   -- `n::x.f!()`
-  pub refused_48 : Refuses (expression_by (record new_engine { options = 255; for_expressions = 243 }))
+  pub refused_49 : Refuses (expression_by (record new_engine { options = 255; for_expressions = 243 }))
       ((Name (codes "n"), 1) ∷ (Sign token.DoubleColon, 2) ∷ (Name (codes "x"), 4) ∷ (Sign token.Period, 5) ∷
       (Name (codes "f"), 6) ∷ (Sign token.Bang, 7) ∷ (Sign token.Unit, 8) ∷ []) 10 cause.MalformedCapture 6
   -- `n::1`
-  pub refused_49 : Refuses (expression_by (record new_engine { options = 255; for_expressions = 243 }))
+  pub refused_50 : Refuses (expression_by (record new_engine { options = 255; for_expressions = 243 }))
       ((Name (codes "n"), 1) ∷ (Sign token.DoubleColon, 2) ∷ (Integer (pos 1), 4) ∷ []) 5 cause.VariableExpected 4
   -- `((y))`
-  pub refused_50 : Refuses (expression_by (record new_engine { options = 255; for_expressions = 243; depth = 4 }))
+  pub refused_51 : Refuses (expression_by (record new_engine { options = 255; for_expressions = 243; depth = 4 }))
       ((Sign token.LeftParen, 1) ∷ (Sign token.LeftParen, 2) ∷ (Name (codes "y"), 3) ∷ (Sign token.RightParen, 4) ∷
       (Sign token.RightParen, 5) ∷ []) 6 cause.ExprTooDeep 3
   -- `n::x.y`
-  pub refused_51 : Refuses (expression_by (record new_engine { options = 255; for_expressions = 243; depth = 1 }))
+  pub refused_52 : Refuses (expression_by (record new_engine { options = 255; for_expressions = 243; depth = 1 }))
       ((Name (codes "n"), 1) ∷ (Sign token.DoubleColon, 2) ∷ (Name (codes "x"), 4) ∷ (Sign token.Period, 5) ∷
       (Name (codes "y"), 6) ∷ []) 7 cause.ExprTooDeep 5
   -- `n::f(1)`
-  pub refused_52 : Refuses (expression_by (record new_engine { options = 255; for_expressions = 243; depth = 1 }))
+  pub refused_53 : Refuses (expression_by (record new_engine { options = 255; for_expressions = 243; depth = 1 }))
       ((Name (codes "n"), 1) ∷ (Sign token.DoubleColon, 2) ∷ (Name (codes "f"), 4) ∷ (Sign token.LeftParen, 5) ∷
       (Integer (pos 1), 6) ∷ (Sign token.RightParen, 7) ∷ []) 8 cause.ExprTooDeep 4
   -- `n::x[0]`
-  pub refused_53 : Refuses (expression_by (record new_engine { options = 255; for_expressions = 243; depth = 2 }))
+  pub refused_54 : Refuses (expression_by (record new_engine { options = 255; for_expressions = 243; depth = 2 }))
       ((Name (codes "n"), 1) ∷ (Sign token.DoubleColon, 2) ∷ (Name (codes "x"), 4) ∷ (Sign token.LeftBracket, 5) ∷
       (Integer (pos 0), 6) ∷ (Sign token.RightBracket, 7) ∷ []) 8 cause.ExprTooDeep 5

@@ -16,11 +16,11 @@ use Rattle.rhai_productions.specs.Derived as D
 
 -- the names of the live slots
 abbrev pub names : Live → List Text
-names w = names_in w.slots
+names live = names_in live.slots
 
 -- the numbers in a statement are right, and after it these slots are live
 abbrev pub Leaves : Live → Live → node.Statement → Type 0
-Leaves w v f = WellNumberedStatement (names w) f × (names_after f (names w) ≡ names v)
+Leaves live v f = WellNumberedStatement (names live) f × (names_after f (names live) ≡ names v)
 
 -- Its numbers are right, unless the next token calls it or makes it part of a path.
 abbrev pub UnlessCalled : List Text → Node → (next : Lexeme) → Type 0
@@ -29,66 +29,68 @@ UnlessCalled ns x next = (is_variable x && excludes_use next) ≡ false → Well
 -- What holds of what is given for a goal, by the tokens at which it begins and that follow it. What is added to a list
 -- or a tree keeps that right.
 abbrev pub Right : (g : Goal) → Val g → (first next : Lexeme) → Type 0
-Right (R.Whole c w) x l n = WellNumbered (names w) x
-Right (R.Expression c w) x l n = WellNumbered (names w) x
-Right (R.Operand c w) x l n = WellNumbered (names w) x
-Right (R.RightOperand c w place) x l n = WellNumbered (names w) x
-Right (R.Primary c w) x l n = UnlessCalled (names w) x n
-Right (R.Called c w at q) x l n = AllWellNumbered (names w) x.1
-Right (R.Path w y) x l n = is_variable y ≡ true → WellNumbered (names w) x
-Right (R.Links w spot) ls l n = AllLinks (names w) spot.before → AllLinks (names w) ls
-Right (R.Index c w indexed) x l n = WellNumbered (names w) x
-Right (R.Member c w) x l n = WellNumbered (names w) x
-Right (R.Postfix c w y) x l n = UnlessCalled (names w) y l → WellNumbered (names w) x
-Right (R.Arguments c w at) xs l n = AllWellNumbered (names w) xs
-Right (R.Items c w before) xs l n = AllWellNumbered (names w) before → AllWellNumbered (names w) xs
-Right (R.Elements c w at before) xs l n = AllWellNumbered (names w) before → AllWellNumbered (names w) xs
-Right (R.Fields c w at before) xs l n = WellNumberedProperties (names w) before → WellNumberedProperties (names w) xs
-Right (R.Segments c w at before) xs l n = AllWellNumbered (names w) before → AllWellNumbered (names w) xs
-Right (R.Jump c w at) x l n = WellNumberedOptional (names w) x
-Right (R.BinaryOp c w at parent lhs) x l n = WellNumbered (names w) lhs → WellNumbered (names w) x
-Right (R.ExprStatement c w) f l n = Leaves w w f
-Right (R.Initializer c w at) x l n = WellNumbered (names w) x
-Right (R.Definition c w at constant exported) f l n = Leaves w f.1 f.0
-Right (R.Import c w at) f l n = Leaves w f.1 f.0
-Right (R.Export c w at) f l n = Leaves w f.1 f.0
-Right (R.Statement c w) f l n = Leaves w f.1 f.0
-Right (R.Statements closing c w before) fs l n = (ns : List Text) → WellNumberedStatements ns before
-    → names_after_all before ns ≡ names w
+Right (R.Whole context live) x l n = WellNumbered (names live) x
+Right (R.Expression context live) x l n = WellNumbered (names live) x
+Right (R.Operand context live) x l n = WellNumbered (names live) x
+Right (R.RightOperand context live place) x l n = WellNumbered (names live) x
+Right (R.Primary context live) x l n = UnlessCalled (names live) x n
+Right (R.Called context live at q) x l n = AllWellNumbered (names live) x.1
+Right (R.Path live y) x l n = is_variable y ≡ true → WellNumbered (names live) x
+Right (R.Links live spot) ls l n = AllLinks (names live) spot.before → AllLinks (names live) ls
+Right (R.Index context live indexed) x l n = WellNumbered (names live) x
+Right (R.Member context live) x l n = WellNumbered (names live) x
+Right (R.Postfix context live y) x l n = UnlessCalled (names live) y l → WellNumbered (names live) x
+Right (R.Arguments context live at) xs l n = AllWellNumbered (names live) xs
+Right (R.Items context live before) xs l n = AllWellNumbered (names live) before → AllWellNumbered (names live) xs
+Right (R.Elements context live at before) xs l n = AllWellNumbered (names live) before → AllWellNumbered (names live) xs
+Right (R.Fields context live at before) xs l n = WellNumberedProperties (names live) before
+    → WellNumberedProperties (names live) xs
+Right (R.Segments context live at before) xs l n = AllWellNumbered (names live) before → AllWellNumbered (names live) xs
+Right (R.Jump context live at) x l n = WellNumberedOptional (names live) x
+Right (R.BinaryOp context live at parent lhs) x l n = WellNumbered (names live) lhs → WellNumbered (names live) x
+Right (R.ExprStatement context live) f l n = Leaves live live f
+Right (R.Initializer context live at) x l n = WellNumbered (names live) x
+Right (R.Definition context live at constant exported) f l n = Leaves live f.1 f.0
+Right (R.Import context live at) f l n = Leaves live f.1 f.0
+Right (R.Export context live at) f l n = Leaves live f.1 f.0
+Right (R.Statement context live) f l n = Leaves live f.1 f.0
+Right (R.Statements closing context live before) fs l n = (ns : List Text) → WellNumberedStatements ns before
+    → names_after_all before ns ≡ names live
     → WellNumberedStatements ns fs.0 × (names_after_all fs.0 ns ≡ names fs.1)
-Right (R.Inside c w) fs l n = WellNumberedStatements (names w) fs
-Right (R.Block c w at) b l n = WellNumberedBlock (names w) b
+Right (R.Inside context live) fs l n = WellNumberedStatements (names live) fs
+Right (R.Block context live at) b l n = WellNumberedBlock (names live) b
 Right (R.BlockEnd at fs) b l n = (ns : List Text) → WellNumberedStatements ns fs → WellNumberedBlock ns b
-Right (R.Construct c w at kind) f l n = Leaves w w f
-Right (R.Braced c w at) b l n = WellNumberedBlock (names w) b
-Right (R.Guard c w) x l n = WellNumbered (names w) x
-Right (R.Iterated c w) x l n = WellNumbered (names w) x
-Right (R.Conditional c w at) f l n = Leaves w w f
-Right (R.Branch c w at) b l n = WellNumberedBlock (names w) b
-Right (R.Arms c w before) x l n = IsCollected (names w) before → IsCollected (names w) x
-Right (R.Arm c w before) a l n = AllWellNumbered (names w) a.0 × WellNumbered (names w) a.1 × WellNumbered (names w) a.2
-Right (R.DefaultArm c w default) x l n = WellNumbered (names w) x
-Right (R.Cases c w before) xs l n = AllWellNumbered (names w) before → AllWellNumbered (names w) xs
-Right (R.Case c w) x l n = WellNumbered (names w) x
-Right (R.CaseGuard c w) x l n = WellNumbered (names w) x
-Right (R.Action c w) x l n = WellNumbered (names w) x.0
-Right (R.FunctionStatement c w comments first at is_private) f l n = Leaves w f.1 f.0
-Right (R.Function c comments at is_private) x l n = WellNumberedFunction [] x.function.parameters x
-Right (R.Closure c w at by) x l n = WellNumbered (names w) x
-Right (R.ClosureBody c w) f l n = WellNumberedStatement (names w) f
+Right (R.Construct context live at kind) f l n = Leaves live live f
+Right (R.Braced context live at) b l n = WellNumberedBlock (names live) b
+Right (R.Guard context live) x l n = WellNumbered (names live) x
+Right (R.Iterated context live) x l n = WellNumbered (names live) x
+Right (R.Conditional context live at) f l n = Leaves live live f
+Right (R.Branch context live at) b l n = WellNumberedBlock (names live) b
+Right (R.Arms context live before) x l n = IsCollected (names live) before → IsCollected (names live) x
+Right (R.Arm context live before) a l n = AllWellNumbered (names live) a.0 × WellNumbered (names live) a.1
+    × WellNumbered (names live) a.2
+Right (R.DefaultArm context live default) x l n = WellNumbered (names live) x
+Right (R.Cases context live before) xs l n = AllWellNumbered (names live) before → AllWellNumbered (names live) xs
+Right (R.Case context live) x l n = WellNumbered (names live) x
+Right (R.CaseGuard context live) x l n = WellNumbered (names live) x
+Right (R.Action context live) x l n = WellNumbered (names live) x.0
+Right (R.FunctionStatement context live comments first at is_private) f l n = Leaves live f.1 f.0
+Right (R.Function context comments at is_private) x l n = WellNumberedFunction [] x.function.parameters x
+Right (R.Closure context live at by) x l n = WellNumbered (names live) x
+Right (R.ClosureBody context live) f l n = WellNumberedStatement (names live) f
 Right _ x l n = Unit {0}
 
 -- In the trees of forms that fit every number is right, at whatever depth; and so it is in the functions and closures
--- that
--- end in them, if it was in those before. In the body of a function all its parameters are live. After a script, the
--- slots are those that its tree says.
+-- that end in them, if it was in those before. In the body of a function all its parameters are live. After a script,
+-- the slots are those that its tree says.
 pub record TreesAreWellNumbered : Type 0 where
-  pub expression : (c : Context) (w : Live) (x : Node) (f : D.Form production (Whole c w) x) (s t : Point)
-      → Met (D.demands production f Nothing) s t
-      → WellNumbered (names w) x × (WellNumberedLibrary s.library → WellNumberedLibrary t.library)
-  pub script : (c : Context) (w : Live) (x : node.Statements × Live) (f : D.Form production (Script c w) x)
-      (s t : Point) → Met (D.demands production f Nothing) s t → WellNumberedStatements (names w) x.0
-      × (names_after_all x.0 (names w) ≡ names x.1) × (WellNumberedLibrary s.library → WellNumberedLibrary t.library)
-  pub function : (c : Context) (comments : List Comment) (at : Position) (is_private : Bool) (x : Ended)
-      (f : D.Form production (R.Function c comments at is_private) x) (s t : Point)
+  pub expression : (context : Context) (live : Live) (x : Node) (f : D.Form production (Whole context live) x)
+      (s t : Point) → Met (D.demands production f Nothing) s t → WellNumbered (names live) x
+      × (WellNumberedLibrary s.library → WellNumberedLibrary t.library)
+  pub script : (context : Context) (live : Live) (x : node.Statements × Live)
+      (f : D.Form production (Script context live) x) (s t : Point) → Met (D.demands production f Nothing) s t
+      → WellNumberedStatements (names live) x.0 × (names_after_all x.0 (names live) ≡ names x.1)
+      × (WellNumberedLibrary s.library → WellNumberedLibrary t.library)
+  pub function : (context : Context) (comments : List Comment) (at : Position) (is_private : Bool) (x : Ended)
+      (f : D.Form production (R.Function context comments at is_private) x) (s t : Point)
       → Met (D.demands production f Nothing) s t → WellNumberedFunction [] x.function.parameters x

@@ -12,8 +12,7 @@ use Rattle.rhai_productions.specs.Derived as D
 -- `Outside` holds of goals that are read outside of closures.
 module _ (Outside : Goal → Type 0) where
   -- No name that is used in a production is captured, and its parts are read outside of closures; but a part in a
-  -- closure
-  -- of its own may be any.
+  -- closure of its own may be any.
   abbrev pub Quiet : {A : Type 0} → Production A → Type 0
   Quiet (S.give x) = Unit {0}
   Quiet (S.never why) = Unit {0}
@@ -34,53 +33,53 @@ module _ (Outside : Goal → Type 0) where
 
 -- the settings are those outside of closures
 abbrev pub Off : Context → Type 0
-Off c = in_closure c.settings ≡ false
+Off context = in_closure context.settings ≡ false
 
 -- the goal is read outside of closures
 abbrev pub Outside : Goal → Type 0
-Outside (R.Whole c w) = Off c
-Outside (R.Expression c w) = Off c
-Outside (R.Operand c w) = Off c
-Outside (R.RightOperand c w place) = Off c
-Outside (R.Primary c w) = Off c
-Outside (R.Called c w at q) = Off c
-Outside (R.Links w spot) = Off spot.settings × Off spot.brackets
-Outside (R.Index c w indexed) = Off c
-Outside (R.Member c w) = Off c
-Outside (R.Postfix c w y) = Off c
-Outside (R.Arguments c w at) = Off c
-Outside (R.Items c w before) = Off c
-Outside (R.Elements c w at before) = Off c
-Outside (R.Fields c w at before) = Off c
-Outside (R.Segments c w at before) = Off c
-Outside (R.Jump c w at) = Off c
-Outside (R.BinaryOp c w at parent lhs) = Off c
-Outside (R.ExprStatement c w) = Off c
-Outside (R.Initializer c w at) = Off c
-Outside (R.Definition c w at constant exported) = Off c
-Outside (R.Import c w at) = Off c
-Outside (R.Export c w at) = Off c
-Outside (R.Statement c w) = Off c
-Outside (R.Statements closing c w before) = Off c
-Outside (R.Inside c w) = Off c
-Outside (R.Block c w at) = Off c
-Outside (R.Construct c w at kind) = Off c
-Outside (R.Braced c w at) = Off c
-Outside (R.Guard c w) = Off c
-Outside (R.Iterated c w) = Off c
-Outside (R.Conditional c w at) = Off c
-Outside (R.Branch c w at) = Off c
-Outside (R.Arms c w before) = Off c
-Outside (R.Arm c w before) = Off c
-Outside (R.DefaultArm c w default) = Off c
-Outside (R.Cases c w before) = Off c
-Outside (R.Case c w) = Off c
-Outside (R.CaseGuard c w) = Off c
-Outside (R.Action c w) = Off c
-Outside (R.FunctionStatement c w comments first at is_private) = Off c
-Outside (R.Function c comments at is_private) = Off c
-Outside (R.Closure c w at by) = Off c
-Outside (R.ClosureBody c w) = Off c
+Outside (R.Whole context live) = Off context
+Outside (R.Expression context live) = Off context
+Outside (R.Operand context live) = Off context
+Outside (R.RightOperand context live place) = Off context
+Outside (R.Primary context live) = Off context
+Outside (R.Called context live at q) = Off context
+Outside (R.Links live spot) = Off spot.settings × Off spot.brackets
+Outside (R.Index context live indexed) = Off context
+Outside (R.Member context live) = Off context
+Outside (R.Postfix context live y) = Off context
+Outside (R.Arguments context live at) = Off context
+Outside (R.Items context live before) = Off context
+Outside (R.Elements context live at before) = Off context
+Outside (R.Fields context live at before) = Off context
+Outside (R.Segments context live at before) = Off context
+Outside (R.Jump context live at) = Off context
+Outside (R.BinaryOp context live at parent lhs) = Off context
+Outside (R.ExprStatement context live) = Off context
+Outside (R.Initializer context live at) = Off context
+Outside (R.Definition context live at constant exported) = Off context
+Outside (R.Import context live at) = Off context
+Outside (R.Export context live at) = Off context
+Outside (R.Statement context live) = Off context
+Outside (R.Statements closing context live before) = Off context
+Outside (R.Inside context live) = Off context
+Outside (R.Block context live at) = Off context
+Outside (R.Construct context live at kind) = Off context
+Outside (R.Braced context live at) = Off context
+Outside (R.Guard context live) = Off context
+Outside (R.Iterated context live) = Off context
+Outside (R.Conditional context live at) = Off context
+Outside (R.Branch context live at) = Off context
+Outside (R.Arms context live before) = Off context
+Outside (R.Arm context live before) = Off context
+Outside (R.DefaultArm context live default) = Off context
+Outside (R.Cases context live before) = Off context
+Outside (R.Case context live) = Off context
+Outside (R.CaseGuard context live) = Off context
+Outside (R.Action context live) = Off context
+Outside (R.FunctionStatement context live comments first at is_private) = Off context
+Outside (R.Function context comments at is_private) = Off context
+Outside (R.Closure context live at by) = Off context
+Outside (R.ClosureBody context live) = Off context
 Outside _ = Unit {0}
 
 -- After a form that fits outside of closures no more names are captured than before it.

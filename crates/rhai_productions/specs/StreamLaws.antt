@@ -21,5 +21,5 @@ AreWhole g =
 
 -- After a whole expression or a script that fits and spells a delivered stream, the stream is at its end.
 pub record StreamsAreWhole : Type 0 where
-  pub expression : (c : Context) (w : Live) → AreWhole (Whole c w)
-  pub script : (c : Context) (w : Live) → AreWhole (Script c w)
+  pub expression : (context : Context) (live : Live) → AreWhole (Whole context live)
+  pub script : (context : Context) (live : Live) → AreWhole (Script context live)

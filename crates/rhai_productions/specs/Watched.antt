@@ -9,7 +9,7 @@ use Rattle.rhai_productions.specs.Schema.{Production, Seen}
 use Rattle.rhai_productions.specs.Schema as S
 use Rattle.rhai_productions.specs.Rules.{production}
 
-module _ (c : Context) (w : Live) where
+module _ (context : Context) (live : Live) where
   -- Each use in a production is captured exactly where the settings are those of a closure, its name is free there, and
   -- the next token does not exclude it.
   abbrev pub Watches : {A : Type 0} → Production A → Type 0
@@ -24,10 +24,11 @@ module _ (c : Context) (w : Live) where
   Watches (S.knows t e p) = Watches p
   Watches (S.adds f p) = Watches p
   Watches (S.uses v ok e free u k) = ((fs : Library) (l : Lexeme)
-      → free fs l ≡ (not (excludes_use l) && (in_closure c.settings && is_free w.slots fs u.name))) × ((b : Bool)
+      → free fs l ≡ (not (excludes_use l) && (in_closure context.settings && is_free live.slots fs u.name)))
+      × ((b : Bool)
       → Watches (k b))
   Watches (S.captures ok e free u p) =
-      ((fs : Library) → free fs ≡ (in_closure c.settings && is_free w.slots fs u.name)) × Watches p
+      ((fs : Library) → free fs ≡ (in_closure context.settings && is_free live.slots fs u.name)) × Watches p
   Watches (S.part g k) = (x : Val g) → Watches (k x)
   Watches (S.literal g is k) = (x : Val g) → Watches (k x)
   Watches (S.apart g k) = (x : Val g) (us : List Use) (i : ℕ) → Watches (k x us i)
@@ -35,5 +36,6 @@ module _ (c : Context) (w : Live) where
 
 -- So it is in the two productions that use names.
 pub record NamesAreCaptured : Type 0 where
-  pub primary : (c : Context) (w : Live) → Watches c w (production (Primary c w))
-  pub closure : (c : Context) (w : Live) (at : Position) (by : Bars) → Watches c w (production (Closure c w at by))
+  pub primary : (context : Context) (live : Live) → Watches context live (production (Primary context live))
+  pub closure : (context : Context) (live : Live) (at : Position) (by : Bars) → Watches context live
+      (production (Closure context live at by))
