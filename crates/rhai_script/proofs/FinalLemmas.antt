@@ -1,14 +1,13 @@
 -- No script has the tokens that a final refusal saw. The end mark is not among them.
-use Rattle.std.proofs.Common.{◌≡◌, ◌∙◌, ℕ, ◌+◌, ◌≤◌, zero, suc, Bool, true, false, true≢false, List, [], ◌∷◌, ap, arith, length, refl, subst, sym}
-use Rattle.std.specs.Prelude.{drop, take}
+use Rattle.std.proofs.Common.{◌≡◌, ◌∙◌, ℕ, ◌≤◌, zero, suc, Bool, true, false, true≢false, List, [], ◌∷◌, ap, arith, length, refl, subst, sym}
+use Rattle.std.specs.Prelude.{take}
 use Rattle.rhai_lower.specs.declared.position.Position.{Position}
 use Rattle.rhai_grammar.specs.Cursors.{Cursor, asked}
-
 use Rattle.rhai_grammar.specs.Delivered.{Mode, Taken, ask, code, is_end, later, text}
 use Rattle.rhai_grammar.specs.Demands.{Demands}
 use Rattle.rhai_grammar.specs.Libraries.{Library}
 use Rattle.rhai_grammar.specs.Promises.{NoneBegins, Saw}
-use Rattle.rhai_grammar.specs.Seen.{BeginsWith, Gives, leads}
+use Rattle.rhai_grammar.specs.Seen.{Gives, leads}
 use Rattle.rhai_tokenizer.specs.Meanings.{at_start}
 use Rattle.rhai_tokenizer.specs.Pieces.{Piece, spelled}
 use Rattle.rhai_tokenizer.specs.Places.{at_place, past, start}
@@ -86,11 +85,12 @@ gives_same [] is js end other few same gives = tt
 gives_same (k ∷ taken) [] js end other few same gives = absurd (none_less few)
 gives_same (k ∷ taken) (i ∷ is) [] end other few same gives = absurd (none_same i (length taken) is same)
 gives_same (k ∷ taken) (i ∷ is) (j ∷ js) end other few same gives =
-    let first = first_same i j (length taken) is js same in
-    (subst (λ f. ask k.mode (delivers (f ∷ js) other) ≡ k.item) (sym first) (asks_first i is js end other k.mode ∙ gives.0),
-    subst (Gives taken) (sym (later_is j js other k.mode))
-    (gives_same taken is js end other (less few) (others_same i j (length taken) is js same)
-    (subst (Gives taken) (later_is i is end k.mode) gives.1)))
+    let first = first_same i j (length taken) is js same in (
+      subst (λ f. ask k.mode (delivers (f ∷ js) other) ≡ k.item) (sym first) (asks_first i is js end other k.mode ∙ gives.0),
+      subst (Gives taken) (sym (later_is j js other k.mode))
+          (gives_same taken is js end other (less few) (others_same i j (length taken) is js same)
+          (subst (Gives taken) (later_is i is end k.mode) gives.1)),
+    )
 
 -- And the token after those is the same.
 pub asks_same : (taken : List Taken) (is js : List Item) (end other : Position) (m : Mode) → suc (length taken) ≤ length is
@@ -138,18 +138,20 @@ module _ {F : Type 0} (whole : F → Demands) (before : Library) (limits : Limit
   by_peek false unpeeked = record {
     seen = length taken;
     within = few;
-    none = λ others same f written. early f (cursor_in limits others) written
-        (gives_same taken all (items limits at_start others) (end_of ps) (end_of others) few same saw.gives,
-        λ peeked. absurd (true≢false (sym peeked ∙ unpeeked)));
+    none = λ others same f written. early f (cursor_in limits others) written (
+      gives_same taken all (items limits at_start others) (end_of ps) (end_of others) few same saw.gives,
+      λ peeked. absurd (true≢false (sym peeked ∙ unpeeked)),
+    );
   }
   by_peek true peeked = record {
     seen = suc (length taken);
     within = enough;
-    none = λ others same f written. early f (cursor_in limits others) written
-        (gives_same taken all (items limits at_start others) (end_of ps) (end_of others) few
-        (fewer_same (length taken) all (items limits at_start others) same) saw.gives,
-        λ other. subst (λ s. ask left.mode (leads taken (tokens_in limits others)) ≡ ask left.mode s) (sym saw.leaves)
-        (asks_same taken all (items limits at_start others) (end_of ps) (end_of others) left.mode enough same));
+    none = λ others same f written. early f (cursor_in limits others) written (
+      gives_same taken all (items limits at_start others) (end_of ps) (end_of others) few
+          (fewer_same (length taken) all (items limits at_start others) same) saw.gives,
+      λ other. subst (λ s. ask left.mode (leads taken (tokens_in limits others)) ≡ ask left.mode s) (sym saw.leaves)
+          (asks_same taken all (items limits at_start others) (end_of ps) (end_of others) left.mode enough same),
+    );
   }
 
   pub is_final : IsFinal whole before limits ps

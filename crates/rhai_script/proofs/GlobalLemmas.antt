@@ -1,5 +1,5 @@
 -- What a host is promised of a text, from what is promised of its stream.
-use Rattle.std.proofs.Common.{◌≡◌, ◌∙◌, ◌≤◌, ℕ, Bool, true, false, IfErr, IfOk, List, Result, ap, arith, refl, subst, sym, true≢false}
+use Rattle.std.proofs.Common.{◌≡◌, ◌∙◌, Bool, true, false, IfOk, List, Result, ap, arith, refl, subst, sym, true≢false}
 use Rattle.std.specs.Prelude.{Err, Ok, ◌&&◌, ◌||◌, if◌then◌else◌, map, Vec}
 use Rattle.std.specs.Rc.{rc_str_bytes}
 use Rattle.std.specs.declared.alloc.Global.{Global}
@@ -110,7 +110,7 @@ module _ (engine : EngineValue) (constants : Constants) (limits : Limits) (text 
         let spelled = read.only ps is.0 is.1 in
         let same = streams_agree limits tokens ps spelled in
         let goes_on : is_for_memory refused.error ≡ false → refused.is_incomplete ≡ may_go_on left tokens.spans.items =
-            λ told. incomplete ∙ ap (λ (b : Bool). if b then false else may_go_on left tokens.spans.items) told in
+        λ told. incomplete ∙ ap (λ (b : Bool). if b then false else may_go_on left tokens.spans.items) told in
         record {
           script_spans = tt;
           script_depth = tt;

@@ -1,6 +1,6 @@
 -- What is promised of a script's text, with a library and variables from outside.
 use Rattle.std.specs.Prelude.{◌≡◌, ℕ, ◌+◌, ◌*◌, ◌≤◌, Bool, true, false, Err, IfErr, IfOk, List, [], ◌∷◌, Ok, Result}
-use Rattle.std.specs.Prelude.{if◌then◌else◌, length, map, refl, take, ◌&&◌, ◌||◌, ◌==◌}
+use Rattle.std.specs.Prelude.{length, map, refl, take, ◌&&◌, ◌||◌, ◌==◌}
 use Rattle.std.specs.Rc.{rc_str_bytes}
 use Rattle.rhai_lower.specs.Lexemes.{Faulty, Lexeme, UnterminatedString}
 use Rattle.rhai_lower.specs.Texts.{Text}

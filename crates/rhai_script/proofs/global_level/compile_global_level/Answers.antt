@@ -1,7 +1,5 @@
 -- A text is read as the stream of its pieces is.
-use Rattle.std.proofs.Common.{◌≡◌, ◌∙◌, Err, Ok, ap, false, if◌then◌else◌, map, refl, rules, subst, sym}
-use Rattle.rhai_lower.specs.Entries.{ask_of}
-use Rattle.rhai_lower.specs.Streams.{stream_of}
+use Rattle.std.proofs.Common.{◌≡◌, ◌∙◌, Err, Ok, ap, false, if◌then◌else◌, refl, rules, subst, sym}
 use Rattle.rhai_grammar.specs.Causes.{is_for_memory}
 use Rattle.rhai_grammar.specs.Cursors.{cursor_of}
 use Rattle.rhai_base.specs.Libraries.{library_of}

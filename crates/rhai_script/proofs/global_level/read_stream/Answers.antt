@@ -1,13 +1,10 @@
 -- A script is read in a new state.
 use Rattle.std.proofs.Common.{◌≡◌, ◌∙◌, ap, map, rules, subst, sym}
 use Rattle.std.specs.Rc.{rc_str_bytes}
-use Rattle.rhai_grammar.specs.Contexts.{nothing_live}
 use Rattle.rhai_grammar.specs.Cursors.{cursor_of}
 use Rattle.rhai_grammar.specs.NumberedLibraries.{IsOrderly}
 use Rattle.rhai_base.specs.Libraries.{library_of}
 use Rattle.rhai_parser.specs.Engines.{script_settings}
-use Rattle.rhai_parser.specs.Scripts.{ReadsScript}
-use Rattle.rhai_script.specs.GlobalLevels.{script_context}
 use Rattle.rhai_script.proofs.StateLemmas.{IsNew, fresh, order_kept, script_left, script_parsed}
 use Rattle.rhai_script.proofs.global_level.read_stream.Goals as goal
 
@@ -33,9 +30,9 @@ returns-clause-reads c =
     let same : r.left.now ≡ r.shown.now = search rules in
     let chosen : reads.0 ≡ script_settings c.args.engine.now = sym r.leaves ∙ same ∙ r.shows in
     let parsed = script_parsed c.args.engine.now reads.0 (script_settings c.args.engine.now) c.new-state.result c.args.input.now
-        c.args.lib.now.entries c.args.constants (library_of state.lib.now.entries) (cursor_of state.input.now)
-        c.parse_global_level-script.result state.stack (map rc_str_bytes state.imports.items) chosen new
-        (reads.2 (fresh c.new-state.result c.args.input.now c.args.lib.now.entries c.args.constants new c.requires)).0 in
+    c.args.lib.now.entries c.args.constants (library_of state.lib.now.entries) (cursor_of state.input.now)
+    c.parse_global_level-script.result state.stack (map rc_str_bytes state.imports.items) chosen new
+    (reads.2 (fresh c.new-state.result c.args.input.now c.args.lib.now.entries c.args.constants new c.requires)).0 in
     script_left state.lib.now.entries _ (cursor_of state.input.now) _ (search rules) (search rules) parsed
 
 pub returns-clause-orderly : goal.returns-clause-orderly
@@ -56,6 +53,6 @@ returns-clause-orderly c =
     } in
     let state = c.parse_global_level-script.new.state in
     subst (λ es. IsOrderly c.args.engine.now.max_functions 0 (library_of c.args.lib.now.entries)
-        → IsOrderly c.args.engine.now.max_functions 0 (library_of es)) (search rules)
+    → IsOrderly c.args.engine.now.max_functions 0 (library_of es)) (search rules)
     (order_kept c.args.engine.now c.new-state.result c.args.input.now c.args.lib.now.entries c.args.constants
     (library_of state.lib.now.entries) new c.parse_global_level-script.ensures.orderly)
