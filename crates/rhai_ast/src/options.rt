@@ -17,53 +17,35 @@ pub enum Task {
     Names,
 }
 
-/// An option that forbids a part of the language.
-#[derive(Clone, Copy, Debug)]
-pub struct Forbidding {
-    /// Its name.
-    pub name: &'static str,
-    /// What it forbids.
-    pub part: LangOptions,
-    help: &'static str,
-}
-
-/// The options that forbid parts of the language.
-pub const FORBIDDING: [Forbidding; 7] = [
-    Forbidding {
-        name: "no-if-expr",
-        part: LangOptions::IF_EXPR,
-        help: "Refuse `if` as an expression",
-    },
-    Forbidding {
-        name: "no-switch-expr",
-        part: LangOptions::SWITCH_EXPR,
-        help: "Refuse `switch` as an expression",
-    },
-    Forbidding {
-        name: "no-loop-expr",
-        part: LangOptions::LOOP_EXPR,
-        help: "Refuse loops as expressions",
-    },
-    Forbidding {
-        name: "no-stmt-expr",
-        part: LangOptions::STMT_EXPR,
-        help: "Refuse blocks as expressions",
-    },
-    Forbidding {
-        name: "no-closures",
-        part: LangOptions::ANON_FN,
-        help: "Refuse closures",
-    },
-    Forbidding {
-        name: "no-looping",
-        part: LangOptions::LOOPING,
-        help: "Refuse loops",
-    },
-    Forbidding {
-        name: "no-shadowing",
-        part: LangOptions::SHADOWING,
-        help: "Refuse a variable of a name that is there already",
-    },
+/// The options that forbid parts of the language: the name, the part, and the help of each.
+pub const FORBIDDING: [(&str, LangOptions, &str); 7] = [
+    (
+        "no-if-expr",
+        LangOptions::IF_EXPR,
+        "Refuse `if` as an expression",
+    ),
+    (
+        "no-switch-expr",
+        LangOptions::SWITCH_EXPR,
+        "Refuse `switch` as an expression",
+    ),
+    (
+        "no-loop-expr",
+        LangOptions::LOOP_EXPR,
+        "Refuse loops as expressions",
+    ),
+    (
+        "no-stmt-expr",
+        LangOptions::STMT_EXPR,
+        "Refuse blocks as expressions",
+    ),
+    ("no-closures", LangOptions::ANON_FN, "Refuse closures"),
+    ("no-looping", LangOptions::LOOPING, "Refuse loops"),
+    (
+        "no-shadowing",
+        LangOptions::SHADOWING,
+        "Refuse a variable of a name that is there already",
+    ),
 ];
 
 // Options with a number: their names and their help.
@@ -164,8 +146,8 @@ fn with_language<'a>(alloc: Global, command: Command<'a>) -> Result<Command<'a>,
     for (option, help) in NUMBERS {
         command = command.arg(number(alloc, option, help))?;
     }
-    for option in FORBIDDING {
-        command = command.arg(flag(alloc, option.name, option.help))?;
+    for (option, _, help) in FORBIDDING {
+        command = command.arg(flag(alloc, option, help))?;
     }
     Ok(command)
 }

@@ -34,9 +34,9 @@ pub fn limits_of(words: &ArgMatches<'_>) -> Limits {
 
 // The parts of the language that these words leave.
 fn options_of(words: &ArgMatches<'_>, mut options: LangOptions) -> LangOptions {
-    for option in FORBIDDING {
-        if words.get_flag(option.name) {
-            options -= option.part;
+    for (name, part, _) in FORBIDDING {
+        if words.get_flag(name) {
+            options -= part;
         }
     }
     if words.get_flag("strict") {
