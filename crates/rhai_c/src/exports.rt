@@ -1,5 +1,7 @@
 //! The calls for C. Each reads its arguments, and hands out what the crate's own functions answer.
 
+ghost use Rattle.std.specs.Prelude.{◌≡◌, ◌<◌};
+
 use crate::answer::{
     BAD_ARGUMENT, NO_MEMORY, NOT_UTF8, OK, REFUSED, RhaiAnswer, hand_out, without_text,
 };
@@ -42,7 +44,11 @@ fn tell(
 
 /// Sets the options to those of a new engine.
 #[unsafe(no_mangle)]
-pub extern "C" fn rhai_options_default(options: &mut RhaiOptions) {
+pub extern "C" fn rhai_options_default(options: &mut RhaiOptions)
+    ensures depth { options.new.max_expr_depth ≡ 64 }
+    ensures function_depth { options.new.max_function_expr_depth ≡ 32 }
+    ensures language { options.new.language ≡ 191 }
+{
     *options = default_options();
 }
 
@@ -89,6 +95,8 @@ pub extern "C" fn rhai_tokens_at(
 
 /// The version of Rhai whose parser this is, 1.27.0, as 1 * 10000 + 27 * 100 + 0.
 #[unsafe(no_mangle)]
-pub extern "C" fn rhai_version() -> u32 {
+pub extern "C" fn rhai_version() -> u32
+    ensures { result ≡ 12700 }
+{
     12700
 }

@@ -1,9 +1,10 @@
 //! What is told of a script: its tree, its names or its tokens, or why it is refused.
 
+use rhai_grammar::{ParseError, ParseResult};
 use rhai_json::{Diagnostic, diagnostic_json, names_json, span_at, tokens_json, tree_json};
 use rhai_lower::AST;
 use rhai_names::names::names_of;
-use rhai_parser::{Engine, ParseError, ParseResult};
+use rhai_parser::Engine;
 use rhai_script::{compile, compile_expression};
 use rhai_tokenizer::{Limits, tokenize};
 use std::alloc::{AllocError, Global};
