@@ -1,4 +1,5 @@
--- A walk over a tree: it gives each node once, before its parts, in the order in which they are written.
+-- A walk over a tree: it gives each node once, before its parts, in written order. Two parts stand elsewhere in the
+-- text: the guard of a `do`, which comes first here, and what leads to arms of a `switch`, which comes after all arms.
 use Rattle.std.specs.Prelude.{◌≡◌, ℕ, ◌+◌, ◌-◌, ◌^◌, List, [], ◌∷◌, ◌++◌, map, min, refl}
 use Rattle.rhai_lower.specs.Nodes.{Arms, Block, Cases, Function, Node, Nodes, Optional, Properties, Statement}
 use Rattle.rhai_lower.specs.Nodes.{Statements}

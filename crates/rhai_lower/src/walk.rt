@@ -248,10 +248,9 @@ fn put<'a>(
     Ok(())
 }
 
-/// A walk over a tree. It gives each node once, before its parts, in the order in which they are written: of an `if`
-/// the guard and both blocks, of a `switch` the item, the guard and action of each arm, and then the values and the
-/// ranges that lead to the arms. Each node is given with its depth, where its parts are one deeper; so a node's parts
-/// have ended with the first node that is not deeper than it.
+/// A walk over a tree. It gives each node once, before its parts. These come in the order in which they are written, but
+/// the guard of a `do` comes before its block, and the values and ranges of a `switch` come after all arms. Each node is
+/// given with its depth, where its parts are one deeper; so its parts have ended with the first node that is not deeper.
 #[derive(Drop)]
 pub struct Walk<'a> {
     // What was given last, whose parts are not in `pending` yet.

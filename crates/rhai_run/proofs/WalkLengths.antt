@@ -1,5 +1,5 @@
 -- How many nodes a walk has still to give.
-use Rattle.std.proofs.Common.{◌≡◌, ◌≤◌, ◌<◌, ◌++◌, ℕ, [], Option, None, Some, Ok, ap, arith, length, subst}
+use Rattle.std.proofs.Common.{◌≡◌, ◌≤◌, ◌<◌, ℕ, [], Option, None, Some, Ok, ap, arith, length, subst}
 use Rattle.std.proofs.lemmas.List.{length-append}
 use Rattle.rhai_lower.specs.WalkState.{Gives}
 use Rattle.rhai_lower.specs.Walks.{Left, all_left}
