@@ -3,7 +3,8 @@ use Rattle.std.proofs.Common.{◌≡◌, ℕ, zero, suc, Bool, true, false, Some
 use Rattle.std.proofs.Common.{subst}
 use Rattle.std.proofs.Common.{if◌then◌else◌}
 use Rattle.rhai_lower.specs.declared.token.Token.TheVariants as token
-use Rattle.rhai_grammar.specs.Prelude.{Mode, Lexeme, Sign, Position, Cause, Refusal, refusal, Item, item, code, text, Use}
+use Rattle.rhai_grammar.specs.Prelude.{Mode, Lexeme, Sign, Position, Cause, Refusal, refusal, Item, item, code, text}
+use Rattle.rhai_grammar.specs.Prelude.{Use}
 use Rattle.rhai_grammar.specs.Prelude.{Ended, Library}
 use Rattle.rhai_grammar.specs.Prelude.{Fine, Wrong, Blames, Otherwise, Demands, Nothing, is_memory}
 use Rattle.rhai_grammar.specs.Prelude.{is_at_last}

@@ -1,7 +1,8 @@
 -- Rows of lines, statements, definitions and assignments: what is read is computed.
 use Rattle.std.specs.Fmt.{digits}
 use Rattle.std.proofs.Common.{refl}
-use Rattle.rhai_grammar.specs.Prelude.{kept_after, kept_comments, last_hex_digits, module_number, names_function, one_more}
+use Rattle.rhai_grammar.specs.Prelude.{kept_after, kept_comments, last_hex_digits, module_number, names_function}
+use Rattle.rhai_grammar.specs.Prelude.{one_more}
 use Rattle.rhai_grammar.specs.Slots.{number}
 use Rattle.rhai_productions.specs.LinesOfStatements.{LinesOfStatements}
 use Rattle.rhai_productions.proofs.LineLemmas.{reads_script, refuses}
