@@ -7,8 +7,7 @@ use Rattle.rhai_lower.specs.declared.token.Token.TheVariants as token
 use Rattle.rhai_grammar.specs.Causes as cause
 use Rattle.rhai_grammar.specs.Operators.{operator_called}
 use Rattle.rhai_grammar.specs.Signs.{sign_called}
-use Rattle.rhai_productions.specs.Lines.{IsScript, Refuses, function, new_engine, script, script_by}
-use Rattle.rhai_productions.specs.Lines.{variable}
+use Rattle.rhai_productions.specs.Lines.{IsScript, Refuses, function, new_engine, script, script_by, variable}
 
 -- The column of an error counts from 1, as those of the tokens and of the end mark.
 pub record LinesOfLoops : Type 0 where

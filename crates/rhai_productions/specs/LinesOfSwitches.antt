@@ -6,8 +6,8 @@ use Rattle.rhai_lower.specs.Positions.{nowhere, place}
 use Rattle.rhai_lower.specs.declared.token.Token.TheVariants as token
 use Rattle.rhai_grammar.specs.Causes as cause
 use Rattle.rhai_grammar.specs.Operators.{operator_called}
-use Rattle.rhai_productions.specs.Lines.{IsExpression, IsScript, Refuses, expression_by, new_engine, script}
-use Rattle.rhai_productions.specs.Lines.{script_by, variable}
+use Rattle.rhai_productions.specs.Lines.{IsExpression, IsScript, Refuses, expression_by, new_engine, script, script_by}
+use Rattle.rhai_productions.specs.Lines.{variable}
 
 -- The column of an error counts from 1, as those of the tokens and of the end mark.
 pub record LinesOfSwitches : Type 0 where
