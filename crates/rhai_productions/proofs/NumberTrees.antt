@@ -137,7 +137,7 @@ closure_body n us ns f h = record {
   body = subst (λ ms. WellNumberedBlock ms (made_block f)) (N.own_names ns) (N.made _ f h);
 }
 
-pub closure : (n : ℕ) (us : List Use) (ns : List Text) (f : node.Statement)
-    → WellNumberedStatement (names (parameters_live ns)) f → IsWellNumberedFunction (ended_closure n us ns (made_block f))
+pub closure : (n : ℕ) (us : List Use) (ns : List Text) (f : node.Statement) → WellNumberedStatement
+    (names (parameters_live ns)) f → IsWellNumberedFunction (ended_closure n us ns (made_block f))
 closure n us ns f h =
     record { captured = names_of us; own = ns; is = closure_body n us ns f h; none = λ e. absurd cc }

@@ -155,7 +155,8 @@ closure_by_right : {c : Context} {w : Live} {at : Position} {b : Bars} {x : Node
     → Met (D.demanded production f k) s t → IsRight (Z.closure_by by f)
 closure_by_right bars.Pair f k s t m = closure_of_right [] f k s t m
 closure_by_right bars.List (D.part own list f) k s t m =
-    let r = K.right production Right IsWellNumberedFunction WellNumberedLibrary more table list (D.demanded production f k)
+    let r = K.right production Right IsWellNumberedFunction WellNumberedLibrary more table list
+    (D.demanded production f k)
     s t m in
     closure_of_right own f k r.end t r.met
 
