@@ -1,11 +1,16 @@
 -- Chains in parentheses are joined with the links after them.
 use Rattle.std.proofs.Common.{◌≡◌, Bool, true, false, List, [], ◌∷◌, ◌++◌, append_assoc, refl, ap, ◌∙◌, sym, subst}
 use Rattle.std.proofs.Common.{if◌then◌else◌}
-use Rattle.rhai_grammar.specs.Prelude.{Bracket, Chain, Dotted, Link, LinkKind, chain_of, chained, is_last, link_node}
-use Rattle.rhai_grammar.specs.Prelude.{nest, node_shape}
 use Rattle.rhai_lower.specs.Nodes.{dot, index}
-use Rattle.rhai_grammar.proofs.ShapeSteps.{link_shapes, chains}
+use Rattle.rhai_grammar.specs.Prelude.{Bracket, Chain, Dotted, Link, LinkKind, chain_of, chained, is_last, link_node}
+use Rattle.rhai_grammar.specs.Prelude.{nest, node_shape, Lexeme, Position, Context, Live, Node, is_name, LinkSpot}
+use Rattle.rhai_grammar.specs.Prelude.{spot_after_operand, MemberPlace, AMember, NoMember, bracket_link, member_link}
+use Rattle.rhai_grammar.specs.Prelude.{beginning, item}
 use Rattle.rhai_grammar.specs.declared.role.Linking.TheVariants as lk
+use Rattle.rhai_grammar.specs.declared.role.Beginning.TheVariants as begin
+use Rattle.rhai_grammar.specs.declared.role.Beginning.{Beginning}
+use Rattle.rhai_grammar.specs.declared.role.Linking.{Linking}
+use Rattle.rhai_grammar.proofs.ShapeSteps.{link_shapes, chains}
 use Rattle.rhai_reading.specs.Reading as R
 use Rattle.rhai_reading.specs.Reading.{Goal, Val}
 use Rattle.rhai_productions.specs.Schema.{Production}
@@ -13,15 +18,9 @@ use Rattle.rhai_productions.specs.Rules as P
 use Rattle.rhai_productions.specs.Rules.{production}
 use Rattle.rhai_productions.specs.Derived as F
 use Rattle.rhai_productions.specs.Always.{Always}
-use Rattle.rhai_productions.proofs.AlwaysLemmas.{always, trivially}
 use Rattle.rhai_productions.specs.ChainForms.{ChainBy, IsChain, IsOneChain, GroupBy, IsGroup, GroupedBy, IsGroupedChain}
 use Rattle.rhai_productions.specs.ChainForms.{ChainsAreJoined}
-use Rattle.rhai_grammar.specs.declared.role.Beginning.TheVariants as begin
-use Rattle.rhai_grammar.specs.Prelude.{Lexeme, Position, Context, Live, Node, is_name, LinkSpot, spot_after_operand}
-use Rattle.rhai_grammar.specs.Prelude.{MemberPlace}
-use Rattle.rhai_grammar.specs.Prelude.{AMember, NoMember, bracket_link, member_link, beginning, item}
-use Rattle.rhai_grammar.specs.declared.role.Beginning.{Beginning}
-use Rattle.rhai_grammar.specs.declared.role.Linking.{Linking}
+use Rattle.rhai_productions.proofs.AlwaysLemmas.{always, trivially}
 
 abbrev alone : Node → Chain
 alone x = record { root = x; links = [] }

@@ -1,26 +1,20 @@
 -- Complete: where a form of a production is met, its tree is read.
-use Rattle.std.proofs.Common.{◌≡◌, ℕ, max, Bool, true, false, Some, None, refl}
-use Rattle.std.proofs.Common.{sym, subst, arith}
-use Rattle.std.proofs.Common.{if◌then◌else◌}
-use Rattle.rhai_grammar.specs.Prelude.{Lexeme, Position, Refusal, refusal, Item, item, code, text}
-use Rattle.rhai_grammar.specs.Prelude.{Fine, Blames, Otherwise, Demands, Nothing, Met, is_memory, Point}
-use Rattle.rhai_grammar.specs.Prelude.{past}
-use Rattle.rhai_grammar.specs.Prelude.{next_at, adding, capturing, with_captured, apart, closure_count}
-use Rattle.rhai_reading.specs.Reading.{Goal, Val, Prog, Ret, Fail, Peek, Take, Know, Call}
-use Rattle.rhai_reading.specs.Reading.{body}
+use Rattle.std.proofs.Common.{◌≡◌, ℕ, max, Bool, true, false, Some, None, refl, sym, subst, arith, if◌then◌else◌}
+use Rattle.rhai_grammar.specs.Prelude.{Lexeme, Position, Refusal, refusal, Item, item, code, text, Fine, Blames}
+use Rattle.rhai_grammar.specs.Prelude.{Otherwise, Demands, Nothing, Met, is_memory, Point, past, next_at, adding}
+use Rattle.rhai_grammar.specs.Prelude.{capturing, with_captured, apart, closure_count}
+use Rattle.rhai_reading.specs.Reading.{Goal, Val, Prog, Ret, Fail, Peek, Take, Know, Call, body}
 use Rattle.rhai_reading.specs.Nesting.{is_counted}
 use Rattle.rhai_reading.proofs.Reaches as R
 use Rattle.rhai_reading.proofs.Reaches.{Reaches}
 use Rattle.rhai_reading.proofs.Looks.{op_at, pos_at, no_other, or_wrong}
 use Rattle.rhai_productions.specs.Schema.{Production, View, Seen, view, run_from, run}
 use Rattle.rhai_productions.specs.Schema as S
-use Rattle.rhai_productions.specs.Agreement.{Agrees}
-use Rattle.rhai_productions.specs.Agreement.{histories, runs}
-use Rattle.rhai_productions.proofs.Lawful.{reaches_so}
+use Rattle.rhai_productions.specs.Agreement.{Agrees, histories, runs}
 use Rattle.rhai_productions.specs.Derived as F
 use Rattle.rhai_productions.specs.Derived.{given, take, this, if_so, if_not, choose, here, must, knows, adds, uses}
-use Rattle.rhai_productions.specs.Derived.{captures, part}
-use Rattle.rhai_productions.specs.Derived.{literal, in_text, form, any_token}
+use Rattle.rhai_productions.specs.Derived.{captures, part, literal, in_text, form, any_token}
+use Rattle.rhai_productions.proofs.Lawful.{reaches_so}
 
 pub or_other : (b : Bool) → (if b then Fine else Otherwise) ≡ Fine → b ≡ true
 or_other true e = refl

@@ -12,8 +12,8 @@ use Rattle.rhai_reading.proofs.Rules.{at}
 use Rattle.rhai_productions.specs.Derived as D
 use Rattle.rhai_productions.specs.Rules.{production}
 use Rattle.rhai_productions.specs.Promised.{Written, written}
-use Rattle.rhai_productions.proofs.DerivedComplete.{complete}
 use Rattle.rhai_productions.specs.Agreement.{histories, runs}
+use Rattle.rhai_productions.proofs.DerivedComplete.{complete}
 use Rattle.rhai_productions.proofs.Lawful.{lawful, runs_lawful}
 use Rattle.rhai_productions.proofs.Same.{same}
 

@@ -1,16 +1,18 @@
 -- What the reading program answers, in terms of forms and of open forms of whatever type.
 use Rattle.std.proofs.Common.{◌≡◌, ℕ, suc, ◌+◌, Bool, true, false, List, [], refl, sym, ap, ◌∙◌, subst, arith}
-use Rattle.rhai_grammar.specs.Prelude.{Refusal, is_memory_cause, code, Point, Taken, is_memory}
-use Rattle.rhai_grammar.specs.Prelude.{Cursor, Gives, leads, latest_first, BeginsWith, Readable, StandsAtLast, TakenIn}
-use Rattle.rhai_grammar.specs.Prelude.{Context, Live, Demands, Met, Missed}
-use Rattle.rhai_grammar.specs.Prelude.{IsWritten, EndsIn, Library}
+use Rattle.std.specs.Prelude.{Result, Ok, Err, IfErr}
+use Rattle.rhai_grammar.specs.Prelude.{Refusal, is_memory_cause, code, Point, Taken, is_memory, Cursor, Gives, leads}
+use Rattle.rhai_grammar.specs.Prelude.{latest_first, BeginsWith, Readable, StandsAtLast, TakenIn, Context, Live}
+use Rattle.rhai_grammar.specs.Prelude.{Demands, Met, Missed, IsWritten, EndsIn, Library}
 use Rattle.rhai_grammar.specs.Cursors as C
-use Rattle.rhai_grammar.specs.Promises.{start_of, Saw, IsReadable, HasRead, IsWrittenTo, NoneBegins}
+use Rattle.rhai_grammar.specs.Promises.{start_of, Saw, IsReadable, HasRead, IsWrittenTo, NoneBegins, Returns}
+use Rattle.rhai_grammar.specs.Causes.{refusal_of, is_for_memory}
+use Rattle.rhai_grammar.specs.declared.error.ParseError.{ParseError}
+use Rattle.rhai_grammar.specs.Demands.{Nothing}
 use Rattle.rhai_reading.specs.Reading.{Goal, Val, Script, Whole, Prog, body}
 use Rattle.rhai_reading.specs.Running as R
 use Rattle.rhai_reading.specs.Running.{Progress, result_of}
-use Rattle.rhai_reading.specs.Histories.{State, asked, Outcome, Done, Refused, Unfinished, exec}
-use Rattle.rhai_reading.specs.Histories.{calls, Runs}
+use Rattle.rhai_reading.specs.Histories.{State, asked, Outcome, Done, Refused, Unfinished, exec, calls, Runs}
 use Rattle.rhai_reading.proofs.Joins.{Finished, Rest, calls_same, cursor, flat, forget, rest, run_runs, unnested}
 use Rattle.rhai_reading.proofs.Rules.{at}
 use Rattle.rhai_reading.proofs.Shows as S
@@ -18,23 +20,18 @@ use Rattle.rhai_reading.proofs.Local.{Agree, Keeps, local, reach}
 use Rattle.rhai_reading.proofs.Readable.{Clear, Clears, clear}
 use Rattle.rhai_reading.proofs.Modes.{AreInTurn, Stopped, ends_in, in_turn, stopped, taken_in}
 use Rattle.rhai_reading.proofs.Main.{begun, from, IsNew, begun_at, IsOther}
-use Rattle.rhai_productions.specs.Promised.{IsRefused, ReadsWhole, Written, written, tree_of, Unwritten, unwritten}
-use Rattle.std.specs.Prelude.{Result, Ok, Err, IfErr}
-use Rattle.rhai_grammar.specs.Causes.{refusal_of, is_for_memory}
-use Rattle.rhai_grammar.specs.declared.error.ParseError.{ParseError}
-use Rattle.rhai_grammar.specs.Promises.{Returns}
-use Rattle.rhai_grammar.specs.Demands.{Nothing}
 use Rattle.rhai_reading.proofs.Main as M
 use Rattle.rhai_reading.proofs.Paths as W
 use Rattle.rhai_reading.proofs.Paths.{To, reached}
 use Rattle.rhai_reading.proofs.Reaches.{reached_end}
+use Rattle.rhai_productions.specs.Promised.{IsRefused, ReadsWhole, Written, written, tree_of, Unwritten, unwritten}
 use Rattle.rhai_productions.specs.Derived as D
 use Rattle.rhai_productions.specs.Rules.{production}
+use Rattle.rhai_productions.specs.Agreement.{histories, runs}
 use Rattle.rhai_productions.proofs.DerivedSound.{Read, Halts, sound}
 use Rattle.rhai_productions.proofs.DerivedComplete.{complete}
 use Rattle.rhai_productions.proofs.Same.{same}
 use Rattle.rhai_productions.proofs.Tidies.{tidy}
-use Rattle.rhai_productions.specs.Agreement.{histories, runs}
 use Rattle.rhai_productions.proofs.Lawful.{lawful, runs_lawful}
 
 -- ---- what is known of a goal that reads a whole stream

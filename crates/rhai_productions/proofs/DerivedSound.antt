@@ -1,19 +1,14 @@
 -- Sound: what is read by a production is the tree of a form, and a refusal comes with an open form.
-use Rattle.std.proofs.Common.{◌≡◌, ℕ, zero, suc, Bool, true, false, Some, None, List, refl, ap, ◌∙◌, sym}
-use Rattle.std.proofs.Common.{subst}
+use Rattle.std.proofs.Common.{◌≡◌, ℕ, zero, suc, Bool, true, false, Some, None, List, refl, ap, ◌∙◌, sym, subst}
 use Rattle.std.proofs.Common.{if◌then◌else◌}
 use Rattle.rhai_lower.specs.declared.token.Token.TheVariants as token
-use Rattle.rhai_grammar.specs.Prelude.{Mode, Lexeme, Sign, Position, Cause, Refusal, refusal, Item, item, code, text, Use}
-use Rattle.rhai_grammar.specs.Prelude.{Ended, Library}
-use Rattle.rhai_grammar.specs.Prelude.{Fine, Wrong, Blames, Otherwise, Demands, Nothing, is_memory}
-use Rattle.rhai_grammar.specs.Prelude.{is_at_last}
-use Rattle.rhai_grammar.specs.Prelude.{Point, past, next_at, adding, capturing, with_captured, apart, closure_count}
-use Rattle.rhai_grammar.specs.Prelude.{is_due, not_due}
-use Rattle.rhai_grammar.specs.Prelude.{unexpected, StandsAtLast, as_literal}
+use Rattle.rhai_grammar.specs.Prelude.{Mode, Lexeme, Sign, Position, Cause, Refusal, refusal, Item, item, code, text}
+use Rattle.rhai_grammar.specs.Prelude.{Use, Ended, Library, Fine, Wrong, Blames, Otherwise, Demands, Nothing, is_memory}
+use Rattle.rhai_grammar.specs.Prelude.{is_at_last, Point, past, next_at, adding, capturing, with_captured, apart}
+use Rattle.rhai_grammar.specs.Prelude.{closure_count, is_due, not_due, unexpected, StandsAtLast, as_literal}
 use Rattle.rhai_grammar.specs.declared.due.DueToken.TheVariants.{RightBrace}
 use Rattle.rhai_reading.specs.Reading.{Goal, Val, Prog, Ret, Fail, Take, body}
-use Rattle.rhai_reading.specs.Histories.{State, Outcome, Done, Refused, Unfinished, calls}
-use Rattle.rhai_reading.specs.Histories.{recast}
+use Rattle.rhai_reading.specs.Histories.{State, Outcome, Done, Refused, Unfinished, calls, recast}
 use Rattle.rhai_reading.specs.Nesting.{is_counted}
 use Rattle.rhai_reading.proofs.Joins.{cursor}
 use Rattle.rhai_reading.proofs.Rules.{at}
@@ -23,12 +18,11 @@ use Rattle.rhai_reading.proofs.Dues.{stands}
 use Rattle.rhai_reading.proofs.Paths.{Fits, Aim, To, Astray, Lost, Way, here, ◌▹◌, lost, literally, literally_lost}
 use Rattle.rhai_reading.proofs.Paths as W
 use Rattle.rhai_reading.proofs.Shows.{Histories, Shows, Tells, Ensures, fine, ill, lost_at, lost_to, ret, take, look}
-use Rattle.rhai_reading.proofs.Shows.{know, add}
-use Rattle.rhai_reading.proofs.Shows.{note, either, text_taken, text_at, called, called_apart, called_literal}
+use Rattle.rhai_reading.proofs.Shows.{know, add, note, either, text_taken, text_at, called, called_apart}
+use Rattle.rhai_reading.proofs.Shows.{called_literal}
 use Rattle.rhai_productions.specs.Schema.{Production, View, Seen, view, run_from, run}
 use Rattle.rhai_productions.specs.Schema as S
-use Rattle.rhai_productions.specs.Agreement.{Agrees}
-use Rattle.rhai_productions.specs.Agreement.{histories}
+use Rattle.rhai_productions.specs.Agreement.{Agrees, histories}
 use Rattle.rhai_productions.specs.Derived as F
 use Rattle.rhai_productions.specs.Tidiness.{Tidy}
 use Rattle.rhai_productions.specs.Derived.{any_token, wanted_or, only_if, only_if_not, may_use, text_or}

@@ -1,8 +1,8 @@
 -- In no form is a token both required and refused at one place. One induction over forms.
 use Rattle.std.proofs.Common.{◌≡◌, Bool, true, false, refl, if◌then◌else◌}
 use Rattle.rhai_lower.specs.declared.token.Token.TheVariants as token
-use Rattle.rhai_grammar.specs.Prelude.{Lexeme, Sign, Demands, Nothing, verdict, is_memory, is_text, Fine}
-use Rattle.rhai_grammar.specs.Prelude.{Wrong, Otherwise, unexpected}
+use Rattle.rhai_grammar.specs.Prelude.{Lexeme, Sign, Demands, Nothing, verdict, is_memory, is_text, Fine, Wrong}
+use Rattle.rhai_grammar.specs.Prelude.{Otherwise, unexpected}
 use Rattle.rhai_grammar.specs.Causes.{Cause}
 use Rattle.rhai_grammar.specs.Laws.{IsFair, is_refused}
 use Rattle.rhai_grammar.specs.Verdicts.{anything}

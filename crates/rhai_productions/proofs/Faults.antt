@@ -3,9 +3,8 @@ use Rattle.std.proofs.Common.{◌≡◌, ℕ, Bool, true, false, not, Option, So
 use Rattle.std.proofs.Common.{◌&&◌}
 use Rattle.std.specs.Prelude.{option_map}
 use Rattle.std.specs.Option.{option_or}
-use Rattle.rhai_productions.specs.Schema.{fault_of}
-use Rattle.rhai_productions.specs.Rules as P
-use Rattle.rhai_productions.specs.Rules.{production}
+use Rattle.rhai_lower.specs.Nodes.{start_of, method_call, variable}
+use Rattle.rhai_lower.specs.Nodes as node
 use Rattle.rhai_grammar.specs.Chains.{link_fault}
 use Rattle.rhai_grammar.specs.Chains as chain
 use Rattle.rhai_grammar.specs.Kinds.{index_fault, not_boolean, not_iterable, is_constant}
@@ -14,16 +13,14 @@ use Rattle.rhai_grammar.specs.Constructs.{type_fault}
 use Rattle.rhai_grammar.specs.Targets.{chain_fault, invalid, item_fault, links_fault, root_fault, value_fault}
 use Rattle.rhai_grammar.specs.CaseValues.{is_literal_value}
 use Rattle.rhai_grammar.specs.Switches.{case_fault, fault_from, has_ranges, is_integer}
-use Rattle.rhai_lower.specs.Nodes.{start_of, method_call, variable}
-use Rattle.rhai_lower.specs.Nodes as node
 use Rattle.rhai_grammar.specs.Causes as cause
-use Rattle.rhai_grammar.specs.Prelude.{Lexeme, Position, Refusal, refusal, Context, Live, Text, Node}
-use Rattle.rhai_grammar.specs.Prelude.{is_equals, target_fault, guard_fault, iterated_fault}
-use Rattle.rhai_grammar.specs.Prelude.{Nodes}
-use Rattle.rhai_grammar.specs.Prelude.{no_nodes, position_of, module_fault}
-use Rattle.rhai_grammar.specs.Prelude.{Link, index_refusal, last_fault}
-use Rattle.rhai_grammar.specs.Prelude.{Collected}
-use Rattle.rhai_grammar.specs.Prelude.{Chain, LinkKind, chain_of, is_at_last, with_case}
+use Rattle.rhai_grammar.specs.Prelude.{Lexeme, Position, Refusal, refusal, Context, Live, Text, Node, is_equals}
+use Rattle.rhai_grammar.specs.Prelude.{target_fault, guard_fault, iterated_fault, Nodes, no_nodes, position_of}
+use Rattle.rhai_grammar.specs.Prelude.{module_fault, Link, index_refusal, last_fault, Collected, Chain, LinkKind}
+use Rattle.rhai_grammar.specs.Prelude.{chain_of, is_at_last, with_case}
+use Rattle.rhai_productions.specs.Schema.{fault_of}
+use Rattle.rhai_productions.specs.Rules as P
+use Rattle.rhai_productions.specs.Rules.{production}
 
 -- what is refused, if anything, may stand before the last token that was seen
 abbrev pub Early : Option Refusal → Type 0

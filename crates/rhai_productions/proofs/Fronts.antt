@@ -1,6 +1,5 @@
 -- What is met after a form; and the form is met before whatever else is met after it.
-use Rattle.rhai_grammar.specs.Prelude.{Demands, Met, Point, past, next_at, adding, capturing, with_captured}
-use Rattle.rhai_grammar.specs.Prelude.{code, text}
+use Rattle.rhai_grammar.specs.Prelude.{Demands, Met, Point, past, next_at, adding, capturing, with_captured, code, text}
 use Rattle.rhai_reading.specs.Reading.{Goal, Val}
 use Rattle.rhai_productions.specs.Schema.{Production}
 use Rattle.rhai_productions.specs.Derived as F

@@ -1,9 +1,7 @@
 -- What each production keeps holds of each form that fits. One induction over forms.
 use Rattle.std.proofs.Common.{ap, subst}
-use Rattle.rhai_grammar.specs.Prelude.{Lexeme, Item, code, text, Point, Ended, Library}
-use Rattle.rhai_grammar.specs.Prelude.{Fine}
-use Rattle.rhai_grammar.specs.Prelude.{Demands, Nothing, Met, with_ended, past, next_at, adding, capturing}
-use Rattle.rhai_grammar.specs.Prelude.{with_captured}
+use Rattle.rhai_grammar.specs.Prelude.{Lexeme, Item, code, text, Point, Ended, Library, Fine, Demands, Nothing, Met}
+use Rattle.rhai_grammar.specs.Prelude.{with_ended, past, next_at, adding, capturing, with_captured}
 use Rattle.rhai_grammar.specs.Delivered as M
 use Rattle.rhai_reading.specs.Reading.{Goal, Val}
 use Rattle.rhai_reading.proofs.Looks.{op_at, fine, no_other, or_wrong}

@@ -20,8 +20,8 @@ use Rattle.rhai_productions.specs.Promised.{Written, written, tree_of, Unwritten
 use Rattle.rhai_productions.specs.Rules.{production}
 use Rattle.rhai_productions.proofs.DerivedComplete.{complete}
 use Rattle.rhai_productions.proofs.DerivedDepth.{nests}
-use Rattle.rhai_productions.proofs.DerivedMain.{Entry, expression_entry, script_entry, reads_done}
-use Rattle.rhai_productions.proofs.DerivedMain.{reads_fails, runs_once, sound_goal, of_forms}
+use Rattle.rhai_productions.proofs.DerivedMain.{Entry, expression_entry, script_entry, reads_done, reads_fails}
+use Rattle.rhai_productions.proofs.DerivedMain.{runs_once, sound_goal, of_forms}
 use Rattle.rhai_productions.proofs.Lawful.{lawful, runs_lawful}
 use Rattle.rhai_productions.proofs.Same.{same}
 

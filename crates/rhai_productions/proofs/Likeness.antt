@@ -1,18 +1,14 @@
 -- When productions are alike up to positions, and what follows for their forms.
-use Rattle.std.proofs.Common.{◌≡◌, ℕ, List}
-use Rattle.std.proofs.Common.{subst}
+use Rattle.std.proofs.Common.{◌≡◌, ℕ, List, subst}
+use Rattle.rhai_grammar.specs.Prelude.{Lexeme, Position, Use, names_of}
 use Rattle.rhai_reading.specs.Reading.{Goal, Val}
 use Rattle.rhai_productions.specs.Schema as S
-use Rattle.rhai_productions.specs.Schema.{Production, View, view}
+use Rattle.rhai_productions.specs.Schema.{Production, View, view, name, stop}
 use Rattle.rhai_productions.specs.Derived as F
 use Rattle.rhai_productions.specs.Derived.{given, take, this, if_so, if_not, choose, here, must, knows, adds, uses}
 use Rattle.rhai_productions.specs.Derived.{captures, part, literal, apart, in_text, form}
 use Rattle.rhai_productions.specs.Shaped as Z
 use Rattle.rhai_productions.specs.Shaped.{Code}
-use Rattle.rhai_grammar.specs.Prelude.{Lexeme, Position}
-use Rattle.rhai_grammar.specs.Prelude.{Use}
-use Rattle.rhai_grammar.specs.Prelude.{names_of}
-use Rattle.rhai_productions.specs.Schema.{name, stop}
 
 module _ (Near : Goal → Goal → Type 0) (Equal : (g h : Goal) → Near g h → Val g → Val h → Type 0) where
   abbrev pub Like : {A B : Type 0} → (A → B → Type 0) → Production A → Production B → Type 0

@@ -1,7 +1,8 @@
 -- Rows of lines, conditions and `try`: what is read is computed.
 use Rattle.std.specs.Fmt.{digits}
 use Rattle.std.proofs.Common.{refl}
-use Rattle.rhai_grammar.specs.Prelude.{kept_after, kept_comments, last_hex_digits, module_number, names_function, one_more}
+use Rattle.rhai_grammar.specs.Prelude.{kept_after, kept_comments, last_hex_digits, module_number, names_function}
+use Rattle.rhai_grammar.specs.Prelude.{one_more}
 use Rattle.rhai_grammar.specs.Slots.{number}
 use Rattle.rhai_productions.specs.LinesOfConstructs.{LinesOfConstructs}
 use Rattle.rhai_productions.proofs.LineLemmas.{reads, reads_script, refuses}
@@ -12,15 +13,18 @@ lines_of_constructs = record {
   read_1 = reads_script _ _ refl refl refl;
   read_2 = reads_script _ _ refl refl refl;
   read_3 = reads_script _ _ refl refl refl;
-  read_4 = reads _ refl refl refl;
+  read_4 = reads_script _ _ refl refl refl;
   read_5 = reads _ refl refl refl;
-  read_6 = reads_script _ _ refl refl refl;
+  read_6 = reads _ refl refl refl;
   read_7 = reads_script _ _ refl refl refl;
   read_8 = reads_script _ _ refl refl refl;
   read_9 = reads_script _ _ refl refl refl;
   read_10 = reads_script _ _ refl refl refl;
   read_11 = reads_script _ _ refl refl refl;
   read_12 = reads_script _ _ refl refl refl;
+  read_13 = reads_script _ _ refl refl refl;
+  read_14 = reads_script _ _ refl refl refl;
+  read_15 = reads_script _ _ refl refl refl;
   refused_1 = refuses _ refl refl;
   refused_2 = refuses _ refl refl;
   refused_3 = refuses _ refl refl;

@@ -1,10 +1,11 @@
 -- Rows of lines, jumps: what is read is computed.
 use Rattle.std.specs.Fmt.{digits}
 use Rattle.std.proofs.Common.{refl}
-use Rattle.rhai_grammar.specs.Prelude.{kept_after, kept_comments, last_hex_digits, module_number, names_function, one_more}
+use Rattle.rhai_grammar.specs.Prelude.{kept_after, kept_comments, last_hex_digits, module_number, names_function}
+use Rattle.rhai_grammar.specs.Prelude.{one_more}
 use Rattle.rhai_grammar.specs.Slots.{number}
 use Rattle.rhai_productions.specs.LinesOfJumps.{LinesOfJumps}
-use Rattle.rhai_productions.proofs.LineLemmas.{reads_script, refuses}
+use Rattle.rhai_productions.proofs.LineLemmas.{reads, reads_script, refuses}
 
 pub lines_of_jumps : LinesOfJumps
 unfolding digits kept_after kept_comments last_hex_digits module_number names_function one_more number
@@ -14,13 +15,17 @@ lines_of_jumps = record {
   read_3 = reads_script _ _ refl refl refl;
   read_4 = reads_script _ _ refl refl refl;
   read_5 = reads_script _ _ refl refl refl;
-  read_6 = reads_script _ _ refl refl refl;
+  read_6 = reads _ refl refl refl;
   read_7 = reads_script _ _ refl refl refl;
   read_8 = reads_script _ _ refl refl refl;
   read_9 = reads_script _ _ refl refl refl;
   read_10 = reads_script _ _ refl refl refl;
   read_11 = reads_script _ _ refl refl refl;
   read_12 = reads_script _ _ refl refl refl;
+  read_13 = reads_script _ _ refl refl refl;
+  read_14 = reads_script _ _ refl refl refl;
+  read_15 = reads_script _ _ refl refl refl;
+  read_16 = reads_script _ _ refl refl refl;
   refused_1 = refuses _ refl refl;
   refused_2 = refuses _ refl refl;
   refused_3 = refuses _ refl refl;

@@ -1,7 +1,8 @@
 -- Rows of lines, lists, arrays, object maps, groups: what is read is computed.
 use Rattle.std.specs.Fmt.{digits}
 use Rattle.std.proofs.Common.{refl}
-use Rattle.rhai_grammar.specs.Prelude.{kept_after, kept_comments, last_hex_digits, module_number, names_function, one_more}
+use Rattle.rhai_grammar.specs.Prelude.{kept_after, kept_comments, last_hex_digits, module_number, names_function}
+use Rattle.rhai_grammar.specs.Prelude.{one_more}
 use Rattle.rhai_grammar.specs.Slots.{number}
 use Rattle.rhai_productions.specs.LinesOfLists.{LinesOfLists}
 use Rattle.rhai_productions.proofs.LineLemmas.{reads, refuses}
@@ -26,6 +27,8 @@ lines_of_lists = record {
   read_15 = reads _ refl refl refl;
   read_16 = reads _ refl refl refl;
   read_17 = reads _ refl refl refl;
+  read_18 = reads _ refl refl refl;
+  read_19 = reads _ refl refl refl;
   refused_1 = refuses _ refl refl;
   refused_2 = refuses _ refl refl;
   refused_3 = refuses _ refl refl;

@@ -1,7 +1,8 @@
 -- Rows of lines, loops: what is read is computed.
 use Rattle.std.specs.Fmt.{digits}
 use Rattle.std.proofs.Common.{refl}
-use Rattle.rhai_grammar.specs.Prelude.{kept_after, kept_comments, last_hex_digits, module_number, names_function, one_more}
+use Rattle.rhai_grammar.specs.Prelude.{kept_after, kept_comments, last_hex_digits, module_number, names_function}
+use Rattle.rhai_grammar.specs.Prelude.{one_more}
 use Rattle.rhai_grammar.specs.Slots.{number}
 use Rattle.rhai_productions.specs.LinesOfLoops.{LinesOfLoops}
 use Rattle.rhai_productions.proofs.LineLemmas.{reads_script, refuses}
@@ -21,6 +22,10 @@ lines_of_loops = record {
   read_10 = reads_script _ _ refl refl refl;
   read_11 = reads_script _ _ refl refl refl;
   read_12 = reads_script _ _ refl refl refl;
+  read_13 = reads_script _ _ refl refl refl;
+  read_14 = reads_script _ _ refl refl refl;
+  read_15 = reads_script _ _ refl refl refl;
+  read_16 = reads_script _ _ refl refl refl;
   refused_1 = refuses _ refl refl;
   refused_2 = refuses _ refl refl;
   refused_3 = refuses _ refl refl;

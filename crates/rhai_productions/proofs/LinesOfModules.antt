@@ -1,20 +1,23 @@
 -- Rows of lines, imports, exports and paths: what is read is computed.
 use Rattle.std.specs.Fmt.{digits}
 use Rattle.std.proofs.Common.{refl}
-use Rattle.rhai_grammar.specs.Prelude.{kept_after, kept_comments, last_hex_digits, module_number, names_function, one_more}
+use Rattle.rhai_grammar.specs.Prelude.{kept_after, kept_comments, last_hex_digits, module_number, names_function}
+use Rattle.rhai_grammar.specs.Prelude.{one_more}
 use Rattle.rhai_grammar.specs.Slots.{number}
 use Rattle.rhai_productions.specs.LinesOfModules.{LinesOfModules}
-use Rattle.rhai_productions.proofs.LineLemmas.{reads_script, refuses}
+use Rattle.rhai_productions.proofs.LineLemmas.{reads, reads_script, refuses}
 
 pub lines_of_modules : LinesOfModules
 unfolding digits kept_after kept_comments last_hex_digits module_number names_function one_more number
 lines_of_modules = record {
-  read_1 = reads_script _ _ refl refl refl;
-  read_2 = reads_script _ _ refl refl refl;
-  read_3 = reads_script _ _ refl refl refl;
+  read_1 = reads _ refl refl refl;
+  read_2 = reads _ refl refl refl;
+  read_3 = reads _ refl refl refl;
   read_4 = reads_script _ _ refl refl refl;
   read_5 = reads_script _ _ refl refl refl;
-  read_6 = reads_script _ _ refl refl refl;
+  read_6 = reads _ refl refl refl;
+  read_7 = reads_script _ _ refl refl refl;
+  read_8 = reads_script _ _ refl refl refl;
   refused_1 = refuses _ refl refl;
   refused_2 = refuses _ refl refl;
   refused_3 = refuses _ refl refl;

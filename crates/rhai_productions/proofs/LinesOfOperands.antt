@@ -1,7 +1,8 @@
 -- Rows of lines, operators, signs, ranges and names: what is read is computed.
 use Rattle.std.specs.Fmt.{digits}
 use Rattle.std.proofs.Common.{refl}
-use Rattle.rhai_grammar.specs.Prelude.{kept_after, kept_comments, last_hex_digits, module_number, names_function, one_more}
+use Rattle.rhai_grammar.specs.Prelude.{kept_after, kept_comments, last_hex_digits, module_number, names_function}
+use Rattle.rhai_grammar.specs.Prelude.{one_more}
 use Rattle.rhai_grammar.specs.Slots.{number}
 use Rattle.rhai_productions.specs.LinesOfOperands.{LinesOfOperands}
 use Rattle.rhai_productions.proofs.LineLemmas.{reads, refuses}
@@ -20,6 +21,9 @@ lines_of_operands = record {
   read_9 = reads _ refl refl refl;
   read_10 = reads _ refl refl refl;
   read_11 = reads _ refl refl refl;
+  read_12 = reads _ refl refl refl;
+  read_13 = reads _ refl refl refl;
+  read_14 = reads _ refl refl refl;
   refused_1 = refuses _ refl refl;
   refused_2 = refuses _ refl refl;
   refused_3 = refuses _ refl refl;

@@ -1,7 +1,8 @@
 -- Rows of lines, `switch`: what is read is computed.
 use Rattle.std.specs.Fmt.{digits}
 use Rattle.std.proofs.Common.{refl}
-use Rattle.rhai_grammar.specs.Prelude.{kept_after, kept_comments, last_hex_digits, module_number, names_function, one_more}
+use Rattle.rhai_grammar.specs.Prelude.{kept_after, kept_comments, last_hex_digits, module_number, names_function}
+use Rattle.rhai_grammar.specs.Prelude.{one_more}
 use Rattle.rhai_grammar.specs.Slots.{number}
 use Rattle.rhai_productions.specs.LinesOfSwitches.{LinesOfSwitches}
 use Rattle.rhai_productions.proofs.LineLemmas.{reads, reads_script, refuses}
@@ -14,7 +15,9 @@ lines_of_switches = record {
   read_3 = reads _ refl refl refl;
   read_4 = reads_script _ _ refl refl refl;
   read_5 = reads_script _ _ refl refl refl;
-  read_6 = reads _ refl refl refl;
+  read_6 = reads_script _ _ refl refl refl;
+  read_7 = reads _ refl refl refl;
+  read_8 = reads_script _ _ refl refl refl;
   refused_1 = refuses _ refl refl;
   refused_2 = refuses _ refl refl;
   refused_3 = refuses _ refl refl;

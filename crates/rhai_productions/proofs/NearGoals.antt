@@ -1,23 +1,20 @@
 -- Goals that differ in positions alone, and when what they give is equal up to these.
 use Rattle.std.proofs.Common.{◌≡◌, ℕ, Bool, List, Option}
 use Rattle.std.specs.Prelude.{option_map}
-use Rattle.rhai_reading.specs.Reading as R
-use Rattle.rhai_reading.specs.Reading.{Goal, Val}
+use Rattle.rhai_lower.specs.Nodes as node
 use Rattle.rhai_grammar.specs.Shapes.{node_shape, nodes_shape, optional_shape, properties_shape, statement_shape}
 use Rattle.rhai_grammar.specs.Shapes.{statements_shape, block_shape}
-use Rattle.rhai_grammar.proofs.ShapeSteps.{link_shapes}
-use Rattle.rhai_grammar.proofs.SwitchLemmas.{collected_shape}
 use Rattle.rhai_grammar.specs.declared.filter.ExprFilter.{ExprFilter}
 use Rattle.rhai_grammar.specs.declared.role.OperandPlace.{OperandPlace}
-use Rattle.rhai_lower.specs.Nodes as node
-use Rattle.rhai_grammar.specs.Prelude.{Position, Context, Live, Text, Node}
-use Rattle.rhai_grammar.specs.Prelude.{Nodes, Properties}
-use Rattle.rhai_grammar.specs.Prelude.{Link}
-use Rattle.rhai_grammar.specs.Prelude.{Comment, Collected}
+use Rattle.rhai_grammar.specs.Prelude.{Position, Context, Live, Text, Node, Nodes, Properties, Link, Comment, Collected}
 use Rattle.rhai_grammar.specs.declared.role.Construct.{Construct as Kind}
 use Rattle.rhai_grammar.specs.declared.role.Closing.{Closing}
 use Rattle.rhai_grammar.specs.declared.list.CommaList.{CommaList}
 use Rattle.rhai_grammar.specs.declared.role.Bars.{Bars}
+use Rattle.rhai_grammar.proofs.ShapeSteps.{link_shapes}
+use Rattle.rhai_grammar.proofs.SwitchLemmas.{collected_shape}
+use Rattle.rhai_reading.specs.Reading as R
+use Rattle.rhai_reading.specs.Reading.{Goal, Val}
 
 pub data Near : Goal → Goal → Type 0 where
   wholes : {c : Context} {w : Live} → Near (R.Whole c w) (R.Whole c w)

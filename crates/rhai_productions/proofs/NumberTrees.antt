@@ -1,28 +1,21 @@
 -- What is added to a tree or a list whose numbers are right, and names after statements.
-use Rattle.std.proofs.Common.{◌≡◌, ◌∙◌, ℕ, suc, zero, ◌-◌, Bool, true, false, List, [], ◌∷◌, ◌++◌}
-use Rattle.std.proofs.Common.{Option, Some, None, length, refl, sym, ap, subst, if◌then◌else◌}
+use Rattle.std.proofs.Common.{◌≡◌, ◌∙◌, ℕ, suc, zero, ◌-◌, Bool, true, false, List, [], ◌∷◌, ◌++◌, Option, Some, None}
+use Rattle.std.proofs.Common.{length, refl, sym, ap, subst, if◌then◌else◌}
 use Rattle.std.proofs.lemmas.List.{map-append}
-use Rattle.rhai_productions.specs.Numbered.{names, Leaves}
+use Rattle.rhai_lower.specs.Nodes as node
+use Rattle.rhai_grammar.specs.TreeNumbers.{WellNumberedProperties, WellNumberedFunction, IsWellNumberedFunction}
+use Rattle.rhai_grammar.specs.TreeNumbers.{names_after, names_after_all, names_in_handler, IsHandled, has_path}
+use Rattle.rhai_grammar.specs.TreeNumbers.{number_among}
+use Rattle.rhai_grammar.specs.Prelude.{Position, Live, Text, Node, made_block, catch_live, caught_name, catch_node}
+use Rattle.rhai_grammar.specs.Prelude.{with_node, with_kept, definition_tree, defined_as, Nodes, Properties, no_nodes}
+use Rattle.rhai_grammar.specs.Prelude.{with_property, qualified, Link, added_text, is_variable, exported, Comment}
+use Rattle.rhai_grammar.specs.Prelude.{ended_function, parameters_live, Use, ended_closure, AllWellNumbered, SlotValue}
+use Rattle.rhai_grammar.specs.Prelude.{WellNumbered, WellNumberedBlock, WellNumberedStatement, WellNumberedStatements}
+use Rattle.rhai_grammar.specs.Prelude.{define_at, export_at, fresh_slot, is_in_block, later, names_in, names_of, number}
+use Rattle.rhai_grammar.specs.Prelude.{reused, with_alias, with_constant}
 use Rattle.rhai_grammar.proofs.NumberSteps as N
 use Rattle.rhai_grammar.proofs.NumberSteps.{AllLinks, IsCollected}
-use Rattle.rhai_grammar.specs.TreeNumbers.{WellNumberedProperties, WellNumberedFunction}
-use Rattle.rhai_grammar.specs.TreeNumbers.{IsWellNumberedFunction, names_after, names_after_all}
-use Rattle.rhai_grammar.specs.TreeNumbers.{names_in_handler, IsHandled, has_path, number_among}
-use Rattle.rhai_lower.specs.Nodes as node
-use Rattle.rhai_grammar.specs.Prelude.{Position, Live, Text, Node, made_block}
-use Rattle.rhai_grammar.specs.Prelude.{catch_live, caught_name, catch_node, with_node}
-use Rattle.rhai_grammar.specs.Prelude.{with_kept, definition_tree}
-use Rattle.rhai_grammar.specs.Prelude.{defined_as, Nodes, Properties, no_nodes, with_property}
-use Rattle.rhai_grammar.specs.Prelude.{qualified}
-use Rattle.rhai_grammar.specs.Prelude.{Link}
-use Rattle.rhai_grammar.specs.Prelude.{added_text}
-use Rattle.rhai_grammar.specs.Prelude.{is_variable}
-use Rattle.rhai_grammar.specs.Prelude.{exported, Comment}
-use Rattle.rhai_grammar.specs.Prelude.{ended_function, parameters_live, Use, ended_closure}
-use Rattle.rhai_grammar.specs.Prelude.{AllWellNumbered, SlotValue}
-use Rattle.rhai_grammar.specs.Prelude.{WellNumbered, WellNumberedBlock, WellNumberedStatement, WellNumberedStatements}
-use Rattle.rhai_grammar.specs.Prelude.{define_at, export_at, fresh_slot, is_in_block, later}
-use Rattle.rhai_grammar.specs.Prelude.{names_in, names_of, number, reused, with_alias, with_constant}
+use Rattle.rhai_productions.specs.Numbered.{names, Leaves}
 use Rattle.rhai_productions.specs.Schema.{name}
 
 pub one_node : (ns : List Text) (xs : Nodes) (x : Node) → AllWellNumbered ns xs → WellNumbered ns x
@@ -136,14 +129,15 @@ function comments is_private owner name ns b h = record {
   body = subst (λ ms. WellNumberedBlock ms b) (N.own_names ns) h;
 }
 
+pub closure_body : (n : ℕ) (us : List Use) (ns : List Text) (f : node.Statement)
+    → WellNumberedStatement (names (parameters_live ns)) f
+    → WellNumberedFunction (names_of us) ns (ended_closure n us ns (made_block f))
+closure_body n us ns f h = record {
+  parameters_are = refl;
+  body = subst (λ ms. WellNumberedBlock ms (made_block f)) (N.own_names ns) (N.made _ f h);
+}
+
 pub closure : (n : ℕ) (us : List Use) (ns : List Text) (f : node.Statement) → WellNumberedStatement
     (names (parameters_live ns)) f → IsWellNumberedFunction (ended_closure n us ns (made_block f))
-closure n us ns f h = record {
-  captured = names_of us;
-  own = ns;
-  is = record {
-    parameters_are = refl;
-    body = subst (λ ms. WellNumberedBlock ms (made_block f)) (N.own_names ns) (N.made _ f h);
-  };
-  none = λ e. absurd cc;
-}
+closure n us ns f h =
+    record { captured = names_of us; own = ns; is = closure_body n us ns f h; none = λ e. absurd cc }

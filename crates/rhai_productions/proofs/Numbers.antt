@@ -1,40 +1,32 @@
 -- Each production keeps the numbers in its tree right: the table, and the law.
-use Rattle.std.proofs.Common.{◌≡◌, true, List, [], ◌∷◌}
-use Rattle.std.proofs.Common.{refl}
+use Rattle.std.proofs.Common.{◌≡◌, true, List, [], ◌∷◌, refl}
+use Rattle.rhai_lower.specs.Nodes as node
+use Rattle.rhai_grammar.specs.Prelude.{apart, Demands, Position, Node, Context, Live, Lexeme, Text, text_of, is_name}
+use Rattle.rhai_grammar.specs.Prelude.{braces, block_value, has_single_blocks, qualified, qualifies, is_variable, Ended}
+use Rattle.rhai_grammar.specs.Prelude.{Library, AllWellNumbered, Point, WellNumbered, with_ended}
+use Rattle.rhai_grammar.specs.TreeNumbers.{WellNumberedFunction, IsWellNumberedFunction, WellNumberedLibrary}
+use Rattle.rhai_grammar.specs.declared.role.Bars.{Bars}
+use Rattle.rhai_grammar.specs.declared.role.Bars.TheVariants as bars
+use Rattle.rhai_grammar.specs.Demands.{Nothing, Met}
+use Rattle.rhai_grammar.specs.declared.list.CommaList.TheVariants as lists
+use Rattle.rhai_grammar.proofs.NumberSteps as N
+use Rattle.rhai_grammar.proofs.NumberSteps.{AllLinks, IsCollected}
 use Rattle.rhai_reading.specs.Reading as R
 use Rattle.rhai_reading.specs.Reading.{Goal, Val}
 use Rattle.rhai_reading.proofs.Looks.{op_at}
 use Rattle.rhai_productions.specs.Rules.{production}
 use Rattle.rhai_productions.specs.Derived as D
+use Rattle.rhai_productions.specs.Numbered as Z
+use Rattle.rhai_productions.specs.Numbered.{ClosureParts, names, UnlessCalled, Right, TreesAreWellNumbered}
+use Rattle.rhai_productions.specs.Rules as P
 use Rattle.rhai_productions.specs.Kept.{Keeps}
-use Rattle.rhai_productions.specs.Numbered.{names, UnlessCalled, Right, TreesAreWellNumbered}
+use Rattle.rhai_productions.proofs.NumberTrees.{closure_body, one_node, one_text, definition, with_path, function}
 use Rattle.rhai_productions.proofs.Keeping as K
-use Rattle.rhai_grammar.proofs.NumberSteps as N
-use Rattle.rhai_grammar.proofs.NumberSteps.{AllLinks, IsCollected}
-use Rattle.rhai_grammar.specs.TreeNumbers.{IsWellNumberedFunction, WellNumberedLibrary}
-use Rattle.rhai_grammar.specs.Demands.{Nothing, Met}
-use Rattle.rhai_lower.specs.Nodes as node
-use Rattle.rhai_grammar.specs.declared.list.CommaList.TheVariants as lists
-use Rattle.rhai_grammar.specs.Prelude.{Lexeme, Position, Text, text_of, Node}
-use Rattle.rhai_grammar.specs.Prelude.{is_name, braces}
-use Rattle.rhai_grammar.specs.Prelude.{block_value}
-use Rattle.rhai_grammar.specs.Prelude.{has_single_blocks, qualified}
-use Rattle.rhai_grammar.specs.Prelude.{qualifies}
-use Rattle.rhai_grammar.specs.Prelude.{is_variable}
-use Rattle.rhai_grammar.specs.Prelude.{Ended, Library}
-use Rattle.rhai_grammar.specs.Prelude.{AllWellNumbered, Point}
-use Rattle.rhai_grammar.specs.Prelude.{WellNumbered}
-use Rattle.rhai_grammar.specs.Prelude.{with_ended}
-use Rattle.rhai_productions.proofs.NumberTrees.{one_node, one_text}
-use Rattle.rhai_productions.proofs.NumberTrees.{definition, with_path, function}
-use Rattle.rhai_productions.proofs.NumbersOfOperands.{by_either, is_true_of}
-use Rattle.rhai_productions.proofs.NumbersOfOperands.{construct, operand, right}
-use Rattle.rhai_productions.proofs.NumbersOfOperands.{primary, called, call_path, call_of, links, parted}
-use Rattle.rhai_productions.proofs.NumbersOfOperands.{element, key, field, follower, binary}
-use Rattle.rhai_productions.proofs.NumbersOfStatements.{export, statement}
-use Rattle.rhai_productions.proofs.NumbersOfStatements.{statements, inside, do_end_kept, arms, action}
-use Rattle.rhai_productions.proofs.NumbersOfStatements.{arm_end, default_end, parameters, parameter}
-use Rattle.rhai_productions.proofs.NumbersOfStatements.{closure_by}
+use Rattle.rhai_productions.proofs.NumbersOfOperands.{by_either, is_true_of, construct, operand, right, primary, called}
+use Rattle.rhai_productions.proofs.NumbersOfOperands.{call_path, call_of, links, parted, element, key, field, follower}
+use Rattle.rhai_productions.proofs.NumbersOfOperands.{binary}
+use Rattle.rhai_productions.proofs.NumbersOfStatements.{export, statement, statements, inside, do_end_kept, arms}
+use Rattle.rhai_productions.proofs.NumbersOfStatements.{action, arm_end, default_end, parameters, parameter, closure_by}
 
 abbrev Table : Goal → Type 0
 Table g = (n : Lexeme) → Keeps Right IsWellNumberedFunction (λ x next. Right g x n next) (production g) n
@@ -145,9 +137,38 @@ holds {g = g} {x = x} f s t m = K.ended production Right IsWellNumberedFunction 
     (λ next. Right g x (op_at s) next) s t (K.right production Right IsWellNumberedFunction WellNumberedLibrary more
     table f Nothing s t m)
 
+-- ---- closures
+
+abbrev IsRight : ClosureParts → Type 0
+IsRight p = WellNumberedFunction p.captured p.own p.ended
+
+-- the body of a closure, by the names of its parameters
+closure_of_right : {c : Context} {w : Live} {at : Position} {by : Bars} {x : Node} (own : List Text)
+    (f : D.Filled production (R.Closure c w at by) (P.closure_of c w at own) x) (k : Demands) (s t : Point)
+    → Met (D.demanded production f k) s t → IsRight (Z.closure_of own f)
+closure_of_right own (D.must (D.apart v us n body rest)) k s t m =
+    closure_body n us own v (holds body (apart s) m.1.0 m.1.1).0
+
+-- without parameters, or with those that a list has
+closure_by_right : {c : Context} {w : Live} {at : Position} {b : Bars} {x : Node} (by : Bars)
+    (f : D.Filled production (R.Closure c w at b) (P.closure_by c w at by) x) (k : Demands) (s t : Point)
+    → Met (D.demanded production f k) s t → IsRight (Z.closure_by by f)
+closure_by_right bars.Pair f k s t m = closure_of_right [] f k s t m
+closure_by_right bars.List (D.part own list f) k s t m =
+    let r = K.right production Right IsWellNumberedFunction WellNumberedLibrary more table list
+    (D.demanded production f k)
+    s t m in
+    closure_of_right own f k r.end t r.met
+
+closure_right : {c : Context} {w : Live} {at : Position} {by : Bars} {x : Node}
+    (f : D.Form production (R.Closure c w at by) x) (s t : Point) → Met (D.demands production f Nothing) s t
+    → IsRight (Z.closure_parts f)
+closure_right {by = by} (D.form (D.knows f)) s t m = closure_by_right by f Nothing s t m.1
+
 pub trees_are_well_numbered : TreesAreWellNumbered
 trees_are_well_numbered = record {
   expression = λ c w x f s t m. holds f s t m;
+  closure = λ c w at by x f s t m. closure_right f s t m;
   function = λ c comments at is_private x f s t m. (holds f s t m).0;
   script = λ c w x f s t m. let r = holds f s t m in let q = r.0 (names w) tt refl in (q.0, q.1, r.1);
 }

@@ -1,18 +1,7 @@
 -- Productions of operands, calls and lists keep the numbers in their trees right.
 -- Each lemma is of the rule of its name, and goes by cases of what the next token decides.
-use Rattle.std.proofs.Common.{◌≡◌, ℕ, Bool, true, false, ◌&&◌, ◌||◌}
-use Rattle.std.proofs.Common.{Option, Some, None, refl, subst, if◌then◌else◌}
-use Rattle.rhai_reading.specs.Reading as R
-use Rattle.rhai_reading.specs.Reading.{Goal, Val}
-use Rattle.rhai_productions.specs.Schema.{Production}
-use Rattle.rhai_productions.specs.Rules as P
-use Rattle.rhai_productions.specs.Rules.{production}
-use Rattle.rhai_productions.specs.Kept.{Keeps}
-use Rattle.rhai_productions.specs.Numbered.{names, Leaves, UnlessCalled, Right}
-use Rattle.rhai_grammar.proofs.NumberSteps as N
-use Rattle.rhai_grammar.proofs.NumberSteps.{AllLinks, IsCollected}
-use Rattle.rhai_grammar.specs.TreeNumbers.{WellNumberedProperties}
-use Rattle.rhai_grammar.specs.TreeNumbers.{IsWellNumberedFunction}
+use Rattle.std.proofs.Common.{◌≡◌, ℕ, Bool, true, false, ◌&&◌, ◌||◌, Option, Some, None, refl, subst, if◌then◌else◌}
+use Rattle.rhai_grammar.specs.TreeNumbers.{WellNumberedProperties, IsWellNumberedFunction}
 use Rattle.rhai_grammar.specs.Operators.{joining}
 use Rattle.rhai_grammar.specs.Signs.{effect, plain_sign}
 use Rattle.rhai_grammar.specs.declared.role.Construct.TheVariants as kind
@@ -23,15 +12,11 @@ use Rattle.rhai_grammar.specs.declared.role.Calling.TheVariants as calls_by
 use Rattle.rhai_grammar.specs.declared.role.ItemPlace.TheVariants as place
 use Rattle.rhai_grammar.specs.declared.role.Linking.TheVariants as link
 use Rattle.rhai_grammar.specs.declared.role.OperandStart.TheVariants as first
-use Rattle.rhai_grammar.specs.Prelude.{Lexeme, Position, Context, Live, Text, text_of, Node}
-use Rattle.rhai_grammar.specs.Prelude.{Nodes, Properties, no_nodes}
-use Rattle.rhai_grammar.specs.Prelude.{may_be_value}
-use Rattle.rhai_grammar.specs.Prelude.{KeyPlace, FieldsEnd, AKey, NoKey, LinkSpot, calls, may_be_called, is_this}
-use Rattle.rhai_grammar.specs.Prelude.{MemberPlace, AMember, NoMember, excludes_use, qualifies, Follower}
-use Rattle.rhai_grammar.specs.Prelude.{Operator, Unknown}
-use Rattle.rhai_grammar.specs.Prelude.{Other, name_tree, is_variable, bracket_link, member_link, may_be_closure}
-use Rattle.rhai_grammar.specs.Prelude.{AllWellNumbered}
-use Rattle.rhai_grammar.specs.Prelude.{WellNumbered, WellNumberedBlock}
+use Rattle.rhai_grammar.specs.Prelude.{Lexeme, Position, Context, Live, Text, text_of, Node, Nodes, Properties}
+use Rattle.rhai_grammar.specs.Prelude.{no_nodes, may_be_value, KeyPlace, FieldsEnd, AKey, NoKey, LinkSpot, calls}
+use Rattle.rhai_grammar.specs.Prelude.{may_be_called, is_this, MemberPlace, AMember, NoMember, excludes_use, qualifies}
+use Rattle.rhai_grammar.specs.Prelude.{Follower, Operator, Unknown, Other, name_tree, is_variable, bracket_link}
+use Rattle.rhai_grammar.specs.Prelude.{member_link, may_be_closure, AllWellNumbered, WellNumbered, WellNumberedBlock}
 use Rattle.rhai_grammar.specs.declared.role.Construct.{Construct as Kind}
 use Rattle.rhai_grammar.specs.declared.list.AfterPart.{AfterPart}
 use Rattle.rhai_grammar.specs.declared.list.CommaList.{CommaList}
@@ -40,8 +25,16 @@ use Rattle.rhai_grammar.specs.declared.role.Calling.{Calling}
 use Rattle.rhai_grammar.specs.declared.role.ItemPlace.{ItemPlace}
 use Rattle.rhai_grammar.specs.declared.role.Linking.{Linking}
 use Rattle.rhai_grammar.specs.declared.role.OperandStart.{OperandStart}
-use Rattle.rhai_productions.proofs.NumberTrees.{one_node, one_property, one_text, one_link}
-use Rattle.rhai_productions.proofs.NumberTrees.{handled, catches}
+use Rattle.rhai_grammar.proofs.NumberSteps as N
+use Rattle.rhai_grammar.proofs.NumberSteps.{AllLinks, IsCollected}
+use Rattle.rhai_reading.specs.Reading as R
+use Rattle.rhai_reading.specs.Reading.{Goal, Val}
+use Rattle.rhai_productions.specs.Schema.{Production}
+use Rattle.rhai_productions.specs.Rules as P
+use Rattle.rhai_productions.specs.Rules.{production}
+use Rattle.rhai_productions.specs.Kept.{Keeps}
+use Rattle.rhai_productions.specs.Numbered.{names, Leaves, UnlessCalled, Right}
+use Rattle.rhai_productions.proofs.NumberTrees.{one_node, one_property, one_text, one_link, handled, catches}
 
 abbrev pub KeepsIn : {A : Type 0} → (A → Type 0) → Production A → Lexeme → Type 0
 KeepsIn R p n = Keeps Right IsWellNumberedFunction (λ x next. R x) p n

@@ -1,15 +1,8 @@
 -- Productions of statements, constructs and functions keep the numbers in their trees right.
 -- Each lemma is of the rule of its name, and goes by cases of what the next token decides.
-use Rattle.std.proofs.Common.{◌≡◌, Bool, true, false, List, [], ◌∷◌}
-use Rattle.std.proofs.Common.{Option, Some, None, refl, sym}
-use Rattle.rhai_productions.specs.Schema.{Production}
-use Rattle.rhai_productions.specs.Rules as P
-use Rattle.rhai_productions.specs.Rules.{production}
-use Rattle.rhai_productions.specs.Numbered.{names, Leaves}
-use Rattle.rhai_grammar.proofs.NumberSteps as N
-use Rattle.rhai_grammar.proofs.NumberSteps.{AllLinks, IsCollected}
-use Rattle.rhai_grammar.specs.TreeNumbers.{names_after_all}
+use Rattle.std.proofs.Common.{◌≡◌, Bool, true, false, List, [], ◌∷◌, Option, Some, None, refl, sym}
 use Rattle.rhai_lower.specs.Nodes as node
+use Rattle.rhai_grammar.specs.TreeNumbers.{names_after_all}
 use Rattle.rhai_grammar.specs.declared.role.AfterStatement.TheVariants as ends
 use Rattle.rhai_grammar.specs.declared.role.StatementPlace.TheVariants as stands
 use Rattle.rhai_grammar.specs.declared.list.AfterPart.TheVariants as after
@@ -18,13 +11,8 @@ use Rattle.rhai_grammar.specs.declared.role.Bars.TheVariants as bars
 use Rattle.rhai_grammar.specs.declared.role.Calling.TheVariants as calls_by
 use Rattle.rhai_grammar.specs.declared.role.ItemPlace.TheVariants as place
 use Rattle.rhai_grammar.specs.declared.role.StatementStart.TheVariants as start
-use Rattle.rhai_grammar.specs.Prelude.{Lexeme, Position, Context, Live, Text, text_of, Node}
-use Rattle.rhai_grammar.specs.Prelude.{ends_itself}
-use Rattle.rhai_grammar.specs.Prelude.{with_kept}
-use Rattle.rhai_grammar.specs.Prelude.{Comment, Collected}
-use Rattle.rhai_grammar.specs.Prelude.{Use}
-use Rattle.rhai_grammar.specs.Prelude.{WellNumbered, WellNumberedStatements}
-use Rattle.rhai_grammar.specs.Prelude.{number}
+use Rattle.rhai_grammar.specs.Prelude.{Lexeme, Position, Context, Live, Text, text_of, Node, ends_itself, with_kept}
+use Rattle.rhai_grammar.specs.Prelude.{Comment, Collected, Use, WellNumbered, WellNumberedStatements, number}
 use Rattle.rhai_grammar.specs.declared.role.AfterStatement.{AfterStatement}
 use Rattle.rhai_grammar.specs.declared.role.Closing.{Closing}
 use Rattle.rhai_grammar.specs.declared.role.StatementPlace.{StatementPlace}
@@ -35,10 +23,14 @@ use Rattle.rhai_grammar.specs.declared.role.Bars.{Bars}
 use Rattle.rhai_grammar.specs.declared.role.Calling.{Calling}
 use Rattle.rhai_grammar.specs.declared.role.ItemPlace.{ItemPlace}
 use Rattle.rhai_grammar.specs.declared.role.StatementStart.{StatementStart}
-use Rattle.rhai_productions.proofs.NumberTrees.{kept_statement, export_names}
-use Rattle.rhai_productions.proofs.NumberTrees.{closure}
-use Rattle.rhai_productions.proofs.NumbersOfOperands.{KeepsIn, by_either}
-use Rattle.rhai_productions.proofs.NumbersOfOperands.{parted}
+use Rattle.rhai_grammar.proofs.NumberSteps as N
+use Rattle.rhai_grammar.proofs.NumberSteps.{AllLinks, IsCollected}
+use Rattle.rhai_productions.specs.Schema.{Production}
+use Rattle.rhai_productions.specs.Rules as P
+use Rattle.rhai_productions.specs.Rules.{production}
+use Rattle.rhai_productions.specs.Numbered.{names, Leaves}
+use Rattle.rhai_productions.proofs.NumberTrees.{kept_statement, export_names, closure}
+use Rattle.rhai_productions.proofs.NumbersOfOperands.{KeepsIn, by_either, parted}
 
 pub export : (c : Context) (w : Live) (at : Position) (v : Option Bool) (n : Lexeme)
     → KeepsIn (λ (f : node.Statement × Live). Leaves w f.1 f.0) (P.export_by c w at v) n

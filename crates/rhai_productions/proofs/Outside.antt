@@ -7,19 +7,6 @@ use Rattle.std.specs.Option.{is_some}
 use Rattle.std.proofs.lemmas.Nat.{and_assoc, and_or_apart}
 use Rattle.std.specs.Int.Bits.{and_zero_r}
 use Rattle.std.specs.Int.RustNames.{bit_and}
-use Rattle.rhai_reading.specs.Reading as R
-use Rattle.rhai_reading.specs.Reading.{Goal, Val}
-use Rattle.rhai_productions.specs.Schema.{Production, view}
-use Rattle.rhai_productions.specs.Rules as P
-use Rattle.rhai_productions.specs.Rules.{production}
-use Rattle.rhai_productions.specs.Derived as D
-use Rattle.rhai_productions.specs.Derived.{given, take, this, if_so, if_not, choose, here, must, knows, adds, uses}
-use Rattle.rhai_productions.specs.Derived.{captures, part, literal, apart, in_text, form}
-use Rattle.rhai_productions.specs.Events as F
-use Rattle.rhai_productions.specs.Events.{Event, Used, HasEnded, ends_only}
-use Rattle.rhai_productions.specs.Quiet.{Quiet, Outside, Off, NothingIsCaptured}
-use Rattle.rhai_productions.proofs.Passing.{library_after, captured_after, captured_on, captured_ends, captured_is}
-use Rattle.rhai_productions.proofs.Passing.{leaves_its}
 use Rattle.rhai_lower.specs.Nodes as node
 use Rattle.rhai_grammar.specs.declared.role.Construct.TheVariants as kind
 use Rattle.rhai_grammar.specs.declared.role.AfterStatement.TheVariants as ends
@@ -36,18 +23,15 @@ use Rattle.rhai_grammar.specs.declared.role.OperandStart.TheVariants as first
 use Rattle.rhai_grammar.specs.declared.role.StatementStart.TheVariants as start
 use Rattle.rhai_grammar.specs.Prelude.{Lexeme, Position, Context, Live, Text, text_of, Node, loop_body, is_name}
 use Rattle.rhai_grammar.specs.Prelude.{ends_itself, with_kept, Nodes, Properties, below_global, has_single_blocks}
-use Rattle.rhai_grammar.specs.Prelude.{may_be_value, KeyPlace, FieldsEnd}
-use Rattle.rhai_grammar.specs.Prelude.{AKey, NoKey, LinkSpot, is_this, MemberPlace, AMember, NoMember, excludes_use}
-use Rattle.rhai_grammar.specs.Prelude.{Follower}
-use Rattle.rhai_grammar.specs.Prelude.{Operator, Unknown, Other, may_be_closure, Comment, Collected, in_function, Use}
-use Rattle.rhai_grammar.specs.Prelude.{is_captured}
-use Rattle.rhai_grammar.specs.Prelude.{Library, is_function, noted, number, with_ended}
+use Rattle.rhai_grammar.specs.Prelude.{may_be_value, KeyPlace, FieldsEnd, AKey, NoKey, LinkSpot, is_this, MemberPlace}
+use Rattle.rhai_grammar.specs.Prelude.{AMember, NoMember, excludes_use, Follower, Operator, Unknown, Other}
+use Rattle.rhai_grammar.specs.Prelude.{may_be_closure, Comment, Collected, in_function, Use, is_captured, Library}
+use Rattle.rhai_grammar.specs.Prelude.{is_function, noted, number, with_ended}
 use Rattle.rhai_grammar.specs.declared.role.Construct.{Construct as Kind}
 use Rattle.rhai_grammar.specs.declared.role.AfterStatement.{AfterStatement}
 use Rattle.rhai_grammar.specs.declared.role.Closing.{Closing}
 use Rattle.rhai_grammar.specs.declared.role.StatementPlace.{StatementPlace}
 use Rattle.rhai_grammar.specs.declared.list.AfterPart.{AfterPart}
-use Rattle.rhai_productions.specs.Schema.{name}
 use Rattle.rhai_grammar.specs.declared.list.CommaList.{CommaList}
 use Rattle.rhai_grammar.specs.declared.role.ArmPlace.{ArmPlace}
 use Rattle.rhai_grammar.specs.declared.role.Bars.{Bars}
@@ -57,6 +41,19 @@ use Rattle.rhai_grammar.specs.declared.role.ItemPlace.{ItemPlace}
 use Rattle.rhai_grammar.specs.declared.role.Linking.{Linking}
 use Rattle.rhai_grammar.specs.declared.role.OperandStart.{OperandStart}
 use Rattle.rhai_grammar.specs.declared.role.StatementStart.{StatementStart}
+use Rattle.rhai_reading.specs.Reading as R
+use Rattle.rhai_reading.specs.Reading.{Goal, Val}
+use Rattle.rhai_productions.specs.Schema.{Production, view, name}
+use Rattle.rhai_productions.specs.Rules as P
+use Rattle.rhai_productions.specs.Rules.{production}
+use Rattle.rhai_productions.specs.Derived as D
+use Rattle.rhai_productions.specs.Derived.{given, take, this, if_so, if_not, choose, here, must, knows, adds, uses}
+use Rattle.rhai_productions.specs.Derived.{captures, part, literal, apart, in_text, form}
+use Rattle.rhai_productions.specs.Events as F
+use Rattle.rhai_productions.specs.Events.{Event, Used, HasEnded, ends_only}
+use Rattle.rhai_productions.specs.Quiet.{Quiet, Outside, Off, NothingIsCaptured}
+use Rattle.rhai_productions.proofs.Passing.{library_after, captured_after, captured_on, captured_ends, captured_is}
+use Rattle.rhai_productions.proofs.Passing.{leaves_its}
 
 -- ---- in general
 

@@ -1,12 +1,10 @@
 -- What a form that fits leaves. One induction over forms; no clause is one of a production.
-use Rattle.std.proofs.Common.{◌≡◌, Bool, true, false, List, [], ◌∷◌, ◌++◌, append-nil, append_assoc}
-use Rattle.std.proofs.Common.{refl, ap, ◌∙◌, sym, subst, if◌then◌else◌}
+use Rattle.std.proofs.Common.{◌≡◌, Bool, true, false, List, [], ◌∷◌, ◌++◌, append-nil, append_assoc, refl, ap, ◌∙◌, sym}
+use Rattle.std.proofs.Common.{subst, if◌then◌else◌}
 use Rattle.std.specs.List.{fold}
 use Rattle.rhai_grammar.specs.Prelude.{Lexeme, Position, Item, item, Mode, code, text, Taken, Point, Use, Ended}
-use Rattle.rhai_grammar.specs.Prelude.{Library}
-use Rattle.rhai_grammar.specs.Prelude.{Demands, Nothing, Met, Gives, leads, noted, with_ended, closure_count}
-use Rattle.rhai_grammar.specs.Prelude.{past, next_at}
-use Rattle.rhai_grammar.specs.Prelude.{adding, capturing, with_captured}
+use Rattle.rhai_grammar.specs.Prelude.{Library, Demands, Nothing, Met, Gives, leads, noted, with_ended, closure_count}
+use Rattle.rhai_grammar.specs.Prelude.{past, next_at, adding, capturing, with_captured}
 use Rattle.rhai_grammar.specs.Delivered as M
 use Rattle.rhai_grammar.specs.Uses.{with_use}
 use Rattle.rhai_grammar.proofs.SeenLemmas.{both, leads_on}

@@ -1,10 +1,9 @@
 -- After a refusal the functions are the first of those that end in the open form.
-use Rattle.std.proofs.Common.{◌≡◌, inl, inr, Bool, List, [], ◌∷◌, ◌++◌, append-nil, append_assoc, refl}
-use Rattle.std.proofs.Common.{ap, ◌∙◌, sym, subst}
+use Rattle.std.proofs.Common.{◌≡◌, inl, inr, Bool, List, [], ◌∷◌, ◌++◌, append-nil, append_assoc, refl, ap, ◌∙◌, sym}
+use Rattle.std.proofs.Common.{subst}
 use Rattle.std.specs.Prelude.{◌⊎◌}
-use Rattle.rhai_grammar.specs.Prelude.{Mode, code, text, Taken, Point, Use, Ended, Library, Refusal}
-use Rattle.rhai_grammar.specs.Prelude.{Demands, Nothing, Missed, with_ended, past, next_at, adding, capturing}
-use Rattle.rhai_grammar.specs.Prelude.{with_captured}
+use Rattle.rhai_grammar.specs.Prelude.{Mode, code, text, Taken, Point, Use, Ended, Library, Refusal, Demands, Nothing}
+use Rattle.rhai_grammar.specs.Prelude.{Missed, with_ended, past, next_at, adding, capturing, with_captured}
 use Rattle.rhai_grammar.specs.Delivered as M
 use Rattle.rhai_grammar.specs.UsesOfForms.{HoldsFirst}
 use Rattle.rhai_reading.specs.Reading.{Goal, Val}

@@ -1,10 +1,9 @@
 -- What is read operator by operator is a run as the strengths say.
-use Rattle.std.proofs.Common.{◌≡◌, ℕ, zero, suc, ◌≤◌, arith, Bool, true, false, Option, Some, None, refl, sym, ap}
-use Rattle.std.proofs.Common.{◌∙◌, subst, if◌then◌else◌}
-use Rattle.rhai_grammar.specs.Prelude.{Lexeme, Position, Item, Point, past, code, is_memory, Context}
-use Rattle.rhai_grammar.specs.Prelude.{Live, Node, has_room, level_up, position_of}
-use Rattle.rhai_grammar.specs.Prelude.{Demands, Met, verdict, Fine, Wrong, Otherwise, Verdict}
-use Rattle.rhai_grammar.specs.Prelude.{follower_of, Follower, Operator, Unknown, Other, operator_tree}
+use Rattle.std.proofs.Common.{◌≡◌, ℕ, zero, suc, ◌≤◌, arith, Bool, true, false, Option, Some, None, refl, sym, ap, ◌∙◌}
+use Rattle.std.proofs.Common.{subst, if◌then◌else◌}
+use Rattle.rhai_grammar.specs.Prelude.{Lexeme, Position, Item, Point, past, code, is_memory, Context, Live, Node}
+use Rattle.rhai_grammar.specs.Prelude.{has_room, level_up, position_of, Demands, Met, verdict, Fine, Wrong, Otherwise}
+use Rattle.rhai_grammar.specs.Prelude.{Verdict, follower_of, Follower, Operator, Unknown, Other, operator_tree}
 use Rattle.rhai_grammar.specs.Causes as cause
 use Rattle.rhai_grammar.specs.Strengths.{is_operator, strength}
 use Rattle.rhai_grammar.specs.Verdicts.{operator_known, known_follower, run_ends, ended_follower, room_due}
@@ -17,8 +16,8 @@ use Rattle.rhai_reading.proofs.Strengths.{true_not}
 use Rattle.rhai_productions.specs.Rules as P
 use Rattle.rhai_productions.specs.Rules.{production}
 use Rattle.rhai_productions.specs.Derived.{Form, Filled, form, given, this, choose, here, must, part, demands, demanded}
-use Rattle.rhai_productions.specs.Runs.{Run, just, binary, run_demands, Side, Outermost, RightOf, left_fits}
-use Rattle.rhai_productions.specs.Runs.{side_fits, ExpressionsAreRuns}
+use Rattle.rhai_productions.specs.Runs.{Run, just, binary, run_demands, Side, Outermost, RightOf, left_fits, side_fits}
+use Rattle.rhai_productions.specs.Runs.{ExpressionsAreRuns}
 use Rattle.rhai_productions.proofs.Fronts.{front}
 use Rattle.rhai_productions.proofs.Heights.{height, height_in}
 

@@ -1,10 +1,8 @@
 -- A run as the strengths say is read operator by operator.
 use Rattle.std.proofs.Common.{◌≡◌, ℕ, Bool, true, false, Option, Some, None, refl, sym, ap, ◌∙◌, subst, if◌then◌else◌}
-use Rattle.rhai_grammar.specs.Prelude.{Lexeme, Position, Item, Point, past, code, Context}
-use Rattle.rhai_grammar.specs.Prelude.{Live, Node, has_room, position_of}
-use Rattle.rhai_grammar.specs.Prelude.{Demands, ◌▸◌, Test, Next, Met, verdict, Fine}
-use Rattle.rhai_grammar.specs.Prelude.{follower_of, Follower, Operator, Unknown, Other}
-use Rattle.rhai_grammar.specs.Prelude.{boolean_holds, mismatched}
+use Rattle.rhai_grammar.specs.Prelude.{Lexeme, Position, Item, Point, past, code, Context, Live, Node, has_room}
+use Rattle.rhai_grammar.specs.Prelude.{position_of, Demands, ◌▸◌, Test, Next, Met, verdict, Fine, follower_of, Follower}
+use Rattle.rhai_grammar.specs.Prelude.{Operator, Unknown, Other, boolean_holds, mismatched}
 use Rattle.rhai_grammar.specs.Causes as cause
 use Rattle.rhai_grammar.specs.Strengths.{is_operator, strength, is_right, left_of}
 use Rattle.rhai_grammar.specs.Verdicts.{operator_known, known_follower, run_ends, ended_follower, room_due}
@@ -12,8 +10,7 @@ use Rattle.rhai_grammar.specs.declared.filter.ExprFilter.{ExprFilter}
 use Rattle.rhai_reading.specs.Reading as R
 use Rattle.rhai_reading.specs.Reading.{BinaryOp, NextOperator}
 use Rattle.rhai_reading.proofs.Looks.{op_at, pos_at, operator_in, fine, or_wrong}
-use Rattle.rhai_reading.proofs.Strengths.{sensible, next_continues, right_is, left_is, left_down, outer}
-use Rattle.rhai_reading.proofs.Strengths.{not_true}
+use Rattle.rhai_reading.proofs.Strengths.{sensible, next_continues, right_is, left_is, left_down, outer, not_true}
 use Rattle.rhai_productions.specs.Rules as P
 use Rattle.rhai_productions.specs.Rules.{production}
 use Rattle.rhai_productions.specs.Schema as S

@@ -1,48 +1,34 @@
 -- Each production is read as the reading program says: the table.
-use Rattle.std.proofs.Common.{Bool, Option, Some, None, List, [], ◌∷◌, refl}
-use Rattle.std.proofs.Common.{if◌then◌else◌}
-use Rattle.rhai_reading.specs.Reading as R
-use Rattle.rhai_reading.specs.Reading.{Goal, Val, Prog, Ret, Fail, Peek, Take, Call, Know, body}
-use Rattle.rhai_reading.specs.Moves.{Moves}
-use Rattle.rhai_productions.specs.Schema as S
-use Rattle.rhai_productions.specs.Schema.{Production, give, never, this, choose, if_next, must, knows, adds, due}
-use Rattle.rhai_productions.specs.Schema.{faultless, unless, run, run_from, stop}
-use Rattle.rhai_productions.specs.Rules as P
-use Rattle.rhai_productions.specs.Rules.{production}
-use Rattle.rhai_productions.specs.Agreement.{Agrees}
-use Rattle.rhai_productions.proofs.Looked.{Lawful, AgreesAt, equal, equal_at, at_once, look, again, taken, part_so}
-use Rattle.rhai_productions.proofs.Looked.{or_else, test, both}
+use Rattle.std.proofs.Common.{Bool, Option, Some, None, List, [], ◌∷◌, refl, if◌then◌else◌}
 use Rattle.rhai_grammar.specs.Statements.{statement_place}
 use Rattle.rhai_grammar.specs.Verdicts.{next_key}
 use Rattle.rhai_grammar.specs.Causes as cause
 use Rattle.rhai_grammar.specs.declared.due.DueToken.TheVariants as due_token
 use Rattle.rhai_grammar.specs.declared.list.CommaList.TheVariants as lists
 use Rattle.rhai_grammar.specs.declared.role.StatementStart.TheVariants as start
-use Rattle.rhai_grammar.specs.Prelude.{Lexeme, Position, refusal, Context, Live, text_of}
-use Rattle.rhai_grammar.specs.Prelude.{is_due}
-use Rattle.rhai_grammar.specs.Prelude.{is_global}
-use Rattle.rhai_grammar.specs.Prelude.{is_name, no_variable}
-use Rattle.rhai_grammar.specs.Prelude.{has_single_blocks}
-use Rattle.rhai_grammar.specs.Prelude.{after_part}
-use Rattle.rhai_grammar.specs.Prelude.{node_count}
-use Rattle.rhai_grammar.specs.Prelude.{Comment}
-use Rattle.rhai_grammar.specs.Prelude.{beginning, calling, linking}
-use Rattle.rhai_grammar.specs.Prelude.{follower_of, defines}
-use Rattle.rhai_grammar.specs.Prelude.{arm_place, parameter_place, item_place, operand_start}
-use Rattle.rhai_grammar.specs.Prelude.{statement_start, do_end}
-use Rattle.rhai_productions.specs.Schema.{name}
+use Rattle.rhai_grammar.specs.Prelude.{Lexeme, Position, refusal, Context, Live, text_of, is_due, is_global, is_name}
+use Rattle.rhai_grammar.specs.Prelude.{no_variable, has_single_blocks, after_part, node_count, Comment, beginning}
+use Rattle.rhai_grammar.specs.Prelude.{calling, linking, follower_of, defines, arm_place, parameter_place, item_place}
+use Rattle.rhai_grammar.specs.Prelude.{operand_start, statement_start, do_end}
 use Rattle.rhai_grammar.specs.declared.role.StatementStart.{StatementStart}
-use Rattle.rhai_productions.proofs.SameOperands.{same_items, same_element}
-use Rattle.rhai_productions.proofs.SameOperands.{same_key, same_field, same_called}
-use Rattle.rhai_productions.proofs.SameOperands.{same_postfix, same_links, same_index, same_member}
-use Rattle.rhai_productions.proofs.SameOperands.{same_operand, same_right, same_primary, same_segments, same_follower}
-use Rattle.rhai_productions.proofs.SameOperands.{same_binary}
-use Rattle.rhai_productions.proofs.SameStatements.{same_construct, same_guard}
-use Rattle.rhai_productions.proofs.SameStatements.{same_iterated, same_do_end}
+use Rattle.rhai_reading.specs.Reading as R
+use Rattle.rhai_reading.specs.Reading.{Goal, Val, Prog, Ret, Fail, Peek, Take, Call, Know, body}
+use Rattle.rhai_reading.specs.Moves.{Moves}
+use Rattle.rhai_productions.specs.Schema as S
+use Rattle.rhai_productions.specs.Schema.{Production, give, never, this, choose, if_next, must, knows, adds, due}
+use Rattle.rhai_productions.specs.Schema.{faultless, unless, run, run_from, stop, name}
+use Rattle.rhai_productions.specs.Rules as P
+use Rattle.rhai_productions.specs.Rules.{production}
+use Rattle.rhai_productions.specs.Agreement.{Agrees}
+use Rattle.rhai_productions.proofs.Looked.{Lawful, AgreesAt, equal, equal_at, at_once, look, again, taken, part_so}
+use Rattle.rhai_productions.proofs.Looked.{or_else, test, both}
+use Rattle.rhai_productions.proofs.SameOperands.{same_items, same_element, same_key, same_field, same_called}
+use Rattle.rhai_productions.proofs.SameOperands.{same_postfix, same_links, same_index, same_member, same_operand}
+use Rattle.rhai_productions.proofs.SameOperands.{same_right, same_primary, same_segments, same_follower, same_binary}
+use Rattle.rhai_productions.proofs.SameStatements.{same_construct, same_guard, same_iterated, same_do_end}
 use Rattle.rhai_productions.proofs.SameStatements.{same_statements, same_jump, same_evaluated, same_inside, same_arms}
-use Rattle.rhai_productions.proofs.SameStatements.{same_arm, same_action, same_arm_end, same_default_end}
-use Rattle.rhai_productions.proofs.SameStatements.{same_closure, same_head}
-use Rattle.rhai_productions.proofs.SameStatements.{same_parameters, same_parameter, same_counted}
+use Rattle.rhai_productions.proofs.SameStatements.{same_arm, same_action, same_arm_end, same_default_end, same_closure}
+use Rattle.rhai_productions.proofs.SameStatements.{same_head, same_parameters, same_parameter, same_counted}
 
 -- ---- where the reading program looks twice at one token
 

@@ -1,15 +1,7 @@
 -- Productions of operands, calls and lists are read as the reading program says.
 -- Each lemma goes by cases of what the next token decides, or of a fault; each case computes.
-use Rattle.std.proofs.Common.{◌≡◌, ℕ, Bool, true, false, Option, Some, None, refl}
-use Rattle.std.proofs.Common.{if◌then◌else◌}
+use Rattle.std.proofs.Common.{◌≡◌, ℕ, Bool, true, false, Option, Some, None, refl, if◌then◌else◌}
 use Rattle.std.specs.Prelude.{not, ◌&&◌}
-use Rattle.rhai_reading.specs.Reading as R
-use Rattle.rhai_reading.specs.Reading.{Goal, Val, Prog, Ret, Fail, Peek, Take, Call, Know, body}
-use Rattle.rhai_productions.specs.Schema as S
-use Rattle.rhai_productions.specs.Schema.{Production, give, never, this, choose, if_next, must, knows, adds, due}
-use Rattle.rhai_productions.specs.Schema.{faultless, unless, run, run_from, stop}
-use Rattle.rhai_productions.specs.Rules as P
-use Rattle.rhai_productions.specs.Rules.{production}
 use Rattle.rhai_grammar.specs.Causes as cause
 use Rattle.rhai_grammar.specs.declared.due.DueToken.TheVariants as due_token
 use Rattle.rhai_grammar.specs.declared.list.AfterPart.TheVariants as after
@@ -19,23 +11,15 @@ use Rattle.rhai_grammar.specs.declared.role.Calling.TheVariants as calls_by
 use Rattle.rhai_grammar.specs.declared.role.ItemPlace.TheVariants as place
 use Rattle.rhai_grammar.specs.declared.role.Linking.TheVariants as link
 use Rattle.rhai_grammar.specs.declared.role.OperandStart.TheVariants as first
-use Rattle.rhai_grammar.specs.Prelude.{Lexeme, Position, Refusal, refusal, Context, Live, Text, text_of, Node}
-use Rattle.rhai_grammar.specs.Prelude.{is_name}
-use Rattle.rhai_grammar.specs.Prelude.{with_node, braces}
-use Rattle.rhai_grammar.specs.Prelude.{Nodes, Properties, property, this as this_node}
-use Rattle.rhai_grammar.specs.Prelude.{with_property, position_of}
-use Rattle.rhai_grammar.specs.Prelude.{block_value, is_in_function, may_be_value}
-use Rattle.rhai_grammar.specs.Prelude.{is_qualified, module_fault, after_part, is_close}
-use Rattle.rhai_grammar.specs.Prelude.{KeyPlace, FieldsEnd, AKey, NoKey, has_key, LinkSpot, spot_after_operand, chained}
-use Rattle.rhai_grammar.specs.Prelude.{index_refusal}
-use Rattle.rhai_grammar.specs.Prelude.{last_fault, calls, may_be_called, is_this, MemberPlace, AMember, NoMember}
-use Rattle.rhai_grammar.specs.Prelude.{qualifies, added_text}
-use Rattle.rhai_grammar.specs.Prelude.{Follower, Operator, Unknown, Other, variable_of, is_variable}
-use Rattle.rhai_grammar.specs.Prelude.{call_tree, method_tree, may_be_closure}
-use Rattle.rhai_grammar.specs.Prelude.{calling}
-use Rattle.rhai_grammar.specs.Prelude.{member_place}
+use Rattle.rhai_grammar.specs.Prelude.{Lexeme, Position, Refusal, refusal, Context, Live, Text, text_of, Node, is_name}
+use Rattle.rhai_grammar.specs.Prelude.{with_node, braces, Nodes, Properties, property, this as this_node, with_property}
+use Rattle.rhai_grammar.specs.Prelude.{position_of, block_value, is_in_function, may_be_value, is_qualified}
+use Rattle.rhai_grammar.specs.Prelude.{module_fault, after_part, is_close, KeyPlace, FieldsEnd, AKey, NoKey, has_key}
+use Rattle.rhai_grammar.specs.Prelude.{LinkSpot, spot_after_operand, chained, index_refusal, last_fault, calls}
+use Rattle.rhai_grammar.specs.Prelude.{may_be_called, is_this, MemberPlace, AMember, NoMember, qualifies, added_text}
+use Rattle.rhai_grammar.specs.Prelude.{Follower, Operator, Unknown, Other, variable_of, is_variable, call_tree}
+use Rattle.rhai_grammar.specs.Prelude.{method_tree, may_be_closure, calling, member_place}
 use Rattle.rhai_grammar.specs.declared.list.AfterPart.{AfterPart}
-use Rattle.rhai_productions.specs.Schema.{name}
 use Rattle.rhai_grammar.specs.Verdicts.{no_path}
 use Rattle.rhai_grammar.specs.declared.list.CommaList.{CommaList}
 use Rattle.rhai_grammar.specs.declared.role.Beginning.{Beginning}
@@ -44,6 +28,13 @@ use Rattle.rhai_grammar.specs.declared.role.ItemPlace.{ItemPlace}
 use Rattle.rhai_grammar.specs.declared.role.Linking.{Linking}
 use Rattle.rhai_grammar.specs.declared.role.OperandStart.{OperandStart}
 use Rattle.rhai_grammar.specs.Beginnings.{is_list}
+use Rattle.rhai_reading.specs.Reading as R
+use Rattle.rhai_reading.specs.Reading.{Goal, Val, Prog, Ret, Fail, Peek, Take, Call, Know, body}
+use Rattle.rhai_productions.specs.Schema as S
+use Rattle.rhai_productions.specs.Schema.{Production, give, never, this, choose, if_next, must, knows, adds, due}
+use Rattle.rhai_productions.specs.Schema.{faultless, unless, run, run_from, stop, name}
+use Rattle.rhai_productions.specs.Rules as P
+use Rattle.rhai_productions.specs.Rules.{production}
 
 -- a branch is read as each of its sides is
 pub by_cases : {A : Type 0} (b : Bool) (p q : Production A) (s : Option (Lexeme × Position))

@@ -1,14 +1,6 @@
 -- Productions of statements, constructs and functions are read as the reading program says.
 -- Each lemma goes by cases of what the next token decides, or of a fault; each case computes.
-use Rattle.std.proofs.Common.{◌≡◌, Bool, true, false, Option, Some, None, List, [], ◌∷◌, ◌++◌, refl, ◌∙◌}
-use Rattle.std.proofs.Common.{if◌then◌else◌}
-use Rattle.rhai_reading.specs.Reading as R
-use Rattle.rhai_reading.specs.Reading.{Goal, Val, Prog, Ret, Fail, Peek, Take, Call, Know, body}
-use Rattle.rhai_productions.specs.Schema as S
-use Rattle.rhai_productions.specs.Schema.{Production, give, never, this, choose, if_next, must, knows, adds, due}
-use Rattle.rhai_productions.specs.Schema.{faultless, unless, run, run_from, stop}
-use Rattle.rhai_productions.specs.Rules as P
-use Rattle.rhai_productions.specs.Rules.{production}
+use Rattle.std.proofs.Common.{◌≡◌, Bool, true, false, Option, Some, None, List, [], ◌∷◌, ◌++◌, refl, ◌∙◌, if◌then◌else◌}
 use Rattle.rhai_lower.specs.Nodes as node
 use Rattle.rhai_grammar.specs.Causes as cause
 use Rattle.rhai_grammar.specs.declared.due.DueToken.TheVariants as due_token
@@ -21,20 +13,13 @@ use Rattle.rhai_grammar.specs.declared.role.ArmPlace.TheVariants as arm
 use Rattle.rhai_grammar.specs.declared.role.Bars.TheVariants as bars
 use Rattle.rhai_grammar.specs.declared.role.Calling.TheVariants as calls_by
 use Rattle.rhai_grammar.specs.declared.role.ItemPlace.TheVariants as place
-use Rattle.rhai_grammar.specs.Prelude.{Lexeme, Position, Refusal, refusal, Context, Live, Text, text_of, Node}
-use Rattle.rhai_grammar.specs.Prelude.{is_due, is_assignment, expression, made_block, absent, assignment, target_fault}
-use Rattle.rhai_grammar.specs.Prelude.{is_constant_use}
-use Rattle.rhai_grammar.specs.Prelude.{is_name, same_text, guard_expected, no_assignment, guard_fault}
-use Rattle.rhai_grammar.specs.Prelude.{iterated_fault}
-use Rattle.rhai_grammar.specs.Prelude.{ends_itself, with_kept, Nodes, no_nodes}
-use Rattle.rhai_grammar.specs.Prelude.{present}
-use Rattle.rhai_grammar.specs.Prelude.{after_part}
-use Rattle.rhai_grammar.specs.Prelude.{starts, arm_fault}
-use Rattle.rhai_grammar.specs.Prelude.{Collected, duplicate_of, is_new}
-use Rattle.rhai_grammar.specs.Prelude.{is_type, may_begin}
+use Rattle.rhai_grammar.specs.Prelude.{Lexeme, Position, Refusal, refusal, Context, Live, Text, text_of, Node, is_due}
+use Rattle.rhai_grammar.specs.Prelude.{is_assignment, expression, made_block, absent, assignment, target_fault}
+use Rattle.rhai_grammar.specs.Prelude.{is_constant_use, is_name, same_text, guard_expected, no_assignment, guard_fault}
+use Rattle.rhai_grammar.specs.Prelude.{iterated_fault, ends_itself, with_kept, Nodes, no_nodes, present, after_part}
+use Rattle.rhai_grammar.specs.Prelude.{starts, arm_fault, Collected, duplicate_of, is_new, is_type, may_begin}
 use Rattle.rhai_grammar.specs.Prelude.{no_function_name, parameters_live, is_among, Use, closure_node, ended_closure}
-use Rattle.rhai_grammar.specs.Prelude.{in_closure, is_captured, may_capture}
-use Rattle.rhai_grammar.specs.Prelude.{not_due, has_room, level_up, closure_count}
+use Rattle.rhai_grammar.specs.Prelude.{in_closure, is_captured, may_capture, not_due, has_room, level_up, closure_count}
 use Rattle.rhai_grammar.specs.Prelude.{token_after_statement}
 use Rattle.rhai_grammar.specs.Targets.{update_of}
 use Rattle.rhai_grammar.specs.declared.role.Construct.{Construct as Kind}
@@ -42,12 +27,18 @@ use Rattle.rhai_grammar.specs.declared.role.AfterStatement.{AfterStatement}
 use Rattle.rhai_grammar.specs.declared.role.Closing.{Closing}
 use Rattle.rhai_grammar.specs.declared.role.StatementPlace.{StatementPlace}
 use Rattle.rhai_grammar.specs.declared.list.AfterPart.{AfterPart}
-use Rattle.rhai_productions.specs.Schema.{name}
 use Rattle.rhai_grammar.specs.declared.list.CommaList.{CommaList}
 use Rattle.rhai_grammar.specs.declared.role.ArmPlace.{ArmPlace}
 use Rattle.rhai_grammar.specs.declared.role.Bars.{Bars}
 use Rattle.rhai_grammar.specs.declared.role.Calling.{Calling}
 use Rattle.rhai_grammar.specs.declared.role.ItemPlace.{ItemPlace}
+use Rattle.rhai_reading.specs.Reading as R
+use Rattle.rhai_reading.specs.Reading.{Goal, Val, Prog, Ret, Fail, Peek, Take, Call, Know, body}
+use Rattle.rhai_productions.specs.Schema as S
+use Rattle.rhai_productions.specs.Schema.{Production, give, never, this, choose, if_next, must, knows, adds, due}
+use Rattle.rhai_productions.specs.Schema.{faultless, unless, run, run_from, stop, name}
+use Rattle.rhai_productions.specs.Rules as P
+use Rattle.rhai_productions.specs.Rules.{production}
 use Rattle.rhai_productions.proofs.SameOperands.{by_cases, turned, same_tested, same_parted}
 
 -- the level is raised in either case

@@ -1,35 +1,26 @@
 -- Each production is alike up to positions: the table, and the law.
-use Rattle.rhai_productions.specs.Shaped.{TreesKeepShape}
-use Rattle.std.proofs.Common.{◌≡◌, [], Option, refl, ap, ◌∙◌}
-use Rattle.std.proofs.Common.{sym, subst}
+use Rattle.std.proofs.Common.{◌≡◌, [], Option, refl, ap, ◌∙◌, sym, subst}
+use Rattle.std.specs.Prelude.{◌==◌, unwrap_or}
+use Rattle.rhai_lower.specs.Nodes as node
+use Rattle.rhai_grammar.specs.Statements.{statement_place}
+use Rattle.rhai_grammar.specs.Verdicts.{next_key}
+use Rattle.rhai_grammar.specs.Literals.{key_place}
+use Rattle.rhai_grammar.specs.Settings.{quoted_keys}
+use Rattle.rhai_grammar.specs.Shapes.{node_shape, statements_shape, block_shape}
+use Rattle.rhai_grammar.specs.declared.list.CommaList.TheVariants as lists
+use Rattle.rhai_grammar.specs.Prelude.{Context, Live, Text, text_of, Node, nowhere, expression, is_name}
+use Rattle.rhai_grammar.specs.Prelude.{has_single_blocks, after_part, property_count, node_count, imported}
+use Rattle.rhai_grammar.specs.Prelude.{parameters_live, beginning, calling, linking, follower_of, defines, arm_place}
+use Rattle.rhai_grammar.specs.Prelude.{parameter_place, item_place, operand_start, statement_start, do_end}
 use Rattle.rhai_reading.specs.Reading as R
 use Rattle.rhai_reading.specs.Reading.{Goal, Val}
+use Rattle.rhai_productions.specs.Shaped.{TreesKeepShape, Code}
 use Rattle.rhai_productions.specs.Rules as P
 use Rattle.rhai_productions.specs.Rules.{production}
 use Rattle.rhai_productions.specs.Derived as F
 use Rattle.rhai_productions.specs.Derived.{given, take, this, if_so, if_not, choose, here, must, knows, adds, uses}
 use Rattle.rhai_productions.specs.Derived.{captures, part, literal, apart, in_text, form}
 use Rattle.rhai_productions.specs.Shaped as Z
-use Rattle.rhai_productions.specs.Shaped.{Code}
-use Rattle.rhai_grammar.specs.Statements.{statement_place}
-use Rattle.rhai_grammar.specs.Verdicts.{next_key}
-use Rattle.rhai_grammar.specs.Literals.{key_place}
-use Rattle.rhai_grammar.specs.Settings.{quoted_keys}
-use Rattle.std.specs.Prelude.{◌==◌, unwrap_or}
-use Rattle.rhai_grammar.specs.Shapes.{node_shape}
-use Rattle.rhai_grammar.specs.Shapes.{statements_shape, block_shape}
-use Rattle.rhai_lower.specs.Nodes as node
-use Rattle.rhai_grammar.specs.declared.list.CommaList.TheVariants as lists
-use Rattle.rhai_grammar.specs.Prelude.{Context, Live, Text, text_of, Node, nowhere, expression}
-use Rattle.rhai_grammar.specs.Prelude.{is_name}
-use Rattle.rhai_grammar.specs.Prelude.{has_single_blocks}
-use Rattle.rhai_grammar.specs.Prelude.{after_part, property_count}
-use Rattle.rhai_grammar.specs.Prelude.{node_count}
-use Rattle.rhai_grammar.specs.Prelude.{imported}
-use Rattle.rhai_grammar.specs.Prelude.{parameters_live}
-use Rattle.rhai_grammar.specs.Prelude.{beginning, calling, linking, follower_of, defines, arm_place}
-use Rattle.rhai_grammar.specs.Prelude.{parameter_place}
-use Rattle.rhai_grammar.specs.Prelude.{item_place, operand_start, statement_start, do_end}
 use Rattle.rhai_productions.proofs.Likeness.{keeps}
 use Rattle.rhai_productions.proofs.NearGoals.{Near, Equal, wholes, expressions_, operands, rights, primaries, calleds}
 use Rattle.rhai_productions.proofs.NearGoals.{paths, chains_, indices, members, postfixes, argument_lists, item_lists}
@@ -41,17 +32,12 @@ use Rattle.rhai_productions.proofs.NearGoals.{branches, variables, catches, do_e
 use Rattle.rhai_productions.proofs.NearGoals.{case_lists, cases_, case_guards, actions, arm_ends, default_ends}
 use Rattle.rhai_productions.proofs.NearGoals.{comments_, function_statements, functions, heads, parameter_lists}
 use Rattle.rhai_productions.proofs.NearGoals.{parameters_, closures, closure_bodies}
-use Rattle.rhai_productions.proofs.TreeShapes.{node_added}
-use Rattle.rhai_productions.proofs.TreeShapes.{made_so}
-use Rattle.rhai_productions.proofs.TreeShapes.{method_so, qualified_so}
-use Rattle.rhai_productions.proofs.TreeShapes.{count_shape, fields_shape}
+use Rattle.rhai_productions.proofs.TreeShapes.{node_added, made_so, method_so, qualified_so, count_shape, fields_shape}
 use Rattle.rhai_productions.proofs.ShapesOfOperands.{LikeIn, like_if, OnNodes, OnLists, OnStatements, construct}
-use Rattle.rhai_productions.proofs.ShapesOfOperands.{operand, right, primary, called, call_like}
-use Rattle.rhai_productions.proofs.ShapesOfOperands.{links, parted, element, OnKeys, key, field}
-use Rattle.rhai_productions.proofs.ShapesOfOperands.{follower, binary}
-use Rattle.rhai_productions.proofs.ShapesOfStatements.{export, statement, OnScripts}
-use Rattle.rhai_productions.proofs.ShapesOfStatements.{statements, inside, do_end_like, arms, action, arm_end}
-use Rattle.rhai_productions.proofs.ShapesOfStatements.{default_end, parameter_list, parameter}
+use Rattle.rhai_productions.proofs.ShapesOfOperands.{operand, right, primary, called, call_like, links, parted, element}
+use Rattle.rhai_productions.proofs.ShapesOfOperands.{OnKeys, key, field, follower, binary}
+use Rattle.rhai_productions.proofs.ShapesOfStatements.{export, statement, OnScripts, statements, inside, do_end_like}
+use Rattle.rhai_productions.proofs.ShapesOfStatements.{arms, action, arm_end, default_end, parameter_list, parameter}
 use Rattle.rhai_productions.proofs.ShapesOfStatements.{closure_by, definition, segments}
 
 like : (g h : Goal) (a : Near g h) → LikeIn (Equal g h a) (production g) (production h)

@@ -1,16 +1,9 @@
 -- Productions of operands, calls and lists are alike up to positions. Each lemma is of the rule of its name, and goes
 -- by cases of what the next token decides.
-use Rattle.std.proofs.Common.{◌≡◌, ℕ, Bool, true, false, List, Option, Some, None, refl, ap, ◌∙◌}
-use Rattle.std.proofs.Common.{sym, if◌then◌else◌}
+use Rattle.std.proofs.Common.{◌≡◌, ℕ, Bool, true, false, List, Option, Some, None, refl, ap, ◌∙◌, sym, if◌then◌else◌}
 use Rattle.std.specs.Prelude.{option_map}
-use Rattle.rhai_reading.specs.Reading as R
-use Rattle.rhai_reading.specs.Reading.{Goal, Val}
-use Rattle.rhai_productions.specs.Schema.{Production}
-use Rattle.rhai_productions.specs.Rules as P
-use Rattle.rhai_productions.specs.Rules.{production}
-use Rattle.rhai_grammar.specs.Shapes.{node_shape, nodes_shape, properties_shape, statement_shape}
-use Rattle.rhai_grammar.proofs.ShapeSteps.{value, link_shapes}
 use Rattle.rhai_lower.specs.Nodes as node
+use Rattle.rhai_grammar.specs.Shapes.{node_shape, nodes_shape, properties_shape, statement_shape}
 use Rattle.rhai_grammar.specs.declared.role.Construct.TheVariants as kind
 use Rattle.rhai_grammar.specs.declared.list.AfterPart.TheVariants as after
 use Rattle.rhai_grammar.specs.declared.list.CommaList.TheVariants as lists
@@ -19,40 +12,33 @@ use Rattle.rhai_grammar.specs.declared.role.Calling.TheVariants as calls_by
 use Rattle.rhai_grammar.specs.declared.role.ItemPlace.TheVariants as place
 use Rattle.rhai_grammar.specs.declared.role.Linking.TheVariants as link
 use Rattle.rhai_grammar.specs.declared.role.OperandStart.TheVariants as first
-use Rattle.rhai_grammar.specs.Prelude.{Lexeme, Position, Context, Live, Text, text_of, Node, nowhere}
-use Rattle.rhai_grammar.specs.Prelude.{catch_live, loop_live}
-use Rattle.rhai_grammar.specs.Prelude.{Nodes, Properties, no_nodes}
-use Rattle.rhai_grammar.specs.Prelude.{with_property, may_be_value}
-use Rattle.rhai_grammar.specs.Prelude.{after_part, KeyPlace, FieldsEnd, AKey, NoKey, Link}
-use Rattle.rhai_grammar.specs.Prelude.{is_this, MemberPlace, AMember, NoMember}
-use Rattle.rhai_grammar.specs.Prelude.{Follower, Operator}
-use Rattle.rhai_grammar.specs.Prelude.{Unknown, Other, bracket_link, member_link}
-use Rattle.rhai_grammar.specs.Prelude.{may_be_closure}
-use Rattle.rhai_grammar.specs.Prelude.{calling}
-use Rattle.rhai_grammar.specs.Prelude.{member_place}
+use Rattle.rhai_grammar.specs.Prelude.{Lexeme, Position, Context, Live, Text, text_of, Node, nowhere, catch_live}
+use Rattle.rhai_grammar.specs.Prelude.{loop_live, Nodes, Properties, no_nodes, with_property, may_be_value, after_part}
+use Rattle.rhai_grammar.specs.Prelude.{KeyPlace, FieldsEnd, AKey, NoKey, Link, is_this, MemberPlace, AMember, NoMember}
+use Rattle.rhai_grammar.specs.Prelude.{Follower, Operator, Unknown, Other, bracket_link, member_link, may_be_closure}
+use Rattle.rhai_grammar.specs.Prelude.{calling, member_place}
 use Rattle.rhai_grammar.specs.declared.role.Construct.{Construct as Kind}
 use Rattle.rhai_grammar.specs.declared.list.AfterPart.{AfterPart}
-use Rattle.rhai_productions.specs.Schema.{stop}
 use Rattle.rhai_grammar.specs.declared.list.CommaList.{CommaList}
 use Rattle.rhai_grammar.specs.declared.role.Beginning.{Beginning}
 use Rattle.rhai_grammar.specs.declared.role.Calling.{Calling}
 use Rattle.rhai_grammar.specs.declared.role.ItemPlace.{ItemPlace}
 use Rattle.rhai_grammar.specs.declared.role.Linking.{Linking}
 use Rattle.rhai_grammar.specs.declared.role.OperandStart.{OperandStart}
+use Rattle.rhai_grammar.proofs.ShapeSteps.{value, link_shapes}
+use Rattle.rhai_reading.specs.Reading as R
+use Rattle.rhai_reading.specs.Reading.{Goal, Val}
+use Rattle.rhai_productions.specs.Schema.{Production, stop}
+use Rattle.rhai_productions.specs.Rules as P
+use Rattle.rhai_productions.specs.Rules.{production}
 use Rattle.rhai_productions.proofs.Likeness.{Like}
-use Rattle.rhai_productions.proofs.NearGoals.{Near, Equal, expressions_, operands, rights, primaries, calleds}
-use Rattle.rhai_productions.proofs.NearGoals.{chains_, indices, members, postfixes, argument_lists}
-use Rattle.rhai_productions.proofs.NearGoals.{element_lists, field_lists, segment_lists, followers}
-use Rattle.rhai_productions.proofs.NearGoals.{runs_}
-use Rattle.rhai_productions.proofs.NearGoals.{statements_, blocks}
-use Rattle.rhai_productions.proofs.NearGoals.{constructs, braced_blocks, guards, iterated_, conditionals}
-use Rattle.rhai_productions.proofs.NearGoals.{variables, catches, do_ends, arm_lists}
-use Rattle.rhai_productions.proofs.NearGoals.{closures}
-use Rattle.rhai_productions.proofs.TreeShapes.{node_added}
-use Rattle.rhai_productions.proofs.TreeShapes.{property_added, text_added}
-use Rattle.rhai_productions.proofs.TreeShapes.{value_so, signed_so, chained_so, operator_so, call_so}
-use Rattle.rhai_productions.proofs.TreeShapes.{link_so}
-use Rattle.rhai_productions.proofs.TreeShapes.{switch_so, catch_so}
+use Rattle.rhai_productions.proofs.NearGoals.{Near, Equal, expressions_, operands, rights, primaries, calleds, chains_}
+use Rattle.rhai_productions.proofs.NearGoals.{indices, members, postfixes, argument_lists, element_lists, field_lists}
+use Rattle.rhai_productions.proofs.NearGoals.{segment_lists, followers, runs_, statements_, blocks, constructs}
+use Rattle.rhai_productions.proofs.NearGoals.{braced_blocks, guards, iterated_, conditionals, variables, catches}
+use Rattle.rhai_productions.proofs.NearGoals.{do_ends, arm_lists, closures}
+use Rattle.rhai_productions.proofs.TreeShapes.{node_added, property_added, text_added, value_so, signed_so, chained_so}
+use Rattle.rhai_productions.proofs.TreeShapes.{operator_so, call_so, link_so, switch_so, catch_so}
 
 abbrev pub LikeIn : {A B : Type 0} → (A → B → Type 0) → Production A → Production B → Type 0
 LikeIn = Like Near Equal

@@ -1,20 +1,12 @@
 -- Productions of statements, constructs and functions are alike up to positions.
 -- Each lemma is of the rule of its name, and goes by cases of what the next token decides.
-use Rattle.std.proofs.Common.{◌≡◌, Bool, true, false, List, [], ◌∷◌, ◌++◌, Option, Some, None, refl, ap, ◌∙◌}
-use Rattle.std.proofs.Common.{sym, subst, if◌then◌else◌}
-use Rattle.rhai_reading.specs.Reading as R
-use Rattle.rhai_reading.specs.Reading.{Goal, Val}
-use Rattle.rhai_productions.specs.Schema as S
-use Rattle.rhai_productions.specs.Schema.{Production, View, view}
-use Rattle.rhai_productions.specs.Rules as P
-use Rattle.rhai_productions.specs.Rules.{production}
-use Rattle.rhai_grammar.specs.declared.role.StatementPlace.TheVariants as st
+use Rattle.std.proofs.Common.{◌≡◌, Bool, true, false, List, [], ◌∷◌, ◌++◌, Option, Some, None, refl, ap, ◌∙◌, sym}
+use Rattle.std.proofs.Common.{subst, if◌then◌else◌}
 use Rattle.std.specs.Prelude.{unwrap_or}
-use Rattle.rhai_grammar.specs.Definitions.{reused}
-use Rattle.rhai_grammar.specs.Shapes.{node_shape, nodes_shape, statement_shape}
-use Rattle.rhai_grammar.specs.Shapes.{statements_shape}
-use Rattle.rhai_grammar.proofs.SwitchLemmas.{collected_shape}
 use Rattle.rhai_lower.specs.Nodes as node
+use Rattle.rhai_grammar.specs.declared.role.StatementPlace.TheVariants as st
+use Rattle.rhai_grammar.specs.Definitions.{reused}
+use Rattle.rhai_grammar.specs.Shapes.{node_shape, nodes_shape, statement_shape, statements_shape}
 use Rattle.rhai_grammar.specs.declared.role.AfterStatement.TheVariants as ends
 use Rattle.rhai_grammar.specs.declared.list.AfterPart.TheVariants as after
 use Rattle.rhai_grammar.specs.declared.role.ArmPlace.TheVariants as arm
@@ -22,42 +14,34 @@ use Rattle.rhai_grammar.specs.declared.role.Bars.TheVariants as bars
 use Rattle.rhai_grammar.specs.declared.role.Calling.TheVariants as calls_by
 use Rattle.rhai_grammar.specs.declared.role.ItemPlace.TheVariants as place
 use Rattle.rhai_grammar.specs.declared.role.StatementStart.TheVariants as start
-use Rattle.rhai_grammar.specs.Prelude.{Position, Context, Live, Text, text_of, Node, nowhere}
-use Rattle.rhai_grammar.specs.Prelude.{ends_itself, with_kept}
-use Rattle.rhai_grammar.specs.Prelude.{definition_tree, defined_as, Nodes}
-use Rattle.rhai_grammar.specs.Prelude.{after_part}
-use Rattle.rhai_grammar.specs.Prelude.{added_text}
-use Rattle.rhai_grammar.specs.Prelude.{export_tree}
-use Rattle.rhai_grammar.specs.Prelude.{exported, Comment, Collected, ends_arm}
-use Rattle.rhai_grammar.specs.Prelude.{Use}
-use Rattle.rhai_grammar.specs.Prelude.{statement_start, token_after_statement}
-use Rattle.rhai_grammar.specs.Prelude.{names_of}
+use Rattle.rhai_grammar.specs.Prelude.{Position, Context, Live, Text, text_of, Node, nowhere, ends_itself, with_kept}
+use Rattle.rhai_grammar.specs.Prelude.{definition_tree, defined_as, Nodes, after_part, added_text, export_tree}
+use Rattle.rhai_grammar.specs.Prelude.{exported, Comment, Collected, ends_arm, Use, statement_start}
+use Rattle.rhai_grammar.specs.Prelude.{token_after_statement, names_of}
 use Rattle.rhai_grammar.specs.declared.role.AfterStatement.{AfterStatement}
 use Rattle.rhai_grammar.specs.declared.role.Closing.{Closing}
 use Rattle.rhai_grammar.specs.declared.role.StatementPlace.{StatementPlace}
 use Rattle.rhai_grammar.specs.declared.list.AfterPart.{AfterPart}
-use Rattle.rhai_productions.specs.Schema.{name, stop}
 use Rattle.rhai_grammar.specs.declared.list.CommaList.{CommaList}
 use Rattle.rhai_grammar.specs.declared.role.ArmPlace.{ArmPlace}
 use Rattle.rhai_grammar.specs.declared.role.Bars.{Bars}
 use Rattle.rhai_grammar.specs.declared.role.Calling.{Calling}
 use Rattle.rhai_grammar.specs.declared.role.ItemPlace.{ItemPlace}
 use Rattle.rhai_grammar.specs.declared.role.StatementStart.{StatementStart}
-use Rattle.rhai_productions.proofs.NearGoals.{expressions_}
-use Rattle.rhai_productions.proofs.NearGoals.{segment_lists, jumps}
-use Rattle.rhai_productions.proofs.NearGoals.{evaluations, names_, initializers, definitions, imports_, exports}
-use Rattle.rhai_productions.proofs.NearGoals.{aliases, statements_, statement_lists}
-use Rattle.rhai_productions.proofs.NearGoals.{constructs}
-use Rattle.rhai_productions.proofs.NearGoals.{arm_lists, arms_, default_arms}
-use Rattle.rhai_productions.proofs.NearGoals.{comments_, function_statements}
-use Rattle.rhai_productions.proofs.NearGoals.{parameters_, closure_bodies}
-use Rattle.rhai_productions.proofs.TreeShapes.{text_added}
-use Rattle.rhai_productions.proofs.TreeShapes.{kept_added, ends_shape, ends_arm_shape}
-use Rattle.rhai_productions.proofs.TreeShapes.{value_so}
-use Rattle.rhai_productions.proofs.TreeShapes.{arm_so, default_so}
-use Rattle.rhai_productions.proofs.TreeShapes.{closure_so}
-use Rattle.rhai_productions.proofs.ShapesOfOperands.{LikeIn, OnNodes, OnLists, OnBoth}
-use Rattle.rhai_productions.proofs.ShapesOfOperands.{parted}
+use Rattle.rhai_grammar.proofs.SwitchLemmas.{collected_shape}
+use Rattle.rhai_reading.specs.Reading as R
+use Rattle.rhai_reading.specs.Reading.{Goal, Val}
+use Rattle.rhai_productions.specs.Schema as S
+use Rattle.rhai_productions.specs.Schema.{Production, View, view, name, stop}
+use Rattle.rhai_productions.specs.Rules as P
+use Rattle.rhai_productions.specs.Rules.{production}
+use Rattle.rhai_productions.proofs.NearGoals.{expressions_, segment_lists, jumps, evaluations, names_, initializers}
+use Rattle.rhai_productions.proofs.NearGoals.{definitions, imports_, exports, aliases, statements_, statement_lists}
+use Rattle.rhai_productions.proofs.NearGoals.{constructs, arm_lists, arms_, default_arms, comments_}
+use Rattle.rhai_productions.proofs.NearGoals.{function_statements, parameters_, closure_bodies}
+use Rattle.rhai_productions.proofs.TreeShapes.{text_added, kept_added, ends_shape, ends_arm_shape, value_so, arm_so}
+use Rattle.rhai_productions.proofs.TreeShapes.{default_so, closure_so}
+use Rattle.rhai_productions.proofs.ShapesOfOperands.{LikeIn, OnNodes, OnLists, OnBoth, parted}
 
 pub export : (c : Context) (w : Live) (at pos : Position) (v : Option Bool) → LikeIn OnBoth (P.export_by c w at v)
     (P.export_by c w pos v)

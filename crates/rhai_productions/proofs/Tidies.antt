@@ -1,15 +1,9 @@
 -- What is refused by a test in a production has a position of its own. Each lemma is of the rule of its name, and
 -- goes by cases of what the next token decides.
 use Rattle.std.proofs.Common.{ℕ, Bool, true, false, Option, Some, None, List, [], ◌∷◌, refl, if◌then◌else◌}
-use Rattle.rhai_reading.specs.Reading as R
-use Rattle.rhai_reading.specs.Reading.{Goal}
-use Rattle.rhai_productions.specs.Schema.{Production}
-use Rattle.rhai_productions.specs.Rules as P
-use Rattle.rhai_productions.specs.Rules.{production}
-use Rattle.rhai_productions.specs.Tidiness.{Tidy}
-use Rattle.rhai_grammar.specs.Switches.{arm_count}
 use Rattle.rhai_lower.specs.Nodes.{start_of, method_call, variable}
 use Rattle.rhai_lower.specs.Nodes as node
+use Rattle.rhai_grammar.specs.Switches.{arm_count}
 use Rattle.rhai_grammar.specs.declared.role.Construct.TheVariants as kind
 use Rattle.rhai_grammar.specs.declared.role.AfterStatement.TheVariants as ends
 use Rattle.rhai_grammar.specs.declared.role.StatementPlace.TheVariants as stands
@@ -23,21 +17,17 @@ use Rattle.rhai_grammar.specs.declared.role.ItemPlace.TheVariants as place
 use Rattle.rhai_grammar.specs.declared.role.Linking.TheVariants as link
 use Rattle.rhai_grammar.specs.declared.role.OperandStart.TheVariants as first
 use Rattle.rhai_grammar.specs.declared.role.StatementStart.TheVariants as start
-use Rattle.rhai_grammar.specs.Prelude.{Lexeme, Position, Context, Live, Text, text_of, Node}
-use Rattle.rhai_grammar.specs.Prelude.{target_fault, is_constant_use, is_name, guard_fault, iterated_fault}
-use Rattle.rhai_grammar.specs.Prelude.{ends_itself, with_kept, Nodes}
-use Rattle.rhai_grammar.specs.Prelude.{Properties, has_single_blocks, may_be_value, module_fault}
-use Rattle.rhai_grammar.specs.Prelude.{KeyPlace, FieldsEnd, AKey}
-use Rattle.rhai_grammar.specs.Prelude.{NoKey, LinkSpot, index_refusal, last_fault, is_this, MemberPlace, AMember}
-use Rattle.rhai_grammar.specs.Prelude.{NoMember}
-use Rattle.rhai_grammar.specs.Prelude.{arm_fault, Follower, Operator, Unknown, Other, may_be_closure, Comment}
-use Rattle.rhai_grammar.specs.Prelude.{Collected, Use}
+use Rattle.rhai_grammar.specs.Prelude.{Lexeme, Position, Context, Live, Text, text_of, Node, target_fault}
+use Rattle.rhai_grammar.specs.Prelude.{is_constant_use, is_name, guard_fault, iterated_fault, ends_itself, with_kept}
+use Rattle.rhai_grammar.specs.Prelude.{Nodes, Properties, has_single_blocks, may_be_value, module_fault, KeyPlace}
+use Rattle.rhai_grammar.specs.Prelude.{FieldsEnd, AKey, NoKey, LinkSpot, index_refusal, last_fault, is_this}
+use Rattle.rhai_grammar.specs.Prelude.{MemberPlace, AMember, NoMember, arm_fault, Follower, Operator, Unknown, Other}
+use Rattle.rhai_grammar.specs.Prelude.{may_be_closure, Comment, Collected, Use}
 use Rattle.rhai_grammar.specs.declared.role.Construct.{Construct as Kind}
 use Rattle.rhai_grammar.specs.declared.role.AfterStatement.{AfterStatement}
 use Rattle.rhai_grammar.specs.declared.role.Closing.{Closing}
 use Rattle.rhai_grammar.specs.declared.role.StatementPlace.{StatementPlace}
 use Rattle.rhai_grammar.specs.declared.list.AfterPart.{AfterPart}
-use Rattle.rhai_productions.specs.Schema.{name}
 use Rattle.rhai_grammar.specs.declared.list.CommaList.{CommaList}
 use Rattle.rhai_grammar.specs.declared.role.ArmPlace.{ArmPlace}
 use Rattle.rhai_grammar.specs.declared.role.Bars.{Bars}
@@ -48,10 +38,14 @@ use Rattle.rhai_grammar.specs.declared.role.Linking.{Linking}
 use Rattle.rhai_grammar.specs.declared.role.OperandStart.{OperandStart}
 use Rattle.rhai_grammar.specs.declared.role.StatementStart.{StatementStart}
 use Rattle.rhai_grammar.specs.Beginnings.{is_list}
-use Rattle.rhai_productions.proofs.Faults.{no_fault, last_early, index_early}
-use Rattle.rhai_productions.proofs.Faults.{module_early, guard_early, iterated_early}
-use Rattle.rhai_productions.proofs.Faults.{target_early}
-use Rattle.rhai_productions.proofs.Faults.{fault_early, bang_early}
+use Rattle.rhai_reading.specs.Reading as R
+use Rattle.rhai_reading.specs.Reading.{Goal}
+use Rattle.rhai_productions.specs.Schema.{Production, name}
+use Rattle.rhai_productions.specs.Rules as P
+use Rattle.rhai_productions.specs.Rules.{production}
+use Rattle.rhai_productions.specs.Tidiness.{Tidy}
+use Rattle.rhai_productions.proofs.Faults.{no_fault, last_early, index_early, module_early, guard_early, iterated_early}
+use Rattle.rhai_productions.proofs.Faults.{target_early, fault_early, bang_early}
 
 -- ---- the productions
 

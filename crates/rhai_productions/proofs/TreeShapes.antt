@@ -1,29 +1,21 @@
 -- Trees that are made of parts that are equal up to positions.
-use Rattle.std.proofs.Common.{◌≡◌, ℕ, Bool, List, [], ◌∷◌, ◌++◌, Option, Some, None, length, refl, ap, ◌∙◌}
-use Rattle.std.proofs.Common.{sym}
+use Rattle.std.proofs.Common.{◌≡◌, ℕ, Bool, List, [], ◌∷◌, ◌++◌, Option, Some, None, length, refl, ap, ◌∙◌, sym}
 use Rattle.std.specs.Prelude.{option_map}
+use Rattle.rhai_lower.specs.Nodes as node
 use Rattle.rhai_grammar.specs.Shapes as shape
 use Rattle.rhai_grammar.specs.Modules.{root_of}
 use Rattle.rhai_grammar.specs.Shapes.{node_shape, nodes_shape, optional_shape, properties_shape, statement_shape}
 use Rattle.rhai_grammar.specs.Shapes.{statements_shape, block_shape}
-use Rattle.rhai_grammar.proofs.ShapeSteps.{stands, call, method, sign_effect, join_tree, link_shapes, chains}
-use Rattle.rhai_grammar.proofs.SwitchLemmas.{arm as arm_shape, collected_shape, default_arm as default_shape}
 use Rattle.rhai_grammar.specs.Operators.{joining, joined_tree}
 use Rattle.rhai_grammar.specs.Signs.{effect, plain_sign, affected}
-use Rattle.rhai_lower.specs.Nodes as node
-use Rattle.rhai_grammar.specs.Prelude.{Lexeme, Position, Live, Text, Node, nowhere, expression}
-use Rattle.rhai_grammar.specs.Prelude.{made_block, caught_name, catch_node, with_node}
-use Rattle.rhai_grammar.specs.Prelude.{ends_itself, with_kept}
-use Rattle.rhai_grammar.specs.Prelude.{switch_tree, Nodes, Properties, no_nodes}
-use Rattle.rhai_grammar.specs.Prelude.{with_property}
-use Rattle.rhai_grammar.specs.Prelude.{qualified, property_count, Link}
-use Rattle.rhai_grammar.specs.Prelude.{chained}
-use Rattle.rhai_grammar.specs.Prelude.{added_text, signed, operator_tree}
-use Rattle.rhai_grammar.specs.Prelude.{node_count, call_tree, method_tree}
-use Rattle.rhai_grammar.specs.Prelude.{Collected, ends_arm, with_arm_collected}
-use Rattle.rhai_grammar.specs.Prelude.{with_default_collected, Use}
-use Rattle.rhai_grammar.specs.Prelude.{closure_node}
-use Rattle.rhai_grammar.specs.Prelude.{captured_nodes, names_of, shared_names}
+use Rattle.rhai_grammar.specs.Prelude.{Lexeme, Position, Live, Text, Node, nowhere, expression, made_block, caught_name}
+use Rattle.rhai_grammar.specs.Prelude.{catch_node, with_node, ends_itself, with_kept, switch_tree, Nodes, Properties}
+use Rattle.rhai_grammar.specs.Prelude.{no_nodes, with_property, qualified, property_count, Link, chained, added_text}
+use Rattle.rhai_grammar.specs.Prelude.{signed, operator_tree, node_count, call_tree, method_tree, Collected, ends_arm}
+use Rattle.rhai_grammar.specs.Prelude.{with_arm_collected, with_default_collected, Use, closure_node, captured_nodes}
+use Rattle.rhai_grammar.specs.Prelude.{names_of, shared_names}
+use Rattle.rhai_grammar.proofs.ShapeSteps.{stands, call, method, sign_effect, join_tree, link_shapes, chains}
+use Rattle.rhai_grammar.proofs.SwitchLemmas.{arm as arm_shape, collected_shape, default_arm as default_shape}
 
 pub path_append : (a b : List (Text × Position)) → shape.path_shape (a ++ b) ≡ shape.path_shape a ++ shape.path_shape b
 path_append [] b = refl

@@ -1,14 +1,14 @@
 -- The two productions that use names say what is captured.
 use Rattle.std.proofs.Common.{Bool, true, false, List, [], ◌∷◌, refl, if◌then◌else◌}
-use Rattle.rhai_productions.specs.Schema.{Production}
-use Rattle.rhai_productions.specs.Rules as P
-use Rattle.rhai_productions.specs.Watched.{Watches, NamesAreCaptured}
 use Rattle.rhai_grammar.specs.declared.role.Bars.TheVariants as bars
 use Rattle.rhai_grammar.specs.declared.role.Beginning.TheVariants as begin
 use Rattle.rhai_grammar.specs.Prelude.{Position, Context, Live, Text, text_of, may_be_value, is_this, may_be_closure}
 use Rattle.rhai_grammar.specs.Prelude.{Use}
 use Rattle.rhai_grammar.specs.declared.role.Bars.{Bars}
 use Rattle.rhai_grammar.specs.declared.role.Beginning.{Beginning}
+use Rattle.rhai_productions.specs.Schema.{Production}
+use Rattle.rhai_productions.specs.Rules as P
+use Rattle.rhai_productions.specs.Watched.{Watches, NamesAreCaptured}
 
 by_either : (c : Context) (w : Live) {A : Type 0} (b : Bool) (p q : Production A) → Watches c w p → Watches c w q
     → Watches c w (if b then p else q)

@@ -1,13 +1,11 @@
 -- A form fits wherever it is spelled. One induction over forms; no clause is one of a production.
-use Rattle.std.proofs.Common.{◌≡◌, Bool, List, [], ◌∷◌, ◌++◌, append-nil, append_assoc, refl, ap, ◌∙◌}
-use Rattle.std.proofs.Common.{sym, subst}
+use Rattle.std.proofs.Common.{◌≡◌, Bool, List, [], ◌∷◌, ◌++◌, append-nil, append_assoc, refl, ap, ◌∙◌, sym, subst}
 use Rattle.rhai_grammar.specs.Prelude.{Lexeme, Sign, Position, Item, item, Mode, code, text, Taken, Point, Use, Ended}
-use Rattle.rhai_grammar.specs.Prelude.{Library, Verdict, Fine, verdict}
-use Rattle.rhai_grammar.specs.Prelude.{Demands, Nothing, ◌▸◌, Tok, Ahead, Next, Met, Gives, leads, closure_count, past}
-use Rattle.rhai_grammar.specs.Prelude.{next_at, adding, capturing, with_captured, Tokens, later}
+use Rattle.rhai_grammar.specs.Prelude.{Library, Verdict, Fine, verdict, Demands, Nothing, ◌▸◌, Tok, Ahead, Next, Met}
+use Rattle.rhai_grammar.specs.Prelude.{Gives, leads, closure_count, past, next_at, adding, capturing, with_captured}
+use Rattle.rhai_grammar.specs.Prelude.{Tokens, later, is_due, not_due}
 use Rattle.rhai_grammar.specs.Delivered as M
 use Rattle.rhai_grammar.specs.Delivered.{ask}
-use Rattle.rhai_grammar.specs.Prelude.{is_due, not_due}
 use Rattle.rhai_grammar.specs.declared.due.DueToken.TheVariants.{RightBrace}
 use Rattle.rhai_reading.specs.Reading.{Goal, Val}
 use Rattle.rhai_productions.specs.Schema.{Production}

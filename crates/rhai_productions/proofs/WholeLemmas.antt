@@ -2,9 +2,9 @@
 use Rattle.std.proofs.Common.{◌≡◌, Bool, true, false, List, [], ◌∷◌, refl, ◌∙◌, sym, subst}
 use Rattle.rhai_lower.specs.declared.position.Position.{Position}
 use Rattle.rhai_lower.specs.declared.token.Token.TheVariants as token
-use Rattle.rhai_grammar.specs.Prelude.{Lexeme, Sign, Context, Live, Point, Met, Nothing, Ended, Taken, Tokens}
-use Rattle.rhai_grammar.specs.Prelude.{later, leads, is_end, ends_itself, with_kept}
-use Rattle.rhai_grammar.specs.Prelude.{Mode, code, text, token_after_statement}
+use Rattle.rhai_lower.specs.Nodes as node
+use Rattle.rhai_grammar.specs.Prelude.{Lexeme, Sign, Context, Live, Point, Met, Nothing, Ended, Taken, Tokens, later}
+use Rattle.rhai_grammar.specs.Prelude.{leads, is_end, ends_itself, with_kept, Mode, code, text, token_after_statement}
 use Rattle.rhai_grammar.specs.Statements.{statement_place}
 use Rattle.rhai_grammar.specs.Delivered.{Ends, Then, ask}
 use Rattle.rhai_grammar.specs.Spelling.{IsDelivered, is_deliverable}
@@ -13,7 +13,6 @@ use Rattle.rhai_grammar.specs.declared.role.AfterStatement.TheVariants as ends
 use Rattle.rhai_grammar.specs.declared.role.StatementPlace.{StatementPlace}
 use Rattle.rhai_grammar.specs.declared.role.StatementPlace.TheVariants as stands
 use Rattle.rhai_grammar.specs.declared.role.Closing.TheVariants.{EndMark}
-use Rattle.rhai_lower.specs.Nodes as node
 use Rattle.rhai_reading.specs.Reading as R
 use Rattle.rhai_reading.specs.Reading.{Goal, Val, Whole, Script}
 use Rattle.rhai_reading.proofs.Looks.{op_at}

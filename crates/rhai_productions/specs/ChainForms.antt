@@ -1,9 +1,9 @@
 -- A law: a chain in parentheses that goes on is joined with the links after it.
 use Rattle.std.specs.Prelude.{◌≡◌, List, ◌++◌}
 use Rattle.rhai_grammar.specs.Prelude.{Context, Live, Node, Link, node_shape, beginning}
-use Rattle.rhai_grammar.proofs.ShapeSteps.{link_shapes}
 use Rattle.rhai_grammar.specs.declared.role.Beginning.{Beginning}
 use Rattle.rhai_grammar.specs.declared.role.Beginning.TheVariants as begin
+use Rattle.rhai_grammar.proofs.ShapeSteps.{link_shapes}
 use Rattle.rhai_reading.specs.Reading.{Operand, Primary, Expression}
 use Rattle.rhai_productions.specs.Rules as P
 use Rattle.rhai_productions.specs.Rules.{production}

@@ -2,12 +2,10 @@
 use Rattle.std.specs.Prelude.{◌≡◌, ℕ, ◌+◌, max, Bool, true, false, List, [], if◌then◌else◌}
 use Rattle.rhai_lower.specs.Positions.{nowhere}
 use Rattle.rhai_lower.specs.declared.token.Token.TheVariants as token
-use Rattle.rhai_grammar.specs.Prelude.{Lexeme, Sign, Position, Cause, Refusal, item, code, text, Use}
-use Rattle.rhai_grammar.specs.Prelude.{Ended, Library}
+use Rattle.rhai_grammar.specs.Prelude.{Lexeme, Sign, Position, Cause, Refusal, item, code, text, Use, Ended, Library}
 use Rattle.rhai_grammar.specs.Prelude.{Verdict, Fine, Wrong, Blames, Otherwise, Demands, Nothing, ◌▸◌, Tok, Ahead, Next}
-use Rattle.rhai_grammar.specs.Prelude.{Test}
-use Rattle.rhai_grammar.specs.Prelude.{TestIn, Adds, Captures, Uses, Shape, Literally, Apart, is_due, not_due, is_text}
-use Rattle.rhai_grammar.specs.Prelude.{unexpected}
+use Rattle.rhai_grammar.specs.Prelude.{Test, TestIn, Adds, Captures, Uses, Shape, Literally, Apart, is_due, not_due}
+use Rattle.rhai_grammar.specs.Prelude.{is_text, unexpected}
 use Rattle.rhai_grammar.specs.Verdicts.{anything}
 use Rattle.rhai_grammar.specs.declared.due.DueToken.TheVariants.{RightBrace}
 use Rattle.rhai_reading.specs.Reading.{Goal, Val}

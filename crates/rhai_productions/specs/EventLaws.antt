@@ -1,7 +1,7 @@
 -- Laws of forms that follow from productions: their tokens, and functions and captured names after them.
 use Rattle.std.specs.Prelude.{◌≡◌, ℕ, List, ◌++◌}
-use Rattle.rhai_grammar.specs.Prelude.{Mode, code, Point, Use, Refusal}
-use Rattle.rhai_grammar.specs.Prelude.{Demands, Nothing, Met, Missed, Gives, leads, closure_count}
+use Rattle.rhai_grammar.specs.Prelude.{Mode, code, Point, Use, Refusal, Demands, Nothing, Met, Missed, Gives, leads}
+use Rattle.rhai_grammar.specs.Prelude.{closure_count}
 use Rattle.rhai_grammar.specs.Delivered.{ask}
 use Rattle.rhai_grammar.specs.UsesOfForms.{HoldsFirst, with_uses, first_uses}
 use Rattle.rhai_reading.specs.Reading.{Goal, Val}

@@ -2,15 +2,14 @@
 -- production.
 use Rattle.std.specs.Prelude.{Bool, List, [], ◌∷◌, ◌++◌, map, if◌then◌else◌}
 use Rattle.rhai_lower.specs.declared.token.Token.TheVariants as token
-use Rattle.rhai_grammar.specs.Prelude.{Lexeme, Sign, Position, item, Mode, code, text, Taken, Use, Ended}
-use Rattle.rhai_grammar.specs.Prelude.{Library}
+use Rattle.rhai_grammar.specs.Prelude.{Lexeme, Sign, Position, item, Mode, code, text, Taken, Use, Ended, Library}
 use Rattle.rhai_grammar.specs.Prelude.{with_ended}
 use Rattle.rhai_reading.specs.Reading.{Goal, Val}
 use Rattle.rhai_productions.specs.Schema.{Production}
 use Rattle.rhai_productions.specs.Derived as F
 use Rattle.rhai_productions.specs.Derived.{given, take, this, if_so, if_not, choose, here, must, knows, adds, uses}
-use Rattle.rhai_productions.specs.Derived.{captures, part, literal, apart, in_text, form}
-use Rattle.rhai_productions.specs.Derived.{Form, Filled, Open, Stopped, demands, demanded, stops, stopped}
+use Rattle.rhai_productions.specs.Derived.{captures, part, literal, apart, in_text, form, Form, Filled, Open, Stopped}
+use Rattle.rhai_productions.specs.Derived.{demands, demanded, stops, stopped}
 
 -- what happens in a form, for the closure around it and for the library
 pub data Event : Type 0 where

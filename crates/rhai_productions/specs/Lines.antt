@@ -115,16 +115,16 @@ function name bang arguments = function_called (record {
   module_index = None;
 }) bang arguments
 
--- a function or closure of these parameters, without doc comments
-abbrev pub ended : Option Text → Text → (is_private : Bool) → List Text → node.Block → Ended
-ended this_type name is_private parameters body = record {
+-- a function or closure of these parameters, with these doc comments
+abbrev pub ended : Option Text → Text → (is_private : Bool) → (parameters comments : List Text) → node.Block → Ended
+ended this_type name is_private parameters comments body = record {
   key = record { this_type = this_type; name = name; params = length parameters };
   function = record {
     this_type = this_type;
     name = name;
     is_private = is_private;
     parameters = parameters;
-    comments = [];
+    comments = comments;
     body = body;
   };
 }

@@ -31,40 +31,45 @@ pub record LinesOfChains : Type 0 where
       (operator_called (Sign token.ExclusiveRange)) (node.one_node (node.integer (pos 0) (place 1 3)) (node.one_node
       (node.unit (place 1 5)) node.no_nodes)) (place 1 3)) (record { negated = false; terminating = true })
       (place 1 2)) []
-  -- `a.f()`
-  pub read_4 : IsExpression ((Name (codes "a"), 1) ∷ (Sign token.Period, 2) ∷ (Name (codes "f"), 3) ∷
-      (Sign token.Unit, 4) ∷ []) 6 (node.dot (variable (codes "a") None (place 1 1)) (node.method_call (method_called
-      (codes "f") false 0) node.no_nodes (place 1 3)) (record { negated = false; terminating = false }) (place 1 2))
+  -- `a?.f(1)`
+  pub read_4 : IsExpression ((Name (codes "a"), 1) ∷ (Sign token.Elvis, 2) ∷ (Name (codes "f"), 4) ∷
+      (Sign token.LeftParen, 5) ∷ (Integer (pos 1), 6) ∷ (Sign token.RightParen, 7) ∷ []) 8 (node.dot (variable
+      (codes "a") None (place 1 1)) (node.method_call (method_called (codes "f") false 1) (node.one_node (node.integer
+      (pos 1) (place 1 6)) node.no_nodes) (place 1 4)) (record { negated = true; terminating = false }) (place 1 2))
       []
+  -- `a?[b].c`
+  pub read_5 : IsExpression ((Name (codes "a"), 1) ∷ (Sign token.QuestionBracket, 2) ∷ (Name (codes "b"), 4) ∷
+      (Sign token.RightBracket, 5) ∷ (Sign token.Period, 6) ∷ (Name (codes "c"), 7) ∷ []) 8 (node.index (variable
+      (codes "a") None (place 1 1)) (node.dot (variable (codes "b") None (place 1 4)) (node.property (codes "c")
+      (place 1 7)) (record { negated = false; terminating = false }) (place 1 6)) (record {
+        negated = true;
+        terminating = false;
+      }) (place 1 2)) []
   -- `f(1).b`
-  pub read_5 : IsExpression ((Name (codes "f"), 1) ∷ (Sign token.LeftParen, 2) ∷ (Integer (pos 1), 3) ∷
+  pub read_6 : IsExpression ((Name (codes "f"), 1) ∷ (Sign token.LeftParen, 2) ∷ (Integer (pos 1), 3) ∷
       (Sign token.RightParen, 4) ∷ (Sign token.Period, 5) ∷ (Name (codes "b"), 6) ∷ []) 7 (node.dot (node.call
       (function (codes "f") false 1) (node.one_node (node.integer (pos 1) (place 1 3)) node.no_nodes) (place 1 1))
       (node.property (codes "b") (place 1 6)) (record { negated = false; terminating = false }) (place 1 5)) []
-  -- `#{a: b.c}`
-  pub read_6 : IsExpression ((Sign token.MapStart, 1) ∷ (Name (codes "a"), 3) ∷ (Sign token.Colon, 4) ∷
-      (Name (codes "b"), 6) ∷ (Sign token.Period, 7) ∷ (Name (codes "c"), 8) ∷ (Sign token.RightBrace, 9) ∷ []) 10
-      (node.object_map (node.one_property (codes "a") (place 1 3) (node.dot (variable (codes "b") None (place 1 6))
-      (node.property (codes "c") (place 1 8)) (record { negated = false; terminating = false }) (place 1 7))
-      node.no_properties) (place 1 1)) []
-  -- `[1].a["b"]`
+  -- `[1][1]`
   pub read_7 : IsExpression ((Sign token.LeftBracket, 1) ∷ (Integer (pos 1), 2) ∷ (Sign token.RightBracket, 3) ∷
-      (Sign token.Period, 4) ∷ (Name (codes "a"), 5) ∷ (Sign token.LeftBracket, 6) ∷ (String (codes "b"), 7) ∷
-      (Sign token.RightBracket, 10) ∷ []) 11 (node.dot (node.array (node.one_node (node.integer (pos 1) (place 1 2))
-      node.no_nodes) (place 1 1)) (node.index (node.property (codes "a") (place 1 5)) (node.string (codes "b")
-      (place 1 7)) (record { negated = false; terminating = true }) (place 1 6)) (record {
-        negated = false;
-        terminating = false;
-      }) (place 1 4)) []
+      (Sign token.LeftBracket, 4) ∷ (Integer (pos 1), 5) ∷ (Sign token.RightBracket, 6) ∷ []) 7 (node.index
+      (node.array (node.one_node (node.integer (pos 1) (place 1 2)) node.no_nodes) (place 1 1)) (node.integer (pos 1)
+      (place 1 5)) (record { negated = false; terminating = true }) (place 1 4)) []
+  -- `#{a: 1}["a"]`
+  pub read_8 : IsExpression ((Sign token.MapStart, 1) ∷ (Name (codes "a"), 3) ∷ (Sign token.Colon, 4) ∷
+      (Integer (pos 1), 6) ∷ (Sign token.RightBrace, 7) ∷ (Sign token.LeftBracket, 8) ∷ (String (codes "a"), 9) ∷
+      (Sign token.RightBracket, 12) ∷ []) 13 (node.index (node.object_map (node.one_property (codes "a") (place 1 3)
+      (node.integer (pos 1) (place 1 6)) node.no_properties) (place 1 1)) (node.string (codes "a") (place 1 9))
+      (record { negated = false; terminating = true }) (place 1 8)) []
   -- `` -`a${b}` ``
-  pub read_8 : IsExpression ((Sign token.UnaryMinus, 1) ∷ (Interpolated (codes "a"), 2) ∷ (Sign token.LeftBrace, 5) ∷
+  pub read_9 : IsExpression ((Sign token.UnaryMinus, 1) ∷ (Interpolated (codes "a"), 2) ∷ (Sign token.LeftBrace, 5) ∷
       (Name (codes "b"), 6) ∷ (Sign token.RightBrace, 7) ∷ (String [], 8) ∷ []) 9 (node.call (sign_called
       (Sign token.Minus)) (node.one_node (node.interpolated (node.one_node (node.string (codes "a") (place 1 2))
       (node.one_node (node.block_value (node.braces (node.one_statement (node.expression (variable (codes "b") None
       (place 1 6))) node.no_statements) (place 1 5) (place 1 7))) node.no_nodes)) (place 1 2)) node.no_nodes)
       (place 1 1)) []
   -- `` `a${b}c`.len ``
-  pub read_9 : IsExpression ((Interpolated (codes "a"), 1) ∷ (Sign token.LeftBrace, 4) ∷ (Name (codes "b"), 5) ∷
+  pub read_10 : IsExpression ((Interpolated (codes "a"), 1) ∷ (Sign token.LeftBrace, 4) ∷ (Name (codes "b"), 5) ∷
       (Sign token.RightBrace, 6) ∷ (String (codes "c"), 7) ∷ (Sign token.Period, 9) ∷ (Name (codes "len"), 10) ∷ [])
       13 (node.dot (node.interpolated (node.one_node (node.string (codes "a") (place 1 1)) (node.one_node
       (node.block_value (node.braces (node.one_statement (node.expression (variable (codes "b") None (place 1 5)))
@@ -75,22 +80,29 @@ pub record LinesOfChains : Type 0 where
             = false;
       }) (place 1 9)) []
   -- `a${b = 1}c`: an assignment in a block of one expression
-  pub read_10 : IsExpression ((Interpolated (codes "a"), 1) ∷ (Sign token.LeftBrace, 4) ∷ (Name (codes "b"), 5) ∷
+  pub read_11 : IsExpression ((Interpolated (codes "a"), 1) ∷ (Sign token.LeftBrace, 4) ∷ (Name (codes "b"), 5) ∷
       (Sign token.Equals, 7) ∷ (Integer (pos 1), 9) ∷ (Sign token.RightBrace, 10) ∷ (String (codes "c"), 11) ∷ []) 13
       (node.interpolated (node.one_node (node.string (codes "a") (place 1 1)) (node.one_node (node.block_value
       (node.braces (node.one_statement (node.assignment None (variable (codes "b") None (place 1 5)) (node.integer
       (pos 1) (place 1 9)) (place 1 7)) node.no_statements) (place 1 4) (place 1 10))) (node.one_node (node.string
       (codes "c") (place 1 11)) node.no_nodes))) (place 1 1)) []
   -- `a${{ 1 }}c`
-  pub read_11 : IsScript ((Interpolated (codes "a"), 1) ∷ (Sign token.LeftBrace, 4) ∷ (Sign token.LeftBrace, 5) ∷
+  pub read_12 : IsScript ((Interpolated (codes "a"), 1) ∷ (Sign token.LeftBrace, 4) ∷ (Sign token.LeftBrace, 5) ∷
       (Integer (pos 1), 7) ∷ (Sign token.RightBrace, 9) ∷ (Sign token.RightBrace, 10) ∷ (String (codes "c"), 11) ∷ [])
       13 (node.one_statement (node.expression (node.interpolated (node.one_node (node.string (codes "a") (place 1 1))
       (node.one_node (node.block_value (node.braces (node.one_statement (node.block_statement (node.braces
       (node.one_statement (node.expression (node.integer (pos 1) (place 1 7))) node.no_statements) (place 1 5)
       (place 1 9))) node.no_statements) (place 1 4) (place 1 10))) (node.one_node (node.string (codes "c")
       (place 1 11)) node.no_nodes))) (place 1 1))) node.no_statements) []
+  -- `` x ?? `a${b}` ``
+  pub read_13 : IsExpression ((Name (codes "x"), 1) ∷ (Sign token.DoubleQuestion, 3) ∷ (Interpolated (codes "a"), 6) ∷
+      (Sign token.LeftBrace, 9) ∷ (Name (codes "b"), 10) ∷ (Sign token.RightBrace, 11) ∷ (String [], 12) ∷ []) 13
+      (node.coalescing (node.one_node (variable (codes "x") None (place 1 1)) (node.one_node (node.interpolated
+      (node.one_node (node.string (codes "a") (place 1 6)) (node.one_node (node.block_value (node.braces
+      (node.one_statement (node.expression (variable (codes "b") None (place 1 10))) node.no_statements) (place 1 9)
+      (place 1 11))) node.no_nodes)) (place 1 6)) node.no_nodes)) (place 1 3)) []
   -- `a${5..}${..}`: ranges whose right operands are omitted
-  pub read_12 : IsExpression ((Interpolated (codes "a"), 1) ∷ (Sign token.LeftBrace, 4) ∷ (Integer (pos 5), 5) ∷
+  pub read_14 : IsExpression ((Interpolated (codes "a"), 1) ∷ (Sign token.LeftBrace, 4) ∷ (Integer (pos 5), 5) ∷
       (Sign token.ExclusiveRange, 6) ∷ (Sign token.RightBrace, 8) ∷ (Interpolated [], 9) ∷
       (Sign token.LeftBrace, 10) ∷ (Sign token.ExclusiveRange, 11) ∷ (Sign token.RightBrace, 13) ∷ (String [], 14) ∷
       []) 15 (node.interpolated (node.one_node (node.string (codes "a") (place 1 1)) (node.one_node (node.block_value
@@ -101,7 +113,7 @@ pub record LinesOfChains : Type 0 where
       (node.integer (pos 0) (place 1 11)) (node.one_node (node.unit (place 1 13)) node.no_nodes)) (place 1 11)))
       node.no_statements) (place 1 10) (place 1 13))) node.no_nodes))) (place 1 1)) []
   -- `` #{a: 1}[`a${b}`] ``
-  pub read_13 : IsExpression ((Sign token.MapStart, 1) ∷ (Name (codes "a"), 3) ∷ (Sign token.Colon, 4) ∷
+  pub read_15 : IsExpression ((Sign token.MapStart, 1) ∷ (Name (codes "a"), 3) ∷ (Sign token.Colon, 4) ∷
       (Integer (pos 1), 6) ∷ (Sign token.RightBrace, 7) ∷ (Sign token.LeftBracket, 8) ∷
       (Interpolated (codes "a"), 9) ∷ (Sign token.LeftBrace, 12) ∷ (Name (codes "b"), 13) ∷
       (Sign token.RightBrace, 14) ∷ (String [], 15) ∷ (Sign token.RightBracket, 16) ∷ []) 17 (node.index
@@ -113,6 +125,20 @@ pub record LinesOfChains : Type 0 where
             false;
         terminating = true;
       }) (place 1 8)) []
+  -- `` `a${b}c`[0]["x"].len() ``
+  pub read_16 : IsExpression ((Interpolated (codes "a"), 1) ∷ (Sign token.LeftBrace, 4) ∷ (Name (codes "b"), 5) ∷
+      (Sign token.RightBrace, 6) ∷ (String (codes "c"), 7) ∷ (Sign token.LeftBracket, 9) ∷ (Integer (pos 0), 10) ∷
+      (Sign token.RightBracket, 11) ∷ (Sign token.LeftBracket, 12) ∷ (String (codes "x"), 13) ∷
+      (Sign token.RightBracket, 16) ∷ (Sign token.Period, 17) ∷ (Name (codes "len"), 18) ∷ (Sign token.Unit, 21) ∷ [])
+      23 (node.index (node.interpolated (node.one_node (node.string (codes "a") (place 1 1)) (node.one_node
+      (node.block_value (node.braces (node.one_statement (node.expression (variable (codes "b") None (place 1 5)))
+      node.no_statements) (place 1 4) (place 1 6))) (node.one_node (node.string (codes "c") (place 1 7))
+      node.no_nodes))) (place 1 1)) (node.index (node.integer (pos 0) (place 1 10)) (node.dot (node.string (codes "x")
+      (place 1 13)) (node.method_call (method_called (codes "len") false 0) node.no_nodes (place 1 18)) (record {
+        negated = false;
+        terminating = false;
+      }) (place 1 17)) (record { negated = false; terminating = false })
+      (place 1 12)) (record { negated = false; terminating = false }) (place 1 9)) []
   -- `f(`
   pub refused_1 : Refuses script ((Name (codes "f"), 1) ∷ (Sign token.LeftParen, 2) ∷ []) 3 (cause.MissingToken
       (codes ")")) 3

@@ -1,5 +1,5 @@
 -- Lines of tokens that are closures, and lines that are refused there.
-use Rattle.std.specs.Prelude.{None, false, true, codes, pos, [], ◌∷◌}
+use Rattle.std.specs.Prelude.{None, Some, false, true, codes, pos, [], ◌∷◌}
 use Rattle.rhai_lower.specs.Lexemes.{Integer, String, Name, Reserved, Faulty, Sign, UnterminatedString}
 use Rattle.rhai_lower.specs.Nodes as node
 use Rattle.rhai_lower.specs.Positions.{nowhere, place}
@@ -15,11 +15,21 @@ use Rattle.rhai_productions.specs.Lines.{new_engine, script, script_by, variable
 pub record LinesOfClosures : Type 0 where
   -- `|| return`
   pub read_1 : IsExpression ((Sign token.Or, 1) ∷ (Sign token.Return, 4) ∷ []) 10 (node.pointer
-      (codes "anon$0000000000000000") 0 (place 1 1)) ((ended None (codes "anon$0000000000000000") false []
+      (codes "anon$0000000000000000") 0 (place 1 1)) ((ended None (codes "anon$0000000000000000") false [] []
       (node.braces (node.one_statement (node.return_statement node.absent false (place 1 4)) node.no_statements)
       (place 1 4) nowhere)) ∷ [])
+  -- `|x| x += y`
+  pub read_2 : IsExpression ((Sign token.Pipe, 1) ∷ (Name (codes "x"), 2) ∷ (Sign token.Pipe, 3) ∷
+      (Name (codes "x"), 5) ∷ (Sign token.PlusAssign, 7) ∷ (Name (codes "y"), 10) ∷ []) 11 (node.block_value
+      (node.braces (node.one_statement (node.share ((codes "y", place 1 10, None) ∷ []) (place 1 1))
+      (node.one_statement (node.expression (node.call (curry 1) (node.one_node (node.pointer
+      (codes "anon$0000000000000000") 2 (place 1 1)) (node.one_node (variable (codes "y") None (place 1 10))
+      node.no_nodes)) (place 1 1))) node.no_statements)) (place 1 1) nowhere)) ((ended None
+      (codes "anon$0000000000000000") false ((codes "y") ∷ (codes "x") ∷ []) [] (node.braces (node.one_statement
+      (node.assignment (Some (Sign token.PlusAssign)) (variable (codes "x") (Some 1) (place 1 5)) (variable
+      (codes "y") None (place 1 10)) (place 1 7)) node.no_statements) (place 1 7) nowhere)) ∷ [])
   -- `switch || x { 1 => 2 }`
-  pub read_2 : IsScript ((Sign token.Switch, 1) ∷ (Sign token.Or, 8) ∷ (Name (codes "x"), 11) ∷
+  pub read_3 : IsScript ((Sign token.Switch, 1) ∷ (Sign token.Or, 8) ∷ (Name (codes "x"), 11) ∷
       (Sign token.LeftBrace, 13) ∷ (Integer (pos 1), 15) ∷ (Sign token.DoubleArrow, 17) ∷ (Integer (pos 2), 20) ∷
       (Sign token.RightBrace, 22) ∷ []) 23 (node.one_statement (node.switch_statement (node.block_value (node.braces
       (node.one_statement (node.share ((codes "x", place 1 11, None) ∷ []) (place 1 8)) (node.one_statement
@@ -29,10 +39,10 @@ pub record LinesOfClosures : Type 0 where
       (node.braces (node.one_statement (node.expression (node.integer (pos 2) (place 1 20))) node.no_statements)
       (place 1 20) nowhere)) node.no_arms) (node.one_case (node.integer (pos 1) (place 1 15)) (0 ∷ []) node.no_cases)
       [] None (place 1 1)) node.no_statements) ((ended None (codes "anon$0000000000000000") false ((codes "x") ∷ [])
-      (node.braces (node.one_statement (node.expression (variable (codes "x") None (place 1 11))) node.no_statements)
-      (place 1 11) nowhere)) ∷ [])
+      [] (node.braces (node.one_statement (node.expression (variable (codes "x") None (place 1 11)))
+      node.no_statements) (place 1 11) nowhere)) ∷ [])
   -- `loop { a ?? break || b }`
-  pub read_3 : IsScript ((Sign token.Loop, 1) ∷ (Sign token.LeftBrace, 6) ∷ (Name (codes "a"), 8) ∷
+  pub read_4 : IsScript ((Sign token.Loop, 1) ∷ (Sign token.LeftBrace, 6) ∷ (Name (codes "a"), 8) ∷
       (Sign token.DoubleQuestion, 10) ∷ (Sign token.Break, 13) ∷ (Sign token.Or, 19) ∷ (Name (codes "b"), 22) ∷
       (Sign token.RightBrace, 24) ∷ []) 25 (node.one_statement (node.while_statement (node.unit nowhere) (node.braces
       (node.one_statement (node.expression (node.coalescing (node.one_node (variable (codes "a") None (place 1 8))
@@ -43,36 +53,38 @@ pub record LinesOfClosures : Type 0 where
       node.no_nodes)) (place 1 19))) node.no_statements)) (place 1 19) nowhere))) true (place 1 13))
       node.no_statements) (place 1 13) nowhere)) node.no_nodes)) (place 1 10))) node.no_statements) (place 1 6)
       (place 1 24)) (place 1 1)) node.no_statements) ((ended None (codes "anon$0000000000000000") false ((codes "b") ∷
-      []) (node.braces (node.one_statement (node.expression (variable (codes "b") None (place 1 22)))
+      []) [] (node.braces (node.one_statement (node.expression (variable (codes "b") None (place 1 22)))
       node.no_statements) (place 1 22) nowhere)) ∷ [])
   -- `|| print(x) + this.y`
-  pub read_4 : IsExpression ((Sign token.Or, 1) ∷ (Reserved (codes "print"), 4) ∷ (Sign token.LeftParen, 9) ∷
+  pub read_5 : IsExpression ((Sign token.Or, 1) ∷ (Reserved (codes "print"), 4) ∷ (Sign token.LeftParen, 9) ∷
       (Name (codes "x"), 10) ∷ (Sign token.RightParen, 11) ∷ (Sign token.Plus, 13) ∷ (Reserved (codes "this"), 15) ∷
       (Sign token.Period, 19) ∷ (Name (codes "y"), 20) ∷ []) 21 (node.block_value (node.braces (node.one_statement
       (node.share ((codes "x", place 1 10, None) ∷ []) (place 1 1)) (node.one_statement (node.expression (node.call
       (curry 1) (node.one_node (node.pointer (codes "anon$0000000000000000") 1 (place 1 1)) (node.one_node (variable
       (codes "x") None (place 1 10)) node.no_nodes)) (place 1 1))) node.no_statements)) (place 1 1) nowhere)) ((ended
-      None (codes "anon$0000000000000000") false ((codes "x") ∷ []) (node.braces (node.one_statement (node.expression
-      (node.call (operator_called (Sign token.Plus)) (node.one_node (node.call (function (codes "print") false 1)
-      (node.one_node (variable (codes "x") None (place 1 10)) node.no_nodes) (place 1 4)) (node.one_node (node.dot
-      (node.this (place 1 15)) (node.property (codes "y") (place 1 20)) (record {
-        negated = false;
+      None (codes "anon$0000000000000000") false ((codes "x") ∷ []) [] (node.braces (node.one_statement
+      (node.expression (node.call (operator_called (Sign token.Plus)) (node.one_node (node.call (function
+      (codes "print") false 1) (node.one_node (variable (codes "x") None (place 1 10)) node.no_nodes) (place 1 4))
+      (node.one_node (node.dot (node.this (place 1 15)) (node.property (codes "y") (place 1 20)) (record {
+        negated =
+            false;
         terminating = false;
-      }) (place 1 19)) node.no_nodes)) (place 1 13))) node.no_statements) (place 1 13) nowhere)) ∷ [])
+      }) (place 1 19)) node.no_nodes)) (place 1 13))) node.no_statements) (place 1 13)
+      nowhere)) ∷ [])
   -- `|| #{x: y, "z": w}`
-  pub read_5 : IsExpression ((Sign token.Or, 1) ∷ (Sign token.MapStart, 4) ∷ (Name (codes "x"), 6) ∷
+  pub read_6 : IsExpression ((Sign token.Or, 1) ∷ (Sign token.MapStart, 4) ∷ (Name (codes "x"), 6) ∷
       (Sign token.Colon, 7) ∷ (Name (codes "y"), 9) ∷ (Sign token.Comma, 10) ∷ (String (codes "z"), 12) ∷
       (Sign token.Colon, 15) ∷ (Name (codes "w"), 17) ∷ (Sign token.RightBrace, 18) ∷ []) 19 (node.block_value
       (node.braces (node.one_statement (node.share ((codes "y", place 1 9, None) ∷ (codes "w", place 1 17, None) ∷ [])
       (place 1 1)) (node.one_statement (node.expression (node.call (curry 2) (node.one_node (node.pointer
       (codes "anon$0000000000000000") 2 (place 1 1)) (node.one_node (variable (codes "y") None (place 1 9))
       (node.one_node (variable (codes "w") None (place 1 17)) node.no_nodes))) (place 1 1))) node.no_statements))
-      (place 1 1) nowhere)) ((ended None (codes "anon$0000000000000000") false ((codes "y") ∷ (codes "w") ∷ [])
+      (place 1 1) nowhere)) ((ended None (codes "anon$0000000000000000") false ((codes "y") ∷ (codes "w") ∷ []) []
       (node.braces (node.one_statement (node.expression (node.object_map (node.one_property (codes "x") (place 1 6)
       (variable (codes "y") None (place 1 9)) (node.one_property (codes "z") (place 1 12) (variable (codes "w") None
       (place 1 17)) node.no_properties)) (place 1 4))) node.no_statements) (place 1 4) nowhere)) ∷ [])
   -- `|| {x}?.y(1)[2]`
-  pub read_6 : IsExpression ((Sign token.Or, 1) ∷ (Sign token.LeftBrace, 4) ∷ (Name (codes "x"), 5) ∷
+  pub read_7 : IsExpression ((Sign token.Or, 1) ∷ (Sign token.LeftBrace, 4) ∷ (Name (codes "x"), 5) ∷
       (Sign token.RightBrace, 6) ∷ (Sign token.Elvis, 7) ∷ (Name (codes "y"), 9) ∷ (Sign token.LeftParen, 10) ∷
       (Integer (pos 1), 11) ∷ (Sign token.RightParen, 12) ∷ (Sign token.LeftBracket, 13) ∷ (Integer (pos 2), 14) ∷
       (Sign token.RightBracket, 15) ∷ []) 16 (node.dot (node.block_value (node.braces (node.one_statement (node.share
@@ -82,8 +94,23 @@ pub record LinesOfClosures : Type 0 where
       (node.method_call (method_called (codes "y") false 1) (node.one_node (node.integer (pos 1) (place 1 11))
       node.no_nodes) (place 1 9)) (node.integer (pos 2) (place 1 14)) (record { negated = false; terminating = true })
       (place 1 13)) (record { negated = true; terminating = false }) (place 1 7)) ((ended None
-      (codes "anon$0000000000000000") false ((codes "x") ∷ []) (node.braces (node.one_statement (node.expression
+      (codes "anon$0000000000000000") false ((codes "x") ∷ []) [] (node.braces (node.one_statement (node.expression
       (variable (codes "x") None (place 1 5))) node.no_statements) (place 1 4) (place 1 6))) ∷ [])
+  -- `|| { import "a" as m; }; m::x`
+  pub read_8 : IsScript ((Sign token.Or, 1) ∷ (Sign token.LeftBrace, 4) ∷ (Sign token.Import, 6) ∷
+      (String (codes "a"), 13) ∷ (Sign token.As, 17) ∷ (Name (codes "m"), 20) ∷ (Sign token.SemiColon, 21) ∷
+      (Sign token.RightBrace, 23) ∷ (Sign token.SemiColon, 24) ∷ (Name (codes "m"), 26) ∷
+      (Sign token.DoubleColon, 27) ∷ (Name (codes "x"), 29) ∷ []) 30 (node.one_statement (node.expression
+      (node.pointer (codes "anon$0000000000000000") 0 (place 1 1))) (node.one_statement (node.expression
+      (node.variable (record {
+        number = None;
+        name = codes "x";
+        path = (codes "m", place 1 26) ∷ [];
+        module_index =
+            None;
+      }) (place 1 29))) node.no_statements)) ((ended None (codes "anon$0000000000000000") false [] []
+      (node.braces (node.one_statement (node.import_statement (node.string (codes "a") (place 1 13)) (codes "m")
+      (place 1 6)) node.no_statements) (place 1 4) (place 1 23))) ∷ [])
   -- `|| 1`
   pub refused_1 : Refuses (expression_by (record new_engine { options = 175; for_expressions = 163 }))
       ((Sign token.Or, 1) ∷ (Integer (pos 1), 4) ∷ []) 5 (cause.BadInput (cause.UnexpectedInput (codes "||"))) 1

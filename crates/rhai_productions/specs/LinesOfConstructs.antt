@@ -6,6 +6,7 @@ use Rattle.rhai_lower.specs.Positions.{nowhere, place}
 use Rattle.rhai_lower.specs.declared.token.Token.TheVariants as token
 use Rattle.rhai_grammar.specs.Causes as cause
 use Rattle.rhai_grammar.specs.Operators.{operator_called}
+use Rattle.rhai_grammar.specs.Signs.{sign_called}
 use Rattle.rhai_productions.specs.Lines.{IsExpression, IsScript, Refuses, expression, new_engine, script, script_by}
 use Rattle.rhai_productions.specs.Lines.{variable}
 
@@ -16,8 +17,14 @@ pub record LinesOfConstructs : Type 0 where
       (Sign token.RightBrace, 10) ∷ []) 11 (node.one_statement (node.if_statement (node.boolean true (place 1 4))
       (node.braces node.no_statements (place 1 9) (place 1 10)) (node.braces node.no_statements nowhere nowhere)
       (place 1 1)) node.no_statements) []
+  -- `if !a {}`
+  pub read_2 : IsScript ((Sign token.If, 1) ∷ (Sign token.Bang, 4) ∷ (Name (codes "a"), 5) ∷
+      (Sign token.LeftBrace, 7) ∷ (Sign token.RightBrace, 8) ∷ []) 9 (node.one_statement (node.if_statement (node.call
+      (sign_called (Sign token.Bang)) (node.one_node (variable (codes "a") None (place 1 5)) node.no_nodes)
+      (place 1 4)) (node.braces node.no_statements (place 1 7) (place 1 8)) (node.braces node.no_statements nowhere
+      nowhere) (place 1 1)) node.no_statements) []
   -- `a ?? return if b { 1 }`
-  pub read_2 : IsScript ((Name (codes "a"), 1) ∷ (Sign token.DoubleQuestion, 3) ∷ (Sign token.Return, 6) ∷
+  pub read_3 : IsScript ((Name (codes "a"), 1) ∷ (Sign token.DoubleQuestion, 3) ∷ (Sign token.Return, 6) ∷
       (Sign token.If, 13) ∷ (Name (codes "b"), 16) ∷ (Sign token.LeftBrace, 18) ∷ (Integer (pos 1), 20) ∷
       (Sign token.RightBrace, 22) ∷ []) 23 (node.one_statement (node.expression (node.coalescing (node.one_node
       (variable (codes "a") None (place 1 1)) (node.one_node (node.block_value (node.braces (node.one_statement
@@ -27,7 +34,7 @@ pub record LinesOfConstructs : Type 0 where
       (place 1 13)) node.no_statements) (place 1 13) nowhere))) false (place 1 6)) node.no_statements) (place 1 6)
       nowhere)) node.no_nodes)) (place 1 3))) node.no_statements) []
   -- `if a[0].b {}`
-  pub read_3 : IsScript ((Sign token.If, 1) ∷ (Name (codes "a"), 4) ∷ (Sign token.LeftBracket, 5) ∷
+  pub read_4 : IsScript ((Sign token.If, 1) ∷ (Name (codes "a"), 4) ∷ (Sign token.LeftBracket, 5) ∷
       (Integer (pos 0), 6) ∷ (Sign token.RightBracket, 7) ∷ (Sign token.Period, 8) ∷ (Name (codes "b"), 9) ∷
       (Sign token.LeftBrace, 11) ∷ (Sign token.RightBrace, 12) ∷ []) 13 (node.one_statement (node.if_statement
       (node.index (variable (codes "a") None (place 1 4)) (node.dot (node.integer (pos 0) (place 1 6)) (node.property
@@ -38,7 +45,7 @@ pub record LinesOfConstructs : Type 0 where
       }) (place 1 5)) (node.braces node.no_statements (place 1 11) (place 1 12))
       (node.braces node.no_statements nowhere nowhere) (place 1 1)) node.no_statements) []
   -- `#{a: if b { 1 }}`
-  pub read_4 : IsExpression ((Sign token.MapStart, 1) ∷ (Name (codes "a"), 3) ∷ (Sign token.Colon, 4) ∷
+  pub read_5 : IsExpression ((Sign token.MapStart, 1) ∷ (Name (codes "a"), 3) ∷ (Sign token.Colon, 4) ∷
       (Sign token.If, 6) ∷ (Name (codes "b"), 9) ∷ (Sign token.LeftBrace, 11) ∷ (Integer (pos 1), 13) ∷
       (Sign token.RightBrace, 15) ∷ (Sign token.RightBrace, 16) ∷ []) 17 (node.object_map (node.one_property
       (codes "a") (place 1 3) (node.block_value (node.braces (node.one_statement (node.if_statement (variable
@@ -46,7 +53,7 @@ pub record LinesOfConstructs : Type 0 where
       (place 1 13))) node.no_statements) (place 1 11) (place 1 15)) (node.braces node.no_statements nowhere nowhere)
       (place 1 6)) node.no_statements) (place 1 6) nowhere)) node.no_properties) (place 1 1)) []
   -- `` `a${if b { 1 }}c` ``
-  pub read_5 : IsExpression ((Interpolated (codes "a"), 1) ∷ (Sign token.LeftBrace, 4) ∷ (Sign token.If, 5) ∷
+  pub read_6 : IsExpression ((Interpolated (codes "a"), 1) ∷ (Sign token.LeftBrace, 4) ∷ (Sign token.If, 5) ∷
       (Name (codes "b"), 8) ∷ (Sign token.LeftBrace, 10) ∷ (Integer (pos 1), 12) ∷ (Sign token.RightBrace, 14) ∷
       (Sign token.RightBrace, 15) ∷ (String (codes "c"), 16) ∷ []) 18 (node.interpolated (node.one_node (node.string
       (codes "a") (place 1 1)) (node.one_node (node.block_value (node.braces (node.one_statement (node.expression
@@ -56,7 +63,7 @@ pub record LinesOfConstructs : Type 0 where
       (place 1 5) nowhere))) node.no_statements) (place 1 4) (place 1 15))) (node.one_node (node.string (codes "c")
       (place 1 16)) node.no_nodes))) (place 1 1)) []
   -- `if a == b && c || d {}`
-  pub read_6 : IsScript ((Sign token.If, 1) ∷ (Name (codes "a"), 4) ∷ (Sign token.EqualsTo, 6) ∷
+  pub read_7 : IsScript ((Sign token.If, 1) ∷ (Name (codes "a"), 4) ∷ (Sign token.EqualsTo, 6) ∷
       (Name (codes "b"), 9) ∷ (Sign token.And, 11) ∷ (Name (codes "c"), 14) ∷ (Sign token.Or, 16) ∷
       (Name (codes "d"), 19) ∷ (Sign token.LeftBrace, 21) ∷ (Sign token.RightBrace, 22) ∷ []) 23 (node.one_statement
       (node.if_statement (node.disjunction (node.one_node (node.conjunction (node.one_node (node.call (operator_called
@@ -65,8 +72,18 @@ pub record LinesOfConstructs : Type 0 where
       (place 1 14)) node.no_nodes)) (place 1 11)) (node.one_node (variable (codes "d") None (place 1 19))
       node.no_nodes)) (place 1 16)) (node.braces node.no_statements (place 1 21) (place 1 22)) (node.braces
       node.no_statements nowhere nowhere) (place 1 1)) node.no_statements) []
+  -- `if a { b = 1 } else { c += 2 }`
+  pub read_8 : IsScript ((Sign token.If, 1) ∷ (Name (codes "a"), 4) ∷ (Sign token.LeftBrace, 6) ∷
+      (Name (codes "b"), 8) ∷ (Sign token.Equals, 10) ∷ (Integer (pos 1), 12) ∷ (Sign token.RightBrace, 14) ∷
+      (Sign token.Else, 16) ∷ (Sign token.LeftBrace, 21) ∷ (Name (codes "c"), 23) ∷ (Sign token.PlusAssign, 25) ∷
+      (Integer (pos 2), 28) ∷ (Sign token.RightBrace, 30) ∷ []) 31 (node.one_statement (node.if_statement (variable
+      (codes "a") None (place 1 4)) (node.braces (node.one_statement (node.assignment None (variable (codes "b") None
+      (place 1 8)) (node.integer (pos 1) (place 1 12)) (place 1 10)) node.no_statements) (place 1 6) (place 1 14))
+      (node.braces (node.one_statement (node.assignment (Some (Sign token.PlusAssign)) (variable (codes "c") None
+      (place 1 23)) (node.integer (pos 2) (place 1 28)) (place 1 25)) node.no_statements) (place 1 21) (place 1 30))
+      (place 1 1)) node.no_statements) []
   -- `try {} catch {} [0]`
-  pub read_7 : IsScript ((Sign token.Try, 1) ∷ (Sign token.LeftBrace, 5) ∷ (Sign token.RightBrace, 6) ∷
+  pub read_9 : IsScript ((Sign token.Try, 1) ∷ (Sign token.LeftBrace, 5) ∷ (Sign token.RightBrace, 6) ∷
       (Sign token.Catch, 8) ∷ (Sign token.LeftBrace, 14) ∷ (Sign token.RightBrace, 15) ∷
       (Sign token.LeftBracket, 17) ∷ (Integer (pos 0), 18) ∷ (Sign token.RightBracket, 19) ∷ []) 20
       (node.one_statement (node.try_catch (node.braces node.no_statements (place 1 5) (place 1 6)) (node.unit nowhere)
@@ -74,7 +91,7 @@ pub record LinesOfConstructs : Type 0 where
       (node.array (node.one_node (node.integer (pos 0) (place 1 18)) node.no_nodes) (place 1 17)))
       node.no_statements)) []
   -- `` `a${try {} catch {}}` ``
-  pub read_8 : IsScript ((Interpolated (codes "a"), 1) ∷ (Sign token.LeftBrace, 4) ∷ (Sign token.Try, 5) ∷
+  pub read_10 : IsScript ((Interpolated (codes "a"), 1) ∷ (Sign token.LeftBrace, 4) ∷ (Sign token.Try, 5) ∷
       (Sign token.LeftBrace, 9) ∷ (Sign token.RightBrace, 10) ∷ (Sign token.Catch, 12) ∷ (Sign token.LeftBrace, 18) ∷
       (Sign token.RightBrace, 19) ∷ (Sign token.RightBrace, 20) ∷ (String [], 21) ∷ []) 22 (node.one_statement
       (node.expression (node.interpolated (node.one_node (node.string (codes "a") (place 1 1)) (node.one_node
@@ -82,7 +99,7 @@ pub record LinesOfConstructs : Type 0 where
       (place 1 10)) (node.unit nowhere) (node.braces node.no_statements (place 1 18) (place 1 19)) (place 1 5))
       node.no_statements) (place 1 4) (place 1 20))) node.no_nodes)) (place 1 1))) node.no_statements) []
   -- `loop { try { break } catch { continue } }`
-  pub read_9 : IsScript ((Sign token.Loop, 1) ∷ (Sign token.LeftBrace, 6) ∷ (Sign token.Try, 8) ∷
+  pub read_11 : IsScript ((Sign token.Loop, 1) ∷ (Sign token.LeftBrace, 6) ∷ (Sign token.Try, 8) ∷
       (Sign token.LeftBrace, 12) ∷ (Sign token.Break, 14) ∷ (Sign token.RightBrace, 20) ∷ (Sign token.Catch, 22) ∷
       (Sign token.LeftBrace, 28) ∷ (Sign token.Continue, 30) ∷ (Sign token.RightBrace, 39) ∷
       (Sign token.RightBrace, 41) ∷ []) 42 (node.one_statement (node.while_statement (node.unit nowhere) (node.braces
@@ -91,7 +108,7 @@ pub record LinesOfConstructs : Type 0 where
       (node.one_statement (node.break_loop node.absent false (place 1 30)) node.no_statements) (place 1 28)
       (place 1 39)) (place 1 8)) node.no_statements) (place 1 6) (place 1 41)) (place 1 1)) node.no_statements) []
   -- `try { return } catch (e) { throw e }`
-  pub read_10 : IsScript ((Sign token.Try, 1) ∷ (Sign token.LeftBrace, 5) ∷ (Sign token.Return, 7) ∷
+  pub read_12 : IsScript ((Sign token.Try, 1) ∷ (Sign token.LeftBrace, 5) ∷ (Sign token.Return, 7) ∷
       (Sign token.RightBrace, 14) ∷ (Sign token.Catch, 16) ∷ (Sign token.LeftParen, 22) ∷ (Name (codes "e"), 23) ∷
       (Sign token.RightParen, 24) ∷ (Sign token.LeftBrace, 26) ∷ (Sign token.Throw, 28) ∷ (Name (codes "e"), 34) ∷
       (Sign token.RightBrace, 36) ∷ []) 37 (node.one_statement (node.try_catch (node.braces (node.one_statement
@@ -100,7 +117,7 @@ pub record LinesOfConstructs : Type 0 where
       (codes "e") (Some 1) (place 1 34))) true (place 1 28)) node.no_statements) (place 1 26) (place 1 36))
       (place 1 1)) node.no_statements) []
   -- `let x = { try { 1 } catch { 2 } }`
-  pub read_11 : IsScript ((Sign token.Let, 1) ∷ (Name (codes "x"), 5) ∷ (Sign token.Equals, 7) ∷
+  pub read_13 : IsScript ((Sign token.Let, 1) ∷ (Name (codes "x"), 5) ∷ (Sign token.Equals, 7) ∷
       (Sign token.LeftBrace, 9) ∷ (Sign token.Try, 11) ∷ (Sign token.LeftBrace, 15) ∷ (Integer (pos 1), 17) ∷
       (Sign token.RightBrace, 19) ∷ (Sign token.Catch, 21) ∷ (Sign token.LeftBrace, 27) ∷ (Integer (pos 2), 29) ∷
       (Sign token.RightBrace, 31) ∷ (Sign token.RightBrace, 33) ∷ []) 34 (node.one_statement (node.var_statement
@@ -110,7 +127,7 @@ pub record LinesOfConstructs : Type 0 where
       node.no_statements) (place 1 27) (place 1 31)) (place 1 11)) node.no_statements) (place 1 9) (place 1 33))) None
       false false (place 1 1)) node.no_statements) []
   -- `try { if a {} } catch { for x in y {} }`
-  pub read_12 : IsScript ((Sign token.Try, 1) ∷ (Sign token.LeftBrace, 5) ∷ (Sign token.If, 7) ∷
+  pub read_14 : IsScript ((Sign token.Try, 1) ∷ (Sign token.LeftBrace, 5) ∷ (Sign token.If, 7) ∷
       (Name (codes "a"), 10) ∷ (Sign token.LeftBrace, 12) ∷ (Sign token.RightBrace, 13) ∷
       (Sign token.RightBrace, 15) ∷ (Sign token.Catch, 17) ∷ (Sign token.LeftBrace, 23) ∷ (Sign token.For, 25) ∷
       (Name (codes "x"), 29) ∷ (Sign token.In, 31) ∷ (Name (codes "y"), 34) ∷ (Sign token.LeftBrace, 36) ∷
@@ -121,6 +138,17 @@ pub record LinesOfConstructs : Type 0 where
       (node.for_statement (codes "x") None (variable (codes "y") None (place 1 34)) (node.braces node.no_statements
       (place 1 36) (place 1 37)) (place 1 25)) node.no_statements) (place 1 23) (place 1 39)) (place 1 1))
       node.no_statements) []
+  -- `try {} catch (e) { e = 1; e += 2 }`
+  pub read_15 : IsScript ((Sign token.Try, 1) ∷ (Sign token.LeftBrace, 5) ∷ (Sign token.RightBrace, 6) ∷
+      (Sign token.Catch, 8) ∷ (Sign token.LeftParen, 14) ∷ (Name (codes "e"), 15) ∷ (Sign token.RightParen, 16) ∷
+      (Sign token.LeftBrace, 18) ∷ (Name (codes "e"), 20) ∷ (Sign token.Equals, 22) ∷ (Integer (pos 1), 24) ∷
+      (Sign token.SemiColon, 25) ∷ (Name (codes "e"), 27) ∷ (Sign token.PlusAssign, 29) ∷ (Integer (pos 2), 32) ∷
+      (Sign token.RightBrace, 34) ∷ []) 35 (node.one_statement (node.try_catch (node.braces node.no_statements
+      (place 1 5) (place 1 6)) (variable (codes "e") None (place 1 15)) (node.braces (node.one_statement
+      (node.assignment None (variable (codes "e") (Some 1) (place 1 20)) (node.integer (pos 1) (place 1 24))
+      (place 1 22)) (node.one_statement (node.assignment (Some (Sign token.PlusAssign)) (variable (codes "e") (Some 1)
+      (place 1 27)) (node.integer (pos 2) (place 1 32)) (place 1 29)) node.no_statements)) (place 1 18) (place 1 34))
+      (place 1 1)) node.no_statements) []
   -- `if )`
   pub refused_1 : Refuses script ((Sign token.If, 1) ∷ (Sign token.RightParen, 4) ∷ []) 5 (cause.BadInput
       (cause.UnexpectedInput (codes ")"))) 4

@@ -12,50 +12,65 @@ use Rattle.rhai_productions.specs.Lines.{variable}
 
 -- The column of an error counts from 1, as those of the tokens and of the end mark.
 pub record LinesOfFunctions : Type 0 where
+  -- `private fn f() {}`
+  pub read_1 : IsScript ((Sign token.Private, 1) ∷ (Sign token.Fn, 9) ∷ (Name (codes "f"), 12) ∷
+      (Sign token.Unit, 13) ∷ (Sign token.LeftBrace, 16) ∷ (Sign token.RightBrace, 17) ∷ []) 18 (node.no_statements)
+      ((ended None (codes "f") true [] [] (node.braces node.no_statements (place 1 16) (place 1 17))) ∷ [])
   -- `fn f() {} f()`
-  pub read_1 : IsScript ((Sign token.Fn, 1) ∷ (Name (codes "f"), 4) ∷ (Sign token.Unit, 5) ∷
+  pub read_2 : IsScript ((Sign token.Fn, 1) ∷ (Name (codes "f"), 4) ∷ (Sign token.Unit, 5) ∷
       (Sign token.LeftBrace, 8) ∷ (Sign token.RightBrace, 9) ∷ (Name (codes "f"), 11) ∷ (Sign token.Unit, 12) ∷ []) 14
       (node.one_statement (node.expression (node.call (function (codes "f") false 0) node.no_nodes (place 1 11)))
-      node.no_statements) ((ended None (codes "f") false [] (node.braces node.no_statements (place 1 8) (place 1 9)))
-      ∷ [])
+      node.no_statements) ((ended None (codes "f") false [] [] (node.braces node.no_statements (place 1 8)
+      (place 1 9))) ∷ [])
   -- `fn f() { return 1; }`
-  pub read_2 : IsScript ((Sign token.Fn, 1) ∷ (Name (codes "f"), 4) ∷ (Sign token.Unit, 5) ∷
+  pub read_3 : IsScript ((Sign token.Fn, 1) ∷ (Name (codes "f"), 4) ∷ (Sign token.Unit, 5) ∷
       (Sign token.LeftBrace, 8) ∷ (Sign token.Return, 10) ∷ (Integer (pos 1), 17) ∷ (Sign token.SemiColon, 18) ∷
-      (Sign token.RightBrace, 20) ∷ []) 21 (node.no_statements) ((ended None (codes "f") false [] (node.braces
+      (Sign token.RightBrace, 20) ∷ []) 21 (node.no_statements) ((ended None (codes "f") false [] [] (node.braces
       (node.one_statement (node.return_statement (node.present (node.integer (pos 1) (place 1 17))) false
       (place 1 10)) node.no_statements) (place 1 8) (place 1 20))) ∷ [])
+  -- `fn f() { this = 1 }`
+  pub read_4 : IsScript ((Sign token.Fn, 1) ∷ (Name (codes "f"), 4) ∷ (Sign token.Unit, 5) ∷
+      (Sign token.LeftBrace, 8) ∷ (Reserved (codes "this"), 10) ∷ (Sign token.Equals, 15) ∷ (Integer (pos 1), 17) ∷
+      (Sign token.RightBrace, 19) ∷ []) 20 (node.no_statements) ((ended None (codes "f") false [] [] (node.braces
+      (node.one_statement (node.assignment None (node.this (place 1 10)) (node.integer (pos 1) (place 1 17))
+      (place 1 15)) node.no_statements) (place 1 8) (place 1 19))) ∷ [])
   -- `fn f() { loop { break } }`
-  pub read_3 : IsScript ((Sign token.Fn, 1) ∷ (Name (codes "f"), 4) ∷ (Sign token.Unit, 5) ∷
+  pub read_5 : IsScript ((Sign token.Fn, 1) ∷ (Name (codes "f"), 4) ∷ (Sign token.Unit, 5) ∷
       (Sign token.LeftBrace, 8) ∷ (Sign token.Loop, 10) ∷ (Sign token.LeftBrace, 15) ∷ (Sign token.Break, 17) ∷
       (Sign token.RightBrace, 23) ∷ (Sign token.RightBrace, 25) ∷ []) 26 (node.no_statements) ((ended None (codes "f")
-      false [] (node.braces (node.one_statement (node.while_statement (node.unit nowhere) (node.braces
+      false [] [] (node.braces (node.one_statement (node.while_statement (node.unit nowhere) (node.braces
       (node.one_statement (node.break_loop node.absent true (place 1 17)) node.no_statements) (place 1 15)
       (place 1 23)) (place 1 10)) node.no_statements) (place 1 8) (place 1 25))) ∷ [])
   -- `fn f(a) { a | 1 }`
-  pub read_4 : IsScript ((Sign token.Fn, 1) ∷ (Name (codes "f"), 4) ∷ (Sign token.LeftParen, 5) ∷
+  pub read_6 : IsScript ((Sign token.Fn, 1) ∷ (Name (codes "f"), 4) ∷ (Sign token.LeftParen, 5) ∷
       (Name (codes "a"), 6) ∷ (Sign token.RightParen, 7) ∷ (Sign token.LeftBrace, 9) ∷ (Name (codes "a"), 11) ∷
       (Sign token.Pipe, 13) ∷ (Integer (pos 1), 15) ∷ (Sign token.RightBrace, 17) ∷ []) 18 (node.no_statements)
-      ((ended None (codes "f") false ((codes "a") ∷ []) (node.braces (node.one_statement (node.expression (node.call
-      (operator_called (Sign token.Pipe)) (node.one_node (variable (codes "a") (Some 1) (place 1 11)) (node.one_node
-      (node.integer (pos 1) (place 1 15)) node.no_nodes)) (place 1 13))) node.no_statements) (place 1 9)
-      (place 1 17))) ∷ [])
+      ((ended None (codes "f") false ((codes "a") ∷ []) [] (node.braces (node.one_statement (node.expression
+      (node.call (operator_called (Sign token.Pipe)) (node.one_node (variable (codes "a") (Some 1) (place 1 11))
+      (node.one_node (node.integer (pos 1) (place 1 15)) node.no_nodes)) (place 1 13))) node.no_statements)
+      (place 1 9) (place 1 17))) ∷ [])
   -- `fn f() { this.x(1) }`
-  pub read_5 : IsScript ((Sign token.Fn, 1) ∷ (Name (codes "f"), 4) ∷ (Sign token.Unit, 5) ∷
+  pub read_7 : IsScript ((Sign token.Fn, 1) ∷ (Name (codes "f"), 4) ∷ (Sign token.Unit, 5) ∷
       (Sign token.LeftBrace, 8) ∷ (Reserved (codes "this"), 10) ∷ (Sign token.Period, 14) ∷ (Name (codes "x"), 15) ∷
       (Sign token.LeftParen, 16) ∷ (Integer (pos 1), 17) ∷ (Sign token.RightParen, 18) ∷ (Sign token.RightBrace, 20) ∷
-      []) 21 (node.no_statements) ((ended None (codes "f") false [] (node.braces (node.one_statement (node.expression
-      (node.dot (node.this (place 1 10)) (node.method_call (method_called (codes "x") false 1) (node.one_node
-      (node.integer (pos 1) (place 1 17)) node.no_nodes) (place 1 15)) (record {
+      []) 21 (node.no_statements) ((ended None (codes "f") false [] [] (node.braces (node.one_statement
+      (node.expression (node.dot (node.this (place 1 10)) (node.method_call (method_called (codes "x") false 1)
+      (node.one_node (node.integer (pos 1) (place 1 17)) node.no_nodes) (place 1 15)) (record {
         negated = false;
         terminating = false;
       }) (place 1 14))) node.no_statements) (place 1 8) (place 1 20))) ∷ [])
   -- `let x = 1; fn f() {} x`
-  pub read_6 : IsScript ((Sign token.Let, 1) ∷ (Name (codes "x"), 5) ∷ (Sign token.Equals, 7) ∷ (Integer (pos 1), 9) ∷
+  pub read_8 : IsScript ((Sign token.Let, 1) ∷ (Name (codes "x"), 5) ∷ (Sign token.Equals, 7) ∷ (Integer (pos 1), 9) ∷
       (Sign token.SemiColon, 10) ∷ (Sign token.Fn, 12) ∷ (Name (codes "f"), 15) ∷ (Sign token.Unit, 16) ∷
       (Sign token.LeftBrace, 19) ∷ (Sign token.RightBrace, 20) ∷ (Name (codes "x"), 22) ∷ []) 23 (node.one_statement
       (node.var_statement (codes "x") (node.integer (pos 1) (place 1 9)) None false false (place 1 1))
       (node.one_statement (node.expression (variable (codes "x") (Some 1) (place 1 22))) node.no_statements)) ((ended
-      None (codes "f") false [] (node.braces node.no_statements (place 1 19) (place 1 20))) ∷ [])
+      None (codes "f") false [] [] (node.braces node.no_statements (place 1 19) (place 1 20))) ∷ [])
+  -- `/** a */ fn f() {}`
+  pub read_9 : IsScript ((Comment (codes "/** a */"), 1) ∷ (Sign token.Fn, 10) ∷ (Name (codes "f"), 13) ∷
+      (Sign token.Unit, 14) ∷ (Sign token.LeftBrace, 17) ∷ (Sign token.RightBrace, 18) ∷ []) 19 (node.no_statements)
+      ((ended None (codes "f") false [] ((codes "/** a */") ∷ []) (node.braces node.no_statements (place 1 17)
+      (place 1 18))) ∷ [])
   -- `fn f() {}`
   pub refused_1 : Refuses expression ((Sign token.Fn, 1) ∷ (Name (codes "f"), 4) ∷ (Sign token.Unit, 5) ∷
       (Sign token.LeftBrace, 8) ∷ (Sign token.RightBrace, 9) ∷ []) 10 (cause.BadInput (cause.UnexpectedInput

@@ -1,13 +1,14 @@
 -- Lines of tokens that are jumps, and lines that are refused there.
-use Rattle.std.specs.Prelude.{None, false, true, codes, pos, [], ◌∷◌}
+use Rattle.std.specs.Prelude.{None, Some, false, true, codes, pos, [], ◌∷◌}
 use Rattle.rhai_lower.specs.Lexemes.{Integer, Character, String, Name, Reserved, Interpolated, Faulty, Sign}
 use Rattle.rhai_lower.specs.Lexemes.{UnterminatedString}
 use Rattle.rhai_lower.specs.Nodes as node
 use Rattle.rhai_lower.specs.Positions.{nowhere, place}
 use Rattle.rhai_lower.specs.declared.token.Token.TheVariants as token
 use Rattle.rhai_grammar.specs.Causes as cause
-use Rattle.rhai_grammar.specs.Operators.{operator_called}
-use Rattle.rhai_productions.specs.Lines.{IsScript, Refuses, expression, expression_by, function, new_engine, script}
+use Rattle.rhai_grammar.specs.Operators.{operator_called, contains_called}
+use Rattle.rhai_grammar.specs.Signs.{sign_called}
+use Rattle.rhai_productions.specs.Lines.{IsExpression, IsScript, Refuses, expression, expression_by, new_engine, script}
 use Rattle.rhai_productions.specs.Lines.{script_by, variable}
 
 -- The column of an error counts from 1, as those of the tokens and of the end mark.
@@ -24,20 +25,33 @@ pub record LinesOfJumps : Type 0 where
       (node.return_statement (node.present (node.call (operator_called (Sign token.InclusiveRange)) (node.one_node
       (node.integer (pos 0) (place 1 10)) (node.one_node (node.unit (place 1 13)) node.no_nodes)) (place 1 10))) false
       (place 1 3)) node.no_statements) (place 1 1) (place 1 13))) node.no_statements) []
+  -- `return [1]`
+  pub read_4 : IsScript ((Sign token.Return, 1) ∷ (Sign token.LeftBracket, 8) ∷ (Integer (pos 1), 9) ∷
+      (Sign token.RightBracket, 10) ∷ []) 11 (node.one_statement (node.return_statement (node.present (node.array
+      (node.one_node (node.integer (pos 1) (place 1 9)) node.no_nodes) (place 1 8))) false (place 1 1))
+      node.no_statements) []
   -- `` `a${return}c` ``
-  pub read_4 : IsScript ((Interpolated (codes "a"), 1) ∷ (Sign token.LeftBrace, 4) ∷ (Sign token.Return, 5) ∷
+  pub read_5 : IsScript ((Interpolated (codes "a"), 1) ∷ (Sign token.LeftBrace, 4) ∷ (Sign token.Return, 5) ∷
       (Sign token.RightBrace, 11) ∷ (String (codes "c"), 12) ∷ []) 14 (node.one_statement (node.expression
       (node.interpolated (node.one_node (node.string (codes "a") (place 1 1)) (node.one_node (node.block_value
       (node.braces (node.one_statement (node.return_statement node.absent false (place 1 5)) node.no_statements)
       (place 1 4) (place 1 11))) (node.one_node (node.string (codes "c") (place 1 12)) node.no_nodes))) (place 1 1)))
       node.no_statements) []
+  -- `a ?? return !in b`
+  pub read_6 : IsExpression ((Name (codes "a"), 1) ∷ (Sign token.DoubleQuestion, 3) ∷ (Sign token.Return, 6) ∷
+      (Sign token.NotIn, 13) ∷ (Name (codes "b"), 17) ∷ []) 18 (node.call (sign_called (Sign token.Bang))
+      (node.one_node (node.call (contains_called (Some (Sign token.NotIn))) (node.one_node (variable (codes "b") None
+      (place 1 17)) (node.one_node (node.coalescing (node.one_node (variable (codes "a") None (place 1 1))
+      (node.one_node (node.block_value (node.braces (node.one_statement (node.return_statement node.absent false
+      (place 1 6)) node.no_statements) (place 1 6) nowhere)) node.no_nodes)) (place 1 3)) node.no_nodes))
+      (place 1 13)) node.no_nodes) (place 1 13)) []
   -- `return #{a: 1}`
-  pub read_5 : IsScript ((Sign token.Return, 1) ∷ (Sign token.MapStart, 8) ∷ (Name (codes "a"), 10) ∷
+  pub read_7 : IsScript ((Sign token.Return, 1) ∷ (Sign token.MapStart, 8) ∷ (Name (codes "a"), 10) ∷
       (Sign token.Colon, 11) ∷ (Integer (pos 1), 13) ∷ (Sign token.RightBrace, 14) ∷ []) 15 (node.one_statement
       (node.return_statement (node.present (node.object_map (node.one_property (codes "a") (place 1 10) (node.integer
       (pos 1) (place 1 13)) node.no_properties) (place 1 8))) false (place 1 1)) node.no_statements) []
   -- `loop { (a ?? break)[0].b }`
-  pub read_6 : IsScript ((Sign token.Loop, 1) ∷ (Sign token.LeftBrace, 6) ∷ (Sign token.LeftParen, 8) ∷
+  pub read_8 : IsScript ((Sign token.Loop, 1) ∷ (Sign token.LeftBrace, 6) ∷ (Sign token.LeftParen, 8) ∷
       (Name (codes "a"), 9) ∷ (Sign token.DoubleQuestion, 11) ∷ (Sign token.Break, 14) ∷ (Sign token.RightParen, 19) ∷
       (Sign token.LeftBracket, 20) ∷ (Integer (pos 0), 21) ∷ (Sign token.RightBracket, 22) ∷ (Sign token.Period, 23) ∷
       (Name (codes "b"), 24) ∷ (Sign token.RightBrace, 26) ∷ []) 27 (node.one_statement (node.while_statement
@@ -51,53 +65,63 @@ pub record LinesOfJumps : Type 0 where
       }) (place 1 20))) node.no_statements) (place 1 6) (place 1 26)) (place 1 1))
       node.no_statements) []
   -- `loop { break ..}`
-  pub read_7 : IsScript ((Sign token.Loop, 1) ∷ (Sign token.LeftBrace, 6) ∷ (Sign token.Break, 8) ∷
+  pub read_9 : IsScript ((Sign token.Loop, 1) ∷ (Sign token.LeftBrace, 6) ∷ (Sign token.Break, 8) ∷
       (Sign token.ExclusiveRange, 14) ∷ (Sign token.RightBrace, 16) ∷ []) 17 (node.one_statement (node.while_statement
       (node.unit nowhere) (node.braces (node.one_statement (node.break_loop (node.present (node.call (operator_called
       (Sign token.ExclusiveRange)) (node.one_node (node.integer (pos 0) (place 1 14)) (node.one_node (node.unit
       (place 1 16)) node.no_nodes)) (place 1 14))) true (place 1 8)) node.no_statements) (place 1 6) (place 1 16))
       (place 1 1)) node.no_statements) []
-  -- `do { break } while a`
-  pub read_8 : IsScript ((Sign token.Do, 1) ∷ (Sign token.LeftBrace, 4) ∷ (Sign token.Break, 6) ∷
-      (Sign token.RightBrace, 12) ∷ (Sign token.While, 14) ∷ (Name (codes "a"), 20) ∷ []) 21 (node.one_statement
-      (node.do_statement (variable (codes "a") None (place 1 20)) (node.braces (node.one_statement (node.break_loop
-      node.absent true (place 1 6)) node.no_statements) (place 1 4) (place 1 12)) false (place 1 1))
-      node.no_statements) []
+  -- `do { continue; } until a`
+  pub read_10 : IsScript ((Sign token.Do, 1) ∷ (Sign token.LeftBrace, 4) ∷ (Sign token.Continue, 6) ∷
+      (Sign token.SemiColon, 14) ∷ (Sign token.RightBrace, 16) ∷ (Sign token.Until, 18) ∷ (Name (codes "a"), 24) ∷ [])
+      25 (node.one_statement (node.do_statement (variable (codes "a") None (place 1 24)) (node.braces
+      (node.one_statement (node.break_loop node.absent false (place 1 6)) node.no_statements) (place 1 4)
+      (place 1 16)) true (place 1 1)) node.no_statements) []
   -- `loop { break [0] }`
-  pub read_9 : IsScript ((Sign token.Loop, 1) ∷ (Sign token.LeftBrace, 6) ∷ (Sign token.Break, 8) ∷
+  pub read_11 : IsScript ((Sign token.Loop, 1) ∷ (Sign token.LeftBrace, 6) ∷ (Sign token.Break, 8) ∷
       (Sign token.LeftBracket, 14) ∷ (Integer (pos 0), 15) ∷ (Sign token.RightBracket, 16) ∷
       (Sign token.RightBrace, 18) ∷ []) 19 (node.one_statement (node.while_statement (node.unit nowhere) (node.braces
       (node.one_statement (node.break_loop (node.present (node.array (node.one_node (node.integer (pos 0)
       (place 1 15)) node.no_nodes) (place 1 14))) true (place 1 8)) node.no_statements) (place 1 6) (place 1 18))
       (place 1 1)) node.no_statements) []
   -- `loop { break a ?? b }`
-  pub read_10 : IsScript ((Sign token.Loop, 1) ∷ (Sign token.LeftBrace, 6) ∷ (Sign token.Break, 8) ∷
+  pub read_12 : IsScript ((Sign token.Loop, 1) ∷ (Sign token.LeftBrace, 6) ∷ (Sign token.Break, 8) ∷
       (Name (codes "a"), 14) ∷ (Sign token.DoubleQuestion, 16) ∷ (Name (codes "b"), 19) ∷
       (Sign token.RightBrace, 21) ∷ []) 22 (node.one_statement (node.while_statement (node.unit nowhere) (node.braces
       (node.one_statement (node.break_loop (node.present (node.coalescing (node.one_node (variable (codes "a") None
       (place 1 14)) (node.one_node (variable (codes "b") None (place 1 19)) node.no_nodes)) (place 1 16))) true
       (place 1 8)) node.no_statements) (place 1 6) (place 1 21)) (place 1 1)) node.no_statements) []
-  -- `` loop { `a${break}` } ``
-  pub read_11 : IsScript ((Sign token.Loop, 1) ∷ (Sign token.LeftBrace, 6) ∷ (Interpolated (codes "a"), 8) ∷
-      (Sign token.LeftBrace, 11) ∷ (Sign token.Break, 12) ∷ (Sign token.RightBrace, 17) ∷ (String [], 18) ∷
-      (Sign token.RightBrace, 20) ∷ []) 21 (node.one_statement (node.while_statement (node.unit nowhere) (node.braces
-      (node.one_statement (node.expression (node.interpolated (node.one_node (node.string (codes "a") (place 1 8))
-      (node.one_node (node.block_value (node.braces (node.one_statement (node.break_loop node.absent true
-      (place 1 12)) node.no_statements) (place 1 11) (place 1 17))) node.no_nodes)) (place 1 8))) node.no_statements)
-      (place 1 6) (place 1 20)) (place 1 1)) node.no_statements) []
-  -- `loop { f({ break }, if a { continue }) }`
-  pub read_12 : IsScript ((Sign token.Loop, 1) ∷ (Sign token.LeftBrace, 6) ∷ (Name (codes "f"), 8) ∷
-      (Sign token.LeftParen, 9) ∷ (Sign token.LeftBrace, 10) ∷ (Sign token.Break, 12) ∷ (Sign token.RightBrace, 18) ∷
-      (Sign token.Comma, 19) ∷ (Sign token.If, 21) ∷ (Name (codes "a"), 24) ∷ (Sign token.LeftBrace, 26) ∷
-      (Sign token.Continue, 28) ∷ (Sign token.RightBrace, 37) ∷ (Sign token.RightParen, 38) ∷
-      (Sign token.RightBrace, 40) ∷ []) 41 (node.one_statement (node.while_statement (node.unit nowhere) (node.braces
-      (node.one_statement (node.expression (node.call (function (codes "f") false 2) (node.one_node (node.block_value
-      (node.braces (node.one_statement (node.break_loop node.absent true (place 1 12)) node.no_statements)
-      (place 1 10) (place 1 18))) (node.one_node (node.block_value (node.braces (node.one_statement (node.if_statement
-      (variable (codes "a") None (place 1 24)) (node.braces (node.one_statement (node.break_loop node.absent false
-      (place 1 28)) node.no_statements) (place 1 26) (place 1 37)) (node.braces node.no_statements nowhere nowhere)
-      (place 1 21)) node.no_statements) (place 1 21) nowhere)) node.no_nodes)) (place 1 8))) node.no_statements)
-      (place 1 6) (place 1 40)) (place 1 1)) node.no_statements) []
+  -- `for x in y { break x }`
+  pub read_13 : IsScript ((Sign token.For, 1) ∷ (Name (codes "x"), 5) ∷ (Sign token.In, 7) ∷ (Name (codes "y"), 10) ∷
+      (Sign token.LeftBrace, 12) ∷ (Sign token.Break, 14) ∷ (Name (codes "x"), 20) ∷ (Sign token.RightBrace, 22) ∷ [])
+      23 (node.one_statement (node.for_statement (codes "x") None (variable (codes "y") None (place 1 10))
+      (node.braces (node.one_statement (node.break_loop (node.present (variable (codes "x") (Some 1) (place 1 20)))
+      true (place 1 14)) node.no_statements) (place 1 12) (place 1 22)) (place 1 1)) node.no_statements) []
+  -- `loop { let x; break x }`
+  pub read_14 : IsScript ((Sign token.Loop, 1) ∷ (Sign token.LeftBrace, 6) ∷ (Sign token.Let, 8) ∷
+      (Name (codes "x"), 12) ∷ (Sign token.SemiColon, 13) ∷ (Sign token.Break, 15) ∷ (Name (codes "x"), 21) ∷
+      (Sign token.RightBrace, 23) ∷ []) 24 (node.one_statement (node.while_statement (node.unit nowhere) (node.braces
+      (node.one_statement (node.var_statement (codes "x") (node.unit nowhere) None false false (place 1 8))
+      (node.one_statement (node.break_loop (node.present (variable (codes "x") (Some 1) (place 1 21))) true
+      (place 1 15)) node.no_statements)) (place 1 6) (place 1 23)) (place 1 1)) node.no_statements) []
+  -- `` loop { break `a${b}` } ``
+  pub read_15 : IsScript ((Sign token.Loop, 1) ∷ (Sign token.LeftBrace, 6) ∷ (Sign token.Break, 8) ∷
+      (Interpolated (codes "a"), 14) ∷ (Sign token.LeftBrace, 17) ∷ (Name (codes "b"), 18) ∷
+      (Sign token.RightBrace, 19) ∷ (String [], 20) ∷ (Sign token.RightBrace, 22) ∷ []) 23 (node.one_statement
+      (node.while_statement (node.unit nowhere) (node.braces (node.one_statement (node.break_loop (node.present
+      (node.interpolated (node.one_node (node.string (codes "a") (place 1 14)) (node.one_node (node.block_value
+      (node.braces (node.one_statement (node.expression (variable (codes "b") None (place 1 18))) node.no_statements)
+      (place 1 17) (place 1 19))) node.no_nodes)) (place 1 14))) true (place 1 8)) node.no_statements) (place 1 6)
+      (place 1 22)) (place 1 1)) node.no_statements) []
+  -- `loop { if a { break } else { continue } }`
+  pub read_16 : IsScript ((Sign token.Loop, 1) ∷ (Sign token.LeftBrace, 6) ∷ (Sign token.If, 8) ∷
+      (Name (codes "a"), 11) ∷ (Sign token.LeftBrace, 13) ∷ (Sign token.Break, 15) ∷ (Sign token.RightBrace, 21) ∷
+      (Sign token.Else, 23) ∷ (Sign token.LeftBrace, 28) ∷ (Sign token.Continue, 30) ∷ (Sign token.RightBrace, 39) ∷
+      (Sign token.RightBrace, 41) ∷ []) 42 (node.one_statement (node.while_statement (node.unit nowhere) (node.braces
+      (node.one_statement (node.if_statement (variable (codes "a") None (place 1 11)) (node.braces (node.one_statement
+      (node.break_loop node.absent true (place 1 15)) node.no_statements) (place 1 13) (place 1 21)) (node.braces
+      (node.one_statement (node.break_loop node.absent false (place 1 30)) node.no_statements) (place 1 28)
+      (place 1 39)) (place 1 8)) node.no_statements) (place 1 6) (place 1 41)) (place 1 1)) node.no_statements) []
   -- `return`
   pub refused_1 : Refuses expression ((Sign token.Return, 1) ∷ []) 7 (cause.BadInput (cause.UnexpectedInput
       (codes "return"))) 1

@@ -5,7 +5,7 @@ use Rattle.rhai_lower.specs.Nodes as node
 use Rattle.rhai_lower.specs.Positions.{place}
 use Rattle.rhai_lower.specs.declared.token.Token.TheVariants as token
 use Rattle.rhai_grammar.specs.Causes as cause
-use Rattle.rhai_grammar.specs.Operators.{operator_called}
+use Rattle.rhai_grammar.specs.Operators.{operator_called, contains_called}
 use Rattle.rhai_grammar.specs.Signs.{sign_called}
 use Rattle.rhai_productions.specs.Lines.{IsExpression, Refuses, expression, expression_by, function, new_engine, script}
 use Rattle.rhai_productions.specs.Lines.{variable}
@@ -62,35 +62,48 @@ pub record LinesOfLists : Type 0 where
       (node.object_map (node.one_property (codes "a") (place 1 3) (node.conjunction (node.one_node (variable
       (codes "x") None (place 1 6)) (node.one_node (variable (codes "y") None (place 1 11)) node.no_nodes))
       (place 1 8)) node.no_properties) (place 1 1)) []
+  -- `"a" in #{a: 1}`
+  pub read_10 : IsExpression ((String (codes "a"), 1) ∷ (Sign token.In, 5) ∷ (Sign token.MapStart, 8) ∷
+      (Name (codes "a"), 10) ∷ (Sign token.Colon, 11) ∷ (Integer (pos 1), 13) ∷ (Sign token.RightBrace, 14) ∷ []) 15
+      (node.call (contains_called None) (node.one_node (node.object_map (node.one_property (codes "a") (place 1 10)
+      (node.integer (pos 1) (place 1 13)) node.no_properties) (place 1 8)) (node.one_node (node.string (codes "a")
+      (place 1 1)) node.no_nodes)) (place 1 5)) []
   -- `f(#{a: 1})`
-  pub read_10 : IsExpression ((Name (codes "f"), 1) ∷ (Sign token.LeftParen, 2) ∷ (Sign token.MapStart, 3) ∷
+  pub read_11 : IsExpression ((Name (codes "f"), 1) ∷ (Sign token.LeftParen, 2) ∷ (Sign token.MapStart, 3) ∷
       (Name (codes "a"), 5) ∷ (Sign token.Colon, 6) ∷ (Integer (pos 1), 8) ∷ (Sign token.RightBrace, 9) ∷
       (Sign token.RightParen, 10) ∷ []) 11 (node.call (function (codes "f") false 1) (node.one_node (node.object_map
       (node.one_property (codes "a") (place 1 5) (node.integer (pos 1) (place 1 8)) node.no_properties) (place 1 3))
       node.no_nodes) (place 1 1)) []
   -- `#{a: 1, "b c": true}`
-  pub read_11 : IsExpression ((Sign token.MapStart, 1) ∷ (Name (codes "a"), 3) ∷ (Sign token.Colon, 4) ∷
+  pub read_12 : IsExpression ((Sign token.MapStart, 1) ∷ (Name (codes "a"), 3) ∷ (Sign token.Colon, 4) ∷
       (Integer (pos 1), 6) ∷ (Sign token.Comma, 7) ∷ (String (codes "b c"), 9) ∷ (Sign token.Colon, 14) ∷
       (Sign token.True, 16) ∷ (Sign token.RightBrace, 20) ∷ []) 21 (node.object_map (node.one_property (codes "a")
       (place 1 3) (node.integer (pos 1) (place 1 6)) (node.one_property (codes "b c") (place 1 9) (node.boolean true
       (place 1 16)) node.no_properties)) (place 1 1)) []
+  -- `[#{}, #{a: []}]`
+  pub read_13 : IsExpression ((Sign token.LeftBracket, 1) ∷ (Sign token.MapStart, 2) ∷ (Sign token.RightBrace, 4) ∷
+      (Sign token.Comma, 5) ∷ (Sign token.MapStart, 7) ∷ (Name (codes "a"), 9) ∷ (Sign token.Colon, 10) ∷
+      (Sign token.LeftBracket, 12) ∷ (Sign token.RightBracket, 13) ∷ (Sign token.RightBrace, 14) ∷
+      (Sign token.RightBracket, 15) ∷ []) 16 (node.array (node.one_node (node.object_map node.no_properties
+      (place 1 2)) (node.one_node (node.object_map (node.one_property (codes "a") (place 1 9) (node.array
+      node.no_nodes (place 1 12)) node.no_properties) (place 1 7)) node.no_nodes)) (place 1 1)) []
   -- `((x))`
-  pub read_12 : IsExpression ((Sign token.LeftParen, 1) ∷ (Sign token.LeftParen, 2) ∷ (Name (codes "x"), 3) ∷
+  pub read_14 : IsExpression ((Sign token.LeftParen, 1) ∷ (Sign token.LeftParen, 2) ∷ (Name (codes "x"), 3) ∷
       (Sign token.RightParen, 4) ∷ (Sign token.RightParen, 5) ∷ []) 6 (variable (codes "x") None (place 1 3)) []
   -- `(1 + 2) * 3`
-  pub read_13 : IsExpression ((Sign token.LeftParen, 1) ∷ (Integer (pos 1), 2) ∷ (Sign token.Plus, 4) ∷
+  pub read_15 : IsExpression ((Sign token.LeftParen, 1) ∷ (Integer (pos 1), 2) ∷ (Sign token.Plus, 4) ∷
       (Integer (pos 2), 6) ∷ (Sign token.RightParen, 7) ∷ (Sign token.Multiply, 9) ∷ (Integer (pos 3), 11) ∷ []) 12
       (node.call (operator_called (Sign token.Multiply)) (node.one_node (node.call (operator_called (Sign token.Plus))
       (node.one_node (node.integer (pos 1) (place 1 2)) (node.one_node (node.integer (pos 2) (place 1 6))
       node.no_nodes)) (place 1 4)) (node.one_node (node.integer (pos 3) (place 1 11)) node.no_nodes)) (place 1 9)) []
   -- `()`
-  pub read_14 : IsExpression ((Sign token.Unit, 1) ∷ []) 3 (node.unit (place 1 1)) []
+  pub read_16 : IsExpression ((Sign token.Unit, 1) ∷ []) 3 (node.unit (place 1 1)) []
   -- `false`
-  pub read_15 : IsExpression ((Sign token.False, 1) ∷ []) 6 (node.boolean false (place 1 1)) []
+  pub read_17 : IsExpression ((Sign token.False, 1) ∷ []) 6 (node.boolean false (place 1 1)) []
   -- a character
-  pub read_16 : IsExpression ((Character 955, 1) ∷ []) 4 (node.character 955 (place 1 1)) []
+  pub read_18 : IsExpression ((Character 955, 1) ∷ []) 4 (node.character 955 (place 1 1)) []
   -- an empty text
-  pub read_17 : IsExpression ((String [], 1) ∷ []) 3 (node.string [] (place 1 1)) []
+  pub read_19 : IsExpression ((String [], 1) ∷ []) 3 (node.string [] (place 1 1)) []
   -- an error of the tokenizer in the place of an item too many, and then the end mark
   pub refused_1 : Refuses (expression_by (record new_engine { array = 1 })) ((Sign token.LeftBracket, 1) ∷
       (Integer (pos 1), 2) ∷ (Sign token.Comma, 3) ∷ (Faulty UnterminatedString, 5) ∷ []) 6 (cause.LiteralTooLarge

@@ -7,21 +7,24 @@ use Rattle.rhai_lower.specs.declared.token.Token.TheVariants as token
 use Rattle.rhai_grammar.specs.Causes as cause
 use Rattle.rhai_grammar.specs.Operators.{operator_called}
 use Rattle.rhai_grammar.specs.Signs.{sign_called}
-use Rattle.rhai_productions.specs.Lines.{IsScript, Refuses, function, new_engine, script, script_by}
-use Rattle.rhai_productions.specs.Lines.{variable}
+use Rattle.rhai_productions.specs.Lines.{IsScript, Refuses, function, new_engine, script, script_by, variable}
 
 -- The column of an error counts from 1, as those of the tokens and of the end mark.
 pub record LinesOfLoops : Type 0 where
-  -- `!loop { break a }`
-  pub read_1 : IsScript ((Sign token.Bang, 1) ∷ (Sign token.Loop, 2) ∷ (Sign token.LeftBrace, 7) ∷
-      (Sign token.Break, 9) ∷ (Name (codes "a"), 15) ∷ (Sign token.RightBrace, 17) ∷ []) 18 (node.one_statement
-      (node.expression (node.call (sign_called (Sign token.Bang)) (node.one_node (node.block_value (node.braces
-      (node.one_statement (node.while_statement (node.unit nowhere) (node.braces (node.one_statement (node.break_loop
-      (node.present (variable (codes "a") None (place 1 15))) true (place 1 9)) node.no_statements) (place 1 7)
-      (place 1 17)) (place 1 2)) node.no_statements) (place 1 2) nowhere)) node.no_nodes) (place 1 1)))
-      node.no_statements) []
+  -- `while true {}`
+  pub read_1 : IsScript ((Sign token.While, 1) ∷ (Sign token.True, 7) ∷ (Sign token.LeftBrace, 12) ∷
+      (Sign token.RightBrace, 13) ∷ []) 14 (node.one_statement (node.while_statement (node.boolean true (place 1 7))
+      (node.braces node.no_statements (place 1 12) (place 1 13)) (place 1 1)) node.no_statements) []
+  -- `..loop { break 5 }`
+  pub read_2 : IsScript ((Sign token.ExclusiveRange, 1) ∷ (Sign token.Loop, 3) ∷ (Sign token.LeftBrace, 8) ∷
+      (Sign token.Break, 10) ∷ (Integer (pos 5), 16) ∷ (Sign token.RightBrace, 18) ∷ []) 19 (node.one_statement
+      (node.expression (node.call (operator_called (Sign token.ExclusiveRange)) (node.one_node (node.integer (pos 0)
+      (place 1 1)) (node.one_node (node.block_value (node.braces (node.one_statement (node.while_statement (node.unit
+      nowhere) (node.braces (node.one_statement (node.break_loop (node.present (node.integer (pos 5) (place 1 16)))
+      true (place 1 10)) node.no_statements) (place 1 8) (place 1 18)) (place 1 3)) node.no_statements) (place 1 3)
+      nowhere)) node.no_nodes)) (place 1 1))) node.no_statements) []
   -- `a ?? return loop {}`
-  pub read_2 : IsScript ((Name (codes "a"), 1) ∷ (Sign token.DoubleQuestion, 3) ∷ (Sign token.Return, 6) ∷
+  pub read_3 : IsScript ((Name (codes "a"), 1) ∷ (Sign token.DoubleQuestion, 3) ∷ (Sign token.Return, 6) ∷
       (Sign token.Loop, 13) ∷ (Sign token.LeftBrace, 18) ∷ (Sign token.RightBrace, 19) ∷ []) 20 (node.one_statement
       (node.expression (node.coalescing (node.one_node (variable (codes "a") None (place 1 1)) (node.one_node
       (node.block_value (node.braces (node.one_statement (node.return_statement (node.present (node.block_value
@@ -29,14 +32,14 @@ pub record LinesOfLoops : Type 0 where
       (place 1 18) (place 1 19)) (place 1 13)) node.no_statements) (place 1 13) nowhere))) false (place 1 6))
       node.no_statements) (place 1 6) nowhere)) node.no_nodes)) (place 1 3))) node.no_statements) []
   -- `#{a: while b {}}`
-  pub read_3 : IsScript ((Sign token.MapStart, 1) ∷ (Name (codes "a"), 3) ∷ (Sign token.Colon, 4) ∷
+  pub read_4 : IsScript ((Sign token.MapStart, 1) ∷ (Name (codes "a"), 3) ∷ (Sign token.Colon, 4) ∷
       (Sign token.While, 6) ∷ (Name (codes "b"), 12) ∷ (Sign token.LeftBrace, 14) ∷ (Sign token.RightBrace, 15) ∷
       (Sign token.RightBrace, 16) ∷ []) 17 (node.one_statement (node.expression (node.object_map (node.one_property
       (codes "a") (place 1 3) (node.block_value (node.braces (node.one_statement (node.while_statement (variable
       (codes "b") None (place 1 12)) (node.braces node.no_statements (place 1 14) (place 1 15)) (place 1 6))
       node.no_statements) (place 1 6) nowhere)) node.no_properties) (place 1 1))) node.no_statements) []
   -- `` `a${loop { break }}c` ``
-  pub read_4 : IsScript ((Interpolated (codes "a"), 1) ∷ (Sign token.LeftBrace, 4) ∷ (Sign token.Loop, 5) ∷
+  pub read_5 : IsScript ((Interpolated (codes "a"), 1) ∷ (Sign token.LeftBrace, 4) ∷ (Sign token.Loop, 5) ∷
       (Sign token.LeftBrace, 10) ∷ (Sign token.Break, 12) ∷ (Sign token.RightBrace, 18) ∷
       (Sign token.RightBrace, 19) ∷ (String (codes "c"), 20) ∷ []) 22 (node.one_statement (node.expression
       (node.interpolated (node.one_node (node.string (codes "a") (place 1 1)) (node.one_node (node.block_value
@@ -45,7 +48,7 @@ pub record LinesOfLoops : Type 0 where
       node.no_statements) (place 1 4) (place 1 19))) (node.one_node (node.string (codes "c") (place 1 20))
       node.no_nodes))) (place 1 1))) node.no_statements) []
   -- `while a < b && !c {}`
-  pub read_5 : IsScript ((Sign token.While, 1) ∷ (Name (codes "a"), 7) ∷ (Sign token.LessThan, 9) ∷
+  pub read_6 : IsScript ((Sign token.While, 1) ∷ (Name (codes "a"), 7) ∷ (Sign token.LessThan, 9) ∷
       (Name (codes "b"), 11) ∷ (Sign token.And, 13) ∷ (Sign token.Bang, 16) ∷ (Name (codes "c"), 17) ∷
       (Sign token.LeftBrace, 19) ∷ (Sign token.RightBrace, 20) ∷ []) 21 (node.one_statement (node.while_statement
       (node.conjunction (node.one_node (node.call (operator_called (Sign token.LessThan)) (node.one_node (variable
@@ -54,7 +57,7 @@ pub record LinesOfLoops : Type 0 where
       (place 1 17)) node.no_nodes) (place 1 16)) node.no_nodes)) (place 1 13)) (node.braces node.no_statements
       (place 1 19) (place 1 20)) (place 1 1)) node.no_statements) []
   -- `do {} until a.b[0]`
-  pub read_6 : IsScript ((Sign token.Do, 1) ∷ (Sign token.LeftBrace, 4) ∷ (Sign token.RightBrace, 5) ∷
+  pub read_7 : IsScript ((Sign token.Do, 1) ∷ (Sign token.LeftBrace, 4) ∷ (Sign token.RightBrace, 5) ∷
       (Sign token.Until, 7) ∷ (Name (codes "a"), 13) ∷ (Sign token.Period, 14) ∷ (Name (codes "b"), 15) ∷
       (Sign token.LeftBracket, 16) ∷ (Integer (pos 0), 17) ∷ (Sign token.RightBracket, 18) ∷ []) 19
       (node.one_statement (node.do_statement (node.dot (variable (codes "a") None (place 1 13)) (node.index
@@ -63,21 +66,44 @@ pub record LinesOfLoops : Type 0 where
         terminating = true;
       }) (place 1 16)) (record { negated = false; terminating = false }) (place 1 14)) (node.braces
       node.no_statements (place 1 4) (place 1 5)) true (place 1 1)) node.no_statements) []
+  -- `while a { const x = 1; } x = 2`
+  pub read_8 : IsScript ((Sign token.While, 1) ∷ (Name (codes "a"), 7) ∷ (Sign token.LeftBrace, 9) ∷
+      (Sign token.Const, 11) ∷ (Name (codes "x"), 17) ∷ (Sign token.Equals, 19) ∷ (Integer (pos 1), 21) ∷
+      (Sign token.SemiColon, 22) ∷ (Sign token.RightBrace, 24) ∷ (Name (codes "x"), 26) ∷ (Sign token.Equals, 28) ∷
+      (Integer (pos 2), 30) ∷ []) 31 (node.one_statement (node.while_statement (variable (codes "a") None (place 1 7))
+      (node.braces (node.one_statement (node.var_statement (codes "x") (node.integer (pos 1) (place 1 21)) None true
+      false (place 1 11)) node.no_statements) (place 1 9) (place 1 24)) (place 1 1)) (node.one_statement
+      (node.assignment None (variable (codes "x") None (place 1 26)) (node.integer (pos 2) (place 1 30)) (place 1 28))
+      node.no_statements)) []
   -- `for x in !a {}`
-  pub read_7 : IsScript ((Sign token.For, 1) ∷ (Name (codes "x"), 5) ∷ (Sign token.In, 7) ∷ (Sign token.Bang, 10) ∷
+  pub read_9 : IsScript ((Sign token.For, 1) ∷ (Name (codes "x"), 5) ∷ (Sign token.In, 7) ∷ (Sign token.Bang, 10) ∷
       (Name (codes "a"), 11) ∷ (Sign token.LeftBrace, 13) ∷ (Sign token.RightBrace, 14) ∷ []) 15 (node.one_statement
       (node.for_statement (codes "x") None (node.call (sign_called (Sign token.Bang)) (node.one_node (variable
       (codes "a") None (place 1 11)) node.no_nodes) (place 1 10)) (node.braces node.no_statements (place 1 13)
       (place 1 14)) (place 1 1)) node.no_statements) []
+  -- `for x in a && b {}`
+  pub read_10 : IsScript ((Sign token.For, 1) ∷ (Name (codes "x"), 5) ∷ (Sign token.In, 7) ∷ (Name (codes "a"), 10) ∷
+      (Sign token.And, 12) ∷ (Name (codes "b"), 15) ∷ (Sign token.LeftBrace, 17) ∷ (Sign token.RightBrace, 18) ∷ [])
+      19 (node.one_statement (node.for_statement (codes "x") None (node.conjunction (node.one_node (variable
+      (codes "a") None (place 1 10)) (node.one_node (variable (codes "b") None (place 1 15)) node.no_nodes))
+      (place 1 12)) (node.braces node.no_statements (place 1 17) (place 1 18)) (place 1 1)) node.no_statements) []
   -- `for x in a ?? [] {}`
-  pub read_8 : IsScript ((Sign token.For, 1) ∷ (Name (codes "x"), 5) ∷ (Sign token.In, 7) ∷ (Name (codes "a"), 10) ∷
+  pub read_11 : IsScript ((Sign token.For, 1) ∷ (Name (codes "x"), 5) ∷ (Sign token.In, 7) ∷ (Name (codes "a"), 10) ∷
       (Sign token.DoubleQuestion, 12) ∷ (Sign token.LeftBracket, 15) ∷ (Sign token.RightBracket, 16) ∷
       (Sign token.LeftBrace, 18) ∷ (Sign token.RightBrace, 19) ∷ []) 20 (node.one_statement (node.for_statement
       (codes "x") None (node.coalescing (node.one_node (variable (codes "a") None (place 1 10)) (node.one_node
       (node.array node.no_nodes (place 1 15)) node.no_nodes)) (place 1 12)) (node.braces node.no_statements
       (place 1 18) (place 1 19)) (place 1 1)) node.no_statements) []
+  -- `return for x in y { break x }`
+  pub read_12 : IsScript ((Sign token.Return, 1) ∷ (Sign token.For, 8) ∷ (Name (codes "x"), 12) ∷
+      (Sign token.In, 14) ∷ (Name (codes "y"), 17) ∷ (Sign token.LeftBrace, 19) ∷ (Sign token.Break, 21) ∷
+      (Name (codes "x"), 27) ∷ (Sign token.RightBrace, 29) ∷ []) 30 (node.one_statement (node.return_statement
+      (node.present (node.block_value (node.braces (node.one_statement (node.for_statement (codes "x") None (variable
+      (codes "y") None (place 1 17)) (node.braces (node.one_statement (node.break_loop (node.present (variable
+      (codes "x") (Some 1) (place 1 27))) true (place 1 21)) node.no_statements) (place 1 19) (place 1 29))
+      (place 1 8)) node.no_statements) (place 1 8) nowhere))) false (place 1 1)) node.no_statements) []
   -- `` for x in `a${b}` {} ``
-  pub read_9 : IsScript ((Sign token.For, 1) ∷ (Name (codes "x"), 5) ∷ (Sign token.In, 7) ∷
+  pub read_13 : IsScript ((Sign token.For, 1) ∷ (Name (codes "x"), 5) ∷ (Sign token.In, 7) ∷
       (Interpolated (codes "a"), 10) ∷ (Sign token.LeftBrace, 13) ∷ (Name (codes "b"), 14) ∷
       (Sign token.RightBrace, 15) ∷ (String [], 16) ∷ (Sign token.LeftBrace, 18) ∷ (Sign token.RightBrace, 19) ∷ [])
       20 (node.one_statement (node.for_statement (codes "x") None (node.interpolated (node.one_node (node.string
@@ -85,7 +111,7 @@ pub record LinesOfLoops : Type 0 where
       (variable (codes "b") None (place 1 14))) node.no_statements) (place 1 13) (place 1 15))) node.no_nodes))
       (place 1 10)) (node.braces node.no_statements (place 1 18) (place 1 19)) (place 1 1)) node.no_statements) []
   -- `1 + for x in y { break x } * 2`
-  pub read_10 : IsScript ((Integer (pos 1), 1) ∷ (Sign token.Plus, 3) ∷ (Sign token.For, 5) ∷ (Name (codes "x"), 9) ∷
+  pub read_14 : IsScript ((Integer (pos 1), 1) ∷ (Sign token.Plus, 3) ∷ (Sign token.For, 5) ∷ (Name (codes "x"), 9) ∷
       (Sign token.In, 11) ∷ (Name (codes "y"), 14) ∷ (Sign token.LeftBrace, 16) ∷ (Sign token.Break, 18) ∷
       (Name (codes "x"), 24) ∷ (Sign token.RightBrace, 26) ∷ (Sign token.Multiply, 28) ∷ (Integer (pos 2), 30) ∷ [])
       31 (node.one_statement (node.expression (node.call (operator_called (Sign token.Plus)) (node.one_node
@@ -96,7 +122,7 @@ pub record LinesOfLoops : Type 0 where
       (place 1 5)) node.no_statements) (place 1 5) nowhere)) (node.one_node (node.integer (pos 2) (place 1 30))
       node.no_nodes)) (place 1 28)) node.no_nodes)) (place 1 3))) node.no_statements) []
   -- `for x in f(1).g[0] {}`
-  pub read_11 : IsScript ((Sign token.For, 1) ∷ (Name (codes "x"), 5) ∷ (Sign token.In, 7) ∷ (Name (codes "f"), 10) ∷
+  pub read_15 : IsScript ((Sign token.For, 1) ∷ (Name (codes "x"), 5) ∷ (Sign token.In, 7) ∷ (Name (codes "f"), 10) ∷
       (Sign token.LeftParen, 11) ∷ (Integer (pos 1), 12) ∷ (Sign token.RightParen, 13) ∷ (Sign token.Period, 14) ∷
       (Name (codes "g"), 15) ∷ (Sign token.LeftBracket, 16) ∷ (Integer (pos 0), 17) ∷ (Sign token.RightBracket, 18) ∷
       (Sign token.LeftBrace, 20) ∷ (Sign token.RightBrace, 21) ∷ []) 22 (node.one_statement (node.for_statement
@@ -108,7 +134,7 @@ pub record LinesOfLoops : Type 0 where
       }) (place 1 14)) (node.braces node.no_statements (place 1 20) (place 1 21)) (place 1 1))
       node.no_statements) []
   -- `let x; { for x in x { x } x } x`
-  pub read_12 : IsScript ((Sign token.Let, 1) ∷ (Name (codes "x"), 5) ∷ (Sign token.SemiColon, 6) ∷
+  pub read_16 : IsScript ((Sign token.Let, 1) ∷ (Name (codes "x"), 5) ∷ (Sign token.SemiColon, 6) ∷
       (Sign token.LeftBrace, 8) ∷ (Sign token.For, 10) ∷ (Name (codes "x"), 14) ∷ (Sign token.In, 16) ∷
       (Name (codes "x"), 19) ∷ (Sign token.LeftBrace, 21) ∷ (Name (codes "x"), 23) ∷ (Sign token.RightBrace, 25) ∷
       (Name (codes "x"), 27) ∷ (Sign token.RightBrace, 29) ∷ (Name (codes "x"), 31) ∷ []) 32 (node.one_statement

@@ -1,47 +1,80 @@
 -- Lines of tokens that are imports, exports and paths, and lines that are refused there.
 use Rattle.std.specs.Prelude.{None, Some, false, true, codes, pos, [], ◌∷◌}
-use Rattle.rhai_lower.specs.Lexemes.{Integer, String, Name, Reserved, Interpolated, Faulty, Sign, UnterminatedString}
+use Rattle.rhai_lower.specs.Lexemes.{Integer, String, Name, Reserved, Faulty, Sign, UnterminatedString}
 use Rattle.rhai_lower.specs.Nodes as node
 use Rattle.rhai_lower.specs.Positions.{nowhere, place}
 use Rattle.rhai_lower.specs.declared.token.Token.TheVariants as token
 use Rattle.rhai_grammar.specs.Causes as cause
-use Rattle.rhai_grammar.specs.Operators.{operator_called}
-use Rattle.rhai_productions.specs.Lines.{IsScript, Refuses, expression, expression_by, function, new_engine, script}
-use Rattle.rhai_productions.specs.Lines.{script_by, variable}
+use Rattle.rhai_grammar.specs.Signs.{sign_called}
+use Rattle.rhai_productions.specs.Lines.{IsExpression, IsScript, Refuses, expression, expression_by, function}
+use Rattle.rhai_productions.specs.Lines.{new_engine, script, script_by, variable}
 
 -- The column of an error counts from 1, as those of the tokens and of the end mark.
 pub record LinesOfModules : Type 0 where
-  -- `import a + b as c`
-  pub read_1 : IsScript ((Sign token.Import, 1) ∷ (Name (codes "a"), 8) ∷ (Sign token.Plus, 10) ∷
-      (Name (codes "b"), 12) ∷ (Sign token.As, 14) ∷ (Name (codes "c"), 17) ∷ []) 18 (node.one_statement
-      (node.import_statement (node.call (operator_called (Sign token.Plus)) (node.one_node (variable (codes "a") None
-      (place 1 8)) (node.one_node (variable (codes "b") None (place 1 12)) node.no_nodes)) (place 1 10)) (codes "c")
-      (place 1 1)) node.no_statements) []
-  -- `` import `a${b}c` as m ``
-  pub read_2 : IsScript ((Sign token.Import, 1) ∷ (Interpolated (codes "a"), 8) ∷ (Sign token.LeftBrace, 11) ∷
-      (Name (codes "b"), 12) ∷ (Sign token.RightBrace, 13) ∷ (String (codes "c"), 14) ∷ (Sign token.As, 17) ∷
-      (Name (codes "m"), 20) ∷ []) 21 (node.one_statement (node.import_statement (node.interpolated (node.one_node
-      (node.string (codes "a") (place 1 8)) (node.one_node (node.block_value (node.braces (node.one_statement
-      (node.expression (variable (codes "b") None (place 1 12))) node.no_statements) (place 1 11) (place 1 13)))
-      (node.one_node (node.string (codes "c") (place 1 14)) node.no_nodes))) (place 1 8)) (codes "m") (place 1 1))
-      node.no_statements) []
-  -- `import if a { b } as m`
-  pub read_3 : IsScript ((Sign token.Import, 1) ∷ (Sign token.If, 8) ∷ (Name (codes "a"), 11) ∷
-      (Sign token.LeftBrace, 13) ∷ (Name (codes "b"), 15) ∷ (Sign token.RightBrace, 17) ∷ (Sign token.As, 19) ∷
-      (Name (codes "m"), 22) ∷ []) 23 (node.one_statement (node.import_statement (node.block_value (node.braces
-      (node.one_statement (node.if_statement (variable (codes "a") None (place 1 11)) (node.braces (node.one_statement
-      (node.expression (variable (codes "b") None (place 1 15))) node.no_statements) (place 1 13) (place 1 17))
-      (node.braces node.no_statements nowhere nowhere) (place 1 8)) node.no_statements) (place 1 8) nowhere))
-      (codes "m") (place 1 1)) node.no_statements) []
+  -- `-m::x`
+  pub read_1 : IsExpression ((Sign token.UnaryMinus, 1) ∷ (Name (codes "m"), 2) ∷ (Sign token.DoubleColon, 3) ∷
+      (Name (codes "x"), 5) ∷ []) 6 (node.call (sign_called (Sign token.Minus)) (node.one_node (node.variable (record
+      { number = None; name = codes "x"; path = (codes "m", place 1 2) ∷ []; module_index = None }) (place 1 5))
+      node.no_nodes) (place 1 1)) []
+  -- `1 ?? throw m::x`
+  pub read_2 : IsExpression ((Integer (pos 1), 1) ∷ (Sign token.DoubleQuestion, 3) ∷ (Sign token.Throw, 6) ∷
+      (Name (codes "m"), 12) ∷ (Sign token.DoubleColon, 13) ∷ (Name (codes "x"), 15) ∷ []) 16 (node.coalescing
+      (node.one_node (node.integer (pos 1) (place 1 1)) (node.one_node (node.block_value (node.braces
+      (node.one_statement (node.return_statement (node.present (node.variable (record {
+        number = None;
+        name = codes
+            "x";
+        path = (codes "m", place 1 12) ∷ [];
+        module_index = None;
+      }) (place 1 15))) true (place 1 6))
+      node.no_statements) (place 1 6) nowhere)) node.no_nodes)) (place 1 3)) []
+  -- `#{m: m::x}`
+  pub read_3 : IsExpression ((Sign token.MapStart, 1) ∷ (Name (codes "m"), 3) ∷ (Sign token.Colon, 4) ∷
+      (Name (codes "m"), 6) ∷ (Sign token.DoubleColon, 7) ∷ (Name (codes "x"), 9) ∷ (Sign token.RightBrace, 10) ∷ [])
+      11 (node.object_map (node.one_property (codes "m") (place 1 3) (node.variable (record {
+        number = None;
+        name =
+            codes "x";
+        path = (codes "m", place 1 6) ∷ [];
+        module_index = None;
+      }) (place 1 9)) node.no_properties)
+      (place 1 1)) []
+  -- `m::x += n::y`
+  pub read_4 : IsScript ((Name (codes "m"), 1) ∷ (Sign token.DoubleColon, 2) ∷ (Name (codes "x"), 4) ∷
+      (Sign token.PlusAssign, 6) ∷ (Name (codes "n"), 9) ∷ (Sign token.DoubleColon, 10) ∷ (Name (codes "y"), 12) ∷ [])
+      13 (node.one_statement (node.assignment (Some (Sign token.PlusAssign)) (node.variable (record {
+        number = None;
+        name = codes "x";
+        path = (codes "m", place 1 1) ∷ [];
+        module_index = None;
+      }) (place 1 4)) (node.variable (record
+      { number = None; name = codes "y"; path = (codes "n", place 1 9) ∷ []; module_index = None }) (place 1 12))
+      (place 1 6)) node.no_statements) []
   -- `import f(1)?.b as m`
-  pub read_4 : IsScript ((Sign token.Import, 1) ∷ (Name (codes "f"), 8) ∷ (Sign token.LeftParen, 9) ∷
+  pub read_5 : IsScript ((Sign token.Import, 1) ∷ (Name (codes "f"), 8) ∷ (Sign token.LeftParen, 9) ∷
       (Integer (pos 1), 10) ∷ (Sign token.RightParen, 11) ∷ (Sign token.Elvis, 12) ∷ (Name (codes "b"), 14) ∷
       (Sign token.As, 16) ∷ (Name (codes "m"), 19) ∷ []) 20 (node.one_statement (node.import_statement (node.dot
       (node.call (function (codes "f") false 1) (node.one_node (node.integer (pos 1) (place 1 10)) node.no_nodes)
       (place 1 8)) (node.property (codes "b") (place 1 14)) (record { negated = true; terminating = false })
       (place 1 12)) (codes "m") (place 1 1)) node.no_statements) []
+  -- `m::x?.y?[1].z`
+  pub read_6 : IsExpression ((Name (codes "m"), 1) ∷ (Sign token.DoubleColon, 2) ∷ (Name (codes "x"), 4) ∷
+      (Sign token.Elvis, 5) ∷ (Name (codes "y"), 7) ∷ (Sign token.QuestionBracket, 8) ∷ (Integer (pos 1), 10) ∷
+      (Sign token.RightBracket, 11) ∷ (Sign token.Period, 12) ∷ (Name (codes "z"), 13) ∷ []) 14 (node.dot
+      (node.variable (record {
+        number = None;
+        name = codes "x";
+        path = (codes "m", place 1 1) ∷ [];
+        module_index =
+            None;
+      }) (place 1 4)) (node.index (node.property (codes "y") (place 1 7)) (node.dot (node.integer (pos 1)
+      (place 1 10)) (node.property (codes "z") (place 1 13)) (record { negated = false; terminating = false })
+      (place 1 12)) (record { negated = true; terminating = false }) (place 1 8)) (record {
+        negated = true;
+        terminating = false;
+      }) (place 1 5)) []
   -- an export after a block
-  pub read_5 : IsScript ((Sign token.LeftBrace, 1) ∷ (Sign token.Let, 3) ∷ (Name (codes "x"), 7) ∷
+  pub read_7 : IsScript ((Sign token.LeftBrace, 1) ∷ (Sign token.Let, 3) ∷ (Name (codes "x"), 7) ∷
       (Sign token.RightBrace, 9) ∷ (Sign token.Export, 11) ∷ (Name (codes "x"), 18) ∷ (Sign token.SemiColon, 19) ∷
       (Sign token.LeftBrace, 21) ∷ (Sign token.RightBrace, 22) ∷ (Sign token.Export, 24) ∷ (Sign token.Let, 31) ∷
       (Name (codes "y"), 35) ∷ []) 36 (node.one_statement (node.block_statement (node.braces (node.one_statement
@@ -51,7 +84,7 @@ pub record LinesOfModules : Type 0 where
       (node.one_statement (node.var_statement (codes "y") (node.unit nowhere) None false true (place 1 31))
       node.no_statements)))) []
   -- `switch a { 1 => import "b" as m, _ => 2 }`
-  pub read_6 : IsScript ((Sign token.Switch, 1) ∷ (Name (codes "a"), 8) ∷ (Sign token.LeftBrace, 10) ∷
+  pub read_8 : IsScript ((Sign token.Switch, 1) ∷ (Name (codes "a"), 8) ∷ (Sign token.LeftBrace, 10) ∷
       (Integer (pos 1), 12) ∷ (Sign token.DoubleArrow, 14) ∷ (Sign token.Import, 17) ∷ (String (codes "b"), 24) ∷
       (Sign token.As, 28) ∷ (Name (codes "m"), 31) ∷ (Sign token.Comma, 32) ∷ (Sign token.Underscore, 34) ∷
       (Sign token.DoubleArrow, 36) ∷ (Integer (pos 2), 39) ∷ (Sign token.RightBrace, 41) ∷ []) 42 (node.one_statement

@@ -1,54 +1,64 @@
 -- Lines of tokens that are operators, signs, ranges and names, and lines that are refused there.
-use Rattle.std.specs.Prelude.{None, false, codes, pos, negsuc, [], ◌∷◌}
+use Rattle.std.specs.Prelude.{None, Some, false, codes, pos, negsuc, [], ◌∷◌}
 use Rattle.rhai_lower.specs.Lexemes.{Integer, Name, Reserved, Faulty, Sign, UnterminatedString}
 use Rattle.rhai_lower.specs.Nodes as node
 use Rattle.rhai_lower.specs.Positions.{place}
 use Rattle.rhai_lower.specs.declared.token.Token.TheVariants as token
 use Rattle.rhai_grammar.specs.Causes as cause
-use Rattle.rhai_grammar.specs.Operators.{operator_called}
+use Rattle.rhai_grammar.specs.Operators.{operator_called, contains_called}
 use Rattle.rhai_grammar.specs.Signs.{sign_called}
 use Rattle.rhai_productions.specs.Lines.{IsExpression, Refuses, expression, expression_by, function, new_engine, script}
 use Rattle.rhai_productions.specs.Lines.{script_by, variable}
 
 -- The column of an error counts from 1, as those of the tokens and of the end mark.
 pub record LinesOfOperands : Type 0 where
+  -- `x !in y`
+  pub read_1 : IsExpression ((Name (codes "x"), 1) ∷ (Sign token.NotIn, 3) ∷ (Name (codes "y"), 7) ∷ []) 8 (node.call
+      (sign_called (Sign token.Bang)) (node.one_node (node.call (contains_called (Some (Sign token.NotIn)))
+      (node.one_node (variable (codes "y") None (place 1 7)) (node.one_node (variable (codes "x") None (place 1 1))
+      node.no_nodes)) (place 1 3)) node.no_nodes) (place 1 3)) []
   -- `a ?? b || c`
-  pub read_1 : IsExpression ((Name (codes "a"), 1) ∷ (Sign token.DoubleQuestion, 3) ∷ (Name (codes "b"), 6) ∷
+  pub read_2 : IsExpression ((Name (codes "a"), 1) ∷ (Sign token.DoubleQuestion, 3) ∷ (Name (codes "b"), 6) ∷
       (Sign token.Or, 8) ∷ (Name (codes "c"), 11) ∷ []) 12 (node.disjunction (node.one_node (node.coalescing
       (node.one_node (variable (codes "a") None (place 1 1)) (node.one_node (variable (codes "b") None (place 1 6))
       node.no_nodes)) (place 1 3)) (node.one_node (variable (codes "c") None (place 1 11)) node.no_nodes))
       (place 1 8)) []
   -- `x && -y + 1`
-  pub read_2 : IsExpression ((Name (codes "x"), 1) ∷ (Sign token.And, 3) ∷ (Sign token.UnaryMinus, 6) ∷
+  pub read_3 : IsExpression ((Name (codes "x"), 1) ∷ (Sign token.And, 3) ∷ (Sign token.UnaryMinus, 6) ∷
       (Name (codes "y"), 7) ∷ (Sign token.Plus, 9) ∷ (Integer (pos 1), 11) ∷ []) 12 (node.conjunction (node.one_node
       (variable (codes "x") None (place 1 1)) (node.one_node (node.call (operator_called (Sign token.Plus))
       (node.one_node (node.call (sign_called (Sign token.Minus)) (node.one_node (variable (codes "y") None
       (place 1 7)) node.no_nodes) (place 1 6)) (node.one_node (node.integer (pos 1) (place 1 11)) node.no_nodes))
       (place 1 9)) node.no_nodes)) (place 1 3)) []
+  -- `+x`
+  pub read_4 : IsExpression ((Sign token.UnaryPlus, 1) ∷ (Name (codes "x"), 2) ∷ []) 3 (node.call (sign_called
+      (Sign token.Plus)) (node.one_node (variable (codes "x") None (place 1 2)) node.no_nodes) (place 1 1)) []
+  -- `- 2 ** 2`
+  pub read_5 : IsExpression ((Sign token.UnaryMinus, 1) ∷ (Integer (pos 2), 3) ∷ (Sign token.PowerOf, 5) ∷
+      (Integer (pos 2), 8) ∷ []) 9 (node.call (operator_called (Sign token.PowerOf)) (node.one_node (node.integer
+      (negsuc 1) (place 1 1)) (node.one_node (node.integer (pos 2) (place 1 8)) node.no_nodes)) (place 1 5)) []
   -- `-f(1)`
-  pub read_3 : IsExpression ((Sign token.UnaryMinus, 1) ∷ (Name (codes "f"), 2) ∷ (Sign token.LeftParen, 3) ∷
+  pub read_6 : IsExpression ((Sign token.UnaryMinus, 1) ∷ (Name (codes "f"), 2) ∷ (Sign token.LeftParen, 3) ∷
       (Integer (pos 1), 4) ∷ (Sign token.RightParen, 5) ∷ []) 6 (node.call (sign_called (Sign token.Minus))
       (node.one_node (node.call (function (codes "f") false 1) (node.one_node (node.integer (pos 1) (place 1 4))
       node.no_nodes) (place 1 2)) node.no_nodes) (place 1 1)) []
-  -- `!a != -b`
-  pub read_4 : IsExpression ((Sign token.Bang, 1) ∷ (Name (codes "a"), 2) ∷ (Sign token.NotEqualsTo, 4) ∷
-      (Sign token.UnaryMinus, 7) ∷ (Name (codes "b"), 8) ∷ []) 9 (node.call (operator_called (Sign token.NotEqualsTo))
-      (node.one_node (node.call (sign_called (Sign token.Bang)) (node.one_node (variable (codes "a") None (place 1 2))
-      node.no_nodes) (place 1 1)) (node.one_node (node.call (sign_called (Sign token.Minus)) (node.one_node (variable
-      (codes "b") None (place 1 8)) node.no_nodes) (place 1 7)) node.no_nodes)) (place 1 4)) []
+  -- `+..5`
+  pub read_7 : IsExpression ((Sign token.UnaryPlus, 1) ∷ (Sign token.ExclusiveRange, 2) ∷ (Integer (pos 5), 4) ∷ []) 5
+      (node.call (operator_called (Sign token.ExclusiveRange)) (node.one_node (node.integer (pos 0) (place 1 2))
+      (node.one_node (node.integer (pos 5) (place 1 4)) node.no_nodes)) (place 1 2)) []
   -- `!..5`
-  pub read_5 : IsExpression ((Sign token.Bang, 1) ∷ (Sign token.ExclusiveRange, 2) ∷ (Integer (pos 5), 4) ∷ []) 5
+  pub read_8 : IsExpression ((Sign token.Bang, 1) ∷ (Sign token.ExclusiveRange, 2) ∷ (Integer (pos 5), 4) ∷ []) 5
       (node.call (operator_called (Sign token.ExclusiveRange)) (node.one_node (node.call (sign_called
       (Sign token.Bang)) (node.one_node (node.integer (pos 0) (place 1 2)) node.no_nodes) (place 1 1)) (node.one_node
       (node.integer (pos 5) (place 1 4)) node.no_nodes)) (place 1 2)) []
   -- `(x ?? 5..)`
-  pub read_6 : IsExpression ((Sign token.LeftParen, 1) ∷ (Name (codes "x"), 2) ∷ (Sign token.DoubleQuestion, 4) ∷
+  pub read_9 : IsExpression ((Sign token.LeftParen, 1) ∷ (Name (codes "x"), 2) ∷ (Sign token.DoubleQuestion, 4) ∷
       (Integer (pos 5), 7) ∷ (Sign token.ExclusiveRange, 8) ∷ (Sign token.RightParen, 10) ∷ []) 11 (node.coalescing
       (node.one_node (variable (codes "x") None (place 1 2)) (node.one_node (node.call (operator_called
       (Sign token.ExclusiveRange)) (node.one_node (node.integer (pos 5) (place 1 7)) (node.one_node (node.unit
       (place 1 10)) node.no_nodes)) (place 1 8)) node.no_nodes)) (place 1 4)) []
   -- `f(5.., ..)`
-  pub read_7 : IsExpression ((Name (codes "f"), 1) ∷ (Sign token.LeftParen, 2) ∷ (Integer (pos 5), 3) ∷
+  pub read_10 : IsExpression ((Name (codes "f"), 1) ∷ (Sign token.LeftParen, 2) ∷ (Integer (pos 5), 3) ∷
       (Sign token.ExclusiveRange, 4) ∷ (Sign token.Comma, 6) ∷ (Sign token.ExclusiveRange, 8) ∷
       (Sign token.RightParen, 10) ∷ []) 11 (node.call (function (codes "f") false 2) (node.one_node (node.call
       (operator_called (Sign token.ExclusiveRange)) (node.one_node (node.integer (pos 5) (place 1 3)) (node.one_node
@@ -56,9 +66,9 @@ pub record LinesOfOperands : Type 0 where
       (Sign token.ExclusiveRange)) (node.one_node (node.integer (pos 0) (place 1 8)) (node.one_node (node.unit
       (place 1 10)) node.no_nodes)) (place 1 8)) node.no_nodes)) (place 1 1)) []
   -- `x`
-  pub read_8 : IsExpression ((Name (codes "x"), 1) ∷ []) 2 (variable (codes "x") None (place 1 1)) []
+  pub read_11 : IsExpression ((Name (codes "x"), 1) ∷ []) 2 (variable (codes "x") None (place 1 1)) []
   -- `1 + 2 * 3 ** 4 - 5`
-  pub read_9 : IsExpression ((Integer (pos 1), 1) ∷ (Sign token.Plus, 3) ∷ (Integer (pos 2), 5) ∷
+  pub read_12 : IsExpression ((Integer (pos 1), 1) ∷ (Sign token.Plus, 3) ∷ (Integer (pos 2), 5) ∷
       (Sign token.Multiply, 7) ∷ (Integer (pos 3), 9) ∷ (Sign token.PowerOf, 11) ∷ (Integer (pos 4), 14) ∷
       (Sign token.Minus, 16) ∷ (Integer (pos 5), 18) ∷ []) 19 (node.call (operator_called (Sign token.Minus))
       (node.one_node (node.call (operator_called (Sign token.Plus)) (node.one_node (node.integer (pos 1) (place 1 1))
@@ -67,10 +77,17 @@ pub record LinesOfOperands : Type 0 where
       (pos 3) (place 1 9)) (node.one_node (node.integer (pos 4) (place 1 14)) node.no_nodes)) (place 1 11))
       node.no_nodes)) (place 1 7)) node.no_nodes)) (place 1 3)) (node.one_node (node.integer (pos 5) (place 1 18))
       node.no_nodes)) (place 1 16)) []
-  -- `y`
-  pub read_10 : IsExpression ((Name (codes "y"), 1) ∷ []) 2 (variable (codes "y") None (place 1 1)) []
+  -- `n::x`
+  pub read_13 : IsExpression ((Name (codes "n"), 1) ∷ (Sign token.DoubleColon, 2) ∷ (Name (codes "x"), 4) ∷ []) 5
+      (node.variable (record {
+        number = None;
+        name = codes "x";
+        path = (codes "n", place 1 1) ∷ [];
+        module_index =
+            None;
+      }) (place 1 4)) []
   -- `(g)(1)`
-  pub read_11 : IsExpression ((Sign token.LeftParen, 1) ∷ (Name (codes "g"), 2) ∷ (Sign token.RightParen, 3) ∷
+  pub read_14 : IsExpression ((Sign token.LeftParen, 1) ∷ (Name (codes "g"), 2) ∷ (Sign token.RightParen, 3) ∷
       (Sign token.LeftParen, 4) ∷ (Integer (pos 1), 5) ∷ (Sign token.RightParen, 6) ∷ []) 7 (node.call (function
       (codes "g") false 1) (node.one_node (node.integer (pos 1) (place 1 5)) node.no_nodes) (place 1 2)) []
   -- `1 2`

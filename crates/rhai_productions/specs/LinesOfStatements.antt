@@ -91,8 +91,26 @@ pub record LinesOfStatements : Type 0 where
       (node.one_statement (node.block_statement (node.braces (node.one_statement (node.expression (node.integer
       (pos 1) (place 1 3))) (node.one_statement (node.expression (node.call (function (codes "f") false 0)
       node.no_nodes (place 1 6))) node.no_statements)) (place 1 1) (place 1 11))) node.no_statements) []
+  -- signs before blocks
+  pub read_12 : IsScript ((Name (codes "a"), 1) ∷ (Sign token.SemiColon, 2) ∷ (Sign token.UnaryMinus, 4) ∷
+      (Sign token.LeftBrace, 5) ∷ (Integer (pos 1), 6) ∷ (Sign token.RightBrace, 7) ∷ (Sign token.SemiColon, 8) ∷
+      (Sign token.Bang, 10) ∷ (Sign token.LeftBrace, 11) ∷ (Sign token.RightBrace, 12) ∷ []) 13 (node.one_statement
+      (node.expression (variable (codes "a") None (place 1 1))) (node.one_statement (node.expression (node.call
+      (sign_called (Sign token.Minus)) (node.one_node (node.block_value (node.braces (node.one_statement
+      (node.expression (node.integer (pos 1) (place 1 6))) node.no_statements) (place 1 5) (place 1 7)))
+      node.no_nodes) (place 1 4))) (node.one_statement (node.expression (node.call (sign_called (Sign token.Bang))
+      (node.one_node (node.block_value (node.braces node.no_statements (place 1 11) (place 1 12))) node.no_nodes)
+      (place 1 10))) node.no_statements))) []
+  -- `a += { b = 1; b };`
+  pub read_13 : IsScript ((Name (codes "a"), 1) ∷ (Sign token.PlusAssign, 3) ∷ (Sign token.LeftBrace, 6) ∷
+      (Name (codes "b"), 8) ∷ (Sign token.Equals, 10) ∷ (Integer (pos 1), 12) ∷ (Sign token.SemiColon, 13) ∷
+      (Name (codes "b"), 15) ∷ (Sign token.RightBrace, 17) ∷ (Sign token.SemiColon, 18) ∷ []) 19 (node.one_statement
+      (node.assignment (Some (Sign token.PlusAssign)) (variable (codes "a") None (place 1 1)) (node.block_value
+      (node.braces (node.one_statement (node.assignment None (variable (codes "b") None (place 1 8)) (node.integer
+      (pos 1) (place 1 12)) (place 1 10)) (node.one_statement (node.expression (variable (codes "b") None
+      (place 1 15))) node.no_statements)) (place 1 6) (place 1 17))) (place 1 3)) node.no_statements) []
   -- `a[{ 1 }].f({ 2 })`
-  pub read_12 : IsScript ((Name (codes "a"), 1) ∷ (Sign token.LeftBracket, 2) ∷ (Sign token.LeftBrace, 3) ∷
+  pub read_14 : IsScript ((Name (codes "a"), 1) ∷ (Sign token.LeftBracket, 2) ∷ (Sign token.LeftBrace, 3) ∷
       (Integer (pos 1), 5) ∷ (Sign token.RightBrace, 7) ∷ (Sign token.RightBracket, 8) ∷ (Sign token.Period, 9) ∷
       (Name (codes "f"), 10) ∷ (Sign token.LeftParen, 11) ∷ (Sign token.LeftBrace, 12) ∷ (Integer (pos 2), 14) ∷
       (Sign token.RightBrace, 16) ∷ (Sign token.RightParen, 17) ∷ []) 18 (node.one_statement (node.expression
@@ -103,7 +121,7 @@ pub record LinesOfStatements : Type 0 where
       (place 1 16))) node.no_nodes) (place 1 10)) (record { negated = false; terminating = false }) (place 1 9))
       (record { negated = false; terminating = false }) (place 1 2))) node.no_statements) []
   -- `[{ 1 }, {}]; #{a: { 2 }}`
-  pub read_13 : IsScript ((Sign token.LeftBracket, 1) ∷ (Sign token.LeftBrace, 2) ∷ (Integer (pos 1), 4) ∷
+  pub read_15 : IsScript ((Sign token.LeftBracket, 1) ∷ (Sign token.LeftBrace, 2) ∷ (Integer (pos 1), 4) ∷
       (Sign token.RightBrace, 6) ∷ (Sign token.Comma, 7) ∷ (Sign token.LeftBrace, 9) ∷ (Sign token.RightBrace, 10) ∷
       (Sign token.RightBracket, 11) ∷ (Sign token.SemiColon, 12) ∷ (Sign token.MapStart, 14) ∷
       (Name (codes "a"), 16) ∷ (Sign token.Colon, 17) ∷ (Sign token.LeftBrace, 19) ∷ (Integer (pos 2), 21) ∷
@@ -115,7 +133,7 @@ pub record LinesOfStatements : Type 0 where
       (node.one_statement (node.expression (node.integer (pos 2) (place 1 21))) node.no_statements) (place 1 19)
       (place 1 23))) node.no_properties) (place 1 14))) node.no_statements)) []
   -- a block in an assignment: the target is what it was
-  pub read_14 : IsScript ((Sign token.Let, 1) ∷ (Name (codes "x"), 5) ∷ (Sign token.SemiColon, 6) ∷
+  pub read_16 : IsScript ((Sign token.Let, 1) ∷ (Name (codes "x"), 5) ∷ (Sign token.SemiColon, 6) ∷
       (Name (codes "x"), 8) ∷ (Sign token.Equals, 10) ∷ (Sign token.LeftBrace, 12) ∷ (Sign token.Let, 14) ∷
       (Name (codes "x"), 18) ∷ (Sign token.SemiColon, 19) ∷ (Sign token.Let, 21) ∷ (Name (codes "y"), 25) ∷
       (Sign token.SemiColon, 26) ∷ (Name (codes "x"), 28) ∷ (Sign token.RightBrace, 30) ∷ (Sign token.SemiColon, 31) ∷

@@ -1,13 +1,13 @@
 -- Lines of tokens that are `switch`, and lines that are refused there.
-use Rattle.std.specs.Prelude.{None, false, true, codes, pos, [], ◌∷◌}
+use Rattle.std.specs.Prelude.{None, Some, false, true, codes, pos, [], ◌∷◌}
 use Rattle.rhai_lower.specs.Lexemes.{Integer, Name, Reserved, Faulty, Sign, UnterminatedString}
 use Rattle.rhai_lower.specs.Nodes as node
 use Rattle.rhai_lower.specs.Positions.{nowhere, place}
 use Rattle.rhai_lower.specs.declared.token.Token.TheVariants as token
 use Rattle.rhai_grammar.specs.Causes as cause
 use Rattle.rhai_grammar.specs.Operators.{operator_called}
-use Rattle.rhai_productions.specs.Lines.{IsExpression, IsScript, Refuses, expression_by, new_engine, script}
-use Rattle.rhai_productions.specs.Lines.{script_by, variable}
+use Rattle.rhai_productions.specs.Lines.{IsExpression, IsScript, Refuses, expression_by, new_engine, script, script_by}
+use Rattle.rhai_productions.specs.Lines.{variable}
 
 -- The column of an error counts from 1, as those of the tokens and of the end mark.
 pub record LinesOfSwitches : Type 0 where
@@ -32,8 +32,15 @@ pub record LinesOfSwitches : Type 0 where
         negated = false;
         terminating = true;
       }) (place 1 13)) []
+  -- `if switch a {} {}`
+  pub read_4 : IsScript ((Sign token.If, 1) ∷ (Sign token.Switch, 4) ∷ (Name (codes "a"), 11) ∷
+      (Sign token.LeftBrace, 13) ∷ (Sign token.RightBrace, 14) ∷ (Sign token.LeftBrace, 16) ∷
+      (Sign token.RightBrace, 17) ∷ []) 18 (node.one_statement (node.if_statement (node.block_value (node.braces
+      (node.one_statement (node.switch_statement (variable (codes "a") None (place 1 11)) node.no_arms node.no_cases
+      [] None (place 1 4)) node.no_statements) (place 1 4) nowhere)) (node.braces node.no_statements (place 1 16)
+      (place 1 17)) (node.braces node.no_statements nowhere nowhere) (place 1 1)) node.no_statements) []
   -- `loop { break switch a {} }`
-  pub read_4 : IsScript ((Sign token.Loop, 1) ∷ (Sign token.LeftBrace, 6) ∷ (Sign token.Break, 8) ∷
+  pub read_5 : IsScript ((Sign token.Loop, 1) ∷ (Sign token.LeftBrace, 6) ∷ (Sign token.Break, 8) ∷
       (Sign token.Switch, 14) ∷ (Name (codes "a"), 21) ∷ (Sign token.LeftBrace, 23) ∷ (Sign token.RightBrace, 24) ∷
       (Sign token.RightBrace, 26) ∷ []) 27 (node.one_statement (node.while_statement (node.unit nowhere) (node.braces
       (node.one_statement (node.break_loop (node.present (node.block_value (node.braces (node.one_statement
@@ -41,7 +48,7 @@ pub record LinesOfSwitches : Type 0 where
       node.no_statements) (place 1 14) nowhere))) true (place 1 8)) node.no_statements) (place 1 6) (place 1 26))
       (place 1 1)) node.no_statements) []
   -- `switch a { 1 => b | c }`
-  pub read_5 : IsScript ((Sign token.Switch, 1) ∷ (Name (codes "a"), 8) ∷ (Sign token.LeftBrace, 10) ∷
+  pub read_6 : IsScript ((Sign token.Switch, 1) ∷ (Name (codes "a"), 8) ∷ (Sign token.LeftBrace, 10) ∷
       (Integer (pos 1), 12) ∷ (Sign token.DoubleArrow, 14) ∷ (Name (codes "b"), 17) ∷ (Sign token.Pipe, 19) ∷
       (Name (codes "c"), 21) ∷ (Sign token.RightBrace, 23) ∷ []) 24 (node.one_statement (node.switch_statement
       (variable (codes "a") None (place 1 8)) (node.one_arm (node.boolean true nowhere) (node.block_value (node.braces
@@ -50,7 +57,7 @@ pub record LinesOfSwitches : Type 0 where
       (place 1 19))) node.no_statements) (place 1 19) nowhere)) node.no_arms) (node.one_case (node.integer (pos 1)
       (place 1 12)) (0 ∷ []) node.no_cases) [] None (place 1 1)) node.no_statements) []
   -- `switch a { 1 => b ?? return c }`
-  pub read_6 : IsExpression ((Sign token.Switch, 1) ∷ (Name (codes "a"), 8) ∷ (Sign token.LeftBrace, 10) ∷
+  pub read_7 : IsExpression ((Sign token.Switch, 1) ∷ (Name (codes "a"), 8) ∷ (Sign token.LeftBrace, 10) ∷
       (Integer (pos 1), 12) ∷ (Sign token.DoubleArrow, 14) ∷ (Name (codes "b"), 17) ∷
       (Sign token.DoubleQuestion, 19) ∷ (Sign token.Return, 22) ∷ (Name (codes "c"), 29) ∷
       (Sign token.RightBrace, 31) ∷ []) 32 (node.block_value (node.braces (node.one_statement (node.switch_statement
@@ -60,6 +67,19 @@ pub record LinesOfSwitches : Type 0 where
       (place 1 22)) node.no_statements) (place 1 22) nowhere)) node.no_nodes)) (place 1 19)) node.no_arms)
       (node.one_case (node.integer (pos 1) (place 1 12)) (0 ∷ []) node.no_cases) [] None (place 1 1))
       node.no_statements) (place 1 1) nowhere)) []
+  -- `switch a { 1 => b = 2, 2 => c += 3 }`
+  pub read_8 : IsScript ((Sign token.Switch, 1) ∷ (Name (codes "a"), 8) ∷ (Sign token.LeftBrace, 10) ∷
+      (Integer (pos 1), 12) ∷ (Sign token.DoubleArrow, 14) ∷ (Name (codes "b"), 17) ∷ (Sign token.Equals, 19) ∷
+      (Integer (pos 2), 21) ∷ (Sign token.Comma, 22) ∷ (Integer (pos 2), 24) ∷ (Sign token.DoubleArrow, 26) ∷
+      (Name (codes "c"), 29) ∷ (Sign token.PlusAssign, 31) ∷ (Integer (pos 3), 34) ∷ (Sign token.RightBrace, 36) ∷ [])
+      37 (node.one_statement (node.switch_statement (variable (codes "a") None (place 1 8)) (node.one_arm
+      (node.boolean true nowhere) (node.block_value (node.braces (node.one_statement (node.assignment None (variable
+      (codes "b") None (place 1 17)) (node.integer (pos 2) (place 1 21)) (place 1 19)) node.no_statements)
+      (place 1 19) nowhere)) (node.one_arm (node.boolean true nowhere) (node.block_value (node.braces
+      (node.one_statement (node.assignment (Some (Sign token.PlusAssign)) (variable (codes "c") None (place 1 29))
+      (node.integer (pos 3) (place 1 34)) (place 1 31)) node.no_statements) (place 1 31) nowhere)) node.no_arms))
+      (node.one_case (node.integer (pos 1) (place 1 12)) (0 ∷ []) (node.one_case (node.integer (pos 2) (place 1 24))
+      (1 ∷ []) node.no_cases)) [] None (place 1 1)) node.no_statements) []
   -- `switch ) {}`
   pub refused_1 : Refuses script ((Sign token.Switch, 1) ∷ (Sign token.RightParen, 8) ∷ (Sign token.LeftBrace, 10) ∷
       (Sign token.RightBrace, 11) ∷ []) 12 (cause.BadInput (cause.UnexpectedInput (codes ")"))) 8

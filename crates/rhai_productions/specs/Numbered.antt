@@ -3,16 +3,21 @@ use Rattle.std.specs.Prelude.{◌≡◌, Bool, true, false, ◌&&◌, List, []}
 use Rattle.rhai_lower.specs.Nodes as node
 use Rattle.rhai_grammar.specs.Prelude.{Comment, Ended, Position, Text, Lexeme, Node, Context, Live, excludes_use}
 use Rattle.rhai_grammar.specs.Prelude.{is_variable, AllWellNumbered, WellNumbered, WellNumberedBlock}
-use Rattle.rhai_grammar.specs.Prelude.{WellNumberedStatement, WellNumberedStatements, names_in}
+use Rattle.rhai_grammar.specs.Prelude.{WellNumberedStatement, WellNumberedStatements, names_in, ended_closure}
+use Rattle.rhai_grammar.specs.Prelude.{made_block, names_of}
 use Rattle.rhai_grammar.specs.TreeNumbers.{WellNumberedProperties, WellNumberedOptional, WellNumberedFunction}
 use Rattle.rhai_grammar.specs.TreeNumbers.{WellNumberedLibrary, names_after, names_after_all}
 use Rattle.rhai_grammar.specs.Demands.{Nothing, Met}
 use Rattle.rhai_grammar.specs.Delivered.{Point}
+use Rattle.rhai_grammar.specs.declared.role.Bars.{Bars}
+use Rattle.rhai_grammar.specs.declared.role.Bars.TheVariants as bars
 use Rattle.rhai_grammar.proofs.NumberSteps.{AllLinks, IsCollected}
 use Rattle.rhai_reading.specs.Reading as R
 use Rattle.rhai_reading.specs.Reading.{Goal, Val, Whole, Script}
 use Rattle.rhai_productions.specs.Rules.{production}
+use Rattle.rhai_productions.specs.Rules as P
 use Rattle.rhai_productions.specs.Derived as D
+use Rattle.rhai_productions.specs.Derived.{apart, form, knows, must, part}
 
 -- the names of the live slots
 abbrev pub names : Live → List Text
@@ -80,9 +85,39 @@ Right (R.Closure context live at by) x l n = WellNumbered (names live) x
 Right (R.ClosureBody context live) f l n = WellNumberedStatement (names live) f
 Right _ x l n = Unit {0}
 
+-- ---- the function of a closure
+
+-- what a closure captures, its own parameters, and its function
+pub record ClosureParts : Type 0 where
+  pub captured : List Text
+  pub own : List Text
+  pub ended : Ended
+
+-- the parts of a form of a closure, by the names of its parameters
+abbrev pub closure_of : {context : Context} {live : Live} {at : Position} {by : Bars} {x : Node} (own : List Text)
+    → D.Filled production (R.Closure context live at by) (P.closure_of context live at own) x → ClosureParts
+closure_of own (must (apart f captured number body rest)) = record {
+  captured = names_of captured;
+  own = own;
+  ended = ended_closure number captured own (made_block f);
+}
+
+abbrev pub closure_by : {context : Context} {live : Live} {at : Position} {b : Bars} {x : Node} (by : Bars)
+    → D.Filled production (R.Closure context live at b) (P.closure_by context live at by) x → ClosureParts
+closure_by bars.Pair f = closure_of [] f
+closure_by bars.List (part own list f) = closure_of own f
+
+-- the parts of a form of a closure
+abbrev pub closure_parts : {context : Context} {live : Live} {at : Position} {by : Bars} {x : Node}
+    → D.Form production (R.Closure context live at by) x → ClosureParts
+closure_parts {by = by} (form (knows f)) = closure_by by f
+
+-- ---- the law
+
 -- In the trees of forms that fit every number is right, at whatever depth; and so it is in the functions and closures
--- that end in them, if it was in those before. In the body of a function all its parameters are live. After a script,
--- the slots are those that its tree says.
+-- that end in them, if it was in those before. In the body of a function all its parameters are live; in that of a
+-- closure its own are, and the names that it captures have no number. After a script, the slots are those that its tree
+-- says.
 pub record TreesAreWellNumbered : Type 0 where
   pub expression : (context : Context) (live : Live) (x : Node) (f : D.Form production (Whole context live) x)
       (s t : Point) → Met (D.demands production f Nothing) s t → WellNumbered (names live) x
@@ -94,3 +129,6 @@ pub record TreesAreWellNumbered : Type 0 where
   pub function : (context : Context) (comments : List Comment) (at : Position) (is_private : Bool) (x : Ended)
       (f : D.Form production (R.Function context comments at is_private) x) (s t : Point)
       → Met (D.demands production f Nothing) s t → WellNumberedFunction [] x.function.parameters x
+  pub closure : (context : Context) (live : Live) (at : Position) (by : Bars) (x : Node)
+      (f : D.Form production (R.Closure context live at by) x) (s t : Point) → Met (D.demands production f Nothing) s t
+      → WellNumberedFunction (closure_parts f).captured (closure_parts f).own (closure_parts f).ended

@@ -2,11 +2,11 @@
 use Rattle.std.specs.Prelude.{refl}
 use Rattle.rhai_grammar.specs.Prelude.{exported, has_single_blocks, in_block, in_case, is_last_text, may_begin}
 use Rattle.rhai_grammar.specs.Prelude.{node_count, qualified, refusal, text_of}
-use Rattle.rhai_reading.specs.Reading.{Goal, Val}
-use Rattle.rhai_productions.specs.Schema.{Production, choose, give, in_text, knows, literal, name, part}
 use Rattle.rhai_grammar.specs.Causes as cause
 use Rattle.rhai_grammar.specs.declared.list.CommaList.TheVariants as lists
+use Rattle.rhai_reading.specs.Reading.{Goal, Val}
 use Rattle.rhai_reading.specs.Goals as goal
+use Rattle.rhai_productions.specs.Schema.{Production, choose, give, in_text, knows, literal, name, part}
 use Rattle.rhai_productions.specs.Views as view
 pub use Rattle.rhai_productions.specs.RulesOfLists.{parted, items_of, arguments_of, element_by, key_by, field_by}
 pub use Rattle.rhai_productions.specs.RulesOfCalls.{listed, bang_fault, bang_by, called_by, path_next, path_of, call_of}

@@ -9,13 +9,13 @@ use Rattle.rhai_grammar.specs.Prelude.{spot_after_bracket, spot_after_dot, text_
 use Rattle.rhai_grammar.specs.Verdicts.{no_path}
 use Rattle.rhai_grammar.specs.declared.role.Calling.{Calling}
 use Rattle.rhai_grammar.specs.declared.role.Linking.{Linking}
-use Rattle.rhai_productions.specs.Schema.{Production, choose, due, faultless, give, if_next, name, never, part, raise}
-use Rattle.rhai_productions.specs.Schema.{stop, tested, this, unless}
 use Rattle.rhai_grammar.specs.Causes as cause
 use Rattle.rhai_grammar.specs.declared.due.DueToken.TheVariants as due_token
 use Rattle.rhai_grammar.specs.declared.role.Calling.TheVariants as calls_by
 use Rattle.rhai_grammar.specs.declared.role.Linking.TheVariants as link
 use Rattle.rhai_reading.specs.Goals as goal
+use Rattle.rhai_productions.specs.Schema.{Production, choose, due, faultless, give, if_next, name, never, part, raise}
+use Rattle.rhai_productions.specs.Schema.{stop, tested, this, unless}
 use Rattle.rhai_productions.specs.Views as view
 
 -- arguments in parentheses, after a name at this position

@@ -1,6 +1,7 @@
 -- Productions of blocks, of `if`, of loops and of `try`.
 use Rattle.std.specs.Prelude.{Bool, None, Option, Some, codes, false, true}
 use Rattle.rhai_lower.specs.Nodes.{do_statement, for_statement, if_statement, try_catch, while_statement}
+use Rattle.rhai_lower.specs.Nodes as node
 use Rattle.rhai_grammar.specs.Prelude.{Context, Live, Node, Position, Text, below_global, block_statement, braces}
 use Rattle.rhai_grammar.specs.Prelude.{catch_live, catch_node, caught_name, guard_expected, guard_fault, in_block}
 use Rattle.rhai_grammar.specs.Prelude.{is_due, iterated_fault, loop_body, loop_live, made_block, missing, no_assignment}
@@ -9,13 +10,12 @@ use Rattle.rhai_grammar.specs.Prelude.{same_text, switch_tree, unit}
 use Rattle.rhai_grammar.specs.Trees.{no_block}
 use Rattle.rhai_grammar.specs.declared.role.Closing.TheVariants.{Brace}
 use Rattle.rhai_grammar.specs.declared.role.Construct.{Construct as Kind}
-use Rattle.rhai_productions.specs.Schema.{Production, due, faultless, give, if_next, name, never, part, raise, take}
-use Rattle.rhai_productions.specs.Schema.{tested, this, unless}
-use Rattle.rhai_lower.specs.Nodes as node
 use Rattle.rhai_grammar.specs.Causes as cause
 use Rattle.rhai_grammar.specs.declared.due.DueToken.TheVariants as due_token
 use Rattle.rhai_grammar.specs.declared.role.Construct.TheVariants as kind
 use Rattle.rhai_reading.specs.Goals as goal
+use Rattle.rhai_productions.specs.Schema.{Production, due, faultless, give, if_next, name, never, part, raise, take}
+use Rattle.rhai_productions.specs.Schema.{tested, this, unless}
 
 -- the `{` of a block
 abbrev pub block_start : Production Position

@@ -1,5 +1,6 @@
 -- Productions of functions, their parameters, and closures.
 use Rattle.std.specs.Prelude.{Bool, List, None, Option, Some, ◌∷◌, if◌then◌else◌, ◌++◌, []}
+use Rattle.rhai_lower.specs.Nodes as node
 use Rattle.rhai_grammar.specs.Functions.{no_body, no_parameter, no_parameters, type_name}
 use Rattle.rhai_grammar.specs.Prelude.{Comment, Context, Ended, Live, Node, Position, Text, Use, closure_node}
 use Rattle.rhai_grammar.specs.Prelude.{duplicate_of, ended_closure, ended_function, in_closure, in_function, is_among}
@@ -10,18 +11,17 @@ use Rattle.rhai_grammar.specs.declared.list.CommaList.{CommaList}
 use Rattle.rhai_grammar.specs.declared.role.Bars.{Bars}
 use Rattle.rhai_grammar.specs.declared.role.Calling.{Calling}
 use Rattle.rhai_grammar.specs.declared.role.ItemPlace.{ItemPlace}
-use Rattle.rhai_reading.specs.Reading.{comment_of}
-use Rattle.rhai_productions.specs.RulesOfLists.{parted}
-use Rattle.rhai_productions.specs.Schema.{Production, adds, apart, captures, choose, give, here, if_next, knows, must}
-use Rattle.rhai_productions.specs.Schema.{name, never, part, raise, take, this, unless}
-use Rattle.rhai_lower.specs.Nodes as node
 use Rattle.rhai_grammar.specs.Causes as cause
 use Rattle.rhai_grammar.specs.declared.due.DueToken.TheVariants as due_token
 use Rattle.rhai_grammar.specs.declared.list.CommaList.TheVariants as lists
 use Rattle.rhai_grammar.specs.declared.role.Bars.TheVariants as bars
 use Rattle.rhai_grammar.specs.declared.role.Calling.TheVariants as calls_by
 use Rattle.rhai_grammar.specs.declared.role.ItemPlace.TheVariants as place
+use Rattle.rhai_reading.specs.Reading.{comment_of}
 use Rattle.rhai_reading.specs.Goals as goal
+use Rattle.rhai_productions.specs.RulesOfLists.{parted}
+use Rattle.rhai_productions.specs.Schema.{Production, adds, apart, captures, choose, give, here, if_next, knows, must}
+use Rattle.rhai_productions.specs.Schema.{name, never, part, raise, take, this, unless}
 use Rattle.rhai_productions.specs.Views as view
 
 -- the doc comments that follow, after these

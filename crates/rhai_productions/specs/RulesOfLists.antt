@@ -7,14 +7,14 @@ use Rattle.rhai_grammar.specs.Prelude.{not_after, property_count, refusal, with_
 use Rattle.rhai_grammar.specs.declared.list.AfterPart.{AfterPart}
 use Rattle.rhai_grammar.specs.declared.list.CommaList.{CommaList}
 use Rattle.rhai_grammar.specs.declared.role.ItemPlace.{ItemPlace}
-use Rattle.rhai_productions.specs.Schema.{Production, choose, due, give, if_next, name, never, part, raise, this}
-use Rattle.rhai_productions.specs.Schema.{unless}
 use Rattle.rhai_grammar.specs.Causes as cause
 use Rattle.rhai_grammar.specs.declared.due.DueToken.TheVariants as due_token
 use Rattle.rhai_grammar.specs.declared.list.AfterPart.TheVariants as after
 use Rattle.rhai_grammar.specs.declared.list.CommaList.TheVariants as lists
 use Rattle.rhai_grammar.specs.declared.role.ItemPlace.TheVariants as place
 use Rattle.rhai_reading.specs.Goals as goal
+use Rattle.rhai_productions.specs.Schema.{Production, choose, due, give, if_next, name, never, part, raise, this}
+use Rattle.rhai_productions.specs.Schema.{unless}
 use Rattle.rhai_productions.specs.Views as view
 
 -- After a part of a list: what follows after a comma, or what is given after the token that closes the list.

@@ -10,14 +10,14 @@ use Rattle.rhai_grammar.specs.Prelude.{sign_holds, signed, spot_after_operand, t
 use Rattle.rhai_grammar.specs.Prelude.{unit, value_of, variable_of, with_node}
 use Rattle.rhai_grammar.specs.declared.role.Beginning.{Beginning}
 use Rattle.rhai_grammar.specs.declared.role.OperandStart.{OperandStart}
-use Rattle.rhai_reading.specs.Reading.{continues}
-use Rattle.rhai_productions.specs.Schema.{Production, due, give, here, if_next, must, never, part, raise, stop}
-use Rattle.rhai_productions.specs.Schema.{tested, this, uses}
 use Rattle.rhai_grammar.specs.Causes as cause
 use Rattle.rhai_grammar.specs.declared.due.DueToken.TheVariants as due_token
 use Rattle.rhai_grammar.specs.declared.role.Beginning.TheVariants as begin
 use Rattle.rhai_grammar.specs.declared.role.OperandStart.TheVariants as first
+use Rattle.rhai_reading.specs.Reading.{continues}
 use Rattle.rhai_reading.specs.Goals as goal
+use Rattle.rhai_productions.specs.Schema.{Production, due, give, here, if_next, must, never, part, raise, stop, tested}
+use Rattle.rhai_productions.specs.Schema.{this, uses}
 
 -- After a reserved word: a call, if it may be called; else it is `this`, in a function, or is refused.
 abbrev pub word_of : Context → Text → Position → Production Node

@@ -1,6 +1,7 @@
 -- Productions of definitions, jumps, modules and lists of statements.
 use Rattle.std.specs.Prelude.{Bool, List, None, Option, Some, codes, false, true, unwrap_or, [], ◌∷◌}
 use Rattle.rhai_lower.specs.Nodes.{break_loop}
+use Rattle.rhai_lower.specs.Nodes as node
 use Rattle.rhai_grammar.specs.Definitions.{may_define}
 use Rattle.rhai_grammar.specs.Prelude.{Comment, Context, Live, Node, Optional, Position, Text, absent, assignment}
 use Rattle.rhai_grammar.specs.Prelude.{defined_as, definition_tree, ends_itself, export_tree, exported, expression}
@@ -13,17 +14,16 @@ use Rattle.rhai_grammar.specs.declared.role.AfterStatement.{AfterStatement}
 use Rattle.rhai_grammar.specs.declared.role.Closing.{Closing}
 use Rattle.rhai_grammar.specs.declared.role.StatementPlace.{StatementPlace}
 use Rattle.rhai_grammar.specs.declared.role.StatementStart.{StatementStart}
-use Rattle.rhai_reading.specs.Reading.{comment_of}
-use Rattle.rhai_productions.specs.Schema.{Production, choose, give, here, if_next, must, name, never, part, raise, stop}
-use Rattle.rhai_productions.specs.Schema.{take, tested, this}
-use Rattle.rhai_productions.specs.Views.{EndIn}
-use Rattle.rhai_lower.specs.Nodes as node
 use Rattle.rhai_grammar.specs.Causes as cause
 use Rattle.rhai_grammar.specs.declared.due.DueToken.TheVariants as due_token
 use Rattle.rhai_grammar.specs.declared.role.AfterStatement.TheVariants as ends
 use Rattle.rhai_grammar.specs.declared.role.StatementPlace.TheVariants as stands
 use Rattle.rhai_grammar.specs.declared.role.StatementStart.TheVariants as start
+use Rattle.rhai_reading.specs.Reading.{comment_of}
 use Rattle.rhai_reading.specs.Goals as goal
+use Rattle.rhai_productions.specs.Schema.{Production, choose, give, here, if_next, must, name, never, part, raise, stop}
+use Rattle.rhai_productions.specs.Schema.{take, tested, this}
+use Rattle.rhai_productions.specs.Views.{EndIn}
 use Rattle.rhai_productions.specs.Views as view
 
 -- a name that may be defined here

@@ -6,13 +6,13 @@ use Rattle.rhai_grammar.specs.Prelude.{not_after, refusal, with_arm_collected, w
 use Rattle.rhai_grammar.specs.Switches.{no_guard}
 use Rattle.rhai_grammar.specs.declared.list.AfterPart.{AfterPart}
 use Rattle.rhai_grammar.specs.declared.role.ArmPlace.{ArmPlace}
-use Rattle.rhai_productions.specs.Schema.{Production, due, faultless, give, if_next, never, part, stop, this}
 use Rattle.rhai_grammar.specs.Causes as cause
 use Rattle.rhai_grammar.specs.declared.due.DueToken.TheVariants as due_token
 use Rattle.rhai_grammar.specs.declared.list.AfterPart.TheVariants as after
 use Rattle.rhai_grammar.specs.declared.list.CommaList.TheVariants as lists
 use Rattle.rhai_grammar.specs.declared.role.ArmPlace.TheVariants as arm
 use Rattle.rhai_reading.specs.Goals as goal
+use Rattle.rhai_productions.specs.Schema.{Production, due, faultless, give, if_next, never, part, stop, this}
 
 -- a case, and others after a `|`
 abbrev pub cases_of : Context → Live → Nodes → Production Nodes

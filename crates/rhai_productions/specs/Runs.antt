@@ -1,9 +1,8 @@
 -- Runs: operands that are joined by operators as their strengths say. Forms read the same with the same trees.
 use Rattle.std.specs.Prelude.{Bool, true, Option, Some, None}
 use Rattle.rhai_grammar.specs.Prelude.{Lexeme, Position, Context, Live, Node, has_room, level_up, refusal, position_of}
-use Rattle.rhai_grammar.specs.Prelude.{operator_tree, boolean_holds, mismatched}
-use Rattle.rhai_grammar.specs.Prelude.{Demands, ◌▸◌, Tok, Next, Test, Shape, Met, Point, item, code, follower_of}
-use Rattle.rhai_grammar.specs.Prelude.{place_after}
+use Rattle.rhai_grammar.specs.Prelude.{operator_tree, boolean_holds, mismatched, Demands, ◌▸◌, Tok, Next, Test, Shape}
+use Rattle.rhai_grammar.specs.Prelude.{Met, Point, item, code, follower_of, place_after}
 use Rattle.rhai_grammar.specs.Causes as cause
 use Rattle.rhai_grammar.specs.Strengths.{left_of, right_of, is_operator}
 use Rattle.rhai_grammar.specs.Verdicts.{anything, operator_known, run_ends, room_due}

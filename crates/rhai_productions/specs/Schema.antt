@@ -4,9 +4,8 @@ use Rattle.std.specs.Prelude.{◌≡◌, ℕ, Bool, true, false, not, Option, So
 use Rattle.rhai_lower.specs.Positions.{nowhere}
 use Rattle.rhai_grammar.specs.Causes as cause
 use Rattle.rhai_grammar.specs.Prelude.{Cause, Context, Ended, Lexeme, Library, Position, Refusal, Text, Use}
-use Rattle.rhai_grammar.specs.Prelude.{closure_count}
-use Rattle.rhai_grammar.specs.Prelude.{has_room, is_due, is_end, is_name, level_up, no_variable, not_due, refusal}
-use Rattle.rhai_grammar.specs.Prelude.{text_of}
+use Rattle.rhai_grammar.specs.Prelude.{closure_count, has_room, is_due, is_end, is_name, level_up, no_variable, not_due}
+use Rattle.rhai_grammar.specs.Prelude.{refusal, text_of}
 use Rattle.rhai_grammar.specs.declared.due.DueToken.{DueToken}
 use Rattle.rhai_grammar.specs.declared.due.DueToken.TheVariants as due_token
 use Rattle.rhai_reading.specs.Reading.{Goal, Val, Prog, Ret, Fail, Peek, Take, TakeText, Know, Add, Note, Call}

@@ -1,5 +1,6 @@
 -- Views of the next token, by which a production goes on in one way or another.
 use Rattle.std.specs.Prelude.{◌≡◌, ℕ, Bool, Option, Some, codes, true, refl}
+use Rattle.rhai_lower.specs.declared.token.Token.TheVariants as token
 use Rattle.rhai_grammar.specs.Prelude.{Context, Lexeme, Sign, Name, Follower, KeyPlace, MemberPlace, Properties}
 use Rattle.rhai_grammar.specs.Prelude.{after_part, arm_place, beginning, calling, defines, do_end, follower_of}
 use Rattle.rhai_grammar.specs.Prelude.{item_place, linking, member_place, operand_start, parameter_place}
@@ -24,7 +25,6 @@ use Rattle.rhai_grammar.specs.declared.role.OperandPlace.{OperandPlace}
 use Rattle.rhai_grammar.specs.declared.role.OperandStart.{OperandStart}
 use Rattle.rhai_grammar.specs.declared.role.StatementPlace.{StatementPlace}
 use Rattle.rhai_grammar.specs.declared.role.StatementStart.{StatementStart}
-use Rattle.rhai_lower.specs.declared.token.Token.TheVariants as token
 
 -- what is asked of the next token
 pub data View : Type 0 where

@@ -11,8 +11,8 @@ ghost use Rattle.rhai_productions.specs.Shaped.{TreesKeepShape};
 ghost use Rattle.rhai_productions.specs.StreamLaws.{FormsAreFair, StreamsAreWhole};
 ghost use Rattle.rhai_productions.specs.Watched.{NamesAreCaptured};
 
-/// A form that fits is spelled by the tokens that were taken, and leaves the functions that end in it and its free uses;
-/// one that is refused leaves the first of these functions.
+/// A form that fits is spelled by the tokens that were taken, and leaves the functions that end in it and its free
+/// uses; one that is refused leaves the first of these functions.
 #[tactic(auto, using(crate::proofs::Refusals::forms_leave_their_events))]
 pub fn forms_leave_their_events()
     ensures { FormsLeaveTheirEvents production }
