@@ -1,5 +1,6 @@
 -- No script has the tokens that a final refusal saw. The end mark is not among them.
-use Rattle.std.proofs.Common.{◌≡◌, ◌∙◌, ℕ, ◌≤◌, zero, suc, Bool, true, false, true≢false, List, [], ◌∷◌, ap, arith, length, refl, subst, sym}
+use Rattle.std.proofs.Common.{◌≡◌, ◌∙◌, ℕ, ◌≤◌, zero, suc, Bool, true, false, true≢false, List, [], ◌∷◌, ap, arith}
+use Rattle.std.proofs.Common.{length, refl, subst, sym}
 use Rattle.std.specs.Prelude.{take}
 use Rattle.rhai_lower.specs.declared.position.Position.{Position}
 use Rattle.rhai_grammar.specs.Cursors.{Cursor, asked}
@@ -74,9 +75,11 @@ pub within : (taken : List Taken) (is : List Item) (end : Position) (m : Mode)
 within [] [] end m no_end = absurd (true≢false no_end)
 within [] (i ∷ is) end m no_end = more (omega arith)
 within (k ∷ taken) [] end m no_end =
-    absurd (none_less (within taken [] end m (subst (λ s. is_end (ask m (leads taken s)).lexeme ≡ false) (end_stays end k.mode) no_end)))
+    absurd (none_less (within taken [] end m (subst (λ s. is_end (ask m (leads taken s)).lexeme ≡ false)
+    (end_stays end k.mode) no_end)))
 within (k ∷ taken) (i ∷ is) end m no_end =
-    more (within taken is end m (subst (λ s. is_end (ask m (leads taken s)).lexeme ≡ false) (later_is i is end k.mode) no_end))
+    more (within taken is end m (subst (λ s. is_end (ask m (leads taken s)).lexeme ≡ false)
+    (later_is i is end k.mode) no_end))
 
 -- A stream with the same first tokens gives the same ones.
 pub gives_same : (taken : List Taken) (is js : List Item) (end other : Position) → length taken ≤ length is
@@ -86,14 +89,16 @@ gives_same (k ∷ taken) [] js end other few same gives = absurd (none_less few)
 gives_same (k ∷ taken) (i ∷ is) [] end other few same gives = absurd (none_same i (length taken) is same)
 gives_same (k ∷ taken) (i ∷ is) (j ∷ js) end other few same gives =
     let first = first_same i j (length taken) is js same in (
-      subst (λ f. ask k.mode (delivers (f ∷ js) other) ≡ k.item) (sym first) (asks_first i is js end other k.mode ∙ gives.0),
+      subst (λ f. ask k.mode (delivers (f ∷ js) other) ≡ k.item) (sym first) (asks_first i is js end other k.mode
+          ∙ gives.0),
       subst (Gives taken) (sym (later_is j js other k.mode))
           (gives_same taken is js end other (less few) (others_same i j (length taken) is js same)
           (subst (Gives taken) (later_is i is end k.mode) gives.1)),
     )
 
 -- And the token after those is the same.
-pub asks_same : (taken : List Taken) (is js : List Item) (end other : Position) (m : Mode) → suc (length taken) ≤ length is
+pub asks_same : (taken : List Taken) (is js : List Item) (end other : Position) (m : Mode) → suc
+    (length taken) ≤ length is
     → take (suc (length taken)) js ≡ take (suc (length taken)) is
     → ask m (leads taken (delivers js other)) ≡ ask m (leads taken (delivers is end))
 asks_same taken [] js end other m few same = absurd (none_less few)
@@ -103,8 +108,10 @@ asks_same [] (i ∷ is) (j ∷ js) end other m few same =
     (asks_first i is js end other m)
 asks_same (k ∷ taken) (i ∷ is) (j ∷ js) end other m few same =
     let found = asks_same taken is js end other m (less few) (others_same i j (suc (length taken)) is js same) in
-    let left = subst (λ s. ask m (leads taken s) ≡ ask m (leads taken (delivers is end))) (sym (later_is j js other k.mode)) found in
-    subst (λ s. ask m (leads taken (later k.mode (delivers (j ∷ js) other))) ≡ ask m (leads taken s)) (sym (later_is i is end k.mode)) left
+    let left = subst (λ s. ask m (leads taken s) ≡ ask m (leads taken (delivers is end))) (sym
+    (later_is j js other k.mode)) found in
+    subst (λ s. ask m (leads taken (later k.mode (delivers (j ∷ js) other))) ≡ ask m (leads taken s)) (sym
+    (later_is i is end k.mode)) left
 
 -- a list that begins with more of another begins with fewer of it
 fewer_same : (n : ℕ) (is js : List Item) → take (suc n) js ≡ take (suc n) is → take n js ≡ take n is

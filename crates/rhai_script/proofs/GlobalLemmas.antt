@@ -26,7 +26,8 @@ use Rattle.rhai_tokenizer.specs.Readings.{Reads}
 use Rattle.rhai_tokenizer.specs.declared.limits.Limits.{Limits}
 use Rattle.rhai_tokenizer.specs.declared.tokens.Span.{Span}
 use Rattle.rhai_tokenizer.specs.declared.tokens.Tokens as T
-use Rattle.rhai_script.specs.GlobalLevels.{IsGlobalLevel, NestsWithin, ReadsTextAsScript, is_unended, may_go_on, reaching, script_context, touches_end}
+use Rattle.rhai_script.specs.GlobalLevels.{IsGlobalLevel, NestsWithin, ReadsTextAsScript, is_unended, may_go_on}
+use Rattle.rhai_script.specs.GlobalLevels.{reaching, script_context, touches_end}
 use Rattle.rhai_script.specs.declared.global_level.GlobalLevel.{GlobalLevel}
 use Rattle.rhai_script.specs.declared.global_level.Refused.{Refused}
 use Rattle.rhai_script.proofs.DeliveryLemmas.{streams_agree}
@@ -35,7 +36,8 @@ use Rattle.rhai_script.proofs.TextLemmas.{nothing_read, text_read}
 
 -- ---- the same answer, told otherwise
 
-pub read_ok : {F X Y : Type 0} (whole : F → Demands) (Is : F → X → Type 0) (Told : F → Y → Type 0) (before after : Library)
+pub read_ok : {F X Y : Type 0} (whole : F → Demands) (Is : F → X → Type 0) (Told : F → Y → Type 0)
+    (before after : Library)
     (start left : Cursor) (x : X) (y : Y) → ((f : F) → Is f x → Told f y)
     → ReadsWhole whole Is before after start left (Ok x) → ReadsWhole whole Told before after start left (Ok y)
 read_ok whole Is Told before after start left x y tells reads = record {
@@ -44,7 +46,8 @@ read_ok whole Is Told before after start left x y tells reads = record {
   refused = tt;
 }
 
-pub read_err : {F X Y : Type 0} (whole : F → Demands) (Is : F → X → Type 0) (Told : F → Y → Type 0) (before after : Library)
+pub read_err : {F X Y : Type 0} (whole : F → Demands) (Is : F → X → Type 0) (Told : F → Y → Type 0)
+    (before after : Library)
     (start left : Cursor) (e : ParseError)
     → ReadsWhole whole Is before after start left (Err e) → ReadsWhole whole Told before after start left (Err e)
 read_err whole Is Told before after start left e reads = record {
@@ -62,7 +65,8 @@ neither false b is = refl
 -- Where it may not, the end mark does not come next.
 no_end : (left : Cursor) (spans : List Span) → may_go_on left spans ≡ false → is_end (asked left).lexeme ≡ false
 no_end left spans is =
-    neither (is_end (asked left).lexeme) (is_unended (asked left).lexeme && (is_end (asked (taking left)).lexeme && touches_end spans)) is
+    neither (is_end (asked left).lexeme) (is_unended (asked left).lexeme && (is_end (asked
+    (taking left)).lexeme && touches_end spans)) is
 
 -- ---- the promise
 
@@ -77,18 +81,22 @@ module _ (engine : EngineValue) (constants : Constants) (limits : Limits) (text 
   abbrev context : Context
   context = script_context engine constants
 
-  pub script_read : (script : GlobalLevel) → ReadsWhole (scripts context nothing_live) (IsGlobalLevel after) before after start left (Ok script)
+  pub script_read : (script : GlobalLevel) → ReadsWhole (scripts context nothing_live)
+      (IsGlobalLevel after) before after start left (Ok script)
       → HasRead start left false → script.spans ≡ tokens.spans
-      → NestsAsWritten context nothing_live before start (reaching script.nest_peak) → NestsWithin engine script.nest_peak
+      → NestsAsWritten context nothing_live before start (reaching script.nest_peak)
+      → NestsWithin engine script.nest_peak
       → ReadsTextAsScript engine constants limits text before after (Ok script)
   script_read script reads memory spans deep nests = record {
-    reads = text_read (scripts context nothing_live) (IsGlobalLevel after) before after limits text (Ok script) tokens left
+    reads = text_read (scripts context nothing_live) (IsGlobalLevel after) before after limits text
+        (Ok script) tokens left
         (refusals_stand_at_tokens.script_named context nothing_live) read reads memory;
     given = λ ps is.
         let spelled = read.only ps is.0 is.1 in
         record {
           script_spans = ap (λ (s : Vec Span Global). s.items) spans ∙ spelled.spans;
-          script_depth = subst (λ s. NestsAsWritten context nothing_live before s (reaching script.nest_peak)) (streams_agree limits tokens ps spelled) deep;
+          script_depth = subst (λ s. NestsAsWritten context nothing_live before s (reaching script.nest_peak))
+              (streams_agree limits tokens ps spelled) deep;
           refusal_spans = tt;
           incomplete = tt;
           final = tt;
@@ -98,13 +106,15 @@ module _ (engine : EngineValue) (constants : Constants) (limits : Limits) (text 
     memory = tt;
   }
 
-  pub script_refused : (refused : Refused) → ReadsWhole (scripts context nothing_live) (IsGlobalLevel after) before after start left (Err refused.error)
+  pub script_refused : (refused : Refused) → ReadsWhole (scripts context nothing_live)
+      (IsGlobalLevel after) before after start left (Err refused.error)
       → (is_for_memory refused.error ≡ false → HasRead start left true) → refused.spans ≡ tokens.spans
       → refused.is_incomplete ≡ (if is_for_memory refused.error then false else may_go_on left tokens.spans.items)
       → NestsWithin engine refused.nest_peak
       → ReadsTextAsScript engine constants limits text before after (Err refused)
   script_refused refused reads memory spans incomplete nests = record {
-    reads = text_read (scripts context nothing_live) (IsGlobalLevel after) before after limits text (Err refused.error) tokens left
+    reads = text_read (scripts context nothing_live) (IsGlobalLevel after) before after limits text
+        (Err refused.error) tokens left
         (refusals_stand_at_tokens.script_named context nothing_live) read reads memory;
     given = λ ps is.
         let spelled = read.only ps is.0 is.1 in
@@ -129,8 +139,10 @@ module _ (engine : EngineValue) (constants : Constants) (limits : Limits) (text 
 
   -- the same of a stream that is the text's, and of the parser's own answer
   pub host_script : (stream : Stream) (answer : Read) (script : GlobalLevel)
-      → stream ≡ stream_of (map ask_of tokens.entries.items) tokens.end → answer ≡ Ok (script.statements, script.functions)
-      → ReadsScript context nothing_live before after (cursor_of stream) left answer script.scope (map rc_str_bytes script.imports.items)
+      → stream ≡ stream_of (map ask_of tokens.entries.items) tokens.end → answer ≡ Ok
+      (script.statements, script.functions)
+      → ReadsScript context nothing_live before after (cursor_of stream) left answer script.scope
+      (map rc_str_bytes script.imports.items)
       → UnlessMemory (HasRead (cursor_of stream) left) answer
       → IfOk answer (λ read. NestsAsWritten context nothing_live before (cursor_of stream) (reaching script.nest_peak))
       → NestsWithin engine script.nest_peak → script.spans ≡ tokens.spans
@@ -138,17 +150,22 @@ module _ (engine : EngineValue) (constants : Constants) (limits : Limits) (text 
   host_script stream answer script is ok reads memory deep nests spans =
       let slots = script.scope in
       let modules = map rc_str_bytes script.imports.items in
-      let r = subst (λ s. ReadsScript context nothing_live before after (cursor_of s) left answer slots modules) is reads in
+      let r = subst (λ s. ReadsScript context nothing_live before after
+      (cursor_of s) left answer slots modules) is reads in
       let r0 = subst (λ a. ReadsScript context nothing_live before after start left a slots modules) ok r in
       let m = subst (λ s. UnlessMemory (HasRead (cursor_of s) left) answer) is memory in
       let m0 = subst (λ a. UnlessMemory (HasRead start left) a) ok m in
-      let d = subst (λ s. IfOk answer (λ read. NestsAsWritten context nothing_live before (cursor_of s) (reaching script.nest_peak))) is deep in
-      let d0 = subst (λ a. IfOk a (λ read. NestsAsWritten context nothing_live before start (reaching script.nest_peak))) ok d in
+      let d = subst (λ s. IfOk answer (λ read. NestsAsWritten context nothing_live before (cursor_of s)
+      (reaching script.nest_peak))) is deep in
+      let d0 = subst (λ a. IfOk a (λ read. NestsAsWritten context nothing_live before start
+      (reaching script.nest_peak))) ok d in
       script_read script
-      (read_ok (scripts context nothing_live) (λ fs read. IsScript fs nothing_live after read slots modules) (IsGlobalLevel after) before after
+      (read_ok (scripts context nothing_live) (λ fs read. IsScript fs nothing_live after read slots modules)
+      (IsGlobalLevel after) before after
       start left (script.statements, script.functions) script (λ fs is_script. is_script) r0) m0 spans d0 nests
 
-  pub host_refused : (stream : Stream) (answer : Read) (slots : List SlotValue) (modules : List Text) (refused : Refused)
+  pub host_refused : (stream : Stream) (answer : Read) (slots : List SlotValue) (modules : List Text)
+      (refused : Refused)
       → stream ≡ stream_of (map ask_of tokens.entries.items) tokens.end → answer ≡ Err refused.error
       → ReadsScript context nothing_live before after (cursor_of stream) left answer slots modules
       → UnlessMemory (HasRead (cursor_of stream) left) answer → refused.spans ≡ tokens.spans
@@ -156,22 +173,26 @@ module _ (engine : EngineValue) (constants : Constants) (limits : Limits) (text 
       → NestsWithin engine refused.nest_peak
       → ReadsTextAsScript engine constants limits text before after (Err refused)
   host_refused stream answer slots modules refused is err reads memory spans incomplete nests =
-      let r = subst (λ s. ReadsScript context nothing_live before after (cursor_of s) left answer slots modules) is reads in
+      let r = subst (λ s. ReadsScript context nothing_live before after
+      (cursor_of s) left answer slots modules) is reads in
       let r0 = subst (λ a. ReadsScript context nothing_live before after start left a slots modules) err r in
       let m = subst (λ s. UnlessMemory (HasRead (cursor_of s) left) answer) is memory in
       let m0 = subst (λ a. UnlessMemory (HasRead start left) a) err m in
       script_refused refused
-      (read_err (scripts context nothing_live) (λ fs read. IsScript fs nothing_live after read slots modules) (IsGlobalLevel after) before after
+      (read_err (scripts context nothing_live) (λ fs read. IsScript fs nothing_live after read slots modules)
+      (IsGlobalLevel after) before after
       start left refused.error r0) m0 spans incomplete nests
 
 -- Where the tokenizer had no memory, nothing is promised but of the refusal itself.
-pub script_unread : (engine : EngineValue) (constants : Constants) (limits : Limits) (text : Text) (before : Library) (refused : Refused)
+pub script_unread : (engine : EngineValue) (constants : Constants) (limits : Limits) (text : Text) (before : Library)
+    (refused : Refused)
     → refused.error ≡ no_memory → refused.is_incomplete ≡ false → refused.nest_peak ≡ 0
     → ReadsTextAsScript engine constants limits text before before (Err refused)
 script_unread engine constants limits text before refused error complete peak =
     let out : is_for_memory refused.error ≡ true = ap is_for_memory error in
     record {
-      reads = nothing_read (scripts (script_context engine constants) nothing_live) (IsGlobalLevel before) before before limits text refused.error out;
+      reads = nothing_read (scripts (script_context engine constants) nothing_live)
+          (IsGlobalLevel before) before before limits text refused.error out;
       given = λ ps is. record {
         script_spans = tt;
         script_depth = tt;

@@ -16,7 +16,8 @@ last_of x y [] = refl
 last_of x y (z ∷ more) =
     let ys = y ∷ z ∷ more in
     let n = length ys in
-    subst (λ i. ((get_or (x ∷ ys) i (span 0 0)).stop == (get_or (x ∷ ys) (suc n - 1) (span 0 0)).start) ≡ touches_end ys)
+    subst (λ i. ((get_or (x ∷ ys) i (span 0 0)).stop == (get_or (x ∷ ys) (suc n - 1) (span 0 0)).start)
+    ≡ touches_end ys)
     (sym (one_less n 2 (omega arith)))
     (subst (λ j. ((get_or ys (n - 2) (span 0 0)).stop == (get_or (x ∷ ys) j (span 0 0)).start) ≡ touches_end ys)
     (sym (one_less n 1 (omega arith))) (last_of y z more))

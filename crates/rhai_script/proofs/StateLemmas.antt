@@ -69,8 +69,10 @@ context_with engine settings filter constants imports begun = record {
   begun = begun;
 }
 
-pub context_is : (engine : EngineValue) (settings : ParseSettings) (state : StateValue) (stream : Stream) (held : Functions)
-    (constants : Constants) → IsNew state stream held constants → starts_in engine state settings ≡ text_context engine settings constants
+pub context_is : (engine : EngineValue) (settings : ParseSettings) (state : StateValue) (stream : Stream)
+    (held : Functions)
+    (constants : Constants) → IsNew state stream held constants → starts_in engine state settings
+    ≡ text_context engine settings constants
 context_is engine settings state stream held constants n =
     let names = map rc_str_bytes state.global_imports.items in
     let begun = (counts_of state.counts).begun in
@@ -104,8 +106,10 @@ fresh state stream held constants n in_code = record {
 }
 
 -- An empty library is left orderly.
-pub stays_orderly : (engine : EngineValue) (state : StateValue) (stream : Stream) (constants : Constants) (after : Library)
-    → IsNew state stream [] constants → KeepsOrder engine (counts_of state.counts) (library_of state.lib.now.entries) after
+pub stays_orderly : (engine : EngineValue) (state : StateValue) (stream : Stream) (constants : Constants)
+    (after : Library)
+    → IsNew state stream [] constants → KeepsOrder engine (counts_of state.counts)
+    (library_of state.lib.now.entries) after
     → IsOrderly engine.max_functions 0 after
 stays_orderly engine state stream constants after n keeps =
     let k = subst (λ c. KeepsOrder engine c (library_of state.lib.now.entries) after) n.counts keeps in
@@ -116,40 +120,55 @@ stays_orderly engine state stream constants after n keeps =
 -- live before.
 module _ {F X : Type 0} (whole : Context → Live → F → Demands) (Is : Library → Constants → Live → F → X → Type 0)
     (stand : (context : Context) (live : Live) → StandWhereNamed (whole context live)) where
-  pub text_parsed : (engine : EngineValue) (chosen settings : ParseSettings) (state : StateValue) (constants : Constants)
-      (limits : Limits) (text : Text) (result : Result X ParseError) (tokens : T.Tokens) (after : Library) (left : Cursor)
+  pub text_parsed : (engine : EngineValue) (chosen settings : ParseSettings) (state : StateValue)
+      (constants : Constants)
+      (limits : Limits) (text : Text) (result : Result X ParseError) (tokens : T.Tokens) (after : Library)
+      (left : Cursor)
       → Reads text limits tokens → chosen ≡ settings
       → IsNew state (stream_of (map ask_of tokens.entries.items) tokens.end) [] constants
-      → ReadsWhole (whole (starts_in engine state chosen) (live_in state)) (Is after state.external_constants (live_in state))
+      → ReadsWhole (whole (starts_in engine state chosen) (live_in state)) (Is after state.external_constants
+      (live_in state))
       (library_of state.lib.now.entries) after (cursor_of state.input.now) left result
       → UnlessMemory (HasRead (cursor_of state.input.now) left) result
-      → ReadsText (whole (text_context engine settings constants) nothing_live) (Is after constants nothing_live) [] after limits text result
+      → ReadsText (whole (text_context engine settings constants) nothing_live)
+      (Is after constants nothing_live) [] after limits text result
   text_parsed engine chosen settings state constants limits text result tokens after left r is n parsed memory =
       let stream = stream_of (map ask_of tokens.entries.items) tokens.end in
       let context = text_context engine settings constants in
-      let p = subst (λ s. ReadsWhole (whole (starts_in engine state s) (live_in state)) (Is after state.external_constants (live_in state)) (library_of state.lib.now.entries) after (cursor_of state.input.now) left result)
+      let p = subst (λ s. ReadsWhole (whole (starts_in engine state s) (live_in state))
+      (Is after state.external_constants (live_in state)) (library_of state.lib.now.entries) after
+      (cursor_of state.input.now) left result)
       is parsed in
-      let p0 = subst (λ k. ReadsWhole (whole (starts_in engine state settings) (live_in state)) (Is after k (live_in state)) (library_of state.lib.now.entries) after (cursor_of state.input.now) left result)
+      let p0 = subst (λ k. ReadsWhole (whole (starts_in engine state settings) (live_in state)) (Is after k
+      (live_in state)) (library_of state.lib.now.entries) after (cursor_of state.input.now) left result)
       n.constants p in
-      let p1 = subst (λ k. ReadsWhole (whole k (live_in state)) (Is after constants (live_in state)) (library_of state.lib.now.entries) after (cursor_of state.input.now) left result)
+      let p1 = subst (λ k. ReadsWhole (whole k (live_in state)) (Is after constants (live_in state))
+      (library_of state.lib.now.entries) after (cursor_of state.input.now) left result)
       (context_is engine settings state stream [] constants n) p0 in
-      let p2 = subst (λ w. ReadsWhole (whole context w) (Is after constants w) (library_of state.lib.now.entries) after (cursor_of state.input.now) left result)
+      let p2 = subst (λ w. ReadsWhole (whole context w) (Is after constants w)
+      (library_of state.lib.now.entries) after (cursor_of state.input.now) left result)
       (live_is state stream [] constants n) p1 in
-      let p3 = subst (λ l. ReadsWhole (whole context nothing_live) (Is after constants nothing_live) (library_of l) after (cursor_of state.input.now) left result) n.lib p2 in
-      let p4 = subst (λ s. ReadsWhole (whole context nothing_live) (Is after constants nothing_live) [] after (cursor_of s) left result) n.input p3 in
-      text_read (whole context nothing_live) (Is after constants nothing_live) [] after limits text result tokens left (stand context nothing_live) r p4
+      let p3 = subst (λ l. ReadsWhole (whole context nothing_live) (Is after constants nothing_live)
+      (library_of l) after (cursor_of state.input.now) left result) n.lib p2 in
+      let p4 = subst (λ s. ReadsWhole (whole context nothing_live) (Is after constants nothing_live) [] after
+      (cursor_of s) left result) n.input p3 in
+      text_read (whole context nothing_live)
+      (Is after constants nothing_live) [] after limits text result tokens left (stand context nothing_live) r p4
       (subst (λ s. UnlessMemory (HasRead (cursor_of s) left) result) n.input memory)
 
 -- ---- the promises of the calls
 
-pub a_script : (makes : Makes) (engine : EngineValue) (constants : Constants) (level : OptimizationLevel) (limits : Limits)
+pub a_script : (makes : Makes) (engine : EngineValue) (constants : Constants) (level : OptimizationLevel)
+    (limits : Limits)
     (text : Text) (result : Result AST ParseError) (after : Library)
     → ReadsText (scripts (text_context engine (script_settings engine) constants) nothing_live)
-    (λ fs script. IsMadeOf makes constants level (statement_trees fs nothing_live) after script) [] after limits text result
+    (λ fs script. IsMadeOf makes constants level
+    (statement_trees fs nothing_live) after script) [] after limits text result
     → IsOrderly engine.max_functions 0 after → ReadsTextAsAst makes engine constants level limits text result
 a_script makes engine constants level limits text result after r o = record { after = after; reads = r; orderly = o }
 
-pub an_expression : (makes : Makes) (engine : EngineValue) (constants : Constants) (level : OptimizationLevel) (limits : Limits)
+pub an_expression : (makes : Makes) (engine : EngineValue) (constants : Constants) (level : OptimizationLevel)
+    (limits : Limits)
     (text : Text) (result : Result AST ParseError) (after : Library)
     → ReadsText (expressions (text_context engine (expr_settings engine) constants) nothing_live)
     (λ f script. IsScriptOf makes constants level (tree f nothing_live) after script) [] after limits text result
@@ -158,16 +177,20 @@ an_expression makes engine constants level limits text result after r o =
     record { after = after; reads = r; orderly = o }
 
 -- Where the tokenizer had no memory, nothing is promised.
-pub no_script : (makes : Makes) (engine : EngineValue) (constants : Constants) (level : OptimizationLevel) (limits : Limits)
+pub no_script : (makes : Makes) (engine : EngineValue) (constants : Constants) (level : OptimizationLevel)
+    (limits : Limits)
     (text : Text) → ReadsTextAsAst makes engine constants level limits text (Err no_memory)
 no_script makes engine constants level limits text =
-    a_script makes engine constants level limits text (Err no_memory) [] (nothing_read _ _ [] [] limits text no_memory refl)
+    a_script makes engine constants level limits text (Err no_memory) []
+    (nothing_read _ _ [] [] limits text no_memory refl)
     (libraries_stay_orderly.empty engine.max_functions)
 
-pub no_expression : (makes : Makes) (engine : EngineValue) (constants : Constants) (level : OptimizationLevel) (limits : Limits)
+pub no_expression : (makes : Makes) (engine : EngineValue) (constants : Constants) (level : OptimizationLevel)
+    (limits : Limits)
     (text : Text) → ReadsTextAsExpression makes engine constants level limits text (Err no_memory)
 no_expression makes engine constants level limits text =
-    an_expression makes engine constants level limits text (Err no_memory) [] (nothing_read _ _ [] [] limits text no_memory refl)
+    an_expression makes engine constants level limits text (Err no_memory) []
+    (nothing_read _ _ [] [] limits text no_memory refl)
     (libraries_stay_orderly.empty engine.max_functions)
 
 -- ---- a state with functions
@@ -175,25 +198,35 @@ no_expression makes engine constants level limits text =
 abbrev Read : Type 0
 Read = Result (Vec Stmt Global × Vec (Rc ScriptFuncDef Global) Global) ParseError
 
-pub script_parsed : (engine : EngineValue) (chosen settings : ParseSettings) (state : StateValue) (stream : Stream) (held : Functions)
-    (constants : Constants) (after : Library) (left : Cursor) (result : Read) (slots : List SlotValue) (modules : List Text)
+pub script_parsed : (engine : EngineValue) (chosen settings : ParseSettings) (state : StateValue) (stream : Stream)
+    (held : Functions)
+    (constants : Constants) (after : Library) (left : Cursor) (result : Read) (slots : List SlotValue)
+    (modules : List Text)
     → chosen ≡ settings → IsNew state stream held constants
-    → ReadsScript (starts_in engine state chosen) (live_in state) (library_of state.lib.now.entries) after (cursor_of state.input.now) left
+    → ReadsScript (starts_in engine state chosen) (live_in state) (library_of state.lib.now.entries) after
+    (cursor_of state.input.now) left
     result slots modules
-    → ReadsScript (text_context engine settings constants) nothing_live (library_of held) after (cursor_of stream) left result slots modules
+    → ReadsScript (text_context engine settings constants) nothing_live (library_of held) after
+    (cursor_of stream) left result slots modules
 script_parsed engine chosen settings state stream held constants after left result slots modules is n parsed =
     let context = text_context engine settings constants in
-    let p = subst (λ s. ReadsScript (starts_in engine state s) (live_in state) (library_of state.lib.now.entries) after (cursor_of state.input.now) left result slots modules)
+    let p = subst (λ s. ReadsScript (starts_in engine state s) (live_in state)
+    (library_of state.lib.now.entries) after (cursor_of state.input.now) left result slots modules)
     is parsed in
-    let p1 = subst (λ k. ReadsScript k (live_in state) (library_of state.lib.now.entries) after (cursor_of state.input.now) left result slots modules)
+    let p1 = subst (λ k. ReadsScript k (live_in state) (library_of state.lib.now.entries) after
+    (cursor_of state.input.now) left result slots modules)
     (context_is engine settings state stream held constants n) p in
-    let p2 = subst (λ w. ReadsScript context w (library_of state.lib.now.entries) after (cursor_of state.input.now) left result slots modules)
+    let p2 = subst (λ w. ReadsScript context w (library_of state.lib.now.entries) after
+    (cursor_of state.input.now) left result slots modules)
     (live_is state stream held constants n) p1 in
-    let p3 = subst (λ l. ReadsScript context nothing_live (library_of l) after (cursor_of state.input.now) left result slots modules) n.lib p2 in
-    subst (λ s. ReadsScript context nothing_live (library_of held) after (cursor_of s) left result slots modules) n.input p3
+    let p3 = subst (λ l. ReadsScript context nothing_live (library_of l) after
+    (cursor_of state.input.now) left result slots modules) n.lib p2 in
+    subst (λ s. ReadsScript context nothing_live (library_of held) after
+    (cursor_of s) left result slots modules) n.input p3
 
 -- the same with what is left under other names
-pub script_left : {context : Context} {live : Live} {before : Library} {start : Cursor} {result : Read} {slots : List SlotValue}
+pub script_left : {context : Context} {live : Live} {before : Library} {start : Cursor} {result : Read} {slots : List
+    SlotValue}
     {modules : List Text} (read found : Functions) (left seen : Cursor) → read ≡ found → left ≡ seen
     → ReadsScript context live before (library_of read) start left result slots modules
     → ReadsScript context live before (library_of found) start seen result slots modules
@@ -202,8 +235,10 @@ script_left {context} {live} {before} {start} {result} {slots} {modules} read fo
     (subst (λ es. ReadsScript context live before (library_of es) start left result slots modules) same reads)
 
 -- What keeps the order from these counts keeps it in a new state.
-pub order_kept : (engine : EngineValue) (state : StateValue) (stream : Stream) (held : Functions) (constants : Constants) (after : Library)
-    → IsNew state stream held constants → KeepsOrder engine (counts_of state.counts) (library_of state.lib.now.entries) after
+pub order_kept : (engine : EngineValue) (state : StateValue) (stream : Stream) (held : Functions)
+    (constants : Constants) (after : Library)
+    → IsNew state stream held constants → KeepsOrder engine (counts_of state.counts)
+    (library_of state.lib.now.entries) after
     → IsOrderly engine.max_functions 0 (library_of held) → IsOrderly engine.max_functions 0 after
 order_kept engine state stream held constants after n keeps =
     let k = subst (λ c. KeepsOrder engine c (library_of state.lib.now.entries) after) n.counts keeps in

@@ -29,7 +29,8 @@ returns-clause-reads c =
     let r = reads.1 in
     let same : r.left.now ≡ r.shown.now = search rules in
     let chosen : reads.0 ≡ script_settings c.args.engine.now = sym r.leaves ∙ same ∙ r.shows in
-    let parsed = script_parsed c.args.engine.now reads.0 (script_settings c.args.engine.now) c.new-state.result c.args.input.now
+    let parsed = script_parsed c.args.engine.now reads.0
+    (script_settings c.args.engine.now) c.new-state.result c.args.input.now
     c.args.lib.now.entries c.args.constants (library_of state.lib.now.entries) (cursor_of state.input.now)
     c.parse_global_level-script.result state.stack (map rc_str_bytes state.imports.items) chosen new
     (reads.2 (fresh c.new-state.result c.args.input.now c.args.lib.now.entries c.args.constants new c.requires)).0 in
