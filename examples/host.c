@@ -44,7 +44,8 @@ static int print(struct rhai_answer answer, const char *out) {
     switch (answer.status) {
         case RHAI_OK:
         case RHAI_REFUSED:
-            return fwrite(out, 1, answer.length, stdout) == answer.length && putchar('\n') == '\n' ? (int)answer.status : 2;
+            if (fwrite(out, 1, answer.length, stdout) != answer.length || putchar('\n') == EOF) return 2;
+            return (int)answer.status;
         case RHAI_NOT_UTF8:
             fprintf(stderr, "host: not UTF-8 after %zu bytes\n", answer.length);
             return 2;

@@ -1,21 +1,20 @@
 //! The calls for C. Each reads its arguments, and hands out what the crate's own functions answer.
 
-ghost use Rattle.std.specs.Prelude.{◌≡◌, ◌<◌};
+ghost use Rattle.std.specs.Prelude.{◌≡◌};
 
 use crate::answer::{
     BAD_ARGUMENT, NO_MEMORY, NOT_UTF8, OK, REFUSED, RhaiAnswer, hand_out, without_text,
 };
 use crate::options::{RhaiOptions, default_options, engine_of, limits_of};
-use crate::scripts::{Answer, Kind, Told, answer, tokens};
+use crate::scripts::{Answer, Kind, Told, answer_on, tokens};
 use std::alloc::{AllocError, Global};
-use std::str;
 
 // An answer on a text, to the caller's buffer.
 fn give(out: &mut [u8], answer: Result<Answer, AllocError>) -> RhaiAnswer {
     match answer {
         Ok(Ok(text)) => hand_out(out, OK, &text),
         Ok(Err(text)) => hand_out(out, REFUSED, &text),
-        Err(AllocError) => without_text(NO_MEMORY, 0),
+        Err(_) => without_text(NO_MEMORY, 0),
     }
 }
 
@@ -36,7 +35,7 @@ fn tell(
     match str::from_utf8(bytes) {
         Ok(text) => give(
             out,
-            answer(alloc, &engine, text, limits_of(options), kind, told),
+            answer_on(alloc, &engine, text, limits_of(options), kind, told),
         ),
         Err(error) => without_text(NOT_UTF8, error.valid_up_to()),
     }
@@ -88,7 +87,7 @@ pub extern "C" fn rhai_tokens_at(
         Err(error) => without_text(NOT_UTF8, error.valid_up_to()),
         Ok(text) => match tokens(alloc, text, limits_of(options)) {
             Ok(text) => hand_out(out, OK, &text),
-            Err(AllocError) => without_text(NO_MEMORY, 0),
+            Err(_) => without_text(NO_MEMORY, 0),
         },
     }
 }

@@ -75,7 +75,7 @@ fn refusal(
 }
 
 /// The tree or the names of a text, or why it is refused. Returns `AllocError` if memory runs out.
-pub fn answer(
+pub fn answer_on(
     alloc: Global,
     engine: &Engine,
     text: &str,

@@ -1,7 +1,7 @@
 -- What is still to be written of a tree: its pieces, in this order.
 use Rattle.std.specs.Prelude.{ℕ, ◌+◌, Box, List, None, Option, Some, [], ◌∷◌, box_value, map, reverse}
 use Rattle.std.specs.declared.alloc.Global.{Global}
-use Rattle.json.specs.Token.{Token, begin_array, end_object, key, null}
+use Rattle.json.specs.Token.{Token, end_object, key, null}
 use Rattle.rhai_lower.specs.Nodes
 use Rattle.rhai_lower.specs.Nodes.{Arms, Block, Cases, Node, Nodes, Optional, Properties, Statement, Statements, absent}
 use Rattle.rhai_lower.specs.Nodes.{array, assignment, block_statement, block_value, boolean, braces, break_loop, call}

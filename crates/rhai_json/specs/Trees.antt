@@ -1,13 +1,14 @@
 -- What stands in the JSON for a tree: an object for each node. A definition takes the tokens that were written before,
 -- and gives them with those of the node behind them.
-use Rattle.std.specs.Prelude.{ℕ, ℤ, Bool, Option, Some, None, List, [], ◌∷◌, codes, option_map}
+use Rattle.std.specs.Prelude.{◌≡◌, ℕ, Option, List, [], ◌∷◌, codes, option_map, refl}
 use Rattle.std.specs.Char.{encode_utf8}
-use Rattle.json.specs.Token.{Token, begin_array, begin_object, end_array, end_object, key, null, string}
+use Rattle.std.specs.Fmt.{digits}
+use Rattle.json.specs.Token.{Token, begin_array, begin_object, end_array, end_object, key, null, number, string}
 use Rattle.rhai_lower.specs.Lexemes
 use Rattle.rhai_lower.specs.Lexemes.{Character, Comment, Faulty, Integer, Interpolated, Lexeme, Name, Reserved, Sign}
 use Rattle.rhai_lower.specs.Nodes
 use Rattle.rhai_lower.specs.Nodes.{Arms, Block, Called, Cases, Function, Named, Node, Nodes, Optional, Properties}
-use Rattle.rhai_lower.specs.Nodes.{Statement, Statements, absent, array, assignment, block_statement, block_start}
+use Rattle.rhai_lower.specs.Nodes.{Statement, Statements, absent, array, assignment, block_statement}
 use Rattle.rhai_lower.specs.Nodes.{block_value, boolean, braces, break_loop, call, character, coalescing, conjunction}
 use Rattle.rhai_lower.specs.Nodes.{disjunction, do_statement, dot, export_statement, expression, for_statement}
 use Rattle.rhai_lower.specs.Nodes.{if_statement, import_statement, index, integer, interpolated, method_call, no_arms}
@@ -15,7 +16,7 @@ use Rattle.rhai_lower.specs.Nodes.{no_cases, no_nodes, no_properties, no_stateme
 use Rattle.rhai_lower.specs.Nodes.{one_case, one_node, one_property, one_statement, pointer, position_of, present}
 use Rattle.rhai_lower.specs.Nodes.{property, return_statement, share, switch_statement, this, try_catch, unit}
 use Rattle.rhai_lower.specs.Nodes.{var_statement, variable, while_statement, statement_position}
-use Rattle.rhai_lower.specs.Positions.{nowhere}
+use Rattle.rhai_lower.specs.Positions.{place}
 use Rattle.rhai_lower.specs.Texts.{Text}
 use Rattle.rhai_lower.specs.Tokens.{literal_of}
 use Rattle.rhai_lower.specs.declared.node.LinkFlags.{LinkFlags}
@@ -296,3 +297,10 @@ abbrev pub script_json : Statements → List Function → List Token
 script_json ss functions =
     [] ▷ put begin_object ▷ list_start (codes "statements") ▷ statements_json ss
     ▷ list_field (codes "functions") function_json functions ▷ put end_object
+
+-- `this` at the start of a script is `{"kind":"ThisPtr","position":{"line":1,"column":1}}`.
+example : node_json (this (place 1 1)) [] ≡ begin_object ∷ key (codes "kind") ∷ string (codes "ThisPtr")
+    ∷ key (codes "position") ∷ begin_object ∷ key (codes "line") ∷ number (codes "1") ∷ key (codes "column")
+    ∷ number (codes "1") ∷ end_object ∷ end_object ∷ []
+unfolding node_json kind_of own_fields node_start text_field position_field number_field put digits
+example = refl

@@ -58,7 +58,7 @@ fn describe_input_error(error: &InputError) -> Described<'_> {
     }
 }
 
-// What is written where, the kind of a value, or a note names.
+// What a refusal names.
 fn payload_of(kind: &ParseErrorType) -> Payload<'_> {
     match kind {
         ParseErrorType::BadInput(error) => Payload::Input(error),
@@ -134,8 +134,8 @@ fn kind_name(kind: &ParseErrorType) -> &'static str {
     }
 }
 
-// An error within another one, which names nothing else.
-fn put_lex_fields(out: &mut Out, payload: Payload<'_>) -> Result<(), AllocError> {
+// The fields of a payload that holds no other error.
+fn put_plain_fields(out: &mut Out, payload: Payload<'_>) -> Result<(), AllocError> {
     match payload {
         Payload::Text(key, text) => put_text(out, key, text),
         Payload::Texts(key, text, other, more) => {
@@ -158,7 +158,7 @@ pub fn put_lex_error(out: &mut Out, error: &LexError) -> Result<(), AllocError> 
     put_text(out, "kind", kind)?;
     out.key("payload")?;
     out.begin_object()?;
-    put_lex_fields(out, payload)?;
+    put_plain_fields(out, payload)?;
     out.end_object()?;
     out.end_object()
 }
@@ -169,7 +169,7 @@ fn put_input_fields(out: &mut Out, payload: Payload<'_>) -> Result<(), AllocErro
             out.key("error")?;
             put_lex_error(out, error)
         }
-        _ => put_lex_fields(out, payload),
+        _ => put_plain_fields(out, payload),
     }
 }
 
@@ -190,7 +190,7 @@ fn put_fields(out: &mut Out, payload: Payload<'_>) -> Result<(), AllocError> {
             out.key("error")?;
             put_input_error(out, error)
         }
-        _ => put_lex_fields(out, payload),
+        _ => put_plain_fields(out, payload),
     }
 }
 

@@ -6,9 +6,9 @@ ghost use Rattle.std.specs.Rc.{rc_str_bytes};
 ghost use Rattle.rhai_lower.specs.View.{module_index_of, path_of, written};
 ghost use Rattle.rhai_lower.specs.Lexemes.{lexeme};
 ghost use Rattle.rhai_json.specs.Trees.{sign_text as written_sign};
-ghost use Rattle.rhai_json.specs.Fields.{flag_field, ident_fields, integer_field, items, list_field, namespace_field};
+ghost use Rattle.rhai_json.specs.Fields.{flag_field, ident_fields, integer_field, list_field, namespace_field};
 ghost use Rattle.rhai_json.specs.Fields.{node_start, number_field, numbers_field, optional_number_field};
-ghost use Rattle.rhai_json.specs.Fields.{optional_text_field, position_field, put, step_value, text_field, texts_field};
+ghost use Rattle.rhai_json.specs.Fields.{optional_text_field, position_field, step_value, text_field, texts_field};
 
 use crate::out::Out;
 use rhai_lower::{Ident, Namespace, Position, Token};

@@ -10,8 +10,8 @@ ghost use Rattle.rhai_lower.specs.declared.ast.BinaryExpr.{out-BinaryExpr};
 ghost use Rattle.rhai_lower.specs.declared.ast.FlowControl.{out-FlowControl};
 ghost use Rattle.rhai_lower.specs.declared.ast.LoopControl.{out-LoopControl};
 ghost use Rattle.rhai_lower.specs.declared.ast.SwitchCasesCollection.{out-SwitchCasesCollection};
-ghost use Rattle.rhai_json.specs.Left.{all_json, arms, block, cases, closing, list_of, name, node, node_weight, optional_view};
-ghost use Rattle.rhai_json.specs.Left.{nodes, nothing, piece_json, piece_of, pieces, properties, statement_weight};
+ghost use Rattle.rhai_json.specs.Left.{all_json, arms, block, cases, list_of, name, node, node_weight, optional_view};
+ghost use Rattle.rhai_json.specs.Left.{nodes, piece_json, piece_of, pieces, properties, statement_weight};
 ghost use Rattle.rhai_json.specs.Left.{statements, value_piece, weight, weights};
 ghost use Rattle.rhai_json.specs.Trees.{begun, node_json, statement_begun, statement_json};
 
