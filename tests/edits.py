@@ -28,6 +28,7 @@ import time
 ROOT = pathlib.Path(__file__).resolve().parent.parent
 EDITS = ROOT / "tests/edits"
 TABLE = EDITS / "refused.tsv"
+USE = re.compile(r"ghost use Rattle\.(\w+)\.specs\.([\w.]+?)\.\{([^}]*)\}")
 DEFINITION = re.compile(r"(?:(?:unfoldable|abbrev|record|data|pub) )*([^\s:({]+)")
 
 
@@ -204,22 +205,24 @@ def changed_item(commit, file, old):
 
 
 @functools.cache
-def definitions(commit):
-    """Answers the definitions of all crates at a commit, by name."""
-    found = {}
-    for file in run("git", "ls-tree", "-r", "--name-only", commit, "--", "crates").splitlines():
-        if not re.fullmatch(r"crates/[^/]+/specs/.*\.antt", file):
-            continue
-        name, text = "", []
-        for line in at_commit(commit, file).splitlines():
-            if line and not line[0].isspace():
-                if name:
-                    found.setdefault(name, []).append("\n".join(text).strip())
-                word = DEFINITION.match(line)
-                name, text = (word.group(1) if word and not line.startswith(("--", "use ")) else ""), []
-            text.append(line)
+def definitions(commit, file):
+    """Answers the definitions in a file of specs/ at a commit, by name."""
+    found, name = {}, ""
+    for line in at_commit(commit, file).splitlines():
+        if line and not line[0].isspace():
+            word = DEFINITION.match(line)
+            name = word.group(1) if word and not line.startswith(("--", "use ")) else ""
         if name:
-            found.setdefault(name, []).append("\n".join(text).strip())
+            found[name] = found.get(name, "") + line.rstrip() + "\n"
+    return {name: text.strip() for name, text in found.items()}
+
+
+def cited(commit, file, words):
+    """Answers the definitions of these words, as the ghost uses of a file of code at a commit give them."""
+    found = {}
+    for crate, module, names in USE.findall(at_commit(commit, file)):
+        defined = definitions(commit, f"crates/{crate}/specs/{module.replace('.', '/')}.antt")
+        found |= {word: defined[word] for word in re.findall(r"[\w-]+", names) if word in words and word in defined}
     return found
 
 
@@ -238,8 +241,9 @@ def why_older(edit, commit):
         now = changed_item("HEAD", file, old)
         if now != changed_item(commit, file, old):
             return f"the function in {file}"
-        before, after = definitions(commit), definitions("HEAD")
-        changed = sorted(word for word in contract_words(now) if before.get(word) != after.get(word))
+        words = contract_words(now)
+        before, after = cited(commit, file, words), cited("HEAD", file, words)
+        changed = sorted(word for word in after if before.get(word) != after[word])
         if changed:
             return f"the definition of {', '.join(changed)}"
     return ""
