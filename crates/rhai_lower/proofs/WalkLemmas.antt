@@ -1,5 +1,6 @@
 -- One part more, and the first node less, in what a walk has still to give.
-use Rattle.std.proofs.Common.{◌≡◌, ◌∙◌, ℕ, Bool, true, false, List, [], ◌∷◌, ◌++◌, IsOk, OnOk, Option, Some, None, Result, Ok, Err, ap, append_assoc, inl, inr, refl, subst, sym}
+use Rattle.std.proofs.Common.{◌≡◌, ◌∙◌, ℕ, Bool, true, false, List, [], ◌∷◌, ◌++◌, IsOk, OnOk, Option}
+use Rattle.std.proofs.Common.{Some, None, Result, Ok, Err, ap, append_assoc, inl, inr, refl, subst, sym}
 use Rattle.std.proofs.lemmas.List.{append-nil, reverse-append}
 use Rattle.std.specs.List.{flat_map}
 use Rattle.std.specs.declared.alloc.AllocError.{AllocError}
@@ -55,8 +56,8 @@ stopped step before after o depth n now last answer given is s refuses =
     let s : step now depth n false last = subst (λ b. step now depth n b last) refuses s in
     subst (λ vs. Calls step now vs false last) (sym given.0) (n, refl, inr (s, refl))
 
-pub ended : {F : Type 0} (step : F → ℕ → Node → Bool → F → Type 0) (before after : Left) (o : Option (ℕ × Node)) (now : F)
-    → Gives before (Ok o) after → o ≡ None → Calls step now (all_left before) true now
+pub ended : {F : Type 0} (step : F → ℕ → Node → Bool → F → Type 0) (before after : Left) (o : Option (ℕ × Node))
+    (now : F) → Gives before (Ok o) after → o ≡ None → Calls step now (all_left before) true now
 ended step before after o now given is =
     let given : Gives before (Ok None) after = subst (λ o. Gives before (Ok o) after) is given in
     subst (λ vs. Calls step now vs true now) (sym given.0) (refl, refl)

@@ -104,7 +104,8 @@ impl<'a> Part<'a> {
 
     // Cases, and then ranges.
     fn cases(list: &'a [SwitchCase], ranges: &'a [RangeCase]) -> Option<Self>
-        ensures { (d : ℕ) → optional_part_walk d result ≡ cases_walk d (case_views list.now) ++ ranges_walk d ranges.now }
+        ensures { (d : ℕ) → optional_part_walk d result
+            ≡ cases_walk d (case_views list.now) ++ ranges_walk d ranges.now }
     {
         match list.split_first() {
             Some((first, others)) => Some(Part::Cases(first, others, ranges)),
@@ -248,9 +249,10 @@ fn put<'a>(
     Ok(())
 }
 
-/// A walk over a tree. It gives each node once, before its parts. These come in the order in which they are written, but
-/// the guard of a `do` comes before its block, and the values and ranges of a `switch` come after all arms. Each node is
-/// given with its depth, where its parts are one deeper; so its parts have ended with the first node that is not deeper.
+/// A walk over a tree. It gives each node once, before its parts. These come in the order in which they are written,
+/// but the guard of a `do` comes before its block, and the values and ranges of a `switch` come after all arms. Each
+/// node is given with its depth, where its parts are one deeper; so its parts have ended with the first node that is
+/// not deeper.
 #[derive(Drop)]
 pub struct Walk<'a> {
     // What was given last, whose parts are not in `pending` yet.

@@ -12,8 +12,8 @@ skipped before now e f =
     omega (arith, length-append now.parts now.after, length-append before.parts before.after, ap length e, ap length f)
 
 -- fewer once one was given
-pub given_less : (before now : Left) (o : Option (ℕ × Node)) (given : ℕ × Node) → Gives before (Ok o) now → o ≡ Some given
-    → length (all_left now) < length (all_left before)
+pub given_less : (before now : Left) (o : Option (ℕ × Node)) (given : ℕ × Node)
+    → Gives before (Ok o) now → o ≡ Some given → length (all_left now) < length (all_left before)
 given_less before now o given gives is =
     let g : Gives before (Ok (Some given)) now = subst (λ o. Gives before (Ok o) now) is gives in
     let e = ap length g.0 in omega (arith, e)

@@ -8,7 +8,8 @@ pub returns-then-not-visit : goal.returns-then-not-visit
 returns-then-not-visit g c = (
   c.visit.new.self,
   c.loop-walk.invariant.1 _ _
-      (stopped (goal.F-step g) (left c.loop-walk.walk) (left c.next.new.self) _ c.in-Some.depth c.in-Some.node c.loop-walk.visit
+      (stopped (goal.F-step g) (left c.loop-walk.walk) (left c.next.new.self) _ c.in-Some.depth c.in-Some.node
+      c.loop-walk.visit
       c.visit.new.self c.visit.result c.in_ok-depth.ensures c.in-Some.is c.visit.ensures c.if-not-visit.true),
 )
 
@@ -18,13 +19,16 @@ loop-walk-preserved g c =
       search of_calls,
       λ all last h.
           c.loop-walk.invariant.1 all last
-          (called_on (goal.F-step g) (left c.loop-walk.walk) (left c.next.new.self) _ c.in-Some.depth c.in-Some.node c.loop-walk.visit
-          c.visit.new.self c.visit.result all last c.in_ok-depth.ensures c.in-Some.is c.visit.ensures c.if-not-visit.false h),
+          (called_on (goal.F-step g) (left c.loop-walk.walk) (left c.next.new.self) _ c.in-Some.depth c.in-Some.node
+          c.loop-walk.visit
+          c.visit.new.self c.visit.result all last c.in_ok-depth.ensures c.in-Some.is c.visit.ensures
+          c.if-not-visit.false h),
     )
 
 pub returns : goal.returns
 returns g c = (
   c.loop-walk.visit,
   c.loop-walk.invariant.1 _ _
-      (ended (goal.F-step g) (left c.loop-walk.walk) (left c.next.new.self) _ c.loop-walk.visit c.in_ok-depth.ensures c.in_default.is),
+      (ended (goal.F-step g) (left c.loop-walk.walk) (left c.next.new.self) _ c.loop-walk.visit c.in_ok-depth.ensures
+      c.in_default.is),
 )

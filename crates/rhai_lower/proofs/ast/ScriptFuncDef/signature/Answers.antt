@@ -7,8 +7,10 @@ use Rattle.rhai_lower.proofs.ast.ScriptFuncDef.signature.Goals as goal
 
 pub returns : goal.returns
 returns c =
-    signed c.args.self.now (string_bytes c.in_ok-text.text) (string_bytes c.push_type.new.text) (string_bytes c.push_str.new.self)
-    (string_bytes c.push_str-2.new.self) (string_bytes c.push_str-3.new.self) (string_bytes c.push_str-4.new.self) (string_bytes c.in_ok-params.params)
+    signed c.args.self.now (string_bytes c.in_ok-text.text) (string_bytes c.push_type.new.text)
+    (string_bytes c.push_str.new.self)
+    (string_bytes c.push_str-2.new.self) (string_bytes c.push_str-3.new.self) (string_bytes c.push_str-4.new.self)
+    (string_bytes c.in_ok-params.params)
     (c.in_ok-params.ensures.ok ∙ ap (join_by rc_str_bytes (codes ", ")) c.deref.ensures.value)
     (c.in_ok-text.ensures.ok ∙ c.access.ensures)
     c.in_ok-push_type.ensures
