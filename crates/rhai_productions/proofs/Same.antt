@@ -1,5 +1,4 @@
 -- Each production is read as the reading program says: the table.
-use Rattle.rhai_productions.specs.Agreement.{looks_twice}
 use Rattle.std.proofs.Common.{◌≡◌, Bool, true, false, Option, Some, None, List, [], ◌∷◌, refl, if◌then◌else◌}
 use Rattle.rhai_grammar.specs.Statements.{statement_place}
 use Rattle.rhai_grammar.specs.Verdicts.{next_key}
@@ -15,12 +14,12 @@ use Rattle.rhai_grammar.specs.declared.role.StatementStart.{StatementStart}
 use Rattle.rhai_reading.specs.Reading as R
 use Rattle.rhai_reading.specs.Reading.{Goal, Val, Prog, Ret, Fail, Peek, Take, Call, Know, body}
 use Rattle.rhai_reading.specs.Moves.{Moves}
+use Rattle.rhai_productions.specs.Agreement.{looks_twice, Agrees}
 use Rattle.rhai_productions.specs.Schema as S
 use Rattle.rhai_productions.specs.Schema.{Production, give, never, this, choose, if_next, must, knows, adds, due}
 use Rattle.rhai_productions.specs.Schema.{faultless, unless, run, run_from, stop, name}
 use Rattle.rhai_productions.specs.Rules as P
 use Rattle.rhai_productions.specs.Rules.{production}
-use Rattle.rhai_productions.specs.Agreement.{Agrees}
 use Rattle.rhai_productions.proofs.Looked.{Lawful, AgreesAt, equal, equal_at, at_once, look, again, taken, part_so}
 use Rattle.rhai_productions.proofs.Looked.{or_else, test, both}
 use Rattle.rhai_productions.proofs.SameOperands.{same_items, same_element, same_key, same_field, same_called}
@@ -56,7 +55,8 @@ equally R.TextAfter once = refl
 equally (R.Jump c w at) once = same_jump c w at
 equally (R.NextKey c before) once = λ i. Peek (λ l at. same_key c before l at (next_key c.settings before l) i)
 equally (R.NextOperator filter) once = λ i. Peek (λ l at. same_follower at l (follower_of filter l) i)
-equally (R.BinaryOp c w at parent lhs) once = λ i. Call (R.NextOperator c.filter) (λ v. same_binary c w at parent lhs v i)
+equally (R.BinaryOp c w at parent lhs) once = λ i. Call (R.NextOperator c.filter) (λ v.
+    same_binary c w at parent lhs v i)
 equally (R.ExprStatement c w) once = same_evaluated c w
 equally (R.VarName c w) once = refl
 equally (R.Initializer c w at) once = refl
