@@ -23,10 +23,10 @@ use Rattle.rhai_productions.proofs.DerivedDepth.{nests}
 use Rattle.rhai_productions.proofs.DerivedMain.{Entry, expression_entry, script_entry, reads_done, reads_fails}
 use Rattle.rhai_productions.proofs.DerivedMain.{runs_once, sound_goal, of_forms}
 use Rattle.rhai_productions.proofs.Lawful.{lawful, runs_lawful}
-use Rattle.rhai_productions.proofs.Same.{same}
+use Rattle.rhai_productions.proofs.Same.{equally, same}
 
 pub productions_are_read : ProductionsAreRead
-productions_are_read = record { in_histories = same histories lawful; in_runs = same runs runs_lawful }
+productions_are_read = record { equal = equally; in_histories = same histories lawful; in_runs = same runs runs_lawful }
 
 -- ---- sound and complete
 

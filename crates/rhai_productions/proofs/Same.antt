@@ -1,5 +1,5 @@
 -- Each production is read as the reading program says: the table.
-use Rattle.std.proofs.Common.{Bool, Option, Some, None, List, [], ◌∷◌, refl, if◌then◌else◌}
+use Rattle.std.proofs.Common.{◌≡◌, Bool, true, false, Option, Some, None, List, [], ◌∷◌, refl, if◌then◌else◌}
 use Rattle.rhai_grammar.specs.Statements.{statement_place}
 use Rattle.rhai_grammar.specs.Verdicts.{next_key}
 use Rattle.rhai_grammar.specs.Causes as cause
@@ -14,12 +14,12 @@ use Rattle.rhai_grammar.specs.declared.role.StatementStart.{StatementStart}
 use Rattle.rhai_reading.specs.Reading as R
 use Rattle.rhai_reading.specs.Reading.{Goal, Val, Prog, Ret, Fail, Peek, Take, Call, Know, body}
 use Rattle.rhai_reading.specs.Moves.{Moves}
+use Rattle.rhai_productions.specs.Agreement.{looks_twice, Agrees}
 use Rattle.rhai_productions.specs.Schema as S
 use Rattle.rhai_productions.specs.Schema.{Production, give, never, this, choose, if_next, must, knows, adds, due}
 use Rattle.rhai_productions.specs.Schema.{faultless, unless, run, run_from, stop, name}
 use Rattle.rhai_productions.specs.Rules as P
 use Rattle.rhai_productions.specs.Rules.{production}
-use Rattle.rhai_productions.specs.Agreement.{Agrees}
 use Rattle.rhai_productions.proofs.Looked.{Lawful, AgreesAt, equal, equal_at, at_once, look, again, taken, part_so}
 use Rattle.rhai_productions.proofs.Looked.{or_else, test, both}
 use Rattle.rhai_productions.proofs.SameOperands.{same_items, same_element, same_key, same_field, same_called}
@@ -29,6 +29,75 @@ use Rattle.rhai_productions.proofs.SameStatements.{same_construct, same_guard, s
 use Rattle.rhai_productions.proofs.SameStatements.{same_statements, same_jump, same_evaluated, same_inside, same_arms}
 use Rattle.rhai_productions.proofs.SameStatements.{same_arm, same_action, same_arm_end, same_default_end, same_closure}
 use Rattle.rhai_productions.proofs.SameStatements.{same_head, same_parameters, same_parameter, same_counted}
+
+-- ---- equal
+
+-- For most goals both are one term.
+pub equally : (g : Goal) → looks_twice g ≡ false → run (production g) ≡ body g
+equally (R.Whole c w) once = refl
+equally (R.Expression c w) once = refl
+equally (R.Operand c w) once = λ i. Peek (λ l at. same_operand c w l at (beginning l) i)
+equally (R.RightOperand c w place) once = λ i. Peek (λ l at. same_right c w l at (operand_start place l) i)
+equally (R.Primary c w) once = λ i. Peek (λ l at. same_primary c w l at (beginning l) i)
+equally (R.Called c w name q) once = λ i. Peek (λ l at. same_called c w name q l at (calling l) i)
+equally (R.Path w x) once = refl
+equally (R.Links w spot) once = λ i. Peek (λ l at. same_links w spot l at (linking l) i)
+equally (R.Index c w indexed) once = same_index c w indexed
+equally (R.Member c w) once = same_member c w
+equally (R.Postfix c w x) once = same_postfix c w x
+equally (R.Arguments c w at) once = refl
+equally (R.Items c w before) once = same_items c w before
+equally (R.Elements c w opening before) once = λ i. Peek (λ l at.
+    same_element c w opening before l at (item_place c.sizes.array (node_count before) l) i)
+equally (R.Fields c w opening before) once = λ i. Call (R.NextKey c before) (λ v. same_field c w opening before v i)
+equally (R.Segments c w start before) once = same_segments c w start before
+equally R.TextAfter once = refl
+equally (R.Jump c w at) once = same_jump c w at
+equally (R.NextKey c before) once = λ i. Peek (λ l at. same_key c before l at (next_key c.settings before l) i)
+equally (R.NextOperator filter) once = λ i. Peek (λ l at. same_follower at l (follower_of filter l) i)
+equally (R.BinaryOp c w at parent lhs) once = λ i. Call (R.NextOperator c.filter) (λ v.
+    same_binary c w at parent lhs v i)
+equally (R.ExprStatement c w) once = same_evaluated c w
+equally (R.VarName c w) once = refl
+equally (R.Initializer c w at) once = refl
+equally (R.Definition c w at k e) once = refl
+equally (R.Import c w at) once = refl
+equally (R.Export c w at) once = absurd cc
+equally R.Alias once = refl
+equally (R.Statement c w) once = absurd cc
+equally (R.Statements closing c w before) once = λ i. Peek (λ l at.
+    same_statements closing c w before l at (statement_place closing l) i)
+equally R.BlockStart once = absurd cc
+equally (R.Inside c w) once = same_inside c w (has_single_blocks c)
+equally (R.Block c w at) once = refl
+equally (R.BlockEnd at fs) once = absurd cc
+equally (R.Construct c w at kind) once = same_construct c w at kind
+equally (R.Braced c w at) once = refl
+equally (R.Guard c w) once = same_guard c w
+equally (R.Iterated c w) once = same_iterated c w
+equally (R.Conditional c w at) once = refl
+equally (R.Branch c w at) once = refl
+equally R.LoopNames once = absurd cc
+equally R.Catch once = refl
+equally R.DoEnd once = λ i. Peek (λ l at. same_do_end (do_end l) l at i)
+equally (R.Arms c w before) once = λ i. Peek (λ l at. same_arms c w before l at (arm_place l) i)
+equally (R.Arm c w before) once = same_arm c w before
+equally (R.DefaultArm c w default) once = absurd cc
+equally (R.Cases c w before) once = refl
+equally (R.Case c w) once = refl
+equally (R.CaseGuard c w) once = refl
+equally (R.Action c w) once = same_action c w (has_single_blocks c)
+equally (R.ArmEnd itself) once = λ i. Peek (λ l at. same_arm_end itself l at (after_part lists.Arms l) i)
+equally (R.DefaultEnd default) once = λ i. Peek (λ l at. same_default_end default l at (arm_place l) i)
+equally (R.Comments before) once = refl
+equally (R.FunctionStatement c w comments first at is_private) once = refl
+equally (R.Function c comments at is_private) once = refl
+equally R.FunctionHead once = same_head
+equally (R.ParameterList function) once = λ i. Peek (λ l at. same_parameters function l at (calling l) i)
+equally (R.Parameters parts function before) once = λ i. Peek (λ l at.
+    same_parameter parts function before l at (parameter_place parts l) i)
+equally (R.Closure c w at by) once = same_closure c w at by
+equally (R.ClosureBody c w) once = refl
 
 -- ---- where the reading program looks twice at one token
 
@@ -83,70 +152,20 @@ module _ {Z : Type 0} (m : Moves Z) (law : Lawful m) where
       → AgreesAt m law l at (run_from (P.default_arm c w default) (Some (l, at))) (R.default_at c w default l at)
   same_default c w default l at = or_else m law (is_due due_token.If l) _ (again m law _ (equal_at m law refl))
 
+  -- the goals for which the reading program looks twice
+  twice : (g : Goal) → looks_twice g ≡ true → Same g
+  twice (R.Export c w at) e = look m law (λ l pos. same_export c w at l pos (defines l))
+  twice (R.Statement c w) e = look m law (λ l at. same_statement c w l at (statement_start c l))
+  twice R.BlockStart e = look m law (λ l at. again m law _ (equal_at m law refl))
+  twice (R.BlockEnd at fs) e = look m law (λ l end. again m law _ (equal_at m law refl))
+  twice R.LoopNames e = look m law same_loop_names
+  twice (R.DefaultArm c w default) e = look m law (same_default c w default)
+  twice _ e = absurd cc
+
   -- Each production is read as the reading program says.
   pub same : (g : Goal) → Same g
-  same (R.Whole c w) = equal m law refl
-  same (R.Expression c w) = equal m law refl
-  same (R.Operand c w) = equal m law (λ i. Peek (λ l at. same_operand c w l at (beginning l) i))
-  same (R.RightOperand c w place) = equal m law (λ i. Peek (λ l at. same_right c w l at (operand_start place l) i))
-  same (R.Primary c w) = equal m law (λ i. Peek (λ l at. same_primary c w l at (beginning l) i))
-  same (R.Called c w name q) = equal m law (λ i. Peek (λ l at. same_called c w name q l at (calling l) i))
-  same (R.Path w x) = equal m law refl
-  same (R.Links w spot) = equal m law (λ i. Peek (λ l at. same_links w spot l at (linking l) i))
-  same (R.Index c w indexed) = equal m law (same_index c w indexed)
-  same (R.Member c w) = equal m law (same_member c w)
-  same (R.Postfix c w x) = equal m law (same_postfix c w x)
-  same (R.Arguments c w at) = equal m law refl
-  same (R.Items c w before) = equal m law (same_items c w before)
-  same (R.Elements c w opening before) = equal m law (λ i. Peek (λ l at.
-      same_element c w opening before l at (item_place c.sizes.array (node_count before) l) i))
-  same (R.Fields c w opening before) =
-      equal m law (λ i. Call (R.NextKey c before) (λ v. same_field c w opening before v i))
-  same (R.Segments c w start before) = equal m law (same_segments c w start before)
-  same R.TextAfter = equal m law refl
-  same (R.Jump c w at) = equal m law (same_jump c w at)
-  same (R.NextKey c before) = equal m law (λ i. Peek (λ l at. same_key c before l at (next_key c.settings before l) i))
-  same (R.NextOperator filter) = equal m law (λ i. Peek (λ l at. same_follower at l (follower_of filter l) i))
-  same (R.BinaryOp c w at parent lhs) =
-      equal m law (λ i. Call (R.NextOperator c.filter) (λ v. same_binary c w at parent lhs v i))
-  same (R.ExprStatement c w) = equal m law (same_evaluated c w)
-  same (R.VarName c w) = equal m law refl
-  same (R.Initializer c w at) = equal m law refl
-  same (R.Definition c w at k e) = equal m law refl
-  same (R.Import c w at) = equal m law refl
-  same (R.Export c w at) = look m law (λ l pos. same_export c w at l pos (defines l))
-  same R.Alias = equal m law refl
-  same (R.Statement c w) = look m law (λ l at. same_statement c w l at (statement_start c l))
-  same (R.Statements closing c w before) = equal m law (λ i. Peek (λ l at.
-      same_statements closing c w before l at (statement_place closing l) i))
-  same R.BlockStart = look m law (λ l at. again m law _ (equal_at m law refl))
-  same (R.Inside c w) = equal m law (same_inside c w (has_single_blocks c))
-  same (R.Block c w at) = equal m law refl
-  same (R.BlockEnd at fs) = look m law (λ l end. again m law _ (equal_at m law refl))
-  same (R.Construct c w at kind) = equal m law (same_construct c w at kind)
-  same (R.Braced c w at) = equal m law refl
-  same (R.Guard c w) = equal m law (same_guard c w)
-  same (R.Iterated c w) = equal m law (same_iterated c w)
-  same (R.Conditional c w at) = equal m law refl
-  same (R.Branch c w at) = equal m law refl
-  same R.LoopNames = look m law same_loop_names
-  same R.Catch = equal m law refl
-  same R.DoEnd = equal m law (λ i. Peek (λ l at. same_do_end (do_end l) l at i))
-  same (R.Arms c w before) = equal m law (λ i. Peek (λ l at. same_arms c w before l at (arm_place l) i))
-  same (R.Arm c w before) = equal m law (same_arm c w before)
-  same (R.DefaultArm c w default) = look m law (same_default c w default)
-  same (R.Cases c w before) = equal m law refl
-  same (R.Case c w) = equal m law refl
-  same (R.CaseGuard c w) = equal m law refl
-  same (R.Action c w) = equal m law (same_action c w (has_single_blocks c))
-  same (R.ArmEnd itself) = equal m law (λ i. Peek (λ l at. same_arm_end itself l at (after_part lists.Arms l) i))
-  same (R.DefaultEnd default) = equal m law (λ i. Peek (λ l at. same_default_end default l at (arm_place l) i))
-  same (R.Comments before) = equal m law refl
-  same (R.FunctionStatement c w comments first at is_private) = equal m law refl
-  same (R.Function c comments at is_private) = equal m law refl
-  same R.FunctionHead = equal m law same_head
-  same (R.ParameterList function) = equal m law (λ i. Peek (λ l at. same_parameters function l at (calling l) i))
-  same (R.Parameters parts function before) = equal m law (λ i. Peek (λ l at.
-      same_parameter parts function before l at (parameter_place parts l) i))
-  same (R.Closure c w at by) = equal m law (same_closure c w at by)
-  same (R.ClosureBody c w) = equal m law refl
+  same g = by (looks_twice g) refl
+    where
+      by : (b : Bool) → looks_twice g ≡ b → Same g
+      by true e = twice g e
+      by false e = equal m law (equally g e)

@@ -16,14 +16,17 @@ use Rattle.rhai_reading.specs.Nesting.{Nesting}
 use Rattle.rhai_reading.specs.Reading.{Goal, Val, Whole, Script, body}
 use Rattle.rhai_reading.specs.Running as running
 use Rattle.rhai_reading.specs.Running.{Gives, Progress, result_of}
-use Rattle.rhai_productions.specs.Agreement.{Agrees, histories, runs}
+use Rattle.rhai_productions.specs.Agreement.{Agrees, histories, looks_twice, runs}
 use Rattle.rhai_productions.specs.Derived as derived
 use Rattle.rhai_productions.specs.Promised.{ReadsWhole, Written, written, tree_of, Unwritten, unwritten}
 use Rattle.rhai_productions.specs.Rules.{production}
 use Rattle.rhai_productions.specs.Schema.{run}
 
--- The reader of each production does what the reading program does for its goal, in both ways in which it is run.
+-- The reader of each production is the term that the reading program has for its goal, but where that looks twice at
+-- one
+-- token. There, as elsewhere, both do the same, in both ways in which programs are run.
 pub record ProductionsAreRead : Type 0 where
+  pub equal : (g : Goal) → looks_twice g ≡ false → run (production g) ≡ body g
   pub in_histories : (g : Goal) → Agrees histories (run (production g)) (body g)
   pub in_runs : (g : Goal) → Agrees runs (run (production g)) (body g)
 

@@ -3,7 +3,8 @@
 ghost use Rattle.rhai_productions.specs.Laws.{EntriesArePromised, FormsAgree, FormsAreComplete, FormsAreSound};
 ghost use Rattle.rhai_productions.specs.Laws.{FormsHaveOneTree, FormsNestReaders, ProductionsAreRead};
 
-/// Each production is read as the reading program says.
+/// Each production is read as the reading program says: for all goals but six by the very same term, and for these by
+/// one that looks once at a token where that term looks twice.
 #[tactic(auto, using(crate::proofs::LawLemmas::productions_are_read))]
 pub fn productions_are_read()
     ensures { ProductionsAreRead }
