@@ -1,5 +1,8 @@
 //! Brackets: which one is open where a closing one is missing.
 
+ghost use Rattle.std.specs.Prelude.{◌≡◌, is_some};
+ghost use Rattle.rhai_report.specs.Brackets.{closes, opens};
+
 use rhai_lower::{Entry, Token};
 
 /// A kind of brackets.
@@ -14,7 +17,9 @@ pub enum Bracket {
 }
 
 /// The kind that a token opens.
-pub fn opened_by(token: &Token) -> Option<Bracket> {
+pub fn opened_by(token: &Token) -> Option<Bracket>
+    ensures { is_some result ≡ opens token.now }
+{
     match token {
         Token::LeftBrace | Token::MapStart => Some(Bracket::Brace),
         Token::LeftParen => Some(Bracket::Paren),
@@ -24,7 +29,9 @@ pub fn opened_by(token: &Token) -> Option<Bracket> {
 }
 
 /// The kind that a token closes.
-pub fn closed_by(token: &Token) -> Option<Bracket> {
+pub fn closed_by(token: &Token) -> Option<Bracket>
+    ensures { is_some result ≡ closes token.now }
+{
     match token {
         Token::RightBrace => Some(Bracket::Brace),
         Token::RightParen => Some(Bracket::Paren),

@@ -1,11 +1,16 @@
 //! How texts are shown: what would move or hide others in a terminal is replaced, and widths are those of a terminal.
 
+ghost use Rattle.std.specs.Prelude.{◌≡◌};
+ghost use Rattle.rhai_report.specs.Visible.{shown_as};
+
 use std::alloc::AllocError;
 use unicode_width::UnicodeWidthStr;
 
 /// The character that is shown for one. A control character, but a tab, has a picture of its own; one that has none, or
 /// that turns the direction of what follows, is shown as U+FFFD. All others are shown as they are.
-pub fn shown(character: char) -> char {
+pub fn shown(character: char) -> char
+    ensures { result ≡ shown_as character }
+{
     match character {
         '\t' => '\t',
         '\0'..='\u{1f}' => {
