@@ -32,8 +32,12 @@ fn words(rt: &impl Abort, alloc: Global) -> Result<(), AllocError> {
     let text = "a b c d e f g h i j k l m n o p q r s t u v w x y z this print __ a let";
     let tokens = tokens_of(rt, alloc, text, 31)?;
     assert!(rt; tokens.entries.len() > 30 && matches!(&tokens.entries[30].token, Token::Let));
-    assert!(rt; matches!(&tokens.entries[26].token, Token::Reserved(word) if word.as_str() == "this"));
-    assert!(rt; matches!(&tokens.entries[29].token, Token::Identifier(name) if name.as_str() == "a"));
+    assert!(rt;
+        matches!(&tokens.entries[26].token, Token::Reserved(word) if word.as_str() == "this")
+    );
+    assert!(rt;
+        matches!(&tokens.entries[29].token, Token::Identifier(name) if name.as_str() == "a")
+    );
     Ok(())
 }
 
@@ -52,11 +56,19 @@ fn strings(rt: &impl Abort, alloc: Global) -> Result<(), AllocError> {
     let text = "/// doc\n/** doc */ \"a\\tb\\x41\" `a${`b${c}`}d` #\"e\"# 'f' \"a\\\n   b\"";
     let tokens = tokens_of(rt, alloc, text, 15)?;
     assert!(rt; tokens.entries.len() > 14);
-    assert!(rt; matches!(&tokens.entries[0].token, Token::Comment(text) if text.as_str() == "/// doc"));
-    assert!(rt; matches!(&tokens.entries[2].token, Token::StringConstant(text) if text.as_str() == "a\tbA"));
-    assert!(rt; matches!(&tokens.entries[3].token, Token::InterpolatedString(text) if text.as_str() == "a"));
+    assert!(rt;
+        matches!(&tokens.entries[0].token, Token::Comment(text) if text.as_str() == "/// doc")
+    );
+    assert!(rt;
+        matches!(&tokens.entries[2].token, Token::StringConstant(text) if text.as_str() == "a\tbA")
+    );
+    assert!(rt;
+        matches!(&tokens.entries[3].token, Token::InterpolatedString(text) if text.as_str() == "a")
+    );
     assert!(rt; tokens.entries[9].text && tokens.entries[11].text && !tokens.entries[12].text);
-    assert!(rt; matches!(&tokens.entries[12].token, Token::StringConstant(text) if text.as_str() == "e"));
+    assert!(rt;
+        matches!(&tokens.entries[12].token, Token::StringConstant(text) if text.as_str() == "e")
+    );
     Ok(())
 }
 
@@ -78,7 +90,12 @@ fn errors(rt: &impl Abort, alloc: Global) -> Result<(), AllocError> {
         assert!(rt; matches!(&entry.token, Token::LexError(_)));
     }
     assert!(rt; tokens.entries.len() > 8);
-    assert!(rt; matches!(&tokens.entries[8].token, Token::LexError(LexError::StringTooLong(5))));
+    assert!(rt;
+        matches!(
+            &tokens.entries[8].token,
+            Token::LexError(LexError::StringTooLong(5))
+        )
+    );
     Ok(())
 }
 
@@ -94,7 +111,12 @@ fn errors_refused(rt: HostRuntime) {
 
 // Braces that are open, so many that they have to grow.
 fn braces(rt: &impl Abort, alloc: Global) -> Result<(), AllocError> {
-    let tokens = tokens_of(rt, alloc, "{{{{{{{{{{{{{{{{{{{{#{ `${{}}` }}}}}}}}}}}}}}}}}}}}}", 48)?;
+    let tokens = tokens_of(
+        rt,
+        alloc,
+        "{{{{{{{{{{{{{{{{{{{{#{ `${{}}` }}}}}}}}}}}}}}}}}}}}}",
+        48,
+    )?;
     assert!(rt; tokens.entries.len() > 47 && tokens.entries[26].text && !tokens.entries[47].text);
     Ok(())
 }
