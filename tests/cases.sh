@@ -1,8 +1,8 @@
 #!/usr/bin/env bash
 # Runs the table of cases and the examples that have an answer, or only the files named, through the program, and prints
 # each run that fails. cases/README.md describes the format of a case. Where no file is named, it also compares the code
-# that README.md shows with what a test calls, as one more run. The last line counts the runs; the exit status is 1 if
-# any failed.
+# that README.md and docs/ARCHITECTURE.md show with what tests call, as two more runs. The last line counts the runs;
+# the exit status is 1 if any failed.
 #
 # usage: tests/cases.sh [PROGRAM] [FILE.txt ..]
 #
@@ -120,13 +120,13 @@ run_example() {
     run "$words" 0
 }
 
-# Compares the code of README.md, "Use it as a library", with the function that a test calls.
-compare_readme() {
+# Compares the code that the document $1 shows with the function $2 of a test.
+compare_code() {
     local shown called
-    file=README.md
+    file=$1
     title='its code, and that of crates/rhai_tests/src/readme.rt'
-    shown=$(sed -n '/^```rust$/,/^```$/{/^```/!p}' "$root/README.md")
-    called=$(sed -n '/^fn parse(/,/^}$/p' "$root/crates/rhai_tests/src/readme.rt")
+    shown=$(sed -n '/^```rust$/,/^```$/{/^```/!p}' "$root/$1")
+    called=$(sed -n "/^fn $2(/,/^}\$/p" "$root/crates/rhai_tests/src/readme.rt")
     if [ -n "$shown" ] && [ "$shown" = "$called" ]; then
         passed=$((passed + 1))
     else
@@ -156,7 +156,10 @@ set -f # no globbing: the words of a run are only split at blanks
 other_status= # of an answer with another first word
 for file in "${files[@]}"; do read_file; done
 for file in "${answers[@]}"; do run_example "$file"; done
-[ $# != 0 ] || compare_readme
+if [ $# = 0 ]; then
+    compare_code README.md parse
+    compare_code docs/ARCHITECTURE.md parse_tokens
+fi
 other_status=0
 program=$names_program
 for file in "${names[@]}"; do read_file; done

@@ -1,30 +1,9 @@
 //! Lists of tokens, as docs/FORMAT.md describes them: one token on a line.
 
 use rhai_lower::{Entry, LexError, Token};
+use rhai_run::Escaped;
 use rhai_tokenizer::{Span, Tokens};
 use std::alloc::{AllocError, Global};
-use std::fmt;
-
-// A text as it is written in a list: a space is `\s`, a line feed `\n`, a backslash `\\`, and an empty text `\e`.
-#[derive(Clone, Copy)]
-struct Escaped<'a>(&'a str);
-
-impl fmt::Display for Escaped<'_> {
-    fn fmt<W: fmt::Write>(&self, f: &mut fmt::Formatter<W>) -> fmt::Result {
-        if self.0.is_empty() {
-            return f.write_str("\\e");
-        }
-        for character in self.0.chars() {
-            match character {
-                ' ' => f.write_str("\\s")?,
-                '\n' => f.write_str("\\n")?,
-                '\\' => f.write_str("\\\\")?,
-                other => f.write_char(other)?,
-            }
-        }
-        Ok(())
-    }
-}
 
 fn push_error(out: &mut String, error: &LexError) -> Result<(), AllocError> {
     match error {

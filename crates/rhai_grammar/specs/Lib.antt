@@ -1,4 +1,5 @@
 pub mod Causes
+pub mod Messages
 pub mod Settings
 pub mod Keys
 pub mod Comments

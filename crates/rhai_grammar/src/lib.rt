@@ -8,6 +8,7 @@ pub mod filter;
 pub mod key;
 pub mod laws;
 pub mod list;
+mod message;
 pub mod role;
 pub mod tree_laws;
 

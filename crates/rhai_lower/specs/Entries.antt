@@ -1,7 +1,9 @@
 -- What the entries of a list deliver.
-use Rattle.std.specs.Prelude.{◌≡◌, Bool, true, false, List, [], ◌∷◌, if◌then◌else◌}
+use Rattle.std.specs.Prelude.{◌≡◌, ℕ, Bool, true, false, not, Option, Some, None, List, [], ◌∷◌, if◌then◌else◌}
+use Rattle.std.specs.Prelude.{position, refl}
 use Rattle.std.specs.Rc.{rc_str_bytes}
 use Rattle.rhai_lower.specs.Names.{is_identifier}
+use Rattle.rhai_lower.specs.Positions.{nowhere}
 use Rattle.rhai_lower.specs.Streams.{Ask}
 use Rattle.rhai_lower.specs.declared.stream.Entry.{Entry}
 use Rattle.rhai_lower.specs.declared.stream.Head.{Head}
@@ -20,6 +22,20 @@ token_may_be_delivered t = true
 -- a stream may deliver the entry
 abbrev pub may_be_delivered : Entry → Bool
 may_be_delivered e = token_may_be_delivered e.token
+
+-- the index of the first entry that a stream may not deliver
+abbrev pub first_undeliverable : List Entry → Option ℕ
+first_undeliverable entries = position (λ e. not (may_be_delivered e)) entries
+
+abbrev example_plus : Entry
+example_plus = record { token = token.Plus; pos = nowhere; text = false }
+
+abbrev example_end : Entry
+example_end = record { token = token.EOF; pos = nowhere; text = false }
+
+example : (first_undeliverable (example_plus ∷ example_end ∷ example_plus ∷ example_end ∷ []) ≡ Some 1)
+    × (first_undeliverable (example_plus ∷ []) ≡ None)
+example = (refl, refl)
 
 -- a token that is marked as text, as it is delivered in code mode
 abbrev pub in_code : Token → Token

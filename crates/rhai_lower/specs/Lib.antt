@@ -11,5 +11,9 @@ pub mod SlotView
 pub mod Streams
 pub mod RequestCodes
 pub mod Entries
+pub mod Messages
 pub mod View
 pub mod Optimizer
+pub mod Walks
+pub mod WalkState
+pub mod Signatures

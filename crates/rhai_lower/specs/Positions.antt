@@ -28,8 +28,15 @@ column_of p = from_one p.column
 abbrev pub shown : Position → List ℕ
 shown p = if p.line == 0 || p.column == 0 then codes "none" else decimal p.line ++ codes ":" ++ decimal p.column
 
+-- how a position is shown in a message
+abbrev pub described : Position → List ℕ
+described p =
+    if p.line == 0 || p.column == 0 then codes "none" else
+    codes "line " ++ decimal p.line ++ codes ", position " ++ decimal p.column
+
 -- The third column of the first line.
 example : (line_of (place 1 3) ≡ Some 1) × (column_of (place 1 3) ≡ Some 3) × (line_of nowhere ≡ None)
     × (shown (place 12 3) ≡ codes "12:3") × (shown nowhere ≡ codes "none")
+    × (described (place 12 3) ≡ codes "line 12, position 3") × (described nowhere ≡ codes "none")
 unfolding digits
-example = (refl, refl, refl, refl, refl)
+example = (refl, refl, refl, refl, refl, refl, refl)

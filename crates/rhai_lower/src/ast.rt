@@ -3,6 +3,10 @@
 ghost use Rattle.std.specs.Prelude.{◌≡◌, IfOk};
 ghost use Rattle.rhai_lower.specs.Nodes.{block_of_one, made_block};
 ghost use Rattle.rhai_lower.specs.declared.ast.BinaryExpr.{out-BinaryExpr};
+ghost use Rattle.rhai_lower.specs.declared.ast.FnCallExpr.{out-FnCallExpr};
+ghost use Rattle.rhai_lower.specs.declared.ast.StmtBlock.{out-StmtBlock};
+ghost use Rattle.std.specs.Slice.Iter.{iter_rest};
+ghost use Rattle.std.specs.Iterator.Adapters.{IterYieldsInOrder};
 ghost use Rattle.rhai_lower.specs.View.{block_view, statement_view};
 
 use crate::node::{LinkFlags, RangeCase};
@@ -12,6 +16,7 @@ use smallvec::SmallVec;
 use std::alloc::{AllocError, Global};
 use std::num::NonZeroUsize;
 use std::rc::{Rc, RcStr};
+use std::slice::Iter;
 
 /// A name and its position.
 #[derive(PartialEq, Debug, Drop)]
@@ -285,6 +290,16 @@ pub struct AST {
     pub functions: Vec<Rc<ScriptFuncDef>>,
 }
 
+impl AST {
+    /// The functions and closures, in the order in which they end. Does not allocate.
+    pub fn iter_functions(&self) -> Iter<'_, Rc<ScriptFuncDef>>
+        ensures rest { iter_rest result ≡ self.now.functions.items }
+        ensures runs { IterYieldsInOrder (Rc ScriptFuncDef Global) }
+    {
+        self.functions.iter()
+    }
+}
+
 impl Default for Expr {
     ghost use Rattle.rhai_lower.specs.Positions.{nowhere};
     ghost use Rattle.rhai_lower.specs.declared.ast.Expr.TheVariants.{Unit};
@@ -324,6 +339,53 @@ impl Drop for FnCallExpr {
     }
 }
 
+/// The parts of a call. They are those of `FnCallExpr`, but have no `drop` of their own, so that a pattern can take
+/// them.
+#[derive(PartialEq, Debug, Drop)]
+pub struct FnCallParts {
+    pub name: RcStr,
+    pub namespace: Namespace,
+    pub script_args: Option<usize>,
+    pub native_args: usize,
+    pub args: Vec<Expr>,
+    pub capture_parent_scope: bool,
+    pub op_token: Option<Token>,
+}
+
+impl FnCallExpr {
+    /// The parts of the call. Does not allocate.
+    pub fn into_parts(self) -> FnCallParts
+        ensures { let c = out-FnCallExpr self in result ≡ record {
+          name = c.name;
+          namespace = c.namespace;
+          script_args = c.script_args;
+          native_args = c.native_args;
+          args = c.args;
+          capture_parent_scope = c.capture_parent_scope;
+          op_token = c.op_token;
+        } }
+    {
+        let FnCallExpr {
+            name,
+            namespace,
+            script_args,
+            native_args,
+            args,
+            capture_parent_scope,
+            op_token,
+        } = self;
+        FnCallParts {
+            name,
+            namespace,
+            script_args,
+            native_args,
+            args,
+            capture_parent_scope,
+            op_token,
+        }
+    }
+}
+
 impl BinaryExpr {
     /// The two expressions, the left one first. Does not allocate.
     pub fn into_parts(self) -> (Expr, Expr)
@@ -347,6 +409,49 @@ impl Drop for BinaryExpr {
                 Expr::Index(rest, _, _) => self = Box::into_inner(rest),
                 _ => return,
             }
+        }
+    }
+}
+
+/// The parts of a function. They are those of `ScriptFuncDef`, but have no `drop` of their own, so that a pattern can
+/// take them.
+#[derive(PartialEq, Debug, Drop)]
+pub struct ScriptFuncParts {
+    pub this_type: Option<RcStr>,
+    pub name: RcStr,
+    pub private: bool,
+    pub params: Vec<RcStr>,
+    pub body: StmtBlock,
+    pub comments: Vec<RcStr>,
+}
+
+impl ScriptFuncDef {
+    /// The parts of the function. Does not allocate.
+    pub fn into_parts(self) -> ScriptFuncParts
+        ensures { result ≡ record {
+          this_type = self.this_type;
+          name = self.name;
+          private = self.private;
+          params = self.params;
+          body = self.body;
+          comments = self.comments;
+        } }
+    {
+        let ScriptFuncDef {
+            this_type,
+            name,
+            private,
+            params,
+            body,
+            comments,
+        } = self;
+        ScriptFuncParts {
+            this_type,
+            name,
+            private,
+            params,
+            body,
+            comments,
         }
     }
 }
@@ -378,6 +483,20 @@ impl Drop for StmtBlock {
 }
 
 impl StmtBlock {
+    /// The statements, the start and the end. Does not allocate.
+    pub fn into_parts(self) -> (StmtBlockContainer, Position, Position)
+        ensures statements { result.0 ≡ (out-StmtBlock self).statements }
+        ensures start { result.1 ≡ (out-StmtBlock self).start }
+        ensures end { result.2 ≡ (out-StmtBlock self).end }
+    {
+        let StmtBlock {
+            statements,
+            start,
+            end,
+        } = self;
+        (statements, start, end)
+    }
+
     /// A statement as a block: a block is itself, an empty statement becomes an empty block at its position, and any
     /// other a block of one statement, which starts at the statement's position. A block that is made has no end.
     /// Returns `AllocError` if memory runs out.

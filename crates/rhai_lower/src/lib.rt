@@ -12,13 +12,15 @@ pub mod optimizer;
 mod places;
 pub mod position;
 pub mod scope;
+mod signature;
 pub mod stream;
 pub mod token;
+pub mod walk;
 
 pub use ast::{
-    AST, BinaryExpr, Expr, FlowControl, FnCallExpr, ForLoop, Ident, LoopControl, Namespace,
-    ScriptFuncDef, Stmt, StmtBlock, StmtBlockContainer, SwitchCase, SwitchCasesCollection,
-    VariableExpr,
+    AST, BinaryExpr, Expr, FlowControl, FnCallExpr, FnCallParts, ForLoop, Ident, LoopControl,
+    Namespace, ScriptFuncDef, ScriptFuncParts, Stmt, StmtBlock, StmtBlockContainer, SwitchCase,
+    SwitchCasesCollection, VariableExpr,
 };
 pub use interner::StringsInterner;
 pub use name_index::NameIndex;
@@ -26,7 +28,8 @@ pub use named_list::{HasName, NamedList, find_latest, is_named};
 pub use names::{is_reserved_keyword_or_symbol, is_valid_function_name, is_valid_identifier};
 pub use node::{LinkFlags, RangeCase};
 pub use optimizer::{OptimizationLevel, Optimizer, Unoptimized};
-pub use position::Position;
+pub use position::{DescribedPosition, Position};
 pub use scope::Scope;
-pub use stream::{Entry, TokenStream};
-pub use token::{LexError, Token};
+pub use stream::{Entry, TokenStream, UndeliverableEntry};
+pub use token::{LexError, Token, write_improper_symbol};
+pub use walk::{Node, Walk};

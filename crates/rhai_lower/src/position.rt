@@ -1,7 +1,7 @@
 //! `Position`: where tokens and nodes are in a script.
 
 ghost use Rattle.std.specs.Prelude.{◌≡◌, ◌<◌, ◌↔◌, IsSome, IfSome, IsTrue, Some};
-ghost use Rattle.rhai_lower.specs.Positions.{place, line_of, column_of, nowhere, shown};
+ghost use Rattle.rhai_lower.specs.Positions.{place, line_of, column_of, nowhere, shown, described};
 
 use std::fmt;
 
@@ -53,6 +53,13 @@ impl Position {
         }
     }
 
+    /// The position as messages show it: `line 3, position 7`.
+    pub fn described(self) -> DescribedPosition
+        ensures { result.position ≡ self }
+    {
+        DescribedPosition { position: self }
+    }
+
     /// Whether there is no position.
     pub fn is_none(&self) -> bool
         ensures { IsTrue result ↔ (self.now ≡ nowhere) }
@@ -69,6 +76,25 @@ impl fmt::Display for Position {
         match (self.line(), self.column()) {
             (Some(line), Some(column)) => write!(f, "{line}:{column}"),
             _ => write!(f, "none"),
+        }
+    }
+}
+
+/// A position as messages show it: [`Position::described`] makes it.
+#[derive(Clone, Copy, PartialEq, Eq, Hash, Debug)]
+pub struct DescribedPosition {
+    /// The position that is shown.
+    pub position: Position,
+}
+
+/// `line 3, position 7`, or `none`.
+impl fmt::Display for DescribedPosition {
+    ghost output = { λ d. Some (described d.position) };
+
+    fn fmt<W: fmt::Write>(&self, f: &mut fmt::Formatter<W>) -> fmt::Result {
+        match (self.position.line(), self.position.column()) {
+            (Some(line), Some(column)) => write!(f, "line {line}, position {column}"),
+            _ => f.write_str("none"),
         }
     }
 }

@@ -2,17 +2,19 @@
 
 ghost use Rattle.std.specs.Prelude.{⊤, ◌≡◌, ◌≢◌, ◌<◌, ◌≤◌, ◌+◌, ◌∷◌, [], List, reverse, map, false, true, not};
 ghost use Rattle.std.specs.Prelude.{length};
-ghost use Rattle.std.specs.Prelude.{All, IsTrue};
+ghost use Rattle.std.specs.Prelude.{All, IsTrue, IsNone, IsOk, IfOk, IfErr, Some, ◌↔◌};
 ghost use Rattle.std.specs.Borrow.{sem, follows_so};
 ghost use mathlib.Core.Option.{none};
 ghost use Rattle.rhai_lower.specs.Streams.{Stream, asked, later, peeking, stream_of, in_text_next};
 ghost use Rattle.rhai_lower.specs.Entries.{ask_of, head_asks, head_text, head_peeked, may_be_delivered};
+ghost use Rattle.rhai_lower.specs.Entries.{first_undeliverable};
 
 use crate::names::is_valid_identifier;
 use crate::position::Position;
 use crate::token::{LexError, Token};
+use std::error::Error;
 use std::marker::Model;
-use std::mem;
+use std::{fmt, mem};
 
 /// A token in the list that a stream delivers.
 #[derive(Drop, Debug)]
@@ -38,6 +40,33 @@ impl Entry {
         }
     }
 }
+
+/// Entries of which one may not be delivered.
+#[derive(Drop, Debug)]
+pub struct UndeliverableEntry {
+    /// The index of the first such entry, counted from 0.
+    pub index: usize,
+    /// All entries, as they were given.
+    pub entries: Vec<Entry>,
+}
+
+/// `Entry 3 is the end mark, or an identifier that is not a name`
+impl fmt::Display for UndeliverableEntry {
+    ghost use Rattle.std.specs.Prelude.{Some};
+    ghost use Rattle.rhai_lower.specs.Messages.{undeliverable_message};
+
+    ghost output = { λ e. Some (undeliverable_message e) };
+
+    fn fmt<W: fmt::Write>(&self, f: &mut fmt::Formatter<W>) -> fmt::Result {
+        let index = self.index;
+        write!(
+            f,
+            "Entry {index} is the end mark, or an identifier that is not a name"
+        )
+    }
+}
+
+impl Error for UndeliverableEntry {}
 
 /// What is known of the next token.
 #[derive(Clone, Copy, Debug)]
@@ -117,6 +146,14 @@ fn ask_marked(entry: Entry, text: bool) -> (Head, (Token, Position))
     }
 }
 
+// The index of the first entry that is not deliverable.
+fn first_undeliverable(entries: &[Entry]) -> Option<usize>
+    ensures index { result ≡ first_undeliverable entries.now }
+    ensures none { IsNone result ↔ All (λ e. IsTrue (may_be_delivered e)) entries.now }
+{
+    entries.iter().position(|entry| !entry.is_deliverable())
+}
+
 impl TokenStream {
     ghost use Rattle.rhai_lower.specs.contracts.stream.TokenStream.{the_row};
 
@@ -133,6 +170,20 @@ impl TokenStream {
             head: Head::Unasked { text: false },
             taken: (Token::EOF, end),
             end,
+        }
+    }
+
+    /// As [`TokenStream::new`], for entries of any kind. Returns [`UndeliverableEntry`] with all entries if one of them
+    /// is not deliverable ([`Entry::is_deliverable`]). Does not allocate.
+    pub fn checked(entries: Vec<Entry>, end: Position) -> Result<Self, UndeliverableEntry>
+        ensures exact { IsOk result ↔ All (λ e. IsTrue (may_be_delivered e)) entries.items }
+        ensures stream { IfOk result (λ s. s ≡ stream_of (map ask_of entries.items) end) }
+        ensures index { IfErr result (λ e. first_undeliverable entries.items ≡ Some e.index) }
+        ensures kept { IfErr result (λ e. e.entries.items ≡ entries.items) }
+    {
+        match first_undeliverable(&entries) {
+            Some(index) => Err(UndeliverableEntry { index, entries }),
+            None => Ok(TokenStream::new(entries, end)),
         }
     }
 

@@ -1,11 +1,15 @@
 //! `Token`: what the tokenizer delivers to the parser.
 
-ghost use Rattle.std.specs.Prelude.{◌≡◌, IfOk};
+ghost use Rattle.std.specs.Prelude.{◌≡◌, IfOk, Some};
+ghost use Rattle.std.specs.Fmt.{DisplaysOnOk};
 ghost use Rattle.std.specs.Rc.{rc_str_bytes};
 ghost use Rattle.rhai_lower.specs.Tokens.{strength_of, binds_right, assigns, literal_of};
 ghost use Rattle.rhai_lower.specs.Lexemes.{text_of, lexeme};
+ghost use Rattle.rhai_lower.specs.Messages.{symbol_message};
 
 use std::alloc::{AllocError, Global};
+use std::error::Error;
+use std::fmt;
 use std::rc::{Rc, RcStr};
 
 /// What the tokenizer could not read.
@@ -24,6 +28,46 @@ pub enum LexError {
     UnexpectedInput(RcStr),
     /// The tokenizer ran out of memory.
     OutOfMemory,
+}
+
+/// The message of the error, as `Unexpected '~'`. docs/GRAMMAR.md, "Messages", has them all.
+impl fmt::Display for LexError {
+    ghost use Rattle.std.specs.Prelude.{Some};
+    ghost use Rattle.rhai_lower.specs.Lexemes.{fault};
+    ghost use Rattle.rhai_lower.specs.Messages.{fault_message};
+
+    ghost output = { λ e. Some (fault_message (fault e)) };
+
+    fn fmt<W: fmt::Write>(&self, f: &mut fmt::Formatter<W>) -> fmt::Result {
+        match self {
+            LexError::UnterminatedString => f.write_str("Open string is not terminated"),
+            LexError::StringTooLong(limit) => write!(f, "String is too long (max {limit})"),
+            LexError::MalformedNumber(text) => write!(f, "Invalid number: '{text}'"),
+            LexError::ImproperSymbol(symbol) => {
+                write_improper_symbol(f, symbol.0.as_str(), symbol.1.as_str())
+            }
+            LexError::UnexpectedInput(text) => write!(f, "Unexpected '{text}'"),
+            LexError::OutOfMemory => f.write_str("Out of memory"),
+        }
+    }
+}
+
+impl Error for LexError {}
+
+/// Writes the message of a symbol that is not allowed: the note, or where it is empty that the symbol is invalid.
+/// Returns `fmt::Error` if the formatter's writer fails.
+pub fn write_improper_symbol<W: fmt::Write>(
+    f: &mut fmt::Formatter<W>,
+    symbol: &str,
+    note: &str,
+) -> fmt::Result
+    ensures { DisplaysOnOk W.write_str_gives f.old result (Some (symbol_message symbol.now note.now)) f.new }
+{
+    if note.is_empty() {
+        write!(f, "Invalid symbol encountered: '{symbol}'")
+    } else {
+        f.write_str(note)
+    }
 }
 
 /// A token, or the end mark after all tokens.

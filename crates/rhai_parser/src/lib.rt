@@ -46,8 +46,8 @@ pub use rhai_base::{
 pub use rhai_grammar::{ExprFilter, FnKey, InputError, ParseError, ParseErrorType, ParseResult};
 pub use rhai_lower::optimizer::{OptimizationLevel, Optimizer, Unoptimized};
 pub use rhai_lower::{
-    AST, BinaryExpr, Entry, Expr, FlowControl, FnCallExpr, ForLoop, Ident, LexError, LinkFlags,
-    LoopControl, Namespace, Position, RangeCase, Scope, ScriptFuncDef, Stmt, StmtBlock,
-    StmtBlockContainer, SwitchCase, SwitchCasesCollection, Token, TokenStream, VariableExpr,
-    optimizer,
+    AST, BinaryExpr, Entry, Expr, FlowControl, FnCallExpr, FnCallParts, ForLoop, Ident, LexError,
+    LinkFlags, LoopControl, Namespace, Node, Position, RangeCase, Scope, ScriptFuncDef,
+    ScriptFuncParts, Stmt, StmtBlock, StmtBlockContainer, SwitchCase, SwitchCasesCollection, Token,
+    TokenStream, VariableExpr, Walk, optimizer,
 };

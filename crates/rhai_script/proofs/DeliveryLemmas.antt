@@ -21,16 +21,19 @@ as_code_is (token.StringConstant s) = refl
 as_code_is (token.InterpolatedString s) = refl
 as_code_is _ = refl
 
-by_mark : (t : Token) (marked : Bool) → lexeme (if marked then in_code t else t) ≡ (if marked then as_code (lexeme t) else lexeme t)
+by_mark : (t : Token) (marked : Bool) → lexeme (if marked then in_code t else t) ≡ (if marked then as_code
+    (lexeme t) else lexeme t)
 by_mark t true = as_code_is t
 by_mark t false = refl
 
-pub entries_deliver : (es : List Entry) (end : Position) → delivered (requests_of (map ask_of es) end) ≡ delivers (map item_of es) end
+pub entries_deliver : (es : List Entry) (end : Position) → delivered (requests_of (map ask_of es) end) ≡ delivers
+    (map item_of es) end
 entries_deliver [] end = refl
 entries_deliver (e ∷ es) end =
     let rest = delivered (requests_of (map ask_of es) end) in
     ap (λ l. Then (item l e.pos) (item (lexeme e.token) e.pos) rest rest) (by_mark e.token e.text)
-    ∙ ap (λ rest. Then (item (if e.text then as_code (lexeme e.token) else lexeme e.token) e.pos) (item (lexeme e.token) e.pos) rest rest) (entries_deliver es end)
+    ∙ ap (λ rest. Then (item (if e.text then as_code (lexeme e.token) else lexeme e.token) e.pos) (item
+    (lexeme e.token) e.pos) rest rest) (entries_deliver es end)
 
 abbrev cursor_with : Tokens → Cursor
 cursor_with tokens = record { tokens = tokens; mode = code; peeked = false }

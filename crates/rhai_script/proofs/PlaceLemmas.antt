@@ -60,7 +60,8 @@ taken_place [] is end at gives h = absurd (none at h)
 taken_place (k ∷ taken) is end at gives h =
     elim (split k.item.at (map (λ j. j.item.at) taken) at h) [
       | inl e ↦ subst (IsPlaceOf is end) (ap (λ (i : G.Item). i.at) gives.0 ∙ sym e) (asked_place is end k.mode)
-      | inr n ↦ back is end at (taken_place taken (rest is) end at (subst (Gives taken) (later_is is end k.mode) gives.1) n)
+      | inr n ↦ back is end at (taken_place taken (rest is) end at (subst (Gives taken)
+          (later_is is end k.mode) gives.1) n)
     ]
 
 -- the next one after these
@@ -74,7 +75,9 @@ next_place (k ∷ taken) is end m =
 -- what stands at a token that was seen
 pub seen_place : (taken : List Taken) (is : List Item) (end : Position) (start left : Cursor) (at : Position)
     → start.tokens ≡ delivers is end → Saw taken start left → StandsAmong taken (asked left) at → IsPlaceOf is end at
-seen_place taken is end start left at same saw (inl h) = taken_place taken is end at (subst (Gives taken) same saw.gives) h
+seen_place taken is end start left at same saw (inl h) = taken_place taken is end at (subst
+    (Gives taken) same saw.gives) h
 seen_place taken is end start left at same saw (inr e) =
-    subst (IsPlaceOf is end) (sym e) (subst (λ s. IsPlaceOf is end (ask left.mode s).at) (sym (saw.leaves ∙ ap (leads taken) same))
+    subst (IsPlaceOf is end) (sym e) (subst (λ s. IsPlaceOf is end (ask left.mode s).at) (sym (saw.leaves ∙ ap
+    (leads taken) same))
     (next_place taken is end left.mode))

@@ -1,9 +1,14 @@
 -- A script that is read in a new state.
-use Rattle.std.proofs.Common.{◌≡◌, ◌∙◌, ℕ, List, [], Result, true, ap, map, refl, subst}
-use Rattle.std.specs.Prelude.{Err}
+use Rattle.std.proofs.Common.{◌≡◌, ◌∙◌, ℕ, List, [], Result, false, true, ap, map, refl, subst}
+use Rattle.std.specs.Prelude.{Err, Vec}
 use Rattle.rhai_lower.specs.declared.ast.AST.{AST}
 use Rattle.rhai_lower.specs.declared.optimizer.OptimizationLevel.{OptimizationLevel}
 use Rattle.std.specs.Rc.{rc_str_bytes}
+use Rattle.std.specs.declared.alloc.Global.{Global}
+use Rattle.std.specs.declared.rc.Rc.{Rc}
+use Rattle.rhai_lower.specs.declared.ast.ScriptFuncDef.{ScriptFuncDef}
+use Rattle.rhai_lower.specs.declared.ast.Stmt.{Stmt}
+use Rattle.rhai_grammar.specs.declared.key.FnKey.{FnKey}
 use Rattle.rhai_lower.specs.Slots.{SlotValue}
 use Rattle.rhai_lower.specs.Entries.{ask_of}
 use Rattle.rhai_lower.specs.Streams.{Stream, stream_of}
@@ -27,7 +32,7 @@ use Rattle.rhai_base.specs.Settings.{settings_of}
 use Rattle.rhai_base.specs.States.{IsFresh}
 use Rattle.rhai_base.specs.declared.settings.ParseSettings.{ParseSettings}
 use Rattle.rhai_parser.specs.Engines.{EngineValue, expr_settings, script_settings, sizes_of}
-use Rattle.rhai_parser.specs.Scripts.{Constants, IsMadeOf, IsScriptOf, Makes}
+use Rattle.rhai_parser.specs.Scripts.{Constants, IsMadeOf, IsScriptOf, Makes, ReadsScript}
 use Rattle.rhai_parser.specs.Starts.{KeepsOrder, StateValue, live_in, starts_in}
 use Rattle.rhai_tokenizer.specs.Readings.{Reads}
 use Rattle.rhai_tokenizer.specs.declared.limits.Limits.{Limits}
@@ -36,10 +41,14 @@ use Rattle.rhai_script.specs.Scripts.{ReadsTextAsAst, ReadsTextAsExpression, tex
 use Rattle.rhai_script.specs.Texts.{ReadsText}
 use Rattle.rhai_script.proofs.TextLemmas.{StandWhereNamed, nothing_read, text_read}
 
--- A state as it is made, over this stream, with an empty library.
-pub record IsNew (state : StateValue) (stream : Stream) (outside : Constants) : Type 0 where
+-- the functions of the code by their keys
+abbrev pub Functions : Type 0
+Functions = List (FnKey × Rc ScriptFuncDef Global)
+
+-- A state as it is made, over this stream, with these functions.
+pub record IsNew (state : StateValue) (stream : Stream) (held : Functions) (outside : Constants) : Type 0 where
   pub input : state.input.now ≡ stream
-  pub lib : state.lib.now.entries ≡ []
+  pub lib : state.lib.now.entries ≡ held
   pub counts : counts_of state.counts ≡ none_yet
   pub filter : state.expr_filter ≡ All
   pub constants : state.external_constants ≡ outside
@@ -60,9 +69,11 @@ context_with engine settings filter constants imports begun = record {
   begun = begun;
 }
 
-context_is : (engine : EngineValue) (settings : ParseSettings) (state : StateValue) (stream : Stream) (constants : Constants)
-    → IsNew state stream constants → starts_in engine state settings ≡ text_context engine settings constants
-context_is engine settings state stream constants n =
+pub context_is : (engine : EngineValue) (settings : ParseSettings) (state : StateValue) (stream : Stream)
+    (held : Functions)
+    (constants : Constants) → IsNew state stream held constants → starts_in engine state settings
+    ≡ text_context engine settings constants
+context_is engine settings state stream held constants n =
     let names = map rc_str_bytes state.global_imports.items in
     let begun = (counts_of state.counts).begun in
     ap (λ f. context_with engine settings f state.external_constants names begun) n.filter
@@ -73,15 +84,17 @@ context_is engine settings state stream constants n =
 abbrev live_with : List SlotValue → ℕ → List Text → Live
 live_with slots block imports = record { slots = slots; block = block; imports = imports }
 
-live_is : (state : StateValue) (stream : Stream) (constants : Constants) → IsNew state stream constants → live_in state ≡ nothing_live
-live_is state stream constants n =
+pub live_is : (state : StateValue) (stream : Stream) (held : Functions) (constants : Constants)
+    → IsNew state stream held constants → live_in state ≡ nothing_live
+live_is state stream held constants n =
     ap (λ s. live_with s state.frame_pointer (map rc_str_bytes state.imports.items)) n.stack
     ∙ (ap (λ b. live_with [] b (map rc_str_bytes state.imports.items)) n.frame
     ∙ ap (λ is. live_with [] 0 (map rc_str_bytes is)) n.imports)
 
-pub fresh : (state : StateValue) (asks : _) (end : _) (constants : Constants) → IsNew state (stream_of asks end) constants → IsFresh state
-fresh state asks end constants n = record {
-  mode = ap (λ s. s.in_text) n.input;
+pub fresh : (state : StateValue) (stream : Stream) (held : Functions) (constants : Constants)
+    → IsNew state stream held constants → stream.in_text ≡ false → IsFresh state
+fresh state stream held constants n in_code = record {
+  mode = ap (λ s. s.in_text) n.input ∙ in_code;
   filter = n.filter;
   stack = n.stack;
   frame = n.frame;
@@ -93,8 +106,10 @@ fresh state asks end constants n = record {
 }
 
 -- An empty library is left orderly.
-pub stays_orderly : (engine : EngineValue) (state : StateValue) (stream : Stream) (constants : Constants) (after : Library)
-    → IsNew state stream constants → KeepsOrder engine (counts_of state.counts) (library_of state.lib.now.entries) after
+pub stays_orderly : (engine : EngineValue) (state : StateValue) (stream : Stream) (constants : Constants)
+    (after : Library)
+    → IsNew state stream [] constants → KeepsOrder engine (counts_of state.counts)
+    (library_of state.lib.now.entries) after
     → IsOrderly engine.max_functions 0 after
 stays_orderly engine state stream constants after n keeps =
     let k = subst (λ c. KeepsOrder engine c (library_of state.lib.now.entries) after) n.counts keeps in
@@ -105,40 +120,55 @@ stays_orderly engine state stream constants after n keeps =
 -- live before.
 module _ {F X : Type 0} (whole : Context → Live → F → Demands) (Is : Library → Constants → Live → F → X → Type 0)
     (stand : (context : Context) (live : Live) → StandWhereNamed (whole context live)) where
-  pub text_parsed : (engine : EngineValue) (chosen settings : ParseSettings) (state : StateValue) (constants : Constants)
-      (limits : Limits) (text : Text) (result : Result X ParseError) (tokens : T.Tokens) (after : Library) (left : Cursor)
+  pub text_parsed : (engine : EngineValue) (chosen settings : ParseSettings) (state : StateValue)
+      (constants : Constants)
+      (limits : Limits) (text : Text) (result : Result X ParseError) (tokens : T.Tokens) (after : Library)
+      (left : Cursor)
       → Reads text limits tokens → chosen ≡ settings
-      → IsNew state (stream_of (map ask_of tokens.entries.items) tokens.end) constants
-      → ReadsWhole (whole (starts_in engine state chosen) (live_in state)) (Is after state.external_constants (live_in state))
+      → IsNew state (stream_of (map ask_of tokens.entries.items) tokens.end) [] constants
+      → ReadsWhole (whole (starts_in engine state chosen) (live_in state)) (Is after state.external_constants
+      (live_in state))
       (library_of state.lib.now.entries) after (cursor_of state.input.now) left result
       → UnlessMemory (HasRead (cursor_of state.input.now) left) result
-      → ReadsText (whole (text_context engine settings constants) nothing_live) (Is after constants nothing_live) [] after limits text result
+      → ReadsText (whole (text_context engine settings constants) nothing_live)
+      (Is after constants nothing_live) [] after limits text result
   text_parsed engine chosen settings state constants limits text result tokens after left r is n parsed memory =
       let stream = stream_of (map ask_of tokens.entries.items) tokens.end in
       let context = text_context engine settings constants in
-      let p = subst (λ s. ReadsWhole (whole (starts_in engine state s) (live_in state)) (Is after state.external_constants (live_in state)) (library_of state.lib.now.entries) after (cursor_of state.input.now) left result)
+      let p = subst (λ s. ReadsWhole (whole (starts_in engine state s) (live_in state))
+      (Is after state.external_constants (live_in state)) (library_of state.lib.now.entries) after
+      (cursor_of state.input.now) left result)
       is parsed in
-      let p0 = subst (λ k. ReadsWhole (whole (starts_in engine state settings) (live_in state)) (Is after k (live_in state)) (library_of state.lib.now.entries) after (cursor_of state.input.now) left result)
+      let p0 = subst (λ k. ReadsWhole (whole (starts_in engine state settings) (live_in state)) (Is after k
+      (live_in state)) (library_of state.lib.now.entries) after (cursor_of state.input.now) left result)
       n.constants p in
-      let p1 = subst (λ k. ReadsWhole (whole k (live_in state)) (Is after constants (live_in state)) (library_of state.lib.now.entries) after (cursor_of state.input.now) left result)
-      (context_is engine settings state stream constants n) p0 in
-      let p2 = subst (λ w. ReadsWhole (whole context w) (Is after constants w) (library_of state.lib.now.entries) after (cursor_of state.input.now) left result)
-      (live_is state stream constants n) p1 in
-      let p3 = subst (λ l. ReadsWhole (whole context nothing_live) (Is after constants nothing_live) (library_of l) after (cursor_of state.input.now) left result) n.lib p2 in
-      let p4 = subst (λ s. ReadsWhole (whole context nothing_live) (Is after constants nothing_live) [] after (cursor_of s) left result) n.input p3 in
-      text_read (whole context nothing_live) (Is after constants nothing_live) [] after limits text result tokens left (stand context nothing_live) r p4
+      let p1 = subst (λ k. ReadsWhole (whole k (live_in state)) (Is after constants (live_in state))
+      (library_of state.lib.now.entries) after (cursor_of state.input.now) left result)
+      (context_is engine settings state stream [] constants n) p0 in
+      let p2 = subst (λ w. ReadsWhole (whole context w) (Is after constants w)
+      (library_of state.lib.now.entries) after (cursor_of state.input.now) left result)
+      (live_is state stream [] constants n) p1 in
+      let p3 = subst (λ l. ReadsWhole (whole context nothing_live) (Is after constants nothing_live)
+      (library_of l) after (cursor_of state.input.now) left result) n.lib p2 in
+      let p4 = subst (λ s. ReadsWhole (whole context nothing_live) (Is after constants nothing_live) [] after
+      (cursor_of s) left result) n.input p3 in
+      text_read (whole context nothing_live)
+      (Is after constants nothing_live) [] after limits text result tokens left (stand context nothing_live) r p4
       (subst (λ s. UnlessMemory (HasRead (cursor_of s) left) result) n.input memory)
 
 -- ---- the promises of the calls
 
-pub a_script : (makes : Makes) (engine : EngineValue) (constants : Constants) (level : OptimizationLevel) (limits : Limits)
+pub a_script : (makes : Makes) (engine : EngineValue) (constants : Constants) (level : OptimizationLevel)
+    (limits : Limits)
     (text : Text) (result : Result AST ParseError) (after : Library)
     → ReadsText (scripts (text_context engine (script_settings engine) constants) nothing_live)
-    (λ fs script. IsMadeOf makes constants level (statement_trees fs nothing_live) after script) [] after limits text result
+    (λ fs script. IsMadeOf makes constants level
+    (statement_trees fs nothing_live) after script) [] after limits text result
     → IsOrderly engine.max_functions 0 after → ReadsTextAsAst makes engine constants level limits text result
 a_script makes engine constants level limits text result after r o = record { after = after; reads = r; orderly = o }
 
-pub an_expression : (makes : Makes) (engine : EngineValue) (constants : Constants) (level : OptimizationLevel) (limits : Limits)
+pub an_expression : (makes : Makes) (engine : EngineValue) (constants : Constants) (level : OptimizationLevel)
+    (limits : Limits)
     (text : Text) (result : Result AST ParseError) (after : Library)
     → ReadsText (expressions (text_context engine (expr_settings engine) constants) nothing_live)
     (λ f script. IsScriptOf makes constants level (tree f nothing_live) after script) [] after limits text result
@@ -147,14 +177,69 @@ an_expression makes engine constants level limits text result after r o =
     record { after = after; reads = r; orderly = o }
 
 -- Where the tokenizer had no memory, nothing is promised.
-pub no_script : (makes : Makes) (engine : EngineValue) (constants : Constants) (level : OptimizationLevel) (limits : Limits)
+pub no_script : (makes : Makes) (engine : EngineValue) (constants : Constants) (level : OptimizationLevel)
+    (limits : Limits)
     (text : Text) → ReadsTextAsAst makes engine constants level limits text (Err no_memory)
 no_script makes engine constants level limits text =
-    a_script makes engine constants level limits text (Err no_memory) [] (nothing_read _ _ [] [] limits text no_memory refl)
+    a_script makes engine constants level limits text (Err no_memory) []
+    (nothing_read _ _ [] [] limits text no_memory refl)
     (libraries_stay_orderly.empty engine.max_functions)
 
-pub no_expression : (makes : Makes) (engine : EngineValue) (constants : Constants) (level : OptimizationLevel) (limits : Limits)
+pub no_expression : (makes : Makes) (engine : EngineValue) (constants : Constants) (level : OptimizationLevel)
+    (limits : Limits)
     (text : Text) → ReadsTextAsExpression makes engine constants level limits text (Err no_memory)
 no_expression makes engine constants level limits text =
-    an_expression makes engine constants level limits text (Err no_memory) [] (nothing_read _ _ [] [] limits text no_memory refl)
+    an_expression makes engine constants level limits text (Err no_memory) []
+    (nothing_read _ _ [] [] limits text no_memory refl)
     (libraries_stay_orderly.empty engine.max_functions)
+
+-- ---- a state with functions
+
+abbrev Read : Type 0
+Read = Result (Vec Stmt Global × Vec (Rc ScriptFuncDef Global) Global) ParseError
+
+pub script_parsed : (engine : EngineValue) (chosen settings : ParseSettings) (state : StateValue) (stream : Stream)
+    (held : Functions)
+    (constants : Constants) (after : Library) (left : Cursor) (result : Read) (slots : List SlotValue)
+    (modules : List Text)
+    → chosen ≡ settings → IsNew state stream held constants
+    → ReadsScript (starts_in engine state chosen) (live_in state) (library_of state.lib.now.entries) after
+    (cursor_of state.input.now) left
+    result slots modules
+    → ReadsScript (text_context engine settings constants) nothing_live (library_of held) after
+    (cursor_of stream) left result slots modules
+script_parsed engine chosen settings state stream held constants after left result slots modules is n parsed =
+    let context = text_context engine settings constants in
+    let p = subst (λ s. ReadsScript (starts_in engine state s) (live_in state)
+    (library_of state.lib.now.entries) after (cursor_of state.input.now) left result slots modules)
+    is parsed in
+    let p1 = subst (λ k. ReadsScript k (live_in state) (library_of state.lib.now.entries) after
+    (cursor_of state.input.now) left result slots modules)
+    (context_is engine settings state stream held constants n) p in
+    let p2 = subst (λ w. ReadsScript context w (library_of state.lib.now.entries) after
+    (cursor_of state.input.now) left result slots modules)
+    (live_is state stream held constants n) p1 in
+    let p3 = subst (λ l. ReadsScript context nothing_live (library_of l) after
+    (cursor_of state.input.now) left result slots modules) n.lib p2 in
+    subst (λ s. ReadsScript context nothing_live (library_of held) after
+    (cursor_of s) left result slots modules) n.input p3
+
+-- the same with what is left under other names
+pub script_left : {context : Context} {live : Live} {before : Library} {start : Cursor} {result : Read} {slots : List
+    SlotValue}
+    {modules : List Text} (read found : Functions) (left seen : Cursor) → read ≡ found → left ≡ seen
+    → ReadsScript context live before (library_of read) start left result slots modules
+    → ReadsScript context live before (library_of found) start seen result slots modules
+script_left {context} {live} {before} {start} {result} {slots} {modules} read found left seen same here reads =
+    subst (λ k. ReadsScript context live before (library_of found) start k result slots modules) here
+    (subst (λ es. ReadsScript context live before (library_of es) start left result slots modules) same reads)
+
+-- What keeps the order from these counts keeps it in a new state.
+pub order_kept : (engine : EngineValue) (state : StateValue) (stream : Stream) (held : Functions)
+    (constants : Constants) (after : Library)
+    → IsNew state stream held constants → KeepsOrder engine (counts_of state.counts)
+    (library_of state.lib.now.entries) after
+    → IsOrderly engine.max_functions 0 (library_of held) → IsOrderly engine.max_functions 0 after
+order_kept engine state stream held constants after n keeps =
+    let k = subst (λ c. KeepsOrder engine c (library_of state.lib.now.entries) after) n.counts keeps in
+    subst (λ es. KeepsOrder engine none_yet (library_of es) after) n.lib k

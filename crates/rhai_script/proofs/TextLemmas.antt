@@ -27,13 +27,14 @@ use Rattle.rhai_script.proofs.DeliveryLemmas.{streams_agree}
 use Rattle.rhai_script.proofs.PlaceLemmas.{seen_place}
 
 -- every text is pieces that fit
-a_reading : (limits : Limits) (text : Text) → (ps : List Piece) × IsTextOf limits ps text
+pub a_reading : (limits : Limits) (text : Text) → (ps : List Piece) × IsTextOf limits ps text
 a_reading limits text =
     let r = read_fits (piece_after limits) (leaves limits) at_start text in
     (pieces_from (piece_after limits) 0 at_start text, (r.1, r.0))
 
 -- Where memory ran out, nothing is promised.
-pub nothing_read : {F X : Type 0} (whole : F → Demands) (Is : F → X → Type 0) (before after : Library) (limits : Limits) (text : Text)
+abbrev pub nothing_read : {F X : Type 0} (whole : F → Demands) (Is : F → X → Type 0) (before after : Library)
+    (limits : Limits) (text : Text)
     (e : ParseError) → is_for_memory e ≡ true → ReadsText whole Is before after limits text (Err e)
 nothing_read whole Is before after limits text e memory = record {
   reading = a_reading limits text;
@@ -55,19 +56,23 @@ StandWhereNamed whole =
     (before after : Library) (taken : List Taken) (start left : Cursor) (e : Refusal)
     → IsNamed whole before after taken start left e → StandsAmong taken (asked left) e.at
 
-refusal_placed : {F X : Type 0} (whole : F → Demands) (Is : F → X → Type 0) (before after : Library) (limits : Limits)
+pub refusal_placed : {F X : Type 0} (whole : F → Demands) (Is : F → X → Type 0) (before after : Library)
+    (limits : Limits)
     (ps : List Piece) (result : Result X ParseError) (left : Cursor) → StandWhereNamed whole
     → ReadsWhole whole Is before after (cursor_in limits ps) left result
     → IfErr result (λ e. is_for_memory e ≡ false → IsPlaceIn limits ps e.1)
 refusal_placed whole Is before after limits ps (Ok x) left stand reads = tt
 refusal_placed whole Is before after limits ps (Err e) left stand reads = λ told.
     let r = reads.refused told in
-    seen_place r.0 (items limits at_start ps) (at_place (past start (spelled ps))) (cursor_in limits ps) left e.1 refl r.1.saw
+    seen_place r.0 (items limits at_start ps) (at_place (past start (spelled ps)))
+    (cursor_in limits ps) left e.1 refl r.1.saw
     (stand before after r.0 (cursor_in limits ps) left (refusal_of e) r.1.named)
 
 -- The tokens of a text are read as its pieces are.
-pub text_read : {F X : Type 0} (whole : F → Demands) (Is : F → X → Type 0) (before after : Library) (limits : Limits) (text : Text)
-    (result : Result X ParseError) (tokens : T.Tokens) (left : Cursor) → StandWhereNamed whole → Reads text limits tokens
+abbrev pub text_read : {F X : Type 0} (whole : F → Demands) (Is : F → X → Type 0) (before after : Library)
+    (limits : Limits) (text : Text)
+    (result : Result X ParseError) (tokens : T.Tokens) (left : Cursor) → StandWhereNamed whole
+    → Reads text limits tokens
     → ReadsWhole whole Is before after (cursor_of (stream_of (map ask_of tokens.entries.items) tokens.end)) left result
     → UnlessMemory (HasRead (cursor_of (stream_of (map ask_of tokens.entries.items) tokens.end)) left) result
     → ReadsText whole Is before after limits text result

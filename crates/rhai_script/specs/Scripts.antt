@@ -36,8 +36,8 @@ pub record ReadsTextAsAst (makes : Makes) (engine : EngineValue) (constants : Co
   where
     pub after : Library
     pub reads : ReadsText (scripts (text_context engine (script_settings engine) constants) nothing_live)
-        (λ fs script. IsMadeOf makes constants level (statement_trees fs nothing_live) after script) [] after limits text
-        result
+        (λ fs script. IsMadeOf makes constants level (statement_trees fs nothing_live) after script) [] after limits
+        text result
     pub orderly : IsOrderly engine.max_functions 0 after
 
 -- the same of a text that is one expression

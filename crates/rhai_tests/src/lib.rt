@@ -34,4 +34,8 @@ mod script;
 #[cfg(test)]
 mod states;
 #[cfg(test)]
+mod text_allocation;
+#[cfg(test)]
 mod text_mode;
+#[cfg(test)]
+mod texts;

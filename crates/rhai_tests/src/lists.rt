@@ -29,9 +29,9 @@ fn option(name: &str) -> Option<LangOptions> {
     })
 }
 
-// What a list is.
+/// What a list or a text is.
 #[derive(Clone, Copy)]
-enum Kind {
+pub(crate) enum Kind {
     Script,
     Expression,
 }
@@ -82,8 +82,8 @@ fn read_engine(alloc: Global, words: &str) -> Option<Engine> {
     Some(engine)
 }
 
-// A line of words: what the list is, the level, and the words of the engine.
-fn read_words(alloc: Global, line: &str) -> Option<(Kind, OptimizationLevel, Engine)> {
+/// A line of words: what the list is, the level, and the words of the engine.
+pub(crate) fn read_words(alloc: Global, line: &str) -> Option<(Kind, OptimizationLevel, Engine)> {
     let (first, words) = line.split_once(' ')?;
     let (second, words) = words.split_once(' ')?;
     Some((kind_of(first)?, level(second)?, read_engine(alloc, words)?))

@@ -4,13 +4,12 @@ use Rattle.std.proofs.lemmas.Bool.{and_parts, false_from_ne_true}
 use Rattle.std.proofs.lemmas.List.{take_rest, drop-drop, length-append}
 use Rattle.std.specs.List.{concat}
 use Rattle.rhai_lower.specs.Texts.{Text}
-use Rattle.rhai_tokenizer.specs.declared.class.First.{First}
 use Rattle.rhai_tokenizer.specs.declared.class.First.TheVariants as first
 use Rattle.rhai_tokenizer.specs.Bytes.{begins, begins_any, begins_with, blanks, is_empty}
 use Rattle.rhai_tokenizer.specs.Cutting.{first_class}
 use Rattle.rhai_tokenizer.specs.Runs.{first_of, run_from}
 use Rattle.rhai_tokenizer.proofs.ByteLemmas.{first_of-member}
-use Rattle.rhai_tokenizer.proofs.PieceLemmas.{ClassFacts, class_facts}
+use Rattle.rhai_tokenizer.proofs.FirstLemmas.{ClassFacts, class_facts}
 use Rattle.rhai_tokenizer.proofs.RunLemmas.{Some, run_none, run_step}
 use Rattle.rhai_tokenizer.proofs.TableLemmas.{blank_classes, blanks_again, blanks_some, near_blank, is_blank_class}
 use Rattle.rhai_tokenizer.proofs.ByteLemmas.{at_member}
@@ -68,12 +67,11 @@ blank_space (c ∷ t) h e =
     sym (ap length (blanks_again (c ∷ []) t (near_blank c near)).1)
 
 -- no white space begins with a byte of another class
-pub blank_other : (t : Text) → (first.Space ≡ first_class (get_or t 0 0) → ⊥)
-    → (first.Far ≡ first_class (get_or t 0 0) → ⊥) → 0 ≡ length (first_of blanks t)
-blank_other [] h k = sym nothing_blank
-blank_other (c ∷ t) h k =
+pub blank_other : (t : Text) → is_blank_class (first_class (get_or t 0 0)) ≡ false → 0 ≡ length (first_of blanks t)
+blank_other [] h = sym nothing_blank
+blank_other (c ∷ t) h =
     let none : begins_any blanks (c ∷ t) ≡ false = false_from_ne_true (begins_any blanks (c ∷ t))
-    (λ e. by (first_class c) refl (kind e)) in
+    (λ e. true≢false (sym (kind e) ∙ h)) in
     sym (ap length (first_none blanks (c ∷ t) none))
   where
     kind : begins_any blanks (c ∷ t) ≡ true → is_blank_class (first_class c) ≡ true
@@ -87,20 +85,6 @@ blank_other (c ∷ t) h k =
         first_byte [] e b = absurd (true≢false (sym b))
         first_byte (d ∷ s) e b = ap (λ x. is_blank_class (first_class x))
             (eqb-true c d (and_parts (c == d) (begins_with s t) e).0) ∙ b
-
-    by : (k : First) → first_class c ≡ k → is_blank_class (first_class c) ≡ true → ⊥
-    by first.Space e b = h (sym e)
-    by first.Far e b = k (sym e)
-    by first.Letter e b = true≢false (sym b ∙ ap is_blank_class e)
-    by first.Digit e b = true≢false (sym b ∙ ap is_blank_class e)
-    by first.Quote e b = true≢false (sym b ∙ ap is_blank_class e)
-    by first.Tick e b = true≢false (sym b ∙ ap is_blank_class e)
-    by first.Apostrophe e b = true≢false (sym b ∙ ap is_blank_class e)
-    by first.Slash e b = true≢false (sym b ∙ ap is_blank_class e)
-    by first.Bang e b = true≢false (sym b ∙ ap is_blank_class e)
-    by first.Minus e b = true≢false (sym b ∙ ap is_blank_class e)
-    by first.Hash e b = true≢false (sym b ∙ ap is_blank_class e)
-    by first.Other e b = true≢false (sym b ∙ ap is_blank_class e)
 
 -- ---- a run
 

@@ -18,7 +18,7 @@ use Rattle.rhai_tokenizer.specs.Meanings.{without_return}
 use Rattle.rhai_tokenizer.specs.Places.{at_line, past}
 use Rattle.rhai_tokenizer.specs.Runs.{first_of, run}
 use Rattle.rhai_tokenizer.specs.Strings.{character, continued}
-use Rattle.rhai_tokenizer.proofs.StringLemmas.{hex_split}
+use Rattle.rhai_tokenizer.proofs.PartLemmas.{hex_split}
 
 pub length-run : (p : ℕ → Bool) (t : Text) → prefix_len p t ≡ length (run p t)
 length-run p [] = refl

@@ -28,10 +28,7 @@ is_plain c = nat_lt c 128 && not (c == 10)
 abbrev pub is_small : ℕ → Bool
 is_small c = nat_lt c 128
 
--- past all integers
-abbrev pub too_large : ℕ
-too_large = 0x8000_0000_0000_0001
-
+-- past all integers of 64 bits
 abbrev pub past_bits : ℕ
 past_bits = 0x1_0000_0000_0000_0000
 
@@ -45,7 +42,8 @@ note n =
     else (if n == 1 then codes "'!==' is not a valid operator. This is not JavaScript! Should it be '!='?"
     else (if n == 2 then codes "'->' is not a valid symbol. This is not C or C++!"
     else (if n == 3 then codes "'<-' is not a valid symbol. Should it be '<='?"
-    else (if n == 4 then codes "':=' is not a valid assignment operator. This is not Go or Pascal! Should it be simply '='?"
+    else (if n == 4
+    then codes "':=' is not a valid assignment operator. This is not Go or Pascal! Should it be simply '='?"
     else (if n == 5 then codes "':;' is not a valid symbol. Should it be '::'?"
     else (if n == 6 then codes "'::<>' is not a valid symbol. This is not Rust! Should it be '::'?"
     else (if n == 7 then codes "'(* .. *)' is not a valid comment format. This is not Pascal! Should it be '/* .. */'?"

@@ -12,6 +12,7 @@ use rhai_lower::token::{LexError, Token};
 use std::alloc::{AllocError, Global};
 
 /// The token of a character that has this value and ends so.
+#[inline(never)]
 pub fn character_token(alloc: Global, value: &str, ending: Ending) -> Result<Token, AllocError>
     ensures value { IfOk result (λ t. lexeme t ≡ character_lexeme value.now ending) }
     ensures delivered { IfOk result (λ t. token_may_be_delivered t ≡ true) }

@@ -1,6 +1,7 @@
 //! Classes of bytes: what begins with a byte, and what goes on with it.
 
-ghost use Rattle.std.specs.Prelude.{◌≡◌, ◌≤◌};
+ghost use Rattle.std.specs.Prelude.{◌≡◌, ◌≤◌, length};
+ghost use Rattle.rhai_lower.specs.Names.{is_word};
 ghost use Rattle.std.specs.Char.{digit_value};
 ghost use Rattle.rhai_tokenizer.specs.Bytes.{base_of, is_digit_after};
 ghost use Rattle.rhai_tokenizer.specs.Cutting as spec;
@@ -35,6 +36,7 @@ pub enum First {
 }
 
 /// What begins with this byte.
+#[inline(always)]
 pub fn first_class(byte: u8) -> First
     ensures { result ≡ spec.first_class byte }
 {
@@ -64,20 +66,66 @@ pub enum Class {
     Continuation,
     Hexadecimal,
     Hash,
+    Second,
+}
+
+// For each byte: 1 if a word goes on with it, 2 if a symbol does, else 0.
+static BYTES: [u8; 256] = [
+    0, 0, 0, 0, 0, 0, 0, 0, 0, 0, 0, 0, 0, 0, 0, 0, 0, 0, 0, 0, 0, 0, 0, 0, 0, 0, 0, 0, 0, 0, 0, 0,
+    0, 0, 0, 0, 0, 0, 2, 0, 0, 2, 2, 2, 0, 2, 2, 0, 1, 1, 1, 1, 1, 1, 1, 1, 1, 1, 2, 2, 2, 2, 2, 2,
+    0, 1, 1, 1, 1, 1, 1, 1, 1, 1, 1, 1, 1, 1, 1, 1, 1, 1, 1, 1, 1, 1, 1, 1, 1, 1, 1, 2, 0, 0, 0, 1,
+    0, 1, 1, 1, 1, 1, 1, 1, 1, 1, 1, 1, 1, 1, 1, 1, 1, 1, 1, 1, 1, 1, 1, 1, 1, 1, 1, 0, 2, 0, 0, 0,
+    0, 0, 0, 0, 0, 0, 0, 0, 0, 0, 0, 0, 0, 0, 0, 0, 0, 0, 0, 0, 0, 0, 0, 0, 0, 0, 0, 0, 0, 0, 0, 0,
+    0, 0, 0, 0, 0, 0, 0, 0, 0, 0, 0, 0, 0, 0, 0, 0, 0, 0, 0, 0, 0, 0, 0, 0, 0, 0, 0, 0, 0, 0, 0, 0,
+    0, 0, 0, 0, 0, 0, 0, 0, 0, 0, 0, 0, 0, 0, 0, 0, 0, 0, 0, 0, 0, 0, 0, 0, 0, 0, 0, 0, 0, 0, 0, 0,
+    0, 0, 0, 0, 0, 0, 0, 0, 0, 0, 0, 0, 0, 0, 0, 0, 0, 0, 0, 0, 0, 0, 0, 0, 0, 0, 0, 0, 0, 0, 0, 0,
+];
+
+fn bytes() -> &'static [u8]
+    ensures value { result.now ≡ BYTES }
+    ensures len { length result.now ≡ 256 }
+{
+    &BYTES
+}
+
+// Whether a word goes on with a byte.
+#[inline(always)]
+fn is_word(b: u8) -> bool
+    ensures { result ≡ is_word b }
+{
+    bytes()[b as usize] == 1
+}
+
+// Whether a symbol that does not begin with `#` goes on with a byte.
+#[inline(always)]
+fn is_second(b: u8) -> bool
+    ensures { result ≡ spec.is_second b }
+{
+    bytes()[b as usize] == 2
+}
+
+/// Whether a byte is white space.
+#[inline(always)]
+pub fn is_space(b: u8) -> bool
+    ensures { result ≡ spec.is_space b }
+{
+    b == b' ' || (9 <= b && b <= 13)
 }
 
 /// Whether a byte is of the class.
+#[inline(always)]
 pub fn is_in(class: Class, b: u8) -> bool
     ensures { result ≡ spec.is_in class b }
 {
     match class {
-        Class::Word => b.is_ascii_alphanumeric() || b == b'_',
+        Class::Word => is_word(b),
         Class::Digit => b.is_ascii_digit(),
         Class::Figure => b.is_ascii_digit() || b == b'_',
         Class::Line => !(b == b'\n'),
         Class::Continuation => 128 <= b && b < 192,
         Class::Hexadecimal => b.is_ascii_hexdigit(),
         Class::Hash => b == b'#',
+        Class::Second => is_second(b),
     }
 }
 

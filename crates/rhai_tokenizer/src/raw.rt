@@ -19,6 +19,7 @@ pub struct RawString {
 }
 
 // The end of a raw string with these `#` stands here.
+#[inline(always)]
 fn ends(hashes: &[u8], z: &[u8]) -> bool
     ensures { result ≡ begins_with (34 ∷ hashes.now) z.now }
 {

@@ -1,7 +1,6 @@
 //! What stands in a string where a byte does not stand for itself.
 
 ghost use Rattle.std.specs.Prelude.{◌≡◌, ◌+◌, ◌*◌, min, ◌<◌, ◌≤◌, true, length, Some, []};
-ghost use Rattle.std.specs.Char.{digit_value};
 ghost use Rattle.rhai_tokenizer.specs.Bytes.{begins, is_line_feed};
 ghost use Rattle.rhai_tokenizer.specs.Places.{past};
 ghost use Rattle.rhai_tokenizer.specs.Strings as strings;
@@ -10,6 +9,7 @@ ghost use Rattle.rhai_tokenizer.specs.StringTurns.{Ends};
 
 use crate::class::Class;
 use crate::lexer::{begins, run_len};
+use crate::number::radix_of;
 
 /// How a string is written.
 #[derive(Clone, Copy, Debug)]
@@ -94,25 +94,17 @@ fn digits_after(marker: u8) -> usize
     }
 }
 
-fn with_digit(value: u32, digit: u8) -> u32
-    requires { value ≤ spec.past_characters }
-    ensures value { result ≡ min spec.past_characters (value * 16 + digit_value digit) }
-    ensures within { result ≤ spec.past_characters }
-{
-    let next = value * 16 + crate::class::digit(digit) as u32;
-    if next < 0x11_0000 { next } else { 0x11_0000 }
-}
-
 // The value of digits, or a number past all characters.
 fn hex_value(digits: &[u8]) -> u32
-    ensures value { result ≡ min spec.past_characters (strings.hex_value 0 digits.now) }
+    ensures value { result ≡ min spec.past_characters (strings.hex_value digits.now) }
     ensures within { result ≤ spec.past_characters }
 {
-    let mut value = 0;
-    for digit in digits {
-        value = with_digit(value, *digit);
+    let value = radix_of(16, digits);
+    if value < 0x11_0000 {
+        value as u32
+    } else {
+        0x11_0000
     }
-    value
 }
 
 // How many bytes at the front are hexadecimal digits, up to so many.

@@ -4,13 +4,14 @@ ghost use Rattle.std.specs.Prelude.{◌≡◌, ◌&&◌, ◌<◌, true, Some, co
 ghost use Rattle.std.specs.Rc.{rc_str_bytes};
 ghost use Rattle.rhai_lower.specs.Entries.{token_may_be_delivered};
 ghost use Rattle.rhai_lower.specs.Lexemes.{Interpolated, String, UnterminatedString, lexeme};
-ghost use Rattle.rhai_tokenizer.specs.Meanings.{ticked_lexeme, unless_faulty, within};
+ghost use Rattle.rhai_tokenizer.specs.Meanings.{string_lexeme, unless_faulty, within};
 ghost use Rattle.rhai_tokenizer.specs.Strings.{escapes};
 ghost use Rattle.rhai_tokenizer.specs.Symbols.{improper};
 ghost use Rattle.rhai_tokenizer.specs.StringTurns.{fault_of};
 ghost use Rattle.rhai_tokenizer.specs.Turns.{quoted_of};
 
 use crate::character::character_token;
+use crate::interner::Interner;
 use crate::limits::Limits;
 use crate::place::Place;
 use crate::special::Style;
@@ -20,6 +21,7 @@ use std::alloc::{AllocError, Global};
 use std::rc::{Rc, RcStr};
 
 // Whether a string of this value is too long.
+#[inline(always)]
 fn is_too_long(limits: Limits, value: &str) -> bool
     ensures { result ≡ (nat_lt 0 limits.max_string_size && nat_lt limits.max_string_size (length value.now)) }
 {
@@ -27,46 +29,62 @@ fn is_too_long(limits: Limits, value: &str) -> bool
 }
 
 /// The token of a string of this value. Returns `AllocError` if memory runs out.
-pub fn string_token(alloc: Global, limits: Limits, value: &str) -> Result<Token, AllocError>
+#[inline(always)]
+pub fn string_token(
+    alloc: Global,
+    names: &mut Interner,
+    limits: Limits,
+    value: &str,
+) -> Result<Token, AllocError>
     ensures value { IfOk result (λ t. lexeme t ≡ within limits String value.now) }
     ensures delivered { IfOk result (λ t. token_may_be_delivered t ≡ true) }
 {
     if is_too_long(limits, value) {
         return Ok(Token::LexError(LexError::StringTooLong(limits.max_string_size)));
     }
-    Ok(Token::StringConstant(RcStr::from_str(alloc, value)?))
+    Ok(Token::StringConstant(names.name(alloc, value)?))
 }
 
-fn interpolated_token(alloc: Global, limits: Limits, value: &str) -> Result<Token, AllocError>
+#[inline(always)]
+fn interpolated_token(
+    alloc: Global,
+    names: &mut Interner,
+    limits: Limits,
+    value: &str,
+) -> Result<Token, AllocError>
     ensures value { IfOk result (λ t. lexeme t ≡ within limits Interpolated value.now) }
     ensures delivered { IfOk result (λ t. token_may_be_delivered t ≡ true) }
 {
     if is_too_long(limits, value) {
         return Ok(Token::LexError(LexError::StringTooLong(limits.max_string_size)));
     }
-    Ok(Token::InterpolatedString(RcStr::from_str(alloc, value)?))
+    Ok(Token::InterpolatedString(names.name(alloc, value)?))
 }
 
 /// The token of a part of a back-ticked string. Returns `AllocError` if memory runs out.
+#[inline(always)]
 pub fn ticked_token(
     alloc: Global,
+    names: &mut Interner,
     limits: Limits,
     value: &str,
     ending: Ending,
 ) -> Result<Token, AllocError>
-    ensures value { IfOk result (λ t. lexeme t ≡ ticked_lexeme limits value.now ending) }
+    ensures value { IfOk result (λ t. lexeme t ≡ string_lexeme limits value.now ending) }
     ensures delivered { IfOk result (λ t. token_may_be_delivered t ≡ true) }
 {
     match ending {
-        Ending::Closed => string_token(alloc, limits, value),
-        Ending::Interpolates => interpolated_token(alloc, limits, value),
+        Ending::Closed => string_token(alloc, names, limits, value),
+        Ending::Interpolates => interpolated_token(alloc, names, limits, value),
         Ending::Unended => Ok(Token::LexError(LexError::UnterminatedString)),
     }
 }
 
 // The token of a string or a character without wrong escapes.
+#[inline(always)]
 fn quoted_token(
     alloc: Global,
+    names: &mut Interner,
     limits: Limits,
     style: Style,
     value: &str,
@@ -77,16 +95,12 @@ fn quoted_token(
 {
     match style {
         Style::Apostrophe => character_token(alloc, value, ending),
-        _ => match ending {
-            Ending::Closed => string_token(alloc, limits, value),
-            Ending::Unended | Ending::Interpolates => {
-                Ok(Token::LexError(LexError::UnterminatedString))
-            }
-        },
+        _ => ticked_token(alloc, names, limits, value, ending),
     }
 }
 
 // The error of a wrong escape.
+#[inline(never)]
 fn wrong_escape(alloc: Global, text: RcStr) -> Result<Token, AllocError>
     ensures value { IfOk result (λ t. lexeme t ≡ improper (rc_str_bytes text) (codes "not a valid escape sequence")) }
     ensures delivered { IfOk result (λ t. token_may_be_delivered t ≡ true) }
@@ -96,8 +110,10 @@ fn wrong_escape(alloc: Global, text: RcStr) -> Result<Token, AllocError>
 }
 
 /// The token of a string or a character, and where it stands. Returns `AllocError` if memory runs out.
+#[inline(always)]
 pub fn faulty_or(
     alloc: Global,
+    names: &mut Interner,
     limits: Limits,
     style: Style,
     place: Place,
@@ -111,6 +127,9 @@ pub fn faulty_or(
 {
     match fault {
         Some(Fault { text, place }) => Ok((wrong_escape(alloc, text)?, place)),
-        None => Ok((quoted_token(alloc, limits, style, value, ending)?, place)),
+        None => Ok((
+            quoted_token(alloc, names, limits, style, value, ending)?,
+            place,
+        )),
     }
 }

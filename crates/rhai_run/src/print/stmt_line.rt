@@ -2,8 +2,8 @@
 
 use crate::escape::Escaped;
 use crate::literal::print_literal;
-use crate::print::fields::{Optional, indent, mark, offset, print_ident};
-use rhai_lower::{ForLoop, Ident, Position, RangeCase, Stmt, SwitchCase, Token};
+use crate::print::fields::{Optional, mark, offset, print_ident};
+use rhai_lower::{ForLoop, Ident, Position, RangeCase, Stmt, StmtBlock, SwitchCase, Token};
 use std::alloc::AllocError;
 use std::num::NonZeroUsize;
 
@@ -45,10 +45,17 @@ fn var_marks(constant: bool, exported: bool) -> (&'static str, &'static str) {
     (mark("CONSTANT", constant), mark("EXPORTED", exported))
 }
 
-/// The line of a statement. An empty statement has none, and a block prints its own.
+/// The line of a block.
+pub fn print_block_line(text: &mut String, block: &StmtBlock) -> Result<(), AllocError> {
+    let (start, end) = (block.start, block.end);
+    writeln!(text, "Block {start} {end}")
+}
+
+/// The line of a statement. An empty statement has none.
 pub fn print_statement_line(text: &mut String, statement: &Stmt) -> Result<(), AllocError> {
     match statement {
-        Stmt::Noop(_) | Stmt::Block(_) => Ok(()),
+        Stmt::Noop(_) => Ok(()),
+        Stmt::Block(block) => print_block_line(text, block),
         Stmt::If(_, pos) => writeln!(text, "If {pos}"),
         Stmt::Switch { cases, pos, .. } => {
             writeln!(text, "Switch {pos} {}", Optional(cases.def_case))
@@ -88,19 +95,11 @@ pub fn print_statement_line(text: &mut String, statement: &Stmt) -> Result<(), A
     }
 }
 
-/// A line for each literal that leads to arms, with the numbers of these arms.
-pub fn print_cases(
-    text: &mut String,
-    depth: usize,
-    cases: &[SwitchCase],
-) -> Result<(), AllocError> {
-    for case in cases {
-        indent(text, depth)?;
-        text.push_str("Case ")?;
-        print_literal(text, &case.value)?;
-        print_indices(text, &case.indices)?;
-    }
-    Ok(())
+/// The line of a literal that leads to arms of a `switch`, with the numbers of these arms.
+pub fn print_case_line(text: &mut String, case: &SwitchCase) -> Result<(), AllocError> {
+    text.push_str("Case ")?;
+    print_literal(text, &case.value)?;
+    print_indices(text, &case.indices)
 }
 
 fn print_indices(text: &mut String, indices: &[usize]) -> Result<(), AllocError> {
@@ -110,17 +109,9 @@ fn print_indices(text: &mut String, indices: &[usize]) -> Result<(), AllocError>
     text.push_str("\n")
 }
 
-/// A line for each range that leads to an arm.
-pub fn print_ranges(
-    text: &mut String,
-    depth: usize,
-    ranges: &[RangeCase],
-) -> Result<(), AllocError> {
-    for range in ranges {
-        indent(text, depth)?;
-        let operator = if range.is_inclusive { "..=" } else { ".." };
-        let (first, last, index) = (range.first, range.last, range.index);
-        writeln!(text, "Range {operator} {first} {last} {index}")?;
-    }
-    Ok(())
+/// The line of a range that leads to an arm of a `switch`.
+pub fn print_range_line(text: &mut String, range: &RangeCase) -> Result<(), AllocError> {
+    let operator = if range.is_inclusive { "..=" } else { ".." };
+    let (first, last, index) = (range.first, range.last, range.index);
+    writeln!(text, "Range {operator} {first} {last} {index}")
 }

@@ -16,8 +16,12 @@ use Rattle.rhai_script.proofs.script.compile_with.Goals as goal
 pub returns-in_err-input-clause-reads : goal.returns-in_err-input-clause-reads
 returns-in_err-input-clause-reads g c =
     let is : c.from_residual.result ≡ Err no_memory = search rules in
-    subst (ReadsTextAsAst (g.O.Optimizer.makes c.args.optimizer.now) c.args.engine.now c.args.constants c.args.level c.args.limits c.args.text.now) (sym is)
-    (no_script (g.O.Optimizer.makes c.args.optimizer.now) c.args.engine.now c.args.constants c.args.level c.args.limits c.args.text.now)
+    subst (ReadsTextAsAst
+    (g.O.Optimizer.makes c.args.optimizer.now) c.args.engine.now c.args.constants c.args.level c.args.limits
+    c.args.text.now) (sym is)
+    (no_script
+    (g.O.Optimizer.makes c.args.optimizer.now) c.args.engine.now c.args.constants c.args.level c.args.limits
+    c.args.text.now)
 
 pub returns-clause-reads : goal.returns-clause-reads
 returns-clause-reads g c =
@@ -26,7 +30,8 @@ returns-clause-reads g c =
     let e = c.new-state.ensures in
     let input : c.new-state.result.input.now ≡ c.in_ok-input.input = search rules in
     let lib : c.new-state.result.lib.now.entries ≡ [] = search rules in
-    let new : IsNew c.new-state.result (stream_of (map ask_of tokens.entries.items) tokens.end) c.args.constants = record {
+    let new : IsNew c.new-state.result (stream_of
+    (map ask_of tokens.entries.items) tokens.end) [] c.args.constants = record {
       input = input ∙ given.is;
       lib = lib;
       counts = e.counts;
@@ -40,8 +45,14 @@ returns-clause-reads g c =
       global_imports = e.global_imports;
     } in
     let state = c.new-state.result in
-    let read = c.parse_with.ensures.reads (fresh state (map ask_of tokens.entries.items) tokens.end c.args.constants new) in
-    a_script (g.O.Optimizer.makes c.args.optimizer.now) c.args.engine.now c.args.constants c.args.level c.args.limits c.args.text.now c.parse_with.result _
-    (text_parsed scripts (λ after k w fs script. IsMadeOf (g.O.Optimizer.makes c.args.optimizer.now) k c.args.level (statement_trees fs w) after script)
-    refusals_stand_at_tokens.script_named c.args.engine.now (script_settings c.args.engine.now) (script_settings c.args.engine.now) state c.args.constants c.args.limits c.args.text.now c.parse_with.result tokens _ _ given.reads refl new read c.parse_with.ensures.memory)
-    (stays_orderly c.args.engine.now state (stream_of (map ask_of tokens.entries.items) tokens.end) c.args.constants _ new c.parse_with.ensures.orderly)
+    let read = c.parse_with.ensures.reads (fresh state (stream_of
+    (map ask_of tokens.entries.items) tokens.end) [] c.args.constants new refl) in
+    a_script (g.O.Optimizer.makes c.args.optimizer.now) c.args.engine.now c.args.constants c.args.level c.args.limits
+    c.args.text.now c.parse_with.result _
+    (text_parsed scripts (λ after k w fs script. IsMadeOf (g.O.Optimizer.makes c.args.optimizer.now) k c.args.level
+    (statement_trees fs w) after script)
+    refusals_stand_at_tokens.script_named c.args.engine.now (script_settings c.args.engine.now)
+    (script_settings c.args.engine.now) state c.args.constants c.args.limits c.args.text.now c.parse_with.result
+    tokens _ _ given.reads refl new read c.parse_with.ensures.memory)
+    (stays_orderly c.args.engine.now state (stream_of
+    (map ask_of tokens.entries.items) tokens.end) c.args.constants _ new c.parse_with.ensures.orderly)

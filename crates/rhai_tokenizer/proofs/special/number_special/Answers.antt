@@ -1,4 +1,4 @@
-use Rattle.rhai_tokenizer.proofs.StringTurnLemmas.{number_coded}
+use Rattle.rhai_tokenizer.proofs.EscapeLemmas.{number_coded}
 use Rattle.rhai_tokenizer.proofs.special.number_special.Goals as goal
 
 pub returns-then-k-n : goal.returns-then-k-n

@@ -1,0 +1,20 @@
+//! JSON of trees, tokens, names and refusals. docs/JSON.md describes it.
+#![tactic(auto)]
+
+mod cases;
+mod diagnostic;
+mod errors;
+mod expr;
+mod fields;
+mod names;
+mod out;
+mod printer;
+mod stmt;
+mod token_kind;
+mod tokens;
+mod tree;
+
+pub use diagnostic::{Diagnostic, diagnostic_json, span_at};
+pub use names::names_json;
+pub use tokens::tokens_json;
+pub use tree::tree_json;

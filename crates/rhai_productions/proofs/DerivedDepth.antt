@@ -1,0 +1,39 @@
+-- After acceptance readers were nested at least as deeply as the form is deep.
+use Rattle.std.proofs.Common.{◌≡◌, ℕ, ◌+◌, ◌≤◌, max, inr, refl, subst, arith}
+use Rattle.rhai_grammar.specs.Prelude.{IsWritten, Nothing}
+use Rattle.rhai_reading.specs.Nesting.{Nesting}
+use Rattle.rhai_reading.specs.Reading.{Goal, Val, body}
+use Rattle.rhai_reading.specs.Running.{Done, Progress, result_of}
+use Rattle.rhai_reading.proofs.Dives.{Dives, High, above_less, dives_result, goes_above}
+use Rattle.rhai_reading.proofs.DepthMain.{NestsAtLeast}
+use Rattle.rhai_reading.proofs.Grows.{Goes}
+use Rattle.rhai_reading.proofs.Main.{IsNew, begun, begun_at, from}
+use Rattle.rhai_reading.proofs.Rules.{at}
+use Rattle.rhai_productions.specs.Derived as D
+use Rattle.rhai_productions.specs.Rules.{production}
+use Rattle.rhai_productions.specs.Promised.{Written, written}
+use Rattle.rhai_productions.specs.Agreement.{histories, runs}
+use Rattle.rhai_productions.proofs.DerivedComplete.{complete}
+use Rattle.rhai_productions.proofs.Lawful.{lawful, runs_lawful}
+use Rattle.rhai_productions.proofs.Same.{same}
+
+module _ (g : Goal) (s : Progress) (new : IsNew s) (f : Written g)
+    (fits : IsWritten (written g) f s.library s.cursor) where
+  deep : Dives (λ z. max (D.depth production f.1) z) (body g) (at (from s) s.cursor.peeked)
+  deep = (complete production (same histories lawful) (same runs runs_lawful) f.1 Nothing
+      (from s) fits.0 s.cursor.peeked fits.1).runs.dives
+
+  result_high : (n : Nesting) (a : ℕ) → Goes a n → High (a + max (D.depth production f.1) 0)
+      (result_of g (record s { nesting = n }))
+  result_high n a go =
+      dives_result g (begun s) (λ z. max (D.depth production f.1) z)
+      (subst (Dives (λ z. max (D.depth production f.1) z) (body g)) (begun_at s new) deep)
+      (record s { nesting = n }) a 0 refl go (goes_above a n go)
+
+  pub nests : (left : Progress) (x : Val g) → s.nesting.active ≤ s.nesting.peak → result_of g s ≡ Done x left
+      → NestsAtLeast (D.depth production f.1) s.nesting left.nesting
+  nests left x le e =
+      above_less (s.nesting.active + D.depth production f.1) (s.nesting.active + max (D.depth production f.1) 0)
+      left.nesting (omega arith)
+      (subst (High (s.nesting.active + max (D.depth production f.1) 0)) e
+      (result_high s.nesting s.nesting.active (inr (omega (arith, le)))))

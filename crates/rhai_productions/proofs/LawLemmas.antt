@@ -1,0 +1,98 @@
+-- The laws of productions, from what is shown of all goals at once.
+use Rattle.std.proofs.Common.{◌≡◌, suc, false, refl, ap, subst, arith, Ok, Err}
+use Rattle.rhai_grammar.specs.Causes.{cause_of, is_memory_cause, is_memory_kind}
+use Rattle.rhai_grammar.specs.Delivered.{Point}
+use Rattle.rhai_grammar.specs.Demands.{Demands, Met, Missed}
+use Rattle.rhai_grammar.specs.Prelude.{StandsAtLast}
+use Rattle.rhai_grammar.specs.declared.error.ParseErrorType.{ParseErrorType}
+use Rattle.rhai_grammar.specs.declared.error.ParseErrorType.TheVariants as error
+use Rattle.rhai_reading.specs.Histories.{State, Outcome}
+use Rattle.rhai_reading.specs.Reading.{Goal, Val, Whole, Script}
+use Rattle.rhai_reading.proofs.Joins.{cursor}
+use Rattle.rhai_reading.proofs.Main as M
+use Rattle.rhai_reading.proofs.Reaches.{reached_end}
+use Rattle.rhai_reading.proofs.Rules.{at}
+use Rattle.rhai_reading.proofs.Shows as S
+use Rattle.rhai_productions.specs.Agreement.{histories, runs}
+use Rattle.rhai_productions.specs.Laws.{EntriesArePromised, FormsAgree, FormsAreComplete, FormsAreSound}
+use Rattle.rhai_productions.specs.Laws.{FormsHaveOneTree, FormsNestReaders, IsPromised, ProductionsAreRead}
+use Rattle.rhai_productions.specs.Promised.{Written, written, tree_of, Unwritten, unwritten}
+use Rattle.rhai_productions.specs.Rules.{production}
+use Rattle.rhai_productions.proofs.DerivedComplete.{complete}
+use Rattle.rhai_productions.proofs.DerivedDepth.{nests}
+use Rattle.rhai_productions.proofs.DerivedMain.{Entry, expression_entry, script_entry, reads_done, reads_fails}
+use Rattle.rhai_productions.proofs.DerivedMain.{runs_once, sound_goal, of_forms}
+use Rattle.rhai_productions.proofs.Lawful.{lawful, runs_lawful}
+use Rattle.rhai_productions.proofs.Same.{equally, same}
+
+pub productions_are_read : ProductionsAreRead
+productions_are_read = record { equal = equally; in_histories = same histories lawful; in_runs = same runs runs_lawful }
+
+-- ---- sound and complete
+
+-- what is known of what a goal comes to
+abbrev Told : (g : Goal) → Point → Outcome (Val g) → Type 0
+Told g s o = S.Ensures (λ x t. (f : Written g) × (tree_of g f ≡ x) × Met (written g f) s t)
+    (λ e u. (f : Unwritten g) × Missed (unwritten g f) s e u.mode u.point × StandsAtLast e (cursor u)) o
+
+pub forms_are_sound : FormsAreSound
+forms_are_sound = record {
+  mode = λ g n s looked x t e. (subst (Told g s) e (sound_goal n g s looked)).0;
+  given = λ g n s looked x t e. (subst (Told g s) e (sound_goal n g s looked)).1;
+  refused = λ g n s looked e t is other. subst (Told g s) is (sound_goal n g s looked) other;
+}
+
+pub forms_are_complete : FormsAreComplete
+forms_are_complete g f s t looked met =
+    let r = reached_end (complete production (same histories lawful) (same runs runs_lawful) f.1 _ s t looked met) in
+    (r.0, r.1.runs)
+
+pub forms_have_one_tree : FormsHaveOneTree
+forms_have_one_tree g f h s t u met also =
+    let a = forms_are_complete g f s t false met in
+    let b = forms_are_complete g h s u false also in
+    let same = runs_once a.1 b.1 in
+    let end : at t a.0 ≡ at u b.0 = cc in
+    (cc, ap (λ (v : State). v.point) end)
+
+-- ---- forms of both kinds
+
+-- where a form of one kind is met, one of the other is so, if both are read for one goal
+across : {F G O P : Type 0} {g : Goal} {whole : F → Demands} {other : G → Demands} {stopping : O → Demands}
+    {ending : P → Demands} {here : F → Val g} {there : G → Val g} → Entry g whole stopping here
+    → Entry g other ending there → (f : F) (s t : Point) → Met (whole f) s t
+    → (h : G) × (there h ≡ here f) × Met (other h) s t
+across A B f s t met =
+    let c = A.complete f s t false met in
+    let r = subst (S.Ensures _ _) (c.1.same c.1.depth (omega arith)) (B.sound (suc c.1.depth) s false) in
+    r.1
+
+pub forms_agree : FormsAgree
+forms_agree = record {
+  expression = λ c w. across (of_forms (M.expression_entry c w)) (expression_entry c w);
+  expression_back = λ c w. across (expression_entry c w) (of_forms (M.expression_entry c w));
+  script = λ c w. across (of_forms (M.script_entry c w)) (script_entry c w);
+  script_back = λ c w. across (script_entry c w) (of_forms (M.script_entry c w));
+}
+
+-- ---- nesting, and the promise
+
+pub forms_nest_readers : FormsNestReaders
+forms_nest_readers g f s left x mode captured fits =
+    nests g s (record { mode = mode; captured = captured }) f fits left x
+
+memory_cause : (k : ParseErrorType) → is_memory_cause (cause_of k) ≡ is_memory_kind k
+memory_cause error.OutOfMemory = refl
+memory_cause _ = refl
+
+promised : (g : Goal) → Entry g (written g) (unwritten g) (tree_of g) → IsPromised g
+promised g E s left (Ok x) mode captured gives =
+    reads_done E _ s left x (Ok x) (record { mode = mode; captured = captured }) gives tt (λ f is. is)
+promised g E s left (Err e) mode captured gives =
+    reads_fails E _ s left e (memory_cause e.0) (record { mode = mode; captured = captured }) gives
+
+pub entries_are_promised : EntriesArePromised
+entries_are_promised = record {
+  expression = λ c w. promised (Whole c w) (expression_entry c w);
+  script = λ c w. promised (Script c w) (script_entry c w);
+}

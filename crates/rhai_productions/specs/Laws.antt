@@ -1,0 +1,111 @@
+-- Laws of the productions and their forms: how they are read.
+use Rattle.std.specs.Prelude.{◌≡◌, ◌⊎◌, ◌≤◌, ◌+◌, ◌-◌, ◌^◌, ℕ, Bool, false, [], Result}
+use Rattle.rhai_grammar.specs.Causes.{Refusal, is_memory_cause}
+use Rattle.rhai_grammar.specs.Contexts.{Context, Live}
+use Rattle.rhai_grammar.specs.Cursors.{Cursor}
+use Rattle.rhai_grammar.specs.Definitions.{after_statements}
+use Rattle.rhai_grammar.specs.Delivered.{Point, code}
+use Rattle.rhai_grammar.specs.Demands.{Met, Missed}
+use Rattle.rhai_grammar.specs.Forms.{Run, Statements}
+use Rattle.rhai_grammar.specs.Promises.{IsWritten, expressions, scripts}
+use Rattle.rhai_grammar.specs.Seen.{StandsAtLast}
+use Rattle.rhai_grammar.specs.Trees.{statement_trees, tree}
+use Rattle.rhai_grammar.specs.declared.error.ParseError.{ParseError}
+use Rattle.rhai_reading.specs.Histories.{State, Done, Refused, Runs, calls}
+use Rattle.rhai_reading.specs.Nesting.{Nesting}
+use Rattle.rhai_reading.specs.Reading.{Goal, Val, Whole, Script, body}
+use Rattle.rhai_reading.specs.Running as running
+use Rattle.rhai_reading.specs.Running.{Gives, Progress, result_of}
+use Rattle.rhai_productions.specs.Agreement.{Agrees, histories, looks_twice, runs}
+use Rattle.rhai_productions.specs.Derived as derived
+use Rattle.rhai_productions.specs.Promised.{ReadsWhole, Written, written, tree_of, Unwritten, unwritten}
+use Rattle.rhai_productions.specs.Rules.{production}
+use Rattle.rhai_productions.specs.Schema.{run}
+
+-- The reader of each production is the term that the reading program has for its goal, but where that looks twice at
+-- one
+-- token. There, as elsewhere, both do the same, in both ways in which programs are run.
+pub record ProductionsAreRead : Type 0 where
+  pub equal : (g : Goal) → looks_twice g ≡ false → run (production g) ≡ body g
+  pub in_histories : (g : Goal) → Agrees histories (run (production g)) (body g)
+  pub in_runs : (g : Goal) → Agrees runs (run (production g)) (body g)
+
+-- ---- sound and complete
+
+-- a point at which the next request is one in code mode; the flag says whether its token was looked at
+abbrev pub state_at : Point → Bool → State
+state_at s looked = record { point = s; mode = code; peeked = looked }
+
+-- what is left of the stream
+abbrev pub cursor_of : State → Cursor
+cursor_of t = record { tokens = t.point.tokens; mode = t.mode; peeked = t.peeked }
+
+-- What is read for a goal, by calls that are at most n deep: what is given is the tree of a form that is met on the
+-- way, up to where the stream is left. A refusal, unless memory ran out, comes with an open form that misses its last
+-- demand where the stream is left, and has that demand's cause and position.
+pub record FormsAreSound : Type 0 where
+  pub mode : (g : Goal) (n : ℕ) (s : Point) (looked : Bool) (x : Val g) (t : State)
+      → calls n g (state_at s looked) ≡ Done x t → t.mode ≡ code
+  pub given : (g : Goal) (n : ℕ) (s : Point) (looked : Bool) (x : Val g) (t : State)
+      → calls n g (state_at s looked) ≡ Done x t
+      → (f : Written g) × (tree_of g f ≡ x) × Met (written g f) s t.point
+  pub refused : (g : Goal) (n : ℕ) (s : Point) (looked : Bool) (e : Refusal) (t : State)
+      → calls n g (state_at s looked) ≡ Refused e t → is_memory_cause e.cause ≡ false
+      → (f : Unwritten g) × Missed (unwritten g f) s e t.mode t.point × StandsAtLast e (cursor_of t)
+
+-- Where a form of a goal is met, its tree is given.
+abbrev pub FormsAreComplete : Type 0
+FormsAreComplete =
+    (g : Goal) (f : Written g) (s t : Point) (looked : Bool) → Met (written g f) s t
+    → (after : Bool) × Runs (body g) (state_at s looked) (Done (tree_of g f) (state_at t after))
+
+-- Two forms of a goal that are met from one point on have one tree, and are met up to one point.
+abbrev pub FormsHaveOneTree : Type 0
+FormsHaveOneTree =
+    (g : Goal) (f h : Written g) (s t u : Point) → Met (written g f) s t → Met (written g h) s u
+    → (tree_of g f ≡ tree_of g h) × (t ≡ u)
+
+-- Where an expression or a script is written by a form of one kind, it is so by one of the other, with the same tree:
+-- the forms that follow from productions, and those of `rhai_grammar`.
+pub record FormsAgree : Type 0 where
+  pub expression : (context : Context) (live : Live) (f : Run) (s t : Point) → Met (expressions context live f) s t
+      → (h : Written (Whole context live)) × (tree_of (Whole context live) h ≡ tree f live)
+      × Met (written (Whole context live) h) s t
+  pub expression_back : (context : Context) (live : Live) (h : Written (Whole context live)) (s t : Point)
+      → Met (written (Whole context live) h) s t
+      → (f : Run) × (tree f live ≡ tree_of (Whole context live) h) × Met (expressions context live f) s t
+  pub script : (context : Context) (live : Live) (fs : Statements) (s t : Point) → Met (scripts context live fs) s t
+      → (h : Written (Script context live))
+      × (tree_of (Script context live) h ≡ (statement_trees fs live, after_statements fs live))
+      × Met (written (Script context live) h) s t
+  pub script_back : (context : Context) (live : Live) (h : Written (Script context live)) (s t : Point)
+      → Met (written (Script context live) h) s t
+      → (fs : Statements) × ((statement_trees fs live, after_statements fs live) ≡ tree_of (Script context live) h)
+      × Met (scripts context live fs) s t
+
+-- ---- how deeply readers are nested
+
+-- The peak is at least so many readers above those that were active before, or it is the greatest number that there is.
+abbrev pub NestsAtLeast : ℕ → (before after : Nesting) → Type 0
+NestsAtLeast depth before after = (2 ^ 64 - 1 ≤ after.peak) ⊎ (before.active + depth ≤ after.peak)
+
+-- After a form was read from a new state, its readers were nested at least as deeply as the form is deep.
+abbrev pub FormsNestReaders : Type 0
+FormsNestReaders =
+    (g : Goal) (f : Written g) (s left : Progress) (x : Val g) → s.cursor.mode ≡ code → s.captured ≡ []
+    → IsWritten (written g) f s.library s.cursor → s.nesting.active ≤ s.nesting.peak
+    → result_of g s ≡ running.Done x left → NestsAtLeast (derived.depth production f.1) s.nesting left.nesting
+
+-- ---- the promise
+
+-- What the parser promises holds of what is read for a goal, in terms of forms that follow from productions.
+abbrev pub IsPromised : Goal → Type 0
+IsPromised g =
+    (s left : Progress) (result : Result (Val g) ParseError) → s.cursor.mode ≡ code → s.captured ≡ []
+    → Gives (λ x. x) (result_of g s) result left
+    → ReadsWhole (written g) (unwritten g) (λ f x. tree_of g f ≡ x) s.library left.library s.cursor left.cursor result
+
+-- So it is for whole expressions and for scripts.
+pub record EntriesArePromised : Type 0 where
+  pub expression : (context : Context) (live : Live) → IsPromised (Whole context live)
+  pub script : (context : Context) (live : Live) → IsPromised (Script context live)

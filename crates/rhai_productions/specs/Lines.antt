@@ -1,0 +1,130 @@
+-- What a line of tokens is read as, by a tree or a refusal: worked rows without written forms. Each line in the files
+-- `LinesOf..` is a case of `tests/cases/`, and its answer is what is expected there.
+use Rattle.std.specs.Prelude.{◌≡◌, ℕ, Bool, Option, None, List, [], length}
+use Rattle.rhai_lower.specs.Lexemes.{Lexeme}
+use Rattle.rhai_lower.specs.Nodes as node
+use Rattle.rhai_lower.specs.Positions.{place}
+use Rattle.rhai_lower.specs.Texts.{Text}
+use Rattle.rhai_lower.specs.declared.position.Position.{Position}
+use Rattle.rhai_grammar.specs.Causes.{Cause, refusal}
+use Rattle.rhai_grammar.specs.Contexts.{Context, nothing_known, nothing_live}
+use Rattle.rhai_grammar.specs.Delivered.{Ends, Mode, Point}
+use Rattle.rhai_grammar.specs.Demands.{Met, Missed}
+use Rattle.rhai_grammar.specs.Libraries.{Ended, Library}
+use Rattle.rhai_grammar.specs.Rows.{unread}
+use Rattle.rhai_grammar.specs.RowsOfEntries.{any_functions}
+use Rattle.rhai_grammar.specs.Trees.{function_called}
+use Rattle.rhai_grammar.specs.declared.filter.ExprFilter.TheVariants.{All}
+use Rattle.rhai_reading.specs.Reading.{Goal, Whole, Script}
+use Rattle.rhai_productions.specs.Promised.{Written, written, tree_of, Unwritten, unwritten}
+
+-- ---- what is read
+
+-- The options and limits of an engine in a fresh state: its options, and those of an expression alone, which allow no
+-- blocks and loops as operands.
+pub record Engine : Type 0 where
+  pub options : ℕ
+  pub for_expressions : ℕ
+  pub depth : ℕ
+  pub function_depth : ℕ
+  pub functions : ℕ
+  pub array : ℕ
+  pub map : ℕ
+
+-- a new engine
+abbrev pub new_engine : Engine
+new_engine = record {
+  options = 191;
+  for_expressions = 179;
+  depth = 64;
+  function_depth = 32;
+  functions = any_functions;
+  array = 0;
+  map = 0;
+}
+
+abbrev context_of : Engine → (flags options : ℕ) → Context
+context_of e flags options = record {
+  settings = record { flags = flags; options = options; level = 0; limit = e.depth };
+  options = e.options;
+  sizes = record { array = e.array; map = e.map; function_depth = e.function_depth; functions = e.functions };
+  filter = All;
+  known = nothing_known;
+  begun = 0;
+}
+
+-- what an engine reads at its two entries: one expression, and a script
+abbrev pub expression_by : Engine → Goal
+expression_by e = Whole (context_of e 17 e.for_expressions) nothing_live
+
+abbrev pub script_by : Engine → Goal
+script_by e = Script (context_of e 1 e.options) nothing_live
+
+-- what a new engine reads
+abbrev pub expression : Goal
+expression = expression_by new_engine
+
+abbrev pub script : Goal
+script = script_by new_engine
+
+-- ---- rows
+
+-- This line misses a demand: an open form of the goal is met up to there, and the miss has this cause, at this column.
+pub record Refuses (g : Goal) (tokens : List (Lexeme × ℕ)) (end : ℕ) (why : Cause) (column : ℕ) : Type 0 where
+  pub form : Unwritten g
+  pub mode : Mode
+  pub left : Point
+  pub missed : Missed (unwritten g form) (unread tokens end) (refusal why (place 1 column)) mode left
+
+-- This line is one expression of this tree: a form that has it fits and spells the whole line up to its end mark, and
+-- these functions and closures end in it.
+pub record IsExpression (tokens : List (Lexeme × ℕ)) (end : ℕ) (x : node.Node) (library : Library) : Type 0 where
+  pub form : Written expression
+  pub tree : tree_of expression form ≡ x
+  pub left : Point
+  pub met : Met (written expression form) (unread tokens end) left
+  pub ends : left.tokens ≡ Ends (place 1 end)
+  pub after : left.library ≡ library
+
+-- the same of a script, and of its statements
+pub record IsScript (tokens : List (Lexeme × ℕ)) (end : ℕ) (xs : node.Statements) (library : Library) : Type 0 where
+  pub form : Written script
+  pub trees : (tree_of script form).0 ≡ xs
+  pub left : Point
+  pub met : Met (written script form) (unread tokens end) left
+  pub ends : left.tokens ≡ Ends (place 1 end)
+  pub after : left.library ≡ library
+
+-- ---- parts of trees
+
+-- a variable without a path, and the number of its slot
+abbrev pub variable : Text → (number : Option ℕ) → Position → node.Node
+variable name number at = node.variable (record {
+  number = number;
+  name = name;
+  path = [];
+  module_index = None;
+}) at
+
+-- what the call of a function without a path names
+abbrev pub function : Text → (bang : Bool) → (arguments : ℕ) → node.Called
+function name bang arguments = function_called (record {
+  number = None;
+  name = name;
+  path = [];
+  module_index = None;
+}) bang arguments
+
+-- a function or closure of these parameters, with these doc comments
+abbrev pub ended : Option Text → Text → (is_private : Bool) → (parameters comments : List Text) → node.Block → Ended
+ended this_type name is_private parameters comments body = record {
+  key = record { this_type = this_type; name = name; params = length parameters };
+  function = record {
+    this_type = this_type;
+    name = name;
+    is_private = is_private;
+    parameters = parameters;
+    comments = comments;
+    body = body;
+  };
+}

@@ -1,0 +1,25 @@
+-- Which productions stop at the last token only where that token is refused.
+use Rattle.std.specs.Prelude.{◌≡◌, ℕ, Bool, false, List}
+use Rattle.rhai_grammar.specs.Prelude.{Lexeme, Position, Use, is_at_last}
+use Rattle.rhai_reading.specs.Reading.{Val}
+use Rattle.rhai_productions.specs.Schema.{Production, Seen}
+use Rattle.rhai_productions.specs.Schema as S
+
+-- What is refused by a test is none of the errors that stand at the last token seen: it has a position of its own.
+abbrev pub Tidy : {A : Type 0} → Production A → Type 0
+Tidy (S.give x) = Unit {0}
+Tidy (S.never why) = Unit {0}
+Tidy (S.take w m k) = (l : Lexeme) (at : Position) → Tidy (k l at)
+Tidy (S.this k) = (l : Lexeme) (at : Position) → Tidy (k l at)
+Tidy (S.choose v k) = (y : Seen v) → Tidy (k y)
+Tidy (S.if_next t p q) = Tidy p × Tidy q
+Tidy (S.here k) = (at : Position) → Tidy (k at)
+Tidy (S.must b e p) = (is_at_last e.cause ≡ false) × Tidy p
+Tidy (S.knows t e p) = (is_at_last e.cause ≡ false) × Tidy p
+Tidy (S.adds f p) = Tidy p
+Tidy (S.uses v ok e c u k) = (is_at_last e.cause ≡ false) × ((b : Bool) → Tidy (k b))
+Tidy (S.captures ok e c u p) = (is_at_last e.cause ≡ false) × Tidy p
+Tidy (S.part g k) = (v : Val g) → Tidy (k v)
+Tidy (S.literal g is k) = (v : Val g) → Tidy (k v)
+Tidy (S.apart g k) = (v : Val g) (us : List Use) (n : ℕ) → Tidy (k v us n)
+Tidy (S.in_text k) = (closing : Position) (l : Lexeme) (at : Position) → Tidy (k closing l at)

@@ -1,0 +1,85 @@
+//! Laws of the forms that follow from productions, as contracts of functions that do nothing.
+
+ghost use Rattle.rhai_productions.specs.ChainForms.{ChainsAreJoined};
+ghost use Rattle.rhai_productions.specs.EventLaws.{CapturedAreFreeUses, FormsFitWhereverSpelled};
+ghost use Rattle.rhai_productions.specs.EventLaws.{FormsLeaveTheirEvents};
+ghost use Rattle.rhai_productions.specs.Numbered.{TreesAreWellNumbered};
+ghost use Rattle.rhai_productions.specs.Quiet.{NothingIsCaptured};
+ghost use Rattle.rhai_productions.specs.Rules.{production};
+ghost use Rattle.rhai_productions.specs.Runs.{ExpressionsAreRuns, RunsAreExpressions};
+ghost use Rattle.rhai_productions.specs.Shaped.{TreesKeepShape};
+ghost use Rattle.rhai_productions.specs.StreamLaws.{FormsAreFair, StreamsAreWhole};
+ghost use Rattle.rhai_productions.specs.Watched.{NamesAreCaptured};
+
+/// A form that fits is spelled by the tokens that were taken, and leaves the functions that end in it and its free
+/// uses; one that is refused leaves the first of these functions.
+#[tactic(auto, using(crate::proofs::Refusals::forms_leave_their_events))]
+pub fn forms_leave_their_events()
+    ensures { FormsLeaveTheirEvents production }
+{}
+
+/// A form that fits on one stream fits on every stream that begins with its spelling and goes on with the same token.
+#[tactic(auto, using(crate::proofs::Wherever::forms_fit_wherever_spelled))]
+pub fn forms_fit_wherever_spelled()
+    ensures { FormsFitWhereverSpelled production }
+{}
+
+/// In no form is one token both required and refused at the same place, so a form that fits is not refused.
+#[tactic(auto, using(crate::proofs::Fairness::forms_are_fair))]
+pub fn forms_are_fair()
+    ensures { FormsAreFair }
+{}
+
+/// After a form that fits and spells a delivered stream, the stream is at its end.
+#[tactic(auto, using(crate::proofs::WholeLemmas::streams_are_whole))]
+pub fn streams_are_whole()
+    ensures { StreamsAreWhole }
+{}
+
+/// What is in a closure captures its free uses, each name at its first use, and has the number of closures before it.
+#[tactic(auto, using(crate::proofs::Passing::captured_are_free_uses))]
+pub fn captured_are_free_uses()
+    ensures { CapturedAreFreeUses production }
+{}
+
+/// A name is captured exactly in a closure, where it is free and the next token does not exclude its use.
+#[tactic(auto, using(crate::proofs::Watches::names_are_captured))]
+pub fn names_are_captured()
+    ensures { NamesAreCaptured }
+{}
+
+/// Outside of closures nothing is captured.
+#[tactic(auto, using(crate::proofs::Outside::nothing_is_captured))]
+pub fn nothing_is_captured()
+    ensures { NothingIsCaptured }
+{}
+
+/// In trees of forms that fit, and in the functions that end there, every number is right.
+#[tactic(auto, using(crate::proofs::Numbers::trees_are_well_numbered))]
+pub fn trees_are_well_numbered()
+    ensures { TreesAreWellNumbered }
+{}
+
+/// Forms that are equal up to positions have trees that are equal up to positions.
+#[tactic(auto, using(crate::proofs::Shapes::trees_keep_shape))]
+pub fn trees_keep_shape()
+    ensures { TreesKeepShape }
+{}
+
+/// A chain in parentheses that goes on has the tree of the chain without them.
+#[tactic(auto, using(crate::proofs::Chains::chains_are_joined))]
+pub fn chains_are_joined()
+    ensures { ChainsAreJoined }
+{}
+
+/// What fits as an expression fits as a run, which groups operators as their strengths say, with the same tree.
+#[tactic(auto, using(crate::proofs::RunLaw::expressions_are_runs))]
+pub fn expressions_are_runs()
+    ensures { ExpressionsAreRuns }
+{}
+
+/// What fits as a run fits as an expression, with the same tree.
+#[tactic(auto, using(crate::proofs::RunsClimb::runs_are_expressions))]
+pub fn runs_are_expressions()
+    ensures { RunsAreExpressions }
+{}

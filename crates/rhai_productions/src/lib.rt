@@ -1,0 +1,6 @@
+//! What is written where, as data: productions, their readers and forms, and laws of them.
+#![tactic(auto)]
+
+pub mod form_laws;
+pub mod laws;
+pub mod lines;

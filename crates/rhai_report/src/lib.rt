@@ -1,0 +1,21 @@
+//! Reports for people: why a script is refused, the line where, and what may help.
+#![tactic(auto)]
+
+pub mod brackets;
+pub mod declared;
+pub mod line;
+pub mod mark;
+pub mod message;
+pub mod notes;
+pub mod print;
+pub mod report;
+pub mod similar;
+pub mod snippet;
+pub mod style;
+pub mod visible;
+
+pub use mark::Mark;
+pub use print::print_report;
+pub use report::{Note, Outside, Report, Source, report_of};
+pub use style::Style;
+pub use visible::push_visible;

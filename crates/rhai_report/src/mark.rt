@@ -1,0 +1,99 @@
+//! `Mark`: a place in a file, and the bytes that are underlined there.
+
+use crate::line::line_of;
+use rhai_lower::{LexError, Position, Token};
+use rhai_tokenizer::Span;
+
+/// A place in a file, and the bytes that are underlined there.
+#[derive(Clone, Copy, PartialEq, Debug)]
+pub struct Mark {
+    /// The line, counted from 1.
+    pub line: usize,
+    /// The column, in characters, counted from 1.
+    pub column: usize,
+    /// The first byte that is underlined, in the same line.
+    pub start: usize,
+    /// The byte after the last one; that of the start, if no byte is underlined.
+    pub stop: usize,
+}
+
+/// The mark of the bytes from `start` to `stop`, at the place of the byte `at`.
+pub fn mark_at(text: &str, at: usize, start: usize, stop: usize) -> Mark {
+    let line = line_of(text, at);
+    let before = text.get(line.start..at).unwrap_or("");
+    Mark {
+        line: line.number,
+        column: before.chars().count().saturating_add(1),
+        start,
+        stop,
+    }
+}
+
+// The bytes of a token in the file, in which the script begins at byte `from`.
+fn in_file(from: usize, span: Span) -> Span {
+    Span {
+        start: span.start.saturating_add(from),
+        stop: span.stop.saturating_add(from),
+    }
+}
+
+// The byte after the first line feeds of a text.
+fn after_feeds(text: &str, feeds: usize) -> Option<usize> {
+    let Some(last) = feeds.checked_sub(1) else {
+        return Some(0);
+    };
+    let (feed, _) = text.match_indices('\n').nth(last)?;
+    Some(feed.saturating_add(1))
+}
+
+// The byte of a text at which a position is. Without one, or where lines or columns are no longer counted, there is
+// none.
+fn byte_at(text: &str, pos: Position) -> Option<usize> {
+    let (line, column) = (pos.line()?, pos.column()?);
+    if line == u16::MAX || column == u16::MAX {
+        return None;
+    }
+    let start = after_feeds(text, usize::from(line.saturating_sub(1)))?;
+    let rest = text.get(start..)?;
+    let (offset, _) = rest
+        .char_indices()
+        .nth(usize::from(column.saturating_sub(1)))?;
+    Some(start.saturating_add(offset))
+}
+
+// The length of the escape that an error of a string is about; 0 for any other token.
+fn escape_len(token: Option<&Token>) -> usize {
+    match token {
+        Some(Token::LexError(LexError::ImproperSymbol(symbol))) if symbol.0.starts_with('\\') => {
+            symbol.0.len()
+        }
+        _ => 0,
+    }
+}
+
+// The mark of a wrong escape, which ends with the character at the position.
+fn escape_mark(text: &str, from: usize, span: Span, pos: Position, len: usize) -> Option<Mark> {
+    let at = byte_at(text.get(from..)?, pos)?.saturating_add(from);
+    if at <= span.start || at >= span.stop {
+        return None;
+    }
+    let spoils = text.get(at..)?.chars().next()?;
+    let stop = at.saturating_add(spoils.len_utf8());
+    let start = stop.saturating_sub(len).max(span.start);
+    Some(mark_at(text, at, start, stop))
+}
+
+/// The mark of a token: its bytes, which are `span` in the script. That of a wrong escape in a string is the escape
+/// alone, at the position `pos` of the error, which is that of the character that spoils it. `text` is the file, in
+/// which the script begins at byte `from`; without a `token` the mark is that of the end.
+pub fn mark_of(text: &str, from: usize, span: Span, pos: Position, token: Option<&Token>) -> Mark {
+    let Span { start, stop } = in_file(from, span);
+    let escape = match escape_len(token) {
+        0 => None,
+        len => escape_mark(text, from, Span { start, stop }, pos, len),
+    };
+    match escape {
+        Some(mark) => mark,
+        None => mark_at(text, start, start, stop),
+    }
+}

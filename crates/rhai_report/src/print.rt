@@ -1,0 +1,203 @@
+//! How a report is printed: a message, the line where, and notes. docs/FORMAT.md describes it.
+
+ghost use Rattle.std.specs.Prelude.{◌≡◌, ◌≤◌, ◌<◌, ◌-◌, ◌^◌};
+
+use crate::mark::Mark;
+use crate::report::{Report, Source};
+use crate::snippet::{Snippet, snippet_of};
+use crate::style::Style;
+use crate::visible::{push_as_wide, push_fill, push_visible};
+use std::alloc::AllocError;
+use unicode_width::UnicodeWidthStr;
+
+/// What stands for what was cut.
+const DOTS: &str = "...";
+
+// How a mark is printed.
+#[derive(Clone, Copy)]
+struct Look {
+    style: Style,
+    // Before what is underlined.
+    colour: &'static str,
+    // How many digits the greatest number of a line has.
+    digits: usize,
+}
+
+// How many digits a number has.
+fn digits_of(number: usize) -> usize
+    ensures fits { number < 10 ^ result }
+    ensures least { (0 < number → 10 ^ (result - 1) ≤ number) × (number ≡ 0 → result ≡ 1) }
+{
+    match number.checked_ilog10() {
+        Some(power) => usize::try_from(power).unwrap_or(0).saturating_add(1),
+        None => 1,
+    }
+}
+
+// The greatest number of a line that a report shows.
+fn greatest_line(report: &Report) -> usize {
+    let mut greatest = report.mark.map_or(0, |mark| mark.line);
+    for note in &report.notes {
+        greatest = greatest.max(note.mark.map_or(0, |mark| mark.line));
+    }
+    greatest
+}
+
+// The edge of a line: the number of a line, or blanks, and a bar.
+fn push_edge(out: &mut String, look: Look, number: Option<usize>) -> Result<(), AllocError> {
+    let Look { style, digits, .. } = look;
+    let Style { edge, plain, .. } = style;
+    out.push_str(edge)?;
+    let used = match number {
+        Some(line) => {
+            write!(out, "{line}")?;
+            digits_of(line)
+        }
+        None => 0,
+    };
+    push_fill(out, ' ', digits.saturating_sub(used))?;
+    write!(out, " |{plain}")
+}
+
+// The file and the place.
+fn push_place(
+    out: &mut String,
+    look: Look,
+    source: Source<'_>,
+    mark: Mark,
+) -> Result<(), AllocError> {
+    let Style { edge, plain, .. } = look.style;
+    push_fill(out, ' ', look.digits)?;
+    write!(out, "{edge}-->{plain} ")?;
+    push_visible(out, source.name)?;
+    let Mark { line, column, .. } = mark;
+    write!(out, ":{line}:{column}\n")
+}
+
+// The line of a snippet, after its edge.
+fn push_line(out: &mut String, snippet: Snippet<'_>) -> Result<(), AllocError> {
+    let Snippet {
+        before,
+        marked,
+        after,
+        cut_front,
+        cut_end,
+    } = snippet;
+    if before.is_empty() && marked.is_empty() && after.is_empty() {
+        return out.push_str("\n");
+    }
+    out.push_str(" ")?;
+    out.push_str(if cut_front { DOTS } else { "" })?;
+    push_visible(out, before)?;
+    push_visible(out, marked)?;
+    push_visible(out, after)?;
+    out.push_str(if cut_end { DOTS } else { "" })?;
+    out.push_str("\n")
+}
+
+// The carets below what is marked, after the edge of their line.
+fn push_carets(out: &mut String, look: Look, snippet: Snippet<'_>) -> Result<(), AllocError> {
+    let alloc = *out.allocator();
+    let mut text = String::new(alloc);
+    text.push_str(if snippet.cut_front { " ..." } else { " " })?;
+    push_visible(&mut text, snippet.before)?;
+    push_as_wide(out, ' ', &text)?;
+    out.push_str(look.colour)?;
+    text.clear();
+    push_visible(&mut text, snippet.marked)?;
+    if text.as_str().width() == 0 {
+        out.push_str("^")?;
+    } else {
+        push_as_wide(out, '^', &text)?;
+    }
+    out.push_str(look.style.plain)?;
+    out.push_str("\n")
+}
+
+// A place, its line, and what is underlined there.
+fn push_mark(
+    out: &mut String,
+    look: Look,
+    source: Source<'_>,
+    mark: Mark,
+) -> Result<(), AllocError> {
+    push_place(out, look, source, mark)?;
+    push_edge(out, look, None)?;
+    out.push_str("\n")?;
+    let snippet = snippet_of(source.text, mark);
+    push_edge(out, look, Some(mark.line))?;
+    push_line(out, snippet)?;
+    push_edge(out, look, None)?;
+    push_carets(out, look, snippet)
+}
+
+// The title of a report or note.
+fn push_title(out: &mut String, style: Style, word: &str, text: &str) -> Result<(), AllocError> {
+    let Style {
+        error,
+        note,
+        strong,
+        plain,
+        ..
+    } = style;
+    let colour = if word == "error" { error } else { note };
+    write!(out, "{colour}{word}{plain}{strong}: ")?;
+    push_visible(out, text)?;
+    write!(out, "{plain}\n")
+}
+
+// A note without a place.
+fn push_remark(out: &mut String, look: Look, text: &str) -> Result<(), AllocError> {
+    let Style {
+        edge,
+        strong,
+        plain,
+        ..
+    } = look.style;
+    push_fill(out, ' ', look.digits)?;
+    write!(out, " {edge}={plain} {strong}note{plain}: ")?;
+    push_visible(out, text)?;
+    out.push_str("\n")
+}
+
+// The notes, those without a place first.
+fn push_notes(
+    out: &mut String,
+    look: Look,
+    source: Source<'_>,
+    report: &Report,
+) -> Result<(), AllocError> {
+    for note in report.notes.iter().filter(|note| note.mark.is_none()) {
+        push_remark(out, look, &note.text)?;
+    }
+    for note in &report.notes {
+        if let Some(mark) = note.mark {
+            push_title(out, look.style, "note", &note.text)?;
+            push_mark(out, look, source, mark)?;
+        }
+    }
+    Ok(())
+}
+
+/// Adds a report on a file to a text. Returns `AllocError` if memory runs out.
+pub fn print_report(
+    out: &mut String,
+    style: Style,
+    source: Source<'_>,
+    report: &Report,
+) -> Result<(), AllocError> {
+    let look = Look {
+        style,
+        colour: style.error,
+        digits: digits_of(greatest_line(report)),
+    };
+    push_title(out, style, "error", &report.message)?;
+    if let Some(mark) = report.mark {
+        push_mark(out, look, source, mark)?;
+    }
+    let look = Look {
+        colour: style.note,
+        ..look
+    };
+    push_notes(out, look, source, report)
+}

@@ -1,0 +1,54 @@
+-- Tables of bytes by class.
+use Rattle.std.proofs.Common.{◌≡◌, ℕ, ◌<◌, Bool, true, false, ◌==◌, get_or, refl, sym, ◌∙◌, true≢false}
+use Rattle.std.proofs.lemmas.Bool.{agree_below, agree_below_at}
+use Rattle.rhai_lower.specs.Names.{is_word}
+use Rattle.rhai_tokenizer.specs.declared.class.First.{First}
+use Rattle.rhai_tokenizer.specs.declared.class.First.TheVariants as first
+use Rattle.rhai_tokenizer.specs.declared.class.TheConstants.{BYTES}
+use Rattle.rhai_tokenizer.specs.Cutting.{first_class, is_second, is_space}
+use Rattle.rhai_tokenizer.proofs.TableLemmas.{is_blank_class}
+
+word_bytes : agree_below (λ b. get_or BYTES b 0 == 1) is_word 256 ≡ true
+word_bytes = refl
+
+pub word_byte : (b : ℕ) → b < 256 → (get_or BYTES b 0 == 1) ≡ is_word b
+word_byte b h = agree_below_at (λ b. get_or BYTES b 0 == 1) is_word 256 b word_bytes h
+
+second_bytes : agree_below (λ b. get_or BYTES b 0 == 2) is_second 256 ≡ true
+second_bytes = refl
+
+pub second_byte : (b : ℕ) → b < 256 → (get_or BYTES b 0 == 2) ≡ is_second b
+second_byte b h = agree_below_at (λ b. get_or BYTES b 0 == 2) is_second 256 b second_bytes h
+
+-- the class of white space of one byte
+abbrev is_space_class : First → Bool
+is_space_class first.Space = true
+is_space_class k = false
+
+space_classes : agree_below (λ b. is_space_class (first_class b)) is_space 256 ≡ true
+space_classes = refl
+
+pub space_byte : (b : ℕ) → b < 256 → is_space b ≡ true → first.Space ≡ first_class b
+space_byte b h e = by (first_class b) (agree_below_at (λ b. is_space_class (first_class b)) is_space 256 b
+    space_classes h ∙ e)
+  where
+    by : (k : First) → is_space_class k ≡ true → first.Space ≡ k
+    by first.Space e = refl
+    by first.Letter e = absurd (true≢false (sym e))
+    by first.Digit e = absurd (true≢false (sym e))
+    by first.Far e = absurd (true≢false (sym e))
+    by first.Quote e = absurd (true≢false (sym e))
+    by first.Tick e = absurd (true≢false (sym e))
+    by first.Apostrophe e = absurd (true≢false (sym e))
+    by first.Slash e = absurd (true≢false (sym e))
+    by first.Bang e = absurd (true≢false (sym e))
+    by first.Minus e = absurd (true≢false (sym e))
+    by first.Hash e = absurd (true≢false (sym e))
+    by first.Other e = absurd (true≢false (sym e))
+
+blank_bytes : agree_below (λ b. is_blank_class (first_class b)) is_space 128 ≡ true
+blank_bytes = refl
+
+-- no white space begins with another byte
+pub other_byte : (b : ℕ) → b < 128 → is_space b ≡ false → is_blank_class (first_class b) ≡ false
+other_byte b h e = agree_below_at (λ b. is_blank_class (first_class b)) is_space 128 b blank_bytes h ∙ e

@@ -1,0 +1,168 @@
+-- One turn of the reading of a text, by what its code knows of the piece.
+use Rattle.std.proofs.Common.{◌≡◌, ℕ, ◌+◌, ◌-◌, ◌≤◌, Bool, true, false, ◌||◌, [], ◌∷◌, Option, None, cond, codes, drop, take, length, reverse, IsUtf8, refl, sym, ap, ◌∙◌, subst, arith, true≢false}
+use Rattle.std.proofs.lemmas.List.{append-nil, length-take-le}
+use Rattle.std.specs.Prelude.{IfSome, option_map, slice_index}
+use Rattle.std.specs.List.{concat, prefix_len}
+use Rattle.rhai_lower.specs.Entries.{token_may_be_delivered}
+use Rattle.rhai_lower.specs.Lexemes.{lexeme}
+use Rattle.rhai_lower.specs.Names.{is_word}
+use Rattle.rhai_lower.specs.Texts.{Text, same_text}
+use Rattle.rhai_lower.specs.declared.token.Token.{Token}
+use Rattle.rhai_tokenizer.specs.declared.braces.Brace.{Brace}
+use Rattle.rhai_tokenizer.specs.declared.braces.Brace.TheVariants as brace
+use Rattle.rhai_tokenizer.specs.declared.class.First.{First}
+use Rattle.rhai_tokenizer.specs.declared.class.First.TheVariants as first
+use Rattle.rhai_tokenizer.specs.declared.front.Front.{Front}
+use Rattle.rhai_tokenizer.specs.declared.lexer.Kind.{Kind}
+use Rattle.rhai_tokenizer.specs.declared.lexer.Kind.TheVariants as kind
+use Rattle.rhai_tokenizer.specs.declared.limits.Limits.{Limits}
+use Rattle.rhai_tokenizer.specs.declared.place.Place.{Place}
+use Rattle.rhai_tokenizer.specs.declared.reading.Reading.{Reading}
+use Rattle.rhai_tokenizer.specs.declared.tokens.Tokens.{Tokens}
+use Rattle.rhai_tokenizer.specs.Bytes.{blanks, is_empty}
+use Rattle.rhai_tokenizer.specs.Cutting.{first_class, next_at, piece_at, number_cut, sign_cut}
+use Rattle.rhai_tokenizer.specs.CuttingMeanings.{cut_brace, cut_token}
+use Rattle.rhai_tokenizer.specs.Meanings.{Found, brace_of_symbol, braces_after, opens_after, operand_then, text_after}
+use Rattle.rhai_tokenizer.specs.Places.{past}
+use Rattle.rhai_tokenizer.specs.Runs.{run_from}
+use Rattle.rhai_tokenizer.specs.Turns.{IsFront, IsTurn, Joins, before_of, due, found_of}
+use Rattle.rhai_tokenizer.proofs.FrontLemmas.{IsCut, front_is, is_cut, known_cut, token_found}
+use Rattle.rhai_tokenizer.proofs.TurnLemmas.{before_after}
+
+-- what the code leaves of the braces and their state, where a piece does this to them
+pub record Braces (old new : Reading) (k : Brace) : Type 0 where
+  pub in_text : new.in_text ≡ text_after k (reverse old.braces.items)
+  pub braces : reverse new.braces.items ≡ braces_after k old.opens (reverse old.braces.items)
+  pub opens : new.opens ≡ opens_after k
+
+-- a piece with its front
+pub front_turn : (limits : Limits) (old new : Reading) (t : Text) (f : Front)
+    → IsFront limits old.in_text old.operand old.place t f
+    → Joins old.out new.out old.in_text old.at new.at (found_of f.place f.token)
+    → new.operand ≡ operand_then old.operand (found_of f.place f.token) → Braces old new f.brace
+    → new.place ≡ f.after → new.is_hashed ≡ f.is_hash → new.at ≡ old.at + f.len → IsTurn limits old new t f.len
+front_turn limits old new t f is joined operand br place hash at = record {
+  joined = subst (λ (x : Option Found). Joins old.out new.out old.in_text old.at new.at x) is.token joined;
+  len = is.len;
+  decides = before_after limits (before_of old) (next_at (before_of old) t) (found_of f.place f.token) f.brace
+      new.operand new.in_text new.opens new.braces.items new.place is.token is.brace operand br.in_text br.opens
+      br.braces (place ∙ is.after);
+  hash = λ e. is.hash (sym hash ∙ e);
+  at = at;
+}
+
+-- a piece that is cut
+pub cut_turn : (limits : Limits) (old new : Reading) (t text : Text) (k : Kind) (n : ℕ) (token : Option Token)
+    → old.in_text ≡ false → IsCut limits old.operand old.place t k n → text ≡ take n t
+    → option_map lexeme token ≡ cut_token limits k old.operand text
+    → IfSome token (λ k. token_may_be_delivered k ≡ true)
+    → Joins old.out new.out false old.at new.at (found_of old.place token)
+    → new.operand ≡ operand_then old.operand (found_of old.place token) → Braces old new (cut_brace k text)
+    → new.place ≡ past old.place text → new.is_hashed ≡ false → new.at ≡ old.at + n → IsTurn limits old new t n
+cut_turn limits old new t text k n token code cut ts ls d joined operand br place hash at =
+    front_turn limits old new t _
+    (subst (λ (x : Bool). IsFront limits x old.operand old.place t (record {
+      token = token;
+      place = old.place;
+      len = n;
+      after = new.place;
+      brace = cut_brace k text;
+      is_hash = false;
+    })) (sym code)
+    (front_is limits false old.operand old.place t _ (piece_at old.operand t) refl (token_found old.place token _ ls
+    ∙ sym (cut.means text ts)) cut.len (place ∙ cut.after text ts) (sym (cut.brace text ts)) d
+    (λ e. absurd (true≢false (sym e))) (λ p. p)))
+    (subst (λ (x : Bool). Joins old.out new.out x old.at new.at (found_of old.place token)) (sym code) joined)
+    operand br refl hash at
+
+-- a byte is left where a piece is due in code
+pub some_due : (i : Bool) (t : Text) → i ≡ false → due i t ≡ true → is_empty t ≡ false
+some_due true t e h = absurd (true≢false e)
+some_due false [] e h = absurd (true≢false (sym h))
+some_due false (c ∷ t) e h = refl
+
+abbrev is_hash : First → Bool
+is_hash first.Hash = true
+is_hash k = false
+
+-- white space
+pub blank_cut : (limits : Limits) (o : Bool) (place : Place) (t bytes : Text) (n : ℕ) → is_empty t ≡ false
+    → first.Space ≡ first_class (slice_index t 0) → bytes ≡ t → n ≡ length (concat (run_from blanks 0 bytes))
+    → IsCut limits o place t kind.Blank n
+blank_cut limits o place [] bytes n some c e is = absurd (true≢false some)
+blank_cut limits o place (b ∷ t) bytes n some c e is =
+    is_cut limits first.Space o place (b ∷ t) t kind.Blank n refl c refl
+    (λ e. absurd (true≢false (sym (ap is_hash e)))) refl
+    (ap (λ m. (kind.Blank, m)) (is ∙ ap (λ x. length (concat (run_from blanks 0 x))) e))
+
+-- a word
+abbrev word_kind : ℕ → Kind × ℕ
+word_kind n = (kind.Word, 1 + n)
+
+pub word_cut : (o : Bool) (place : Place) (t bytes : Text) (n : ℕ) → is_empty t ≡ false
+    → first.Letter ≡ first_class (slice_index t 0) → bytes ≡ t
+    → n ≡ prefix_len is_word (take (length bytes - 1) (drop 1 bytes)) → (limits : Limits)
+    → IsCut limits o place t kind.Word (1 + n)
+word_cut o place t bytes n some c e is limits =
+    known_cut limits first.Letter o place t bytes kind.Word (1 + n) some c refl
+    (λ e. absurd (true≢false (sym (ap is_hash e)))) e (ap word_kind is)
+
+-- a symbol, or a character that begins no token
+pub sign_piece : (limits : Limits) (o : Bool) (place : Place) (t bytes : Text) (k : Kind) (n : ℕ) → is_empty t ≡ false
+    → first.Other ≡ first_class (slice_index t 0) → bytes ≡ t
+    → ◌≡◌ {A = Kind × ℕ} (k, n) (sign_cut (slice_index bytes 0) (take (length bytes - 1) (drop 1 bytes)))
+    → IsCut limits o place t k n
+sign_piece limits o place t bytes k n some c e is =
+    known_cut limits first.Other o place t bytes k n some c refl (λ e. absurd (true≢false (sym (ap is_hash e)))) e is
+
+pub no_limits : Limits
+no_limits = record { doc_comments = false; max_string_size = 0 }
+
+-- what a symbol leaves of the braces
+pub symbol_braces : (old mid new : Reading) (k : Brace) (text : Text) → mid.braces ≡ old.braces → mid.opens ≡ old.opens
+    → k ≡ brace_of_symbol text → new.in_text ≡ text_after k (reverse mid.braces.items)
+    → reverse new.braces.items ≡ braces_after k mid.opens (reverse mid.braces.items) → new.opens ≡ false
+    → Braces old new (brace_of_symbol text)
+symbol_braces old mid new k text bs os ks i b s = record {
+  in_text = i ∙ (ap (λ k. text_after k (reverse mid.braces.items)) ks
+      ∙ ap (λ b. text_after (brace_of_symbol text) (reverse b.items)) bs);
+  braces = b ∙ (ap (λ k. braces_after k mid.opens (reverse mid.braces.items)) ks
+      ∙ (ap (λ o. braces_after (brace_of_symbol text) o (reverse mid.braces.items)) os
+      ∙ ap (λ b. braces_after (brace_of_symbol text) old.opens (reverse b.items)) bs));
+  opens = s ∙ no_opening (same_text text (codes "{") || same_text text (codes "#{")) (same_text text (codes "}"));
+}
+  where
+    no_opening : (a b : Bool) → false ≡ opens_after (cond a brace.Opens (cond b brace.Closes brace.Stays))
+    no_opening true b = refl
+    no_opening false true = refl
+    no_opening false false = refl
+
+-- no token joins
+pub joins_none : (out : Tokens) (in_text : Bool) (from to : ℕ) → Joins out out in_text from to None
+joins_none out in_text from to = record {
+  entries = sym (append-nil _);
+  spans = sym (append-nil _);
+  delivered = λ d. d;
+}
+
+-- an integer
+pub number_piece : (limits : Limits) (o : Bool) (place : Place) (t bytes : Text) (k : Kind) (n : ℕ)
+    → is_empty t ≡ false → first.Digit ≡ first_class (slice_index t 0) → bytes ≡ t
+    → ◌≡◌ {A = Kind × ℕ} (k, n) (number_cut (slice_index bytes 0) (take (length bytes - 1) (drop 1 bytes)))
+    → IsCut limits o place t k n
+number_piece limits o place t bytes k n some c e is =
+    known_cut limits first.Digit o place t bytes k n some c refl (λ e. absurd (true≢false (sym (ap is_hash e)))) e is
+
+-- the bytes of a piece that is cut
+pub record Cuts (t bytes : Text) (n : ℕ) : Type 0 where
+  pub within : n ≤ length t
+  pub front : take n bytes ≡ take n t
+  pub len : length (take n bytes) ≡ n
+
+pub cuts : (limits : Limits) (o : Bool) (place : Place) (t bytes : Text) (k : Kind) (n : ℕ)
+    → IsCut limits o place t k n → IsUtf8 t → bytes ≡ t → Cuts t bytes n
+cuts limits o place t bytes k n cut u e = let (within, rest) = cut.boundary u in record {
+  within = within;
+  front = ap (take n) e;
+  len = length-take-le n bytes (omega (arith, within, ap length e));
+}

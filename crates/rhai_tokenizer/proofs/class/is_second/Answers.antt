@@ -1,0 +1,6 @@
+use Rattle.std.proofs.Common.{◌<◌, arith}
+use Rattle.rhai_tokenizer.proofs.ClassLemmas.{second_byte}
+use Rattle.rhai_tokenizer.proofs.class.is_second.Goals as goal
+
+pub returns : goal.returns
+returns c = let h : c.args.b < 256 = omega arith in rw c.bytes.ensures.value (second_byte c.args.b h)

@@ -1,0 +1,310 @@
+//! One turn of the reading of a text: a piece is read, and its token joins.
+
+ghost use Rattle.std.specs.Prelude.{◌≡◌, ◌<◌, ◌≤◌, ◌+◌, ◌^◌, [], true, false, length, take, slice_index, reverse, IfOk, IfSome, option_map};
+ghost use Rattle.std.specs.List.{list_all};
+ghost use Rattle.rhai_lower.specs.Entries.{token_may_be_delivered};
+ghost use Rattle.rhai_lower.specs.Texts.{Text};
+ghost use Rattle.rhai_tokenizer.specs.Cutting.{first_class};
+ghost use Rattle.rhai_tokenizer.specs.CuttingMeanings.{is_plain};
+ghost use Rattle.rhai_tokenizer.specs.Meanings.{at_start, operand_then};
+ghost use Rattle.rhai_tokenizer.specs.Places.{past};
+ghost use Rattle.rhai_tokenizer.specs.Turns.{IsFront, IsPlace, IsReady, IsTurn, Joins, before_of, found_of};
+
+use crate::braces::{follow, opens_after, symbol_brace};
+use crate::class::{Class, First, first_class};
+use crate::front::{Front, Tools, front_of};
+use crate::lexer::{Kind, blanks_past, number_piece, plain_sign, run_len};
+use crate::limits::Limits;
+use crate::meaning::{fixed_symbol, integer_token, operand_after, word_token};
+use crate::place::{Place, START, past_plain, position};
+use crate::table::{Fixed, Meaning};
+use crate::tokens::{Span, Tokens};
+use rhai_lower::position::Position;
+use rhai_lower::stream::Entry;
+use rhai_lower::token::Token;
+use std::alloc::{AllocError, Global};
+
+/// What the reading of a text has come to.
+#[derive(Drop)]
+pub struct Reading {
+    /// The tokens so far.
+    pub out: Tokens,
+    /// What the making of tokens shares.
+    pub tools: Tools,
+    /// For each open brace whether it begins an interpolation. The innermost is the last.
+    pub braces: Vec<bool>,
+    /// Whether a sign begins an operand.
+    pub operand: bool,
+    /// Whether the text of a back-ticked string goes on.
+    pub in_text: bool,
+    /// Whether an interpolation begins.
+    pub opens: bool,
+    /// Whether the piece before is a `#` alone.
+    pub is_hashed: bool,
+    /// Where the next piece stands.
+    pub place: Place,
+    /// Its first byte.
+    pub at: usize,
+}
+
+impl Reading {
+    /// Nothing is read. Does not allocate.
+    pub fn new(alloc: Global) -> Self
+        ensures before { before_of result ≡ at_start }
+        ensures entries { result.out.entries.items ≡ [] }
+        ensures spans { result.out.spans.items ≡ [] }
+        ensures at { result.at ≡ 0 }
+        ensures hash { result.is_hashed ≡ false }
+    {
+        Reading {
+            out: Tokens {
+                entries: Vec::new(alloc),
+                end: Position::START,
+                spans: Vec::new(alloc),
+            },
+            tools: Tools::new(alloc),
+            braces: Vec::new(alloc),
+            operand: true,
+            in_text: false,
+            opens: false,
+            is_hashed: false,
+            place: START,
+            at: 0,
+        }
+    }
+}
+
+// A token joins. The answer is whether a sign begins an operand after it.
+#[inline(always)]
+fn push(
+    out: &mut Tokens,
+    token: Token,
+    operand: bool,
+    in_text: bool,
+    place: Place,
+    span: Span,
+) -> Result<bool, AllocError>
+    requires place { IsPlace place }
+    requires delivered { token_may_be_delivered token ≡ true }
+    ensures after { IfOk result (λ o. o ≡ operand_then operand (found_of place (Some token))) }
+    ensures joined { IfOk result (λ o. Joins out.old out.new in_text span.start span.stop
+        (found_of place (Some token))) }
+{
+    let next = operand_after(operand, &token);
+    let pos = position(place);
+    out.entries.push(Entry {
+        token,
+        pos,
+        text: in_text,
+    })?;
+    out.spans.push(span)?;
+    Ok(next)
+}
+
+// A piece joins the tokens, if it is one. The answer is whether a sign begins an operand after it.
+fn join(
+    out: &mut Tokens,
+    token: Option<Token>,
+    operand: bool,
+    in_text: bool,
+    place: Place,
+    span: Span,
+) -> Result<bool, AllocError>
+    requires place { IsPlace place }
+    requires delivered { IfSome token (λ k. token_may_be_delivered k ≡ true) }
+    ensures after { IfOk result (λ o. o ≡ operand_then operand (found_of place token)) }
+    ensures joined { IfOk result (λ o. Joins out.old out.new in_text span.start span.stop (found_of place token)) }
+{
+    match token {
+        None => Ok(operand),
+        Some(token) => push(out, token, operand, in_text, place, span),
+    }
+}
+
+// A piece with its token joins.
+#[inline(always)]
+fn add(reading: &mut Reading, limits: Limits, rest: &str, piece: Front) -> Result<usize, AllocError>
+    requires ready { IsReady reading.old rest.now }
+    requires front { IsFront limits reading.old.in_text reading.old.operand reading.old.place rest.now piece }
+    ensures { IfOk result (λ n. IsTurn limits reading.old reading.new rest.now n) }
+{
+    let _limits = limits;
+    let _rest = rest;
+    let Front {
+        token,
+        place,
+        len,
+        after,
+        brace,
+        is_hash,
+    } = piece;
+    let start = reading.at;
+    let stop = start + len;
+    let span = Span { start, stop };
+    let (operand, in_text) = (reading.operand, reading.in_text);
+    reading.operand = join(&mut reading.out, token, operand, in_text, place, span)?;
+    reading.in_text = follow(&mut reading.braces, brace, reading.opens)?;
+    reading.opens = opens_after(brace);
+    reading.is_hashed = is_hash;
+    reading.place = after;
+    reading.at = stop;
+    Ok(len)
+}
+
+// Any piece.
+#[inline(never)]
+fn any(reading: &mut Reading, limits: Limits, rest: &str) -> Result<usize, AllocError>
+    requires { IsReady reading.old rest.now }
+    ensures { IfOk result (λ n. IsTurn limits reading.old reading.new rest.now n) }
+{
+    let (in_text, operand) = (reading.in_text, reading.operand);
+    let (is_hashed, place) = (reading.is_hashed, reading.place);
+    let piece = front_of(
+        &mut reading.tools,
+        limits,
+        in_text,
+        operand,
+        is_hashed,
+        place,
+        rest,
+    )?;
+    add(reading, limits, rest, piece)
+}
+
+// White space.
+#[inline(always)]
+fn blank(reading: &mut Reading, rest: &str) -> usize
+    requires ready { IsReady reading.old rest.now }
+    requires code { reading.old.in_text ≡ false }
+    requires class { First.Space ≡ first_class (slice_index rest.now 0) }
+    ensures { (limits : Limits) → IsTurn limits reading.old reading.new rest.now result }
+{
+    let (len, after) = blanks_past(reading.place, rest.as_bytes());
+    reading.opens = false;
+    reading.is_hashed = false;
+    reading.place = after;
+    reading.at += len;
+    len
+}
+
+// A token of so many bytes that each take a column joins.
+#[inline(always)]
+fn take(reading: &mut Reading, token: Token, len: usize) -> Result<(), AllocError>
+    requires place { IsPlace reading.old.place }
+    requires delivered { token_may_be_delivered token ≡ true }
+    requires room { reading.old.at + len < 2 ^ 63 }
+    ensures joined { IfOk result (λ done. Joins reading.old.out reading.new.out false reading.old.at
+        reading.new.at (found_of reading.old.place (Some token))) }
+    ensures operand { IfOk result (λ done. reading.new.operand
+        ≡ operand_then reading.old.operand (found_of reading.old.place (Some token))) }
+    ensures place { IfOk result (λ done. (t : Text) → length t ≡ len → list_all is_plain t ≡ true
+        → reading.new.place ≡ past reading.old.place t) }
+    ensures at { IfOk result (λ done. reading.new.at ≡ reading.old.at + len) }
+    ensures hash { IfOk result (λ done. reading.new.is_hashed ≡ false) }
+    ensures braces { reading.new.braces ≡ reading.old.braces }
+    ensures in_text { reading.new.in_text ≡ reading.old.in_text }
+    ensures opens { reading.new.opens ≡ reading.old.opens }
+{
+    let start = reading.at;
+    let stop = start + len;
+    let place = reading.place;
+    let span = Span { start, stop };
+    reading.operand = push(&mut reading.out, token, reading.operand, false, place, span)?;
+    reading.is_hashed = false;
+    reading.place = past_plain(place, len);
+    reading.at = stop;
+    Ok(())
+}
+
+// A word.
+#[inline(always)]
+fn word(reading: &mut Reading, rest: &str) -> Result<usize, AllocError>
+    requires ready { IsReady reading.old rest.now }
+    requires code { reading.old.in_text ≡ false }
+    requires class { First.Letter ≡ first_class (slice_index rest.now 0) }
+    ensures { IfOk result (λ n. (limits : Limits) → IsTurn limits reading.old reading.new rest.now n) }
+{
+    let len = 1 + run_len(Class::Word, &rest.as_bytes()[1..]);
+    let (text, _) = rest.split_at(len);
+    let token = word_token(reading.tools.alloc, &mut reading.tools.names, text)?;
+    take(reading, token, len)?;
+    reading.opens = false;
+    Ok(len)
+}
+
+// An integer.
+#[inline(always)]
+fn number(reading: &mut Reading, limits: Limits, rest: &str) -> Result<usize, AllocError>
+    requires ready { IsReady reading.old rest.now }
+    requires code { reading.old.in_text ≡ false }
+    requires class { First.Digit ≡ first_class (slice_index rest.now 0) }
+    ensures { IfOk result (λ n. IsTurn limits reading.old reading.new rest.now n) }
+{
+    let bytes = rest.as_bytes();
+    let (kind, len) = number_piece(bytes[0], &bytes[1..]);
+    match kind {
+        Kind::Integer => {
+            let text = &bytes[..len];
+            let token = integer_token(reading.tools.alloc, false, text)?;
+            take(reading, token, len)?;
+            reading.opens = false;
+            Ok(len)
+        }
+        _ => any(reading, limits, rest),
+    }
+}
+
+// The token of a symbol that always is this token.
+#[inline(always)]
+fn fixed_of(kind: Kind) -> Option<Fixed>
+    ensures { IfSome result (λ fixed. kind ≡ Kind.Symbol (Meaning.Plain fixed)) }
+{
+    match kind {
+        Kind::Symbol(meaning) => match meaning {
+            Meaning::Plain(fixed) => Some(fixed),
+            _ => None,
+        },
+        _ => None,
+    }
+}
+
+// A symbol, or a character that begins no token.
+#[inline(always)]
+fn symbol(reading: &mut Reading, limits: Limits, rest: &str) -> Result<usize, AllocError>
+    requires ready { IsReady reading.old rest.now }
+    requires code { reading.old.in_text ≡ false }
+    requires class { First.Other ≡ first_class (slice_index rest.now 0) }
+    ensures { IfOk result (λ n. IsTurn limits reading.old reading.new rest.now n) }
+{
+    let bytes = rest.as_bytes();
+    let (kind, len) = plain_sign(bytes[0], &bytes[1..], bytes);
+    match fixed_of(kind) {
+        Some(fixed) => {
+            let text = &bytes[..len];
+            let token = fixed_symbol(reading.operand, fixed, text);
+            take(reading, token, len)?;
+            reading.in_text = follow(&mut reading.braces, symbol_brace(text), reading.opens)?;
+            reading.opens = false;
+            Ok(len)
+        }
+        None => any(reading, limits, rest),
+    }
+}
+
+/// Reads the piece at the front of a text, where one is due. Gives its length. Returns `AllocError` if memory runs out.
+#[inline(always)]
+pub fn turn(reading: &mut Reading, limits: Limits, rest: &str) -> Result<usize, AllocError>
+    requires { IsReady reading.old rest.now }
+    ensures { IfOk result (λ n. IsTurn limits reading.old reading.new rest.now n) }
+{
+    if reading.in_text {
+        return any(reading, limits, rest);
+    }
+    match first_class(rest.as_bytes()[0]) {
+        First::Space => Ok(blank(reading, rest)),
+        First::Letter => word(reading, rest),
+        First::Digit => number(reading, limits, rest),
+        First::Other => symbol(reading, limits, rest),
+        _ => any(reading, limits, rest),
+    }
+}

@@ -1,0 +1,2 @@
+const LIMIT = 1;
+LIMIT = 2;

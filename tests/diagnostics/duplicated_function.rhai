@@ -1,0 +1,2 @@
+fn area(a) {}
+fn area(b) {}

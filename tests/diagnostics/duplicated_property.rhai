@@ -1,0 +1,1 @@
+let p = #{name: 1, age: 2, name: 3};

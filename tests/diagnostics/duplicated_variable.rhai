@@ -1,0 +1,1 @@
+for (item, item) in 0..3 {}

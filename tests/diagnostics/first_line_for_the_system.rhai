@@ -1,0 +1,3 @@
+#!/usr/bin/env rhai-run
+let a = 1;
+let let = 2;

@@ -1,0 +1,1 @@
+fn area(a) a * a

@@ -1,0 +1,1 @@
+pric * tax::rate

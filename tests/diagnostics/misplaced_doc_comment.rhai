@@ -1,0 +1,2 @@
+/// Counts.
+let a = 1;

@@ -1,0 +1,4 @@
+fn area(a, b) {
+    if a > b {
+        a * b
+    }

@@ -1,0 +1,2 @@
+import "lib/geometry" as geometry;
+geomtry::area(1, 2)

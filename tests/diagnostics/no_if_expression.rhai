@@ -1,0 +1,1 @@
+let a = if b { c };

@@ -1,0 +1,1 @@
+let a = loop { break 1; };

@@ -1,0 +1,1 @@
+let a = switch b { 1 => c };

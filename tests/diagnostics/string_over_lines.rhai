@@ -1,0 +1,2 @@
+let a = `one
+two

@@ -1,0 +1,1 @@
+switch a { _ if b => 1 }

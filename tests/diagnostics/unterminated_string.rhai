@@ -1,0 +1,2 @@
+let name = "Tom;
+let age = 7;

@@ -1,0 +1,3 @@
+let total = 1;
+let i = 2;
+totl + i
