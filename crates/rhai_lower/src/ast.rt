@@ -5,18 +5,16 @@ ghost use Rattle.rhai_lower.specs.Nodes.{block_of_one, made_block};
 ghost use Rattle.rhai_lower.specs.declared.ast.BinaryExpr.{out-BinaryExpr};
 ghost use Rattle.rhai_lower.specs.declared.ast.FnCallExpr.{out-FnCallExpr};
 ghost use Rattle.rhai_lower.specs.declared.ast.StmtBlock.{out-StmtBlock};
-ghost use Rattle.std.specs.Slice.Iter.{iter_rest};
-ghost use Rattle.std.specs.Iterator.Adapters.{IterYieldsInOrder};
 ghost use Rattle.rhai_lower.specs.View.{block_view, statement_view};
 
 use crate::node::{LinkFlags, RangeCase};
+use crate::parts::{FnCallParts, ScriptFuncParts};
 use crate::position::Position;
 use crate::token::Token;
 use smallvec::SmallVec;
 use std::alloc::{AllocError, Global};
 use std::num::NonZeroUsize;
 use std::rc::{Rc, RcStr};
-use std::slice::Iter;
 
 /// A name and its position.
 #[derive(PartialEq, Debug, Drop)]
@@ -290,16 +288,6 @@ pub struct AST {
     pub functions: Vec<Rc<ScriptFuncDef>>,
 }
 
-impl AST {
-    /// The functions and closures, in the order in which they end. Does not allocate.
-    pub fn iter_functions(&self) -> Iter<'_, Rc<ScriptFuncDef>>
-        ensures rest { iter_rest result ≡ self.now.functions.items }
-        ensures runs { IterYieldsInOrder (Rc ScriptFuncDef Global) }
-    {
-        self.functions.iter()
-    }
-}
-
 impl Default for Expr {
     ghost use Rattle.rhai_lower.specs.Positions.{nowhere};
     ghost use Rattle.rhai_lower.specs.declared.ast.Expr.TheVariants.{Unit};
@@ -337,19 +325,6 @@ impl Drop for FnCallExpr {
             }
         }
     }
-}
-
-/// The parts of a call. They are those of `FnCallExpr`, but have no `drop` of their own, so that a pattern can take
-/// them.
-#[derive(PartialEq, Debug, Drop)]
-pub struct FnCallParts {
-    pub name: RcStr,
-    pub namespace: Namespace,
-    pub script_args: Option<usize>,
-    pub native_args: usize,
-    pub args: Vec<Expr>,
-    pub capture_parent_scope: bool,
-    pub op_token: Option<Token>,
 }
 
 impl FnCallExpr {
@@ -411,18 +386,6 @@ impl Drop for BinaryExpr {
             }
         }
     }
-}
-
-/// The parts of a function. They are those of `ScriptFuncDef`, but have no `drop` of their own, so that a pattern can
-/// take them.
-#[derive(PartialEq, Debug, Drop)]
-pub struct ScriptFuncParts {
-    pub this_type: Option<RcStr>,
-    pub name: RcStr,
-    pub private: bool,
-    pub params: Vec<RcStr>,
-    pub body: StmtBlock,
-    pub comments: Vec<RcStr>,
 }
 
 impl ScriptFuncDef {

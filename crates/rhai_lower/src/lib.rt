@@ -9,6 +9,7 @@ pub mod named_list;
 pub mod names;
 pub mod node;
 pub mod optimizer;
+pub mod parts;
 mod places;
 pub mod position;
 pub mod scope;
@@ -18,9 +19,9 @@ pub mod token;
 pub mod walk;
 
 pub use ast::{
-    AST, BinaryExpr, Expr, FlowControl, FnCallExpr, FnCallParts, ForLoop, Ident, LoopControl,
-    Namespace, ScriptFuncDef, ScriptFuncParts, Stmt, StmtBlock, StmtBlockContainer, SwitchCase,
-    SwitchCasesCollection, VariableExpr,
+    AST, BinaryExpr, Expr, FlowControl, FnCallExpr, ForLoop, Ident, LoopControl, Namespace,
+    ScriptFuncDef, Stmt, StmtBlock, StmtBlockContainer, SwitchCase, SwitchCasesCollection,
+    VariableExpr,
 };
 pub use interner::StringsInterner;
 pub use name_index::NameIndex;
@@ -28,6 +29,7 @@ pub use named_list::{HasName, NamedList, find_latest, is_named};
 pub use names::{is_reserved_keyword_or_symbol, is_valid_function_name, is_valid_identifier};
 pub use node::{LinkFlags, RangeCase};
 pub use optimizer::{OptimizationLevel, Optimizer, Unoptimized};
+pub use parts::{FnCallParts, ScriptFuncParts};
 pub use position::{DescribedPosition, Position};
 pub use scope::Scope;
 pub use stream::{Entry, TokenStream, UndeliverableEntry};
