@@ -164,8 +164,8 @@ array_in_function =
 
 -- `fn f() { [1] }` is 4 deep: the function, its block, the array and its item. The expression `|| || x` is 5 deep: the
 -- whole, its closure, the expression of that, the inner closure, and `x`. The string `a${b}c` is 3 deep: itself, the
--- block, and `b`. And `a ?? return 1` is 3 deep: itself, the block of the jump, and the 1. The arm that is `let x;` is a
--- block, and an arm that is the expression 1 is that alone.
+-- block, and `b`. And `a ?? return 1` is 3 deep: itself, the block of the jump, and the 1. The arm that is `let x;` is
+-- a block, and an arm that is the expression 1 is that alone.
 example : (statements_depth array_in_function ≡ 4) × (1 + run_depth nested_form ≡ 5) × (1 + run_depth string_form ≡ 3)
     × (1 + run_depth jump_form ≡ 3)
     × (action_depth (form.Does (form.Define false (place 1 1) (codes "x") (place 1 5) form.NoValue)) ≡ 1)

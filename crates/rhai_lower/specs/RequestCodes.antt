@@ -28,9 +28,11 @@ made [] stack = stack
 made (inl end ∷ more) stack = made more (Ends end ∷ stack)
 made (inr asks ∷ more) stack = made more (joined asks stack)
 
-made_again : (r : Requests) (more : List Mark) (stack : List Requests) → made (marks r more) stack ≡ made more (r ∷ stack)
+made_again : (r : Requests) (more : List Mark) (stack : List Requests)
+    → made (marks r more) stack ≡ made more (r ∷ stack)
 made_again (Ends end) more stack = refl
-made_again (Then a b s t) more stack = made_again s (marks t (inr (a, b) ∷ more)) stack ∙ made_again t (inr (a, b) ∷ more) (s ∷ stack)
+made_again (Then a b s t) more stack =
+    made_again s (marks t (inr (a, b) ∷ more)) stack ∙ made_again t (inr (a, b) ∷ more) (s ∷ stack)
 
 -- the first of what was made
 abbrev first_made : List Requests → Requests → Requests

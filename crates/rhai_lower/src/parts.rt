@@ -1,6 +1,7 @@
 //! What a host takes from a tree: the functions in their order, and the parts of nodes that have a `drop` of their own,
 //! which a pattern outside their module cannot take (`into_parts` of `ast`).
 
+ghost use Rattle.std.specs.Prelude.{◌≡◌};
 ghost use Rattle.std.specs.Slice.Iter.{iter_rest};
 ghost use Rattle.std.specs.Iterator.Adapters.{IterYieldsInOrder};
 

@@ -41,8 +41,8 @@ FollowsRead (Err e) result = result ≡ Err e
 -- and the imports: so where memory runs out for the names alone, the library has all functions of the script.
 pub record ReadsNames (context : Context) (live : Live) (before after : Library) (start left : Cursor)
     (slots : List SlotValue) (imports : List Text) (result : Result (Vec FnNames Global) ParseError) : Type 0 where
-  pub whole : ReadsWhole (scripts context live) (λ fs names. AreNamesAfter before fs names.items) before after start left
-      result
+  pub whole : ReadsWhole (scripts context live) (λ fs names. AreNamesAfter before fs names.items) before after start
+      left result
   pub script : Result Script ParseError
   pub reads : ReadsScript context live before after start left script slots imports
   pub follows : FollowsRead script result
