@@ -6,8 +6,9 @@ usage: tests/documents.py [--try]
 - Code: a block after a line `<!-- from FILE -->` has to be lines of that file, one after the other. They may be less
   indented than there, all by the same number of spaces.
 - Output: a shell block with `rt try --` is run, with the program that `rt ci` or `rt run` built last in that crate. The
-  next block has to be what it prints. Each document begins in the crate of its first `cd`. With --try the programs need
-  not be built: the lines run as they stand, which takes a minute or more for each.
+  next block has to be what it prints. Each document begins in the crate of its first `cd`. A block after a line
+  `<!-- prints CRATE: WORDS -->` has to be what that program prints when it is run with these words of a shell. With
+  --try the programs need not be built: the lines run as they stand, which takes a minute or more for each.
 - References: `NAME.md, "Section"` has to name a section, also in comments of the code; so has `("Section")` in a
   document, of its own. Linked files have to be there.
 
@@ -23,9 +24,12 @@ import textwrap
 ROOT = pathlib.Path(__file__).resolve().parent.parent
 DOCUMENTS = [ROOT / "README.md", ROOT / "CONTRIBUTING.md", *sorted((ROOT / "docs").glob("*.md"))]
 
-# A block of a document: what is before it on its line, its language, its lines.
+# A block of a document, of any kind; one that shows a file; one that shows what a program prints.
 BLOCK = re.compile(r"^```(\w*)\n(.*?)^```$", re.MULTILINE | re.DOTALL)
 SOURCE = re.compile(r"^<!-- from (\S+) -->\n```\w*\n(.*?)^```$", re.MULTILINE | re.DOTALL)
+PRINTS = re.compile(r"^<!-- prints (\w+): ([^\n]*) -->\n```\w*\n(.*?)^```$", re.MULTILINE | re.DOTALL)
+
+# Sections that are named with their document or without, and links.
 SECTION = re.compile(r"((?:[\w.]+/)*[A-Z]+\.md), (\"[^\"]+\"(?:(?:,| and| to) \"[^\"]+\")*)")
 OWN_SECTION = re.compile(r"\(\"([A-Z`][^\"]*)\"\)")
 LINK = re.compile(r"\]\(([^)#:]+)\)")
@@ -77,6 +81,12 @@ def printed(command, crate, tries):
     return ADDED.sub("", output) if tries else output
 
 
+def compare_printed(result, path, command, crate, shown):
+    """Compares what a shell command prints with what is shown."""
+    output = printed(command, crate, result.tries)
+    result.check(path, f"output of {command.strip()}", output == shown, f"shown:\n{shown}printed:\n{output}")
+
+
 def compare_output(result, path, text):
     """Runs each shell block that runs a program, and compares what it prints with the next block."""
     blocks = BLOCK.findall(text)
@@ -85,8 +95,9 @@ def compare_output(result, path, text):
         moved = re.match(r"cd crates/(\w+)", command)
         crate = moved.group(1) if moved else crate
         if language == "sh" and "rt try --" in command:
-            output = printed(command, crate, result.tries)
-            result.check(path, f"output of\n{command}", output == shown, f"shown:\n{shown}printed:\n{output}")
+            compare_printed(result, path, command, crate, shown)
+    for crate, words, shown in PRINTS.findall(text):
+        compare_printed(result, path, f"rt try -- {words}", crate, shown)
 
 
 def sections_of(path):
