@@ -3,12 +3,13 @@
 #
 # usage: tests/hosts.sh [LIBRARY]
 #
-# LIBRARY is librhai_c.a, by default the one that `rt lib` in crates/rhai_c built. KIT is the kit's folder, by default
-# that of `rt`. It needs cc and python3. What needs rustc or valgrind is left out where they are not there, and a line
-# says so. The last line counts the comparisons; the status is 1 if any failed.
+# LIBRARY is librhai_c.a, by default the one that `rt lib` in crates/rhai_c builds. KIT is the kit's folder, by default
+# that of `rt`, and PROGRAM the rhai-ast that random scripts are compared with, by default the one that was built last.
+# It needs cc and python3. What needs rustc, valgrind or PROGRAM is left out where they are not there, and a line says
+# so. The last line counts the comparisons; the status is 1 if any failed.
 set -u
 root=$(cd "$(dirname "$0")/.." && pwd)
-library=${1:-$root/crates/rhai_c/out/librhai_c.a}
+library=${1:-}
 kit=${KIT:-$(dirname "$(rt doc)")}
 program=${PROGRAM:-$root/crates/rhai_ast/out/rhai_ast}
 heap=$kit/c/liblibc_c.a
@@ -16,6 +17,10 @@ work=$(mktemp -d)
 trap 'rm -rf "$work"' EXIT
 passed=0
 failed=0
+if [ -z "$library" ]; then
+    library=$root/crates/rhai_c/out/librhai_c.a
+    (cd "$root/crates/rhai_c" && rt lib > "$work/lib" 2>&1) || { tail -n 20 "$work/lib"; exit 1; }
+fi
 
 # Whether a program is there; a line says what is left out without it.
 has() {
@@ -48,7 +53,8 @@ cc "${strict[@]}" -Wl,--wrap=malloc,--wrap=realloc "$root/tests/hosts/calls.c" "
 cc "${strict[@]}" -shared -fPIC "$root/include/rhai_parser.c" -Wl,--whole-archive "$library" -Wl,--no-whole-archive \
     "$heap" -o "$work/librhai_c.so" || exit 1
 if has rustc "the host in Rust"; then
-    rustc --edition 2024 -o "$work/host_rs" "$root/examples/host.rs" -C link-arg="$library" -C link-arg="$heap" || exit 1
+    rustc --edition 2024 -o "$work/host_rs" "$root/examples/host.rs" -C link-arg="$library" -C link-arg="$heap" ||
+        exit 1
 fi
 memory=()
 if has valgrind "whether memory is used wrongly, or not freed"; then

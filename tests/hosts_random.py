@@ -3,8 +3,8 @@
 
 usage: tests/hosts_random.py LIBRARY [PROGRAM [COUNT]]
 
-LIBRARY is librhai_c as a shared library, PROGRAM by default what `rt run` in crates/rhai_ast built, and COUNT the number
-of scripts, by default 10,000. They are made of words of the language, whole scripts of examples/ with one byte changed,
+LIBRARY is librhai_c as a shared library, PROGRAM by default what `rt run` in crates/rhai_ast built, and COUNT the
+number of scripts, by default 10,000. They are made of words of the language, whole scripts of examples/ with one byte changed,
 and random bytes; always the same. The tree in JSON has to give the printed tree, and the diagnostic the place and the
 message that are printed. The last line counts the scripts; the status is 1 if any answers differ.
 """
@@ -23,11 +23,31 @@ import as_json
 import host
 
 WORDS = """let const fn if else switch while loop do until for in break continue return throw try catch import export as
-private this true false x y f g m 0 1 42 0x1f 'a' "s" `t` ( ) [ ] { } #{ , ; : :: . ?. ?[ = == != < > <= >= + - * / % **
-<< >> & | ^ && || ! ?? .. ..= => += -= |x| || () _ $ @ // /*""".split()
-PIECES = """let x = 1 ;|x += f ( 2 ) ;|fn f ( a ) { return a ; }|if x { y } else { 1 }|while x < 3 { x += 1 ; }|[ 1 , x ] ;
-|#{ a : 1 } . a ;|for i in 0 .. 9 { }|switch x { 1 => 2 , _ => 3 }|let g = | y | x + y ;|`a${ x }b` ;|/// doc\n|{ let y = x ; }
-|try { f ( 1 ) } catch ( e ) { }|x . y [ 1 ] ;|import "m" as m ;|m :: f ( ) ;|export x ;|loop { break 1 ; }|! x && y ;""".split("|")
+private this true false x y f g m 0 1 42 0x1f 'a' "s" `t` ( ) [ ] { } #{ , ; : :: . ?. ?[ = == != < > <= >= + - * / %
+** << >> & | ^ && || ! ?? .. ..= => += -= |x| || () _ $ @ // /*""".split()
+
+# Parts of which most lists are scripts.
+PARTS = """let x = 1;
+x += f(2);
+fn f(a) { return a; }
+private fn g() { f(1) }
+if x { y } else { 1 }
+while x < 3 { x += 1; }
+[1, x];
+#{a: 1}.a;
+for (i, k) in 0..9 { }
+switch x { 1 => 2, _ => 3 }
+let h = |y| x + y;
+`a${x}b`
+/// doc
+{ let y = x; }
+try { f(1) } catch (e) { }
+x.y[1]?.z;
+import "m" as m;
+m::f();
+export x;
+loop { break 1; }
+!x && y ?? 2 ** 3;""".splitlines(keepends=True)
 
 
 def scripts(count):
@@ -38,7 +58,7 @@ def scripts(count):
         if number % 10 < 3:
             yield " ".join(numbers.choices(WORDS, k=numbers.randint(1, 12))).encode()
         elif number % 10 < 7:
-            yield " ".join(numbers.choices(PIECES, k=numbers.randint(1, 8))).encode()
+            yield "".join(numbers.choices(PARTS, k=numbers.randint(1, 8))).encode()
         elif number % 10 < 9:
             text = bytearray(numbers.choice(examples))
             text[numbers.randrange(len(text))] = numbers.randrange(32, 127)
