@@ -25,7 +25,7 @@ use Rattle.rhai_tokenizer.specs.CuttingMeanings.{cut_brace, cut_token}
 use Rattle.rhai_tokenizer.specs.Meanings.{Found, brace_of_symbol, braces_after, opens_after, operand_then, text_after}
 use Rattle.rhai_tokenizer.specs.Places.{past}
 use Rattle.rhai_tokenizer.specs.Runs.{run_from}
-use Rattle.rhai_tokenizer.specs.Turns.{IsFront, IsTurn, Joins, before_of, due, found_of}
+use Rattle.rhai_tokenizer.specs.Turns.{IsFront, IsTurn, Joins, before_of, due, found_of, place_of}
 use Rattle.rhai_tokenizer.proofs.FrontLemmas.{IsCut, front_is, is_cut, known_cut, token_found}
 use Rattle.rhai_tokenizer.proofs.TurnLemmas.{before_after}
 
@@ -37,15 +37,15 @@ pub record Braces (old new : Reading) (k : Brace) : Type 0 where
 
 -- a piece with its front
 pub front_turn : (limits : Limits) (old new : Reading) (t : Text) (f : Front)
-    → IsFront limits old.in_text old.operand old.place t f
+    → IsFront limits old.in_text old.operand (place_of old) t f
     → Joins old.out new.out old.in_text old.at new.at (found_of f.place f.token)
     → new.operand ≡ operand_then old.operand (found_of f.place f.token) → Braces old new f.brace
-    → new.place ≡ f.after → new.is_hashed ≡ f.is_hash → new.at ≡ old.at + f.len → IsTurn limits old new t f.len
+    → place_of new ≡ f.after → new.is_hashed ≡ f.is_hash → new.at ≡ old.at + f.len → IsTurn limits old new t f.len
 front_turn limits old new t f is joined operand br place hash at = record {
   joined = subst (λ (x : Option Found). Joins old.out new.out old.in_text old.at new.at x) is.token joined;
   len = is.len;
   decides = before_after limits (before_of old) (next_at (before_of old) t) (found_of f.place f.token) f.brace
-      new.operand new.in_text new.opens new.braces.items new.place is.token is.brace operand br.in_text br.opens
+      new.operand new.in_text new.opens new.braces.items (place_of new) is.token is.brace operand br.in_text br.opens
       br.braces (place ∙ is.after);
   hash = λ e. is.hash (sym hash ∙ e);
   at = at;
@@ -53,26 +53,26 @@ front_turn limits old new t f is joined operand br place hash at = record {
 
 -- a piece that is cut
 pub cut_turn : (limits : Limits) (old new : Reading) (t text : Text) (k : Kind) (n : ℕ) (token : Option Token)
-    → old.in_text ≡ false → IsCut limits old.operand old.place t k n → text ≡ take n t
+    → old.in_text ≡ false → IsCut limits old.operand (place_of old) t k n → text ≡ take n t
     → option_map lexeme token ≡ cut_token limits k old.operand text
     → IfSome token (λ k. token_may_be_delivered k ≡ true)
-    → Joins old.out new.out false old.at new.at (found_of old.place token)
-    → new.operand ≡ operand_then old.operand (found_of old.place token) → Braces old new (cut_brace k text)
-    → new.place ≡ past old.place text → new.is_hashed ≡ false → new.at ≡ old.at + n → IsTurn limits old new t n
+    → Joins old.out new.out false old.at new.at (found_of (place_of old) token)
+    → new.operand ≡ operand_then old.operand (found_of (place_of old) token) → Braces old new (cut_brace k text)
+    → place_of new ≡ past (place_of old) text → new.is_hashed ≡ false → new.at ≡ old.at + n → IsTurn limits old new t n
 cut_turn limits old new t text k n token code cut ts ls d joined operand br place hash at =
     front_turn limits old new t _
-    (subst (λ (x : Bool). IsFront limits x old.operand old.place t (record {
+    (subst (λ (x : Bool). IsFront limits x old.operand (place_of old) t (record {
       token = token;
-      place = old.place;
+      place = place_of old;
       len = n;
-      after = new.place;
+      after = place_of new;
       brace = cut_brace k text;
       is_hash = false;
     })) (sym code)
-    (front_is limits false old.operand old.place t _ (piece_at old.operand t) refl (token_found old.place token _ ls
+    (front_is limits false old.operand (place_of old) t _ (piece_at old.operand t) refl (token_found (place_of old) token _ ls
     ∙ sym (cut.means text ts)) cut.len (place ∙ cut.after text ts) (sym (cut.brace text ts)) d
     (λ e. absurd (true≢false (sym e))) (λ p. p)))
-    (subst (λ (x : Bool). Joins old.out new.out x old.at new.at (found_of old.place token)) (sym code) joined)
+    (subst (λ (x : Bool). Joins old.out new.out x old.at new.at (found_of (place_of old) token)) (sym code) joined)
     operand br refl hash at
 
 -- a byte is left where a piece is due in code

@@ -112,6 +112,10 @@ abbrev pub cut_brace : Kind → Text → Brace
 cut_brace (kind.Symbol m) t = brace_of_symbol t
 cut_brace k t = brace.Stays
 
+abbrev pub is_comment : Token → Bool
+is_comment (token.Comment t) = true
+is_comment t = false
+
 -- whether a sign begins an operand after a token
 abbrev pub operand_after_token : (operand : Bool) → Token → Bool
 operand_after_token operand (token.LexError e) = true

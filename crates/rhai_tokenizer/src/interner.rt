@@ -11,7 +11,7 @@ use std::rc::RcStr;
 const SLOTS: usize = 64;
 
 /// The names and the values of strings of a text that were met last. The bytes of each choose its slot, where a later
-/// one takes its place. There are the more slots, the more names were made.
+/// one takes its place. The more names were made, the more slots there are.
 #[derive(Drop)]
 pub struct Interner {
     // None, or a power of two.
@@ -40,7 +40,7 @@ impl Interner {
     // More slots, all of them empty.
     #[inline(never)]
     fn grow(&mut self, alloc: Global) -> Result<(), AllocError> {
-        let count = self.slots.len().saturating_mul(4).max(SLOTS);
+        let count = self.slots.len().saturating_mul(2).max(SLOTS);
         let mut slots = Vec::new(alloc);
         slots.resize_with(count, || None)?;
         self.slots = slots;
@@ -54,7 +54,7 @@ impl Interner {
         ensures { IfOk result (λ t. rc_str_bytes t ≡ text.now) }
     {
         let name = RcStr::from_str(alloc, text)?;
-        if self.made < self.slots.len() {
+        if self.made / 2 < self.slots.len() {
             self.made += 1;
             if let Some(place) = self.slots.get_mut(slot) {
                 *place = Some(name.clone()?);

@@ -1,22 +1,26 @@
 //! One turn of the reading of a text: a piece is read, and its token joins.
 
-ghost use Rattle.std.specs.Prelude.{◌≡◌, ◌<◌, ◌≤◌, ◌+◌, ◌^◌, [], true, false, length, take, slice_index, reverse, IfOk, IfSome, option_map};
+ghost use Rattle.std.specs.Prelude.{◌≡◌, ◌<◌, ◌≤◌, ◌+◌, ◌^◌, [], true, false, length, take, slice_index, reverse, IfOk, IfSome};
+ghost use Rattle.std.specs.Prelude.{option_map};
 ghost use Rattle.std.specs.List.{list_all};
 ghost use Rattle.rhai_lower.specs.Entries.{token_may_be_delivered};
 ghost use Rattle.rhai_lower.specs.Texts.{Text};
+ghost use Rattle.rhai_tokenizer.specs.Bytes.{begins};
 ghost use Rattle.rhai_tokenizer.specs.Cutting.{first_class};
+ghost use Rattle.rhai_tokenizer.specs.Cutting as spec;
 ghost use Rattle.rhai_tokenizer.specs.CuttingMeanings.{is_plain};
 ghost use Rattle.rhai_tokenizer.specs.Meanings.{at_start, operand_then};
 ghost use Rattle.rhai_tokenizer.specs.Places.{past};
-ghost use Rattle.rhai_tokenizer.specs.Turns.{IsFront, IsPlace, IsReady, IsTurn, Joins, before_of, found_of};
+ghost use Rattle.rhai_tokenizer.specs.Turns.{IsFront, IsPlace, IsRead, IsReady, IsTurn, Joins, before_of, due, found_of};
+ghost use Rattle.rhai_tokenizer.specs.Turns.{left, place_of};
 
 use crate::braces::{follow, opens_after, symbol_brace};
-use crate::class::{Class, First, first_class};
+use crate::class::{Class, First, first_class, is_space};
 use crate::front::{Front, Tools, front_of};
-use crate::lexer::{Kind, blanks_past, number_piece, plain_sign, run_len};
+use crate::lexer::{Kind, blanks_in, number_piece, plain_sign, run_len};
 use crate::limits::Limits;
 use crate::meaning::{fixed_symbol, integer_token, operand_after, word_token};
-use crate::place::{Place, START, past_plain, position};
+use crate::place::{FIRST_LINE, Line, Place, line_of, place_in, position};
 use crate::table::{Fixed, Meaning};
 use crate::tokens::{Span, Tokens};
 use rhai_lower::position::Position;
@@ -41,8 +45,8 @@ pub struct Reading {
     pub opens: bool,
     /// Whether the piece before is a `#` alone.
     pub is_hashed: bool,
-    /// Where the next piece stands.
-    pub place: Place,
+    /// The line of the next piece.
+    pub line: Line,
     /// Its first byte.
     pub at: usize,
 }
@@ -68,7 +72,7 @@ impl Reading {
             in_text: false,
             opens: false,
             is_hashed: false,
-            place: START,
+            line: FIRST_LINE,
             at: 0,
         }
     }
@@ -125,7 +129,7 @@ fn join(
 #[inline(always)]
 fn add(reading: &mut Reading, limits: Limits, rest: &str, piece: Front) -> Result<usize, AllocError>
     requires ready { IsReady reading.old rest.now }
-    requires front { IsFront limits reading.old.in_text reading.old.operand reading.old.place rest.now piece }
+    requires front { IsFront limits reading.old.in_text reading.old.operand (place_of reading.old) rest.now piece }
     ensures { IfOk result (λ n. IsTurn limits reading.old reading.new rest.now n) }
 {
     let _limits = limits;
@@ -146,7 +150,7 @@ fn add(reading: &mut Reading, limits: Limits, rest: &str, piece: Front) -> Resul
     reading.in_text = follow(&mut reading.braces, brace, reading.opens)?;
     reading.opens = opens_after(brace);
     reading.is_hashed = is_hash;
-    reading.place = after;
+    reading.line = line_of(after, stop);
     reading.at = stop;
     Ok(len)
 }
@@ -158,7 +162,7 @@ fn any(reading: &mut Reading, limits: Limits, rest: &str) -> Result<usize, Alloc
     ensures { IfOk result (λ n. IsTurn limits reading.old reading.new rest.now n) }
 {
     let (in_text, operand) = (reading.in_text, reading.operand);
-    let (is_hashed, place) = (reading.is_hashed, reading.place);
+    let (is_hashed, place) = (reading.is_hashed, place_in(reading.line, reading.at));
     let piece = front_of(
         &mut reading.tools,
         limits,
@@ -171,34 +175,49 @@ fn any(reading: &mut Reading, limits: Limits, rest: &str) -> Result<usize, Alloc
     add(reading, limits, rest, piece)
 }
 
-// White space.
+// Whether a text begins with white space of one byte.
 #[inline(always)]
-fn blank(reading: &mut Reading, rest: &str) -> usize
-    requires ready { IsReady reading.old rest.now }
-    requires code { reading.old.in_text ≡ false }
-    requires class { First.Space ≡ first_class (slice_index rest.now 0) }
-    ensures { (limits : Limits) → IsTurn limits reading.old reading.new rest.now result }
+fn begins_with_space(rest: &str) -> bool
+    ensures { result ≡ begins spec.is_space rest.now }
 {
-    let (len, after) = blanks_past(reading.place, rest.as_bytes());
+    match rest.as_bytes() {
+        [b, ..] => is_space(*b),
+        [] => false,
+    }
+}
+
+// Passes white space of single bytes, and what follows it of other white space.
+#[inline(always)]
+fn past_blanks<'a>(reading: &mut Reading, rest: &'a str) -> &'a str
+    requires { IsReady reading.old rest.now }
+    ensures read { (limits : Limits) → IsRead limits reading.old reading.new rest.now result.now }
+    ensures in_text { reading.new.in_text ≡ reading.old.in_text }
+    ensures shorter { length result.now ≤ length rest.now }
+{
+    if reading.in_text || !begins_with_space(rest) {
+        return rest;
+    }
+    let (len, line) = blanks_in(reading.line, reading.at, rest.as_bytes());
     reading.opens = false;
     reading.is_hashed = false;
-    reading.place = after;
+    reading.line = line;
     reading.at += len;
-    len
+    let (_, more) = rest.split_at(len);
+    more
 }
 
 // A token of so many bytes that each take a column joins.
 #[inline(always)]
 fn take(reading: &mut Reading, token: Token, len: usize) -> Result<(), AllocError>
-    requires place { IsPlace reading.old.place }
+    requires place { IsPlace (place_of reading.old) }
     requires delivered { token_may_be_delivered token ≡ true }
     requires room { reading.old.at + len < 2 ^ 63 }
     ensures joined { IfOk result (λ done. Joins reading.old.out reading.new.out false reading.old.at
-        reading.new.at (found_of reading.old.place (Some token))) }
+        reading.new.at (found_of (place_of reading.old) (Some token))) }
     ensures operand { IfOk result (λ done. reading.new.operand
-        ≡ operand_then reading.old.operand (found_of reading.old.place (Some token))) }
+        ≡ operand_then reading.old.operand (found_of (place_of reading.old) (Some token))) }
     ensures place { IfOk result (λ done. (t : Text) → length t ≡ len → list_all is_plain t ≡ true
-        → reading.new.place ≡ past reading.old.place t) }
+        → place_of reading.new ≡ past (place_of reading.old) t) }
     ensures at { IfOk result (λ done. reading.new.at ≡ reading.old.at + len) }
     ensures hash { IfOk result (λ done. reading.new.is_hashed ≡ false) }
     ensures braces { reading.new.braces ≡ reading.old.braces }
@@ -207,11 +226,10 @@ fn take(reading: &mut Reading, token: Token, len: usize) -> Result<(), AllocErro
 {
     let start = reading.at;
     let stop = start + len;
-    let place = reading.place;
+    let place = place_in(reading.line, start);
     let span = Span { start, stop };
     reading.operand = push(&mut reading.out, token, reading.operand, false, place, span)?;
     reading.is_hashed = false;
-    reading.place = past_plain(place, len);
     reading.at = stop;
     Ok(())
 }
@@ -291,9 +309,9 @@ fn symbol(reading: &mut Reading, limits: Limits, rest: &str) -> Result<usize, Al
     }
 }
 
-/// Reads the piece at the front of a text, where one is due. Gives its length. Returns `AllocError` if memory runs out.
+// Reads the piece at the front of a text, where one is due. Gives its length.
 #[inline(always)]
-pub fn turn(reading: &mut Reading, limits: Limits, rest: &str) -> Result<usize, AllocError>
+fn piece(reading: &mut Reading, limits: Limits, rest: &str) -> Result<usize, AllocError>
     requires { IsReady reading.old rest.now }
     ensures { IfOk result (λ n. IsTurn limits reading.old reading.new rest.now n) }
 {
@@ -301,10 +319,55 @@ pub fn turn(reading: &mut Reading, limits: Limits, rest: &str) -> Result<usize, 
         return any(reading, limits, rest);
     }
     match first_class(rest.as_bytes()[0]) {
-        First::Space => Ok(blank(reading, rest)),
         First::Letter => word(reading, rest),
         First::Digit => number(reading, limits, rest),
         First::Other => symbol(reading, limits, rest),
         _ => any(reading, limits, rest),
     }
+}
+
+/// Whether a piece comes next.
+#[inline(always)]
+pub fn is_due(in_text: bool, rest: &str) -> bool
+    ensures { result ≡ due in_text rest.now }
+{
+    if in_text {
+        return true;
+    }
+    match rest.as_bytes() {
+        [] => false,
+        [_, ..] => true,
+    }
+}
+
+// The piece at the front is read.
+#[inline(always)]
+fn after_piece<'a>(
+    reading: &mut Reading,
+    limits: Limits,
+    rest: &'a str,
+) -> Result<&'a str, AllocError>
+    requires { IsReady reading.old rest.now }
+    ensures read { IfOk result (λ more. IsRead limits reading.old reading.new rest.now more.now) }
+    ensures falls { IfOk result (λ more. left reading.new.in_text more.now < left reading.old.in_text rest.now) }
+{
+    let len = piece(reading, limits, rest)?;
+    let (_, more) = rest.split_at(len);
+    Ok(more)
+}
+
+/// Reads white space at the front of a text, and the piece after it, where one is due. Gives what is left. Returns
+/// `AllocError` if memory runs out.
+#[inline(always)]
+pub fn turn<'a>(reading: &mut Reading, limits: Limits, rest: &'a str) -> Result<&'a str, AllocError>
+    requires { IsReady reading.old rest.now }
+    ensures read { IfOk result (λ more. IsRead limits reading.old reading.new rest.now more.now) }
+    ensures falls { IfOk result (λ more. left reading.new.in_text more.now < left reading.old.in_text rest.now) }
+{
+    let next = past_blanks(reading, rest);
+    if !is_due(reading.in_text, next) {
+        return Ok(next);
+    }
+    let more = after_piece(reading, limits, next)?;
+    Ok(more)
 }
