@@ -3,7 +3,7 @@
 ghost use Rattle.std.specs.Prelude.{◌≡◌, ◌≤◌, length};
 ghost use Rattle.rhai_lower.specs.Names.{is_word};
 ghost use Rattle.std.specs.Char.{digit_value};
-ghost use Rattle.rhai_tokenizer.specs.Bytes.{base_of, is_digit_after};
+ghost use Rattle.rhai_tokenizer.specs.Bytes.{base_of, is_digit_after, is_letter};
 ghost use Rattle.rhai_tokenizer.specs.Cutting as spec;
 
 /// What begins with a byte.
@@ -102,6 +102,14 @@ fn is_second(b: u8) -> bool
     ensures { result ≡ spec.is_second b }
 {
     bytes()[b as usize] == 2
+}
+
+/// Whether a word begins with a byte.
+#[inline(always)]
+pub fn is_letter(b: u8) -> bool
+    ensures { result ≡ is_letter b }
+{
+    b.is_ascii_alphabetic() || b == b'_'
 }
 
 /// Whether a byte is white space.

@@ -1,7 +1,7 @@
 //! One turn of the reading of a text: a piece is read, and its token joins.
 
 ghost use Rattle.std.specs.Prelude.{◌≡◌, ◌<◌, ◌≤◌, ◌+◌, ◌^◌, [], true, false, length, take, slice_index, reverse, IfOk, IfSome};
-ghost use Rattle.std.specs.Prelude.{option_map};
+ghost use Rattle.std.specs.Prelude.{drop, option_map};
 ghost use Rattle.std.specs.List.{list_all};
 ghost use Rattle.rhai_lower.specs.Entries.{token_may_be_delivered};
 ghost use Rattle.rhai_lower.specs.Texts.{Text};
@@ -15,9 +15,9 @@ ghost use Rattle.rhai_tokenizer.specs.Turns.{IsFront, IsPlace, IsRead, IsReady, 
 ghost use Rattle.rhai_tokenizer.specs.Turns.{left, place_of};
 
 use crate::braces::{follow, opens_after, symbol_brace};
-use crate::class::{Class, First, first_class, is_space};
+use crate::class::{Class, First, first_class, is_letter, is_space};
 use crate::front::{Front, Tools, front_of};
-use crate::lexer::{Kind, blanks_in, number_piece, plain_sign, run_len};
+use crate::lexer::{Kind, blanks_in, number_piece, plain_sign, run_len, short_symbol};
 use crate::limits::Limits;
 use crate::meaning::{fixed_symbol, integer_token, operand_after, word_token};
 use crate::place::{FIRST_LINE, Line, Place, line_of, place_in, position};
@@ -197,10 +197,9 @@ fn past_blanks<'a>(reading: &mut Reading, rest: &'a str) -> &'a str
     if reading.in_text || !begins_with_space(rest) {
         return rest;
     }
-    let (len, line) = blanks_in(reading.line, reading.at, rest.as_bytes());
+    let len = blanks_in(&mut reading.line, reading.at, rest.as_bytes());
     reading.opens = false;
     reading.is_hashed = false;
-    reading.line = line;
     reading.at += len;
     let (_, more) = rest.split_at(len);
     more
@@ -309,6 +308,37 @@ fn symbol(reading: &mut Reading, limits: Limits, rest: &str) -> Result<usize, Al
     }
 }
 
+// A symbol of one byte.
+#[inline(always)]
+fn lone_symbol(reading: &mut Reading, rest: &str, fixed: Fixed) -> Result<usize, AllocError>
+    requires ready { IsReady reading.old rest.now }
+    requires code { reading.old.in_text ≡ false }
+    requires class { First.Other ≡ first_class (slice_index rest.now 0) }
+    requires symbol { (Kind.Symbol (Meaning.Plain fixed), 1) ≡ spec.sign_cut (slice_index rest.now 0) (drop 1 rest.now) }
+    ensures { IfOk result (λ n. (limits : Limits) → IsTurn limits reading.old reading.new rest.now n) }
+{
+    let text = &rest.as_bytes()[..1];
+    let token = fixed_symbol(reading.operand, fixed, text);
+    take(reading, token, 1)?;
+    reading.in_text = follow(&mut reading.braces, symbol_brace(text), reading.opens)?;
+    reading.opens = false;
+    Ok(1)
+}
+
+// A piece that begins with no letter.
+#[inline(never)]
+fn other(reading: &mut Reading, limits: Limits, rest: &str) -> Result<usize, AllocError>
+    requires ready { IsReady reading.old rest.now }
+    requires code { reading.old.in_text ≡ false }
+    ensures { IfOk result (λ n. IsTurn limits reading.old reading.new rest.now n) }
+{
+    match first_class(rest.as_bytes()[0]) {
+        First::Digit => number(reading, limits, rest),
+        First::Other => symbol(reading, limits, rest),
+        _ => any(reading, limits, rest),
+    }
+}
+
 // Reads the piece at the front of a text, where one is due. Gives its length.
 #[inline(always)]
 fn piece(reading: &mut Reading, limits: Limits, rest: &str) -> Result<usize, AllocError>
@@ -318,11 +348,14 @@ fn piece(reading: &mut Reading, limits: Limits, rest: &str) -> Result<usize, All
     if reading.in_text {
         return any(reading, limits, rest);
     }
-    match first_class(rest.as_bytes()[0]) {
-        First::Letter => word(reading, rest),
-        First::Digit => number(reading, limits, rest),
-        First::Other => symbol(reading, limits, rest),
-        _ => any(reading, limits, rest),
+    let bytes = rest.as_bytes();
+    let first = bytes[0];
+    if is_letter(first) {
+        return word(reading, rest);
+    }
+    match short_symbol(first, &bytes[1..]) {
+        Some(fixed) => lone_symbol(reading, rest, fixed),
+        None => other(reading, limits, rest),
     }
 }
 

@@ -6,21 +6,22 @@ use Rattle.rhai_tokenizer.proofs.PlaceLemmas.{past_more, past_place}
 use Rattle.rhai_tokenizer.proofs.lexer.blanks_in.Goals as goal
 
 pub blank_in-n-requires-clause-placed : goal.blank_in-n-requires-clause-placed
-blank_in-n-requires-clause-placed c = subst IsPlace (sym c.loop-next.invariant.2)
-    (past_place (take c.loop-next.len c.args.z.now) (place_in c.args.line c.args.at) c.requires.placed)
+blank_in-n-requires-clause-placed c = subst IsPlace (sym c.loop-at.invariant.2)
+    (past_place (take c.loop-at.len c.args.z.now) (place_in c.args.line.now c.args.at) c.requires.placed)
 
 pub returns-then-n-eq0-clause-value : goal.returns-then-n-eq0-clause-value
-returns-then-n-eq0-clause-value c = blanks_end c.args.z.now c.loop-next.len c.blank_in-n.result.0 _
-    c.blank_in-n.ensures.value c.if-n-eq0.true c.loop-next.invariant.0
+returns-then-n-eq0-clause-value c = blanks_end c.args.z.now c.loop-at.len c.blank_in-n.result _
+    c.blank_in-n.ensures.value c.if-n-eq0.true c.loop-at.invariant.0
 
-pub loop-next-preserved : goal.loop-next-preserved
-loop-next-preserved c =
-    let n = c.blank_in-n.result.0 in
-    let len = c.loop-next.len in
-    let same : c.args.at + (len + n) ≡ (c.args.at + len) + n = omega arith in (
-      blanks_step c.args.z.now len n _ c.blank_in-n.ensures.value c.if-n-eq0.false c.loop-next.invariant.0,
-      room c.args.z.now len n c.loop-next.invariant.1 c.blank_in-n.ensures.within,
-      ap (place_in c.blank_in-n.result.1) same ∙ past_more (place_in c.args.line c.args.at)
-          (place_in c.loop-next.here (c.args.at + len)) (place_in c.blank_in-n.result.1 ((c.args.at + len) + n))
-          c.args.z.now len n c.loop-next.invariant.2 c.blank_in-n.ensures.place,
+pub loop-at-preserved : goal.loop-at-preserved
+loop-at-preserved c =
+    let n = c.blank_in-n.result in
+    let len = c.loop-at.len in
+    let same : c.args.at + (len + n) ≡ (c.args.at + len) + n = omega arith in
+    (
+      blanks_step c.args.z.now len n _ c.blank_in-n.ensures.value c.if-n-eq0.false c.loop-at.invariant.0,
+      room c.args.z.now len n c.loop-at.invariant.1 c.blank_in-n.ensures.within,
+      ap (place_in c.blank_in-n.new.line) same ∙ past_more (place_in c.args.line.now c.args.at)
+          (place_in c.loop-at.line (c.args.at + len)) (place_in c.blank_in-n.new.line ((c.args.at + len) + n))
+          c.args.z.now len n c.loop-at.invariant.2 c.blank_in-n.ensures.place,
     )

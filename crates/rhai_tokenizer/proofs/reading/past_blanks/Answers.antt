@@ -10,7 +10,7 @@ use Rattle.rhai_tokenizer.proofs.reading.past_blanks.Goals as goal
 pub split_at-requires : goal.split_at-requires
 split_at-requires c =
     let old = c.args.reading.now in
-    (blank_cut no_limits old.operand (place_of old) c.args.rest.now c.as_bytes.result.now c.blanks_in-len.result.0
+    (blank_cut no_limits old.operand (place_of old) c.args.rest.now c.as_bytes.result.now c.blanks_in-len.result
     (some_due old.in_text c.args.rest.now c.if-reading.false c.requires.is_due)
     (space_begins c.args.rest.now (sym c.begins_with_space.ensures ∙ c.if-not-begins_with_space.false))
     c.as_bytes.ensures.value c.blanks_in-len.ensures.value).boundary c.utf8.rest
@@ -19,7 +19,7 @@ pub returns-clause-read : goal.returns-clause-read
 returns-clause-read c limits =
     let old = c.args.reading.now in
     let t = c.args.rest.now in
-    let n = c.blanks_in-len.result.0 in
+    let n = c.blanks_in-len.result in
     let code = c.if-reading.false in
     let cut = blank_cut limits old.operand (place_of old) t c.as_bytes.result.now n
     (some_due old.in_text t code c.requires.is_due)
