@@ -21,6 +21,7 @@ pub mod NumberTrees
 pub mod NumbersOfOperands
 pub mod NumbersOfStatements
 pub mod Numbers
+pub mod ClosureLemmas
 pub mod AlwaysLemmas
 pub mod Chains
 pub mod Fronts

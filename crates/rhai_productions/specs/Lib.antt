@@ -19,6 +19,7 @@ pub mod Quiet
 pub mod Watched
 pub mod Kept
 pub mod Numbered
+pub mod ClosureLaws
 pub mod Always
 pub mod ChainForms
 pub mod Runs

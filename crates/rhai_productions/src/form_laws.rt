@@ -1,6 +1,7 @@
 //! Laws of the forms that follow from productions, as contracts of functions that do nothing.
 
 ghost use Rattle.rhai_productions.specs.ChainForms.{ChainsAreJoined};
+ghost use Rattle.rhai_productions.specs.ClosureLaws.{CapturedAreUsed, ParametersAreCaptured};
 ghost use Rattle.rhai_productions.specs.EventLaws.{CapturedAreFreeUses, FormsFitWhereverSpelled};
 ghost use Rattle.rhai_productions.specs.EventLaws.{FormsLeaveTheirEvents};
 ghost use Rattle.rhai_productions.specs.Numbered.{TreesAreWellNumbered};
@@ -40,6 +41,20 @@ pub fn streams_are_whole()
 #[tactic(auto, using(crate::proofs::Passing::captured_are_free_uses))]
 pub fn captured_are_free_uses()
     ensures { CapturedAreFreeUses production }
+{}
+
+/// The parameters of a closure are the names that it captures and then its own, and `curry` gets the captured ones in
+/// that order.
+#[tactic(auto, using(crate::proofs::ClosureLemmas::parameters_are_captured))]
+pub fn parameters_are_captured()
+    ensures { ParametersAreCaptured }
+{}
+
+/// A closure captures each name once; where it ends in a closure, a name that it captures has a slot there, or is that
+/// of a function that has ended, or is captured there, too.
+#[tactic(auto, using(crate::proofs::ClosureLemmas::captured_are_used))]
+pub fn captured_are_used()
+    ensures { CapturedAreUsed }
 {}
 
 /// A name is captured exactly in a closure, where it is free and the next token does not exclude its use.
