@@ -8,7 +8,7 @@ use Rattle.std.proofs.lemmas.List.{map-append}
 use Rattle.std.proofs.lemmas.List.Folds.{list_any-append}
 use Rattle.std.specs.Cmp.Lexicographic as L
 use Rattle.rhai_grammar.specs.Prelude.{Text, same_text, Position, SlotValue, Node, captured_nodes, shared_names, Context}
-use Rattle.rhai_grammar.specs.Prelude.{Live, Point, capturing, with_captured, Demands, Met, Nothing, is_among, Ended}
+use Rattle.rhai_grammar.specs.Prelude.{Live, Point, capturing, with_captured, Met, Nothing, is_among, Ended}
 use Rattle.rhai_grammar.specs.Prelude.{Library, is_function, keys_in, with_ended, is_captured, number, Use, names_of}
 use Rattle.rhai_grammar.specs.Prelude.{noted, closure_name, closure_node, ended_closure, made_block, apart, Refusal}
 use Rattle.rhai_lower.specs.Nodes.{Block}
@@ -16,11 +16,10 @@ use Rattle.rhai_grammar.specs.ClosureLaws.{AreDistinct, Hands, names_in, pointer
 use Rattle.rhai_grammar.specs.Keys.{has_name}
 use Rattle.rhai_grammar.specs.Settings as S
 use Rattle.rhai_grammar.specs.Uses.{with_use}
-use Rattle.rhai_grammar.specs.UsesOfForms.{first_uses}
 use Rattle.rhai_grammar.specs.declared.role.Bars.{Bars}
 use Rattle.rhai_grammar.specs.declared.role.Bars.TheVariants as bars
 use Rattle.rhai_grammar.proofs.SlotLemmas.{same}
-use Rattle.rhai_reading.specs.Reading.{Closure, ClosureBody, Goal, Val}
+use Rattle.rhai_reading.specs.Reading.{Closure, Goal, Val}
 use Rattle.rhai_productions.specs.Rules.{production}
 use Rattle.rhai_productions.specs.Rules as P
 use Rattle.rhai_productions.specs.Schema.{Production, adds, give, knows}

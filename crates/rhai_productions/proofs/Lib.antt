@@ -22,6 +22,11 @@ pub mod NumbersOfOperands
 pub mod NumbersOfStatements
 pub mod Numbers
 pub mod ClosureLemmas
+pub mod Ordering
+pub mod OrderCauses
+pub mod OrdersOfOperands
+pub mod OrdersOfStatements
+pub mod Orders
 pub mod AlwaysLemmas
 pub mod Chains
 pub mod Fronts

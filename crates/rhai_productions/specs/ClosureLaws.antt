@@ -1,9 +1,8 @@
 -- Laws of closures: their parameters, `curry`, and where captured names are used.
-use Rattle.std.specs.Prelude.{◌≡◌, ◌⊎◌, ℕ, Bool, true, ◌++◌, List, [], ◌∷◌, None, length}
+use Rattle.std.specs.Prelude.{◌≡◌, ◌⊎◌, true, ◌++◌, List, [], ◌∷◌, None, length}
 use Rattle.std.specs.Option.{is_some}
 use Rattle.rhai_grammar.specs.Prelude.{Text, Position, Node, Context, Live, Ended, Point, Met, Nothing, closure_name}
 use Rattle.rhai_grammar.specs.Prelude.{names_of, is_among, is_function, number}
-use Rattle.rhai_grammar.specs.Keys.{Key}
 use Rattle.rhai_grammar.specs.ClosureLaws.{AreDistinct, Hands, pointer_to}
 use Rattle.rhai_grammar.specs.Settings.{in_closure}
 use Rattle.rhai_grammar.specs.declared.role.Bars.{Bars}

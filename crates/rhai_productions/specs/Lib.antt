@@ -20,6 +20,7 @@ pub mod Watched
 pub mod Kept
 pub mod Numbered
 pub mod ClosureLaws
+pub mod LibraryLaws
 pub mod Always
 pub mod ChainForms
 pub mod Runs

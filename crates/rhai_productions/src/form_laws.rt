@@ -4,6 +4,7 @@ ghost use Rattle.rhai_productions.specs.ChainForms.{ChainsAreJoined};
 ghost use Rattle.rhai_productions.specs.ClosureLaws.{CapturedAreUsed, ParametersAreCaptured};
 ghost use Rattle.rhai_productions.specs.EventLaws.{CapturedAreFreeUses, FormsFitWhereverSpelled};
 ghost use Rattle.rhai_productions.specs.EventLaws.{FormsLeaveTheirEvents};
+ghost use Rattle.rhai_productions.specs.LibraryLaws.{LibrariesStayOrderly};
 ghost use Rattle.rhai_productions.specs.Numbered.{TreesAreWellNumbered};
 ghost use Rattle.rhai_productions.specs.Quiet.{NothingIsCaptured};
 ghost use Rattle.rhai_productions.specs.Rules.{production};
@@ -67,6 +68,12 @@ pub fn names_are_captured()
 #[tactic(auto, using(crate::proofs::Outside::nothing_is_captured))]
 pub fn nothing_is_captured()
     ensures { NothingIsCaptured }
+{}
+
+/// Libraries stay orderly, also where a form is refused, and no refusal is that the key of a closure is there.
+#[tactic(auto, using(crate::proofs::Orders::libraries_stay_orderly))]
+pub fn libraries_stay_orderly()
+    ensures { LibrariesStayOrderly }
 {}
 
 /// In trees of forms that fit, and in the functions that end there, every number is right.
