@@ -27,6 +27,10 @@ pub mod OrderCauses
 pub mod OrdersOfOperands
 pub mod OrdersOfStatements
 pub mod Orders
+pub mod Standing
+pub mod PlacesOfOperands
+pub mod PlacesOfStatements
+pub mod Places
 pub mod AlwaysLemmas
 pub mod Chains
 pub mod Fronts

@@ -21,6 +21,7 @@ pub mod Kept
 pub mod Numbered
 pub mod ClosureLaws
 pub mod LibraryLaws
+pub mod PlaceLaws
 pub mod Always
 pub mod ChainForms
 pub mod Runs

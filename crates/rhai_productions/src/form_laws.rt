@@ -6,6 +6,7 @@ ghost use Rattle.rhai_productions.specs.EventLaws.{CapturedAreFreeUses, FormsFit
 ghost use Rattle.rhai_productions.specs.EventLaws.{FormsLeaveTheirEvents};
 ghost use Rattle.rhai_productions.specs.LibraryLaws.{LibrariesStayOrderly};
 ghost use Rattle.rhai_productions.specs.Numbered.{TreesAreWellNumbered};
+ghost use Rattle.rhai_productions.specs.PlaceLaws.{RefusalsStandAtTokens};
 ghost use Rattle.rhai_productions.specs.Quiet.{NothingIsCaptured};
 ghost use Rattle.rhai_productions.specs.Rules.{production};
 ghost use Rattle.rhai_productions.specs.Runs.{ExpressionsAreRuns, RunsAreExpressions};
@@ -18,6 +19,12 @@ ghost use Rattle.rhai_productions.specs.Watched.{NamesAreCaptured};
 #[tactic(auto, using(crate::proofs::Refusals::forms_leave_their_events))]
 pub fn forms_leave_their_events()
     ensures { FormsLeaveTheirEvents production }
+{}
+
+/// Whichever demand a form misses, the error stands at a token that was taken, or at the next one.
+#[tactic(auto, using(crate::proofs::Places::refusals_stand_at_tokens))]
+pub fn refusals_stand_at_tokens()
+    ensures { RefusalsStandAtTokens }
 {}
 
 /// A form that fits on one stream fits on every stream that begins with its spelling and goes on with the same token.
