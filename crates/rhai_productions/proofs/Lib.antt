@@ -31,6 +31,10 @@ pub mod Standing
 pub mod PlacesOfOperands
 pub mod PlacesOfStatements
 pub mod Places
+pub mod Rooms
+pub mod RoomsOfOperands
+pub mod RoomsOfStatements
+pub mod RoomsOfGoals
 pub mod AlwaysLemmas
 pub mod Chains
 pub mod Fronts

@@ -5,6 +5,7 @@ ghost use Rattle.rhai_productions.specs.ClosureLaws.{CapturedAreUsed, Parameters
 ghost use Rattle.rhai_productions.specs.EventLaws.{CapturedAreFreeUses, FormsFitWhereverSpelled};
 ghost use Rattle.rhai_productions.specs.EventLaws.{FormsLeaveTheirEvents};
 ghost use Rattle.rhai_productions.specs.LibraryLaws.{LibrariesStayOrderly};
+ghost use Rattle.rhai_productions.specs.NestLaws.{FormsNestWithin};
 ghost use Rattle.rhai_productions.specs.Numbered.{TreesAreWellNumbered};
 ghost use Rattle.rhai_productions.specs.PlaceLaws.{RefusalsStandAtTokens};
 ghost use Rattle.rhai_productions.specs.Quiet.{NothingIsCaptured};
@@ -111,4 +112,10 @@ pub fn expressions_are_runs()
 #[tactic(auto, using(crate::proofs::RunsClimb::runs_are_expressions))]
 pub fn runs_are_expressions()
     ensures { RunsAreExpressions }
+{}
+
+/// Where there are limits on depth, no form that fits is deeper than they allow.
+#[tactic(auto, using(crate::proofs::RoomsOfGoals::forms_nest_within))]
+pub fn forms_nest_within()
+    ensures { FormsNestWithin }
 {}
