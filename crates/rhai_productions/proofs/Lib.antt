@@ -35,6 +35,7 @@ pub mod Rooms
 pub mod RoomsOfOperands
 pub mod RoomsOfStatements
 pub mod RoomsOfGoals
+pub mod ReaderRooms
 pub mod AlwaysLemmas
 pub mod Chains
 pub mod Fronts

@@ -5,7 +5,7 @@ ghost use Rattle.rhai_productions.specs.ClosureLaws.{CapturedAreUsed, Parameters
 ghost use Rattle.rhai_productions.specs.EventLaws.{CapturedAreFreeUses, FormsFitWhereverSpelled};
 ghost use Rattle.rhai_productions.specs.EventLaws.{FormsLeaveTheirEvents};
 ghost use Rattle.rhai_productions.specs.LibraryLaws.{LibrariesStayOrderly};
-ghost use Rattle.rhai_productions.specs.NestLaws.{FormsNestWithin};
+ghost use Rattle.rhai_productions.specs.NestLaws.{FormsNestWithin, ReadersNestWithin};
 ghost use Rattle.rhai_productions.specs.Numbered.{TreesAreWellNumbered};
 ghost use Rattle.rhai_productions.specs.PlaceLaws.{RefusalsStandAtTokens};
 ghost use Rattle.rhai_productions.specs.Quiet.{NothingIsCaptured};
@@ -118,4 +118,10 @@ pub fn runs_are_expressions()
 #[tactic(auto, using(crate::proofs::RoomsOfGoals::forms_nest_within))]
 pub fn forms_nest_within()
     ensures { FormsNestWithin }
+{}
+
+/// Where there are limits on depth, no more readers are active at once than they allow, also after a refusal.
+#[tactic(auto, using(crate::proofs::ReaderRooms::readers_nest_within))]
+pub fn readers_nest_within()
+    ensures { ReadersNestWithin }
 {}
