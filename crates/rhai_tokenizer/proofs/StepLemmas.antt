@@ -1,13 +1,16 @@
 -- One turn of the reading of a text, by what its code knows of the piece.
 use Rattle.std.proofs.Common.{◌≡◌, ℕ, ◌+◌, ◌-◌, ◌≤◌, Bool, true, false, ◌||◌, [], ◌∷◌, Option, None, cond, codes, drop, take, length, reverse, IsUtf8, refl, sym, ap, ◌∙◌, subst, arith, true≢false}
+use Rattle.std.proofs.Common.{◌&&◌, ◌==◌}
+use Rattle.std.proofs.lemmas.Bool.{or_parts}
 use Rattle.std.proofs.lemmas.List.{append-nil, length-take-le}
 use Rattle.std.specs.Prelude.{IfSome, option_map, slice_index}
 use Rattle.std.specs.List.{concat, prefix_len}
 use Rattle.rhai_lower.specs.Entries.{token_may_be_delivered}
-use Rattle.rhai_lower.specs.Lexemes.{lexeme}
+use Rattle.rhai_lower.specs.Lexemes.{Lexeme, Sign, lexeme}
 use Rattle.rhai_lower.specs.Names.{is_word}
 use Rattle.rhai_lower.specs.Texts.{Text, same_text}
 use Rattle.rhai_lower.specs.declared.token.Token.{Token}
+use Rattle.rhai_lower.specs.declared.token.Token.TheVariants as token
 use Rattle.rhai_tokenizer.specs.declared.braces.Brace.{Brace}
 use Rattle.rhai_tokenizer.specs.declared.braces.Brace.TheVariants as brace
 use Rattle.rhai_tokenizer.specs.declared.class.First.{First}
@@ -18,10 +21,11 @@ use Rattle.rhai_tokenizer.specs.declared.lexer.Kind.TheVariants as kind
 use Rattle.rhai_tokenizer.specs.declared.limits.Limits.{Limits}
 use Rattle.rhai_tokenizer.specs.declared.place.Place.{Place}
 use Rattle.rhai_tokenizer.specs.declared.reading.Reading.{Reading}
+use Rattle.rhai_tokenizer.specs.declared.table.Meaning.{Meaning}
 use Rattle.rhai_tokenizer.specs.declared.tokens.Tokens.{Tokens}
 use Rattle.rhai_tokenizer.specs.Bytes.{blanks, is_empty}
 use Rattle.rhai_tokenizer.specs.Cutting.{first_class, next_at, piece_at, number_cut, sign_cut}
-use Rattle.rhai_tokenizer.specs.CuttingMeanings.{cut_brace, cut_token}
+use Rattle.rhai_tokenizer.specs.CuttingMeanings.{cut_brace, cut_symbol, cut_token, is_sign, meaning_of}
 use Rattle.rhai_tokenizer.specs.Meanings.{Found, brace_of_symbol, braces_after, opens_after, operand_then, text_after}
 use Rattle.rhai_tokenizer.specs.Places.{past}
 use Rattle.rhai_tokenizer.specs.Runs.{run_from}
@@ -166,3 +170,16 @@ cuts limits o place t bytes k n cut u e = let (within, rest) = cut.boundary u in
   front = ap (take n) e;
   len = length-take-le n bytes (omega (arith, within, ap length e));
 }
+
+-- a symbol of one byte that is no sign means the same where an operand begins
+pub no_sign : (o : Bool) (m : Meaning) (t : Text) → is_empty t ≡ false → is_sign (slice_index t 0) ≡ false
+    → cut_symbol o m (take 1 t) ≡ meaning_of (take 1 t) m
+no_sign o m [] some h = absurd (true≢false some)
+no_sign o m (c ∷ t) some h =
+    let (plus, minus) = or_parts (c == 43) (c == 45) h in
+    rw (minus, plus) (by o (meaning_of (c ∷ []) m))
+  where
+    by : (o : Bool) (l : Lexeme) → cond (o && false) (Sign token.UnaryMinus) (cond (o && false) (Sign token.UnaryPlus) l)
+        ≡ l
+    by true l = refl
+    by false l = refl

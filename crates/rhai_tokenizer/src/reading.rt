@@ -8,7 +8,7 @@ ghost use Rattle.rhai_lower.specs.Texts.{Text};
 ghost use Rattle.rhai_tokenizer.specs.Bytes.{begins};
 ghost use Rattle.rhai_tokenizer.specs.Cutting.{first_class};
 ghost use Rattle.rhai_tokenizer.specs.Cutting as spec;
-ghost use Rattle.rhai_tokenizer.specs.CuttingMeanings.{is_plain};
+ghost use Rattle.rhai_tokenizer.specs.CuttingMeanings.{is_plain, is_sign};
 ghost use Rattle.rhai_tokenizer.specs.Meanings.{at_start, operand_then};
 ghost use Rattle.rhai_tokenizer.specs.Places.{past};
 ghost use Rattle.rhai_tokenizer.specs.Turns.{IsFront, IsPlace, IsRead, IsReady, IsTurn, Joins, before_of, due, found_of};
@@ -21,7 +21,7 @@ use crate::lexer::{Kind, blanks_in, number_piece, plain_sign, run_len, short_sym
 use crate::limits::Limits;
 use crate::meaning::{fixed_symbol, integer_token, operand_after, word_token};
 use crate::place::{FIRST_LINE, Line, Place, line_of, place_in, position};
-use crate::table::{Fixed, Meaning};
+use crate::table::{Fixed, Meaning, fixed_token};
 use crate::tokens::{Span, Tokens};
 use rhai_lower::position::Position;
 use rhai_lower::stream::Entry;
@@ -315,11 +315,11 @@ fn lone_symbol(reading: &mut Reading, rest: &str, fixed: Fixed) -> Result<usize,
     requires code { reading.old.in_text ≡ false }
     requires class { First.Other ≡ first_class (slice_index rest.now 0) }
     requires symbol { (Kind.Symbol (Meaning.Plain fixed), 1) ≡ spec.sign_cut (slice_index rest.now 0) (drop 1 rest.now) }
+    requires sign { is_sign (slice_index rest.now 0) ≡ false }
     ensures { IfOk result (λ n. (limits : Limits) → IsTurn limits reading.old reading.new rest.now n) }
 {
     let text = &rest.as_bytes()[..1];
-    let token = fixed_symbol(reading.operand, fixed, text);
-    take(reading, token, 1)?;
+    take(reading, fixed_token(fixed), 1)?;
     reading.in_text = follow(&mut reading.braces, symbol_brace(text), reading.opens)?;
     reading.opens = false;
     Ok(1)

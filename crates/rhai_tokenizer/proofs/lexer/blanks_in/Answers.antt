@@ -1,6 +1,6 @@
 use Rattle.std.proofs.Common.{◌≡◌, ◌+◌, ◌∙◌, ap, arith, subst, sym, take}
 use Rattle.rhai_tokenizer.specs.Turns.{IsPlace, place_in}
-use Rattle.rhai_tokenizer.proofs.BlankLemmas.{blanks_end, blanks_step}
+use Rattle.rhai_tokenizer.proofs.BlankLemmas.{blanks_end, blanks_step, lone_blank}
 use Rattle.rhai_tokenizer.proofs.CommentLemmas.{room}
 use Rattle.rhai_tokenizer.proofs.PlaceLemmas.{past_more, past_place}
 use Rattle.rhai_tokenizer.proofs.lexer.blanks_in.Goals as goal
@@ -8,6 +8,10 @@ use Rattle.rhai_tokenizer.proofs.lexer.blanks_in.Goals as goal
 pub blank_in-n-requires-clause-placed : goal.blank_in-n-requires-clause-placed
 blank_in-n-requires-clause-placed c = subst IsPlace (sym c.loop-at.invariant.2)
     (past_place (take c.loop-at.len c.args.z.now) (place_in c.args.line.now c.args.at) c.requires.placed)
+
+pub returns-then-begins_with_lone_blank-clause-value : goal.returns-then-begins_with_lone_blank-clause-value
+returns-then-begins_with_lone_blank-clause-value c = lone_blank c.args.z.now
+    (sym c.begins_with_lone_blank.ensures ∙ c.if-begins_with_lone_blank.true)
 
 pub returns-then-n-eq0-clause-value : goal.returns-then-n-eq0-clause-value
 returns-then-n-eq0-clause-value c = blanks_end c.args.z.now c.loop-at.len c.blank_in-n.result _
@@ -17,8 +21,7 @@ pub loop-at-preserved : goal.loop-at-preserved
 loop-at-preserved c =
     let n = c.blank_in-n.result in
     let len = c.loop-at.len in
-    let same : c.args.at + (len + n) ≡ (c.args.at + len) + n = omega arith in
-    (
+    let same : c.args.at + (len + n) ≡ (c.args.at + len) + n = omega arith in (
       blanks_step c.args.z.now len n _ c.blank_in-n.ensures.value c.if-n-eq0.false c.loop-at.invariant.0,
       room c.args.z.now len n c.loop-at.invariant.1 c.blank_in-n.ensures.within,
       ap (place_in c.blank_in-n.new.line) same ∙ past_more (place_in c.args.line.now c.args.at)
