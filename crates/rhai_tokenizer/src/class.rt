@@ -67,6 +67,7 @@ pub enum Class {
     Hexadecimal,
     Hash,
     Second,
+    Text,
 }
 
 // For each byte: 1 if a word goes on with it, 2 if a symbol does, else 0.
@@ -120,6 +121,14 @@ pub fn is_space(b: u8) -> bool
     b == b' ' || (9 <= b && b <= 13)
 }
 
+// Whether a byte takes a column, and stands for itself in a string.
+#[inline(always)]
+fn is_text(b: u8) -> bool
+    ensures { result ≡ spec.is_text b }
+{
+    b < 128 && !(b == b'"' || (b == b'\\' || b == b'\n'))
+}
+
 /// Whether a byte is of the class.
 #[inline(always)]
 pub fn is_in(class: Class, b: u8) -> bool
@@ -134,6 +143,7 @@ pub fn is_in(class: Class, b: u8) -> bool
         Class::Hexadecimal => b.is_ascii_hexdigit(),
         Class::Hash => b == b'#',
         Class::Second => is_second(b),
+        Class::Text => is_text(b),
     }
 }
 

@@ -1,7 +1,7 @@
 //! One turn of the reading of a text: a piece is read, and its token joins.
 
 ghost use Rattle.std.specs.Prelude.{◌≡◌, ◌<◌, ◌≤◌, ◌+◌, ◌^◌, [], true, false, length, take, slice_index, reverse, IfOk, IfSome};
-ghost use Rattle.std.specs.Prelude.{drop, option_map};
+ghost use Rattle.std.specs.Prelude.{drop, option_map, not, ◌&&◌, ◌==◌};
 ghost use Rattle.std.specs.List.{list_all};
 ghost use Rattle.rhai_lower.specs.Entries.{token_may_be_delivered};
 ghost use Rattle.rhai_lower.specs.Texts.{Text};
@@ -20,6 +20,7 @@ use crate::front::{Front, Tools, front_of};
 use crate::lexer::{Kind, blanks_in, number_piece, plain_sign, run_len, short_symbol};
 use crate::limits::Limits;
 use crate::meaning::{fixed_symbol, integer_token, operand_after, word_token};
+use crate::string_token::string_token;
 use crate::place::{FIRST_LINE, Line, Place, line_of, place_in, position};
 use crate::table::{Fixed, Meaning, fixed_token};
 use crate::tokens::{Span, Tokens};
@@ -325,6 +326,38 @@ fn lone_symbol(reading: &mut Reading, rest: &str, fixed: Fixed) -> Result<usize,
     Ok(1)
 }
 
+// Whether a string ends here, with no further mark.
+#[inline(always)]
+fn ends_string(z: &[u8]) -> bool
+    ensures { result ≡ (begins (λ c. c == 34) z.now && not (begins (λ c. c == 34) (drop 1 z.now))) }
+{
+    match z {
+        [b'"', b'"', ..] => false,
+        [b'"', ..] => true,
+        _ => false,
+    }
+}
+
+// A string, which mostly has no escapes and is of bytes that each take a column.
+fn text_piece(reading: &mut Reading, limits: Limits, rest: &str) -> Result<usize, AllocError>
+    requires ready { IsReady reading.old rest.now }
+    requires code { reading.old.in_text ≡ false }
+    requires class { First.Quote ≡ first_class (slice_index rest.now 0) }
+    ensures { IfOk result (λ n. IsTurn limits reading.old reading.new rest.now n) }
+{
+    let (_, more) = rest.split_at(1);
+    let bytes = more.as_bytes();
+    let n = run_len(Class::Text, bytes);
+    if !ends_string(&bytes[n..]) {
+        return any(reading, limits, rest);
+    }
+    let (text, _) = more.split_at(n);
+    let token = string_token(reading.tools.alloc, &mut reading.tools.names, limits, text)?;
+    take(reading, token, n + 2)?;
+    reading.opens = false;
+    Ok(n + 2)
+}
+
 // A piece that begins with no letter.
 #[inline(never)]
 fn other(reading: &mut Reading, limits: Limits, rest: &str) -> Result<usize, AllocError>
@@ -335,6 +368,7 @@ fn other(reading: &mut Reading, limits: Limits, rest: &str) -> Result<usize, All
     match first_class(rest.as_bytes()[0]) {
         First::Digit => number(reading, limits, rest),
         First::Other => symbol(reading, limits, rest),
+        First::Quote => text_piece(reading, limits, rest),
         _ => any(reading, limits, rest),
     }
 }
