@@ -1,5 +1,5 @@
 -- White space at the front of a text, as the code finds it.
-use Rattle.std.proofs.Common.{not, ◌&&◌, nat_lt, zero}
+use Rattle.std.proofs.Common.{not, ◌&&◌, nat_lt}
 use Rattle.std.proofs.Common.{◌≡◌, ℕ, ◌+◌, ◌-◌, ◌<◌, ◌≤◌, Bool, true, false, cond, ◌||◌, ◌==◌, List, [], ◌∷◌, length, take, drop, get_or, refl, sym, ap, ◌∙◌, subst, arith, true≢false}
 use Rattle.std.proofs.lemmas.Bool.{and_parts, false_from_ne_true}
 use Rattle.std.proofs.lemmas.List.{take_rest, drop-drop, length-append}

@@ -1,20 +1,17 @@
 -- A string of bytes that stand for themselves, and that each take a column.
 use Rattle.std.proofs.Common.{◌≡◌, ℕ, suc, ◌+◌, ◌≤◌, Bool, true, false, cond, not, ◌&&◌, ◌==◌, [], ◌∷◌, ◌++◌, None, Some, length, drop, take, reverse}
-use Rattle.std.proofs.Common.{IsUtf8, refl, sym, ap, ◌∙◌, subst, arith, true≢false}
+use Rattle.std.proofs.Common.{refl, sym, ap, ◌∙◌, subst, arith, true≢false}
 use Rattle.std.proofs.lemmas.Bool.{and_parts, eqb-true, not-true}
 use Rattle.std.proofs.lemmas.Bool.Decides.{nat_tests}
 use Rattle.std.proofs.lemmas.List.{length-append, length-drop, length-take-le}
 use Rattle.std.proofs.lemmas.List.Folds.{list_all-append}
-use Rattle.std.proofs.Math.Seq.{take-add}
 use Rattle.std.specs.List.{list_all, prefix_len}
 use Rattle.std.specs.Prelude.{slice_index}
-use Rattle.std.specs.Str.{IsCharBoundary}
 use Rattle.rhai_lower.specs.Entries.{token_may_be_delivered}
 use Rattle.rhai_lower.specs.Lexemes.{String, lexeme}
 use Rattle.rhai_lower.specs.Texts.{Text}
 use Rattle.rhai_lower.specs.declared.token.Token.{Token}
 use Rattle.rhai_tokenizer.specs.declared.braces.Brace.TheVariants as brace
-use Rattle.rhai_tokenizer.specs.declared.class.First.{First}
 use Rattle.rhai_tokenizer.specs.declared.class.First.TheVariants as first
 use Rattle.rhai_tokenizer.specs.declared.front.Front.{Front}
 use Rattle.rhai_tokenizer.specs.declared.limits.Limits.{Limits}
@@ -32,7 +29,6 @@ use Rattle.rhai_tokenizer.specs.StringTurns.{IsContent}
 use Rattle.rhai_tokenizer.specs.Turns.{IsFront, IsTurn, Joins, found_of, place_of}
 use Rattle.rhai_tokenizer.proofs.FirstLemmas.{ClassFacts, class_facts}
 use Rattle.rhai_tokenizer.proofs.FrontLemmas.{quoted_is}
-use Rattle.rhai_tokenizer.proofs.GoesLemmas as goes
 use Rattle.rhai_tokenizer.proofs.PlaceLemmas.{past-append}
 use Rattle.rhai_tokenizer.proofs.StepLemmas.{front_turn}
 use Rattle.rhai_tokenizer.proofs.StringTurnLemmas.{turn_ends}

@@ -14,14 +14,15 @@ ghost use Rattle.rhai_tokenizer.specs.Places.{past};
 ghost use Rattle.rhai_tokenizer.specs.Turns.{IsFront, IsPlace, IsRead, IsReady, IsTurn, Joins, before_of, due, found_of};
 ghost use Rattle.rhai_tokenizer.specs.Turns.{left, place_of};
 
+use crate::blanks::blanks_in;
 use crate::braces::{follow, opens_after, symbol_brace};
 use crate::class::{Class, First, first_class, is_letter, is_space};
 use crate::front::{Front, Tools, front_of};
-use crate::lexer::{Kind, blanks_in, number_piece, plain_sign, run_len, short_symbol};
+use crate::lexer::{Kind, number_piece, plain_sign, run_len, short_symbol};
 use crate::limits::Limits;
 use crate::meaning::{fixed_symbol, integer_token, operand_after, word_token};
-use crate::string_token::string_token;
 use crate::place::{FIRST_LINE, Line, Place, line_of, place_in, position};
+use crate::string_token::string_token;
 use crate::table::{Fixed, Meaning, fixed_token};
 use crate::tokens::{Span, Tokens};
 use rhai_lower::position::Position;

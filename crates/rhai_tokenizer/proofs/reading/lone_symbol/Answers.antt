@@ -1,4 +1,4 @@
-use Rattle.std.proofs.Common.{◌≡◌, refl, ap, ◌∙◌, Some, drop, sym, take}
+use Rattle.std.proofs.Common.{◌≡◌, refl, ap, ◌∙◌, Some, sym, take}
 use Rattle.std.proofs.lemmas.List.{take_rest}
 use Rattle.std.specs.Prelude.{slice_index}
 use Rattle.rhai_tokenizer.specs.declared.lexer.Kind.TheVariants as kind

@@ -1,9 +1,6 @@
-use Rattle.std.proofs.Common.{ap, sym, ◌∙◌, drop, lit<, not, ◌&&◌, ◌==◌, refl, reverse, take}
+use Rattle.std.proofs.Common.{ap, sym, ◌∙◌, lit<, refl, reverse, take}
 use Rattle.std.proofs.lemmas.List.{take_rest}
-use Rattle.std.specs.List.{prefix_len}
 use Rattle.rhai_lower.specs.Lexemes.{String}
-use Rattle.rhai_tokenizer.specs.Bytes.{begins}
-use Rattle.rhai_tokenizer.specs.Cutting.{is_text}
 use Rattle.rhai_tokenizer.specs.Meanings.{within}
 use Rattle.rhai_tokenizer.proofs.LeafLemmas.{after_mark}
 use Rattle.rhai_tokenizer.proofs.StepLemmas.{some_due}

@@ -3,7 +3,7 @@ use Rattle.rhai_tokenizer.specs.Turns.{IsPlace, place_in}
 use Rattle.rhai_tokenizer.proofs.BlankLemmas.{blanks_end, blanks_step, lone_blank}
 use Rattle.rhai_tokenizer.proofs.CommentLemmas.{room}
 use Rattle.rhai_tokenizer.proofs.PlaceLemmas.{past_more, past_place}
-use Rattle.rhai_tokenizer.proofs.lexer.blanks_in.Goals as goal
+use Rattle.rhai_tokenizer.proofs.blanks.blanks_in.Goals as goal
 
 pub blank_in-n-requires-clause-placed : goal.blank_in-n-requires-clause-placed
 blank_in-n-requires-clause-placed c = subst IsPlace (sym c.loop-at.invariant.2)

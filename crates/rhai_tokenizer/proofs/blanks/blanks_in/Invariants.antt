@@ -4,7 +4,7 @@ use Rattle.rhai_tokenizer.specs.Bytes.{blanks}
 use Rattle.rhai_tokenizer.specs.Places.{past}
 use Rattle.rhai_tokenizer.specs.Runs.{run_from}
 use Rattle.rhai_tokenizer.specs.Turns.{place_in}
-use Rattle.rhai_tokenizer.proofs.lexer.blanks_in.Given as goal
+use Rattle.rhai_tokenizer.proofs.blanks.blanks_in.Given as goal
 
 abbrev pub invariant-loop-at : goal.invariant-loop-at
 invariant-loop-at l = (l.len + length (concat (run_from blanks 0 (drop l.len l.z)))
