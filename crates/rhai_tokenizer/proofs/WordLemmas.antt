@@ -5,13 +5,13 @@ use Rattle.std.proofs.lemmas.Bool.{and_parts, or_parts, false_from_ne_true}
 use Rattle.std.specs.List.{list_all}
 use Rattle.rhai_lower.specs.Texts.{Text, same_text}
 use Rattle.rhai_lower.specs.Names.{is_one_of, is_identifier}
-use Rattle.rhai_lower.specs.Lexemes.{Lexeme, Name}
+use Rattle.rhai_lower.specs.Lexemes.{Lexeme, Name, Sign}
 use Rattle.rhai_lower.specs.Tokens.{literal_of}
 use Rattle.rhai_lower.specs.declared.token.Token.{Token}
 use Rattle.rhai_tokenizer.specs.declared.table.Meaning.{Meaning}
 use Rattle.rhai_tokenizer.specs.Cutting.{Table, lookup, may_be_word, word_table}
 use Rattle.rhai_tokenizer.specs.CuttingMeanings.{meaning_of}
-use Rattle.rhai_tokenizer.specs.Symbols.{keywords, reserved_words, improper, or_token, word_lexeme}
+use Rattle.rhai_tokenizer.specs.Symbols.{keywords, reserved_words, find, improper, word_lexeme}
 use Rattle.rhai_tokenizer.proofs.ByteLemmas.{same_is, same_refl, at_member}
 
 -- the texts of a table mean what it says
@@ -103,7 +103,7 @@ outside : (ts us : List Text) (t : Text) → list_all (is_one_of us) ts ≡ true
 outside ts us t h no_one = false_from_ne_true (is_one_of ts t)
     (λ e. true≢false (sym (at_member (is_one_of us) ts t e h) ∙ no_one))
 
-no_token : (ks : List Token) (t : Text) (l : Lexeme) → is_one_of (map literal_of ks) t ≡ false → or_token ks t l ≡ l
+no_token : (ks : List Token) (t : Text) (l : Lexeme) → is_one_of (map literal_of ks) t ≡ false → find (map (λ k. (literal_of k, Sign k)) ks) t l ≡ l
 no_token [] t l h = refl
 no_token (k ∷ ks) t l h = let (here, more) = or_parts (same_text t (literal_of k)) (is_one_of (map literal_of ks) t)
     h in rw here (no_token ks t l more)

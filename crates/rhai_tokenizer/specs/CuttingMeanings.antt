@@ -1,5 +1,6 @@
 -- The token of a piece by its kind and its bytes. No definition: it stands between the code and the forms.
-use Rattle.std.specs.Prelude.{ℕ, Bool, true, false, not, ◌&&◌, ◌||◌, ◌==◌, nat_le, nat_lt, ◌∷◌, Option, Some, None, codes, drop, length, slice_index, if◌then◌else◌}
+use Rattle.std.specs.Prelude.{ℕ, Bool, true, false, not, ◌&&◌, ◌||◌, ◌==◌, nat_le, nat_lt, ◌∷◌}
+use Rattle.std.specs.Prelude.{Option, Some, None, codes, drop, length, slice_index, if◌then◌else◌}
 use Rattle.std.specs.List.{list_all}
 use Rattle.rhai_lower.specs.Texts.{Text, same_text}
 use Rattle.rhai_lower.specs.Names.{is_word}

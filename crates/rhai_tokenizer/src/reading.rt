@@ -1,6 +1,7 @@
 //! One turn of the reading of a text: a piece is read, and its token joins.
 
-ghost use Rattle.std.specs.Prelude.{◌≡◌, ◌<◌, ◌≤◌, ◌+◌, ◌^◌, [], true, false, length, take, slice_index, reverse, IfOk, IfSome};
+ghost use Rattle.std.specs.Prelude.{◌≡◌, ◌<◌, ◌≤◌, ◌+◌, ◌^◌, [], true, false, length, take};
+ghost use Rattle.std.specs.Prelude.{slice_index, reverse, IfOk, IfSome};
 ghost use Rattle.std.specs.Prelude.{drop, option_map, not, ◌&&◌, ◌==◌};
 ghost use Rattle.std.specs.List.{list_all};
 ghost use Rattle.rhai_lower.specs.Entries.{token_may_be_delivered};
@@ -11,7 +12,8 @@ ghost use Rattle.rhai_tokenizer.specs.Cutting as spec;
 ghost use Rattle.rhai_tokenizer.specs.CuttingMeanings.{is_plain, is_sign};
 ghost use Rattle.rhai_tokenizer.specs.Meanings.{at_start, operand_then};
 ghost use Rattle.rhai_tokenizer.specs.Places.{past};
-ghost use Rattle.rhai_tokenizer.specs.Turns.{IsFront, IsPlace, IsRead, IsReady, IsTurn, Joins, before_of, due, found_of};
+ghost use Rattle.rhai_tokenizer.specs.Turns.{IsFront, IsPlace, IsRead, IsReady, IsTurn, Joins, before_of, due};
+ghost use Rattle.rhai_tokenizer.specs.Turns.{found_of};
 ghost use Rattle.rhai_tokenizer.specs.Turns.{left, place_of};
 
 use crate::blanks::blanks_in;
