@@ -2,14 +2,13 @@
 
 use crate::console::{Console, FAILED, FINE, REFUSED};
 use crate::list::print_list;
-use crate::names::lines_of;
 use crate::options::Task;
 use crate::refusal::{not_utf8_text, refusal_text, unreadable_text};
 use crate::settings::Settings;
 use crate::source::{NotText, read_bytes, script_of, source_of, text_of};
 use rhai_names::names::names_of;
 use rhai_report::Source;
-use rhai_run::accepted;
+use rhai_run::{accepted, names_lines};
 use rhai_script::{AST, ParseError, ParseErrorType};
 use rhai_tokenizer::tokenize;
 use std::alloc::{AllocError, Global};
@@ -91,7 +90,7 @@ impl<'r, 'm> Run<'r, 'm> {
                 self.print(tree)
             }
             Task::Names => {
-                let names = names_of(alloc, &script.functions).and_then(|names| lines_of(
+                let names = names_of(alloc, &script.functions).and_then(|names| names_lines(
                     alloc, &names,
                 ));
                 self.print(names)

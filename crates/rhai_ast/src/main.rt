@@ -5,7 +5,6 @@
 mod console;
 mod files;
 mod list;
-mod names;
 mod options;
 mod place;
 mod refusal;
