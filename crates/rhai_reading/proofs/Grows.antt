@@ -1,4 +1,4 @@
--- After a run no more readers are active, and the peak is no lower. Nothing here speaks of the grammar.
+-- After a run no more readers are active than before; the peak is no lower. Nothing here speaks of the grammar.
 use Rattle.std.proofs.Common.{◌≡◌, ℕ, suc, ◌+◌, ◌-◌, ◌^◌, ◌≤◌, Bool, true, false, max, min, refl, arith, nat_lt}
 use Rattle.std.proofs.Common.{if◌then◌else◌, inl, inr}
 use Rattle.std.proofs.lemmas.Bool.{ltb-false, ltb-true}

@@ -1,4 +1,4 @@
-//! Room for more arms of a `switch`, which may have thousands.
+//! Capacity for more arms of a `switch`, which may have thousands.
 
 ghost use Rattle.std.specs.Prelude.{◌≡◌};
 ghost use Rattle.rhai_trees.specs.Arms.{Indexed, arms_view};
@@ -12,9 +12,9 @@ use std::alloc::AllocError;
 // do.
 const MANY: usize = 64;
 
-/// Makes room for more arms where many have filled the lists. The error is that there is no memory for it.
+/// Grows the lists of arms where many have filled them. The error is that there is no memory for it.
 #[inline(always)]
-pub fn make_room(arms: &mut Arms) -> Result<(), AllocError>
+pub fn grow_arms(arms: &mut Arms) -> Result<(), AllocError>
     ensures view { arms_view arms.new ≡ arms_view arms.old }
     ensures indexed { Indexed arms.old → Indexed arms.new }
 {
