@@ -3,12 +3,12 @@
 
 usage: tests/map.py [--check]
 
-For each crate of crates.txt the map has a heading, what the crate is for (from its root file), and each other file with
-its sentence; then come the gate and the files of tests/. Lists of modules (Lib.antt) and the folders below proofs/ are
-left out.
+For each crate of crates.txt the map has a heading, what the crate is for (from its root file), each file of src/ and
+specs/ with its sentence, and the names of the files of proofs/. Then come the gate and the files of tests/. Lists of
+modules (Lib.antt) and the folders below proofs/ are left out.
 
 With --check it writes nothing, and prints the lines that differ if the document is not what it would write. The exit
-status is then 1. It is also 1 if a file has no head comment.
+status is then 1. It is also 1 if a file has no head comment, one of proofs/ included.
 """
 
 import ast
@@ -23,8 +23,8 @@ DOCUMENT = ROOT / "docs/MAP.md"
 HEAD = """\
 # Map of files
 
-Each crate, lowest first, with its files and what they hold. [ARCHITECTURE.md](ARCHITECTURE.md) says how the crates
-belong together.
+Each crate, lowest first, with what its files hold. Files of `proofs/` are only named; each begins with a comment.
+[ARCHITECTURE.md](ARCHITECTURE.md) says how the crates belong together.
 
 `tests/map.py` writes this file from the head comments of the files. Change those, not this file."""
 COLUMNS = 120
@@ -73,26 +73,37 @@ def table(folder, paths, faults):
     return ["", "```", *lines, "```"]
 
 
+def paragraph(paths, faults):
+    """Answers a paragraph that names files of proofs/, without what their names end with. There may be none."""
+    for path in paths:
+        first_sentence(path, faults)
+    return ["", *wrapped("`proofs/`: " + ", ".join(f"`{path.stem}`" for path in paths), COLUMNS)] if paths else []
+
+
 def by_module(path):
     """Answers what a file is sorted by, so that a module comes directly before those inside it."""
     return path.with_suffix("").parts
 
 
+def terms_of(folder):
+    """Answers the files of specs/ or proofs/ that the map has."""
+    return [it for it in sorted(folder.glob("*.antt")) if it.name != "Lib.antt"]
+
+
 def files_of(crate):
-    """Answers the root file of a crate, and all other files that the map has."""
+    """Answers the root file of a crate, then its other code and its definitions, then its proofs."""
     sources = sorted((crate / "src").rglob("*.rt"), key=by_module)
     root = next(it for it in sources if it in (crate / "src/lib.rt", crate / "src/main.rt"))
     sources.remove(root)
-    terms = sorted((crate / "specs").glob("*.antt")) + sorted((crate / "proofs").glob("*.antt"))
-    return root, sources + [it for it in terms if it.name != "Lib.antt"]
+    return root, sources + terms_of(crate / "specs"), terms_of(crate / "proofs")
 
 
 def map_of_crate(name, faults):
     """Answers the lines of the map for a crate."""
     crate = ROOT / "crates" / name
-    root, files = files_of(crate)
+    root, files, proofs = files_of(crate)
     purpose = wrapped(first_sentence(root, faults), COLUMNS)
-    return ["", f"## `{name}`", "", *purpose, *table(crate, files, faults)]
+    return ["", f"## `{name}`", "", *purpose, *table(crate, files, faults), *paragraph(proofs, faults)]
 
 
 def map_of_tests(faults):
