@@ -22,6 +22,7 @@ pub mod NumbersOfOperands
 pub mod NumbersOfStatements
 pub mod Numbers
 pub mod ClosureLemmas
+pub mod SlotLemmas
 pub mod Ordering
 pub mod OrderCauses
 pub mod OrdersOfOperands

@@ -22,6 +22,7 @@ pub mod Numbered
 pub mod ClosureLaws
 pub mod LibraryLaws
 pub mod PlaceLaws
+pub mod SlotLaws
 pub mod NestLaws
 pub mod Always
 pub mod ChainForms

@@ -12,6 +12,7 @@ ghost use Rattle.rhai_productions.specs.Quiet.{NothingIsCaptured};
 ghost use Rattle.rhai_productions.specs.Rules.{production};
 ghost use Rattle.rhai_productions.specs.Runs.{ExpressionsAreRuns, RunsAreExpressions};
 ghost use Rattle.rhai_productions.specs.Shaped.{TreesKeepShape};
+ghost use Rattle.rhai_productions.specs.SlotLaws.{NoSlot, NumberedSlot, ScopesClose};
 ghost use Rattle.rhai_productions.specs.StreamLaws.{FormsAreFair, StreamsAreWhole};
 ghost use Rattle.rhai_productions.specs.Watched.{NamesAreCaptured};
 
@@ -88,6 +89,24 @@ pub fn libraries_stay_orderly()
 #[tactic(auto, using(crate::proofs::Numbers::trees_are_well_numbered))]
 pub fn trees_are_well_numbered()
     ensures { TreesAreWellNumbered }
+{}
+
+/// A name with a number is not directly before what calls it or `::`, and that is the number of its latest slot.
+#[tactic(auto, using(crate::proofs::SlotLemmas::numbered_slot))]
+pub fn numbered_slot()
+    ensures { NumberedSlot }
+{}
+
+/// A name without a number is directly before what calls it or `::`, or has no live slot.
+#[tactic(auto, using(crate::proofs::SlotLemmas::no_slot))]
+pub fn no_slot()
+    ensures { NoSlot }
+{}
+
+/// Constructs, expressions, and the end of a block or an arm give back what was live.
+#[tactic(auto, using(crate::proofs::SlotLemmas::scopes_close))]
+pub fn scopes_close()
+    ensures { ScopesClose }
 {}
 
 /// Forms that are equal up to positions have trees that are equal up to positions.
