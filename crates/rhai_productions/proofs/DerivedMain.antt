@@ -16,7 +16,6 @@ use Rattle.rhai_reading.proofs.Rules.{at}
 use Rattle.rhai_reading.proofs.Shows as S
 use Rattle.rhai_reading.proofs.Entries as E
 use Rattle.rhai_reading.proofs.Entries.{Entry, IsNew, IsOther}
-use Rattle.rhai_reading.proofs.Main as M
 use Rattle.rhai_reading.proofs.Paths as W
 use Rattle.rhai_reading.proofs.Paths.{To, reached}
 use Rattle.rhai_reading.proofs.Reaches.{reached_end}
@@ -106,8 +105,8 @@ derived_entry g looks = record {
 
 pub expression_entry : (c : Context) (live : Live) → Entry (Whole c live) (written (Whole c live))
     (unwritten (Whole c live)) (tree_of (Whole c live))
-expression_entry c live = derived_entry (Whole c live) (M.expression_entry c live).looks
+expression_entry c live = derived_entry (Whole c live) (E.whole_looks c live)
 
 pub script_entry : (c : Context) (live : Live) → Entry (Script c live) (written (Script c live))
     (unwritten (Script c live)) (tree_of (Script c live))
-script_entry c live = derived_entry (Script c live) (M.script_entry c live).looks
+script_entry c live = derived_entry (Script c live) (E.list_looks c live)

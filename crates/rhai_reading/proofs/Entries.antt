@@ -1,14 +1,15 @@
 -- What the reading program answers, in terms of forms and open forms of whatever types.
-use Rattle.std.proofs.Common.{◌≡◌, ℕ, suc, ◌+◌, Bool, true, false, List, [], refl, sym, ap, ◌∙◌, subst, arith}
-use Rattle.rhai_grammar.specs.Prelude.{Refusal, is_memory_cause, code, Point, Taken, is_memory}
+use Rattle.std.proofs.Common.{if◌then◌else◌}
+use Rattle.std.proofs.Common.{◌≡◌, ℕ, zero, suc, ◌+◌, Bool, true, false, List, [], refl, sym, ap, ◌∙◌, subst, arith}
+use Rattle.rhai_grammar.specs.Prelude.{Context, Live, Node, Refusal, is_memory_cause, out_of_memory, code, Point, Taken, is_memory}
 use Rattle.rhai_grammar.specs.Prelude.{Cursor, Gives, leads, latest_first, BeginsWith, Readable, StandsAtLast, TakenIn}
 use Rattle.rhai_grammar.specs.Prelude.{Demands, Met, Missed, IsWritten, EndsIn, Library, with_captured}
 use Rattle.rhai_grammar.specs.Cursors as C
 use Rattle.rhai_grammar.specs.Promises.{start_of, Saw, IsNamed, IsReadable, HasRead, IsWrittenTo, NoneBegins}
-use Rattle.rhai_reading.specs.Reading.{Goal, Val, Prog, body}
+use Rattle.rhai_reading.specs.Reading.{Goal, Val, Script, Whole, Peek, Prog, body, whole_at}
 use Rattle.rhai_reading.specs.Running as R
 use Rattle.rhai_reading.specs.Running.{Progress, result_of}
-use Rattle.rhai_reading.specs.Histories.{State, asked, Outcome, Done, Refused, Unfinished, exec, calls, Runs}
+use Rattle.rhai_reading.specs.Histories.{State, and_then, asked, looking, Outcome, Done, Refused, Unfinished, exec, calls, Runs}
 use Rattle.rhai_reading.proofs.Joins.{Finished, Rest, calls_same, cursor, flat, forget, rest, run_runs, unnested}
 use Rattle.rhai_reading.proofs.Rules.{at}
 use Rattle.rhai_reading.proofs.Shows as S
@@ -290,3 +291,25 @@ module _ {F O : Type 0} {g : Goal} {whole : F → Demands} {stopping : O → Dem
           memory = readable_begun left.cursor w.state kept.took is kept.history seen;
         },
       )
+
+-- ---- whole expressions and scripts look at the first token
+
+pub whole_looks : (c : Context) (live : Live) (n : ℕ) (s : State) → IsOther (exec (calls n) (body (Whole c live)) s)
+    → is_memory (asked s).lexeme ≡ false
+whole_looks c live zero s other = absurd other
+whole_looks c live (suc n) s other = by_test (is_memory (asked s).lexeme) _ other
+  where
+    by_test : (m : Bool) (o : Outcome Node) → IsOther
+        (and_then (if m then Refused out_of_memory (looking s) else o)
+        (λ v u. exec (calls (suc n)) (Peek (whole_at v)) u)) → m ≡ false
+    by_test true o h = absurd cc
+    by_test false o h = refl
+
+pub list_looks : (c : Context) (live : Live) (n : ℕ) (s : State)
+    → IsOther (exec (calls n) (body (Script c live)) s) → is_memory (asked s).lexeme ≡ false
+list_looks c live n s other = by_test (is_memory (asked s).lexeme) _ other
+  where
+    by_test : {A : Type 0} (m : Bool) (o : Outcome A) → IsOther (if m then Refused out_of_memory (looking s) else o)
+        → m ≡ false
+    by_test true o h = absurd cc
+    by_test false o h = refl
