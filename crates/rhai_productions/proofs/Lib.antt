@@ -23,6 +23,7 @@ pub mod NumbersOfStatements
 pub mod Numbers
 pub mod ClosureLemmas
 pub mod SlotLemmas
+pub mod StartLemmas
 pub mod Ordering
 pub mod OrderCauses
 pub mod OrdersOfOperands

@@ -1,8 +1,9 @@
 -- Laws of closures: their parameters, `curry`, and where captured names are used.
-use Rattle.std.specs.Prelude.{◌≡◌, ◌⊎◌, true, ◌++◌, List, [], ◌∷◌, None, length}
+use Rattle.std.specs.Prelude.{◌≡◌, ◌⊎◌, true, ◌++◌, List, [], ◌∷◌, None, codes, length, refl}
+use Rattle.rhai_lower.specs.Nodes.{Block}
 use Rattle.std.specs.Option.{is_some}
 use Rattle.rhai_grammar.specs.Prelude.{Text, Position, Node, Context, Live, Ended, Point, Met, Nothing, closure_name}
-use Rattle.rhai_grammar.specs.Prelude.{names_of, is_among, is_function, number}
+use Rattle.rhai_grammar.specs.Prelude.{ended_closure, names_of, is_among, is_function, number}
 use Rattle.rhai_grammar.specs.ClosureLaws.{AreDistinct, Hands, pointer_to}
 use Rattle.rhai_grammar.specs.Settings.{in_closure}
 use Rattle.rhai_grammar.specs.declared.role.Bars.{Bars}
@@ -50,3 +51,8 @@ pub record CapturedAreUsed : Type 0 where
       in_closure context.settings ≡ true → (name : Text) → is_among name c.captured ≡ true
       → (is_some (number name live.slots) ≡ true) ⊎ ((is_function t.library name ≡ true)
       ⊎ (is_among name (names_of t.captured) ≡ true)))
+
+-- `|x| x + y`: the name that it captures comes before its own parameter.
+example : (at : Position) (body : Block) → (ended_closure 0 (record { name = codes "y"; at = at } ∷ [])
+    (codes "x" ∷ []) body).function.parameters ≡ codes "y" ∷ codes "x" ∷ []
+example at body = refl

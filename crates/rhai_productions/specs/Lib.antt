@@ -23,6 +23,7 @@ pub mod ClosureLaws
 pub mod LibraryLaws
 pub mod PlaceLaws
 pub mod SlotLaws
+pub mod StartLaws
 pub mod NestLaws
 pub mod Always
 pub mod ChainForms

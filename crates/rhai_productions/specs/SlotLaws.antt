@@ -1,10 +1,12 @@
 -- Laws of names and slots: which slot a use refers to, and where a scope ends.
-use Rattle.std.specs.Prelude.{◌≡◌, ◌≤◌, ◌⊎◌, ℕ, true, false, Option, Some, None, length, take}
+use Rattle.std.specs.Prelude.{◌≡◌, ◌≤◌, ◌⊎◌, ℕ, true, false, Option, Some, None, length, take, ◌∷◌, [], codes, refl}
 use Rattle.rhai_lower.specs.Nodes as node
+use Rattle.rhai_lower.specs.Positions.{place}
+use Rattle.rhai_lower.specs.Slots.{fresh_slot}
 use Rattle.rhai_grammar.specs.Prelude.{Text, Position, Node, Context, Live, Met, Nothing, Point, catch_live, code}
 use Rattle.rhai_grammar.specs.Prelude.{excludes_use, in_block, loop_live, next_at}
-use Rattle.rhai_grammar.specs.Slots.{IsLatest}
-use Rattle.rhai_grammar.specs.Trees.{variable_of}
+use Rattle.rhai_grammar.specs.Slots.{IsLatest, number}
+use Rattle.rhai_grammar.specs.Trees.{name_tree, variable_of}
 use Rattle.rhai_grammar.specs.declared.role.Beginning.TheVariants as begin
 use Rattle.rhai_grammar.specs.declared.role.Closing.{Closing}
 use Rattle.rhai_grammar.specs.declared.role.Construct.{Construct as Kind}
@@ -65,3 +67,16 @@ pub record ScopesClose : Type 0 where
   pub handler : (name : Option Text) (live : Live) →
       ((catch_live name live).block ≡ length live.slots)
       × (take (length live.slots) (catch_live name live).slots ≡ live.slots)
+
+-- Two variables of one name are live: a use refers to the second, and a name that is called to none.
+abbrev example_live : Live
+example_live = record {
+  slots = fresh_slot (codes "x") true ∷ fresh_slot (codes "x") false ∷ [];
+  block = 1;
+  imports = [];
+}
+
+example : (name_tree example_live.slots false (codes "x") (place 1 1) ≡ variable_of (Some 1) (codes "x") (place 1 1))
+    × (name_tree example_live.slots true (codes "x") (place 1 1) ≡ variable_of None (codes "x") (place 1 1))
+unfolding number
+example = (refl, refl)

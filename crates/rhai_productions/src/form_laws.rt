@@ -13,6 +13,7 @@ ghost use Rattle.rhai_productions.specs.Rules.{production};
 ghost use Rattle.rhai_productions.specs.Runs.{ExpressionsAreRuns, RunsAreExpressions};
 ghost use Rattle.rhai_productions.specs.Shaped.{TreesKeepShape};
 ghost use Rattle.rhai_productions.specs.SlotLaws.{NoSlot, NumberedSlot, ScopesClose};
+ghost use Rattle.rhai_productions.specs.StartLaws.{ExpressionsBegin};
 ghost use Rattle.rhai_productions.specs.StreamLaws.{FormsAreFair, StreamsAreWhole};
 ghost use Rattle.rhai_productions.specs.Watched.{NamesAreCaptured};
 
@@ -45,6 +46,12 @@ pub fn forms_are_fair()
 #[tactic(auto, using(crate::proofs::WholeLemmas::streams_are_whole))]
 pub fn streams_are_whole()
     ensures { StreamsAreWhole }
+{}
+
+/// An expression that fits begins with a token that begins an expression.
+#[tactic(auto, using(crate::proofs::StartLemmas::expressions_begin))]
+pub fn expressions_begin()
+    ensures { ExpressionsBegin }
 {}
 
 /// What is in a closure captures its free uses, each name at its first use, and has the number of closures before it.
