@@ -24,6 +24,8 @@ pub mod Numbers
 pub mod ClosureLemmas
 pub mod SlotLemmas
 pub mod StartLemmas
+pub mod Fits
+pub mod Beginnings
 pub mod Ordering
 pub mod OrderCauses
 pub mod OrdersOfOperands

@@ -1,7 +1,8 @@
--- Which tokens begin an expression that fits.
+-- An expression that fits begins with a token that begins one.
 use Rattle.std.proofs.Common.{◌≡◌, Bool, true, false, ◌∙◌, refl, ap, if◌then◌else◌}
 use Rattle.rhai_lower.specs.Lexemes.{Faulty}
 use Rattle.rhai_grammar.specs.Prelude.{Lexeme, Context, Live, Ended, beginning, may_be_closure, may_be_value, starts}
+use Rattle.rhai_grammar.specs.Prelude.{Met, Node, Nothing, Point, code, next_at}
 use Rattle.rhai_grammar.specs.Starts.{begins}
 use Rattle.rhai_grammar.specs.declared.role.Beginning.{Beginning}
 use Rattle.rhai_grammar.specs.declared.role.Beginning.TheVariants as begin
@@ -11,7 +12,7 @@ use Rattle.rhai_productions.specs.Schema.{Production}
 use Rattle.rhai_productions.specs.Rules as P
 use Rattle.rhai_productions.specs.Rules.{production}
 use Rattle.rhai_productions.specs.Kept.{Keeps}
-use Rattle.rhai_productions.specs.StartLaws.{ExpressionsBegin}
+use Rattle.rhai_productions.specs.Derived as D
 use Rattle.rhai_productions.proofs.Keeping.{holds, trivially}
 
 abbrev Right : (g : Goal) → Val g → (first next : Lexeme) → Type 0
@@ -60,5 +61,6 @@ table (R.Operand c w) n = λ v e. operand c w v n e
 table (R.Primary c w) n = λ v e. primary c w v n e
 table g n = trivially Right (λ x next. Unit {0}) (production g) n (λ x m. tt)
 
-pub expressions_begin : ExpressionsBegin
-expressions_begin = record { only = λ c w x f s t m. holds Right production table f s t m }
+pub begins_so : (c : Context) (w : Live) (x : Node) (f : D.Form production (R.Expression c w) x) (s t : Point)
+    → Met (D.demands production f Nothing) s t → starts c (next_at code s).lexeme ≡ true
+begins_so c w x f s t m = holds Right production table f s t m

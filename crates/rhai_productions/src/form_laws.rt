@@ -13,7 +13,7 @@ ghost use Rattle.rhai_productions.specs.Rules.{production};
 ghost use Rattle.rhai_productions.specs.Runs.{ExpressionsAreRuns, RunsAreExpressions};
 ghost use Rattle.rhai_productions.specs.Shaped.{TreesKeepShape};
 ghost use Rattle.rhai_productions.specs.SlotLaws.{NoSlot, NumberedSlot, ScopesClose};
-ghost use Rattle.rhai_productions.specs.StartLaws.{ExpressionsBegin};
+ghost use Rattle.rhai_productions.specs.StartLaws.{StartsOfExpressions};
 ghost use Rattle.rhai_productions.specs.StreamLaws.{FormsAreFair, StreamsAreWhole};
 ghost use Rattle.rhai_productions.specs.Watched.{NamesAreCaptured};
 
@@ -48,10 +48,11 @@ pub fn streams_are_whole()
     ensures { StreamsAreWhole }
 {}
 
-/// An expression that fits begins with a token that begins an expression.
-#[tactic(auto, using(crate::proofs::StartLemmas::expressions_begin))]
-pub fn expressions_begin()
-    ensures { ExpressionsBegin }
+/// A token begins an expression exactly where some expression that fits begins with it, or it is a reserved word or
+/// symbol, or an error of the tokenizer.
+#[tactic(auto, using(crate::proofs::Beginnings::starts_of_expressions))]
+pub fn starts_of_expressions()
+    ensures { StartsOfExpressions }
 {}
 
 /// What is in a closure captures its free uses, each name at its first use, and has the number of closures before it.
