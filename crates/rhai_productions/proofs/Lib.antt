@@ -25,6 +25,7 @@ pub mod ClosureLemmas
 pub mod SlotLemmas
 pub mod StartLemmas
 pub mod Fits
+pub mod BeginningParts
 pub mod Beginnings
 pub mod Ordering
 pub mod OrderCauses
