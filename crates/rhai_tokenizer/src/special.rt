@@ -96,7 +96,7 @@ fn digits_after(marker: u8) -> usize
 
 // The value of digits, or a number past all characters.
 fn hex_value(digits: &[u8]) -> u32
-    ensures value { result ≡ min spec.past_characters (strings.hex_value digits.now) }
+    ensures value { result ≡ min spec.past_characters (spec.hex_value digits.now) }
     ensures within { result ≤ spec.past_characters }
 {
     let value = radix_of(16, digits);

@@ -1,7 +1,7 @@
 use Rattle.std.proofs.Common.{◌<◌, ◌∙◌, sym, get_or, arith}
 use Rattle.rhai_tokenizer.proofs.BlankLemmas.{blank_empty, blank_other, blank_space}
 use Rattle.rhai_tokenizer.proofs.ClassLemmas.{other_byte, space_byte}
-use Rattle.rhai_tokenizer.proofs.lexer.blank_past.Goals as goal
+use Rattle.rhai_tokenizer.proofs.blanks.blank_in.Goals as goal
 
 pub returns-in-empty-clause-value : goal.returns-in-empty-clause-value
 returns-in-empty-clause-value c = blank_empty c.args.z.now c.in-empty.len_below
