@@ -159,8 +159,8 @@ static int is_well(uint32_t status, const rhai_answer *got, uint32_t wanted, con
 static int refuse(int number, rhai_engine *engine, const char *text, size_t length) {
     rhai_answer answer, got;
     size_t allocations = 0, without = 0;
-    int wrong = 0, left = 0;
     uint32_t wanted = call(number, engine, text, length, &answer);
+    int wrong = wanted > RHAI_REFUSED, left = 0;
     do {
         refused = ++allocations;
         uint32_t status = call(number, engine, text, length, &got);
@@ -202,7 +202,7 @@ static int refuse_all(const char *name) {
     if (file) fclose(file);
     rhai_engine engine;
     rhai_engine_new(&engine);
-    int wrong = refuse_engine();
+    int wrong = refuse_engine() + !length;
     for (int number = 0; number < 3; number++) wrong += refuse(number, &engine, text, length);
     rhai_engine_free(&engine);
     printf("%d wrong\n", wrong);
