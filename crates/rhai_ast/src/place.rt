@@ -1,4 +1,4 @@
-//! The token at which a script is refused, also where lines or columns are no longer counted.
+//! The token at which a script is refused, also beyond line or column 65535.
 
 use crate::settings::Settings;
 use crate::source::script_of;

@@ -1,4 +1,4 @@
--- What a piece decides.
+-- What a piece decides about the pieces after it.
 use Rattle.std.proofs.Common.{◌≡◌, List, Bool, true, false, refl, sym, true≢false}
 use Rattle.rhai_lower.specs.declared.token.Token.{Token}
 use Rattle.rhai_lower.specs.declared.token.Token.TheVariants as token

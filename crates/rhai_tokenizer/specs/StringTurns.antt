@@ -1,4 +1,4 @@
--- What the code gives of a string.
+-- What the code reads of a string.
 use Rattle.std.specs.Prelude.{◌≡◌, ℕ, ◌+◌, ◌≤◌, ◌++◌, Option, Some, None, take, drop, length}
 use Rattle.std.specs.List.{concat}
 use Rattle.std.specs.Rc.{rc_str_bytes}

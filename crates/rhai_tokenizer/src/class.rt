@@ -1,4 +1,4 @@
-//! Classes of bytes: what begins with a byte, and what goes on with it.
+//! Classes of bytes: what a byte begins, and what it continues.
 
 ghost use Rattle.std.specs.Prelude.{◌≡◌, ◌≤◌, length};
 ghost use Rattle.rhai_lower.specs.Names.{is_word};

@@ -1,4 +1,4 @@
-//! What stands in a string where a byte does not stand for itself.
+//! The parts of a string that are no plain bytes: escapes, doubled quotes, line ends.
 
 ghost use Rattle.std.specs.Prelude.{◌≡◌, ◌+◌, ◌*◌, min, ◌<◌, ◌≤◌, true, length, Some, []};
 ghost use Rattle.rhai_tokenizer.specs.Bytes.{begins, is_line_feed};

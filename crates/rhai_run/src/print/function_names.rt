@@ -1,4 +1,4 @@
-//! The printed line of a function, as `f/1: free y, z; calls g/1`.
+//! The printed lines of the names that functions need, as `f/1: free y, z; calls g/1`.
 
 use rhai_names::names::FnNames;
 use std::alloc::{AllocError, Global};
@@ -35,8 +35,9 @@ fn write_line(text: &mut String, names: &FnNames) -> Result<(), AllocError> {
     text.push_str("\n")
 }
 
-/// A line for each function: its name with that of its type, the number of its parameters, and what it needs.
-pub fn lines_of(alloc: Global, functions: &[FnNames]) -> Result<String, AllocError> {
+/// A line for each function: its name with that of its type, the number of its parameters, and what it needs. Returns
+/// `AllocError` if memory runs out.
+pub fn names_lines(alloc: Global, functions: &[FnNames]) -> Result<String, AllocError> {
     let mut text = String::new(alloc);
     for names in functions {
         write_line(&mut text, names)?;
