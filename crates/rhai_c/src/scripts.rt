@@ -7,9 +7,10 @@ ghost use Rattle.rhai_c.specs.declared.scripts.Question.TheVariants.{Script, Tok
 
 use crate::settings::Settings;
 use rhai_grammar::{ParseError, ParseErrorType, ParseResult};
-use rhai_json::{Diagnostic, diagnostic_json, names_json, span_at, tokens_json, tree_json};
+use rhai_json::{diagnostic_json, names_json, tokens_json, tree_json};
 use rhai_lower::{AST, OptimizationLevel, Unoptimized};
 use rhai_names::names::names_of;
+use rhai_report::{Outside, Source, index_at, report_of};
 use rhai_script::{compile_expression_with, compile_with};
 use rhai_tokenizer::tokenize;
 use std::alloc::{AllocError, Global};
@@ -94,13 +95,18 @@ fn refusal(
     error: &ParseError,
 ) -> Result<String, AllocError> {
     let tokens = tokenize(alloc, text, settings.limits)?;
-    let diagnostic = Diagnostic {
-        file: None,
-        error,
-        span: span_at(&tokens, error.1),
-        notes: &[],
+    let source = Source {
+        name: "",
+        text,
+        start: 0,
     };
-    diagnostic_json(alloc, &diagnostic)
+    let outside = Outside {
+        variables: &[],
+        modules: &[],
+    };
+    let index = index_at(&tokens, error.1);
+    let report = report_of(alloc, source, &tokens, index, error, outside)?;
+    diagnostic_json(alloc, &report)
 }
 
 // What is told of a script.

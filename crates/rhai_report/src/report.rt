@@ -59,6 +59,13 @@ fn mark_of_token(source: Source<'_>, tokens: &Tokens, index: usize, pos: Positio
     Some(mark_of(source.text, source.start, Span { start, stop }, pos, token))
 }
 
+/// The index of the first token at this position; that of the end mark, which is the number of tokens, if no token is
+/// there.
+pub fn index_at(tokens: &Tokens, pos: Position) -> usize {
+    let found = tokens.entries.iter().position(|entry| entry.pos == pos);
+    found.unwrap_or(tokens.entries.len())
+}
+
 /// What is told of a script that is refused with this error, at the token of this index (that of the end mark is the
 /// number of tokens). `tokens` are those of the script; `outside` is what it knows from outside. Returns `AllocError`
 /// if memory runs out.
