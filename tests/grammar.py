@@ -46,7 +46,8 @@ def rules_of_page():
 def rules_of_productions():
     """Yields the rules above productions: the file, the name and the words of each."""
     for path in sorted(PRODUCTIONS.glob("RulesOf*.antt")):
-        for name, words in joined(path.read_text(encoding="utf-8").splitlines(), r"-- {5}(\w+) =\s*(.*)", r"-- {7}(\S.*)"):
+        lines = path.read_text(encoding="utf-8").splitlines()
+        for name, words in joined(lines, r"-- {5}(\w+) =\s*(.*)", r"-- {7}(\S.*)"):
             yield path.name, name, words
 
 

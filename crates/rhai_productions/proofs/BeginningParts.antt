@@ -1,13 +1,16 @@
 -- Operands and expressions of few tokens that fit, and the tokens with which they begin.
-use Rattle.std.proofs.Common.{◌≡◌, ◌⊎◌, inr, ℕ, Bool, true, false, ◌&&◌, List, [], ◌∷◌, Option, Some, None, refl, sym, ap, subst, pos}
+use Rattle.std.proofs.Common.{◌≡◌, ◌⊎◌, inr, ℕ, Bool, true, false, ◌&&◌, List, [], ◌∷◌, Option, Some, None, refl, sym}
+use Rattle.std.proofs.Common.{ap, subst, pos}
 use Rattle.rhai_lower.specs.Lexemes.{Lexeme, Integer, Name, Sign}
 use Rattle.rhai_lower.specs.Nodes as node
 use Rattle.rhai_lower.specs.Positions.{place}
 use Rattle.rhai_lower.specs.declared.token.Token.{Token}
 use Rattle.rhai_lower.specs.declared.token.Token.TheVariants as token
-use Rattle.rhai_grammar.specs.Prelude.{Context, Live, Node, Text, Point, Position, Item, item, code, next_at, past, Taken}
+use Rattle.rhai_grammar.specs.Prelude.{Context, Live, Node, Text, Point, Position, Item, item, code, next_at, past}
+use Rattle.rhai_grammar.specs.Prelude.{Taken}
 use Rattle.rhai_grammar.specs.Prelude.{beginning, value_of, level_up, has_room, is_memory, is_variable, module_fault}
-use Rattle.rhai_grammar.specs.Prelude.{Tokens, linking, follower_of, Other, spot_after_operand, qualifies, calls, Nothing}
+use Rattle.rhai_grammar.specs.Prelude.{Tokens, linking, follower_of, Other, spot_after_operand, qualifies, calls}
+use Rattle.rhai_grammar.specs.Prelude.{Nothing}
 use Rattle.rhai_grammar.specs.Delivered as M
 use Rattle.rhai_grammar.specs.Signs.{sign_holds, signed as signed_tree}
 use Rattle.rhai_grammar.specs.StartLaws.{is_added}
@@ -60,7 +63,8 @@ pub record Ends (filter : ExprFilter) (u : Point) : Type 0 where
   pub unlinked : linking lexeme ≡ link.Nothing
   pub follower : follower_of filter lexeme ≡ Other
 
-pub ends : (t : Token) {filter : ExprFilter} {u : Point} → next_at code u ≡ item (Sign t) here → linking (Sign t) ≡ link.Nothing
+pub ends : (t : Token) {filter : ExprFilter} {u : Point} → next_at code u ≡ item (Sign t) here
+    → linking (Sign t) ≡ link.Nothing
     → follower_of filter (Sign t) ≡ Other → Ends filter u
 ends t e l f = record { lexeme = Sign t; comes = sign t e; unlinked = l; follower = f }
 
@@ -214,7 +218,8 @@ signed c w t b holds =
 
 -- a range from an omitted zero to an omitted unit
 pub range : (c : Context) (w : Live) (t : Token) → beginning (Sign t) ≡ begin.Range → linking (Sign t) ≡ link.Nothing
-    → follower_of c.filter (Sign t) ≡ Operator 140 false → operand_start (place_after (Sign t)) (Sign token.RightParen) ≡ first.Omitted
+    → follower_of c.filter (Sign t) ≡ Operator 140 false
+    → operand_start (place_after (Sign t)) (Sign token.RightParen) ≡ first.Omitted
     → boolean_holds (Sign t) (node.integer (pos 0) here) ≡ true → boolean_holds (Sign t) (node.unit here) ≡ true
     → Starts (unlimited c) w (Sign t)
 range c w t b l f omitted left right =
@@ -228,14 +233,18 @@ range c w t b l f omitted left right =
     let op : Option (ℕ × Bool) = Some (140, false) in
     let primary : Fit (R.Primary (inner c) w) zero s s = formed (F.chooses n (subst (λ v. FitIn (R.Primary (inner c) w)
     (P.primary_by (inner c) w v) zero s s) (sym b) (F.looks n given))) in
-    let operand = operand_of (inner c) w zero begin.Range n b refl primary refl (record { lexeme = Sign t; comes = n; unlinked = l }) in
-    let operator : Fit (R.NextOperator c.filter) op s s = formed (F.chooses n (subst (λ v. FitIn (R.NextOperator c.filter)
+    let operand = operand_of (inner c) w zero begin.Range n b refl primary refl
+    (record { lexeme = Sign t; comes = n; unlinked = l }) in
+    let operator : Fit (R.NextOperator c.filter) op s s =
+    formed (F.chooses n (subst (λ v. FitIn (R.NextOperator c.filter)
     (P.follower_by v) op s s) (sym f) given)) in
     let side : Fit (R.RightOperand (inner c) w (place_after (Sign t))) unit u u = formed (F.chooses close
     (subst (λ v. FitIn (R.RightOperand (inner c) w (place_after (Sign t))) (P.right_by (inner c) w v) unit u u)
     (sym omitted) (F.looks close given))) in
-    let run : Fit (R.BinaryOp (inner c) w here 1 zero) (operator_tree (Sign t) here zero unit) s u = formed (F.part operator
-    (F.this n (F.part side (F.part (no_operator e) (F.must refl (F.part (operator_end (level_up (inner c)) w here 140 unit e)
+    let run : Fit (R.BinaryOp (inner c) w here 1 zero) (operator_tree (Sign t) here zero unit) s u =
+    formed (F.part operator
+    (F.this n (F.part side (F.part (no_operator e)
+    (F.must refl (F.part (operator_end (level_up (inner c)) w here 140 unit e)
     (F.must left (F.must right (F.part (operator_end (level_up (inner c)) w here 1 _ e) given))))))))) in
     by_expression c w (Sign t) n (formed (F.looks n (F.must refl (F.part operand (F.part run given)))))
 

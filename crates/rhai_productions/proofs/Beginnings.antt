@@ -1,6 +1,7 @@
 -- For each token that begins an expression, an expression that fits and begins with it.
 use Rattle.std.proofs.Common.{◌≡◌, inl, Bool, true, false, List, [], ◌∷◌, refl, sym, subst}
-use Rattle.rhai_lower.specs.Lexemes.{Lexeme, Character, Comment, Faulty, Integer, Interpolated, Name, Reserved, Sign, String}
+use Rattle.rhai_lower.specs.Lexemes.{Lexeme, Character, Comment, Faulty, Integer, Interpolated, Name, Reserved, Sign}
+use Rattle.rhai_lower.specs.Lexemes.{String}
 use Rattle.rhai_lower.specs.Nodes as node
 use Rattle.rhai_lower.specs.declared.token.Token.{Token}
 use Rattle.rhai_lower.specs.declared.token.Token.TheVariants as token
@@ -21,7 +22,9 @@ use Rattle.rhai_productions.specs.StartLaws.{StartsOfExpressions}
 use Rattle.rhai_productions.proofs.StartLemmas.{begins_so}
 use Rattle.rhai_productions.proofs.Fits as F
 use Rattle.rhai_productions.proofs.Fits.{Comes, Fit, FitIn, formed, given}
-use Rattle.rhai_productions.proofs.BeginningParts.{here, pt, tk, next, sign, Ends, ends, value_expression, limited, unlimited, inner, Starts, by_primary, value, one, group, array, map, signed, range, name}
+use Rattle.rhai_productions.proofs.BeginningParts.{here, pt, tk, next, sign, Ends, ends, value_expression, limited}
+use Rattle.rhai_productions.proofs.BeginningParts.{unlimited, inner, Starts, by_primary, value, one, group, array, map}
+use Rattle.rhai_productions.proofs.BeginningParts.{signed, range, name}
 
 -- ---- blocks, of one kind where they are one expression and of another where they are statements
 
@@ -47,7 +50,8 @@ inside : (c : Context) (w : Live) (b : Bool) → has_single_blocks c ≡ b → h
 inside c w true e room ls ts =
     formed (subst (λ s. FitIn (R.Inside c w) (P.inside_by c w s) (inside_tree true) (pt (with_block true ls) ts)
     (pt (Sign token.RightBrace ∷ ls) (tk one ts))) (sym e)
-    (F.part (formed (F.part (value_expression c w (next one refl refl) room refl refl (ends token.RightBrace refl refl refl))
+    (F.part (formed (F.part (value_expression c w (next one refl refl) room refl refl
+    (ends token.RightBrace refl refl refl))
     (F.if_not (sign token.RightBrace refl) refl given))) given))
 inside c w false e room ls ts =
     formed (subst (λ s. FitIn (R.Inside c w) (P.inside_by c w s) (inside_tree false) (pt (with_block false ls) ts)
@@ -59,9 +63,11 @@ block : (c : Context) (w : Live) (b : Bool) → has_single_blocks c ≡ b → ha
     → Fit (R.Block c w here) (node.braces (inside_tree b) here here) (pt (with_block b ls) ts)
     (pt ls (tk (Sign token.RightBrace) (taken_in b ts)))
 block c w b e room ls ts =
-    formed (F.part (inside c w b e room ls ts) (F.part (formed (F.takes (sign token.RightBrace refl) refl given)) given))
+    formed (F.part (inside c w b e room ls ts) (F.part
+    (formed (F.takes (sign token.RightBrace refl) refl given)) given))
 
-braced : (c : Context) (w : Live) (b : Bool) → has_single_blocks c ≡ b → has_room c ≡ true → has_room (level_up c) ≡ true
+braced : (c : Context) (w : Live) (b : Bool) → has_single_blocks c ≡ b → has_room c ≡ true
+    → has_room (level_up c) ≡ true
     → (ls : List Lexeme) (ts : List Taken)
     → Fit (R.Braced c w here) (node.braces (inside_tree b) here here)
     (pt (Sign token.LeftBrace ∷ with_block b ls) ts)
@@ -92,7 +98,8 @@ guard : (c : Context) (w : Live) {s : Point} → has_room c ≡ true → Comes (
     → Ends c.filter (past code s) → Comes (Sign token.LeftBrace) here (past code s)
     → Fit (R.Guard c w) (node.boolean true here) s (past code s)
 guard c w room n e brace =
-    formed (F.if_not n refl (F.part (value_expression c w n room refl refl e) (F.must refl (F.if_not brace refl given))))
+    formed (F.if_not n refl (F.part (value_expression c w n room refl refl e)
+    (F.must refl (F.if_not brace refl given))))
 
 guard_last : (c : Context) (w : Live) {s : Point} → has_room c ≡ true → Comes (Sign token.True) here s
     → Ends c.filter (past code s) → Comes (Sign token.EOF) here (past code s)
@@ -110,7 +117,8 @@ block_begins c w b e h =
 if_begins : (c : Context) (w : Live) (b : Bool) → has_single_blocks c ≡ b
     → may_be_value (inner c) kind.If ≡ true → Starts (unlimited c) w (Sign token.If)
 if_begins c w b e h =
-    construct c w token.If kind.If _ {s = pt (Sign token.If ∷ Sign token.True ∷ Sign token.LeftBrace ∷ with_block b []) []}
+    construct c w token.If kind.If _
+    {s = pt (Sign token.If ∷ Sign token.True ∷ Sign token.LeftBrace ∷ with_block b []) []}
     (sign token.If refl) refl h
     (formed (F.part (formed (F.part (guard (deep c) w refl (sign token.True refl) (ends token.LeftBrace refl refl refl)
     (sign token.LeftBrace refl)) (F.part (braced (deep c) w b e refl refl [] _) (F.part (formed
@@ -123,7 +131,8 @@ switch_begins c w h =
     construct c w token.Switch kind.Switch _
     {s = pt (Sign token.Switch ∷ Sign token.True ∷ Sign token.LeftBrace ∷ Sign token.RightBrace ∷ []) []}
     (sign token.Switch refl) refl h
-    (formed (F.part (value_expression (deep c) w (sign token.True refl) refl refl refl (ends token.LeftBrace refl refl refl))
+    (formed (F.part (value_expression (deep c) w (sign token.True refl) refl refl refl
+    (ends token.LeftBrace refl refl refl))
     (F.takes (sign token.LeftBrace refl) refl (F.part (formed (F.chooses (sign token.RightBrace refl)
     (F.this (sign token.RightBrace refl) given))) given))))
     (ends token.EOF refl refl refl)
@@ -151,7 +160,8 @@ do_begins c w b e h =
     let ls = Sign token.While ∷ Sign token.True ∷ [] in
     construct c w token.Do kind.Do _ {s = pt (Sign token.Do ∷ Sign token.LeftBrace ∷ with_block b ls) []}
     (sign token.Do refl) refl h
-    (formed (F.part (braced (loop_body (deep c)) w b e refl refl ls _) (F.part (formed (F.chooses (sign token.While refl)
+    (formed (F.part (braced (loop_body (deep c)) w b e refl refl ls _)
+    (F.part (formed (F.chooses (sign token.While refl)
     (F.this (sign token.While refl) given))) (F.part (guard_last (deep c) w refl (sign token.True refl)
     (ends token.EOF refl refl refl) (sign token.EOF refl)) given))))
     (ends token.EOF refl refl refl)
@@ -164,14 +174,16 @@ for_begins c w b e h =
     (sign token.For refl) refl h
     (formed (F.part (formed (F.if_not (next (Name []) refl refl) refl (F.takes (next (Name []) refl refl) refl
     (F.takes (sign token.In refl) refl given)))) (F.part (formed (F.if_not (next (String []) refl refl) refl
-    (F.part (value_expression (deep c) w (next (String []) refl refl) refl refl refl (ends token.LeftBrace refl refl refl))
+    (F.part (value_expression (deep c) w (next (String []) refl refl) refl refl refl
+    (ends token.LeftBrace refl refl refl))
     (F.must refl given)))) (F.part (braced (loop_body (deep c)) _ b e refl refl [] _) given))))
     (ends token.EOF refl refl refl)
 
 interpolated : (c : Context) (w : Live) (a : Text) (b : Bool) → has_single_blocks c ≡ b
     → Starts (unlimited c) w (Interpolated a)
 interpolated c w a b e =
-    let n : Comes (Interpolated a) here (pt (Interpolated a ∷ Sign token.LeftBrace ∷ with_block b (String [] ∷ [])) []) =
+    let n : Comes (Interpolated a) here (pt (Interpolated a ∷ Sign token.LeftBrace ∷ with_block b
+    (String [] ∷ [])) []) =
     next (Interpolated a) refl refl in
     by_primary c w (Interpolated a) begin.Interpolated n refl refl
     (formed (F.chooses n (F.this n (F.must refl (F.part (formed (F.part
@@ -211,7 +223,8 @@ list_begins c w room h =
 
 -- ---- all tokens
 
-any_sign : (c : Context) (w : Live) (t : Token) → may_begin (unlimited c) [] ≡ true → starts (unlimited c) (Sign t) ≡ true
+any_sign : (c : Context) (w : Live) (t : Token) → may_begin (unlimited c) [] ≡ true
+    → starts (unlimited c) (Sign t) ≡ true
     → Starts (unlimited c) w (Sign t)
 any_sign c w token.Unit room h = value c w (Sign token.Unit) refl refl refl
 any_sign c w token.True room h = value c w (Sign token.True) refl refl refl

@@ -7,7 +7,8 @@ use Rattle.std.specs.List.{fold}
 use Rattle.std.proofs.lemmas.List.{map-append}
 use Rattle.std.proofs.lemmas.List.Folds.{list_any-append}
 use Rattle.std.specs.Cmp.Lexicographic as L
-use Rattle.rhai_grammar.specs.Prelude.{Text, same_text, Position, SlotValue, Node, captured_nodes, shared_names, Context}
+use Rattle.rhai_grammar.specs.Prelude.{Text, same_text, Position, SlotValue, Node, captured_nodes, shared_names}
+use Rattle.rhai_grammar.specs.Prelude.{Context}
 use Rattle.rhai_grammar.specs.Prelude.{Live, Point, capturing, with_captured, Met, Nothing, is_among, Ended}
 use Rattle.rhai_grammar.specs.Prelude.{Library, is_function, keys_in, with_ended, is_captured, number, Use, names_of}
 use Rattle.rhai_grammar.specs.Prelude.{noted, closure_name, closure_node, ended_closure, made_block, apart, Refusal}
@@ -156,7 +157,8 @@ later (u ∷ us) c w new why e y (D.captures f) s t i m =
     lift r n (inr (inl a)) = inr (inl (r.functions n a))
     lift r n (inr (inr a)) = inr (inr (r.grows n a))
 
-    by : Later w us (capturing (is_captured c w u.name s.library) u s) t → (n : Text) (b : Bool) → same_text u.name n ≡ b
+    by : Later w us (capturing (is_captured c w u.name s.library) u s) t → (n : Text) (b : Bool)
+        → same_text u.name n ≡ b
         → (b || is_among n (names_of us)) ≡ true → IsAround w t.library t.captured n
     by r n true g h =
         subst (IsAround w t.library t.captured) (reads_same u.name n g) (lift r u.name
@@ -258,7 +260,8 @@ parameters_are_captured = record {
       let r = made f in
       let p = closure_parts f in
       ap (λ (e : Ended). e.key) r.closure
-      ∙ ap (λ ns. record { this_type = None; name = closure_name p.number; params = length (ns ++ p.own) }) (sym r.names);
+      ∙ ap (λ ns. record { this_type = None; name = closure_name p.number; params = length (ns ++ p.own) })
+      (sym r.names);
   last = λ c w at by x f. ((made f).before, (made f).last);
   alone = λ c w at by x f none.
       let r = made f in

@@ -2,8 +2,10 @@
 use Rattle.std.proofs.Common.{◌≡◌, ℕ, Bool, true, false, List, refl, ap, ◌∙◌, if◌then◌else◌}
 use Rattle.rhai_lower.specs.declared.token.Token.TheVariants as token
 use Rattle.rhai_grammar.specs.Prelude.{Lexeme, Sign, Position, Item, item, code, text, Point, Use, Ended, Library}
-use Rattle.rhai_grammar.specs.Prelude.{Demands, Nothing, Met, Refusal, Cause, Verdict, Fine, Wrong, Blames, Otherwise, verdict}
-use Rattle.rhai_grammar.specs.Prelude.{adding, capturing, closure_count, is_due, is_memory, is_text, next_at, not_due, past}
+use Rattle.rhai_grammar.specs.Prelude.{Demands, Nothing, Met, Refusal, Cause, Verdict, Fine, Wrong, Blames, Otherwise}
+use Rattle.rhai_grammar.specs.Prelude.{verdict}
+use Rattle.rhai_grammar.specs.Prelude.{adding, capturing, closure_count, is_due, is_memory, is_text, next_at, not_due}
+use Rattle.rhai_grammar.specs.Prelude.{past}
 use Rattle.rhai_grammar.specs.Prelude.{with_captured}
 use Rattle.rhai_grammar.specs.Delivered as M
 use Rattle.rhai_grammar.specs.declared.due.DueToken.TheVariants.{RightBrace}
@@ -94,7 +96,8 @@ module _ {h : Goal} {x : Val h} {s u : Point} where
       met = λ k t q. (goes D.any_token n refl, (n.is, r.met k t q));
     }
 
-  pub must : {b : Bool} {e : Refusal} {p : Production (Val h)} → b ≡ true → FitIn h p x s u → FitIn h (S.must b e p) x s u
+  pub must : {b : Bool} {e : Refusal} {p : Production (Val h)} → b ≡ true → FitIn h p x s u
+      → FitIn h (S.must b e p) x s u
   must is r = record { filled = D.must r.filled; met = λ k t m. (is, r.met k t m) }
 
   pub knows : {f : Library → Bool} {e : Refusal} {p : Production (Val h)} → f s.library ≡ true → FitIn h p x s u

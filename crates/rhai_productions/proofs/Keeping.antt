@@ -91,7 +91,8 @@ module _ (rule : (g : Goal) → Production (Val g)) (Right : (g : Goal) → Val 
 
 module _ (Right : (g : Goal) → Val g → (first next : Lexeme) → Type 0) where
   -- what holds of all that could be given is kept
-  pub trivially : {A : Type 0} (Q : A → Lexeme → Type 0) (p : Production A) (n : Lexeme) → ((x : A) (m : Lexeme) → Q x m)
+  pub trivially : {A : Type 0} (Q : A → Lexeme → Type 0) (p : Production A) (n : Lexeme)
+      → ((x : A) (m : Lexeme) → Q x m)
       → Keeps Right (λ x. Unit {0}) Q p n
   trivially Q (S.give x) n h = h x n
   trivially Q (S.never why) n h = tt

@@ -8,7 +8,8 @@ use Rattle.rhai_grammar.specs.Prelude.{FieldsEnd, AKey, NoKey, LinkSpot, index_r
 use Rattle.rhai_grammar.specs.Prelude.{MemberPlace, AMember, NoMember, arm_fault, Follower, Operator, Unknown, Other}
 use Rattle.rhai_grammar.specs.Prelude.{may_be_closure, Comment, Collected, Use, Library, Refusal, Ended, member_place}
 use Rattle.rhai_grammar.specs.Prelude.{unexpected, is_end, duplicate_of, is_new, may_begin, names_function, is_closure}
-use Rattle.rhai_grammar.specs.Prelude.{with_ended, closure_count, closure_name, closure_node, ended_closure, made_block, missing, noop}
+use Rattle.rhai_grammar.specs.Prelude.{with_ended, closure_count, closure_name, closure_node, ended_closure, made_block}
+use Rattle.rhai_grammar.specs.Prelude.{missing, noop}
 use Rattle.rhai_grammar.specs.CommaLists.{closing_text}
 use Rattle.rhai_grammar.specs.Functions.{is_keyword, is_reserved_token}
 use Rattle.rhai_grammar.specs.Prelude as G

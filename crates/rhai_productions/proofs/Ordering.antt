@@ -39,8 +39,8 @@ module _ (limit : ℕ) (Begun : ℕ → Goal → Type 0) (Right : (g : Goal) →
   Within l = IsOrderly limit 0 l
 
   module _ (begun : ℕ) where
-    -- After these functions a production keeps libraries orderly, where so many functions have begun; R holds of what is
-    -- given. Each test spares causes, or does not fail here.
+    -- After these functions a production keeps libraries orderly, where so many functions have begun; R holds of what
+    -- is given. Each test spares causes, or does not fail here.
     abbrev pub Orders : {A : Type 0} → (A → Type 0) → Production A → Library → Type 0
     Orders R (S.give x) l = R x × Kept limit begun l
     Orders R (S.never why) l = (n : Lexeme) → duplicates_closure (why n) ≡ false
@@ -60,7 +60,8 @@ module _ (limit : ℕ) (Begun : ℕ → Goal → Type 0) (Right : (g : Goal) →
     Orders R (S.literal g is k) l = (b : ℕ) × Kept limit b l × Begun b g
         × ((x : Val g) (m : Library) → Right g x → Kept limit b m → Orders R (k x) m)
     Orders R (S.apart g k) l = (b : ℕ) × Kept limit b l × Begun b g
-        × ((x : Val g) (us : List Use) (m : Library) → Right g x → Kept limit b m → Orders R (k x us (closure_count m)) m)
+        × ((x : Val g) (us : List Use) (m : Library) → Right g x → Kept limit b m
+        → Orders R (k x us (closure_count m)) m)
     Orders R (S.in_text k) l = (closing : Position) (n : Lexeme) (at : Position) → Orders R (k closing n at) l
 
   pub within : (b : ℕ) (l : Library) → Kept limit b l → Within l
@@ -266,7 +267,8 @@ module _ (limit : ℕ) (Begun : ℕ → Goal → Type 0) (Right : (g : Goal) →
           test_or s t e why (λ is. o.0) w m (λ a. a) (λ is m. absurd m)
       stops_in F.brace_here b s e n t w o m = token_or (next_at code s) s t e brace w m (λ a. a) (λ m. absurd m)
       stops_in (F.text_here closing) b s e n t w o m =
-          token_or (next_at code s) s t e brace w m (λ a. a) (λ m. token_or (next_at code s) s t e after w m (λ a. a) (λ m.
+          token_or (next_at code s) s t e brace w m (λ a. a)
+          (λ m. token_or (next_at code s) s t e after w m (λ a. a) (λ m.
           token_or (next_at text (past code s)) (past code s) t e a_text w m (λ a. a) (λ m. absurd m)))
       stops_in (F.part_here f) b s e n t w o m = stops f o.0 s e n t o.2 o.1 m
       stops_in (F.literal_here f) b s e n t w o (inl m) =
@@ -275,20 +277,24 @@ module _ (limit : ℕ) (Begun : ℕ → Goal → Type 0) (Right : (g : Goal) →
       stops_in (F.apart_here f) b s e n t w o (inl m) = stops f o.0 (M.apart s) e n t o.2 o.1 m
       stops_in (F.apart_here f) b s e n t w o (inr m) = absurd m.3
       stops_in (F.take {w = is} {m = miss} l at f) b s e n t w o m =
-          token_or (next_at code s) s t e (wanted is miss o.0) w m (λ a. a) (λ m. token_or (next_at code s) s t e after w m (λ a. a) (λ m.
+          token_or (next_at code s) s t e (wanted is miss o.0) w m (λ a. a)
+          (λ m. token_or (next_at code s) s t e after w m (λ a. a) (λ m.
           stops_in f b (past code s) e n t w (o.1 l at) m))
       stops_in (F.this l at f) b s e n t w o m =
-          token_or (next_at code s) s t e any w m (λ a. a) (λ m. token_or (next_at code s) s t e after w m (λ a. a) (λ m.
+          token_or (next_at code s) s t e any w m (λ a. a)
+          (λ m. token_or (next_at code s) s t e after w m (λ a. a) (λ m.
           stops_in f b (past code s) e n t w (o l at) m))
       stops_in (F.if_so {t = is} f) b s e n t w o m =
           token_or (next_at code s) s t e (decided is) w m (λ a. a) (λ m. stops_in f b s e n t w o.0 m)
       stops_in (F.if_not {t = is} f) b s e n t w o m =
           token_or (next_at code s) s t e (undecided is) w m (λ a. a) (λ m. stops_in f b s e n t w o.1 m)
       stops_in (F.choose {v = v} l at f) b s e n t w o m =
-          token_or (next_at code s) s t e any w m (λ a. a) (λ m. token_or (next_at code s) s t e after w m (λ a. a) (λ m.
+          token_or (next_at code s) s t e any w m (λ a. a)
+          (λ m. token_or (next_at code s) s t e after w m (λ a. a) (λ m.
           stops_in f b s e n t w (o (view v l) l refl) m))
       stops_in (F.here l at f) b s e n t w o m =
-          token_or (next_at code s) s t e any w m (λ a. a) (λ m. token_or (next_at code s) s t e after w m (λ a. a) (λ m.
+          token_or (next_at code s) s t e any w m (λ a. a)
+          (λ m. token_or (next_at code s) s t e after w m (λ a. a) (λ m.
           stops_in f b s e n t w (o at) m))
       stops_in (F.must {e = why} f) b s e n t w o m =
           test_or s t e why o.0 w m (λ a. a) (λ is m. stops_in f b s e n t w (o.1 is) m)
@@ -316,6 +322,7 @@ module _ (limit : ℕ) (Begun : ℕ → Goal → Type 0) (Right : (g : Goal) →
           stops_in rest b (with_captured s.captured m.0) e n t (within o.0 m.0.library a.1)
           (subst (λ i. Orders b (Right h) (q v us i) m.0.library) m.2.0 (o.3 v us m.0.library a.0 a.1)) m.3
       stops_in (F.in_text closing l at f) b s e n t w o m =
-          token_or (next_at code s) s t e brace w m (λ a. a) (λ m. token_or (next_at code s) s t e after w m (λ a. a) (λ m.
+          token_or (next_at code s) s t e brace w m (λ a. a)
+          (λ m. token_or (next_at code s) s t e after w m (λ a. a) (λ m.
           token_or (next_at text (past code s)) (past code s) t e a_text w m.1 (λ a. a) (λ m.
           stops_in f b (past text (past code s)) e n t w (o closing l at) m)))

@@ -21,19 +21,25 @@ use Rattle.rhai_productions.specs.Rules as P
 use Rattle.rhai_productions.specs.Rules.{production}
 use Rattle.rhai_productions.proofs.Ordering.{Spared, missing_spared, unexpected_spared}
 use Rattle.rhai_productions.proofs.OrderCauses.{fault, no_body, no_function_name, no_variable}
-use Rattle.rhai_productions.proofs.OrdersOfOperands.{Begun, OrdersAs, Right, by_either, either_of, parted, operand, right, primary, called, call_of, links, element, key, field, follower, binary}
+use Rattle.rhai_productions.proofs.OrdersOfOperands.{Begun, OrdersAs, Right, by_either, either_of, parted, operand}
+use Rattle.rhai_productions.proofs.OrdersOfOperands.{right, primary, called, call_of, links, element, key, field}
+use Rattle.rhai_productions.proofs.OrdersOfOperands.{follower, binary}
 use Rattle.std.proofs.Common.{◌∙◌, sym, arith}
-use Rattle.rhai_grammar.specs.Prelude.{Point, Met, Missed, Mode, IsOrderly, Nothing, apart, with_captured, capturing, is_captured, in_closure, level_up, parameters_live}
+use Rattle.rhai_grammar.specs.Prelude.{Point, Met, Missed, Mode, IsOrderly, Nothing, apart, with_captured, capturing}
+use Rattle.rhai_grammar.specs.Prelude.{is_captured, in_closure, level_up, parameters_live}
 use Rattle.rhai_grammar.proofs.LibraryLemmas.{empty}
 use Rattle.rhai_reading.specs.Reading.{ClosureBody}
 use Rattle.rhai_productions.specs.Derived as Form
 use Rattle.rhai_productions.specs.LibraryLaws.{FormsKeepOrder, LibrariesStayOrderly}
 use Rattle.rhai_productions.proofs.Ordering.{ended, ordered, stops}
-use Rattle.rhai_productions.proofs.OrdersOfStatements.{construct, export, statement, statements, inside, do_end, arms, action, arm_end, default_end, parameters, parameter, begins, inner, joins, closure}
+use Rattle.rhai_productions.proofs.OrdersOfStatements.{construct, export, statement, statements, inside, do_end, arms}
+use Rattle.rhai_productions.proofs.OrdersOfStatements.{action, arm_end, default_end, parameters, parameter, begins}
+use Rattle.rhai_productions.proofs.OrdersOfStatements.{inner, joins, closure}
 
 module _ (limit : ℕ) where
   abbrev Table : Goal → Type 0
-  Table g = (b : ℕ) (l : Library) → Begun limit b g → Kept limit b l → OrdersAs limit (λ x. Right g x) b (production g) l
+  Table g = (b : ℕ) (l : Library) → Begun limit b g → Kept limit b l
+      → OrdersAs limit (λ x. Right g x) b (production g) l
 
   pub table : (g : Goal) (b : ℕ) (l : Library) → Begun limit b g → Kept limit b l
       → OrdersAs limit (λ x. Right g x) b (production g) l
@@ -59,7 +65,10 @@ module _ (limit : ℕ) where
     either_of limit (is_name n) _ _ b l (λ n. refl, (tt, o)) (λ e. refl, λ s n. refl),
   )
   table (R.Postfix c w x) b l i o = ((b, o, tt, λ y m r o. call_of limit c w y b m i o), call_of limit c w x b l i o)
-  table (R.Arguments c w at) b l i o = (missing_spared _, (λ n p. (tt, o), (λ e. refl, λ s. (b, o, i, λ x m r o. (tt, o)))))
+  table (R.Arguments c w at) b l i o = (
+    missing_spared _,
+    (λ n p. (tt, o), (λ e. refl, λ s. (b, o, i, λ x m r o. (tt, o)))),
+  )
   table (R.Items c w before) b l i o = (
     b,
     o,
@@ -145,7 +154,13 @@ module _ (limit : ℕ) where
     ),
   )
   table (R.Conditional c w at) b l i o = (b, o, i, λ x m r o. (b, o, i, λ x m r o. (b, o, i, λ x m r o. (tt, o))))
-  table (R.Branch c w at) b l i o = (λ n p. (λ n q. (λ e. refl, λ s. (b, o, i, λ x m r o. (tt, o))), (b, o, i, λ x m r o. (tt, o))), (tt, o))
+  table (R.Branch c w at) b l i o = (
+    λ n p. (
+      λ n q. (λ e. refl, λ s. (b, o, i, λ x m r o. (tt, o))),
+      (b, o, i, λ x m r o. (tt, o)),
+    ),
+    (tt, o),
+  )
   table R.LoopNames b l i o = (
     λ n at. (
       no_variable,
@@ -182,8 +197,15 @@ module _ (limit : ℕ) where
       i,
       λ g m r o. (
         missing_spared _,
-        λ n at.
-            (b, o, i, λ d m r o. (fault (arm_fault before xs) (D.arm_fault before xs), λ s. (b, o, tt, λ x m r o. (tt, o)))),
+        λ n at. (
+          b,
+          o,
+          i,
+          λ d m r o. (
+            fault (arm_fault before xs) (D.arm_fault before xs),
+            λ s. (b, o, tt, λ x m r o. (tt, o)),
+          ),
+        ),
       ),
     ),
   )
@@ -211,8 +233,15 @@ module _ (limit : ℕ) where
     λ e. refl,
     λ s. (
       λ e. refl,
-      λ room.
-          (λ e. refl, λ s. (b + 1, begins limit c b l i o room, inner limit c b i, λ f m r o. joins limit (node.Statement × Live) f at (noop at, w) b m r.0 r.1 o)),
+      λ room. (
+        λ e. refl,
+        λ s. (
+          b + 1,
+          begins limit c b l i o room,
+          inner limit c b i,
+          λ f m r o. joins limit (node.Statement × Live) f at (noop at, w) b m r.0 r.1 o,
+        ),
+      ),
     ),
   )
   table (R.Function c comments at is_private) b l i o = (

@@ -158,7 +158,8 @@ module _ (limit : ℕ) where
   primary c w begin.Interpolated b l i o = λ n at. (λ e. refl, λ s. (b, o, i, λ x m r o. (tt, o)))
   primary c w (begin.Construct kind) b l i o = either_of (may_be_value c kind) _ _ b l
       (λ n at. (λ e. refl, λ s. (λ e. refl, λ s. (b, o, i, λ x m r o. (tt, o))))) no_operand
-  primary c w (begin.Closure by) b l i o = either_of (may_be_closure c by) _ _ b l (λ n at. (b, o, i, λ x m r o. (tt, o))) no_operand
+  primary c w (begin.Closure by) b l i o = either_of (may_be_closure c by) _ _ b l
+      (λ n at. (b, o, i, λ x m r o. (tt, o))) no_operand
   primary c w begin.Sign b l i o = unexpected_spared
   primary c w begin.Range b l i o = λ at. (tt, o)
   primary c w begin.Nothing b l i o = no_operand
@@ -170,7 +171,8 @@ module _ (limit : ℕ) where
   bang c w name calls_by.Bang b l i o = missing_spared _
   bang c w name calls_by.Nothing b l i o = missing_spared _
 
-  pub called : (c : Context) (w : Live) (name : Position) (q : Bool) (v : Calling) (b : ℕ) (l : Library) → Fits limit b c
+  pub called : (c : Context) (w : Live) (name : Position) (q : Bool) (v : Calling) (b : ℕ) (l : Library)
+      → Fits limit b c
       → Kept limit b l → OrdersIn b (P.called_by c w name q v) l
   called c w name q calls_by.Pair b l i o = λ n at. (tt, o)
   called c w name q calls_by.List b l i o = λ n at. (b, o, i, λ x m r o. (tt, o))
@@ -224,7 +226,8 @@ module _ (limit : ℕ) where
   )
   element c w opening before place.Nothing b l i o = no_item c.sizes.array
 
-  pub key : (c : Context) (before : Properties) (v : KeyPlace) (n : Lexeme) → V.next_key c.settings before n ≡ v → (b : ℕ)
+  pub key : (c : Context) (before : Properties) (v : KeyPlace) (n : Lexeme) → V.next_key c.settings before n ≡ v
+      → (b : ℕ)
       (l : Library) → Kept limit b l → OrdersIn b (P.key_by c before v) l
   key c before FieldsEnd n e b l o = λ n at. (tt, o)
   key c before (AKey k) n e b l o = λ n at. (λ e. refl, λ s. (missing_spared _, λ n p. (λ n. refl, (tt, o))))

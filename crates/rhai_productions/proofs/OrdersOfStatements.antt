@@ -1,6 +1,7 @@
 -- Productions of statements, constructs and functions keep libraries orderly.
 -- Each lemma is of the rule of its name, and goes by cases of what the next token decides.
-use Rattle.std.proofs.Common.{◌≡◌, ℕ, ◌+◌, Bool, true, false, Option, Some, None, List, [], ◌∷◌, refl, subst, ap, length, nat_lt}
+use Rattle.std.proofs.Common.{◌≡◌, ℕ, ◌+◌, Bool, true, false, Option, Some, None, List, [], ◌∷◌, refl, subst, ap}
+use Rattle.std.proofs.Common.{length, nat_lt}
 use Rattle.rhai_lower.specs.Nodes as node
 use Rattle.rhai_lower.specs.Positions.{nowhere}
 use Rattle.rhai_grammar.specs.declared.role.Construct.TheVariants as kind
@@ -63,7 +64,8 @@ module _ (limit : ℕ) where
   pub statement : (c : Context) (w : Live) (v : StatementStart) (b : ℕ) (l : Library) → Fits limit b c → Kept limit b l
       → OrdersIn limit b (P.statement_by c w v) l
   statement c w start.Empty b l i o = λ n at. (tt, o)
-  statement c w (start.Construct kind) b l i o = λ n at. (λ e. refl, λ s. (λ e. refl, λ s. (b, o, i, λ x m r o. (tt, o))))
+  statement c w (start.Construct kind) b l i o = λ n at.
+      (λ e. refl, λ s. (λ e. refl, λ s. (b, o, i, λ x m r o. (tt, o))))
   statement c w start.Let b l i o = λ n at. (λ e. refl, λ s. (b, o, i, λ x m r o. (tt, o)))
   statement c w start.Const b l i o = λ n at. (λ e. refl, λ s. (b, o, i, λ x m r o. (tt, o)))
   statement c w start.Return b l i o = λ n at. (b, o, i, λ x m r o. (tt, o))
@@ -142,7 +144,8 @@ module _ (limit : ℕ) where
   default_end default arm.Nothing b l o = missing_spared _
   default_end default _ b l o = (λ e. refl, λ s n. refl)
 
-  pub parameters : (f : Text) (v : Calling) (b : ℕ) (l : Library) → Kept limit b l → OrdersIn limit b (P.parameters_by f v) l
+  pub parameters : (f : Text) (v : Calling) (b : ℕ) (l : Library) → Kept limit b l
+      → OrdersIn limit b (P.parameters_by f v) l
   parameters f calls_by.Pair b l o = λ n at. (tt, o)
   parameters f calls_by.List b l o = λ n at. (b, o, tt, λ x m r o. (tt, o))
   parameters f calls_by.Bang b l o = no_parameters f
@@ -151,7 +154,8 @@ module _ (limit : ℕ) where
   pub parameter : (parts : CommaList) (f : Text) (before : List Text) (v : ItemPlace) (b : ℕ) (l : Library)
       → Kept limit b l → OrdersIn limit b (P.parameter_by parts f before v) l
   parameter parts f before place.End b l o = λ n at. (tt, o)
-  parameter parts f before place.Item b l o = λ n at. (λ e. refl, λ s v n e. parted limit parts _ _ v b l (b, o, tt, λ x m r o. (tt, o)) (tt, o))
+  parameter parts f before place.Item b l o = λ n at.
+      (λ e. refl, λ s v n e. parted limit parts _ _ v b l (b, o, tt, λ x m r o. (tt, o)) (tt, o))
   parameter parts f before place.Nothing b l o = no_parameter parts
 
   -- ---- functions and closures

@@ -19,8 +19,11 @@ use Rattle.rhai_grammar.proofs.PlaceTrees as T
 use Rattle.rhai_grammar.proofs.PlaceTrees.{AllLinks, AllPlaced, Placed}
 use Rattle.rhai_productions.proofs.Standing.{refused}
 use Rattle.rhai_productions.specs.PlaceLaws.{RefusalsStandAtTokens, StandAtTokens}
-use Rattle.rhai_productions.proofs.PlacesOfOperands.{AllowsAs, Wants, Right, by_either, either_of, parted, fault_at, one_more, longer, operand, right, primary, called, call_of, links, element, key, field, follower, binary}
-use Rattle.rhai_productions.proofs.PlacesOfStatements.{construct, export, statement, statements, inside, do_end, arms, action, arm_end, default_end, parameters, parameter, closure}
+use Rattle.rhai_productions.proofs.PlacesOfOperands.{AllowsAs, Wants, Right, by_either, either_of, parted, fault_at}
+use Rattle.rhai_productions.proofs.PlacesOfOperands.{one_more, longer, operand, right, primary, called, call_of, links}
+use Rattle.rhai_productions.proofs.PlacesOfOperands.{element, key, field, follower, binary}
+use Rattle.rhai_productions.proofs.PlacesOfStatements.{construct, export, statement, statements, inside, do_end, arms}
+use Rattle.rhai_productions.proofs.PlacesOfStatements.{action, arm_end, default_end, parameters, parameter, closure}
 
 module _ (G : Position → Type 0) where
   abbrev Table : Goal → Type 0

@@ -35,7 +35,8 @@ use Rattle.rhai_grammar.proofs.PlaceTrees.{AllLinks, AllPlaced, Placed}
 use Rattle.rhai_productions.proofs.PlacesOfOperands.{AllowsAs, AllowsIn, BlockAt, either_of, parted}
 
 module _ (G : Position → Type 0) where
-  pub construct : (c : Context) (w : Live) (at : Position) (k : Kind) → G at → AllowsAs G (λ f. BlockAt G f) (P.construct c w at k)
+  pub construct : (c : Context) (w : Live) (at : Position) (k : Kind) → G at
+      → AllowsAs G (λ f. BlockAt G f) (P.construct c w at k)
   construct c w at kind.Block g = (g, λ b h. h)
   construct c w at kind.If g = (g, λ f h. h)
   construct c w at kind.Switch g = (tt, λ x h n p a. (tt, λ all k. g))
@@ -129,7 +130,8 @@ module _ (G : Position → Type 0) where
   parameter parts f before place.Item = λ n at a. (λ e. a, λ v. parted G parts _ _ v (tt, λ r h. tt) tt)
   parameter parts f before place.Nothing = tt
 
-  pub captured : {A : Type 0} (Q : A → Type 0) (us : List Use) (c : Context) (w : Live) (p : Production A) → AllUses G us
+  pub captured : {A : Type 0} (Q : A → Type 0) (us : List Use) (c : Context) (w : Live) (p : Production A)
+      → AllUses G us
       → AllowsAs G Q p → AllowsAs G Q (P.captured us c w p)
   captured Q [] c w p u h = h
   captured Q (v ∷ us) c w p u h = (u.0, u.0, captured Q us c w p u.1 h)
@@ -145,6 +147,7 @@ module _ (G : Position → Type 0) where
     ),
   )
 
-  pub closure : (c : Context) (w : Live) (at : Position) (v : Bars) → G at → AllowsAs G (Placed G) (P.closure_by c w at v)
+  pub closure : (c : Context) (w : Live) (at : Position) (v : Bars) → G at
+      → AllowsAs G (Placed G) (P.closure_by c w at v)
   closure c w at bars.Pair g = closure_of c w at [] g
   closure c w at bars.List g = (tt, λ names h. closure_of c w at names g)

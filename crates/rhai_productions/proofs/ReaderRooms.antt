@@ -1,8 +1,10 @@
 -- Readers of productions stay within the room that there is, whatever comes of them.
-use Rattle.std.proofs.Common.{◌≡◌, ℕ, zero, suc, ◌+◌, ◌*◌, ◌≤◌, Bool, true, false, Option, Some, None, max, refl, subst, arith}
+use Rattle.std.proofs.Common.{◌≡◌, ℕ, zero, suc, ◌+◌, ◌*◌, ◌≤◌, Bool, true, false, Option, Some, None, max, refl, subst}
+use Rattle.std.proofs.Common.{arith}
 use Rattle.std.proofs.Common.{nat_lt, if◌then◌else◌, List, []}
 use Rattle.std.proofs.Math.Nat.{le-max_left, le-max_right, le_refl}
-use Rattle.rhai_grammar.specs.Prelude.{Lexeme, Position, is_memory, is_due, is_text, noted, closure_count, Refusal, Library}
+use Rattle.rhai_grammar.specs.Prelude.{Lexeme, Position, is_memory, is_due, is_text, noted, closure_count, Refusal}
+use Rattle.rhai_grammar.specs.Prelude.{Library}
 use Rattle.rhai_grammar.specs.Prelude.{Ended, Use}
 use Rattle.rhai_grammar.specs.Contexts.{Context}
 use Rattle.rhai_grammar.specs.Settings.{one_more}
@@ -170,7 +172,8 @@ module _ (call : Caller) (all : AllLow call) (a top r : ℕ) (fits : a + r ≤ t
 
 less_low : (call : Caller) → AllLow call → (g : Goal) (s : Progress) → AllLow (only_less call g s)
 unfolding only_less
-less_low call all g s h a top t i fits n = chosen (nat_lt (running.need h t) (running.need g s)) (all h a top t i fits n)
+less_low call all g s h a top t i fits n = chosen (nat_lt (running.need h t) (running.need g s))
+    (all h a top t i fits n)
   where
     chosen : (b : Bool) → LowSo a top (call h t) → LowSo a top (if b then call h t else Unfinished)
     chosen true f = f

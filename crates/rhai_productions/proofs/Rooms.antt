@@ -8,7 +8,8 @@ use Rattle.std.proofs.lemmas.Nat.{and_assoc, and_or_apart}
 use Rattle.std.specs.Int.Bits.{and_zero_r}
 use Rattle.std.specs.Int.RustNames.{bit_and, bit_or}
 use Rattle.rhai_grammar.specs.Prelude.{Lexeme, Position, code, text, Point, Use, Context, Live, Demands, Nothing, Met}
-use Rattle.rhai_grammar.specs.Prelude.{with_captured, past, next_at, adding, capturing, has_room, level_up, below_global}
+use Rattle.rhai_grammar.specs.Prelude.{with_captured, past, next_at, adding, capturing, has_room, level_up}
+use Rattle.rhai_grammar.specs.Prelude.{below_global}
 use Rattle.rhai_grammar.specs.Prelude.{loop_body, in_function, in_closure, is_global}
 use Rattle.rhai_grammar.specs.Delivered as M
 use Rattle.rhai_grammar.specs.Settings.{Settings, at_global_level, one_more}

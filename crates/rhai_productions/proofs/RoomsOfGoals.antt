@@ -11,8 +11,10 @@ use Rattle.rhai_grammar.specs.Prelude.{in_function}
 use Rattle.rhai_grammar.specs.Demands.{Nothing}
 use Rattle.rhai_productions.proofs.Rooms.{Limits, deeper, in_functions, most, nests, room}
 use Rattle.rhai_productions.specs.NestLaws.{FormsNestWithin, NestsWithin}
-use Rattle.rhai_productions.proofs.RoomsOfOperands.{Ready, need, HoldsIn, by_either, parted, operand, right, primary, called, call_of, links, element, key, field, follower, binary}
-use Rattle.rhai_productions.proofs.RoomsOfStatements.{construct, export, statement, statements, inside, do_end, arms, action, arm_end, default_end, parameters, parameter, closure}
+use Rattle.rhai_productions.proofs.RoomsOfOperands.{Ready, need, HoldsIn, by_either, parted, operand, right, primary}
+use Rattle.rhai_productions.proofs.RoomsOfOperands.{called, call_of, links, element, key, field, follower, binary}
+use Rattle.rhai_productions.proofs.RoomsOfStatements.{construct, export, statement, statements, inside, do_end, arms}
+use Rattle.rhai_productions.proofs.RoomsOfStatements.{action, arm_end, default_end, parameters, parameter, closure}
 
 abbrev Table : Goal → Type 0
 Table g = Ready g → HoldsIn (need g) (production g)
@@ -27,7 +29,10 @@ table (R.Called c w name q) p = λ v. called c w name q v p
 table (R.Path w x) p = λ n at m q. ((tt, omega arith, λ y. tt), tt)
 table (R.Links w spot) p = λ v. links w spot v p.0 p.1
 table (R.Index c w indexed) p = (p, omega arith, λ x s n at. tt)
-table (R.Member c w) p = λ n at. ((p, omega arith, λ call. tt), by_either (is_name n) _ _ (room c + 2) (tt, tt) (λ s. tt))
+table (R.Member c w) p = λ n at. (
+  (p, omega arith, λ call. tt),
+  by_either (is_name n) _ _ (room c + 2) (tt, tt) (λ s. tt),
+)
 table (R.Postfix c w x) p = ((tt, omega arith, λ y. call_of c w y p), call_of c w x p)
 table (R.Arguments c w at) p = (tt, (λ n q. tt, λ s. (p, omega (arith, deeper c s p), λ x. tt)))
 table (R.Items c w before) p = (

@@ -158,7 +158,8 @@ primary c w begin.Array p = λ n at s. (p, omega (arith, deeper c s p), λ x. tt
 primary c w begin.Map p = λ n at s. (p, omega (arith, deeper c s p), λ x. tt)
 primary c w begin.Interpolated p = λ n at s. (p, omega (arith, deeper c s p), λ x. tt)
 primary c w (begin.Construct kind) p =
-    by_either (may_be_value c kind) _ _ (room c + 1) (λ n at s u. (p, omega (arith, deeper c s p, deeper (level_up c) u p), λ x. tt)) tt
+    by_either (may_be_value c kind) _ _ (room c + 1)
+    (λ n at s u. (p, omega (arith, deeper c s p, deeper (level_up c) u p), λ x. tt)) tt
 primary c w (begin.Closure by) p =
     by_either (may_be_closure c by) _ _ (room c + 1) (λ n at. (p, omega arith, λ x. tt)) tt
 primary c w begin.Sign p = tt
@@ -214,7 +215,8 @@ key c before FieldsEnd = λ n at. tt
 key c before (AKey k) = λ n at s m q. (tt, tt)
 key c before (NoKey why) = tt
 
-pub field : (c : Context) (w : Live) (opening : Position) (before : Properties) (v : Option (Text × Position)) → Limits c
+pub field : (c : Context) (w : Live) (opening : Position) (before : Properties) (v : Option (Text × Position))
+    → Limits c
     → HoldsIn (room c + 0) (P.field_by c w opening before v)
 field c w opening before None p = tt
 field c w opening before (Some k) p = λ s. (
@@ -233,5 +235,13 @@ pub binary : (c : Context) (w : Live) (at : Position) (parent : ℕ) (lhs : Node
     → HoldsIn (room c + 5) (P.binary_of c w at parent lhs v)
 binary c w at parent lhs None p = tt
 binary c w at parent lhs (Some op) p = by_either (R.continues parent op.0 op.1) _ _ (room c + 5)
-    (λ n pos. (p, omega arith, λ y. (tt, omega arith, λ next s. (p, omega (arith, deeper c s p), λ r u v. (p, omega (arith, deeper c s p), λ x. tt)))))
+    (λ n pos. (
+      p,
+      omega arith,
+      λ y. (
+        tt,
+        omega arith,
+        λ next s. (p, omega (arith, deeper c s p), λ r u v. (p, omega (arith, deeper c s p), λ x. tt)),
+      ),
+    ))
     tt

@@ -75,7 +75,8 @@ module _ (rule : (g : Goal) → Production (Val g)) where
     stop_modes_in (F.apart v us n f rest) = (code, modes f Nothing code refl, stop_modes_in rest)
     stop_modes_in (F.in_text closing l at f) = (refl, text, λ is. (refl, code, stop_modes_in f))
 
--- `G` says which positions are allowed. `Wants` says of a goal that the positions in it are, and `Right` of what it gives.
+-- `G` says which positions are allowed. `Wants` says of a goal that the positions in it are, and `Right` of what it
+-- gives.
 module _ (G : Position → Type 0) (Wants : Goal → Type 0) (Right : (g : Goal) → Val g → Type 0) where
   -- Where all tokens stand at allowed positions, so does each refusal of a test, and R holds of what is given.
   abbrev pub Allows : {A : Type 0} → (A → Type 0) → Production A → Type 0

@@ -34,7 +34,8 @@ pub record LibrariesStayOrderly : Type 0 where
   pub closure_key : (context : Context) (live : Live) (own : List Text) (body : node.Statement) (n : ℕ)
       (captured : List Use)
       (f : D.Form production (ClosureBody (level_up (in_closure context live)) (parameters_live own)) body)
-      (h : Goal) (x y : Val h) (rest : D.Filled production h (P.captured captured context live (give y)) x) (s t : Point)
+      (h : Goal) (x y : Val h) (rest : D.Filled production h (P.captured captured context live (give y)) x)
+      (s t : Point)
       → context.sizes.functions ≤ 2 ^ 64 → IsOrderly context.sizes.functions (context.begun + 1) s.library
       → Met (Apart (D.demands production f Nothing) n captured ▸ D.demanded production rest Nothing) s t
       → is_new (ended_closure n captured own (made_block body)).key t.library ≡ true

@@ -1,7 +1,8 @@
 -- What the reading program answers, in terms of forms and open forms of whatever types.
 use Rattle.std.proofs.Common.{if◌then◌else◌}
 use Rattle.std.proofs.Common.{◌≡◌, ℕ, zero, suc, ◌+◌, Bool, true, false, List, [], refl, sym, ap, ◌∙◌, subst, arith}
-use Rattle.rhai_grammar.specs.Prelude.{Context, Live, Node, Refusal, is_memory_cause, out_of_memory, code, Point, Taken, is_memory}
+use Rattle.rhai_grammar.specs.Prelude.{Context, Live, Node, Refusal, is_memory_cause, out_of_memory, code, Point, Taken}
+use Rattle.rhai_grammar.specs.Prelude.{is_memory}
 use Rattle.rhai_grammar.specs.Prelude.{Cursor, Gives, leads, latest_first, BeginsWith, Readable, StandsAtLast, TakenIn}
 use Rattle.rhai_grammar.specs.Prelude.{Demands, Met, Missed, IsWritten, EndsIn, Library, with_captured}
 use Rattle.rhai_grammar.specs.Cursors as C
@@ -9,7 +10,8 @@ use Rattle.rhai_grammar.specs.Promises.{start_of, Saw, IsNamed, IsReadable, HasR
 use Rattle.rhai_reading.specs.Reading.{Goal, Val, Script, Whole, Peek, Prog, body, whole_at}
 use Rattle.rhai_reading.specs.Running as R
 use Rattle.rhai_reading.specs.Running.{Progress, result_of}
-use Rattle.rhai_reading.specs.Histories.{State, and_then, asked, looking, Outcome, Done, Refused, Unfinished, exec, calls, Runs}
+use Rattle.rhai_reading.specs.Histories.{State, and_then, asked, looking, Outcome, Done, Refused, Unfinished, exec}
+use Rattle.rhai_reading.specs.Histories.{calls, Runs}
 use Rattle.rhai_reading.proofs.Joins.{Finished, Rest, calls_same, cursor, flat, forget, rest, run_runs, unnested}
 use Rattle.rhai_reading.proofs.Rules.{at}
 use Rattle.rhai_reading.proofs.Shows as S
@@ -36,7 +38,8 @@ pub record IsNew (s : Progress) : Type 0 where
 pub begun_at : (s : Progress) → IsNew s → at (from s) s.cursor.peeked ≡ begun s
 begun_at s e =
     ap (λ m. record { point = from s; mode = m; peeked = s.cursor.peeked }) (sym e.mode)
-    ∙ ap (λ us. record { point = with_captured us (from s); mode = s.cursor.mode; peeked = s.cursor.peeked }) (sym e.captured)
+    ∙ ap (λ us. record { point = with_captured us (from s); mode = s.cursor.mode; peeked = s.cursor.peeked })
+    (sym e.captured)
 
 -- not a refusal because memory ran out
 abbrev pub IsOther : {A : Type 0} → Outcome A → Type 0
@@ -46,8 +49,8 @@ IsOther Unfinished = ⊥
 
 -- ---- what is known of a goal that reads a whole stream
 
--- A goal that reads whole streams of some forms, soundly and completely, and looks at the first token. `stopping` is what
--- each open form demands, of which one misses its last demand where the goal refuses.
+-- A goal that reads whole streams of some forms, soundly and completely, and looks at the first token. `stopping` is
+-- what each open form demands, of which one misses its last demand where the goal refuses.
 pub record Entry {F O : Type 0} (g : Goal) (whole : F → Demands) (stopping : O → Demands) (tree : F → Val g) : Type 0
   where
     pub sound : (n : ℕ) (s : Point) (b : Bool)
@@ -193,7 +196,8 @@ module _ {F O : Type 0} {g : Goal} {whole : F → Demands} {stopping : O → Dem
       let is = ap (λ (u : Rest). u.cursor) w.is in
       let saw = saw_begun s.cursor left.cursor w.state kept.took is kept.left kept.gives in
       let turn = subst (AreInTurn s.cursor.mode) here (turn_begun g (suc n) s) in
-      has_read false s.cursor left.cursor w.state kept.took is kept.history saw (stopped s.cursor.mode w.state turn) turn.mode seen
+      has_read false s.cursor left.cursor w.state kept.took is kept.history saw
+      (stopped s.cursor.mode w.state turn) turn.mode seen
 
   -- nor one that refuses for another cause
   pub refused_read : (s left : Progress) (e : Refusal) → result_of g s ≡ R.Refused e left
@@ -282,7 +286,8 @@ module _ {F O : Type 0} {g : Goal} {whole : F → Demands} {stopping : O → Dem
           named = record {
             form = halts.0;
             captured = left.captured;
-            missed = subst (λ m. Missed (stopping halts.0) (from s) e m (stop (latest_first kept.took []) (unnested left))) stands
+            missed = subst (λ m. Missed (stopping halts.0) (from s) e m
+                (stop (latest_first kept.took []) (unnested left))) stands
                 (subst (Missed (stopping halts.0) (from s) e w.state.mode) end halts.1);
             last = subst (StandsAtLast e) is halts.2;
           };

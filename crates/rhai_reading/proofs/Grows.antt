@@ -60,7 +60,8 @@ leave m a n h = record { goes = left_goes a n h.goes; peak = h.peak }
 of : (m : ℕ) (call : Caller) → AllGrow call → AllKeep (λ a. Grows a m) call
 of m call all g a s h = all g a m s h
 
-pub call_grows : (call : Caller) → AllGrow call → (g : Goal) (count : Bool) (a m : ℕ) (s : Progress) → Grows a m s.nesting
+pub call_grows : (call : Caller) → AllGrow call → (g : Goal) (count : Bool) (a m : ℕ) (s : Progress)
+    → Grows a m s.nesting
     → GrowsSo a m (if count then nested (call g) s else call g s)
 call_grows call all g count a m s h =
     call_keeps (λ b. Grows b m) (λ b n. enters b m n) (leave m) call (of m call all) g count a s h
