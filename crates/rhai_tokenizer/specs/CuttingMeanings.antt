@@ -1,5 +1,6 @@
 -- The token of a piece by its kind and its bytes. No definition: it stands between the code and the forms.
 use Rattle.std.specs.Prelude.{ℕ, Bool, true, false, not, ◌&&◌, ◌||◌, ◌==◌, nat_le, nat_lt, ◌∷◌}
+use Rattle.std.specs.Prelude.{[], ◌+◌}
 use Rattle.std.specs.Prelude.{Option, Some, None, codes, drop, length, slice_index, if◌then◌else◌}
 use Rattle.std.specs.List.{list_all}
 use Rattle.rhai_lower.specs.Texts.{Text, same_text}
@@ -18,7 +19,7 @@ use Rattle.rhai_tokenizer.specs.declared.table.Fixed.{Fixed}
 use Rattle.rhai_tokenizer.specs.declared.table.Fixed.TheVariants as fixed
 use Rattle.rhai_tokenizer.specs.declared.table.Meaning.{Meaning}
 use Rattle.rhai_tokenizer.specs.declared.table.Meaning.TheVariants.{Plain, Held, Refused}
-use Rattle.rhai_tokenizer.specs.Bytes.{base_of, begins_with}
+use Rattle.rhai_tokenizer.specs.Bytes.{base_of, begins_with, is_continuation}
 use Rattle.rhai_tokenizer.specs.Fixed.{token_of}
 use Rattle.rhai_tokenizer.specs.Meanings.{brace_of_symbol, integer_or, without_return}
 use Rattle.rhai_tokenizer.specs.Numbers.{digits_of, integer_value, radix_value}
@@ -27,6 +28,11 @@ use Rattle.rhai_tokenizer.specs.Symbols.{improper, word_lexeme}
 -- a byte that takes a column
 abbrev pub is_plain : ℕ → Bool
 is_plain c = nat_lt c 128 && not (c == 10)
+
+-- how many bytes take a column, where none ends a line
+abbrev pub columns : Text → ℕ
+columns [] = 0
+columns (c ∷ t) = if is_continuation c then columns t else columns t + 1
 
 abbrev pub is_small : ℕ → Bool
 is_small c = nat_lt c 128
