@@ -6,7 +6,7 @@ use Rattle.rhai_grammar.specs.Prelude.{not_due, unexpected, Test, ◌▸◌}
 use Rattle.rhai_grammar.specs.Verdicts.{anything}
 use Rattle.rhai_grammar.specs.declared.due.DueToken.TheVariants.{RightBrace}
 use Rattle.rhai_grammar.proofs.PlaceSteps.{AllUses, Ends, Modes}
-use Rattle.rhai_grammar.proofs.PlaceWays.{BlamesAt, Places, Refusing, Stands, after, ahead, apart_from, done, here}
+use Rattle.rhai_grammar.proofs.PlaceWays.{BlamesAt, Places, Refusing, AtTokens, after, ahead, apart_from, done, here}
 use Rattle.rhai_grammar.proofs.PlaceWays.{literally, next, shape, test_in, tok}
 use Rattle.rhai_grammar.proofs.PlaceWays as W
 use Rattle.rhai_reading.specs.Reading.{Goal, Val}
@@ -132,8 +132,8 @@ module _ (G : Position → Type 0) (Wants : Goal → Type 0) (Right : (g : Goal)
   a_text = wanted is_text unexpected
 
   -- a test that stands at an allowed position where it fails
-  test : {b : Bool} {d : Refusal} {P : Type 0} {ds k : Demands} → (b ≡ false → G d.at) → Stands G P ds k
-      → Stands G P (Test b d ▸ ds) k
+  test : {b : Bool} {d : Refusal} {P : Type 0} {ds k : Demands} → (b ≡ false → G d.at) → AtTokens G P ds k
+      → AtTokens G P (Test b d ▸ ds) k
   test {d = d} g h = record {
     did = λ n t o r. h.did n t o (record {
       start = r.start;
@@ -159,11 +159,11 @@ module _ (G : Position → Type 0) (Wants : Goal → Type 0) (Right : (g : Goal)
       (table : (g : Goal) → Wants g → Allows (λ x. Right g x) (rule g)) where
     mutual
       pub stands : {g : Goal} {x : Val g} (f : F.Form rule g x) (k : Demands) → Wants g
-          → Stands G (Right g x) (F.demands rule f k) k
+          → AtTokens G (Right g x) (F.demands rule f k) k
       stands (form {g = g} f) k i = stands_in f k (table g i)
 
       stands_in : {h : Goal} {p : Production (Val h)} {x : Val h} (f : F.Filled rule h p x) (k : Demands)
-          → Allows (λ x. Right h x) p → Stands G (Right h x) (F.demanded rule f k) k
+          → Allows (λ x. Right h x) p → AtTokens G (Right h x) (F.demanded rule f k) k
       stands_in given k h = done h
       stands_in (take {w = w} {m = m} l at f) k h = next (wanted w m) (tok no_other (λ a. stands_in f k (h l at a)))
       stands_in (this l at f) k h = next any (tok no_other (λ a. stands_in f k (h l at a)))
@@ -186,11 +186,11 @@ module _ (G : Position → Type 0) (Wants : Goal → Type 0) (Right : (g : Goal)
 
     -- so it is where a demand is missed
     mutual
-      pub halts : {g : Goal} (f : F.Open rule g) → Wants g → Stands G (Unit {0}) (F.stops rule f) Nothing
+      pub halts : {g : Goal} (f : F.Open rule g) → Wants g → AtTokens G (Unit {0}) (F.stops rule f) Nothing
       halts (F.open_form {g = g} f) i = halts_in f (table g i)
 
       halts_in : {h : Goal} {p : Production (Val h)} (f : F.Stopped rule h p) → Allows (λ x. Right h x) p
-          → Stands G (Unit {0}) (F.stopped rule f) Nothing
+          → AtTokens G (Unit {0}) (F.stopped rule f) Nothing
       halts_in (F.never_here {why = why}) h = next (refusing why) here
       halts_in (F.take_here {w = w} {m = m}) h = next (wanted w m) here
       halts_in F.must_here h = test h.0 here
