@@ -1,5 +1,5 @@
 -- What stands in the JSON for the names of functions.
-use Rattle.std.specs.Prelude.{◌≡◌, ℕ, List, [], ◌∷◌, codes, map, option_map, refl}
+use Rattle.std.specs.Prelude.{◌≡◌, ℕ, List, [], ◌∷◌, codes, option_map, refl}
 use Rattle.std.specs.Fmt.{digits}
 use Rattle.std.specs.Rc.{rc_str_bytes}
 use Rattle.json.specs.Token.{Token, begin_array, begin_object, end_array, end_object, key, number, string}

@@ -1,7 +1,7 @@
 -- What stands in the JSON for a report on a script that is refused.
 use Rattle.std.specs.Prelude.{◌≡◌, Option, Some, None, List, [], ◌∷◌, codes, option_map, string_bytes, refl}
 use Rattle.std.specs.Fmt.{digits}
-use Rattle.json.specs.Token.{Token, begin_object, end_object, key, null, number, string}
+use Rattle.json.specs.Token.{Token, begin_object, end_object, key, number}
 use Rattle.rhai_lower.specs.Texts.{Text}
 use Rattle.rhai_report.specs.declared.mark.Mark.{Mark}
 use Rattle.rhai_report.specs.declared.report.Note.{Note}

@@ -3,7 +3,7 @@ use Rattle.std.specs.Prelude.{◌≡◌, ◌-◌, ℕ, Bool, false, Option, Some
 use Rattle.std.specs.Prelude.{option_map, refl, slice_get, zip}
 use Rattle.std.specs.Char.{encode_utf8}
 use Rattle.std.specs.Fmt.{digits, signed_decimal}
-use Rattle.json.specs.Token.{Token as Json, begin_array, begin_object, boolean, end_array, end_object, key, null}
+use Rattle.json.specs.Token.{Token as Json, begin_array, begin_object, boolean, end_array, end_object, key}
 use Rattle.json.specs.Token.{number, string}
 use Rattle.rhai_lower.specs.Lexemes
 use Rattle.rhai_lower.specs.Lexemes.{Character, Comment, Faulty, Integer, Interpolated, Lexeme, Name, Reserved, Sign}

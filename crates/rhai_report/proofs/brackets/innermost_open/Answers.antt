@@ -1,6 +1,6 @@
 -- Each token on the way to the first one closes a bracket, opens one that a later token closes, opens the innermost one
 -- that is open, or does neither.
-use Rattle.std.proofs.Common.{◌≡◌, ◌∙◌, ◌+◌, ◌-◌, ◌≤◌, Bool, true, false, ap, arith, drop, length}
+use Rattle.std.proofs.Common.{◌≡◌, ◌∙◌, ◌+◌, ◌-◌, ◌≤◌, true, false, ap, arith, drop, length}
 use Rattle.std.proofs.Common.{map, sym}
 use Rattle.rhai_report.specs.Brackets.{closed_before, closes, opens, token_of}
 use Rattle.rhai_report.proofs.BracketLemmas.{apart, closed_less, closed_more, closed_same, is_closed, is_open}

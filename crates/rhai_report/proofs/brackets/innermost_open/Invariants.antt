@@ -1,6 +1,6 @@
 -- No bracket that is opened in what was passed is open, and so many tokens there close brackets that were opened
 -- before.
-use Rattle.std.proofs.Common.{◌≡◌, map, ◌+◌, ◌≤◌, length, drop, Option, None, ℕ}
+use Rattle.std.proofs.Common.{◌≡◌, map, ◌+◌, ◌≤◌, length, drop, None}
 use Rattle.rhai_report.specs.Brackets.{closed_before, innermost, token_of}
 use Rattle.rhai_report.proofs.brackets.innermost_open.Given as goal
 
