@@ -34,8 +34,18 @@ use Rattle.rhai_c.specs.contracts.parts.Parts as Parts
 
 -- a box of a `Kept`
 abbrev pub E : Bx
-E = record { row = Kept.the_row; laws = kept_laws.the_row_laws; al = record { row = heap.the_row; laws =
-    heap_laws.the_row_laws; g = ghosts; d = dict; drops = impl [] tnil dnil } }
+E = record {
+  row = Kept.the_row;
+  laws = kept_laws.the_row_laws;
+  al = record {
+    row = heap.the_row;
+    laws =
+        heap_laws.the_row_laws;
+    g = ghosts;
+    d = dict;
+    drops = impl [] tnil dnil;
+  };
+}
 
 abbrev pub From : Slot 0
 From = plain (λ _. Parts.the_row Kept.the_row heap.the_row ghosts)
@@ -48,35 +58,38 @@ abbrev pub word : Ptr → Val
 word p = vstruct (vcons (ptr_val p) vnil)
 
 module _ {M : Type 1} {𝓤 : Ura M} {𝓛 : Logic 𝓤} {K : Type 0} {Γ : List (Item 𝓤)} {G : Goal 𝓤 𝓛.H}
-    where
-  pub held_out : K → (d : Handle.the_row.Denot) (vs : List Val)
-      → (vs ≡ word d.at ∷ [] → Seq K 𝓛 (‵ (held R d.at d.value) ∷ Γ) G)
-      → Seq K 𝓛 (‵ (Handle.the_row.own_val d vs) ∷ Γ) G
-  held_out t d vs k =
-      fsplit t $ fpick t (λ vss. fsplit t $ feq_l t (λ ev. fsplit t $ feq_l t (λ ep. drop t $ k
-      (subst (λ (ps : List Val). vs ≡ vstruct (of_list (ps ++ [])) ∷ []) ep ev))))
+  where
+    pub held_out : K → (d : Handle.the_row.Denot) (vs : List Val)
+        → (vs ≡ word d.at ∷ [] → Seq K 𝓛 (‵ (held R d.at d.value) ∷ Γ) G)
+        → Seq K 𝓛 (‵ (Handle.the_row.own_val d vs) ∷ Γ) G
+    held_out t d vs k =
+        fsplit t $ fpick t (λ vss. fsplit t $ feq_l t (λ ev. fsplit t $ feq_l t (λ ep. drop t $ k
+        (subst (λ (ps : List Val). vs ≡ vstruct (of_list (ps ++ [])) ∷ []) ep ev))))
 
-  pub held_in : K → (p : Ptr) (x : Option Kept.the_row.Denot)
-      → Step K 𝓛 (‵ (Handle.the_row.own_val (record { at = p; value = x }) (word p ∷ [])) ∷
-          Γ) G (‵ (held R p x) ∷ Γ) G
-  held_in t p x = step (λ s.
-      nothing t $ feq_i t (List Val) (ptr_val p ∷ []) (ptr_val p ∷ []) refl $ fjoin t $
-      feq_i t (List Val) (word p ∷ []) (word p ∷ []) refl $ fjoin t $
-      fpack t (Valss (RawPtr ∷ [])) (within (shape Handle.the_type) (p, tt) (word p ∷ [])) (ptr_val p ∷
-          [], tt) $ fjoin t $ s)
+    pub held_in : K → (p : Ptr) (x : Option Kept.the_row.Denot)
+        → Step K 𝓛 (‵ (Handle.the_row.own_val (record { at = p; value = x }) (word p ∷ [])) ∷
+        Γ) G (‵ (held R p x) ∷ Γ) G
+    held_in t p x = step (λ s.
+        nothing t $ feq_i t (List Val) (ptr_val p ∷ []) (ptr_val p ∷ []) refl $ fjoin t $
+        feq_i t (List Val) (word p ∷ []) (word p ∷ []) refl $ fjoin t $
+        fpack t (Valss (RawPtr ∷ [])) (within (shape Handle.the_type) (p, tt) (word p ∷ [])) (
+          ptr_val p ∷
+              [],
+          tt,
+        ) $ fjoin t $ s)
 
-  -- null, and nothing; or a thing in a block, whose pointer may be compared with null
-  pub either : K → (a : heap.the_row.Denot) (p : Ptr) (x : Option Kept.the_row.Denot)
-      → (x ≡ None → p ≡ null_ptr → Seq K 𝓛 Γ G)
-      → ((b o : ℕ) (y : Kept.the_row.Denot) → x ≡ Some y → p ≡ block_ptr b o → Testable (block_ptr b o)
-      → Seq K 𝓛 (‵ (box_owns chunk R (block_ptr b o) y) ∷ Γ) G)
-      → Seq K 𝓛 (‵ (held R p x) ∷ Γ) G
-  either t a p None n s = feq_l t (λ e. n refl e)
-  either t a p (Some y) n s =
-      in_a_block t p (λ q. box_owns chunk R q y) (fst∗ 𝓤 (never 𝓤) (sem 𝓛 (chunk (bare (lone R.mir))
-          null_ptr))) (λ b o e.
-      let q : Ptr = block_ptr b o in
-      use1 𝓛 (given (Testable q) (‵ (box_owns chunk R q y))) (fact_use 𝓤 (Testable q)
-      (via 𝓤 _ (snd∗ 𝓤 (sem 𝓛 (part_at R full_share y b o)) (sem 𝓛 (chunk (bare (lone R.mir)) q)))
-          (dealloc_token-Testable 𝓛 a (bare (lone R.mir)) q))
-      (guard_i 𝓤 (Testable q) (sem 𝓛 (box_owns chunk R q y)))) $ learn t (λ m. s b o y refl e m))
+    -- null, and nothing; or a thing in a block, whose pointer may be compared with null
+    pub either : K → (a : heap.the_row.Denot) (p : Ptr) (x : Option Kept.the_row.Denot)
+        → (x ≡ None → p ≡ null_ptr → Seq K 𝓛 Γ G)
+        → ((b o : ℕ) (y : Kept.the_row.Denot) → x ≡ Some y → p ≡ block_ptr b o → Testable (block_ptr b o)
+        → Seq K 𝓛 (‵ (box_owns chunk R (block_ptr b o) y) ∷ Γ) G)
+        → Seq K 𝓛 (‵ (held R p x) ∷ Γ) G
+    either t a p None n s = feq_l t (λ e. n refl e)
+    either t a p (Some y) n s =
+        in_a_block t p (λ q. box_owns chunk R q y) (fst∗ 𝓤 (never 𝓤) (sem 𝓛 (chunk (bare (lone R.mir))
+        null_ptr))) (λ b o e.
+        let q : Ptr = block_ptr b o in
+        use1 𝓛 (given (Testable q) (‵ (box_owns chunk R q y))) (fact_use 𝓤 (Testable q)
+        (via 𝓤 _ (snd∗ 𝓤 (sem 𝓛 (part_at R full_share y b o)) (sem 𝓛 (chunk (bare (lone R.mir)) q)))
+        (dealloc_token-Testable 𝓛 a (bare (lone R.mir)) q))
+        (guard_i 𝓤 (Testable q) (sem 𝓛 (box_owns chunk R q y)))) $ learn t (λ m. s b o y refl e m))

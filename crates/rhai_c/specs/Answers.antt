@@ -55,7 +55,7 @@ pub record ReadsAs (k : Kind) (s : Settings) (text : Text) (result : Result AST 
 abbrev pub tree_text : AST → Text
 tree_text script =
     print (script_json (statement_views script.statements.items) (map (λ f. function_view f.value)
-        script.functions.items))
+    script.functions.items))
 
 -- what is told of a script: of its tree the JSON of it; of its names any text
 abbrev pub Tells : Told → AST → Text → Type 0

@@ -43,22 +43,25 @@ stayed = (stay_dropped (plain (λ _. Handle.the_row)) yes, (stay_dropped (plain 
 pub into_parts_spec : {M : Type 1} → statement M
 into_parts_spec 𝓤 𝓛 𝓜 𝓡 wired =
     let c = f.clauses 𝓛 𝓜.mem 𝓡.returns in let 𝓣 = tables 𝓤 𝓛.H 𝓜 𝓡 𝓡.env in
-    proved_at 𝓛 f.ended stayed c 𝓜 𝓡 (Goes-dropped 𝓛 0 (plain (λ _. Handle.the_row)) yes (λ κs x w.
-        refl), (Goes-dropped 𝓛 0 (plain (λ _. heap.the_row)) yes (λ κs x w. refl), tt))
+    proved_at 𝓛 f.ended stayed c 𝓜 𝓡 (
+      Goes-dropped 𝓛 0 (plain (λ _. Handle.the_row)) yes (λ κs x w.
+          refl),
+      (Goes-dropped 𝓛 0 (plain (λ _. heap.the_row)) yes (λ κs x w. refl), tt),
+    )
     f.Key.name code.function (code.unfolded 𝓤 𝓛.H 𝓜 𝓡 wired) (λ z are.
     let d = z.0.3.0 in let a = z.0.3.1.0 in
     qed 𝓛 ((‵ ftrue ⊛ ‵ (fsep (Handle.the_row.own_val d z.0.4.0) (fsep (heap.the_row.own_val a z.0.4.1.0)
-        ftrue))) ∷ raw (emp 𝓤) ∷ []) ∵ split ! $ drop ! $ fsplit ! $
+    ftrue))) ∷ raw (emp 𝓤) ∷ []) ∵ split ! $ drop ! $ fsplit ! $
     held_out ! d z.0.4.0 (λ ws. move ! (1 ∷ []) $ fsplit ! $
     handle_tells E.al ! a z.0.4.1.0 (λ hv ea fa. move ! (2 ∷ []) $
     let Post = (walk_of 𝓛 f.ended stayed c).post z in let Run = λ (xs : List Val). WpFn 𝓤 𝓛.H 𝓣.C 𝓣.Λ
-        code.function xs Post in
+    code.function xs Post in
     let Out : RattleType = type_at f.signature.result z.0.0 in
     let Pr : RattleType = Parts.the_row R heap.the_row ghosts in
     either ! a d.at d.value
     (λ none null. keep ! [] $ let w = word null_ptr in let r = live 0 vnil in
     regoal ! (λ (xs : List Val). prop (Run (xs ++ (z.0.4.1.0 ++ [])))) (ws ∙ ap (λ (q : Ptr). word q ∷
-        []) null) refl $
+    []) null) refl $
     regoal ! (λ (xs : List Val). prop (Run (w ∷ (xs ++ [])))) ea refl $
     enter ! 𝓣.C 𝓣.Λ code.function (w ∷ hv ∷ []) Post $
     alloc_all ! (λ l. pass_all ! refl ((tt, (record { fits = lit< tt }, tt)), (fa, tt)) $
@@ -73,12 +76,19 @@ into_parts_spec 𝓤 𝓛 𝓜 𝓡 wired =
     (λ wrong. absurd wrong)))
     (λ b o y some block m. keep ! (0 ∷ 1 ∷ []) $ let w = word (block_ptr b o) in let ws' = box.word E hv b o in
     let r = live 1 (vcons ws' vnil) in
-    let typed = box_typed E hv b o fa in let good : Good (layout Out) r = (and_tt _ typed.0, (record { fits = lit< tt
-        }, (typed.1, tt))) in
+    let typed = box_typed E hv b o fa in let good : Good (layout Out) r = (
+      and_tt _ typed.0,
+      (
+        record {
+          fits = lit< tt;
+        },
+        (typed.1, tt),
+      ),
+    ) in
     let v : D E = record { ptr = block_ptr b o; alloc = a; value = y } in
     let made : Pr.Denot = record { ptr = v.ptr; alloc = a; value = y } in
     regoal ! (λ (xs : List Val). prop (Run (xs ++ (z.0.4.1.0 ++ [])))) (ws ∙ ap (λ (q : Ptr). word q ∷
-        []) block) refl $
+    []) block) refl $
     regoal ! (λ (xs : List Val). prop (Run (w ∷ (xs ++ [])))) ea refl $
     enter ! 𝓣.C 𝓣.Λ code.function (w ∷ hv ∷ []) Post $
     alloc_all ! (λ l. pass_all ! refl ((tt, (tt, tt)), (fa, tt)) $ let Ev = env code.Mir.locals l in
