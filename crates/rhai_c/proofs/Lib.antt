@@ -1,2 +1,3 @@
 -- Lemmas.
 pub mod Holds
+pub mod Replies

@@ -1,7 +1,7 @@
 //! What is told of a text: its tree, its names or its tokens, or why it is refused.
 
 ghost use Rattle.std.specs.Prelude.{◌≡◌, IfErr, IfOk, IsUtf8, string_bytes};
-ghost use Rattle.rhai_grammar.specs.Causes.{MemoryIsNowhere};
+ghost use Rattle.rhai_grammar.specs.Causes.{MemoryIsNowhere, is_for_memory};
 ghost use Rattle.rhai_c.specs.Answers.{IsReply, ReadsAs, Tells, kind_of};
 ghost use Rattle.rhai_c.specs.declared.scripts.Question.TheVariants.{Script, Tokens};
 
@@ -92,8 +92,8 @@ fn refusal(
     alloc: Global,
     settings: &Settings,
     text: &str,
-    error: &ParseError,
-) -> Result<String, AllocError> {
+    error: ParseError,
+) -> Result<Vec<u8>, AllocError> {
     let tokens = tokenize(alloc, text, settings.limits)?;
     let source = Source {
         name: "",
@@ -105,12 +105,12 @@ fn refusal(
         modules: &[],
     };
     let index = index_at(&tokens, error.1);
-    let report = report_of(alloc, source, &tokens, index, error, outside)?;
-    diagnostic_json(alloc, &report)
+    let report = report_of(alloc, source, &tokens, index, &error, outside)?;
+    Ok(diagnostic_json(alloc, &report)?.into_bytes())
 }
 
-// What is told of a script.
-fn tell(alloc: Global, script: &AST, told: Told) -> Result<String, AllocError>
+// What is told of a script, as a text.
+fn text_of(alloc: Global, script: &AST, told: Told) -> Result<String, AllocError>
     ensures { IfOk result (λ text. Tells told script.now (string_bytes text)) }
 {
     match told {
@@ -119,6 +119,25 @@ fn tell(alloc: Global, script: &AST, told: Told) -> Result<String, AllocError>
     }
 }
 
+// What is told of a script, which is dropped.
+fn tell(alloc: Global, script: AST, told: Told) -> Result<Vec<u8>, AllocError>
+    ensures { IfOk result (λ bytes. Tells told script bytes.items) }
+{
+    let text = text_of(alloc, &script, told)?;
+    Ok(text.into_bytes())
+}
+
+// Whether an error says that memory ran out.
+fn is_for_memory(error: &ParseError) -> bool
+    ensures { result ≡ is_for_memory error.now }
+{
+    match error.0 {
+        ParseErrorType::OutOfMemory => true,
+        _ => false,
+    }
+}
+
+#[tactic(auto, using(crate::proofs::Replies::accepts))]
 fn about_script(
     alloc: Global,
     settings: &Settings,
@@ -129,14 +148,14 @@ fn about_script(
     requires { IsUtf8 text.now }
     ensures { IfOk result (IsReply (Script kind told) settings.now text.now) }
 {
-    match read(alloc, settings, text, kind) {
-        Ok(script) => Ok(Reply::Accepted(tell(alloc, &script, told)?.into_bytes())),
-        Err(ParseError(ParseErrorType::OutOfMemory, _)) => Ok(Reply::NoMemory),
-        Err(error) => {
-            let told = refusal(alloc, settings, text, &error)?;
-            Ok(Reply::Refused(told.into_bytes()))
-        }
+    let error = match read(alloc, settings, text, kind) {
+        Ok(script) => return Ok(Reply::Accepted(tell(alloc, script, told)?)),
+        Err(error) => error,
+    };
+    if is_for_memory(&error) {
+        return Ok(Reply::NoMemory);
     }
+    Ok(Reply::Refused(refusal(alloc, settings, text, error)?))
 }
 
 fn about_tokens(alloc: Global, settings: &Settings, text: &str) -> Result<Reply, AllocError>
