@@ -163,7 +163,7 @@ fn about_tokens(alloc: Global, settings: &Settings, text: &str) -> Result<Reply,
     ensures { IfOk result (IsReply Tokens settings.now text.now) }
 {
     let tokens = tokenize(alloc, text, settings.limits)?;
-    Ok(Reply::Accepted(tokens_json(alloc, &tokens)?.into_bytes()))
+    Ok(Reply::Accepted(tokens_json(alloc, &tokens, 0)?.into_bytes()))
 }
 
 /// What is told of a text, under these settings.
