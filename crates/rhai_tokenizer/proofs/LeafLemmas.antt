@@ -19,7 +19,7 @@ use Rattle.rhai_tokenizer.specs.Meanings.{without_return}
 use Rattle.rhai_tokenizer.specs.Places.{at_line, past}
 use Rattle.rhai_tokenizer.specs.Runs.{first_of, run}
 use Rattle.rhai_tokenizer.specs.Strings.{character, continued}
-use Rattle.rhai_tokenizer.specs.Turns.{IsPlace, place_in}
+use Rattle.rhai_tokenizer.specs.Turns.{IsIn, place_in}
 use Rattle.rhai_tokenizer.proofs.PartLemmas.{hex_split}
 
 pub length-run : (p : ℕ → Bool) (t : Text) → prefix_len p t ≡ length (run p t)
@@ -70,12 +70,12 @@ past_full p t len fits size plain room =
     sym (plain_run t p.line p.column plain fits ∙ ap (at_line p.line) same)
 
 -- the place after bytes that each take a column, which begin after so many bytes
-pub plain_in : (l : Line) (at n : ℕ) (t : Text) → IsPlace (place_in l at) → length t ≡ n → list_all is_plain t ≡ true
+pub plain_in : (l : Line) (at n : ℕ) (t : Text) → IsIn l at → length t ≡ n → list_all is_plain t ≡ true
     → place_in l (at + n) ≡ past (place_in l at) t
 plain_in l at n t h size plain =
-    let column = min 65535 (at + 65535 - l.origin) in
+    let column = min 65534 (at + 65534 - l.origin) + 1 in
     let fits : column ≤ 65535 = omega arith in
-    let same : min 65535 ((at + n) + 65535 - l.origin) ≡ min 65535 (column + length t) = omega (arith, h.1, size) in
+    let same : min 65534 ((at + n) + 65534 - l.origin) + 1 ≡ min 65535 (column + length t) = omega (arith, h.1, size) in
     ap (at_line l.number) same ∙ sym (plain_run t l.number column plain fits)
 
 -- ---- characters

@@ -13,11 +13,10 @@ use Rattle.rhai_tokenizer.specs.declared.tokens.Span.{Span}
 use Rattle.rhai_tokenizer.specs.Bytes.{begins_raw}
 use Rattle.rhai_tokenizer.specs.Cutting.{next_at, pieces_from}
 use Rattle.rhai_tokenizer.specs.Meanings.{after, at_start, brace_of}
-use Rattle.rhai_tokenizer.specs.Pieces.{Before, letters}
+use Rattle.rhai_tokenizer.specs.Pieces.{Before}
 use Rattle.rhai_tokenizer.specs.Places.{past, start}
 use Rattle.rhai_tokenizer.specs.Readings.{item_of, items, spans}
-use Rattle.rhai_tokenizer.specs.Turns.{AreDelivered, IsPlace, IsRead, IsReady, IsTurn, before_of, due, left, place_of}
-use Rattle.rhai_tokenizer.proofs.PlaceLemmas.{past_place}
+use Rattle.rhai_tokenizer.specs.Turns.{AreDelivered, IsIn, IsRead, IsReady, IsTurn, before_of, due, left, place_of}
 use Rattle.rhai_tokenizer.proofs.TurnLemmas as turn
 
 -- a piece is within the text, and the text may be cut after it
@@ -43,7 +42,7 @@ turn_read limits old new t more n ready f back u =
       places = turn.place_turn b t more (place_of new) _ ready.is_due after rest refl;
       within = omega (arith, within, size, f.at);
       hashed = λ e. ap begins_raw back ∙ f.hash e;
-      placed = subst IsPlace (sym after) (past_place (letters (next_at b t)) (place_of old) ready.placed);
+      placed = f.placed;
       delivered = f.joined.delivered;
       utf8 = λ v. turn.rest_utf8 t more n v (turn_within limits old new t n ready f v) back;
     }
@@ -58,7 +57,7 @@ turn_falls limits old new t more n ready f back =
 
 -- nothing is read
 pub read_none : (limits : Limits) (r : Reading) (t : Text) → (r.is_hashed ≡ true → begins_raw t ≡ false)
-    → IsPlace (place_of r) → IsRead limits r r t t
+    → IsIn r.line r.at → IsRead limits r r t t
 read_none limits r t hashed placed = record {
   entries = refl;
   spans = refl;

@@ -29,7 +29,7 @@ use Rattle.rhai_tokenizer.specs.CuttingMeanings.{cut_brace, cut_symbol, cut_toke
 use Rattle.rhai_tokenizer.specs.Meanings.{Found, brace_of_symbol, braces_after, opens_after, operand_then, text_after}
 use Rattle.rhai_tokenizer.specs.Places.{past}
 use Rattle.rhai_tokenizer.specs.Runs.{run_from}
-use Rattle.rhai_tokenizer.specs.Turns.{IsFront, IsTurn, Joins, before_of, due, found_of, place_of}
+use Rattle.rhai_tokenizer.specs.Turns.{IsFront, IsIn, IsTurn, Joins, before_of, due, found_of, place_of}
 use Rattle.rhai_tokenizer.proofs.FrontLemmas.{IsCut, front_is, is_cut, known_cut, token_found}
 use Rattle.rhai_tokenizer.proofs.TurnLemmas.{before_after}
 
@@ -44,8 +44,9 @@ pub front_turn : (limits : Limits) (old new : Reading) (t : Text) (f : Front)
     → IsFront limits old.in_text old.operand (place_of old) t f
     → Joins old.out new.out old.in_text old.at new.at (found_of f.place f.token)
     → new.operand ≡ operand_then old.operand (found_of f.place f.token) → Braces old new f.brace
-    → place_of new ≡ f.after → new.is_hashed ≡ f.is_hash → new.at ≡ old.at + f.len → IsTurn limits old new t f.len
-front_turn limits old new t f is joined operand br place hash at = record {
+    → place_of new ≡ f.after → new.is_hashed ≡ f.is_hash → new.at ≡ old.at + f.len → IsIn new.line new.at
+    → IsTurn limits old new t f.len
+front_turn limits old new t f is joined operand br place hash at placed = record {
   joined = subst (λ (x : Option Found). Joins old.out new.out old.in_text old.at new.at x) is.token joined;
   len = is.len;
   decides = before_after limits (before_of old) (next_at (before_of old) t) (found_of f.place f.token) f.brace
@@ -53,6 +54,7 @@ front_turn limits old new t f is joined operand br place hash at = record {
       br.braces (place ∙ is.after);
   hash = λ e. is.hash (sym hash ∙ e);
   at = at;
+  placed = placed;
 }
 
 -- a piece that is cut
@@ -62,8 +64,9 @@ pub cut_turn : (limits : Limits) (old new : Reading) (t text : Text) (k : Kind) 
     → IfSome token (λ k. token_may_be_delivered k ≡ true)
     → Joins old.out new.out false old.at new.at (found_of (place_of old) token)
     → new.operand ≡ operand_then old.operand (found_of (place_of old) token) → Braces old new (cut_brace k text)
-    → place_of new ≡ past (place_of old) text → new.is_hashed ≡ false → new.at ≡ old.at + n → IsTurn limits old new t n
-cut_turn limits old new t text k n token code cut ts ls d joined operand br place hash at =
+    → place_of new ≡ past (place_of old) text → new.is_hashed ≡ false → new.at ≡ old.at + n
+    → IsIn new.line new.at → IsTurn limits old new t n
+cut_turn limits old new t text k n token code cut ts ls d joined operand br place hash at placed =
     front_turn limits old new t _
     (subst (λ (x : Bool). IsFront limits x old.operand (place_of old) t (record {
       token = token;
@@ -77,7 +80,7 @@ cut_turn limits old new t text k n token code cut ts ls d joined operand br plac
     ∙ sym (cut.means text ts)) cut.len (place ∙ cut.after text ts) (sym (cut.brace text ts)) d
     (λ e. absurd (true≢false (sym e))) (λ p. p)))
     (subst (λ (x : Bool). Joins old.out new.out x old.at new.at (found_of (place_of old) token)) (sym code) joined)
-    operand br refl hash at
+    operand br refl hash at placed
 
 -- a byte is left where a piece is due in code
 pub some_due : (i : Bool) (t : Text) → i ≡ false → due i t ≡ true → is_empty t ≡ false

@@ -26,7 +26,7 @@ use Rattle.rhai_tokenizer.specs.Meanings.{operand_then, within}
 use Rattle.rhai_tokenizer.specs.Places.{past}
 use Rattle.rhai_tokenizer.specs.Strings.{Closed, Quote, ending_letters}
 use Rattle.rhai_tokenizer.specs.StringTurns.{IsContent}
-use Rattle.rhai_tokenizer.specs.Turns.{IsFront, IsTurn, Joins, found_of, place_of}
+use Rattle.rhai_tokenizer.specs.Turns.{IsFront, IsIn, IsTurn, Joins, found_of, place_of}
 use Rattle.rhai_tokenizer.proofs.FirstLemmas.{ClassFacts, class_facts}
 use Rattle.rhai_tokenizer.proofs.FrontLemmas.{quoted_is}
 use Rattle.rhai_tokenizer.proofs.PlaceLemmas.{past-append}
@@ -167,8 +167,10 @@ pub text_turn : (limits : Limits) (old new : Reading) (t z : Text) (n : ℕ) (to
     → new.operand ≡ operand_then old.operand (found_of (place_of old) (Some token)) → new.in_text ≡ false
     → reverse new.braces.items ≡ reverse old.braces.items → new.opens ≡ false
     → ((s : Text) → length s ≡ n + 2 → list_all is_plain s ≡ true → place_of new ≡ past (place_of old) s)
-    → new.is_hashed ≡ false → new.at ≡ old.at + (n + 2) → IsTurn limits old new t (n + 2)
-text_turn limits old new t z n token code some class z_is c is d joined operand in_text braces opens places hash at =
+    → new.is_hashed ≡ false → new.at ≡ old.at + (n + 2) → IsIn new.line new.at
+    → IsTurn limits old new t (n + 2)
+text_turn limits old new t z n token code some class z_is c is d joined operand in_text braces opens places hash at
+    placed =
     let p = place_of old in
     let s = 34 ∷ (take n z ++ (34 ∷ [])) in
     let taken : length (take n z) ≡ n = length-take-le n z (omega (arith, c.within)) in
@@ -183,4 +185,5 @@ text_turn limits old new t z n token code some class z_is c is d joined operand 
     subst (λ (k : ℕ). IsTurn limits old new t k) len (front_turn limits old new t _
     (subst (λ (x : Bool). IsFront limits x old.operand p t (front p z n token)) (sym code) is_front)
     (subst (λ (x : Bool). Joins old.out new.out x old.at new.at (found_of p (Some token))) (sym code) joined) operand
-    (record { in_text = in_text; braces = braces; opens = opens }) after hash (at ∙ ap (λ k. old.at + k) (sym len)))
+    (record { in_text = in_text; braces = braces; opens = opens }) after hash (at ∙ ap (λ k. old.at + k) (sym len))
+    placed)

@@ -6,7 +6,7 @@ ghost use Rattle.rhai_tokenizer.specs.Bytes.{blanks};
 ghost use Rattle.rhai_tokenizer.specs.Cutting as spec;
 ghost use Rattle.rhai_tokenizer.specs.Places.{past};
 ghost use Rattle.rhai_tokenizer.specs.Runs.{first_of, run_from};
-ghost use Rattle.rhai_tokenizer.specs.Turns.{IsPlace, place_in};
+ghost use Rattle.rhai_tokenizer.specs.Turns.{IsIn, place_in};
 
 use crate::class::is_space;
 use crate::lexer::begins_with;
@@ -36,11 +36,12 @@ fn blank_texts() -> &'static [&'static [u8]]
 // Passes a white space character of several bytes at the front of a text. Gives its length, or 0.
 #[inline(never)]
 fn far_blank_in(line: &mut Line, at: usize, z: &[u8]) -> usize
-    requires placed { IsPlace (place_in line.old at) }
+    requires placed { IsIn line.old at }
     requires room { at + length z.now < 2 ^ 63 }
     ensures value { result ≡ length (first_of blanks z.now) }
     ensures within { result ≤ length z.now }
     ensures place { place_in line.new (at + result) ≡ past (place_in line.old at) (take result z.now) }
+    ensures placed { IsIn line.new (at + result) }
 {
     let n = first_text_len(blank_texts(), z);
     let after = past(place_in(*line, at), &z[..n]);
@@ -51,11 +52,12 @@ fn far_blank_in(line: &mut Line, at: usize, z: &[u8]) -> usize
 // Passes the white space character at the front of a text. Gives its length, or 0.
 #[inline(always)]
 fn blank_in(line: &mut Line, at: usize, z: &[u8]) -> usize
-    requires placed { IsPlace (place_in line.old at) }
+    requires placed { IsIn line.old at }
     requires room { at + length z.now < 2 ^ 63 }
     ensures value { result ≡ length (first_of blanks z.now) }
     ensures within { result ≤ length z.now }
     ensures place { place_in line.new (at + result) ≡ past (place_in line.old at) (take result z.now) }
+    ensures placed { IsIn line.new (at + result) }
 {
     match z {
         [] => 0,
@@ -95,11 +97,12 @@ fn begins_with_lone_blank(z: &[u8]) -> bool
 /// Passes the white space at the front of a text that has so many bytes before it. Gives its length.
 #[inline(always)]
 pub fn blanks_in(line: &mut Line, at: usize, z: &[u8]) -> usize
-    requires placed { IsPlace (place_in line.old at) }
+    requires placed { IsIn line.old at }
     requires room { at + length z.now < 2 ^ 63 }
     ensures value { result ≡ length (concat (run_from blanks 0 z.now)) }
     ensures within { result ≤ length z.now }
     ensures place { place_in line.new (at + result) ≡ past (place_in line.old at) (take result z.now) }
+    ensures placed { IsIn line.new (at + result) }
 {
     if begins_with_lone_blank(z) {
         return 1;

@@ -12,7 +12,7 @@ ghost use Rattle.rhai_tokenizer.specs.Cutting as spec;
 ghost use Rattle.rhai_tokenizer.specs.CuttingMeanings.{is_plain, is_sign};
 ghost use Rattle.rhai_tokenizer.specs.Meanings.{at_start, operand_then};
 ghost use Rattle.rhai_tokenizer.specs.Places.{past};
-ghost use Rattle.rhai_tokenizer.specs.Turns.{IsFront, IsPlace, IsRead, IsReady, IsTurn, Joins, before_of, due};
+ghost use Rattle.rhai_tokenizer.specs.Turns.{IsFront, IsIn, IsPlace, IsRead, IsReady, IsTurn, Joins, before_of, due};
 ghost use Rattle.rhai_tokenizer.specs.Turns.{found_of};
 ghost use Rattle.rhai_tokenizer.specs.Turns.{left, place_of};
 
@@ -20,7 +20,7 @@ use crate::blanks::blanks_in;
 use crate::braces::{follow, opens_after, symbol_brace};
 use crate::class::{Class, First, first_class, is_letter, is_space};
 use crate::front::{Front, Tools, front_of};
-use crate::lexer::{Kind, number_piece, plain_sign, run_len, short_symbol};
+use crate::lexer::{Kind, number_piece, run_len, short_symbol, sign};
 use crate::limits::Limits;
 use crate::meaning::{fixed_symbol, integer_token, operand_after, word_token};
 use crate::place::{FIRST_LINE, Line, Place, line_of, place_in, position};
@@ -63,6 +63,7 @@ impl Reading {
         ensures spans { result.out.spans.items ≡ [] }
         ensures at { result.at ≡ 0 }
         ensures hash { result.is_hashed ≡ false }
+        ensures placed { IsIn result.line result.at }
     {
         Reading {
             out: Tokens {
@@ -212,7 +213,7 @@ fn past_blanks<'a>(reading: &mut Reading, rest: &'a str) -> &'a str
 // A token of so many bytes that each take a column joins.
 #[inline(always)]
 fn take(reading: &mut Reading, token: Token, len: usize) -> Result<(), AllocError>
-    requires place { IsPlace (place_of reading.old) }
+    requires place { IsIn reading.old.line reading.old.at }
     requires delivered { token_may_be_delivered token ≡ true }
     requires room { reading.old.at + len < 2 ^ 63 }
     ensures joined { IfOk result (λ done. Joins reading.old.out reading.new.out false reading.old.at
@@ -222,6 +223,7 @@ fn take(reading: &mut Reading, token: Token, len: usize) -> Result<(), AllocErro
     ensures place { IfOk result (λ done. (t : Text) → length t ≡ len → list_all is_plain t ≡ true
         → place_of reading.new ≡ past (place_of reading.old) t) }
     ensures at { IfOk result (λ done. reading.new.at ≡ reading.old.at + len) }
+    ensures placed { IfOk result (λ done. IsIn reading.new.line reading.new.at) }
     ensures hash { IfOk result (λ done. reading.new.is_hashed ≡ false) }
     ensures braces { reading.new.braces ≡ reading.old.braces }
     ensures in_text { reading.new.in_text ≡ reading.old.in_text }
@@ -298,7 +300,7 @@ fn symbol(reading: &mut Reading, limits: Limits, rest: &str) -> Result<usize, Al
     ensures { IfOk result (λ n. IsTurn limits reading.old reading.new rest.now n) }
 {
     let bytes = rest.as_bytes();
-    let (kind, len) = plain_sign(bytes[0], &bytes[1..], bytes);
+    let (kind, len) = sign(bytes[0], &bytes[1..], bytes);
     match fixed_of(kind) {
         Some(fixed) => {
             let text = &bytes[..len];

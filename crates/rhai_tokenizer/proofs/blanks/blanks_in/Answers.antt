@@ -1,13 +1,9 @@
-use Rattle.std.proofs.Common.{◌≡◌, ◌+◌, ◌∙◌, ap, arith, subst, sym, take}
-use Rattle.rhai_tokenizer.specs.Turns.{IsPlace, place_in}
+use Rattle.std.proofs.Common.{◌≡◌, ◌+◌, ◌∙◌, ap, arith, subst, sym}
+use Rattle.rhai_tokenizer.specs.Turns.{IsIn, place_in}
 use Rattle.rhai_tokenizer.proofs.BlankLemmas.{blanks_end, blanks_step, lone_blank}
 use Rattle.rhai_tokenizer.proofs.CommentLemmas.{room}
-use Rattle.rhai_tokenizer.proofs.PlaceLemmas.{past_more, past_place}
+use Rattle.rhai_tokenizer.proofs.PlaceLemmas.{past_more}
 use Rattle.rhai_tokenizer.proofs.blanks.blanks_in.Goals as goal
-
-pub blank_in-n-requires-clause-placed : goal.blank_in-n-requires-clause-placed
-blank_in-n-requires-clause-placed c = subst IsPlace (sym c.loop-at.invariant.2)
-    (past_place (take c.loop-at.len c.args.z.now) (place_in c.args.line.now c.args.at) c.requires.placed)
 
 pub returns-then-begins_with_lone_blank-clause-value : goal.returns-then-begins_with_lone_blank-clause-value
 returns-then-begins_with_lone_blank-clause-value c = lone_blank c.args.z.now
@@ -27,4 +23,5 @@ loop-at-preserved c =
       ap (place_in c.blank_in-n.new.line) same ∙ past_more (place_in c.args.line.now c.args.at)
           (place_in c.loop-at.line (c.args.at + len)) (place_in c.blank_in-n.new.line ((c.args.at + len) + n))
           c.args.z.now len n c.loop-at.invariant.2 c.blank_in-n.ensures.place,
+      subst (IsIn c.blank_in-n.new.line) (sym same) c.blank_in-n.ensures.placed,
     )

@@ -28,4 +28,4 @@ returns c limits =
     c.fixed_token.ensures.delivered taken.joined taken.operand
     (symbol_braces old c.take.new.reading _ c.symbol_brace.result text taken.braces taken.opens c.symbol_brace.ensures
     c.in_ok-reading.ensures.text c.in_ok-reading.ensures.braces refl)
-    (taken.place text facts.len (cut.plain text facts.front refl)) taken.hash taken.at
+    (taken.place text facts.len (cut.plain text facts.front refl)) taken.hash taken.at taken.placed

@@ -53,4 +53,4 @@ returns-in_ok-take-in-Integer c =
       braces = ap (λ x. reverse x.items) taken.braces;
       opens = refl;
     })
-    (taken.place text facts.len (cut.plain text facts.front refl)) taken.hash taken.at
+    (taken.place text facts.len (cut.plain text facts.front refl)) taken.hash taken.at taken.placed

@@ -28,5 +28,6 @@ returns-clause-read c limits =
     turn_read limits old _ t c.split_at.result.1.now n c.requires
     (cut_turn limits old _ t (take n t) kind.Blank n None code cut refl refl tt
     (joins_none old.out false old.at (old.at + n)) refl (record { in_text = code; braces = refl; opens = refl })
-    (c.blanks_in-len.ensures.place ∙ ap (λ x. past (place_of old) (take n x)) c.as_bytes.ensures.value) refl refl)
+    (c.blanks_in-len.ensures.place ∙ ap (λ x. past (place_of old) (take n x)) c.as_bytes.ensures.value) refl refl
+    c.blanks_in-len.ensures.placed)
     c.split_at.ensures.back c.utf8.rest

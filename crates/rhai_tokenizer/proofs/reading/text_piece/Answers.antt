@@ -26,4 +26,4 @@ returns c =
     (c.in_ok-token.ensures.value ∙ ap (within c.args.limits (λ x. String x)) (c.split_at-2.ensures.front
     ∙ ap (take c.run_len-n.result) (sym c.as_bytes-bytes.ensures.value))) c.in_ok-token.ensures.delivered taken.joined
     taken.operand (taken.in_text ∙ c.requires.code) (ap (λ x. reverse x.items) taken.braces) refl taken.place taken.hash
-    taken.at
+    taken.at taken.placed

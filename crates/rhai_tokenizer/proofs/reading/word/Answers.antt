@@ -30,4 +30,4 @@ returns c limits =
     })
     (c.in_ok-take.ensures.place c.split_at.result.0.now c.split_at.ensures.front_len
     ((cut limits).plain _ c.split_at.ensures.front refl))
-    c.in_ok-take.ensures.hash c.in_ok-take.ensures.at
+    c.in_ok-take.ensures.hash c.in_ok-take.ensures.at c.in_ok-take.ensures.placed
