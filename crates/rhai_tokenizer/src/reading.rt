@@ -364,7 +364,7 @@ fn text_piece(reading: &mut Reading, limits: Limits, rest: &str) -> Result<usize
 }
 
 // A piece that begins with no letter.
-#[inline(never)]
+#[inline(always)]
 fn other(reading: &mut Reading, limits: Limits, rest: &str) -> Result<usize, AllocError>
     requires ready { IsReady reading.old rest.now }
     requires code { reading.old.in_text ≡ false }
