@@ -256,7 +256,7 @@ fn word(reading: &mut Reading, rest: &str) -> Result<usize, AllocError>
 }
 
 // An integer.
-#[inline(always)]
+#[inline(never)]
 fn number(reading: &mut Reading, limits: Limits, rest: &str) -> Result<usize, AllocError>
     requires ready { IsReady reading.old rest.now }
     requires code { reading.old.in_text ≡ false }
@@ -344,6 +344,7 @@ fn ends_string(z: &[u8]) -> bool
 }
 
 // A string, which mostly has no escapes and is of bytes that each take a column.
+#[inline(never)]
 fn text_piece(reading: &mut Reading, limits: Limits, rest: &str) -> Result<usize, AllocError>
     requires ready { IsReady reading.old rest.now }
     requires code { reading.old.in_text ≡ false }
