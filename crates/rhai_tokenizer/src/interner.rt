@@ -8,7 +8,7 @@ use std::hash::{FoldHasher, Hasher};
 use std::rc::RcStr;
 
 // How many slots there are at first.
-const SLOTS: usize = 64;
+const SLOTS: usize = 8;
 
 /// The names and the values of strings of a text that were met last. The bytes of each choose its slot, where a later
 /// one takes its place. The more names were made, the more slots there are.
