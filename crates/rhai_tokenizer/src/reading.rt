@@ -320,7 +320,8 @@ fn lone_symbol(reading: &mut Reading, rest: &str, fixed: Fixed) -> Result<usize,
     requires ready { IsReady reading.old rest.now }
     requires code { reading.old.in_text ≡ false }
     requires class { First.Other ≡ first_class (slice_index rest.now 0) }
-    requires symbol { (Kind.Symbol (Meaning.Plain fixed), 1) ≡ spec.sign_cut (slice_index rest.now 0) (drop 1 rest.now) }
+    requires symbol { (Kind.Symbol (Meaning.Plain fixed), 1)
+        ≡ spec.sign_cut (slice_index rest.now 0) (drop 1 rest.now) }
     requires sign { is_sign (slice_index rest.now 0) ≡ false }
     ensures { IfOk result (λ n. (limits : Limits) → IsTurn limits reading.old reading.new rest.now n) }
 {
