@@ -4,9 +4,9 @@
 usage: tests/hosts_random.py LIBRARY [PROGRAM [COUNT]]
 
 LIBRARY is librhai_c as a shared library, PROGRAM by default what `rt run` in crates/rhai_ast built, and COUNT the
-number of scripts, by default 10,000. They are made of words of the language, whole scripts of examples/ with one byte changed,
-and random bytes; always the same. The tree in JSON has to give the printed tree, and the diagnostic the place and the
-message that are printed. The last line counts the scripts; the status is 1 if any answers differ.
+number of scripts, by default 10,000. They are made of words of the language, whole scripts of examples/ with one byte
+changed, and random bytes; always the same. The tree in JSON has to give the printed tree, and the diagnostic the
+place and the message that are printed. The last line counts the scripts; the status is 1 if any answers differ.
 """
 
 import pathlib
