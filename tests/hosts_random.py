@@ -4,9 +4,9 @@
 usage: tests/hosts_random.py LIBRARY [PROGRAM [COUNT]]
 
 LIBRARY is librhai_c as a shared library, PROGRAM by default what `rt run` in crates/rhai_ast built, and COUNT the
-number of scripts, by default 10,000. They are made of words of the language, whole scripts of examples/ with one byte changed,
-and random bytes; always the same. The tree in JSON has to give the printed tree, and the diagnostic the place and the
-message that are printed. The last line counts the scripts; the status is 1 if any answers differ.
+number of scripts, by default 10,000. They are made of words of the language, whole scripts of examples/ with one byte
+changed, and random bytes; always the same. The tree in JSON has to give the printed tree, and the diagnostic the
+place and the message that are printed. The last line counts the scripts; the status is 1 if any answers differ.
 """
 
 import pathlib
@@ -67,6 +67,20 @@ def scripts(count):
             yield numbers.randbytes(numbers.randint(0, 40))
 
 
+# Reports show control characters by their pictures.
+PICTURES = {code: 0x2400 + code for code in range(32)} | {127: 0x2421}
+
+
+def message(refusal):
+    """Answers the message of a refusal as reports have it: the note on a symbol stands apart there."""
+    error = refusal["payload"].get("error")
+    while error and error["kind"] == "Lexer":
+        error = error["payload"]["error"]
+    if error and error["kind"] == "ImproperSymbol":
+        return f"Invalid symbol encountered: '{error['payload']['symbol']}'"
+    return refusal["message"].translate(PICTURES)
+
+
 def library_answer(parser, text):
     """Answers what the library says: the lines of a tree, the line of a refusal, or none if there is no answer."""
     try:
@@ -76,7 +90,7 @@ def library_answer(parser, text):
     if status == host.OK:
         return as_json.printed_tree(answer)
     place = f"{answer['line']}:{answer['column']}" if answer["line"] else "none"
-    return [f"{place} {answer['message']}"]
+    return [f"{place} {message(answer)}"]
 
 
 def program_answer(program, text):
