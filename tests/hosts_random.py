@@ -17,10 +17,10 @@ import sys
 
 ROOT = pathlib.Path(__file__).resolve().parent.parent
 sys.dont_write_bytecode = True
-sys.path.insert(0, str(ROOT / "examples"))
+sys.path[:0] = [str(ROOT / "examples"), str(ROOT / "tests/hostile")]
 
-import as_json
 import host
+from printed import printed_tree
 
 WORDS = """let const fn if else switch while loop do until for in break continue return throw try catch import export as
 private this true false x y f g m 0 1 42 0x1f 'a' "s" `t` ( ) [ ] { } #{ , ; : :: . ?. ?[ = == != < > <= >= + - * / %
@@ -72,12 +72,7 @@ PICTURES = {code: 0x2400 + code for code in range(32)} | {127: 0x2421}
 
 
 def message(refusal):
-    """Answers the message of a refusal as reports have it: the note on a symbol stands apart there."""
-    error = refusal["payload"].get("error")
-    while error and error["kind"] == "Lexer":
-        error = error["payload"]["error"]
-    if error and error["kind"] == "ImproperSymbol":
-        return f"Invalid symbol encountered: '{error['payload']['symbol']}'"
+    """Answers the message of a refusal as reports show it."""
     return refusal["message"].translate(PICTURES)
 
 
@@ -88,7 +83,7 @@ def library_answer(parser, text):
     except RuntimeError:
         return []
     if status == host.OK:
-        return as_json.printed_tree(answer)
+        return printed_tree(answer)
     place = f"{answer['line']}:{answer['column']}" if answer["line"] else "none"
     return [f"{place} {message(answer)}"]
 
