@@ -1,370 +1,43 @@
 #!/usr/bin/env python3
-"""Runs scripts through `rhai-ast` for their JSON, and prints each run that fails.
+"""Runs scripts through `rhai-ast --json`, and prints each run that fails.
 
 usage: tests/as_json.py [PROGRAM]
 
-Without PROGRAM it runs the one that `rt run` in crates/rhai_ast built last. The scripts are the examples and each list
-of tokens in tests/cases that a text spells: the program has to give the list of that text. Each answer has to be JSON
-that fits docs/tree.schema.json. Of a tree, this script makes the printed tree of docs/FORMAT.md, which has to be the
-answer that the case has; of a refusal, its printed line; of tokens, their list; of names, their lines. The last line
-counts the runs; the exit status is 1 if any failed.
+Without PROGRAM it runs the one that `rt run` in crates/rhai_ast built last. The scripts are the examples, the cases of
+tests/diagnostics, each list of tokens in tests/cases that has a text, with its limits and options, and random texts.
+Each answer has to be JSON, and to fit docs/tree.schema.json (where Python has `jsonschema`). Nothing may be lost: from
+the JSON of a tree, of tokens and of names this script makes the text of docs/FORMAT.md, which has to be what is printed
+without `--json`; of a refusal it makes the line that the table of cases has, and compares it with the printed report.
+Where memory is refused, the whole answer is printed or the run fails. The last line counts the runs; the exit status is
+1 if any failed.
 """
 
 import itertools
 import json
 import pathlib
-import subprocess
+import re
 import sys
-
-import jsonschema
+import tempfile
+import threading
 
 ROOT = pathlib.Path(__file__).resolve().parent.parent
 sys.dont_write_bytecode = True
 sys.path.insert(0, str(ROOT / "tests" / "hostile"))
 
+import batch
+import printed
+import runs
+import scripts
 import table
+import texts
 
-GREATEST = 2**63 - 1
-
-# The numbers of refusals, by kind; of `BadInput` by the kind of its error.
-NUMBERS = {
-    "UnexpectedEOF": 1, "UnexpectedInput": 2, "Lexer": 3, "MalformedNumber": 4, "ImproperSymbol": 5,
-    "UnknownOperator": 6, "MissingToken": 7, "ExprExpected": 8, "MismatchedType": 9, "MalformedIndexExpr": 10,
-    "MalformedCapture": 11, "PropertyExpected": 12, "VariableExpected": 13, "Reserved": 14, "DuplicatedProperty": 15,
-    "DuplicatedVariable": 16, "VariableExists": 17, "VariableUndefined": 18, "ModuleUndefined": 19,
-    "WrongSwitchDefaultCase": 20, "WrongSwitchCaseCondition": 21, "WrongSwitchIntegerCase": 22,
-    "WrongFnDefinition": 23, "FnMissingName": 24, "FnMissingParams": 25, "FnMissingBody": 26, "FnDuplicatedParam": 27,
-    "FnDuplicatedDefinition": 28, "WrongExport": 29, "AssignmentToConstant": 30, "AssignmentToInvalidLHS": 31,
-    "LoopBreak": 32, "LiteralTooLarge": 33, "ExprTooDeep": 34, "TooManyFunctions": 35, "OutOfMemory": 36,
-    "WrongDocComment": 37,
-}
+RANDOM_TEXTS = 1000
 
 # The words for the options of the command line, by the bit that they clear.
 OPTIONS = {1: "--no-if-expr", 2: "--no-switch-expr", 4: "--no-loop-expr", 8: "--no-stmt-expr", 16: "--no-closures",
            32: "--no-looping", 128: "--no-shadowing"}
 LIMITS = {"expr_depth": "--max-depth", "fn_depth": "--max-fn-depth", "functions": "--max-functions",
           "array": "--max-array", "map": "--max-map"}
-
-
-def escaped(text):
-    """Answers a text as it is written in lists."""
-    return text.replace("\\", "\\\\").replace(" ", "\\s").replace("\n", "\\n") or "\\e"
-
-
-def plain(text):
-    """Answers the text that is written so in a list."""
-    out, at = "", 0
-    while at < len(text):
-        if text[at] == "\\":
-            out += {"s": " ", "n": "\n", "\\": "\\", "e": ""}[text[at + 1]]
-            at += 1
-        else:
-            out += text[at]
-        at += 1
-    return out
-
-
-def at(pos):
-    """Answers a position as it is printed."""
-    return "none" if pos is None else f"{pos['line']}:{pos['column']}"
-
-
-def maybe(value):
-    """Answers a field that may be absent."""
-    return "-" if value is None else str(value)
-
-
-def marks(*named):
-    """Answers the names that are set."""
-    return " ".join(name for name, is_set in named if is_set) or "-"
-
-
-def literal(node):
-    """Answers a value of a `switch` as it is printed."""
-    kind, value = node["kind"], node.get("value")
-    if kind == "Unit":
-        return "unit"
-    if kind == "BoolConstant":
-        return f"bool {str(value).lower()}"
-    if kind == "IntegerConstant":
-        return f"int {value}"
-    if kind == "CharConstant":
-        return f"char {ord(value)}"
-    if kind == "StringConstant":
-        return f"str {escaped(value)}"
-    if kind == "FnPointer":
-        return f"fn {node['name']} {node['params']}"
-    if kind == "Array":
-        return " ".join([f"array {len(node['items'])}"] + [literal(item) for item in node["items"]])
-    if kind == "Map":
-        items = [f"{escaped(item['name'])} {literal(item['value'])}" for item in node["properties"]]
-        return " ".join([f"map {len(items)}"] + items)
-    ends = [arg["value"] if arg["kind"] == "IntegerConstant" else GREATEST for arg in node["args"]]
-    return f"{node['name']} {ends[0]} {ends[1]}"
-
-
-class Printed:
-    """The printed tree of a tree in JSON. What is left to print is kept in a list, as trees nest deeply."""
-
-    def __init__(self):
-        self.lines = []
-        self.left = []
-
-    def line(self, depth, text):
-        self.lines.append("  " * depth + text)
-
-    def later(self, *parts):
-        """Prints these parts next, in this order."""
-        self.left.extend(reversed(parts))
-
-    def run(self):
-        while self.left:
-            how, depth, part = self.left.pop()
-            how(depth, part)
-
-    def block(self, depth, block):
-        self.line(depth, f"Block {at(block['start'])} {at(block['end'])}")
-        self.later(*((self.statement, depth + 1, part) for part in block["statements"]))
-
-    def node(self, depth, node):
-        kind, pos = node["kind"], at(node["position"])
-        self.line(depth, getattr(self, "line_" + kind)(node, pos))
-        below = [part for key in ("parts", "items", "args", "operands") for part in node.get(key, ())]
-        below += [part["value"] for part in node.get("properties", ())]
-        below += [node[key] for key in ("lhs", "rhs") if key in node]
-        self.later(*((self.node, depth + 1, part) for part in below))
-        if kind == "Stmt":
-            self.later((self.block, depth + 1, node["block"]))
-
-    def line_Unit(self, node, pos):
-        return f"Unit {pos}"
-
-    def line_ThisPtr(self, node, pos):
-        return f"This {pos}"
-
-    def line_BoolConstant(self, node, pos):
-        return f"Bool {pos} {str(node['value']).lower()}"
-
-    def line_IntegerConstant(self, node, pos):
-        return f"Int {pos} {node['value']}"
-
-    def line_CharConstant(self, node, pos):
-        return f"Char {pos} {ord(node['value'])}"
-
-    def line_StringConstant(self, node, pos):
-        return f"Str {pos} {escaped(node['value'])}"
-
-    def line_InterpolatedString(self, node, pos):
-        return f"Interpolated {pos}"
-
-    def line_Array(self, node, pos):
-        return f"Array {pos}"
-
-    def line_Map(self, node, pos):
-        keys = [f" {escaped(item['name'])} {at(item['position'])}" for item in node["properties"]]
-        return f"Map {pos}" + "".join(keys)
-
-    def line_Variable(self, node, pos):
-        path = "".join(f" {escaped(step['name'])} {at(step['position'])}" for step in node["namespace"]["path"])
-        return f"Variable {pos} {maybe(node['index'])} {node['name']}{path} {maybe(node['namespace']['index'])}"
-
-    def line_FnCall(self, node, pos):
-        mark = "!" if node["capture_parent_scope"] else "-"
-        counts = f"{maybe(node['script_args'])} {node['native_args']}"
-        return f"{node['kind']} {pos} {escaped(node['name'])} {counts} {mark}"
-
-    line_MethodCall = line_FnCall
-
-    def line_Dot(self, node, pos):
-        return f"{node['kind']} {pos} " + marks(("NEGATED", node["negated"]), ("BREAK", node["terminating"]))
-
-    line_Index = line_Dot
-
-    def line_And(self, node, pos):
-        return f"{node['kind']} {pos}"
-
-    line_Or = line_Coalesce = line_And
-
-    def line_Property(self, node, pos):
-        return f"Property {pos} {node['name']}"
-
-    def line_FnPointer(self, node, pos):
-        return f"Pointer {pos} {node['name']} {node['params']}"
-
-    def line_Stmt(self, node, pos):
-        return f"Stmt {pos}"
-
-    def statement(self, depth, node):
-        kind, pos = node["kind"], at(node["position"])
-        if kind == "Block":
-            self.later((self.block, depth, node["block"]))
-        elif kind != "Noop":
-            self.line(depth, f"{kind} {pos}" if kind != "Expr" else "Expr")
-            more = getattr(self, "fields_" + kind, lambda node: "")(node)
-            self.lines[-1] += more
-            self.later(*getattr(self, "below_" + kind, self.below)(depth + 1, node))
-
-    def below(self, depth, node):
-        """Answers the parts of a statement, in the order in which they are printed."""
-        nodes = [key for key in ("expr", "lhs", "rhs", "value", "path") if node.get(key) is not None]
-        blocks = [key for key in ("body", "branch") if key in node]
-        return [(self.node, depth, node[key]) for key in nodes] + [(self.block, depth, node[key]) for key in blocks]
-
-    def below_TryCatch(self, depth, node):
-        body, branch = ((self.block, depth, node[key]) for key in ("body", "branch"))
-        return [body, (self.node, depth, node["expr"]), branch]
-
-    def below_Switch(self, depth, node):
-        arms = [(self.node, depth, arm[key]) for arm in node["expressions"] for key in ("lhs", "rhs")]
-        return [(self.node, depth, node["item"]), *arms, (self.ways, depth, node)]
-
-    def ways(self, depth, node):
-        for case in node["cases"]:
-            self.line(depth, " ".join(["Case", literal(case["value"])] + [str(index) for index in case["indices"]]))
-        for item in node["ranges"]:
-            operator = "..=" if item["is_inclusive"] else ".."
-            self.line(depth, f"Range {operator} {item['first']} {item['last']} {item['index']}")
-
-    def fields_Switch(self, node):
-        return " " + maybe(node["def_case"])
-
-    def fields_Do(self, node):
-        return " " + marks(("NEGATED", node["negated"]))
-
-    def fields_For(self, node):
-        return f" {node['name']} {maybe(node['counter'])}"
-
-    def fields_Var(self, node):
-        first, second = marks(("CONSTANT", node["constant"])), marks(("EXPORTED", node["exported"]))
-        return f" {node['name']} {maybe(node['index'])} {first} {second}"
-
-    def fields_Assignment(self, node):
-        return " " + maybe(node["op"])
-
-    def fields_BreakLoop(self, node):
-        return " " + marks(("BREAK", node["breaks"]))
-
-    def fields_Return(self, node):
-        return " " + marks(("BREAK", node["throws"]))
-
-    def fields_Import(self, node):
-        return " " + escaped(node["name"])
-
-    def fields_Export(self, node):
-        return f" {node['name']} {escaped(node['alias'])}"
-
-    def fields_Share(self, node):
-        each = (f" {escaped(item['name'])} {at(item['position'])} {maybe(item['index'])}" for item in node["variables"])
-        return "".join(each)
-
-    def function(self, function):
-        this_type = function["this_type"]
-        head = "private fn" if function["private"] else "fn"
-        words = [head, "-" if this_type is None else escaped(this_type), function["name"], *function["params"]]
-        self.line(0, " ".join(words))
-        for comment in function["comments"]:
-            self.line(1, f"Doc {escaped(comment)}")
-        self.later((self.block, 1, function["body"]))
-        self.run()
-
-
-def printed_tree(tree):
-    """Answers the printed tree of a tree in JSON."""
-    printed = Printed()
-    printed.line(0, "accepted")
-    printed.later(*((printed.statement, 0, part) for part in tree["statements"]))
-    printed.run()
-    printed.line(0, f"functions {len(tree['functions'])}")
-    for function in tree["functions"]:
-        printed.function(function)
-    return printed.lines
-
-
-def error_words(error):
-    """Answers an error of the tokenizer as it is written in a list."""
-    kind, payload = error["kind"], error["payload"]
-    words = {"UnterminatedString": "unterminated", "OutOfMemory": "memory", "StringTooLong": "toolong",
-             "MalformedNumber": "number", "ImproperSymbol": "improper", "UnexpectedInput": "unexpected"}
-    named = [payload[key] for key in ("limit", "text", "symbol") if key in payload]
-    return [words[kind]] + [str(value) if isinstance(value, int) else escaped(value) for value in named]
-
-
-def printed_refusal(refusal):
-    """Answers the printed line of a refusal in JSON."""
-    kind, payload = refusal["kind"], refusal["payload"]
-    place = "none" if refusal["line"] is None else f"{refusal['line']}:{refusal['column']}"
-    if kind == "BadInput":
-        inner = payload["error"]
-        words = error_words(inner["payload"]["error"] if inner["kind"] == "Lexer" else inner)
-        return " ".join([f"refused E{NUMBERS[inner['kind']]} {place} BadInput", *words])
-    hidden = {"MissingToken": ["token"], "MalformedCapture": []}
-    keys = hidden.get(kind, list(payload))
-    words = [str(payload[key]) if isinstance(payload[key], int) else escaped(payload[key]) for key in keys]
-    return " ".join([f"refused E{NUMBERS[kind]} {place} {kind}", *words])
-
-
-def printed_token(token):
-    """Answers the line of a token in JSON, as it is in a list."""
-    kind, payload, place = token["kind"], token["payload"], at(token["position"])
-    texts = {"StringConstant": "str", "InterpolatedString": "istr", "Identifier": "id", "Reserved": "res",
-             "Comment": "doc"}
-    if kind == "EOF":
-        return f"{place} eof"
-    if kind == "IntegerConstant":
-        return f"{place} int {payload}"
-    if kind == "CharConstant":
-        return f"{place} char {ord(payload)}"
-    if kind == "LexError":
-        return " ".join([f"{place} err", *error_words(payload)])
-    if kind in texts:
-        text = "t" if token["text"] and kind in ("StringConstant", "InterpolatedString") else ""
-        return f"{place} {text}{texts[kind]} {escaped(payload)}"
-    sign = {"UnaryMinus": "u-", "UnaryPlus": "u+"}.get(kind, payload)
-    return f"{place} sym {sign}"
-
-
-def printed_names(names):
-    """Answers the line of a function's names in JSON."""
-    this_type = "" if names["this_type"] is None else names["this_type"] + "."
-    free = ", ".join(names["free"]) or "-"
-    calls = ", ".join(f"{call['name']}/{call['args']}" for call in names["calls"]) or "-"
-    return f"{this_type}{names['name']}/{names['params']}: free {free}; calls {calls}"
-
-
-def piece(kind, payload):
-    """Answers how a token may be written in a script; None if no text spells it."""
-    if kind in ("id", "res", "doc", "int", "sym"):
-        return {"u-": "-", "u+": "+"}.get(payload, plain(payload))
-    if kind == "str":
-        return json.dumps(plain(payload), ensure_ascii=False).replace("\\b", "\\x08").replace("\\f", "\\x0c")
-    if kind == "char":
-        return "'" + {"'": "\\'", "\\": "\\\\", "\n": "\\n"}.get(chr(int(payload)), chr(int(payload))) + "'"
-    if kind == "err" and payload.split(" ")[0] in ("number", "improper", "unexpected"):
-        return plain(payload.split(" ", 1)[1])
-    return None
-
-
-def text_of(entries):
-    """Answers a text that has these tokens at their places; None if none was found."""
-    lines = [""]
-    for entry in entries:
-        place, kind, payload = (entry.split(" ", 2) + [""])[:3]
-        if place == "none" or not place.replace(":", "").isdigit():
-            return None
-        line, column = (int(word) for word in place.split(":"))
-        if line < len(lines) or line > len(lines) + 1000:
-            return None
-        lines += [""] * (line - len(lines))
-        if column - 1 < len(lines[-1]) or column > 2000:
-            return None
-        lines[-1] += " " * (column - 1 - len(lines[-1]))
-        if kind == "eof":
-            return "\n".join(lines)
-        written = piece(kind, payload)
-        if written is None:
-            return None
-        lines[-1] += written
-    return None
 
 
 def words_of(entry, limits):
@@ -380,102 +53,232 @@ def words_of(entry, limits):
     return out
 
 
-class Runs:
-    """The runs of a program, and how many failed."""
+class Answers:
+    """Answers of the program, each of which counts as a run."""
 
-    def __init__(self, program, schema):
+    def __init__(self, counted, program, fault):
+        self.counted = counted
         self.program = program
-        self.schema = schema
-        self.passed = 0
-        self.failed = 0
-        self.left_out = 0
+        self.fault = fault
 
-    def answer(self, words, text):
-        """Answers what the program prints for a text."""
-        run = subprocess.run([self.program, *words, "-"], input=text.encode(), capture_output=True, timeout=120)
-        return run.stdout.decode("utf-8")
+    def all(self, words, data):
+        """Answers what the program answers to each of these texts."""
+        return self.program.answers((*words, "-"), data)
 
-    def check(self, title, good, told=""):
-        """Counts a run, and prints it if it failed."""
-        self.passed += bool(good)
-        self.failed += not good
-        if not good:
-            print(f"failed: {title}: {told}")
-
-    def read(self, title, shape, text):
-        """Answers the JSON of an answer, which has to fit the schema's definition of this name."""
+    def read(self, title, shape, answer):
+        """Answers the JSON that was printed, one line that fits the schema's definition of this name; else None."""
         try:
-            value = json.loads(text)
+            line = answer.printed.decode("utf-8")
+            value = json.loads(line)
         except ValueError as error:
-            self.check(title, False, f"{error}: {text[:200]}")
+            self.counted.check(f"{title}, {shape}", False, f"{error}: {answer.printed[:200]}")
             return None
-        fault = self.schema(shape, value)
-        self.check(title + ", " + shape, fault is None, fault)
+        fault = self.fault(shape, value) if line.count("\n") == 1 and line.endswith("\n") else "no line"
+        self.counted.check(f"{title}, {shape}", fault is None, fault)
         return value
+
+    def same(self, title, lines, answer):
+        """Counts whether these lines, made of JSON, are what was printed as text."""
+        wanted = answer.printed.decode("utf-8").split("\n")[:-1]
+        differ = next((pair for pair in itertools.zip_longest(lines, wanted) if pair[0] != pair[1]), None)
+        self.counted.check(title, differ is None, differ)
 
 
 def fault_finder():
     """Answers a function that tells why a value does not fit a definition of the schema; None if it does."""
+    try:
+        import jsonschema
+    except ImportError:
+        print("Python has no jsonschema here: no answer is held against the schema")
+        return lambda shape, value: None
     schema = json.loads((ROOT / "docs/tree.schema.json").read_text(encoding="utf-8"))
     jsonschema.Draft202012Validator.check_schema(schema)
+    wholes = {shape: {"$defs": schema["$defs"], "$ref": f"#/$defs/{shape}"} for shape in schema["$defs"]}
+    validators = {shape: jsonschema.Draft202012Validator(whole) for shape, whole in wholes.items()}
 
     def fault(shape, value):
-        whole = {**schema, "$ref": f"#/$defs/{shape}"}
-        validator = jsonschema.Draft202012Validator(whole)
-        error = jsonschema.exceptions.best_match(validator.iter_errors(value))
+        error = next(validators[shape].iter_errors(value), None)
         return None if error is None else f"{list(error.absolute_path)}: {error.message[:300]}"
 
     return fault
 
 
-def check_list(runs, of_list):
-    """Makes the runs over a list, if a text spells it."""
-    title, entries = of_list[0].case, of_list[0].lines
-    text = text_of(entries)
-    doc = ["--doc"] if any(entry.split(" ")[1] == "doc" for entry in entries) else []
-    if text is None or runs.answer(["tokens", *doc], text).split("\n")[:-1] != entries:
-        runs.left_out += 1
-        return
-    tokens = runs.read(title, "tokens", runs.answer(["tokens", "--json", *doc], text))
-    runs.check(title + ", list", [printed_token(token) for token in tokens or ()] == entries, tokens)
-    for run in of_list:
-        words = words_of(run.words[0], run.words[1:])
-        check_run(runs, run.name, words + doc, text, run.answer.decode().split("\n")[:-1])
+def check_tokens(answers, titles, data):
+    """Compares the JSON of tokens with their list."""
+    lists, found = (answers.all(("tokens", "--doc", word), data) for word in ("--spans", "--json"))
+    for title, text, in_json in zip(titles, lists, found):
+        lines = [printed.printed_token(token) for token in answers.read(title, "tokens", in_json) or ()]
+        answers.same(f"{title}, list of tokens", lines, text)
 
 
-def check_run(runs, title, words, text, wanted):
-    """Runs a script, and compares the answer with the case's."""
-    if wanted[0].startswith("refused"):
-        value = runs.read(title, "diagnostic", runs.answer(["check", "--json", *words], text))
-        runs.check(title, value and [printed_refusal(value)] == wanted, value)
-    else:
-        value = runs.read(title, "tree", runs.answer(["tree", "--json", *words], text))
-        got = value and printed_tree(value)
-        runs.check(title, got == wanted, got)
+def check_accepted(answers, title, shape, make, text, in_json):
+    """Compares the JSON of an accepted script with what is printed of it."""
+    value = answers.read(title, shape, in_json)
+    answers.same(f"{title}, text of {shape}", [] if value is None else make(value), text)
 
 
-def check_examples(runs):
-    """Runs each example: its tree and names in JSON say what the printed ones do."""
-    for script in sorted((ROOT / "examples").glob("*.rhai")):
-        text = script.read_text(encoding="utf-8")
-        printed = runs.answer(["tree"], text).split("\n")[:-1]
-        if printed[:1] == ["accepted"]:
-            check_run(runs, script.name, [], text, printed)
-            names = runs.read(script.name, "names", runs.answer(["names", "--json"], text))
-            lines = runs.answer(["names"], text).split("\n")[:-1]
-            runs.check(script.name + ", names", [printed_names(item) for item in names or ()] == lines, names)
+def names_lines(names):
+    """Answers the lines of names in JSON."""
+    return [printed.printed_names(function) for function in names]
 
 
-def main():
-    program = sys.argv[1] if len(sys.argv) > 1 else str(ROOT / "crates/rhai_ast/out/rhai_ast")
-    runs = Runs(program, fault_finder())
-    check_examples(runs)
-    readable = [run for run in table.all_runs() if run.status != 2]
-    for _, of_list in itertools.groupby(readable, lambda run: (run.case, run.list)):
-        check_list(runs, list(of_list))
-    print(f"{runs.passed} passed, {runs.failed} failed, {runs.left_out} lists that no text was found for")
-    return runs.failed > 0
+def check_scripts(answers, words, titles, data):
+    """Compares the JSON of scripts, all read with these words, with what is printed of them. Answers the tree's lines,
+    or the line of the refusal, of each."""
+    trees, names = (answers.all((command, *words), data) for command in ("tree", "names"))
+    asked = [answers.all((command, "--json", *words), data) for command in ("tree", "names", "check")]
+    for title, tree, name, *in_json in zip(titles, trees, names, *asked):
+        statuses = [tree.status, name.status, *(it.status for it in in_json)]
+        good = len(set(statuses)) == 1 and (statuses[0] == 0) == (in_json[2].printed == b"")
+        answers.counted.check(f"{title}, statuses", good, statuses)
+        if statuses[0] == 0:
+            check_accepted(answers, title, "tree", printed.printed_tree, tree, in_json[0])
+            check_accepted(answers, title, "names", names_lines, name, in_json[1])
+            yield tree.printed.decode("utf-8")
+        else:
+            answers.counted.check(f"{title}, nothing printed", not (in_json[0].printed or in_json[1].printed))
+            value = answers.read(title, "diagnostic", in_json[2])
+            yield value and printed.printed_refusal(value) + "\n"
+
+
+def check_table(answers):
+    """Runs the texts of the table, whose answers are known."""
+    lists = texts.lists_of(table.all_runs())
+    found = texts.with_text(answers.program, lists)
+    check_tokens(answers, [lists[it][0].case for it, _ in found], [text for _, text in found])
+    asked = [((*words_of(run.words[0], run.words[1:]), "--doc"), run, text) for it, text in found for run in lists[it]]
+    for words, group in itertools.groupby(sorted(asked, key=lambda it: it[0]), key=lambda it: it[0]):
+        _, of_group, data = zip(*group)
+        got = check_scripts(answers, words, [run.name for run in of_group], data)
+        for run, lines in zip(of_group, got):
+            answers.counted.check(f"{run.name}, answer of the table", lines == run.answer.decode("utf-8"), lines)
+    return len(found)
+
+
+def shown(text):
+    """Answers a text as reports show it."""
+    pictures = {code: 0x2400 + code for code in range(32) if code != 9} | {127: 0x2421}
+    hidden = [*range(0x80, 0xA0), 0x200E, 0x200F, *range(0x2028, 0x202F), *range(0x2066, 0x206A)]
+    return text.translate(pictures | dict.fromkeys(hidden, 0xFFFD))
+
+
+def parts_of(report):
+    """Answers what a printed report tells: each message with its place, and the number of carets."""
+    parts = [[report.split("\n")[0].removeprefix("error: "), None, None]]
+    for line in report.split("\n")[1:]:
+        if note := re.match(r"(?: *= )?note: (.*)", line):
+            parts.append([note[1], None, None])
+        elif place := re.match(r" *--> (.*)", line):
+            parts[-1][1] = place[1]
+        elif under := re.match(r" +\| [ \t]*(\^[\^\t]*)$", line):
+            parts[-1][2] = len(under[1])
+    return parts
+
+
+def carets(text, span):
+    """Answers how many carets underline these bytes; None if that is not plain."""
+    line = text[span["start"] : span["stop"]].split(b"\n")[0].removesuffix(b"\r")
+    return max(len(line), 1) if line.isascii() and line.decode().isprintable() and len(line) <= 60 else None
+
+
+def same_part(part, place, value, text):
+    """Answers whether a part of a report is what the JSON says: the message, the place, and what is underlined."""
+    message, stands, under = part
+    if message != shown(value["message"]) or (stands is None) != (value["line"] is None):
+        return False
+    if stands is None:
+        return value["column"] is None and value["span"] is None
+    width = carets(text, value["span"])
+    return stands == f"{place}:{value['line']}:{value['column']}" and width in (None, under)
+
+
+def check_reports(answers, folder, words, files):
+    """Runs files, each refused, once for reports and once for JSON: both tell the same."""
+    status, _, told = answers.counted.run("check", *words, *files, folder=folder)
+    also, objects, more = answers.counted.run("check", "--json", *words, *files, folder=folder)
+    reports = re.split(r"\n\n(?=error: )", told)
+    lines = objects.split("\n")[:-1]
+    good = (status, also, more) == (1, 1, "") and len(reports) == len(lines)
+    answers.counted.check(f"reports on {len(files)} files", good, f"{status}, {also}, {more}, {len(reports)}")
+    for report, line in zip(reports, lines):
+        value = json.loads(line)
+        text = (folder / value["file"]).read_bytes()
+        parts = parts_of(report.rstrip("\n"))
+        wanted = [value, *sorted(value["notes"], key=lambda note: note["line"] is not None)]
+        same = [same_part(part, value["file"], it, text) for part, it in zip(parts, wanted)]
+        good = len(parts) == len(wanted) and all(same)
+        answers.counted.check(f"report on {value['file']}", good, f"{report}\n{line}")
+
+
+def check_refusals(answers, folder):
+    """Runs the cases that are refused, and random texts, for reports and for JSON."""
+    cases = sorted(scripts.CASES.glob("*.rhai"))
+    for words, group in itertools.groupby(sorted(cases, key=scripts.options_of), key=scripts.options_of):
+        check_reports(answers, scripts.CASES, words, [case.name for case in group])
+    data = [text.encode("utf-8") for text in scripts.random_texts(RANDOM_TEXTS)]
+    names = [f"{number}.rhai" for number in range(len(data))]
+    for name, text in zip(names, data):
+        (folder / name).write_bytes(text)
+    check_tokens(answers, names, data)
+    got = list(check_scripts(answers, (), names, data))
+    refused = [name for name, lines in zip(names, got) if lines is None or lines.startswith("refused")]
+    check_reports(answers, folder, [], refused)
+
+
+def check_document(answers, folder):
+    """Runs the examples of docs/JSON.md that are whole; there they stand in several lines."""
+    document = (ROOT / "docs/JSON.md").read_text(encoding="utf-8")
+    blocks = ["".join(it.split("\n")) for it in re.findall(r"```json\n(.*?)```", document, re.DOTALL) if ".." not in it]
+    scripts_of = {"tree": "a + 1", "check": "print((1 + 2;", "tokens": "a", "names": "fn f(x) { g(x) + y }"}
+    answers.counted.check("examples of JSON.md", len(blocks) == len(scripts_of), blocks)
+    for block, (command, text) in zip(blocks, scripts_of.items()):
+        (folder / "sum.rhai").write_text(text)
+        _, told, _ = answers.counted.run(command, "--json", "sum.rhai", folder=folder)
+        answers.counted.check(f"example of {command} in JSON.md", block in told, told)
+
+
+def has_failed(answer):
+    """Answers whether a run told that memory ran out: on the error output, or as the refusal of a script."""
+    return answer.status == 2 and (not answer.printed or json.loads(answer.printed)["kind"] == "OutOfMemory")
+
+
+def check_memory(answers):
+    """Refuses each request for memory in turn: the whole answer is printed, or the run fails."""
+    good = b"fn f(x) { #{a: [x, 'c', `t${y}`]} } switch 1 { 1..3 if a => f(2), _ => m::b.c }"
+    for command, text in (("tokens", good), ("tree", good), ("names", good), ("check", b"f(1, {")):
+        found = answers.program.answers((command, "--json", "-"), [text], refuse=True)
+        whole = (found[-1].status, found[-1].printed)
+        fits = all((answer.status, answer.printed) == whole or has_failed(answer) for answer in found)
+        failed = sum(answer.status == 2 for answer in found)
+        answers.counted.check(f"refused memory of {command}", fits and failed > len(found) // 2, (failed, len(found)))
+
+
+def make(counted):
+    """Makes all runs."""
+    with tempfile.TemporaryDirectory() as folder:
+        program = batch.Program(batch.compile_forks(folder), counted.program)
+        answers = Answers(counted, program, fault_finder())
+        files = scripts.examples()
+        data = [file.read_bytes() for file in files]
+        names = [file.name for file in files]
+        check_tokens(answers, names, data)
+        list(check_scripts(answers, ("--doc",), names, data))
+        print(f"{check_table(answers)} lists of the table have a text")
+        check_refusals(answers, pathlib.Path(folder))
+        check_document(answers, pathlib.Path(folder))
+        check_memory(answers)
+
+
+def run():
+    """Makes all runs, deep in a tree too."""
+    sys.setrecursionlimit(1_000_000)
+    status = []
+    threading.stack_size(1 << 29)
+    thread = threading.Thread(target=lambda: status.append(runs.main(make)))
+    thread.start()
+    thread.join()
+    return status[0] if status else 1
 
 
 if __name__ == "__main__":
-    sys.exit(main())
+    sys.exit(run())

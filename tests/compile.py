@@ -4,8 +4,8 @@
 usage: tests/compile.py [TOKENS TESTS]
 
 TOKENS is the program rhai-ast, and TESTS has the tests of the crate rhai_tests. Without them both are those that
-`rt ci` at the top of the repository built last. A list of the table has a text if `rhai-ast tokens` gives just the list for it,
-with all places (hostile/texts.py); then each run of the list has to give the answer of the table for the text too, by
+`rt ci` at the top of the repository built last. A list of the table has a text if `rhai-ast tokens` gives just the list
+for it, with all places (hostile/texts.py); then each run of the list has to give the answer of the table for the text too, by
 `compile`, `compile_expression` and `compile_global_level` (a test of rhai_tests, texts.rt). The same is done with
 examples/*.rhai.
 The last line counts the runs; the exit status is 1 if any failed.
@@ -28,31 +28,6 @@ import texts
 TEST = "texts::the_tree_of_a_text"
 FEWEST_TEXTS = 2700  # lists of the table that have a text
 EXAMPLES = ("modules", "shop", "weather")  # those with an answer
-
-
-def lists_of(runs):
-    """The runs of each list that may have a text, by the list."""
-    found = {}
-    for run in runs:
-        found.setdefault(run.list, []).append(run)
-    return {it: same for it, same in found.items() if not any(run.first.startswith("unreadable") for run in same)}
-
-
-def candidates(lists):
-    """A list, and what may be its text."""
-    for it in lists:
-        try:
-            yield it, texts.text_of(it.decode().removesuffix("\n").split("\n"), True).encode()
-        except (texts.NoText, UnicodeError):
-            pass
-
-
-def with_text(tokens, lists):
-    """The lists that have a text, each with it."""
-    found = list(candidates(lists))
-    answers = tokens.answers(("tokens", "--doc", "-"), [text for _, text in found])
-    pairs = zip(found, answers)
-    return [(it, text) for (it, text), answer in pairs if answer.printed.rstrip(b"\n") == it.rstrip(b"\n")]
 
 
 def examples():
@@ -84,8 +59,8 @@ def main():
         sys.exit(__doc__)
     with tempfile.TemporaryDirectory() as folder:
         tokens, tests = programs(sys.argv[1:], batch.compile_forks(folder))
-        lists = lists_of(table.all_runs())
-        found = with_text(tokens, lists)
+        lists = texts.lists_of(table.all_runs())
+        found = texts.with_text(tokens, lists)
         runs = [(run, text) for it, text in found for run in lists[it]] + list(examples())
         complaints = check(tests, runs)
     for it in complaints:

@@ -12,7 +12,6 @@ last line counts the runs; the exit status is 1 if any failed.
 
 import os
 import pathlib
-import random
 import re
 import subprocess
 import sys
@@ -23,8 +22,8 @@ sys.dont_write_bytecode = True
 sys.path.insert(0, str(ROOT / "tests" / "hostile"))
 
 import batch
-
-CASES = ROOT / "tests/diagnostics"
+from runs import main
+from scripts import CASES, options_of, random_texts
 
 # A report: its message, its place, its line, what is underlined, and its notes.
 REPORT = re.compile(
@@ -36,46 +35,6 @@ REPORT = re.compile(
     r"(?: +=\ note: [^\n]*\n)*"
     r"(?:note: [^\n]*\n *--> [^\n]*:\d+:\d+\n +\|\n\d+ *\| [^\n]*\n +\| [ \t]*\^+\n)*"
 )
-
-# What random texts are made of, beside the texts of the cases.
-PIECES = "{ } ( ) [ ] #{ ; , . :: : => = == + - * || | & ! .. ..= ?? ?. ?[ let const fn if else switch for while loop "
-PIECES += "do until in return throw try catch import export as private break continue a b f this eval 1 0xf 'c' \"s\" "
-PIECES += "`t` `${ }` \" ' /* */ // === ~ \\ é 日 \t \n \r\n"
-
-
-class Runs:
-    """The runs of a program, and how many failed."""
-
-    def __init__(self, program):
-        self.program = str(pathlib.Path(program).resolve())
-        self.passed = 0
-        self.failed = 0
-
-    def run(self, *words, text=b"", folder=CASES, **more):
-        """Answers the status, and what is written to both outputs."""
-        data = text if isinstance(text, bytes) else text.encode("utf-8")
-        command = [self.program, *map(str, words)]
-        run = subprocess.run(command, input=data, capture_output=True, cwd=folder, timeout=300, **more)
-        return run.returncode, run.stdout.decode("utf-8"), run.stderr.decode("utf-8")
-
-    def check(self, title, good, told=""):
-        """Counts a run, and prints it if it failed."""
-        self.passed += bool(good)
-        self.failed += not good
-        if not good:
-            print(f"failed: {title}: {told}")
-
-    def expect(self, title, got, wanted):
-        """Counts a run by its status and outputs."""
-        told = [*map(str, got), "-- wanted:", *map(str, wanted)]
-        self.check(title, got == wanted, "\n" + "\n".join(told))
-
-
-def options_of(case):
-    """Answers the options of a case."""
-    file = case.with_suffix(".args")
-    return file.read_text(encoding="utf-8").split() if file.is_file() else []
-
 
 def check_cases(runs):
     """Compares what is told of each case with what is beside it. No tree and no names are printed."""
@@ -209,23 +168,6 @@ def check_refused(runs, folder):
         runs.check(f"refused memory of {name}", good and failed > len(found) // 2, f"{failed} of {len(found)}")
 
 
-def random_texts(count):
-    """Answers random texts: of pieces, and of cases with some characters changed."""
-    chance = random.Random(1)
-    scripts = [file.read_bytes().decode("utf-8") for file in sorted(CASES.glob("*.rhai"))]
-    scripts += [file.read_text(encoding="utf-8") for file in sorted((ROOT / "examples").glob("*.rhai"))]
-    pieces = PIECES.split(" ")
-    for _ in range(count):
-        if chance.random() < 0.5:
-            yield " ".join(chance.choice(pieces) for _ in range(chance.randrange(1, 40)))
-            continue
-        text = list(chance.choice(scripts))
-        for _ in range(chance.randrange(1, 4)):
-            at = chance.randrange(len(text) + 1)
-            text[at : at + chance.randrange(3)] = chance.choice(pieces)
-        yield "".join(text)
-
-
 def shows(report, text):
     """Answers whether a report shows the line and the column that it names. Widths are known for ASCII alone."""
     lines = text.split("\n")
@@ -253,13 +195,8 @@ def check_random(runs, folder, count=1000):
         runs.check("a report", report and shows(report, texts[report["file"]]), "\n" + told)
 
 
-def main():
+def make(runs):
     """Makes all runs."""
-    program = sys.argv[1] if len(sys.argv) > 1 else str(ROOT / "crates/rhai_ast/out/rhai_ast")
-    if not pathlib.Path(program).is_file():
-        print("no program is built: run `rt run` in crates/rhai_ast, or name one")
-        return 1
-    runs = Runs(program)
     check_cases(runs)
     check_accepted(runs)
     check_words(runs)
@@ -270,9 +207,7 @@ def main():
         check_files(runs, pathlib.Path(folder))
         check_random(runs, pathlib.Path(folder))
         check_refused(runs, folder)
-    print(f"{runs.passed} passed, {runs.failed} failed")
-    return 1 if runs.failed else 0
 
 
 if __name__ == "__main__":
-    sys.exit(main())
+    sys.exit(main(make))

@@ -90,10 +90,15 @@ def write_table(rows):
 # ---- Trying.
 
 
+def listed_in(line):
+    """Answers the crate that a line of crates.txt is about, or nothing."""
+    return (line.split("#")[0].split(":")[0].split() or [""])[0]
+
+
 def below(crate):
     """Answers a crate and all that it stands on."""
     lines = (ROOT / "crates.txt").read_text(encoding="utf-8").splitlines()
-    needs = {line.split(":")[0]: line.split(":")[1].split() for line in lines if ":" in line and line[0] != "#"}
+    needs = {listed_in(line): line.split(":")[1].split() for line in lines if listed_in(line)}
     found, left = [], [crate]
     while left:
         name = left.pop()
@@ -107,7 +112,7 @@ def copy_for(crate, folder):
     """Makes a checkout of a crate and of what it stands on, with what was proved of them."""
     kept = below(crate)
     lines = (ROOT / "crates.txt").read_text(encoding="utf-8").splitlines(keepends=True)
-    (folder / "crates.txt").write_text("".join(line for line in lines if line.split(":")[0] in kept), encoding="utf-8")
+    (folder / "crates.txt").write_text("".join(line for line in lines if listed_in(line) in kept), encoding="utf-8")
     shutil.copy(ROOT / "HANDLES", folder)
     (folder / "crates").mkdir()
     run("git", "init", "-q", folder=folder)

@@ -1,14 +1,14 @@
 #!/usr/bin/env python3
-"""Writes the map of files in docs/ARCHITECTURE.md, from the first sentence of each file's head comment.
+"""Writes docs/MAP.md, the map of files, from the first sentence of each file's head comment.
 
 usage: tests/map.py [--check]
 
-The map stands between two marker comments: for each crate of crates.txt a heading, what the crate is for (from its
-root file), and each other file with its sentence; then the gate, and the files of tests/. Lists of modules (Lib.antt)
-and what is in the folders of proofs are left out.
+For each crate of crates.txt the map has a heading, what the crate is for (from its root file), each file of src/ and
+specs/ with its sentence, and the names of the files of proofs/. Then come the gate and the files of tests/. Lists of
+modules (Lib.antt) and the folders below proofs/ are left out.
 
 With --check it writes nothing, and prints the lines that differ if the document is not what it would write. The exit
-status is 1 then, and wherever a file has no head comment.
+status is then 1. It is also 1 if a file has no head comment, one of proofs/ included.
 """
 
 import ast
@@ -19,9 +19,14 @@ import sys
 import textwrap
 
 ROOT = pathlib.Path(__file__).resolve().parent.parent
-DOCUMENT = ROOT / "docs/ARCHITECTURE.md"
-BEGIN = "<!-- The map: written by tests/map.py from the head comments of the files. -->"
-END = "<!-- The end of the map. -->"
+DOCUMENT = ROOT / "docs/MAP.md"
+HEAD = """\
+# Map of files
+
+Each crate, lowest first, with what its files hold. Files of `proofs/` are only named; each begins with a comment.
+[ARCHITECTURE.md](ARCHITECTURE.md) says how the crates belong together.
+
+`tests/map.py` writes this file from the head comments of the files. Change those, not this file."""
 COLUMNS = 120
 
 # How a line of a head comment begins, by how the file's name ends; elsewhere by `#`. A README has one after its title.
@@ -68,48 +73,52 @@ def table(folder, paths, faults):
     return ["", "```", *lines, "```"]
 
 
+def paragraph(paths, faults):
+    """Answers a paragraph that names files of proofs/, without what their names end with. There may be none."""
+    for path in paths:
+        first_sentence(path, faults)
+    return ["", *wrapped("`proofs/`: " + ", ".join(f"`{path.stem}`" for path in paths), COLUMNS)] if paths else []
+
+
 def by_module(path):
     """Answers what a file is sorted by, so that a module comes directly before those inside it."""
     return path.with_suffix("").parts
 
 
+def terms_of(folder):
+    """Answers the files of specs/ or proofs/ that the map has."""
+    return [it for it in sorted(folder.glob("*.antt")) if it.name != "Lib.antt"]
+
+
 def files_of(crate):
-    """Answers the root file of a crate, and all other files that the map has."""
+    """Answers the root file of a crate, then its other code and its definitions, then its proofs."""
     sources = sorted((crate / "src").rglob("*.rt"), key=by_module)
     root = next(it for it in sources if it in (crate / "src/lib.rt", crate / "src/main.rt"))
     sources.remove(root)
-    terms = sorted((crate / "specs").glob("*.antt")) + sorted((crate / "proofs").glob("*.antt"))
-    return root, sources + [it for it in terms if it.name != "Lib.antt"]
+    return root, sources + terms_of(crate / "specs"), terms_of(crate / "proofs")
 
 
 def map_of_crate(name, faults):
     """Answers the lines of the map for a crate."""
     crate = ROOT / "crates" / name
-    root, files = files_of(crate)
+    root, files, proofs = files_of(crate)
     purpose = wrapped(first_sentence(root, faults), COLUMNS)
-    return ["", f"### `{name}`", "", *purpose, *table(crate, files, faults)]
+    return ["", f"## `{name}`", "", *purpose, *table(crate, files, faults), *paragraph(proofs, faults)]
 
 
 def map_of_tests(faults):
     """Answers the lines of the map for the gate and the files of the tests. Folders there are told by their README."""
     tests = ROOT / "tests"
     files = sorted(it for it in tests.iterdir() if it.is_file()) + sorted(tests.glob("*/README.md"))
-    return ["", "### The gate and the tests", *table(ROOT, [ROOT / ".ci/run", *files], faults)]
+    return ["", "## The gate and the tests", *table(ROOT, [ROOT / ".ci/run", *files], faults)]
 
 
 def make_map(faults):
-    """Answers all lines of the map, between the markers."""
+    """Answers all lines of the document."""
     listed = (ROOT / "crates.txt").read_text(encoding="utf-8").splitlines()
     names = [line.split(":")[0].split()[0] for line in listed if line.strip() and not line.startswith("#")]
     lines = [line for name in names for line in map_of_crate(name, faults)]
-    return lines + map_of_tests(faults) + [""]
-
-
-def with_map(lines, new):
-    """Answers the lines of the document with the lines of the map in their place."""
-    if lines.count(BEGIN) != 1 or lines.count(END) != 1:
-        sys.exit(f"{DOCUMENT.relative_to(ROOT)} has to have each of these lines once:\n{BEGIN}\n{END}")
-    return lines[: lines.index(BEGIN) + 1] + new + lines[lines.index(END) :]
+    return HEAD.splitlines() + lines + map_of_tests(faults)
 
 
 def main(words):
@@ -117,8 +126,8 @@ def main(words):
     if words not in ([], ["--check"]):
         sys.exit(__doc__.split("\n\n")[1])
     faults = []
-    old = DOCUMENT.read_text(encoding="utf-8").splitlines()
-    new = with_map(old, make_map(faults))
+    old = DOCUMENT.read_text(encoding="utf-8").splitlines() if DOCUMENT.is_file() else []
+    new = make_map(faults)
     if not words:
         DOCUMENT.write_text("\n".join(new) + "\n", encoding="utf-8")
     elif new != old:

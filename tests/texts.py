@@ -11,7 +11,6 @@ each request for memory in turn. The last line counts the runs; the exit status 
 
 import json
 import pathlib
-import subprocess
 import sys
 import tempfile
 import time
@@ -21,6 +20,8 @@ sys.dont_write_bytecode = True
 sys.path.insert(0, str(ROOT / "tests" / "hostile"))
 
 import batch
+from runs import main
+from scripts import examples
 
 # How much longer than in proportion a long text may take: time that grows with the square of the size takes ten times
 # as long, and a busy machine makes a difference.
@@ -49,27 +50,11 @@ KINDS = {
 }
 
 
-class Runs:
-    """The runs of a program, and how many failed."""
-
-    def __init__(self, program):
-        self.program = program
-        self.passed = 0
-        self.failed = 0
-
-    def tokens(self, text, *words):
-        """Answers the status, the lines that the program prints for a text, and the seconds that it takes."""
-        data = text if isinstance(text, bytes) else text.encode("utf-8")
-        begun = time.monotonic()
-        run = subprocess.run([self.program, "tokens", *words, "-"], input=data, capture_output=True, timeout=300)
-        return run.returncode, run.stdout.decode("utf-8").split("\n")[:-1], time.monotonic() - begun
-
-    def check(self, title, good, told=""):
-        """Counts a run, and prints it if it failed."""
-        self.passed += bool(good)
-        self.failed += not good
-        if not good:
-            print(f"failed: {title}: {told}")
+def tokens(runs, text, *words):
+    """Answers the status, the lines that the program prints for a text, and the seconds that it takes."""
+    begun = time.monotonic()
+    status, printed, _ = runs.run("tokens", *words, "-", text=text)
+    return status, printed.split("\n")[:-1], time.monotonic() - begun
 
 
 def rows():
@@ -83,16 +68,16 @@ def rows():
 def check_rows(runs):
     """Runs the rows of the grammar."""
     for row, text, wanted in rows():
-        status, lines, _ = runs.tokens(text)
+        status, lines, _ = tokens(runs, text)
         got = [line.split(" ", 1)[1] for line in lines]
         runs.check(row, (status, got) == (0, wanted), f"status {status}, {got}")
 
 
 def check_examples(runs):
     """Compares the tokens of each example with the list beside it."""
-    for script in sorted((ROOT / "examples").glob("*.rhai")):
+    for script in examples():
         wanted = script.with_suffix(".tokens").read_text(encoding="utf-8").split("\n")[:-1]
-        status, lines, _ = runs.tokens(script.read_bytes(), "--doc")
+        status, lines, _ = tokens(runs, script.read_bytes(), "--doc")
         runs.check(script.name, (status, lines) == (0, wanted), f"status {status}")
 
 
@@ -109,25 +94,25 @@ def check_hard(runs):
         ("first line alone", "#!/bin/rhai", 1, "1:1 eof"),
         ("carriage returns", "a\r\nb\r", 3, "2:3 eof"),
     ):
-        status, lines, _ = runs.tokens(text)
+        status, lines, _ = tokens(runs, text)
         told = f"status {status}, {len(lines)} lines, {lines[-1:]}"
         runs.check(title, (status, len(lines), lines[-1:]) == (0, count, [last]), told)
-    status, lines, _ = runs.tokens(b"a \xff b")
+    status, lines, _ = tokens(runs, b"a \xff b")
     runs.check("no UTF-8", (status, lines) == (2, []), f"status {status}")
-    status, lines, _ = runs.tokens('"abcd" "abc"', "--spans", "--max-string", "3")
+    status, lines, _ = tokens(runs, '"abcd" "abc"', "--spans", "--max-string", "3")
     wanted = ["1:1 err toolong 3 @0..6", "1:8 str abc @7..12", "1:13 eof"]
     runs.check("a long string", (status, lines) == (0, wanted), lines)
-    status, lines, _ = runs.tokens("/// x\r\na", "--doc", "--spans")
+    status, lines, _ = tokens(runs, "/// x\r\na", "--doc", "--spans")
     wanted = ["1:1 doc ///\\sx @0..6", "2:1 id a @7..8", "2:2 eof"]
     runs.check("a doc comment", (status, lines) == (0, wanted), lines)
-    run = subprocess.run([runs.program, "tokens", str(ROOT / "no such file")], capture_output=True)
-    runs.check("no file", run.returncode == 2 and b"no such file" in run.stderr, run)
+    status, _, told = runs.run("tokens", ROOT / "no such file")
+    runs.check("no file", status == 2 and "no such file" in told, told)
 
 
 def check_refused(runs):
     """Refuses each request for memory of the examples and of the rows in turn. The run fails, and prints nothing, or it
     does without, and prints the whole list."""
-    texts = [script.read_bytes() for script in sorted((ROOT / "examples").glob("*.rhai"))]
+    texts = [script.read_bytes() for script in examples()]
     texts += [text.encode("utf-8") for _, text, _ in rows()]
     with tempfile.TemporaryDirectory() as folder:
         program = batch.Program(batch.compile_forks(folder), runs.program)
@@ -152,26 +137,19 @@ def repeated(kind, size):
 def check_growth(runs):
     """Runs each kind of piece in a megabyte and in ten: the time grows with the size."""
     for title, kind in KINDS.items():
-        short = min(runs.tokens(repeated(kind, 1_000_000))[2] for _ in range(3))
-        long = min(runs.tokens(repeated(kind, 10_000_000))[2] for _ in range(2))
+        short = min(tokens(runs, repeated(kind, 1_000_000))[2] for _ in range(3))
+        long = min(tokens(runs, repeated(kind, 10_000_000))[2] for _ in range(2))
         runs.check(title, long <= EXTRA * 10 * max(short, 0.01), f"{short:.3f} s, and {long:.3f} s for ten times")
 
 
-def main():
+def make(runs):
     """Makes all runs."""
-    program = sys.argv[1] if len(sys.argv) > 1 else str(ROOT / "crates/rhai_ast/out/rhai_ast")
-    if not pathlib.Path(program).is_file():
-        print("no program is built: run `rt run` in crates/rhai_ast, or name one")
-        return 1
-    runs = Runs(program)
     check_rows(runs)
     check_examples(runs)
     check_hard(runs)
     check_refused(runs)
     check_growth(runs)
-    print(f"{runs.passed} passed, {runs.failed} failed")
-    return 1 if runs.failed else 0
 
 
 if __name__ == "__main__":
-    sys.exit(main())
+    sys.exit(main(make))

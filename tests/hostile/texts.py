@@ -1,4 +1,4 @@
-"""Texts of lists of tokens, as far as a list is the tokens of some text."""
+"""Texts of lists of tokens, as far as a list is the tokens of some text, and the lists of the table that have one."""
 
 import re
 
@@ -100,3 +100,28 @@ def text_of(lines, keep_places):
         needs_line = kind == "doc" and payload.startswith("//") or kind == "err" and payload == "unterminated"
         goes_on = False
     return text
+
+
+def lists_of(runs):
+    """The runs of each list that may have a text, by the list."""
+    found = {}
+    for run in runs:
+        found.setdefault(run.list, []).append(run)
+    return {it: same for it, same in found.items() if not any(run.first.startswith("unreadable") for run in same)}
+
+
+def candidates(lists):
+    """A list, and what may be its text."""
+    for it in lists:
+        try:
+            yield it, text_of(it.decode().removesuffix("\n").split("\n"), True).encode()
+        except (NoText, UnicodeError):
+            pass
+
+
+def with_text(tokens, lists):
+    """The lists that have a text, each with it."""
+    found = list(candidates(lists))
+    answers = tokens.answers(("tokens", "--doc", "-"), [text for _, text in found])
+    pairs = zip(found, answers)
+    return [(it, text) for (it, text), answer in pairs if answer.printed.rstrip(b"\n") == it.rstrip(b"\n")]

@@ -1,4 +1,4 @@
-//! Where a program tells what is wrong, and how a run ends.
+//! Where a program reports what is wrong, and how a run ends.
 
 use rhai_report::Style;
 use std::io::{self, IsTerminal};

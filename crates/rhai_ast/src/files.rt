@@ -2,18 +2,36 @@
 
 use crate::console::{Console, FAILED, FINE, REFUSED};
 use crate::list::print_list;
-use crate::names::lines_of;
 use crate::options::Task;
-use crate::refusal::{not_utf8_text, refusal_text, unreadable_text};
+use crate::refusal::{not_utf8_text, refusal_report, report_text, unreadable_text};
 use crate::settings::Settings;
 use crate::source::{NotText, read_bytes, script_of, source_of, text_of};
+use rhai_json::{diagnostic_json, names_json, tokens_json, tree_json};
 use rhai_names::names::names_of;
-use rhai_report::Source;
-use rhai_run::accepted;
+use rhai_report::{Report, Source};
+use rhai_run::{accepted, names_lines};
 use rhai_script::{AST, ParseError, ParseErrorType};
 use rhai_tokenizer::tokenize;
 use std::alloc::{AllocError, Global};
 use std::io;
+
+/// How a command answers.
+#[derive(Clone, Copy, PartialEq, Debug)]
+pub enum Form {
+    /// In the text that docs/FORMAT.md describes.
+    Text,
+    /// The same; tokens have their bytes too.
+    TextWithSpans,
+    /// In the JSON that docs/JSON.md describes, each answer on a line.
+    Json,
+}
+
+// A text as a line.
+fn line(text: Result<String, AllocError>) -> Result<String, AllocError> {
+    let mut text = text?;
+    text.push_str("\n")?;
+    Ok(text)
+}
 
 /// A command with its options.
 #[derive(Drop)]
@@ -22,8 +40,8 @@ pub struct Run<'r, 'm> {
     pub rt: &'r HostRuntime,
     /// What the command does.
     pub task: Task,
-    /// Whether the bytes of tokens are printed.
-    pub spans: bool,
+    /// How it answers.
+    pub form: Form,
     /// What scripts are read under.
     pub settings: Settings<'m>,
     /// Where is told what is wrong.
@@ -51,52 +69,76 @@ impl<'r, 'm> Run<'r, 'm> {
         self.tell(text, FAILED)
     }
 
-    // Tells why a script is refused.
-    fn tell_refused(&mut self, source: Source<'_>, error: &ParseError) -> u8 {
-        let style = self.console.style;
-        let text = refusal_text(self.rt.alloc(), &self.settings, source, error, style);
-        let status = match error.0 {
-            ParseErrorType::OutOfMemory => FAILED,
-            _ => REFUSED,
-        };
-        self.tell(text, status)
-    }
-
-    // Prints a text, if there was memory for it.
-    fn print(&mut self, text: Result<String, AllocError>) -> u8 {
+    // Prints a text, if there was memory for it, and returns this status.
+    fn print(&mut self, text: Result<String, AllocError>, status: u8) -> u8 {
         match text {
             Ok(text) => match self.rt.print(text.as_str()) {
-                Ok(()) => FINE,
+                Ok(()) => status,
                 Err(_) => FAILED,
             },
             Err(AllocError) => self.console.tell_out_of_memory(),
         }
     }
 
+    // What is told of a script that is refused.
+    fn told(&self, report: &Report<'_>) -> Result<String, AllocError> {
+        let alloc = self.rt.alloc();
+        match self.form {
+            Form::Json => line(diagnostic_json(alloc, report)),
+            _ => report_text(alloc, self.console.style, report),
+        }
+    }
+
+    // Tells why a script is refused; if `check` answers in JSON, that is its answer.
+    fn tell_refused(&mut self, source: Source<'_>, error: &ParseError) -> u8 {
+        let report = refusal_report(self.rt.alloc(), &self.settings, source, error);
+        let text = report.and_then(|report| self.told(&report));
+        let status = match error.0 {
+            ParseErrorType::OutOfMemory => FAILED,
+            _ => REFUSED,
+        };
+        match (self.task, self.form) {
+            (Task::Check, Form::Json) => self.print(text, status),
+            _ => self.tell(text, status),
+        }
+    }
+
     // Prints the tokens of a script.
     fn print_tokens(&mut self, source: Source<'_>) -> u8 {
         let alloc = self.rt.alloc();
-        let list = tokenize(alloc, script_of(source), self.settings.limits).and_then(
-            |tokens| print_list(alloc, &tokens, source.start, self.spans),
-        );
-        self.print(list)
+        let tokens = tokenize(alloc, script_of(source), self.settings.limits);
+        let list = tokens.and_then(|tokens| match self.form {
+            Form::Json => line(tokens_json(alloc, &tokens, source.start)),
+            form => print_list(alloc, &tokens, source.start, form == Form::TextWithSpans),
+        });
+        self.print(list, FINE)
+    }
+
+    fn print_tree(&mut self, script: &AST) -> u8 {
+        let alloc = self.rt.alloc();
+        let tree = match self.form {
+            Form::Json => line(tree_json(alloc, script)),
+            _ => accepted(alloc, script),
+        };
+        self.print(tree, FINE)
+    }
+
+    fn print_names(&mut self, script: &AST) -> u8 {
+        let alloc = self.rt.alloc();
+        let names = names_of(alloc, &script.functions);
+        let lines = names.and_then(|names| match self.form {
+            Form::Json => line(names_json(alloc, &names)),
+            _ => names_lines(alloc, &names),
+        });
+        self.print(lines, FINE)
     }
 
     // Prints what is asked for of a script that is accepted.
     fn print_accepted(&mut self, script: &AST) -> u8 {
-        let alloc = self.rt.alloc();
         match self.task {
-            Task::Tree => {
-                let tree = accepted(alloc, script);
-                self.print(tree)
-            }
-            Task::Names => {
-                let names = names_of(alloc, &script.functions).and_then(|names| lines_of(
-                    alloc, &names,
-                ));
-                self.print(names)
-            }
-            _ => FINE,
+            Task::Tree => self.print_tree(script),
+            Task::Names => self.print_names(script),
+            Task::Check | Task::Tokens => FINE,
         }
     }
 

@@ -1,6 +1,7 @@
 //! Lists of tokens, as docs/FORMAT.md describes them: one token on a line.
 
 use rhai_lower::{Entry, LexError, Token};
+use rhai_report::in_file;
 use rhai_run::Escaped;
 use rhai_tokenizer::{Span, Tokens};
 use std::alloc::{AllocError, Global};
@@ -59,8 +60,7 @@ fn push_entry(out: &mut String, entry: &Entry) -> Result<(), AllocError> {
 }
 
 fn push_span(out: &mut String, span: Span, from: usize) -> Result<(), AllocError> {
-    let start = span.start.saturating_add(from);
-    let stop = span.stop.saturating_add(from);
+    let Span { start, stop } = in_file(from, span);
     write!(out, " @{start}..{stop}")
 }
 

@@ -5,7 +5,6 @@
 mod console;
 mod files;
 mod list;
-mod names;
 mod options;
 mod place;
 mod refusal;
@@ -13,12 +12,23 @@ mod settings;
 mod source;
 
 use crate::console::{Console, FAILED};
-use crate::files::Run;
+use crate::files::{Form, Run};
 use crate::options::{command, task_of};
 use crate::settings::{Settings, outside_of, wrong_name};
 use clap::{ArgMatches, Error};
 use std::env;
 use std::process::ExitCode;
+
+// How these words want the answer.
+fn form_of(words: &ArgMatches<'_>) -> Form {
+    if words.get_flag("json") {
+        Form::Json
+    } else if words.get_flag("spans") {
+        Form::TextWithSpans
+    } else {
+        Form::Text
+    }
+}
 
 // Runs the command of these words.
 fn run_command(rt: &HostRuntime, matches: &ArgMatches<'_>) -> Result<u8, Error> {
@@ -35,7 +45,7 @@ fn run_command(rt: &HostRuntime, matches: &ArgMatches<'_>) -> Result<u8, Error> 
     let mut run = Run {
         rt,
         task,
-        spans: words.get_flag("spans"),
+        form: form_of(words),
         settings: Settings::new(rt.alloc(), words)?,
         console: Console::new(rt, words.get_str("color").unwrap_or("auto")),
     };

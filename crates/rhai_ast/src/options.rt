@@ -121,7 +121,8 @@ fn with_text<'a>(alloc: Global, command: Command<'a>) -> Result<Command<'a>, All
         .value_parser(["auto", "always", "never"].as_slice())
         .default_value("auto")
         .help("Whether messages have colours; auto: on a terminal");
-    command.arg(doc)?.arg(most)?.arg(colour)
+    let json = flag(alloc, "json", "Answer in JSON, each answer on a line");
+    command.arg(doc)?.arg(most)?.arg(colour)?.arg(json)
 }
 
 // What a command has that parses.

@@ -1,9 +1,9 @@
-//! The token at which a script is refused, also where lines or columns are no longer counted.
+//! The token at which a script is refused, also beyond line or column 65535.
 
 use crate::settings::Settings;
 use crate::source::script_of;
 use rhai_lower::{Entry, TokenStream};
-use rhai_report::Source;
+use rhai_report::{Source, index_at};
 use rhai_script::{ParseError, Position};
 use rhai_tokenizer::{Tokens, tokenize};
 use std::alloc::{AllocError, Global};
@@ -28,12 +28,6 @@ fn number_of(pos: Position) -> Option<usize> {
 // Whether a position is where lines or columns are no longer counted, so that tokens share it.
 fn is_shared(pos: Position) -> bool {
     pos.line() == Some(u16::MAX) || pos.column() == Some(u16::MAX)
-}
-
-// The index of the token at this position; that of the end mark if no token is there.
-fn index_at(tokens: &Tokens, pos: Position) -> usize {
-    let found = tokens.entries.iter().position(|entry| entry.pos == pos);
-    found.unwrap_or(tokens.entries.len())
 }
 
 // A stream of these tokens, each at the position that stands for its number.

@@ -10,28 +10,21 @@ use std::alloc::{AllocError, Global};
 use std::io;
 
 /// What is told of a script that is refused with this error. Returns `AllocError` if memory runs out.
-pub fn refusal_report(
+pub fn refusal_report<'a>(
     alloc: Global,
     settings: &Settings<'_>,
-    source: Source<'_>,
-    error: &ParseError,
-) -> Result<Report, AllocError> {
+    source: Source<'a>,
+    error: &'a ParseError,
+) -> Result<Report<'a>, AllocError> {
     let tokens = tokenize(alloc, script_of(source), settings.limits)?;
     let index = refused_token(alloc, settings, source, &tokens, error.1)?;
     report_of(alloc, source, &tokens, index, error, settings.outside)
 }
 
-/// The printed report on a script that is refused with this error. Returns `AllocError` if memory runs out.
-pub fn refusal_text(
-    alloc: Global,
-    settings: &Settings<'_>,
-    source: Source<'_>,
-    error: &ParseError,
-    style: Style,
-) -> Result<String, AllocError> {
-    let report = refusal_report(alloc, settings, source, error)?;
+/// A report as text. Returns `AllocError` if memory runs out.
+pub fn report_text(alloc: Global, style: Style, report: &Report<'_>) -> Result<String, AllocError> {
     let mut text = String::new(alloc);
-    print_report(&mut text, style, source, &report)?;
+    print_report(&mut text, style, report)?;
     Ok(text)
 }
 

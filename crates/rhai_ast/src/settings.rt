@@ -1,4 +1,4 @@
-//! What scripts are read under.
+//! The settings that scripts are read under.
 
 use crate::options::FORBIDDING;
 use clap::ArgMatches;

@@ -1,4 +1,4 @@
--- What stands after an operand, by the code's tests.
+-- What is after an operand, by the code's tests.
 use Rattle.std.proofs.Common.{◌≡◌, Bool, true, false, refl}
 use Rattle.std.specs.Prelude.{not}
 use Rattle.std.specs.Rc.{rc_str_bytes}

@@ -1,4 +1,4 @@
--- The flag of the global level, where it is taken away.
+-- Settings without the flag of the global level.
 use Rattle.std.proofs.Common.{◌≡◌, ◌∙◌, ℕ, ap, false, ◌==◌}
 use Rattle.std.proofs.lemmas.Nat.{and_assoc, and_or_apart}
 use Rattle.std.specs.Int.Bits.{and_zero_r}

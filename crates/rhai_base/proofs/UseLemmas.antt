@@ -1,4 +1,4 @@
--- The names that a closure captures: one more.
+-- The names that a closure captures, as they grow by one.
 use Rattle.std.proofs.Common.{◌≡◌, false, List, [], ◌∷◌, ◌++◌, ap, length, map, ◌==◌, ◌∙◌, refl, sym}
 use Rattle.std.proofs.lemmas.List.{append-nil, map_push}
 use Rattle.std.specs.Rc.{rc_str_bytes}

@@ -1,4 +1,4 @@
--- A token that is due, or that may stand there, as the code takes it.
+-- A token that is due, or allowed, as the code takes it.
 use Rattle.std.specs.Prelude.{◌≡◌, Bool, IsTrue, true, false, Result, Ok, Err}
 use Rattle.std.specs.declared.alloc.AllocError.{AllocError}
 use Rattle.rhai_grammar.specs.Causes.{is_for_memory, refusal, refusal_of}

@@ -1,4 +1,4 @@
--- What a token is where a key may stand, by the code's tests.
+-- What a token is where a key may be, by the code's tests.
 use Rattle.std.specs.Prelude.{Bool, true, false, Option, Some, None, codes, if◌then◌else◌}
 use Rattle.std.specs.Rc.{rc_str_bytes}
 use Rattle.std.specs.declared.alloc.Global.{Global}

@@ -1,4 +1,4 @@
-//! What a closure gives: its function, and the value that stands for it.
+//! What a closure gives: its function, and its value.
 
 ghost use Rattle.std.specs.Prelude.{◌≡◌, ◌++◌, ◌+◌, IfOk, None, OnOk, [], length, map};
 ghost use Rattle.std.specs.Rc.{rc_str_bytes};

@@ -1,4 +1,4 @@
-//! The leaves: what readers ask of tokens, or make of them, without reading an expression. They are tests, operators,
+//! The leaves: tests of tokens, and what is made of tokens without reading an expression. They are tests, operators,
 //! keys, lists, texts of strings, due tokens, statements, functions, constructs, arms of `switch` and refusals. None of
 //! it knows settings or what is live.
 

@@ -1,4 +1,4 @@
-//! What the readers stand on: settings, state, frames, look-ups, the library, and leaves. Leaves ask of tokens, or take
+//! The base of the readers: settings, state, frames, look-ups, the library, and leaves. Leaves ask of tokens, or take
 //! them, without reading an expression. The cursor and the nodes of values and names are here too.
 #![tactic(auto)]
 

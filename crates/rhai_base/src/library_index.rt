@@ -67,7 +67,7 @@ impl LibraryIndex {
         let closure = is_closure_key(&key);
         let name = key.name.clone()?;
         let more = self.closures_with(closure, lib);
-        // With room reserved for the name, nothing can fail once the function is in the library.
+        // With capacity reserved for the name, nothing can fail once the function is in the library.
         self.names.reserve(1)?;
         lib.insert(key, function)?;
         self.names.insert(name)?;

@@ -1,4 +1,4 @@
-//! Where settings let constructs, `break`, `continue`, `export`, functions and doc comments stand.
+//! Where settings allow constructs, `break`, `continue`, `export`, functions and doc comments.
 
 ghost use Rattle.std.specs.Prelude.{◌≡◌, IfErr, OnOk, false, true};
 ghost use Rattle.rhai_grammar.specs.Constructs.{may_be_value};

@@ -1,4 +1,4 @@
-//! `ParseState`: the state that a caller gives a parse.
+//! `ParseState`: the state that a caller gives to an entry point.
 
 ghost use Rattle.std.specs.Prelude.{◌≡◌, [], true};
 ghost use Rattle.rhai_grammar.specs.declared.filter.ExprFilter.TheVariants.{All};

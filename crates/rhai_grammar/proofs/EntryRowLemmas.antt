@@ -1,4 +1,4 @@
--- The worked rows under the settings of the entries, by evaluation.
+-- The worked rows under the settings of the entry points, by evaluation.
 use Rattle.std.proofs.Common.{inl, inr, refl}
 use Rattle.rhai_grammar.specs.Prelude.{kept_after, kept_comments, names_function, module_number, one_more, number}
 use Rattle.rhai_grammar.specs.RowsOfEntries.{ChainsEnter, ClosuresEnter, EqualFunctionsEnter, ImportsEnter, LoopEnters}

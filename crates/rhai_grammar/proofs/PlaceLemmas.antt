@@ -1,4 +1,4 @@
--- Refusals stand at tokens. It is one walk over all forms.
+-- Refusals are at tokens. It is one walk over all forms.
 use Rattle.std.proofs.Common.{◌≡◌, ◌⊎◌, inl, inr, ℕ, suc, ◌+◌, Bool, true, false, List, [], ◌∷◌, refl, sym, subst, map}
 use Rattle.std.proofs.Common.{arith}
 use Rattle.std.specs.List.{Contains}
@@ -40,7 +40,7 @@ use Rattle.rhai_grammar.proofs.PlaceSteps.{AllTaken, AllUses, Ends, leads}
 use Rattle.rhai_grammar.proofs.PlaceTrees as P
 use Rattle.rhai_grammar.proofs.PlaceTrees.{AllLinks, AllPlaced, Placed}
 use Rattle.rhai_grammar.proofs.PlaceVerdicts as B
-use Rattle.rhai_grammar.proofs.PlaceWays.{Places, Refusing, Stands, after, ahead, apart_from, done, here, literally}
+use Rattle.rhai_grammar.proofs.PlaceWays.{Places, Refusing, AtTokens, after, ahead, apart_from, done, here, literally}
 use Rattle.rhai_grammar.proofs.PlaceWays.{next, on, shape, test, test_in, tok, unfaulted, uses}
 use Rattle.rhai_grammar.proofs.SpellingLemmas.{expression_leads, script_leads}
 
@@ -50,7 +50,7 @@ BlockAt G x w = G (block_start (made_block (T.statement_tree x w)))
 
 mutual
   primary : {G : Position → Type 0} (x : Primary) (c : Context) (w : Live) (p : OperandPlace) (k : Demands)
-      → Stands G ((b : Bool) → Placed G (primary_tree x w b)) (W.primary x c w p k) k
+      → AtTokens G ((b : Bool) → Placed G (primary_tree x w b)) (W.primary x c w p k) k
   primary {G = G} (form.Value token at) c w p k =
       shape (tok (B.operand_due c p) (λ a. done (λ b. P.value G token at a)))
   primary (form.Named name at) c w p k =
@@ -77,12 +77,12 @@ mutual
   primary (form.Zero range at) c w p k = shape (ahead (B.operand_due c p) (λ a. done (λ b. a)))
 
   closure_body : {G : Position → Type 0} (x : ClosureBody) (c : Context) (w : Live) (k : Demands)
-      → Stands G (Unit {0}) (W.closure_body x c w k) k
+      → AtTokens G (Unit {0}) (W.closure_body x c w k) k
   closure_body (form.Runs f) c w k = next B.runs (on (statement f c w k) here)
   closure_body (form.NoBody at) c w k = ahead B.anything (λ a. here)
 
   base : {G : Position → Type 0} (x : Base) (c : Context) (w : Live) (p : OperandPlace) (k : Demands)
-      → Stands G (Placed G (base_tree x w)) (W.base x c w p k) k
+      → AtTokens G (Placed G (base_tree x w)) (W.base x c w p k) k
   base {G = G} (form.Plain x names) c w p k =
       let y = primary_tree x w (is_scoped names) in
       after (primary x c w p _) (λ h. after (path names w.imports y _) (λ s.
@@ -102,7 +102,7 @@ mutual
       (unfaulted (module_fault c w y) (P.of_module G c w y n) (done (P.position G y n))))))))
 
   links : {G : Position → Type 0} (x : Links) (q : LinkSpot) (w : Live) (k : Demands) → AllLinks G q.before
-      → Stands G (AllLinks G (link_list x w)) (W.links x q w k) k
+      → AtTokens G (AllLinks G (link_list x w)) (W.links x q w k) k
   links {G = G} form.NoLink q w k g =
       next B.unlinked (unfaulted (last_fault q.before) (P.of_last G q.before g) (done tt))
   links {G = G} (form.Bracket opening at f closing rest) q w k g =
@@ -134,7 +134,7 @@ mutual
       done ((a, b), ls)))))))))))
 
   operand : {G : Position → Type 0} (x : Operand) (c : Context) (w : Live) (p : OperandPlace) (k : Demands)
-      → Stands G (Placed G (operand_tree x w)) (W.operand x c w p k) k
+      → AtTokens G (Placed G (operand_tree x w)) (W.operand x c w p k) k
   operand {G = G} (form.Linked x list) c w p k =
       let y = base_tree x w in
       after (base x c w p _) (λ h. after (links list (spot_after_operand c y) w _ tt) (λ ls.
@@ -146,14 +146,14 @@ mutual
   operand (form.Jump x) c w p k = next (B.jump_stands p) (statement x (below_global c) (in_block w) k)
 
   arguments : {G : Position → Type 0} (x : Arguments) (others : Lexeme → Verdict) → Places G others → (c : Context)
-      (w : Live) (name : Position) (k : Demands) → G name → Stands G (Unit {0}) (W.arguments x others c w name k) k
+      (w : Live) (name : Position) (k : Demands) → G name → AtTokens G (Unit {0}) (W.arguments x others c w name k) k
   arguments (form.EmptyPair at) others o c w name k g = tok o (λ a. here)
   arguments (form.Empty opening closing) others o c w name k g = tok o (λ a. tok B.close_or_argument (λ b. here))
   arguments (form.Listed opening list) others o c w name k g =
       tok o (λ a. next B.argument_due (test g (items list (level_up c) w k)))
 
   items : {G : Position → Type 0} (x : Items) (c : Context) (w : Live) (k : Demands)
-      → Stands G (Unit {0}) (W.items x c w k) k
+      → AtTokens G (Unit {0}) (W.items x c w k) k
   items (form.Last f closing) c w k =
       on (expressed f c w (run f _ _ tt)) (tok (B.following_due lists.Arguments) (λ a. here))
   items (form.Trailing f comma closing) c w k =
@@ -163,7 +163,7 @@ mutual
       next B.argument_follows (items rest c w k)))
 
   elements : {G : Position → Type 0} (x : Elements) (count : ℕ) (c : Context) (w : Live) (opening : Position)
-      (k : Demands) → G opening → Stands G (Unit {0}) (W.elements x count c w opening k) k
+      (k : Demands) → G opening → AtTokens G (Unit {0}) (W.elements x count c w opening k) k
   elements (form.NoElement closing) count c w opening k g = tok (B.no_item_due c.sizes.array count) (λ a. here)
   elements (form.LastElement f closing) count c w opening k g =
       next (B.item_due c.sizes.array count) (test g (on (expressed f (level_up c) w (run f _ _ tt))
@@ -173,7 +173,7 @@ mutual
       (tok (B.following_due lists.Array) (λ a. elements rest (count + 1) c w opening k g))))
 
   fields : {G : Position → Type 0} (x : Fields) (before : Properties) (c : Context) (w : Live) (opening : Position)
-      (k : Demands) → G opening → Stands G (Unit {0}) (W.fields x before c w opening k) k
+      (k : Demands) → G opening → AtTokens G (Unit {0}) (W.fields x before c w opening k) k
   fields (form.NoField closing) before c w opening k g = tok (B.key_due c before) (λ a. here)
   fields (form.LastField key at colon f closing) before c w opening k g =
       on (field key at colon before c opening g) (on (expressed f (level_up c) w (run f _ _ tt))
@@ -184,7 +184,7 @@ mutual
       fields rest (with_property before (text_of key) at (tree f w)) c w opening k g)))
 
   segments : {G : Position → Type 0} (x : Segments) (c : Context) (w : Live) (at : Position) (k : Demands) → G at
-      → Stands G (Unit {0}) (W.segments x c w at k) k
+      → AtTokens G (Unit {0}) (W.segments x c w at k) k
   segments (form.LastSegment opening f last pos) c w at k g =
       tok (B.unless_due due.LeftBrace) (λ a. test g (on (block f (level_up c) w _) (tok B.text_due (λ b. here))))
   segments (form.Segment opening f next_text pos rest) c w at k g =
@@ -192,7 +192,7 @@ mutual
       segments rest c w at k g))))
 
   run : {G : Position → Type 0} (f : Run) (q : Spot) (k : Demands) → SideAt G q.side
-      → Stands G (Ran G f q) (W.run f q k) k
+      → AtTokens G (Ran G f q) (W.run f q k) k
   run {G = G} (form.Just x) q k g =
       after (operand x q.first q.live (place_of q.side) _) (λ h. next (B.operator_known (filter_of q)) (
       on (raised q.side g) (done (h, P.position G (operand_tree x q.live) h))))
@@ -204,7 +204,7 @@ mutual
       test (P.start G x h.0) (test (P.start G y i.0) (done (P.operator G (joining op) op at x y a h.0 i.0, a))))))))))
 
   evaluation : {G : Position → Type 0} (x : ExprStatement) (c : Context) (w : Live) (k : Demands)
-      → Stands G (BlockAt G (form.Expression x) w) (W.expr_statement x c w k) k
+      → AtTokens G (BlockAt G (form.Expression x) w) (W.expr_statement x c w k) k
   evaluation {G = G} (form.Evaluate f) c w k =
       after (expressed f c w (run f _ _ tt)) (λ h. next B.unassigned (done (P.position G (tree f w) h)))
   evaluation {G = G} (form.Assign f op at value) c w k =
@@ -214,19 +214,19 @@ mutual
       unfaulted (target_fault b op at (tree f w)) (P.of_target G b op at (tree f w) a h) (done a)))))
 
   initializer : {G : Position → Type 0} (x : Initializer) (c : Context) (w : Live) (at : Position) (k : Demands) → G at
-      → Stands G (Unit {0}) (W.definition_value x c w at k) k
+      → AtTokens G (Unit {0}) (W.definition_value x c w at k) k
   initializer form.NoValue c w at k g = next B.without_value here
   initializer (form.Valued equals f) c w at k g =
       tok B.anything (λ a. test g (on (expressed f (level_up c) w (run f _ _ tt)) here))
 
   jump_value : {G : Position → Type 0} (x : JumpValue) (c : Context) (w : Live) (at : Position) (k : Demands) → G at
-      → Stands G (Unit {0}) (W.jump_value x c w at k) k
+      → AtTokens G (Unit {0}) (W.jump_value x c w at k) k
   jump_value form.Absent c w at k g = next (B.no_value_follows c) (test g here)
   jump_value (form.Present f) c w at k g =
       next (B.value_follows c) (test g (on (expressed f (level_up c) w (run f _ _ tt)) here))
 
   statement : {G : Position → Type 0} (x : Statement) (c : Context) (w : Live) (k : Demands)
-      → Stands G (BlockAt G x w) (W.statement x c w k) k
+      → AtTokens G (BlockAt G x w) (W.statement x c w k) k
   statement (form.EmptyStatement at) c w k = tok B.anything (λ a. done a)
   statement (form.Expression x) c w k =
       next (B.expression_begins c) (next (B.room_due c) (evaluation x (level_up c) w k))
@@ -255,7 +255,7 @@ mutual
       on (function_ends (T.function_tree comments is_private owner name list opening body) at a) (done a)))))))
 
   construct : {G : Position → Type 0} (x : Construct) (c : Context) (w : Live) (at : Position) (k : Demands) → G at
-      → Stands G (Unit {0}) (W.construct x c w at k) k
+      → AtTokens G (Unit {0}) (W.construct x c w at k) k
   construct (form.Block f) c w at k g = block f c w k
   construct (form.If x) c w at k g = conditional x c w at k g
   construct (form.Switch item opening list) c w at k g =
@@ -280,13 +280,13 @@ mutual
       tok (B.unless_due due.LeftBrace) (λ d. test g (block h (level_up c) inner k)))))))
 
   conditional : {G : Position → Type 0} (x : Conditional) (c : Context) (w : Live) (at : Position) (k : Demands) → G at
-      → Stands G (Unit {0}) (W.conditional x c w at k) k
+      → AtTokens G (Unit {0}) (W.conditional x c w at k) k
   conditional (form.Guarded guard opening f rest) c w at k g =
       on (guarded guard c w (λ j. run guard _ j tt)) (tok (B.unless_due due.LeftBrace) (λ a.
       test g (on (block f (level_up c) w _) (branch rest c w at k g))))
 
   branch : {G : Position → Type 0} (x : Branch) (c : Context) (w : Live) (at : Position) (k : Demands) → G at
-      → Stands G (Unit {0}) (W.branch x c w at k) k
+      → AtTokens G (Unit {0}) (W.branch x c w at k) k
   branch form.NoElse c w at k g = next (B.absent due.Else) here
   branch (form.Else else_at opening f) c w at k g =
       tok B.anything (λ a. next (B.absent due.If) (tok (B.unless_due due.LeftBrace) (λ b.
@@ -295,7 +295,7 @@ mutual
       tok B.anything (λ a. tok B.anything (λ b. test g (conditional x (level_up c) w if_at k b)))
 
   arms : {G : Position → Type 0} (x : Arms) (before : Collected) (c : Context) (w : Live) (k : Demands)
-      → Stands G (Unit {0}) (W.arms x before c w k) k
+      → AtTokens G (Unit {0}) (W.arms x before c w k) k
   arms (form.NoArm closing) before c w k = tok B.arms_end (λ a. here)
   arms {G = G} (form.Arm xs guard arrow does comma rest) before c w k =
       let later = with_arm_collected before (case_trees xs w) (guard_tree guard w) (action_tree does w) in
@@ -308,7 +308,7 @@ mutual
       on (separated comma (action_ends does) _) (tok (B.default_ends at a) (λ d. here))))))
 
   cases : {G : Position → Type 0} (x : Cases) (c : Context) (w : Live) (k : Demands)
-      → Stands G (AllPlaced G (case_trees x w)) (W.cases x c w k) k
+      → AtTokens G (AllPlaced G (case_trees x w)) (W.cases x c w k) k
   cases (form.LastCase f) c w k =
       literally (expressed f (in_case c) (in_block w) (run f _ _ tt)) (λ h. next (B.absent due.Pipe) (done (h, tt)))
   cases (form.Case f pipe rest) c w k =
@@ -316,17 +316,17 @@ mutual
       after (cases rest c w k) (λ hs. done (h, hs))))
 
   case_guard : {G : Position → Type 0} (x : CaseGuard) (c : Context) (w : Live) (k : Demands)
-      → Stands G (Unit {0}) (W.case_guard x c w k) k
+      → AtTokens G (Unit {0}) (W.case_guard x c w k) k
   case_guard form.NoGuard c w k = next (B.absent due.If) here
   case_guard (form.Guard at f) c w k = tok B.anything (λ a. guarded f c w (λ j. run f _ j tt))
 
   action : {G : Position → Type 0} (x : Action) (c : Context) (w : Live) (k : Demands)
-      → Stands G (Unit {0}) (W.action x c w k) k
+      → AtTokens G (Unit {0}) (W.action x c w k) k
   action (form.Does f) c w k = shape (next B.action_due (on (statement f (below_global c) (in_block w) k) here))
   action (form.Gives f) c w k = shape (on (expressed f c w (run f _ _ tt)) here)
 
   statements : {G : Position → Type 0} (xs : Statements) (closing : Closing) (c : Context) (w : Live) (k : Demands)
-      → Stands G (Unit {0}) (W.statements xs closing c w k) k
+      → AtTokens G (Unit {0}) (W.statements xs closing c w k) k
   statements form.NoStatement closing c w k = next (B.list_ends closing) here
   statements (form.LastStatement f) closing c w k =
       next (B.statement_begins closing) (on (statement f c w _) (shape (next (B.closed_due closing) here)))
@@ -338,7 +338,7 @@ mutual
       statements rest closing c (after_statement f w) k)))
 
   block : {G : Position → Type 0} (x : Body) (c : Context) (w : Live) (k : Demands)
-      → Stands G (Unit {0}) (W.block x c w k) k
+      → AtTokens G (Unit {0}) (W.block x c w k) k
   block (form.Many fs closing) c w k =
       shape (on (statements fs Brace (below_global c) (in_block w) _) (tok (B.unless_due due.RightBrace) (λ a. here)))
   block (form.Single x closing) c w k =
@@ -360,7 +360,7 @@ all_taken G (k ∷ taken) f =
 
 -- A refusal of a form stands at an allowed position where all tokens do.
 whole : {P : Type 0} {ds : Demands} {ts : List Taken} (G : Position → Type 0) (s t : Point) (e : Refusal) (m : Mode)
-    → Stands G P ds Nothing → Leads code code ts ds Nothing → s.captured ≡ [] → Ends G m t → Missed ds s e m t → G e.at
+    → AtTokens G P ds Nothing → Leads code code ts ds Nothing → s.captured ≡ [] → Ends G m t → Missed ds s e m t → G e.at
 whole {P = P} {ds = ds} G s t e m h l c o x = by (h.stopped e m t o (record {
   start = s;
   mode = code;
@@ -375,7 +375,7 @@ whole {P = P} {ds = ds} G s t e m h l c o x = by (h.stopped e m t o (record {
     by (inr b) = absurd b.1.missed
 
 expression : {G : Position → Type 0} (c : Context) (w : Live) (f : Run)
-    → Stands G (Unit {0}) (W.whole_expression f c w) Nothing
+    → AtTokens G (Unit {0}) (W.whole_expression f c w) Nothing
 expression c w f = on (expressed f c w (run f _ _ tt)) (next B.end_due here)
 
 -- the tokens up to a point

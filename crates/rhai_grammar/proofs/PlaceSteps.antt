@@ -1,4 +1,4 @@
--- How refusals along demands stand at tokens.
+-- Refusals along demands are at tokens, step by step.
 use Rattle.std.proofs.Common.{◌≡◌, inl, inr, true, List, [], ◌∷◌, refl, sym, ◌∙◌, subst}
 use Rattle.rhai_grammar.specs.Prelude.{Adds, Ahead, Apart, Captures, Demands, Literally, Met, Missed, Mode, Next}
 use Rattle.rhai_grammar.specs.Prelude.{Nothing, Point, Position, Refusal, Shape, Taken, Test, TestIn, Tok, Use, Uses}

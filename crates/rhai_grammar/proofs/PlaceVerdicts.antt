@@ -1,4 +1,4 @@
--- What each verdict blames: nothing, or what stands at an allowed position.
+-- What each verdict blames: nothing, or what is at an allowed position.
 use Rattle.std.proofs.Common.{Bool, true, false, List, [], ◌∷◌, ℕ, if◌then◌else◌}
 use Rattle.std.specs.Prelude.{Option, Some, None}
 use Rattle.rhai_lower.specs.declared.token.Token.TheVariants as token

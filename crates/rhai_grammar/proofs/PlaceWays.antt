@@ -1,4 +1,4 @@
--- Ways along demands to a refusal that stands at a token.
+-- Ways along demands to a refusal at a token.
 use Rattle.std.proofs.Common.{◌≡◌, ◌⊎◌, inl, inr, ℕ, Bool, true, false, List, [], ◌∷◌, ◌++◌, refl, sym, subst}
 use Rattle.std.proofs.Common.{if◌then◌else◌}
 use Rattle.std.specs.Prelude.{Option, Some, None}
@@ -87,16 +87,16 @@ pub record Going (G : Position → Type 0) (last : Mode) (ds : Demands) (t : Poi
 
 -- Where all tokens stand at allowed positions, an error on the way to other demands does so, too. If there is none,
 -- a fact holds, and the others are missed.
-pub record Stands (G : Position → Type 0) (P : Type 0) (ds k : Demands) : Type 0 where
+pub record AtTokens (G : Position → Type 0) (P : Type 0) (ds k : Demands) : Type 0 where
   pub did : (last : Mode) (t : Point) → Closed G last t → Going G last ds t → P × Going G last k t
   pub stopped : (e : Refusal) (m : Mode) (t : Point) → Ends G m t → Refusing G ds e m t
       → G e.at ⊎ (P × Refusing G k e m t)
 
 module _ {G : Position → Type 0} where
-  pub done : {P : Type 0} {k : Demands} → P → Stands G P k k
+  pub done : {P : Type 0} {k : Demands} → P → AtTokens G P k k
   done p = record { did = λ n t o r. (p, r); stopped = λ e m t o r. inr (p, r) }
 
-  pub here : {k : Demands} → Stands G (Unit {0}) k k
+  pub here : {k : Demands} → AtTokens G (Unit {0}) k k
   here = done tt
 
   refusing : {ds : Demands} {e : Refusal} {m : Mode} {t : Point} (s : Point) (p q : Mode) → Modes p q ds
@@ -108,7 +108,7 @@ module _ {G : Position → Type 0} where
   going s p o u m = record { start = s; mode = p; modes = o; used = u; met = m }
 
   pub tok : {m : Mode} {i : Item} {v : Lexeme → Verdict} {P : Type 0} {ds k : Demands} → Places G v
-      → (G i.at → Stands G P ds k) → Stands G P (Tok m i v ▸ ds) k
+      → (G i.at → AtTokens G P ds k) → AtTokens G P (Tok m i v ▸ ds) k
   tok {m = m} {i = i} {v = v} {ds = ds} p h = record {
     did = λ n t o r.
         let s = past m r.start in
@@ -123,8 +123,8 @@ module _ {G : Position → Type 0} where
     ];
   }
 
-  pub ahead : {i : Item} {v : Lexeme → Verdict} {P : Type 0} {ds k : Demands} → Places G v → (G i.at → Stands G P ds k)
-      → Stands G P (Ahead i v ▸ ds) k
+  pub ahead : {i : Item} {v : Lexeme → Verdict} {P : Type 0} {ds k : Demands} → Places G v → (G i.at → AtTokens G P ds k)
+      → AtTokens G P (Ahead i v ▸ ds) k
   ahead {i = i} {v = v} {ds = ds} p h = record {
     did = λ n t o r.
         let g = next_met G ds code n r.start t (subst (λ x. Modes x n ds) r.modes.0 r.modes.1) r.met.1 o in
@@ -138,8 +138,8 @@ module _ {G : Position → Type 0} where
     ];
   }
 
-  pub next : {v : Lexeme → Verdict} {P : Type 0} {ds k : Demands} → Places G v → Stands G P ds k
-      → Stands G P (Next v ▸ ds) k
+  pub next : {v : Lexeme → Verdict} {P : Type 0} {ds k : Demands} → Places G v → AtTokens G P ds k
+      → AtTokens G P (Next v ▸ ds) k
   next {v = v} p h = record {
     did = λ n t o r. h.did n t o (going r.start r.mode r.modes r.used r.met.1);
     stopped = λ e n t o r. elim r.missed [
@@ -148,8 +148,8 @@ module _ {G : Position → Type 0} where
     ];
   }
 
-  pub test : {b : Bool} {d : Refusal} {P : Type 0} {ds k : Demands} → G d.at → Stands G P ds k
-      → Stands G P (Test b d ▸ ds) k
+  pub test : {b : Bool} {d : Refusal} {P : Type 0} {ds k : Demands} → G d.at → AtTokens G P ds k
+      → AtTokens G P (Test b d ▸ ds) k
   test {d = d} g h = record {
     did = λ n t o r. h.did n t o (going r.start r.mode r.modes r.used r.met.1);
     stopped = λ e n t o r. elim r.missed [
@@ -158,8 +158,8 @@ module _ {G : Position → Type 0} where
     ];
   }
 
-  pub test_in : {b : Library → Bool} {d : Refusal} {P : Type 0} {ds k : Demands} → G d.at → Stands G P ds k
-      → Stands G P (TestIn b d ▸ ds) k
+  pub test_in : {b : Library → Bool} {d : Refusal} {P : Type 0} {ds k : Demands} → G d.at → AtTokens G P ds k
+      → AtTokens G P (TestIn b d ▸ ds) k
   test_in {d = d} g h = record {
     did = λ n t o r. h.did n t o (going r.start r.mode r.modes r.used r.met.1);
     stopped = λ e n t o r. elim r.missed [
@@ -168,14 +168,14 @@ module _ {G : Position → Type 0} where
     ];
   }
 
-  pub shape : {b : Bool} {P : Type 0} {ds k : Demands} → Stands G P ds k → Stands G P (Shape b ▸ ds) k
+  pub shape : {b : Bool} {P : Type 0} {ds k : Demands} → AtTokens G P ds k → AtTokens G P (Shape b ▸ ds) k
   shape h = record {
     did = λ n t o r. h.did n t o (going r.start r.mode (r.modes r.met.0) r.used r.met.1);
     stopped = λ e n t o r.
         h.stopped e n t o (refusing r.start r.mode r.last (r.modes r.missed.0) r.used r.missed.1);
   }
 
-  pub adds : {x : Ended} {P : Type 0} {ds k : Demands} → Stands G P ds k → Stands G P (Adds x ▸ ds) k
+  pub adds : {x : Ended} {P : Type 0} {ds k : Demands} → AtTokens G P ds k → AtTokens G P (Adds x ▸ ds) k
   adds {x = x} h = record {
     did = λ n t o r. h.did n t o (going (adding x r.start) r.mode r.modes r.used r.met.1);
     stopped = λ e n t o r.
@@ -183,7 +183,7 @@ module _ {G : Position → Type 0} where
   }
 
   pub uses : {v : Library → Lexeme → Verdict} {c : Library → Lexeme → Bool} {u : Use} {P : Type 0} {ds k : Demands}
-      → ((l : Library) → Places G (v l)) → G u.at → Stands G P ds k → Stands G P (Uses v c u ▸ ds) k
+      → ((l : Library) → Places G (v l)) → G u.at → AtTokens G P ds k → AtTokens G P (Uses v c u ▸ ds) k
   uses {v = v} {c = c} {u = u} p g h = record {
     did = λ n t o r.
         let b = c r.start.library (next_at code r.start).lexeme in
@@ -198,7 +198,7 @@ module _ {G : Position → Type 0} where
   }
 
   pub captures : {x : Library → Bool} {d : Refusal} {c : Library → Bool} {u : Use} {P : Type 0} {ds k : Demands}
-      → G d.at → G u.at → Stands G P ds k → Stands G P (Captures x d c u ▸ ds) k
+      → G d.at → G u.at → AtTokens G P ds k → AtTokens G P (Captures x d c u ▸ ds) k
   captures {d = d} {c = c} {u = u} f g h = record {
     did = λ n t o r.
         let b = c r.start.library in
@@ -213,18 +213,18 @@ module _ {G : Position → Type 0} where
   }
 
   -- one after the other, where the second may rest on what the first gives
-  pub after : {P Q : Type 0} {ds k j : Demands} → Stands G P ds k → (P → Stands G Q k j) → Stands G Q ds j
+  pub after : {P Q : Type 0} {ds k j : Demands} → AtTokens G P ds k → (P → AtTokens G Q k j) → AtTokens G Q ds j
   after f g = record {
     did = λ n t o r. let x = f.did n t o r in (g x.0).did n t o x.1;
     stopped = λ e n t o r. elim (f.stopped e n t o r) [ inl a ↦ inl a | inr x ↦ (g x.0).stopped e n t o x.1 ];
   }
 
-  pub on : {P Q : Type 0} {ds k j : Demands} → Stands G P ds k → Stands G Q k j → Stands G Q ds j
+  pub on : {P Q : Type 0} {ds k j : Demands} → AtTokens G P ds k → AtTokens G Q k j → AtTokens G Q ds j
   on f g = after f (λ p. g)
 
   -- What is demanded literally is refused at the same position.
-  pub literally : {P Q : Type 0} {ds more k : Demands} → Stands G P ds Nothing → (P → Stands G Q more k)
-      → Stands G Q (Literally ds ▸ more) k
+  pub literally : {P Q : Type 0} {ds more k : Demands} → AtTokens G P ds Nothing → (P → AtTokens G Q more k)
+      → AtTokens G Q (Literally ds ▸ more) k
   literally {P = P} {Q = Q} {ds = ds} {more = more} {k = k} f g = record {
     did = λ n t o r.
         let m = r.met in
@@ -257,8 +257,8 @@ module _ {G : Position → Type 0} where
           (subst (λ (p : Point). AllUses G p.captured) x.1.met x.1.used) m.2)
 
   -- The names that a closure captures stand at allowed positions.
-  pub apart_from : {P Q : Type 0} {ds more k : Demands} {number : ℕ} {us : List Use} → Stands G P ds Nothing
-      → (AllUses G us → Stands G Q more k) → Stands G Q (Apart ds number us ▸ more) k
+  pub apart_from : {P Q : Type 0} {ds more k : Demands} {number : ℕ} {us : List Use} → AtTokens G P ds Nothing
+      → (AllUses G us → AtTokens G Q more k) → AtTokens G Q (Apart ds number us ▸ more) k
   apart_from {P = P} {Q = Q} {ds = ds} {more = more} {k = k} {number = number} {us = us} f g = record {
     did = λ n t o r.
         let m = r.met in
@@ -294,7 +294,7 @@ module _ {G : Position → Type 0} where
 
   -- ---- the error that there may be, and the raise after an operand
 
-  pub unfaulted : (r : Option Refusal) {P : Type 0} {k j : Demands} → FaultAt G r → Stands G P k j
-      → Stands G P (W.unfaulted r k) j
+  pub unfaulted : (r : Option Refusal) {P : Type 0} {k j : Demands} → FaultAt G r → AtTokens G P k j
+      → AtTokens G P (W.unfaulted r k) j
   unfaulted None g h = h
   unfaulted (Some e) g h = test g h

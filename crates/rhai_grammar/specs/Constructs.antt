@@ -1,4 +1,4 @@
--- Constructs: where each may stand, and what is refused inside them.
+-- Constructs: where each is allowed, and what is refused inside them.
 use Rattle.std.specs.Prelude.{◌≡◌, Bool, true, false, Option, Some, None, codes, if◌then◌else◌, pos, refl}
 use Rattle.rhai_lower.specs.Texts.{Text}
 use Rattle.rhai_lower.specs.Positions.{place}

@@ -1,4 +1,4 @@
--- What a form stands in: settings, limits, earlier definitions. Its meaning depends on these.
+-- The context of a form: settings, limits, earlier definitions. Its meaning depends on these.
 use Rattle.std.specs.Prelude.{◌≡◌, ℕ, ◌==◌, Bool, true, false, ◌&&◌, not, List, [], length, nat_lt, refl}
 use Rattle.std.specs.Int.RustNames.{bit_and}
 use Rattle.rhai_lower.specs.Texts.{Text}

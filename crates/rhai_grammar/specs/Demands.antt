@@ -1,4 +1,4 @@
--- What a form may demand of a stream, when met, when missed. Demands are met or missed along the stream.
+-- What a form may demand of a stream, and when that is met or missed. Demands are met or missed along the stream.
 use Rattle.std.specs.Prelude.{◌≡◌, ◌⊎◌, ℕ, List, Bool, true, false, refl, if◌then◌else◌}
 use mathlib.Core.Logic.{inl}
 use Rattle.rhai_lower.specs.Lexemes.{Lexeme}

@@ -1,4 +1,4 @@
--- How deep a form is: how many of its parts lie one in another. These are its expressions, blocks, functions and
+-- How deep a form is: how many of its parts are inside one another. These are its expressions, blocks, functions and
 -- closures, counted together, and the greatest number counts.
 use Rattle.std.specs.Prelude.{◌≡◌, ℕ, ◌+◌, None, [], codes, false, max, refl}
 use Rattle.rhai_lower.specs.Positions.{place}

@@ -1,4 +1,4 @@
--- Functions: where they may stand, their parts, and what they give.
+-- Functions: where they are allowed, their parts, and what they give.
 use Rattle.std.specs.Prelude.{◌≡◌, ◌+◌, Bool, true, false, ◌++◌, not, None, Option, Some, List, [], ◌∷◌, codes, length}
 use Rattle.std.specs.Prelude.{if◌then◌else◌, map, nat_lt, refl}
 use Rattle.rhai_lower.specs.Texts.{Text, same_text}

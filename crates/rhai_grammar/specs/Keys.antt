@@ -1,4 +1,4 @@
--- What tells functions apart, and what the keys of a library say.
+-- The keys of functions, and what the keys of a library say.
 use Rattle.std.specs.Prelude.{◌≡◌, ℕ, Bool, true, false, List, [], ◌∷◌, ◌++◌, Option, None, Some, ◌&&◌, nat_eq}
 use Rattle.std.specs.Prelude.{map}
 use Rattle.std.specs.Prelude.{count_by, option_map, codes, refl}

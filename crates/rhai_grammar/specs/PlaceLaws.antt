@@ -1,4 +1,4 @@
--- A law on where refusals stand: at tokens of the stream, or at its end.
+-- A law: refusals are at tokens of the stream, or at its end.
 use Rattle.std.specs.Prelude.{◌≡◌, ◌⊎◌, List, [], map, refl}
 use Rattle.std.specs.List.{Contains}
 use Rattle.std.proofs.Math.Nat.{le_refl}

@@ -1,4 +1,4 @@
--- What was seen of a stream, and streams that begin so.
+-- The tokens seen of a stream, and streams that begin with them.
 use Rattle.std.specs.Prelude.{◌≡◌, Bool, true, false, List, [], ◌∷◌, refl}
 use Rattle.rhai_lower.specs.Positions.{place}
 use Rattle.rhai_lower.specs.Lexemes.{Lexeme, Sign}

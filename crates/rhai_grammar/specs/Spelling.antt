@@ -1,4 +1,4 @@
--- The tokens that a written form is spelled with, and streams of such tokens.
+-- The tokens of a written form, and streams of such tokens.
 use Rattle.std.specs.Prelude.{◌≡◌, Bool, true, false, Option, Some, None, List, [], ◌∷◌, ◌++◌, pos, codes, refl}
 use Rattle.rhai_lower.specs.Names.{is_identifier}
 use Rattle.rhai_lower.specs.Positions.{place}

@@ -1,4 +1,4 @@
--- The place of a run or of a link: its settings, and what stands around.
+-- The context of a run or of a link: settings, and what is around.
 use Rattle.std.specs.Prelude.{Bool, true, Option, Some, None, List, [], ◌∷◌, ◌++◌}
 use Rattle.rhai_lower.specs.Lexemes.{Lexeme}
 use Rattle.rhai_lower.specs.Nodes.{Node, position_of}

@@ -1,4 +1,4 @@
-//! What a token is where it stands: one enum for each place.
+//! The roles of tokens: one enum for each place in the grammar.
 
 /// A construct that begins with `{` or with a keyword. It is a statement; most may be operands, where the options allow
 /// it.

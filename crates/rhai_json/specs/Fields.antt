@@ -1,11 +1,13 @@
--- What stands in the JSON for a field. A definition takes the tokens that were written before, and gives them with those
--- of the field behind them.
+-- The JSON of a field. A definition takes the tokens that were written before, and gives them with those of the field
+-- behind them.
 use Rattle.std.specs.Prelude.{◌≡◌, ℕ, ℤ, Bool, Option, Some, None, List, [], ◌∷◌, ◌++◌, codes, refl}
 use Rattle.std.specs.Fmt.{decimal, digits, signed_decimal}
-use Rattle.json.specs.Token.{Token, begin_array, begin_object, boolean, end_array, end_object, key, null, number, string}
+use Rattle.json.specs.Token.{Token, begin_array, begin_object, boolean, end_array, end_object, key, null, number}
+use Rattle.json.specs.Token.{string}
 use Rattle.rhai_lower.specs.Positions.{column_of, line_of, nowhere, place}
 use Rattle.rhai_lower.specs.Texts.{Text}
 use Rattle.rhai_lower.specs.declared.position.Position.{Position}
+use Rattle.rhai_tokenizer.specs.declared.tokens.Span.{Span}
 
 infixl 10 ◌▷◌
 -- what is written, and then what comes next
@@ -40,12 +42,23 @@ optional_number_field name (Some n) ts = number_field name n ts
 -- a line and a column, or null
 abbrev pub place_value : Option ℕ → Option ℕ → List Token → List Token
 place_value (Some line) (Some column) ts =
-    ts ▷ put begin_object ▷ number_field (codes "line") line ▷ number_field (codes "column") column ▷ put end_object
+    ts ▷ put begin_object ▷ number_field (codes "line") line ▷ number_field (codes "column") column
+    ▷ put end_object
 place_value (Some line) None ts = ts ▷ put null
 place_value None column ts = ts ▷ put null
 
 unfoldable pub position_field : Text → Position → List Token → List Token
 position_field name p ts = ts ▷ put (key name) ▷ place_value (line_of p) (column_of p)
+
+-- bytes from a first one to before another, or null
+abbrev pub span_value : Option Span → List Token → List Token
+span_value None ts = ts ▷ put null
+span_value (Some s) ts =
+    ts ▷ put begin_object ▷ number_field (codes "start") s.start ▷ number_field (codes "stop") s.stop
+    ▷ put end_object
+
+unfoldable pub span_field : Option Span → List Token → List Token
+span_field s ts = ts ▷ put (key (codes "span")) ▷ span_value s
 
 -- the items of a list, each written by this
 abbrev pub items : {A : Type 0} → (A → List Token → List Token) → List A → List Token → List Token
@@ -53,7 +66,8 @@ items write [] ts = ts
 items write (x ∷ xs) ts = items write xs (write x ts)
 
 -- a list of items, each written by this
-abbrev pub list_field : {A : Type 0} → Text → (A → List Token → List Token) → List A → List Token → List Token
+abbrev pub list_field : {A : Type 0} → Text → (A → List Token → List Token) → List A → List Token
+    → List Token
 list_field name write xs ts = ts ▷ put (key name) ▷ put begin_array ▷ items write xs ▷ put end_array
 
 unfoldable pub texts_field : Text → List Text → List Token → List Token
@@ -81,8 +95,9 @@ node_start kind p ts =
     ts ▷ put begin_object ▷ text_field (codes "kind") kind ▷ position_field (codes "position") p
 
 -- `"position":{"line":1,"column":3}`, and `"end":null` for no position.
-example : (position_field (codes "position") (place 1 3) [] ≡ key (codes "position") ∷ begin_object ∷ key (codes "line")
-    ∷ number (codes "1") ∷ key (codes "column") ∷ number (codes "3") ∷ end_object ∷ [])
+example : (position_field (codes "position") (place 1 3) []
+    ≡ key (codes "position") ∷ begin_object ∷ key (codes "line") ∷ number (codes "1") ∷ key (codes "column")
+    ∷ number (codes "3") ∷ end_object ∷ [])
     × (position_field (codes "end") nowhere [] ≡ key (codes "end") ∷ null ∷ [])
 unfolding position_field number_field put digits
 example = (refl, refl)

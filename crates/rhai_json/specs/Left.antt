@@ -1,4 +1,4 @@
--- What is still to be written of a tree: its pieces, in this order.
+-- What is yet to be written of a tree: its pieces, in this order.
 use Rattle.std.specs.Prelude.{ℕ, ◌+◌, Box, List, None, Option, Some, [], ◌∷◌, box_value, map, reverse}
 use Rattle.std.specs.declared.alloc.Global.{Global}
 use Rattle.json.specs.Token.{Token, end_object, key, null}

@@ -1,3 +1,7 @@
+pub mod Errors
 pub mod Fields
-pub mod Trees
 pub mod Left
+pub mod NameLists
+pub mod Reports
+pub mod TokenLists
+pub mod Trees

@@ -1,5 +1,5 @@
--- What stands in the JSON for a tree: an object for each node. A definition takes the tokens that were written before,
--- and gives them with those of the node behind them.
+-- The JSON of a tree: an object for each node. A definition takes the tokens that were written before, and gives them
+-- with those of the node behind them.
 use Rattle.std.specs.Prelude.{◌≡◌, ℕ, Option, List, [], ◌∷◌, codes, option_map, refl}
 use Rattle.std.specs.Char.{encode_utf8}
 use Rattle.std.specs.Fmt.{digits}
@@ -22,9 +22,9 @@ use Rattle.rhai_lower.specs.Tokens.{literal_of}
 use Rattle.rhai_lower.specs.declared.node.LinkFlags.{LinkFlags}
 use Rattle.rhai_lower.specs.declared.node.RangeCase.{RangeCase}
 use Rattle.rhai_lower.specs.declared.position.Position.{Position}
-use Rattle.rhai_json.specs.Fields.{◌▷◌, flag_field, ident_fields, integer_field, list_field, namespace_field, node_start}
-use Rattle.rhai_json.specs.Fields.{number_field, numbers_field, optional_number_field, optional_text_field}
-use Rattle.rhai_json.specs.Fields.{position_field, put, text_field, texts_field}
+use Rattle.rhai_json.specs.Fields.{◌▷◌, flag_field, ident_fields, integer_field, list_field, namespace_field}
+use Rattle.rhai_json.specs.Fields.{node_start, number_field, numbers_field, optional_number_field}
+use Rattle.rhai_json.specs.Fields.{optional_text_field, position_field, put, text_field, texts_field}
 
 -- Rhai's names of the kinds of nodes
 unfoldable pub kind_of : Node → Text
@@ -138,8 +138,8 @@ statement_fields (do_statement guard body negated p) ts = ts ▷ flag_field (cod
 statement_fields (for_statement name counter over body p) ts =
     ts ▷ text_field (codes "name") name ▷ optional_text_field (codes "counter") counter
 statement_fields (var_statement name value i c e p) ts =
-    ts ▷ text_field (codes "name") name ▷ optional_number_field (codes "index") i ▷ flag_field (codes "constant") c
-    ▷ flag_field (codes "exported") e
+    ts ▷ text_field (codes "name") name ▷ optional_number_field (codes "index") i
+    ▷ flag_field (codes "constant") c ▷ flag_field (codes "exported") e
 statement_fields (assignment op target value p) ts = ts ▷ optional_text_field (codes "op") (option_map sign_text op)
 statement_fields (break_loop value breaks p) ts = ts ▷ flag_field (codes "breaks") breaks
 statement_fields (return_statement value throws p) ts = ts ▷ flag_field (codes "throws") throws
@@ -170,18 +170,20 @@ unfoldable mutual
   pub node_json : Node → List Token → List Token
   node_json (interpolated xs p) ts =
       ts ▷ begun (interpolated xs p) ▷ list_start (codes "parts") ▷ nodes_json xs ▷ put end_object
-  node_json (array xs p) ts = ts ▷ begun (array xs p) ▷ list_start (codes "items") ▷ nodes_json xs ▷ put end_object
+  node_json (array xs p) ts =
+      ts ▷ begun (array xs p) ▷ list_start (codes "items") ▷ nodes_json xs ▷ put end_object
   node_json (object_map ps p) ts =
       ts ▷ begun (object_map ps p) ▷ list_start (codes "properties") ▷ properties_json ps ▷ put end_object
-  node_json (call c xs p) ts = ts ▷ begun (call c xs p) ▷ list_start (codes "args") ▷ nodes_json xs ▷ put end_object
+  node_json (call c xs p) ts =
+      ts ▷ begun (call c xs p) ▷ list_start (codes "args") ▷ nodes_json xs ▷ put end_object
   node_json (method_call c xs p) ts =
       ts ▷ begun (method_call c xs p) ▷ list_start (codes "args") ▷ nodes_json xs ▷ put end_object
   node_json (dot l r flags p) ts =
-      ts ▷ begun (dot l r flags p) ▷ put (key (codes "lhs")) ▷ node_json l ▷ put (key (codes "rhs")) ▷ node_json r
-      ▷ put end_object
+      ts ▷ begun (dot l r flags p) ▷ put (key (codes "lhs")) ▷ node_json l
+      ▷ put (key (codes "rhs")) ▷ node_json r ▷ put end_object
   node_json (index l r flags p) ts =
-      ts ▷ begun (index l r flags p) ▷ put (key (codes "lhs")) ▷ node_json l ▷ put (key (codes "rhs")) ▷ node_json r
-      ▷ put end_object
+      ts ▷ begun (index l r flags p) ▷ put (key (codes "lhs")) ▷ node_json l
+      ▷ put (key (codes "rhs")) ▷ node_json r ▷ put end_object
   node_json (conjunction xs p) ts =
       ts ▷ begun (conjunction xs p) ▷ list_start (codes "operands") ▷ nodes_json xs ▷ put end_object
   node_json (disjunction xs p) ts =
@@ -218,7 +220,8 @@ unfoldable mutual
   pub statement_json : Statement → List Token → List Token
   statement_json (if_statement guard body branch p) ts =
       ts ▷ statement_begun (if_statement guard body branch p) ▷ put (key (codes "expr")) ▷ node_json guard
-      ▷ put (key (codes "body")) ▷ block_json body ▷ put (key (codes "branch")) ▷ block_json branch ▷ put end_object
+      ▷ put (key (codes "body")) ▷ block_json body ▷ put (key (codes "branch")) ▷ block_json branch
+      ▷ put end_object
   statement_json (switch_statement x arms cases ranges d p) ts =
       ts ▷ statement_begun (switch_statement x arms cases ranges d p) ▷ put (key (codes "item")) ▷ node_json x
       ▷ list_start (codes "expressions") ▷ arms_json arms ▷ list_start (codes "cases") ▷ cases_json cases
@@ -244,7 +247,8 @@ unfoldable mutual
       ts ▷ statement_begun (block_statement b) ▷ put (key (codes "block")) ▷ block_json b ▷ put end_object
   statement_json (try_catch body name branch p) ts =
       ts ▷ statement_begun (try_catch body name branch p) ▷ put (key (codes "expr")) ▷ node_json name
-      ▷ put (key (codes "body")) ▷ block_json body ▷ put (key (codes "branch")) ▷ block_json branch ▷ put end_object
+      ▷ put (key (codes "body")) ▷ block_json body ▷ put (key (codes "branch")) ▷ block_json branch
+      ▷ put end_object
   statement_json (break_loop value breaks p) ts =
       ts ▷ statement_begun (break_loop value breaks p) ▷ put (key (codes "value")) ▷ value_json value
       ▷ put end_object
@@ -271,8 +275,8 @@ unfoldable mutual
   pub arms_json : Arms → List Token → List Token
   arms_json no_arms ts = ts ▷ put end_array
   arms_json (one_arm guard action arms) ts =
-      ts ▷ put begin_object ▷ put (key (codes "lhs")) ▷ node_json guard ▷ put (key (codes "rhs")) ▷ node_json action
-      ▷ put end_object ▷ arms_json arms
+      ts ▷ put begin_object ▷ put (key (codes "lhs")) ▷ node_json guard
+      ▷ put (key (codes "rhs")) ▷ node_json action ▷ put end_object ▷ arms_json arms
 
   pub cases_json : Cases → List Token → List Token
   cases_json no_cases ts = ts ▷ put end_array

@@ -12,7 +12,8 @@ use std::alloc::AllocError;
 
 /// The arms that a value leads to.
 pub fn put_indices(out: &mut Out, case: &SwitchCase) -> Result<(), AllocError>
-    ensures { OnOk result (out.new ≡ numbers_field (codes "indices") (out-SwitchCase case.now).indices.items out.old) }
+    ensures { OnOk result (out.new
+        ≡ numbers_field (codes "indices") (out-SwitchCase case.now).indices.items out.old) }
 {
     put_numbers(out, "indices", &case.indices)
 }

@@ -1,81 +1,71 @@
 //! `diagnostic_json`: why a script is refused.
 
+ghost use Rattle.std.specs.Prelude.{◌≡◌, [], IfOk, OnOk, codes, string_bytes};
+ghost use Rattle.json.specs.Print.{print};
+ghost use Rattle.rhai_json.specs.Fields.{list_field, optional_text_field};
+ghost use Rattle.rhai_json.specs.Reports.{name_of, note_value, place_fields, report_value};
+
 use crate::errors::put_refusal;
-use crate::fields::{put_number, put_optional_number, put_optional_text, put_text};
+use crate::fields::{put_optional_number, put_optional_text, put_span, put_text};
 use crate::out::Out;
-use rhai_grammar::ParseError;
-use rhai_lower::Position;
-use rhai_tokenizer::{Span, Tokens};
+use rhai_report::{Mark, Note, Report};
+use rhai_tokenizer::Span;
 use std::alloc::{AllocError, Global};
 
-/// A refusal, and what a reader is told of it.
-#[derive(Clone, Copy)]
-pub struct Diagnostic<'a> {
-    /// The name of the script's file, if it has one.
-    pub file: Option<&'a str>,
-    /// Why the script is refused, and where.
-    pub error: &'a ParseError,
-    /// The bytes of the token at which the script is refused, if there is one.
-    pub span: Option<Span>,
-    /// What else a reader is told, in this order.
-    pub notes: &'a [String],
+// The fields of a place: its line, its column, and the bytes there; each null for no place.
+fn put_place(out: &mut Out, mark: Option<Mark>) -> Result<(), AllocError>
+    ensures { OnOk result (out.new ≡ place_fields mark out.old) }
+{
+    put_optional_number(out, "line", mark.map(|mark| mark.line))?;
+    put_optional_number(out, "column", mark.map(|mark| mark.column))?;
+    let span = mark.map(|Mark { start, stop, .. }| Span { start, stop });
+    put_span(out, span)
 }
 
-/// The bytes of the token that stands at a position, or of the end mark; `None` if none stands there, or more than one
-/// does, as where positions are as great as they can be.
-pub fn span_at(tokens: &Tokens, pos: Position) -> Option<Span> {
-    let mut found = None;
-    if tokens.end == pos {
-        found = tokens.spans.last().copied();
-    }
-    for (entry, span) in tokens.entries.iter().zip(tokens.spans.iter()) {
-        if entry.pos == pos && found.replace(*span).is_some() {
-            return None;
-        }
-    }
-    found
-}
-
-/// The bytes from `start` to before `stop`, or null.
-pub fn put_span(out: &mut Out, span: Option<Span>) -> Result<(), AllocError> {
-    out.key("span")?;
-    let Some(span) = span else {
-        return out.null();
-    };
+fn put_note(out: &mut Out, note: &Note) -> Result<(), AllocError>
+    ensures { OnOk result (out.new ≡ note_value note.now out.old) }
+{
     out.begin_object()?;
-    put_number(out, "start", span.start)?;
-    put_number(out, "stop", span.stop)?;
+    put_text(out, "message", &note.text)?;
+    put_place(out, note.mark)?;
     out.end_object()
 }
 
-fn put_notes(out: &mut Out, notes: &[String]) -> Result<(), AllocError> {
+fn put_notes(out: &mut Out, notes: &[Note]) -> Result<(), AllocError>
+    ensures { OnOk result (out.new ≡ list_field (codes "notes") note_value notes.now out.old) }
+{
     out.key("notes")?;
     out.begin_array()?;
     for note in notes {
-        out.text(note)?;
+        put_note(out, note)?;
     }
     out.end_array()
 }
 
-/// A refusal as one JSON object: `file` (or null), `kind` and `payload` (what the error names), `message` (Rhai's,
-/// without the position), `line` and `column` (from 1, or null for none), `span` (the token's bytes, or null) and
-/// `notes`. docs/JSON.md has the payload of each kind. Returns `AllocError` if memory runs out.
-pub fn diagnostic_json(alloc: Global, diagnostic: &Diagnostic<'_>) -> Result<String, AllocError> {
-    let ParseError(kind, pos) = diagnostic.error;
+// The name of the file; null if there is none.
+fn put_file(out: &mut Out, name: &str) -> Result<(), AllocError>
+    ensures { OnOk result (out.new ≡ optional_text_field (codes "file") (name_of name.now) out.old) }
+{
+    if name.is_empty() {
+        return put_optional_text(out, "file", None);
+    }
+    put_optional_text(out, "file", Some(name))
+}
+
+/// What is told of a refused script, as one JSON object: `file` (or null), `kind` and `payload` (what the error names),
+/// `message`, `line` and `column` (from 1), `span` (the token's bytes in the file), and `notes`, each with its own
+/// `message` and place. A place that there is none of is null. docs/JSON.md has the payload of each kind. Returns
+/// `AllocError` if memory runs out.
+pub fn diagnostic_json(alloc: Global, report: &Report<'_>) -> Result<String, AllocError>
+    ensures { IfOk result (λ text. string_bytes text ≡ print (report_value report.now [])) }
+{
     let mut out = Out::new(alloc);
     out.begin_object()?;
-    put_optional_text(&mut out, "file", diagnostic.file)?;
-    put_refusal(&mut out, kind)?;
-    let message = format!(in alloc; "{kind}")?;
-    put_text(&mut out, "message", message.as_str())?;
-    put_optional_number(&mut out, "line", pos.line().map(|line| line as usize))?;
-    put_optional_number(
-        &mut out,
-        "column",
-        pos.column().map(|column| column as usize),
-    )?;
-    put_span(&mut out, diagnostic.span)?;
-    put_notes(&mut out, diagnostic.notes)?;
+    put_file(&mut out, report.source.name)?;
+    put_refusal(&mut out, &report.error.0)?;
+    put_text(&mut out, "message", &report.message)?;
+    put_place(&mut out, report.mark)?;
+    put_notes(&mut out, &report.notes)?;
     out.end_object()?;
     Ok(out.into_text())
 }

@@ -1,101 +1,147 @@
 //! Errors by Rhai's name of their kind and by what they name.
 
+ghost use Rattle.std.specs.Prelude.{◌≡◌, OnOk, codes};
+ghost use Rattle.json.specs.Token.{begin_object, key};
+ghost use Rattle.rhai_lower.specs.Lexemes.{fault};
+ghost use Rattle.rhai_json.specs.Fields.{◌▷◌, number_field, put, text_field};
+ghost use Rattle.rhai_json.specs.Errors.{fault_kind, fault_payload, fault_value, input_kind, input_payload};
+ghost use Rattle.rhai_json.specs.Errors.{input_value, refusal_fields, refusal_kind, refusal_payload, texts};
+
 use crate::fields::{put_number, put_text};
 use crate::out::Out;
 use rhai_grammar::{InputError, ParseErrorType};
 use rhai_lower::LexError;
 use std::alloc::AllocError;
 
-/// What an error names, with the keys.
-#[derive(Clone, Copy)]
-pub enum Payload<'a> {
-    Nothing,
-    Text(&'static str, &'a str),
-    Texts(&'static str, &'a str, &'static str, &'a str),
-    Number(&'static str, usize),
-    TextAndNumber(&'static str, &'a str, &'static str, usize),
-    Input(&'a InputError),
-    Lexer(&'a LexError),
+fn put_two_texts(
+    out: &mut Out,
+    key: &str,
+    text: &str,
+    other: &str,
+    more: &str,
+) -> Result<(), AllocError>
+    ensures { OnOk result (out.new ≡ texts key.now text.now other.now more.now out.old) }
+{
+    put_text(out, key, text)?;
+    put_text(out, other, more)
 }
 
-/// Rhai's name of a kind of error, and what the error names.
-#[derive(Clone, Copy)]
-pub struct Described<'a>(pub &'static str, pub Payload<'a>);
+fn put_text_and_number(
+    out: &mut Out,
+    key: &str,
+    text: &str,
+    other: &str,
+    number: usize,
+) -> Result<(), AllocError>
+    ensures { OnOk result (out.new ≡ out.old ▷ text_field key.now text.now ▷ number_field other.now number) }
+{
+    put_text(out, key, text)?;
+    put_number(out, other, number)
+}
 
-fn describe_lex_error(error: &LexError) -> Described<'_> {
+// The kind, and the beginning of the object of what it names.
+fn begin_payload(out: &mut Out, kind: &str) -> Result<(), AllocError>
+    ensures { OnOk result (out.new
+        ≡ out.old ▷ text_field (codes "kind") kind.now ▷ put (key (codes "payload")) ▷ put begin_object) }
+{
+    put_text(out, "kind", kind)?;
+    out.key("payload")?;
+    out.begin_object()
+}
+
+#[tactic(auto, unfolding(crate::specs::Errors::fault_kind))]
+fn lex_error_name(error: &LexError) -> &'static str
+    ensures { result.now ≡ fault_kind (fault error.now) }
+{
     match error {
-        LexError::UnterminatedString => Described("UnterminatedString", Payload::Nothing),
-        LexError::StringTooLong(limit) => {
-            Described("StringTooLong", Payload::Number("limit", *limit))
-        }
-        LexError::MalformedNumber(text) => {
-            Described("MalformedNumber", Payload::Text("text", text))
-        }
-        LexError::ImproperSymbol(symbol) => Described(
-            "ImproperSymbol",
-            Payload::Texts("symbol", &symbol.0, "note", &symbol.1),
-        ),
-        LexError::UnexpectedInput(text) => {
-            Described("UnexpectedInput", Payload::Text("text", text))
-        }
-        LexError::OutOfMemory => Described("OutOfMemory", Payload::Nothing),
+        LexError::UnterminatedString => "UnterminatedString",
+        LexError::StringTooLong(_) => "StringTooLong",
+        LexError::MalformedNumber(_) => "MalformedNumber",
+        LexError::ImproperSymbol(_) => "ImproperSymbol",
+        LexError::UnexpectedInput(_) => "UnexpectedInput",
+        LexError::OutOfMemory => "OutOfMemory",
     }
 }
 
-fn describe_input_error(error: &InputError) -> Described<'_> {
+#[tactic(auto, unfolding(crate::specs::Errors::fault_payload))]
+fn put_lex_payload(out: &mut Out, error: &LexError) -> Result<(), AllocError>
+    ensures { OnOk result (out.new ≡ fault_payload (fault error.now) out.old) }
+{
     match error {
-        InputError::UnexpectedInput(text) => {
-            Described("UnexpectedInput", Payload::Text("text", text))
+        LexError::StringTooLong(limit) => put_number(out, "limit", *limit),
+        LexError::MalformedNumber(text) | LexError::UnexpectedInput(text) => {
+            put_text(out, "text", text)
         }
-        InputError::Lexer(error) => Described("Lexer", Payload::Lexer(error)),
-        InputError::MalformedNumber(text) => {
-            Described("MalformedNumber", Payload::Text("text", text))
+        LexError::ImproperSymbol(symbol) => {
+            put_two_texts(out, "symbol", &symbol.0, "note", &symbol.1)
         }
-        InputError::ImproperSymbol(symbol, note) => Described(
-            "ImproperSymbol",
-            Payload::Texts("symbol", symbol, "note", note),
-        ),
+        LexError::UnterminatedString | LexError::OutOfMemory => Ok(()),
     }
 }
 
-// What a refusal names.
-fn payload_of(kind: &ParseErrorType) -> Payload<'_> {
-    match kind {
-        ParseErrorType::BadInput(error) => Payload::Input(error),
-        ParseErrorType::UnknownOperator(symbol) => Payload::Text("symbol", symbol),
-        ParseErrorType::MissingToken(token, note) => {
-            Payload::Texts("token", token, "note", note)
-        }
-        ParseErrorType::ExprExpected(what) => Payload::Text("what", what),
-        ParseErrorType::MismatchedType(expected, found) => {
-            Payload::Texts("expected", expected, "found", found)
-        }
-        ParseErrorType::MalformedIndexExpr(note)
-        | ParseErrorType::MalformedCapture(note)
-        | ParseErrorType::AssignmentToInvalidLHS(note) => Payload::Text("note", note),
-        ParseErrorType::Reserved(word) => Payload::Text("word", word),
-        ParseErrorType::DuplicatedProperty(name)
-        | ParseErrorType::DuplicatedVariable(name)
-        | ParseErrorType::VariableExists(name)
-        | ParseErrorType::VariableUndefined(name)
-        | ParseErrorType::ModuleUndefined(name)
-        | ParseErrorType::FnMissingParams(name)
-        | ParseErrorType::FnMissingBody(name)
-        | ParseErrorType::AssignmentToConstant(name) => Payload::Text("name", name),
-        ParseErrorType::FnDuplicatedParam(name, param) => {
-            Payload::Texts("name", name, "param", param)
-        }
-        ParseErrorType::FnDuplicatedDefinition(name, params) => {
-            Payload::TextAndNumber("name", name, "params", *params)
-        }
-        ParseErrorType::LiteralTooLarge(what, limit) => {
-            Payload::TextAndNumber("what", what, "limit", *limit)
-        }
-        _ => Payload::Nothing,
+/// An error of the tokenizer, as an object of its kind and of what it names.
+pub fn put_lex_error(out: &mut Out, error: &LexError) -> Result<(), AllocError>
+    ensures { OnOk result (out.new ≡ fault_value (fault error.now) out.old) }
+{
+    out.begin_object()?;
+    begin_payload(out, lex_error_name(error))?;
+    put_lex_payload(out, error)?;
+    out.end_object()?;
+    out.end_object()
+}
+
+#[tactic(auto, unfolding(crate::specs::Errors::input_kind))]
+fn input_error_name(error: &InputError) -> &'static str
+    ensures { result.now ≡ input_kind error.now }
+{
+    match error {
+        InputError::UnexpectedInput(_) => "UnexpectedInput",
+        InputError::Lexer(_) => "Lexer",
+        InputError::MalformedNumber(_) => "MalformedNumber",
+        InputError::ImproperSymbol(_, _) => "ImproperSymbol",
     }
 }
 
-fn kind_name(kind: &ParseErrorType) -> &'static str {
+// The error of the tokenizer that an input is refused for.
+fn put_inner_error(out: &mut Out, error: &LexError) -> Result<(), AllocError>
+    ensures { OnOk result (out.new ≡ out.old ▷ put (key (codes "error")) ▷ fault_value (fault error.now)) }
+{
+    out.key("error")?;
+    put_lex_error(out, error)
+}
+
+#[tactic(auto, unfolding(crate::specs::Errors::input_payload))]
+fn put_input_payload(out: &mut Out, error: &InputError) -> Result<(), AllocError>
+    ensures { OnOk result (out.new ≡ input_payload error.now out.old) }
+{
+    match error {
+        InputError::UnexpectedInput(text) | InputError::MalformedNumber(text) => {
+            put_text(out, "text", text)
+        }
+        InputError::Lexer(error) => put_inner_error(out, error),
+        InputError::ImproperSymbol(symbol, note) => {
+            put_two_texts(out, "symbol", symbol, "note", note)
+        }
+    }
+}
+
+// An input that cannot be used, with the key of an error.
+fn put_input_error(out: &mut Out, error: &InputError) -> Result<(), AllocError>
+    ensures { OnOk result (out.new ≡ out.old ▷ put (key (codes "error")) ▷ input_value error.now) }
+{
+    out.key("error")?;
+    out.begin_object()?;
+    begin_payload(out, input_error_name(error))?;
+    put_input_payload(out, error)?;
+    out.end_object()?;
+    out.end_object()
+}
+
+// Rhai's name of the kind of a refusal.
+#[tactic(auto, unfolding(crate::specs::Errors::refusal_kind))]
+fn kind_name(kind: &ParseErrorType) -> &'static str
+    ensures { result.now ≡ refusal_kind kind.now }
+{
     match kind {
         ParseErrorType::UnexpectedEOF => "UnexpectedEOF",
         ParseErrorType::BadInput(_) => "BadInput",
@@ -134,71 +180,51 @@ fn kind_name(kind: &ParseErrorType) -> &'static str {
     }
 }
 
-// The fields of a payload that holds no other error.
-fn put_plain_fields(out: &mut Out, payload: Payload<'_>) -> Result<(), AllocError> {
-    match payload {
-        Payload::Text(key, text) => put_text(out, key, text),
-        Payload::Texts(key, text, other, more) => {
-            put_text(out, key, text)?;
-            put_text(out, other, more)
+// What a refusal names.
+#[tactic(auto, unfolding(crate::specs::Errors::refusal_payload))]
+fn put_payload(out: &mut Out, kind: &ParseErrorType) -> Result<(), AllocError>
+    ensures { OnOk result (out.new ≡ refusal_payload kind.now out.old) }
+{
+    match kind {
+        ParseErrorType::BadInput(error) => put_input_error(out, error),
+        ParseErrorType::UnknownOperator(symbol) => put_text(out, "symbol", symbol),
+        ParseErrorType::MissingToken(token, note) => {
+            put_two_texts(out, "token", token, "note", note)
         }
-        Payload::Number(key, number) => put_number(out, key, number),
-        Payload::TextAndNumber(key, text, other, number) => {
-            put_text(out, key, text)?;
-            put_number(out, other, number)
+        ParseErrorType::ExprExpected(what) => put_text(out, "what", what),
+        ParseErrorType::MismatchedType(expected, found) => {
+            put_two_texts(out, "expected", expected, "found", found)
         }
-        Payload::Nothing | Payload::Input(_) | Payload::Lexer(_) => Ok(()),
-    }
-}
-
-/// The kind and the payload of an error of the tokenizer, as an object.
-pub fn put_lex_error(out: &mut Out, error: &LexError) -> Result<(), AllocError> {
-    let Described(kind, payload) = describe_lex_error(error);
-    out.begin_object()?;
-    put_text(out, "kind", kind)?;
-    out.key("payload")?;
-    out.begin_object()?;
-    put_plain_fields(out, payload)?;
-    out.end_object()?;
-    out.end_object()
-}
-
-fn put_input_fields(out: &mut Out, payload: Payload<'_>) -> Result<(), AllocError> {
-    match payload {
-        Payload::Lexer(error) => {
-            out.key("error")?;
-            put_lex_error(out, error)
+        ParseErrorType::MalformedIndexExpr(note)
+        | ParseErrorType::MalformedCapture(note)
+        | ParseErrorType::AssignmentToInvalidLHS(note) => put_text(out, "note", note),
+        ParseErrorType::Reserved(word) => put_text(out, "word", word),
+        ParseErrorType::DuplicatedProperty(name)
+        | ParseErrorType::DuplicatedVariable(name)
+        | ParseErrorType::VariableExists(name)
+        | ParseErrorType::VariableUndefined(name)
+        | ParseErrorType::ModuleUndefined(name)
+        | ParseErrorType::FnMissingParams(name)
+        | ParseErrorType::FnMissingBody(name)
+        | ParseErrorType::AssignmentToConstant(name) => put_text(out, "name", name),
+        ParseErrorType::FnDuplicatedParam(name, param) => {
+            put_two_texts(out, "name", name, "param", param)
         }
-        _ => put_plain_fields(out, payload),
-    }
-}
-
-fn put_input_error(out: &mut Out, error: &InputError) -> Result<(), AllocError> {
-    let Described(kind, payload) = describe_input_error(error);
-    out.begin_object()?;
-    put_text(out, "kind", kind)?;
-    out.key("payload")?;
-    out.begin_object()?;
-    put_input_fields(out, payload)?;
-    out.end_object()?;
-    out.end_object()
-}
-
-fn put_fields(out: &mut Out, payload: Payload<'_>) -> Result<(), AllocError> {
-    match payload {
-        Payload::Input(error) => {
-            out.key("error")?;
-            put_input_error(out, error)
+        ParseErrorType::FnDuplicatedDefinition(name, params) => {
+            put_text_and_number(out, "name", name, "params", *params)
         }
-        _ => put_plain_fields(out, payload),
+        ParseErrorType::LiteralTooLarge(what, limit) => {
+            put_text_and_number(out, "what", what, "limit", *limit)
+        }
+        _ => Ok(()),
     }
 }
 
 /// The fields `kind` and `payload` of a refusal.
-pub fn put_refusal(out: &mut Out, kind: &ParseErrorType) -> Result<(), AllocError> {
-    put_text(out, "kind", kind_name(kind))?;
-    out.key("payload")?;
-    out.begin_object()?;
-    put_fields(out, payload_of(kind))?;
+pub fn put_refusal(out: &mut Out, kind: &ParseErrorType) -> Result<(), AllocError>
+    ensures { OnOk result (out.new ≡ refusal_fields kind.now out.old) }
+{
+    begin_payload(out, kind_name(kind))?;
+    put_payload(out, kind)?;
     out.end_object()
 }

@@ -52,7 +52,8 @@ fn put_character(out: &mut Out, character: char) -> Result<(), AllocError>
 }
 
 fn put_pointer(out: &mut Out, name: &str, params: usize) -> Result<(), AllocError>
-    ensures { OnOk result (out.new ≡ out.old ▷ text_field (codes "name") name.now ▷ number_field (codes "params") params) }
+    ensures { OnOk result (out.new
+        ≡ out.old ▷ text_field (codes "name") name.now ▷ number_field (codes "params") params) }
 {
     put_text(out, "name", name)?;
     put_number(out, "params", params)

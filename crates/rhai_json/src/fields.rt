@@ -8,10 +8,12 @@ ghost use Rattle.rhai_lower.specs.Lexemes.{lexeme};
 ghost use Rattle.rhai_json.specs.Trees.{sign_text as written_sign};
 ghost use Rattle.rhai_json.specs.Fields.{flag_field, ident_fields, integer_field, list_field, namespace_field};
 ghost use Rattle.rhai_json.specs.Fields.{node_start, number_field, numbers_field, optional_number_field};
-ghost use Rattle.rhai_json.specs.Fields.{optional_text_field, position_field, step_value, text_field, texts_field};
+ghost use Rattle.rhai_json.specs.Fields.{optional_text_field, position_field, span_field, step_value, text_field};
+ghost use Rattle.rhai_json.specs.Fields.{texts_field};
 
 use crate::out::Out;
 use rhai_lower::{Ident, Namespace, Position, Token};
+use rhai_tokenizer::Span;
 use std::alloc::AllocError;
 use std::num::NonZeroUsize;
 use std::rc::RcStr;
@@ -98,6 +100,21 @@ pub fn put_position(out: &mut Out, key: &str, pos: Position) -> Result<(), Alloc
         }
         _ => out.null(),
     }
+}
+
+/// The bytes from `start` to before `stop`, or null.
+#[tactic(auto, unfolding(crate::specs::Fields::span_field))]
+pub fn put_span(out: &mut Out, span: Option<Span>) -> Result<(), AllocError>
+    ensures { OnOk result (out.new ≡ span_field span out.old) }
+{
+    out.key("span")?;
+    let Some(span) = span else {
+        return out.null();
+    };
+    out.begin_object()?;
+    put_number(out, "start", span.start)?;
+    put_number(out, "stop", span.stop)?;
+    out.end_object()
 }
 
 /// How an operator's token is written, which has no payload.
@@ -187,7 +204,8 @@ fn put_path(out: &mut Out, path: &[Ident]) -> Result<(), AllocError>
 /// The path before a name, and the offset of its import.
 #[tactic(auto, unfolding(crate::specs::Fields::namespace_field))]
 pub fn put_namespace(out: &mut Out, namespace: &Namespace) -> Result<(), AllocError>
-    ensures { OnOk result (out.new ≡ namespace_field (path_of namespace.now) (module_index_of namespace.now) out.old) }
+    ensures { OnOk result (out.new
+        ≡ namespace_field (path_of namespace.now) (module_index_of namespace.now) out.old) }
 {
     out.key("namespace")?;
     out.begin_object()?;

@@ -14,7 +14,7 @@ mod token_kind;
 mod tokens;
 mod tree;
 
-pub use diagnostic::{Diagnostic, diagnostic_json, span_at};
+pub use diagnostic::diagnostic_json;
 pub use names::names_json;
 pub use tokens::tokens_json;
 pub use tree::tree_json;

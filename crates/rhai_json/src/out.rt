@@ -1,10 +1,11 @@
-//! `Out`: the JSON that was written so far.
+//! `Out`: the JSON written so far.
 
 ghost use Rattle.std.specs.Prelude.{◌≡◌, [], OnOk, string_bytes};
 ghost use Rattle.std.specs.Char.{encode_utf8};
 ghost use Rattle.std.specs.Fmt.{decimal, signed_decimal};
 ghost use Rattle.json.specs.Print.{print};
-ghost use Rattle.json.specs.Token.{begin_array, begin_object, boolean, end_array, end_object, key, null, number, string};
+ghost use Rattle.json.specs.Token.{begin_array, begin_object, boolean, end_array, end_object, key};
+ghost use Rattle.json.specs.Token.{null, number, string};
 ghost use Rattle.rhai_json.specs.Fields.{put};
 
 use json::Writer;

@@ -109,7 +109,8 @@ impl<'a> Printer<'a> {
 
     fn push_flow(&mut self, flow: &'a FlowControl) -> Result<(), AllocError>
         ensures out { self.new.out ≡ self.old.out }
-        ensures left { OnOk result (pieces self.new ≡ name (codes "expr") ∷ node (view (out-FlowControl flow.now).expr)
+        ensures left { OnOk result (pieces self.new
+            ≡ name (codes "expr") ∷ node (view (out-FlowControl flow.now).expr)
             ∷ name (codes "body") ∷ block (block_view (out-FlowControl flow.now).body)
             ∷ name (codes "branch") ∷ block (block_view (out-FlowControl flow.now).branch)
             ∷ pieces self.old) }
@@ -131,7 +132,8 @@ impl<'a> Printer<'a> {
 
     fn push_guarded(&mut self, control: &'a LoopControl) -> Result<(), AllocError>
         ensures out { self.new.out ≡ self.old.out }
-        ensures left { OnOk result (pieces self.new ≡ name (codes "expr") ∷ node (view (out-LoopControl control.now).expr)
+        ensures left { OnOk result (pieces self.new
+            ≡ name (codes "expr") ∷ node (view (out-LoopControl control.now).expr)
             ∷ name (codes "body") ∷ block (block_view (out-LoopControl control.now).body) ∷ pieces self.old) }
     {
         self.push_loop(&control.expr, &control.body)
@@ -144,7 +146,8 @@ impl<'a> Printer<'a> {
     ) -> Result<(), AllocError>
         ensures out { self.new.out ≡ self.old.out }
         ensures left { OnOk result (pieces self.new ≡ name (codes "item") ∷ node (view item.now)
-            ∷ list_of (codes "expressions") ∷ arms (arm_views (out-SwitchCasesCollection choice.now).expressions.items)
+            ∷ list_of (codes "expressions")
+            ∷ arms (arm_views (out-SwitchCasesCollection choice.now).expressions.items)
             ∷ list_of (codes "cases") ∷ cases (case_views (out-SwitchCasesCollection choice.now).cases.items)
             ∷ pieces self.old) }
     {

@@ -54,7 +54,8 @@ fn put_switch(out: &mut Out, cases: &SwitchCasesCollection) -> Result<(), AllocE
 }
 
 fn put_for(out: &mut Out, control: &ForLoop) -> Result<(), AllocError>
-    ensures { OnOk result (out.new ≡ out.old ▷ text_field (codes "name") (rc_str_bytes (out-ForLoop control.now).name)
+    ensures { OnOk result (out.new
+        ≡ out.old ▷ text_field (codes "name") (rc_str_bytes (out-ForLoop control.now).name)
         ▷ optional_text_field (codes "counter") (option_map rc_str_bytes (out-ForLoop control.now).counter)) }
 {
     put_text(out, "name", &control.name)?;
@@ -80,7 +81,8 @@ fn put_var(
 }
 
 fn put_export(out: &mut Out, name: &str, alias: &str) -> Result<(), AllocError>
-    ensures { OnOk result (out.new ≡ out.old ▷ text_field (codes "name") name.now ▷ text_field (codes "alias") alias.now) }
+    ensures { OnOk result (out.new
+        ≡ out.old ▷ text_field (codes "name") name.now ▷ text_field (codes "alias") alias.now) }
 {
     put_text(out, "name", name)?;
     put_text(out, "alias", alias)

@@ -1,9 +1,15 @@
 //! Rhai's names of the kinds of tokens.
 
+ghost use Rattle.std.specs.Prelude.{◌≡◌};
+ghost use Rattle.rhai_lower.specs.Lexemes.{lexeme};
+ghost use Rattle.rhai_json.specs.TokenLists.{token_kind as kind_of};
+
 use rhai_lower::Token;
 
 /// Rhai's name of the kind of a token.
-pub fn token_kind(token: &Token) -> &'static str {
+pub fn token_kind(token: &Token) -> &'static str
+    ensures { result.now ≡ kind_of (lexeme token.now) }
+{
     match token {
         Token::IntegerConstant(_) => "IntegerConstant",
         Token::CharConstant(_) => "CharConstant",

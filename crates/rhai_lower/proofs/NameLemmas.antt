@@ -1,4 +1,4 @@
--- Names in a list, where each is the latest, and an index of them.
+-- Names in a list, the latest item of each, and an index of them.
 use Rattle.std.proofs.Common.{◌≡◌, ℕ, suc, ◌+◌, ◌<◌, Bool, true, false, ◌&&◌, List, [], ◌∷◌, ◌++◌, Option, None, Some, if◌then◌else◌, length, option_map, ap, sym, refl, ◌∙◌, arith, eq-eqb, append_assoc, true≢false}
 use Rattle.std.specs.Cmp.Lexicographic as texts
 use Rattle.std.specs.Map.{KeepsOthers}

@@ -1,4 +1,4 @@
--- One part more, and the first node less, in what a walk has still to give.
+-- How one step changes what a walk has yet to give.
 use Rattle.std.proofs.Common.{◌≡◌, ◌∙◌, ℕ, Bool, true, false, List, [], ◌∷◌, ◌++◌, IsOk, OnOk, Option}
 use Rattle.std.proofs.Common.{Some, None, Result, Ok, Err, ap, append_assoc, inl, inr, refl, subst, sym}
 use Rattle.std.proofs.lemmas.List.{append-nil, reverse-append}

@@ -1,4 +1,4 @@
--- Where a name is the latest in a list. The list goes from the oldest name to the latest.
+-- The latest item of a name in a list. The list goes from the oldest name to the latest.
 use Rattle.std.specs.Prelude.{◌≡◌, ℕ, ◌+◌, List, [], ◌∷◌, Option, None, Some, if◌then◌else◌, codes, option_map, refl}
 use Rattle.std.specs.Option.{option_or}
 use Rattle.rhai_lower.specs.Texts.{Text, same_text}

@@ -7,7 +7,7 @@ use Rattle.rhai_lower.specs.declared.node.LinkFlags.{LinkFlags}
 use Rattle.rhai_lower.specs.declared.node.RangeCase.{RangeCase}
 use Rattle.rhai_lower.specs.declared.position.Position.{Position}
 
--- What a call names: the function or operator, the path before it with the offset of its import (counted from 1 at the
+-- What a call names: the function or operator, the path before it with the number of its import (counted from 1 at the
 -- latest), the number of arguments for a script function and for a native function, whether it has a `!`, and the
 -- operator's token.
 pub record Called : Type 0 where
@@ -19,7 +19,7 @@ pub record Called : Type 0 where
   pub captures_scope : Bool
   pub op_token : Option Lexeme
 
--- a variable's name, the offset of its slot (counted from 1 at the latest), and the path before it with the offset of
+-- a variable's name, the number of its slot (counted from 1 at the latest), and the path before it with the number of
 -- its import
 pub record Named : Type 0 where
   pub number : Option ℕ

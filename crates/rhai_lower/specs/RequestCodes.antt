@@ -1,4 +1,4 @@
--- A code of what is left of a stream, by which proofs tell such values apart. It is no part of what is promised.
+-- Codes for what is left of a stream; proofs tell such values apart by them. It is no part of what is promised.
 use mathlib.Core.Path.{◌∙◌, ap}
 use mathlib.Core.Logic.{inl, inr}
 use Rattle.std.specs.Prelude.{◌≡◌, ◌⊎◌, Bool, List, [], ◌∷◌, refl}

@@ -45,7 +45,7 @@ named v = record {
   module_index = module_index_of v.namespace;
 }
 
--- captured names with the offsets of their slots
+-- captured names with the numbers of their slots
 abbrev pub shared_of : List (Ident × Option NonZeroUsize) → List (Text × Position × Option ℕ)
 shared_of vs = map (λ v. (rc_str_bytes v.0.name, v.0.pos, option_map non_zero_usize_get v.1)) vs
 

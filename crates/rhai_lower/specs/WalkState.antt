@@ -1,4 +1,4 @@
--- What the state of a walk stands for: which nodes it has still to give.
+-- What the state of a walk represents: the nodes that it has yet to give.
 use Rattle.std.specs.Prelude.{◌≡◌, ℕ, Bool, true, false, ◌⊎◌, Option, Some, None}
 use Rattle.std.specs.Prelude.{Result, Ok, Err, List, [], ◌∷◌, ◌++◌, map, reverse}
 use Rattle.std.specs.List.{flat_map}

@@ -28,14 +28,14 @@ pub struct Ident {
 pub struct Namespace {
     /// The names of the path, from the root.
     pub path: Vec<Ident>,
-    /// The offset of the root's import, counted from 1 at the latest import, if the root is an import.
+    /// The number of the root's import, counted from 1 at the latest import, if the root is an import.
     pub index: Option<NonZeroUsize>,
 }
 
 /// A use of a variable.
 #[derive(PartialEq, Debug, Drop)]
 pub struct VariableExpr {
-    /// The offset of its slot, counted from 1 at the latest slot; `None` if its slot is not known.
+    /// The number of its slot, counted from 1 at the latest slot; `None` if its slot is not known.
     pub index: Option<NonZeroUsize>,
     pub name: RcStr,
     /// The path before the name.
@@ -209,7 +209,7 @@ pub enum Stmt {
     },
     /// `for`
     For(Box<ForLoop>, Position),
-    /// `let` or `const`, at its position. Without `=` the value is unit without position. `index` is the offset of the
+    /// `let` or `const`, at its position. Without `=` the value is unit without position. `index` is the number of the
     /// slot that is reused, counted from 1 at the latest; `None` if a new slot is made.
     Var {
         name: RcStr,
@@ -255,7 +255,7 @@ pub enum Stmt {
         alias: RcStr,
         pos: Position,
     },
-    /// Makes the variables that a closure captures shared. Each has the offset of its slot, counted from 1 at the
+    /// Makes the variables that a closure captures shared. Each has the number of its slot, counted from 1 at the
     /// latest, if its slot is known.
     Share(Vec<(Ident, Option<NonZeroUsize>)>, Position),
 }

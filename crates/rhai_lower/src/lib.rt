@@ -1,4 +1,4 @@
-//! What the parser stands on: tokens, their stream, the scope, the tree, the optimizer's stand-in. Positions and names
+//! The base of the parser: tokens, their stream, the scope, the tree, the optimizer's interface. Positions and names
 //! are here too.
 #![tactic(auto)]
 

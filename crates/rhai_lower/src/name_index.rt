@@ -37,7 +37,7 @@ impl NameIndex {
         ensures err { (names : List Text) → Indexes self.old names → OnErr result (Indexes self.new names) }
     {
         let place = self.previous.len();
-        // With room reserved for the place, nothing can fail once the name is in the map.
+        // With capacity reserved for the place, nothing can fail once the name is in the map.
         self.previous.reserve(1)?;
         let previous = self.latest.insert(name, place)?;
         self.previous.push(previous)?;

@@ -1,4 +1,5 @@
-//! Lists of what has a name, which find the latest item of a name. Where there are many items, an index finds it.
+//! `NamedList`: a list of named items, which finds the latest item of a name. Where there are many items, an index
+//! finds it.
 
 ghost use Rattle.std.specs.Prelude.{◌≡◌, ◌==◌, ◌≤◌, ◌++◌, ◌∷◌, [], IfOk, OnErr, OnOk, length, map, take};
 ghost use Rattle.std.specs.List.{list_any};
@@ -195,7 +196,7 @@ fn push_indexed<T: HasName + Drop>(
     ensures indexed { IsIndexed index.new (map T.text items.new.items) }
 {
     let name = item.name().clone()?;
-    // With room reserved for the item, nothing can fail once its name is in the index.
+    // With capacity reserved for the item, nothing can fail once its name is in the index.
     items.reserve(1)?;
     push_name(index, items, name)?;
     items.push(item)?;

@@ -1,5 +1,5 @@
-//! What a host takes from a tree: the functions in their order, and the parts of nodes that have a `drop` of their own,
-//! which a pattern outside their module cannot take (`into_parts` of `ast`).
+//! The functions of a script in order, and the parts of nodes and functions. A node with a `drop` of its own cannot be
+//! taken apart by a pattern outside its module; `into_parts` (`ast`) gives its parts.
 
 ghost use Rattle.std.specs.Prelude.{◌≡◌};
 ghost use Rattle.std.specs.Slice.Iter.{iter_rest};

@@ -1,4 +1,4 @@
-//! Where the nodes of the tree stand, and where they start.
+//! The positions of the nodes of the tree, and where they start.
 
 ghost use Rattle.std.specs.Prelude.{◌≡◌};
 ghost use Rattle.rhai_lower.specs.Nodes.{first_start, position_of, start_of, statement_position};

@@ -22,7 +22,7 @@ pub enum LexError {
     /// A text that looks like a number but is not one.
     MalformedNumber(RcStr),
     /// A symbol that the language does not have, and a note on what to write instead. They are behind a pointer, since
-    /// each token takes as much room as the largest payload.
+    /// each token takes as much memory as the largest payload.
     ImproperSymbol(Rc<(RcStr, RcStr)>),
     /// An input that is not a token.
     UnexpectedInput(RcStr),

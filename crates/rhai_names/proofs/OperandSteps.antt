@@ -37,7 +37,7 @@ use Rattle.rhai_names.proofs.Readings.{Ends, Reading, SameNames, called_use, end
 -- ---- operands
 
 -- what is known of a primary, which may be called
-pub record Stands (x : Primary) (w : Live) (called : Bool) : Type 0 where
+pub record PrimaryKnown (x : Primary) (w : Live) (called : Bool) : Type 0 where
   pub ends : Ends (primary_events x w called) (in_primary x)
   pub names : called ≡ false → SameNames (mentions (primary_tree x w false)) (primary_events x w false)
 
@@ -47,10 +47,10 @@ no_mention (Lexeme.Sign token.True) at = refl
 no_mention (Lexeme.Sign token.False) at = refl
 no_mention _ at = refl
 
-pub value : (called : Bool) (l : Lexeme) (at : Position) (w : Live) → Stands (form.Value l at) w called
+pub value : (called : Bool) (l : Lexeme) (at : Position) (w : Live) → PrimaryKnown (form.Value l at) w called
 value called l at w = record { ends = no_ends; names = λ d name. ap (is_read name) (no_mention l at) }
 
-pub zero : (called : Bool) (l : Lexeme) (at : Position) (w : Live) → Stands (form.Zero l at) w called
+pub zero : (called : Bool) (l : Lexeme) (at : Position) (w : Live) → PrimaryKnown (form.Zero l at) w called
 unfolding mentions
 zero called l at w = record { ends = no_ends; names = λ d name. refl }
 
@@ -65,7 +65,7 @@ unfolding mentions
 name_read name t at slots =
     let b = is_some (number t slots) in seen name t b ∙ sym (or-false (true && not b && same_text t name))
 
-pub named : (called : Bool) (t : Text) (at : Position) (w : Live) → Stands (form.Named t at) w called
+pub named : (called : Bool) (t : Text) (at : Position) (w : Live) → PrimaryKnown (form.Named t at) w called
 named true t at w = record { ends = no_ends; names = λ d name. name_read name t at w.slots }
 named false t at w = record { ends = record { ended = refl; all = tt }; names = λ d name. name_read name t at w.slots }
 
@@ -86,11 +86,11 @@ word_read name c t at l e f = by (is_memory l) (is_this t) (may_be_called t) (ca
     by false false false false g x y e f = absurd cc
 
 pub word : (called : Bool) (t : Text) (at : Position) (w : Live) (c : Context) (l : Lexeme) → verdict (V.after_word c t at) l ≡ Fine
-    → (called ≡ false → verdict (V.uncalled (T.word_tree t at)) l ≡ Fine) → Stands (form.Word t at) w called
+    → (called ≡ false → verdict (V.uncalled (T.word_tree t at)) l ≡ Fine) → PrimaryKnown (form.Word t at) w called
 word called t at w c l e f = record { ends = no_ends; names = λ d name. word_read name c t at l e (f d) }
 
 pub group : (called : Bool) (opening closing : Position) (f : Run) (w : Live) → Reading (mentions (tree f w)) (events f w) (in_run f)
-    → Stands (form.Group opening f closing) w called
+    → PrimaryKnown (form.Group opening f closing) w called
 group true opening closing f w h = record {
   ends = record { ended = ended_called (events f w) ∙ h.ends.ended; all = h.ends.all };
   names = λ d. h.names;
@@ -99,13 +99,13 @@ group false opening closing f w h = record { ends = h.ends; names = λ d. h.name
 
 pub array : (called : Bool) (opening : Position) (list : Elements) (w : Live)
     → Reading (all_mentions (T.element_trees list w)) (element_events list w) (in_elements list)
-    → Stands (form.Array opening list) w called
+    → PrimaryKnown (form.Array opening list) w called
 unfolding mentions
 array called opening list w h = record { ends = h.ends; names = λ d. h.names }
 
 pub object_map : (called : Bool) (opening : Position) (list : Fields) (w : Live)
     → Reading (property_mentions (T.field_trees list w)) (field_events list w) (in_fields list)
-    → Stands (form.Map opening list) w called
+    → PrimaryKnown (form.Map opening list) w called
 unfolding mentions
 object_map called opening list w h = record { ends = h.ends; names = λ d. h.names }
 
@@ -116,14 +116,14 @@ text (c ∷ t) at rest = refl
 
 pub interpolated : (called : Bool) (first : Text) (at : Position) (list : Segments) (w : Live)
     → Reading (all_mentions (T.segment_trees list w)) (segment_events list w) (in_segments list)
-    → Stands (form.Interpolated first at list) w called
+    → PrimaryKnown (form.Interpolated first at list) w called
 unfolding mentions
 interpolated called first at list w h =
     record { ends = h.ends; names = λ d. (same (text first at (T.segment_trees list w)) h).names }
 
 pub compound : (called : Bool) (at : Position) (x : Construct) (w : Live)
     → Reading (statement_mentions (T.construct_tree x w at)) (construct_events x w) (in_construct x)
-    → Stands (form.CompoundValue at x) w called
+    → PrimaryKnown (form.CompoundValue at x) w called
 unfolding mentions
 compound called at x w h = record { ends = h.ends; names = λ d. (same (made (T.construct_tree x w at)) h).names }
 
@@ -147,7 +147,7 @@ captures name at n (u ∷ us) own w =
 
 pub closure : (called : Bool) (head : ClosureHead) (f : ClosureBody) (n : ℕ) (us : List Use) (w : Live)
     → Reading (statement_mentions (T.body_tree f (parameters_live (declared_names head)))) (own_events head f) (in_closure_body f)
-    → Stands (form.Closure head f n us) w called
+    → PrimaryKnown (form.Closure head f n us) w called
 closure called head f n us w h =
     let x = written.Closure head f n us in
     let body = T.body_tree f (parameters_live (declared_names head)) in

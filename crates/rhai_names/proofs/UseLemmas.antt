@@ -42,7 +42,7 @@ use Rattle.rhai_names.proofs.OperandSteps as OperandSteps
 use Rattle.rhai_names.proofs.Readings as Readings
 use Rattle.rhai_names.proofs.SwitchSteps as SwitchSteps
 use Rattle.rhai_names.proofs.TreeSteps as TreeSteps
-use Rattle.rhai_names.proofs.OperandSteps.{Stands}
+use Rattle.rhai_names.proofs.OperandSteps.{PrimaryKnown}
 use Rattle.rhai_names.proofs.Readings.{Reading, alone, both, nothing, same, swapped}
 use Rattle.rhai_names.proofs.SwitchSteps.{Collects, collected_mentions, faultless}
 use Rattle.rhai_names.proofs.TreeSteps.{link_mentions}
@@ -69,7 +69,7 @@ mutual
   unfolding mentions
 
   pub primary : (x : Primary) (called : Bool) (c : Context) (w : Live) (p : OperandPlace) (k : Demands) → Uncalled x w called k
-      → Gives (Stands x w called) (W.primary x c w p k) k
+      → Gives (PrimaryKnown x w called) (W.primary x c w p k) k
   primary (form.Value token at) called c w p k u = shape (λ e. gets (λ h. OperandSteps.value called token at w) (tok here))
   primary (form.Named name at) called c w p k u = gets (λ h. OperandSteps.named called name at w) (tok (uses here))
   primary (form.Word word at) called c w p k u = record {

@@ -2,7 +2,6 @@
 //! why one is refused. docs/FORMAT.md describes the command line and both formats.
 #![tactic(auto)]
 
-mod lines;
 mod run;
 
 use rhai_run::{command_line, print_answer};

@@ -1,8 +1,7 @@
 //! The program, over any reader and writer.
 
-use crate::lines::lines_of;
 use rhai_names::names::names_of;
-use rhai_run::{Failure, print_answer, read_tree};
+use rhai_run::{Failure, names_lines, print_answer, read_tree};
 use std::alloc::Global;
 use std::io::{Read, Write};
 
@@ -10,7 +9,7 @@ use std::io::{Read, Write};
 fn answer<R: Read>(alloc: Global, words: &[String], input: &mut R) -> Result<String, Failure> {
     let script = read_tree(alloc, words, input)?;
     let names = names_of(alloc, &script.functions)?;
-    Ok(lines_of(alloc, &names)?)
+    Ok(names_lines(alloc, &names)?)
 }
 
 /// Runs the program on the words of its command line, without its name, and returns its exit status: 0 with a line for

@@ -1,4 +1,4 @@
--- The frame that an entry reads in is that of its state.
+-- The frame in which an entry point reads is that of its state.
 use Rattle.std.proofs.Common.{◌≡◌, ◌∙◌, ℕ, List, ap}
 use Rattle.std.specs.Prelude.{Vec, map}
 use Rattle.std.specs.Rc.{rc_str_bytes}

@@ -1,4 +1,4 @@
--- From the room of a whole script to what is promised.
+-- From the bound of a whole script to what is promised.
 use Rattle.std.proofs.Common.{IfOk, ◌≡◌, ℕ, ◌+◌, ◌*◌, ◌-◌, ◌^◌, ◌≤◌, max, min, subst, sym, ap, arith, Result, Ok, Err}
 use Rattle.std.proofs.Math.Nat.{le-max_left, le-max_right, max-le, min-le_left}
 use Rattle.rhai_lower.specs.Nodes as node

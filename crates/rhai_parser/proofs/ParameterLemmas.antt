@@ -1,4 +1,4 @@
--- The names of parameters: one more.
+-- The names of parameters, as they grow by one.
 use Rattle.std.proofs.Common.{◌≡◌, List, [], ◌∷◌, ◌++◌, map}
 use Rattle.std.proofs.lemmas.List.{map_push}
 use Rattle.std.specs.Rc.{rc_str_bytes}

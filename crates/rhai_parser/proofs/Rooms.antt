@@ -1,4 +1,4 @@
--- Where functions may stand; what is kept of a library. It is kept as functions begin and end.
+-- Where functions are allowed; what is kept of a library. It is kept as functions begin and end.
 use Rattle.std.proofs.Common.{◌≡◌, ℕ, Bool, ◌+◌, ◌≤◌, false, true, ap, arith, length, nat_lt, ◌*◌, if◌then◌else◌}
 use Rattle.rhai_grammar.proofs.LibraryLemmas.{closure_added, function_added}
 use Rattle.rhai_grammar.proofs.LibrarySteps.{few_closures, one_begins, one_ends, one_stops}

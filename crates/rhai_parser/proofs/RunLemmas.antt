@@ -83,7 +83,7 @@ module _ (c : Context) (w : Live) (at : Position) (parent : ℕ) (lhs : Node) (s
 
 -- What the reading program makes of what the run on the right of an operator gives, where that leaves no more than a
 -- bound: the operator joins it, and the run around goes on.
-pub record Stands (engine : EngineValue) (frame : FrameValue) (start : ParseSettings) (bound : ℕ) (p : Pending) (around inside : R.Out Node → R.Out Node) : Type 0 where
+pub record OneWaits (engine : EngineValue) (frame : FrameValue) (start : ParseSettings) (bound : ℕ) (p : Pending) (around inside : R.Out Node → R.Out Node) : Type 0 where
   pub limit : p.around.settings.max_expr_depth ≡ start.max_expr_depth
   pub less : 1 ≤ start.max_expr_depth → levels_left p.around.settings ≤ levels_left start
   pub refused : (e : Refusal) (t : Progress) → inside (R.Refused e t) ≡ around (R.Refused e t)
@@ -97,7 +97,7 @@ module _ (engine : EngineValue) (frame : FrameValue) (start : ParseSettings) whe
   unfoldable pub Waits : (bound : ℕ) → List Pending → (around inside : R.Out Node → R.Out Node) → Type 0
   Waits bound [] around inside = inside ≡ around
   Waits bound (p ∷ ps) around inside =
-      (next : R.Out Node → R.Out Node) × Stands engine frame start bound p around next × Waits bound ps next inside
+      (next : R.Out Node → R.Out Node) × OneWaits engine frame start bound p around next × Waits bound ps next inside
 
   fewer : (n m : ℕ) (ps : List Pending) (around inside : R.Out Node → R.Out Node) → m ≤ n → Waits n ps around inside → Waits m ps around inside
   unfolding Waits
@@ -115,14 +115,14 @@ module _ (engine : EngineValue) (frame : FrameValue) (start : ParseSettings) whe
         fewer n m ps waits.0 inside less waits.2,
       )
 
-  one_more : (n : ℕ) (ps : List Pending) (p : Pending) (around inside new : R.Out Node → R.Out Node) → Waits n ps around inside → Stands engine frame start n p inside new → Waits n (ps ++ p ∷ []) around new
+  one_more : (n : ℕ) (ps : List Pending) (p : Pending) (around inside new : R.Out Node → R.Out Node) → Waits n ps around inside → OneWaits engine frame start n p inside new → Waits n (ps ++ p ∷ []) around new
   unfolding Waits
-  one_more n [] p around inside new e h = (new, subst (λ f. Stands engine frame start n p f new) e h, refl)
+  one_more n [] p around inside new e h = (new, subst (λ f. OneWaits engine frame start n p f new) e h, refl)
   one_more n (q ∷ ps) p around inside new waits h = (waits.0, waits.1, one_more n ps p waits.0 inside new waits.2 h)
 
-  one_less : (n : ℕ) (ps : List Pending) (p : Pending) (around new : R.Out Node → R.Out Node) → Waits n (ps ++ p ∷ []) around new → (inside : R.Out Node → R.Out Node) × Waits n ps around inside × Stands engine frame start n p inside new
+  one_less : (n : ℕ) (ps : List Pending) (p : Pending) (around new : R.Out Node → R.Out Node) → Waits n (ps ++ p ∷ []) around new → (inside : R.Out Node → R.Out Node) × Waits n ps around inside × OneWaits engine frame start n p inside new
   unfolding Waits
-  one_less n [] p around new waits = (around, refl, subst (λ f. Stands engine frame start n p around f) (sym waits.2) waits.1)
+  one_less n [] p around new waits = (around, refl, subst (λ f. OneWaits engine frame start n p around f) (sym waits.2) waits.1)
   one_less n (q ∷ ps) p around new waits =
       let r = one_less n ps p waits.0 new waits.2 in
       (r.0, (waits.0, waits.1, r.1), r.2)
@@ -204,7 +204,7 @@ module _ {engine : EngineValue} {frame : FrameValue} {start settings side : Pars
       ∙ ap (λ (m : ℕ). result_of (BinaryOp (level_up c) w p.around.settings.pos m z) u) (sym h.outer)
       ∙ ap (λ (d : Context). result_of (BinaryOp d w p.around.settings.pos p.around.parent z) u) (sym same)
 
-  stands : (inside : R.Out Node → R.Out Node) → Stands engine frame start (left t.cursor.tokens) p inside (λ o. inside (behind o))
+  stands : (inside : R.Out Node → R.Out Node) → OneWaits engine frame start (left t.cursor.tokens) p inside (λ o. inside (behind o))
   unfolding c w call behind
   stands inside = record {
     limit = h.limit;
@@ -242,7 +242,7 @@ module _ {engine : EngineValue} {frame : FrameValue} {start : ParseSettings} {bo
       a.same ∙ ap a.inside is ∙ ap (λ f. f (R.Done x t)) waits
 
   module _ (qs : List Pending) (p : Pending) (y : Node) (t : Progress) (e : ps ≡ qs ++ p ∷ []) (is : now ≡ R.Done y t) where
-    last : (inside : R.Out Node → R.Out Node) × Waits engine frame start bound qs (λ o. o) inside × Stands engine frame start bound p inside a.inside
+    last : (inside : R.Out Node → R.Out Node) × Waits engine frame start bound qs (λ o. o) inside × OneWaits engine frame start bound p inside a.inside
     last = one_less engine frame start bound qs p (λ o. o) a.inside (subst (λ rs. Waits engine frame start bound rs (λ o. o) a.inside) e a.waits)
 
     popped : {z : Node} → left t.cursor.tokens ≤ bound → operator_result (lexeme p.op_token) p.pos (chain_view p.around.lhs) y ≡ Ok z

@@ -1,4 +1,4 @@
--- Which calls of a reader that is lent may be made.
+-- Which calls of a lent reader may be made.
 use Rattle.std.specs.Prelude.{ℕ, ◌<◌}
 
 -- whether each number below this one has a property

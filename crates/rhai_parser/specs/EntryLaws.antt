@@ -1,5 +1,5 @@
--- The entries read in the contexts of worked rows. They do in a fresh state, if the caller leaves the settings as they
--- are.
+-- The entry points read in the contexts of worked rows. They do in a fresh state, if the caller leaves the settings as
+-- they are.
 use Rattle.std.specs.Prelude.{◌≡◌, []}
 use Rattle.rhai_grammar.specs.Contexts.{nothing_live}
 use Rattle.rhai_grammar.specs.RowsOfEntries.{entry_expression, entry_script}

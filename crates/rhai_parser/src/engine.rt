@@ -209,7 +209,7 @@ impl Engine {
         Ok(())
     }
 
-    // The greatest number of functions has at most 64 bits, on which rests what the entries promise of libraries.
+    // The greatest number of functions has at most 64 bits, on which rests what the entry points promise of libraries.
     pub(crate) fn limits_functions(&self)
         ensures { self.now.max_functions ≤ 2 ^ 64 }
     {

@@ -1,4 +1,4 @@
-//! The entry for one expression.
+//! `parse_global_expr`: the entry point for one expression.
 
 ghost use Rattle.std.specs.Prelude.{◌≡◌, [], IfErr, List};
 ghost use Rattle.std.specs.Fn.{FnOnceReturnsAtMut, FnOnceTakesAtMut};

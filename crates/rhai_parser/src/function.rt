@@ -1,4 +1,5 @@
-//! Readers of functions: places, settings, and what functions give. Their doc comments are read here too.
+//! Readers of functions: where they are allowed, their settings, and what they give. Their doc comments are read here
+//! too.
 
 pub(crate) mod head;
 

@@ -1,4 +1,4 @@
-//! Laws of the entries, as contracts of functions that do nothing.
+//! Laws of the entry points, as contracts of functions that do nothing.
 
 ghost use Rattle.rhai_parser.specs.EntryLaws.{EntersAsInRows};
 

@@ -1,4 +1,4 @@
-//! `LentReaders`: what readers read for each other.
+//! `LentReaders`: the readers that other readers call.
 
 ghost use Rattle.std.specs.Prelude.{◌≡◌, ◌≤◌, ℕ, ◌+◌, IfOk, true};
 ghost use Rattle.rhai_lower.specs.View.{statement_view, view};

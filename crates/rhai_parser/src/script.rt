@@ -1,4 +1,4 @@
-//! `parse` and `parse_global_level`: the entries that read a whole script.
+//! `parse` and `parse_global_level`: the entry points that read a whole script.
 
 ghost use Rattle.std.specs.Prelude.{◌≡◌, [], IfErr, IfOk, List, map, true};
 ghost use Rattle.std.specs.Rc.{rc_str_bytes};

@@ -1,7 +1,7 @@
 //! Readers of statements, of their lists, and of definitions. What is inside a block is read here too.
 
 pub(crate) mod asks;
-pub(crate) mod modules;
+pub(crate) mod definitions;
 
 ghost use Rattle.std.specs.Prelude.{◌≡◌, ◌+◌, ◌≤◌, IfOk, false, true};
 ghost use Rattle.rhai_lower.specs.Nodes.{no_statements};
@@ -23,7 +23,7 @@ use crate::lent::LentReaders;
 use crate::reader::Reader;
 use crate::shared::Shared;
 use crate::stmt::asks::{end_assignment, next_var_name, starts_expression};
-use crate::stmt::modules::{define_as, export_name};
+use crate::stmt::definitions::{define_as, export_name};
 use rhai_base::cursor::{peek, skip, take};
 use rhai_base::leaves::statements::{
     assigns, has_value, list_ends, next_alias, parse_var_name, statement_continues,

@@ -1,13 +1,12 @@
 -- After acceptance readers were nested at least as deeply as the form is deep.
-use Rattle.std.proofs.Common.{◌≡◌, ℕ, ◌+◌, ◌≤◌, max, inr, refl, subst, arith}
+use Rattle.std.proofs.Common.{◌≡◌, ◌≤◌, max}
 use Rattle.rhai_grammar.specs.Prelude.{IsWritten, Nothing}
-use Rattle.rhai_reading.specs.Nesting.{Nesting}
 use Rattle.rhai_reading.specs.Reading.{Goal, Val, body}
 use Rattle.rhai_reading.specs.Running.{Done, Progress, result_of}
-use Rattle.rhai_reading.proofs.Dives.{Dives, High, above_less, dives_result, goes_above}
+use Rattle.rhai_reading.proofs.Dives.{Dives}
+use Rattle.rhai_reading.proofs.DepthMain as M
 use Rattle.rhai_reading.proofs.DepthMain.{NestsAtLeast}
-use Rattle.rhai_reading.proofs.Grows.{Goes}
-use Rattle.rhai_reading.proofs.Main.{IsNew, begun, begun_at, from}
+use Rattle.rhai_reading.proofs.Entries.{IsNew, from}
 use Rattle.rhai_reading.proofs.Rules.{at}
 use Rattle.rhai_productions.specs.Derived as D
 use Rattle.rhai_productions.specs.Rules.{production}
@@ -23,17 +22,6 @@ module _ (g : Goal) (s : Progress) (new : IsNew s) (f : Written g)
   deep = (complete production (same histories lawful) (same runs runs_lawful) f.1 Nothing
       (from s) fits.0 s.cursor.peeked fits.1).runs.dives
 
-  result_high : (n : Nesting) (a : ℕ) → Goes a n → High (a + max (D.depth production f.1) 0)
-      (result_of g (record s { nesting = n }))
-  result_high n a go =
-      dives_result g (begun s) (λ z. max (D.depth production f.1) z)
-      (subst (Dives (λ z. max (D.depth production f.1) z) (body g)) (begun_at s new) deep)
-      (record s { nesting = n }) a 0 refl go (goes_above a n go)
-
   pub nests : (left : Progress) (x : Val g) → s.nesting.active ≤ s.nesting.peak → result_of g s ≡ Done x left
       → NestsAtLeast (D.depth production f.1) s.nesting left.nesting
-  nests left x le e =
-      above_less (s.nesting.active + D.depth production f.1) (s.nesting.active + max (D.depth production f.1) 0)
-      left.nesting (omega arith)
-      (subst (High (s.nesting.active + max (D.depth production f.1) 0)) e
-      (result_high s.nesting s.nesting.active (inr (omega (arith, le)))))
+  nests left x le e = M.nests g (D.depth production f.1) s new deep left x le e

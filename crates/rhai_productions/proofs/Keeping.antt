@@ -6,6 +6,7 @@ use Rattle.rhai_grammar.specs.Delivered as M
 use Rattle.rhai_reading.specs.Reading.{Goal, Val}
 use Rattle.rhai_reading.proofs.Looks.{op_at, fine, no_other, or_wrong}
 use Rattle.rhai_productions.specs.Schema.{Production, view}
+use Rattle.rhai_productions.specs.Schema as S
 use Rattle.rhai_productions.specs.Derived as F
 use Rattle.rhai_productions.specs.Derived.{given, take, this, if_so, if_not, choose, here, must, knows, adds, uses}
 use Rattle.rhai_productions.specs.Derived.{captures, part, literal, apart, in_text, form}
@@ -85,3 +86,36 @@ module _ (rule : (g : Goal) → Production (Val g)) (Right : (g : Goal) → Val 
         let u = past text (past code s) in
         let r = keeps f b k u t m.1.1.1.1 (h closing l at (op_at u)) in
         record { end = r.end; met = r.met; right = r.right; all = r.all }
+
+-- ---- laws with facts for few goals
+
+module _ (Right : (g : Goal) → Val g → (first next : Lexeme) → Type 0) where
+  -- what holds of all that could be given is kept
+  pub trivially : {A : Type 0} (Q : A → Lexeme → Type 0) (p : Production A) (n : Lexeme)
+      → ((x : A) (m : Lexeme) → Q x m)
+      → Keeps Right (λ x. Unit {0}) Q p n
+  trivially Q (S.give x) n h = h x n
+  trivially Q (S.never why) n h = tt
+  trivially Q (S.take w m k) n h = λ is at next. trivially Q (k n at) next h
+  trivially Q (S.this k) n h = λ at next. trivially Q (k n at) next h
+  trivially Q (S.if_next t p q) n h = (λ e. trivially Q p n h, λ e. trivially Q q n h)
+  trivially Q (S.choose v k) n h = λ y e. trivially Q (k y) n h
+  trivially Q (S.here k) n h = λ at. trivially Q (k at) n h
+  trivially Q (S.must b e p) n h = λ is. trivially Q p n h
+  trivially Q (S.knows t e p) n h = trivially Q p n h
+  trivially Q (S.adds f p) n h = (tt, trivially Q p n h)
+  trivially Q (S.uses v ok e c u k) n h = λ b is. trivially Q (k b) n h
+  trivially Q (S.captures ok e c u p) n h = trivially Q p n h
+  trivially Q (S.part g k) n h = λ x next r. trivially Q (k x) next h
+  trivially Q (S.literal g is k) n h = λ x next r. trivially Q (k x) next h
+  trivially Q (S.apart g k) n h = λ x us i next r. trivially Q (k x us i) next h
+  trivially Q (S.in_text k) n h = λ closing l at next. trivially Q (k closing l at) next h
+
+  module _ (rule : (g : Goal) → Production (Val g))
+      (table : (g : Goal) (n : Lexeme) → Keeps Right (λ x. Unit {0}) (λ x next. Right g x n next) (rule g) n) where
+    -- what is kept holds of a form that fits
+    pub holds : {g : Goal} {x : Val g} (f : F.Form rule g x) (s t : Point) → Met (F.demands rule f Nothing) s t
+        → Right g x (op_at s) (op_at t)
+    holds {g = g} {x = x} f s t m =
+        (ended rule Right (λ x. Unit {0}) (λ l. Unit {0}) (λ l e h k. tt) table (λ next. Right g x (op_at s) next) s t
+        (right rule Right (λ x. Unit {0}) (λ l. Unit {0}) (λ l e h k. tt) table f Nothing s t m)).0

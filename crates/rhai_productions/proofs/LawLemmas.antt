@@ -8,6 +8,7 @@ use Rattle.rhai_grammar.specs.declared.error.ParseErrorType.{ParseErrorType}
 use Rattle.rhai_grammar.specs.declared.error.ParseErrorType.TheVariants as error
 use Rattle.rhai_reading.specs.Histories.{State, Outcome}
 use Rattle.rhai_reading.specs.Reading.{Goal, Val, Whole, Script}
+use Rattle.rhai_reading.proofs.Entries.{Entry, runs_once}
 use Rattle.rhai_reading.proofs.Joins.{cursor}
 use Rattle.rhai_reading.proofs.Main as M
 use Rattle.rhai_reading.proofs.Reaches.{reached_end}
@@ -20,8 +21,8 @@ use Rattle.rhai_productions.specs.Promised.{Written, written, tree_of, Unwritten
 use Rattle.rhai_productions.specs.Rules.{production}
 use Rattle.rhai_productions.proofs.DerivedComplete.{complete}
 use Rattle.rhai_productions.proofs.DerivedDepth.{nests}
-use Rattle.rhai_productions.proofs.DerivedMain.{Entry, expression_entry, script_entry, reads_done, reads_fails}
-use Rattle.rhai_productions.proofs.DerivedMain.{runs_once, sound_goal, of_forms}
+use Rattle.rhai_productions.proofs.DerivedMain.{expression_entry, script_entry, reads_done, reads_fails}
+use Rattle.rhai_productions.proofs.DerivedMain.{sound_goal}
 use Rattle.rhai_productions.proofs.Lawful.{lawful, runs_lawful}
 use Rattle.rhai_productions.proofs.Same.{equally, same}
 
@@ -69,10 +70,10 @@ across A B f s t met =
 
 pub forms_agree : FormsAgree
 forms_agree = record {
-  expression = λ c w. across (of_forms (M.expression_entry c w)) (expression_entry c w);
-  expression_back = λ c w. across (expression_entry c w) (of_forms (M.expression_entry c w));
-  script = λ c w. across (of_forms (M.script_entry c w)) (script_entry c w);
-  script_back = λ c w. across (script_entry c w) (of_forms (M.script_entry c w));
+  expression = λ c w. across (M.expression_entry c w) (expression_entry c w);
+  expression_back = λ c w. across (expression_entry c w) (M.expression_entry c w);
+  script = λ c w. across (M.script_entry c w) (script_entry c w);
+  script_back = λ c w. across (script_entry c w) (M.script_entry c w);
 }
 
 -- ---- nesting, and the promise

@@ -17,7 +17,7 @@ use Rattle.rhai_productions.specs.EventLaws as law
 use Rattle.rhai_productions.proofs.Passing.{leaves_its, library_after, library_on, library_ends, library_is, passes}
 use Rattle.rhai_productions.proofs.Passing.{Passed}
 
-ended_on : (a b : List Event) → ended_in (a ++ b) ≡ ended_in a ++ ended_in b
+pub ended_on : (a b : List Event) → ended_in (a ++ b) ≡ ended_in a ++ ended_in b
 ended_on [] b = refl
 ended_on (Used free u ∷ a) b = ended_on a b
 ended_on (HasEnded x ∷ a) b = ap (λ xs. x ∷ xs) (ended_on a b)

@@ -61,19 +61,19 @@ left_shut filter o op is e =
 -- ---- forms of what stands after an operand
 
 -- a form that fits at a point before whatever else is met there
-record Stands {D : Type 0} (on : D → Demands → Demands) (s : Point) : Type 0 where
+record FitsHere {D : Type 0} (on : D → Demands → Demands) (s : Point) : Type 0 where
   it : D
   fits : (k : Demands) (t : Point) → Met k s t → Met (on it k) s t
 
 next_by : (filter : ExprFilter) (fo : Follower) (s : Point) → known_follower fo ≡ Fine
-    → Stands (λ (f : Filled production (NextOperator filter) (P.follower_by fo) (operator_in fo)) k. demanded
+    → FitsHere (λ (f : Filled production (NextOperator filter) (P.follower_by fo) (operator_in fo)) k. demanded
     production f k) s
 next_by filter (Operator n right) s e = record { it = given; fits = λ k t m. m }
 next_by filter (Unknown t) s e = absurd cc
 next_by filter Other s e = record { it = given; fits = λ k t m. m }
 
 next_form : (filter : ExprFilter) (s : Point) → verdict (operator_known filter) (op_at s) ≡ Fine
-    → Stands (λ (f : Form production (NextOperator filter) (operator_in (follower_of filter (op_at s)))) k.
+    → FitsHere (λ (f : Form production (NextOperator filter) (operator_in (follower_of filter (op_at s)))) k.
     demands production f k) s
 next_form filter s e =
     let f = fine (operator_known filter) (op_at s) e in
@@ -86,7 +86,7 @@ next_form filter s e =
 -- a run ends
 end_if : (c : Context) (w : Live) (at : Position) (parent : ℕ) (lhs : Node) (o : ℕ × Bool) (b : Bool) (s : Point)
     → b ≡ false
-    → Stands (λ (f : Filled production (BinaryOp c w at parent lhs) (if b then P.binary_on c w at parent lhs o
+    → FitsHere (λ (f : Filled production (BinaryOp c w at parent lhs) (if b then P.binary_on c w at parent lhs o
     else S.give lhs) lhs) k.
     demanded production f k) s
 end_if c w at parent lhs o false s e = record { it = given; fits = λ k t m. m }
@@ -94,7 +94,7 @@ end_if c w at parent lhs o true s e = absurd cc
 
 end_by : (c : Context) (w : Live) (at : Position) (parent : ℕ) (lhs : Node) (fo : Follower) (s : Point)
     → next_continues parent fo ≡ false
-    → Stands (λ (f : Filled production (BinaryOp c w at parent lhs) (P.binary_of c w at parent lhs (operator_in fo))
+    → FitsHere (λ (f : Filled production (BinaryOp c w at parent lhs) (P.binary_of c w at parent lhs (operator_in fo))
     lhs) k. demanded production f k) s
 end_by c w at parent lhs (Operator n right) s e = end_if c w at parent lhs (n, right) (R.continues parent n right) s e
 end_by c w at parent lhs (Unknown t) s e = record { it = given; fits = λ k t m. m }
@@ -103,7 +103,7 @@ end_by c w at parent lhs Other s e = record { it = given; fits = λ k t m. m }
 last_form : (c : Context) (w : Live) (at : Position) (parent : ℕ) (lhs : Node) (s : Point)
     → verdict (operator_known c.filter) (op_at s) ≡ Fine
     → next_continues parent (follower_of c.filter (op_at s)) ≡ false
-    → Stands (λ (f : Form production (BinaryOp c w at parent lhs) lhs) k. demands production f k) s
+    → FitsHere (λ (f : Form production (BinaryOp c w at parent lhs) lhs) k. demands production f k) s
 last_form c w at parent lhs s e off =
     let n = next_form c.filter s e in
     let r = end_by c w at parent lhs (follower_of c.filter (op_at s)) s off in

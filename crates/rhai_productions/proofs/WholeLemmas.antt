@@ -17,14 +17,13 @@ use Rattle.rhai_reading.specs.Reading as R
 use Rattle.rhai_reading.specs.Reading.{Goal, Val, Whole, Script}
 use Rattle.rhai_reading.proofs.Looks.{op_at}
 use Rattle.rhai_productions.specs.Schema.{Production}
-use Rattle.rhai_productions.specs.Schema as S
 use Rattle.rhai_productions.specs.Rules as P
 use Rattle.rhai_productions.specs.Rules.{production}
 use Rattle.rhai_productions.specs.Derived as D
 use Rattle.rhai_productions.specs.Events as F
 use Rattle.rhai_productions.specs.Kept.{Keeps}
 use Rattle.rhai_productions.specs.StreamLaws.{StreamsAreWhole}
-use Rattle.rhai_productions.proofs.Keeping as K
+use Rattle.rhai_productions.proofs.Keeping.{holds, trivially}
 use Rattle.rhai_productions.proofs.Passing.{leaves_its}
 
 abbrev Right : (g : Goal) → Val g → (first next : Lexeme) → Type 0
@@ -34,26 +33,6 @@ Right _ x l n = Unit {0}
 
 abbrev Good : Ended → Type 0
 Good x = Unit {0}
-
--- what holds of all that could be given is kept
-trivially : {A : Type 0} (Q : A → Lexeme → Type 0) (p : Production A) (n : Lexeme) → ((x : A) (m : Lexeme) → Q x m)
-    → Keeps Right Good Q p n
-trivially Q (S.give x) n h = h x n
-trivially Q (S.never why) n h = tt
-trivially Q (S.take w m k) n h = λ is at next. trivially Q (k n at) next h
-trivially Q (S.this k) n h = λ at next. trivially Q (k n at) next h
-trivially Q (S.if_next t p q) n h = (λ e. trivially Q p n h, λ e. trivially Q q n h)
-trivially Q (S.choose v k) n h = λ y e. trivially Q (k y) n h
-trivially Q (S.here k) n h = λ at. trivially Q (k at) n h
-trivially Q (S.must b e p) n h = λ is. trivially Q p n h
-trivially Q (S.knows t e p) n h = trivially Q p n h
-trivially Q (S.adds f p) n h = (tt, trivially Q p n h)
-trivially Q (S.uses v ok e c u k) n h = λ b is. trivially Q (k b) n h
-trivially Q (S.captures ok e c u p) n h = trivially Q p n h
-trivially Q (S.part g k) n h = λ x next r. trivially Q (k x) next h
-trivially Q (S.literal g is k) n h = λ x next r. trivially Q (k x) next h
-trivially Q (S.apart g k) n h = λ x us i next r. trivially Q (k x us i) next h
-trivially Q (S.in_text k) n h = λ closing l at next. trivially Q (k closing l at) next h
 
 place_ends : (l : Lexeme) → statement_place EndMark l ≡ stands.Close → is_end l ≡ true
 place_ends (Sign token.EOF) e = refl
@@ -86,13 +65,7 @@ statements c w fs stands.Nothing n e = tt
 table : (g : Goal) (n : Lexeme) → Keeps Right Good (λ x next. Right g x n next) (production g) n
 table (R.Whole c w) n = λ x m h. (λ e. e, λ e. tt)
 table (R.Statements EndMark c w before) n = λ v e. statements c w before v n e
-table g n = trivially (λ x next. Unit {0}) (production g) n (λ x m. tt)
-
-next_is : {g : Goal} {x : Val g} (f : D.Form production g x) (s t : Point) → Met (D.demands production f Nothing) s t
-    → Right g x (op_at s) (op_at t)
-next_is {g = g} {x = x} f s t m =
-    (K.ended production Right Good (λ l. Unit {0}) (λ l e h k. tt) table (λ next. Right g x (op_at s) next) s t
-    (K.right production Right Good (λ l. Unit {0}) (λ l e h k. tt) table f Nothing s t m)).0
+table g n = trivially Right (λ x next. Unit {0}) (production g) n (λ x m. tt)
 
 -- ---- delivered streams
 
@@ -121,6 +94,6 @@ whole {g = g} {x = x} f s t d m e =
 
 pub streams_are_whole : StreamsAreWhole
 streams_are_whole = record {
-  expression = λ c w x f s t d m. whole f s t d m (next_is f s t m);
-  script = λ c w x f s t d m. whole f s t d m (next_is f s t m);
+  expression = λ c w x f s t d m. whole f s t d m (holds Right production table f s t m);
+  script = λ c w x f s t d m. whole f s t d m (holds Right production table f s t m);
 }

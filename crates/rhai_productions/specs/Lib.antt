@@ -19,6 +19,12 @@ pub mod Quiet
 pub mod Watched
 pub mod Kept
 pub mod Numbered
+pub mod ClosureLaws
+pub mod LibraryLaws
+pub mod PlaceLaws
+pub mod SlotLaws
+pub mod StartLaws
+pub mod NestLaws
 pub mod Always
 pub mod ChainForms
 pub mod Runs

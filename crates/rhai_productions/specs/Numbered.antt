@@ -1,5 +1,5 @@
 -- A law: the numbers in trees and functions are right. What that means is said for each goal.
-use Rattle.std.specs.Prelude.{◌≡◌, Bool, true, false, ◌&&◌, List, []}
+use Rattle.std.specs.Prelude.{◌≡◌, ℕ, Bool, true, false, ◌&&◌, List, []}
 use Rattle.rhai_lower.specs.Nodes as node
 use Rattle.rhai_grammar.specs.Prelude.{Comment, Ended, Position, Text, Lexeme, Node, Context, Live, excludes_use}
 use Rattle.rhai_grammar.specs.Prelude.{is_variable, AllWellNumbered, WellNumbered, WellNumberedBlock}
@@ -87,10 +87,11 @@ Right _ x l n = Unit {0}
 
 -- ---- the function of a closure
 
--- what a closure captures, its own parameters, and its function
+-- what a closure captures, its own parameters, its number, and its function
 pub record ClosureParts : Type 0 where
   pub captured : List Text
   pub own : List Text
+  pub number : ℕ
   pub ended : Ended
 
 -- the parts of a form of a closure, by the names of its parameters
@@ -99,6 +100,7 @@ abbrev pub closure_of : {context : Context} {live : Live} {at : Position} {by : 
 closure_of own (must (apart f captured number body rest)) = record {
   captured = names_of captured;
   own = own;
+  number = number;
   ended = ended_closure number captured own (made_block f);
 }
 

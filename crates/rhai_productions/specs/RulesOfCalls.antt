@@ -34,6 +34,7 @@ bang_by context live name calls_by.List = listed context live name true
 bang_by context live name _ = never (missing (codes "("))
 
 -- what calls a name: an empty pair, a list of arguments, or either after a `!`; or nothing
+--     arguments = "()" | "(" [ list(expression) ] ")"
 abbrev pub called_by : Context → Live → Position → Bool → Calling → Production (Bool × Nodes)
 called_by context live name qualified calls_by.Pair = this (λ _ at. give (false, no_nodes))
 called_by context live name qualified calls_by.List = listed context live name false
@@ -83,6 +84,7 @@ dotted_by live spot token at (NoMember why) = never (λ m. why)
 
 -- a bracket with its index, two levels deeper, or a dot with its member, and the links after it; or no link, where all
 -- links are tested
+--     link = ( "[" | "?[" ) expression "]" | ( "." | "?." ) ( NAME [ arguments ] | WORD arguments )
 abbrev pub links_by : Live → LinkSpot → Linking → Production (List Link)
 links_by live spot link.Bracket = this (λ token at. raise spot.brackets at (λ deeper. raise deeper at (λ inside.
     part (goal.Index inside live spot.indexed) (λ x. part (goal.Links live (spot_after_bracket spot

@@ -32,6 +32,7 @@ inside_by context live false = part (goal.Statements Brace (below_global context
     give fs.0)
 
 -- what is in a block, and its `}`
+--     block = "{" statements "}"
 abbrev pub block_of : Context → Live → Position → Production node.Block
 block_of context live at = part (goal.Inside context live) (λ fs. part (goal.BlockEnd at fs) give)
 
@@ -41,6 +42,7 @@ braced context live at = part goal.BlockStart (λ opening. raise context at (λ 
     part (goal.Block deeper live opening) give))
 
 -- an expression that may be a truth value and no assignment; it begins with no `{`
+--     guard = expression
 abbrev pub guard : Context → Live → Production Node
 guard context live = if_next (is_due due_token.LeftBrace) (never (λ _. guard_expected))
     (part (goal.Expression context live) (λ x. faultless (guard_fault x)
@@ -52,6 +54,7 @@ iterated context live = if_next (is_due due_token.LeftBrace) (never (λ _. guard
     (part (goal.Expression context live) (λ x. tested x (iterated_fault x)))
 
 -- a guard, a block, and what follows `else`
+--     if = "if" guard block [ "else" ( block | if ) ]
 abbrev pub conditional : Context → Live → Position → Production node.Statement
 conditional context live at = part (goal.Guard context live) (λ x. part (goal.Braced context live at) (λ b.
     part (goal.Branch context live at) (λ e. give (if_statement x b e at))))
@@ -79,6 +82,12 @@ loop_names = if_next (is_due due_token.LeftParen) (this (λ _ at. name (λ n p. 
     (give (n, Some m))))))))) (name (λ n at. due due_token.In (give (n, None))))
 
 -- a construct after its first token, by its kind
+--     while = "while" guard block
+--     loop = "loop" block
+--     do = "do" block ( "while" | "until" ) guard
+--     for = "for" ( NAME | "(" NAME "," NAME ")" ) "in" guard block
+--     try = "try" block "catch" [ "(" NAME ")" ] block
+--     switch = "switch" expression "{" { arm [ "," ] } [ "_" "=>" action [ "," ] ] "}"
 abbrev pub construct : Context → Live → Position → Kind → Production node.Statement
 construct context live at kind.Block = part (goal.Block context live at) (λ b. give (block_statement b))
 construct context live at kind.If = part (goal.Conditional context live at) give

@@ -34,12 +34,14 @@ abbrev pub named_head : {A : Type 0} → Text → Position → A → Production 
 named_head name at x = must (names_function name) (refusal cause.FnMissingName at) (give x)
 
 -- the name of a function, or the type of its objects, a dot and its name
+--     type = NAME | STRING
 abbrev pub function_head : Production (Option Text × Text)
 function_head = take is_type no_function_name (λ token at. if_next (is_due due_token.Period) (this (λ m p.
     take is_name no_function_name (λ n pos. named_head (text_of n) pos (Some (type_name token), text_of n))))
     (if is_name token then named_head (text_of token) at (None, text_of token) else never (not_due due_token.Period)))
 
 -- an empty pair, or a list of parameters
+--     parameters = "()" | "(" [ list(NAME) ] ")"
 abbrev pub parameters_by : Text → Calling → Production (List Text)
 parameters_by function calls_by.Pair = this (λ _ at. give [])
 parameters_by function calls_by.List = this (λ _ at. part (goal.Parameters lists.Parameters function []) give)
@@ -66,6 +68,7 @@ function context comments at is_private = part goal.FunctionHead (λ head. part 
 
 -- A function, at the global level alone. There has to be room for it; it is one level deeper, with settings of its own;
 -- and no function with its key is there when it ends.
+--     function = { COMMENT } [ "private" ] "fn" [ type "." ] NAME parameters block
 abbrev pub function_statement : Context → Live → List Comment → Position → Position → Bool
     → Production (node.Statement × Live)
 function_statement context live comments first at is_private =
@@ -91,6 +94,7 @@ closure_of context live at names = raise (in_closure context live) at (λ deeper
     (give (closure_node at n us names live))))))
 
 -- a closure after its first token: without parameters after `||`, or with those up to the next `|`
+--     closure = ( "||" | "|" [ list(NAME) ] "|" ) [ statement ]
 abbrev pub closure_by : Context → Live → Position → Bars → Production Node
 closure_by context live at bars.Pair = closure_of context live at []
 closure_by context live at bars.List = part (goal.Parameters lists.ClosureParameters [] []) (λ names.

@@ -37,6 +37,7 @@ arguments_of context live name = if_next no_argument (never (missing (codes ")")
     (raise context name (λ deeper. part (goal.Items deeper live no_nodes) give)))
 
 -- the `]` of an array, or one more item, one level deeper, and so on up to the `]`
+--     array = "[" [ list(expression) ] "]"
 abbrev pub element_by : Context → Live → Position → Nodes → ItemPlace → Production Nodes
 element_by context live opening before place.End = this (λ _ at. give before)
 element_by context live opening before place.Item = raise context opening (λ deeper. part (goal.Expression deeper live)
@@ -45,6 +46,7 @@ element_by context live opening before place.Item = raise context opening (λ de
 element_by context live opening before place.Nothing = never (no_item context.sizes.array)
 
 -- the `}` of an object map, or the name of one more property and its colon; no name stands twice
+--     key = NAME | STRING
 abbrev pub key_by : Context → Properties → KeyPlace → Production (Option (Text × Position))
 key_by context before FieldsEnd = this (λ _ at. give None)
 key_by context before (AKey key) = this (λ _ at. unless (has_key key before)
@@ -54,6 +56,7 @@ key_by context before (AKey key) = this (λ _ at. unless (has_key key before)
 key_by context before (NoKey why) = never (λ _. why)
 
 -- the value of a property, one level deeper, and the properties after it
+--     map = "#{" [ list(key ":" expression) ] "}"
 abbrev pub field_by : Context → Live → Position → Properties → Option (Text × Position) → Production Properties
 field_by context live opening before None = give before
 field_by context live opening before (Some key) = raise context opening (λ deeper. part (goal.Expression deeper live)

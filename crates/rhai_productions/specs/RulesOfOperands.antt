@@ -27,6 +27,10 @@ word_of context word at = if_next (λ token. may_be_called word && calls token) 
     else stop (refusal (cause.Reserved word) at))
 
 -- a primary, by what its first token begins
+--     ZERO =
+--     primary = value | NAME | WORD | "(" expression ")" | array | map | string
+--       | block | if | switch | while | loop | do | for | closure
+--     value = "()" | INTEGER | CHARACTER | STRING | "true" | "false"
 abbrev pub primary_by : Context → Live → Beginning → Production Node
 primary_by context live begin.Value = this (λ token at. give (value_of token at))
 primary_by context live begin.Name = this (λ token at. uses excludes_use
@@ -55,6 +59,8 @@ primary_by context live begin.Nothing = never no_operand
 
 -- A sign and its operand, one level deeper; or a primary with what follows it: a call, links, or none of these. That
 -- its module is known is tested after the last link.
+--     operand = { sign } ( ZERO | primary { "::" NAME } [ [ "!" ] arguments ] { link } )
+--     sign = "-" | "+" | "!"
 abbrev pub operand_by : Context → Live → Beginning → Production Node
 operand_by context live begin.Sign = this (λ token at. raise context at (λ deeper. part (goal.Operand deeper live)
     (λ x. must (sign_holds token x) (malformed at x) (give (signed token at x)))))
@@ -62,6 +68,8 @@ operand_by context live _ = part (goal.Primary context live) (λ x. part (goal.P
     part (goal.Links live (spot_after_operand context y)) (λ ls. tested (chained y ls) (module_fault context live y))))
 
 -- what stands after an operator: nothing after a range, a jump after `??`, or an operand
+--     right = operand | jump | OMITTED
+--     OMITTED =
 abbrev pub right_by : Context → Live → OperandStart → Production Node
 right_by context live first.Omitted = here (λ at. give (unit at))
 right_by context live first.Jump = part (goal.Statement (below_global context) (in_block live)) (λ f.
@@ -90,16 +98,19 @@ binary_of context live at parent lhs (Some op) = if continues parent op.0 op.1
     then binary_on context live at parent lhs op else give lhs
 
 -- An operand, and the operators after it: one level deeper, which is refused at its first token.
+--     expression = operand { binary right }
 abbrev pub expression_of : Context → Live → Production Node
 expression_of context live = here (λ at. raise context at (λ deeper. part (goal.Operand deeper live) (λ x.
     part (goal.BinaryOp deeper live (position_of x) 1 x) give)))
 
 -- an expression, and then the end mark
+--     formula = expression END
 abbrev pub whole : Context → Live → Production Node
 whole context live = part (goal.Expression context live) (λ x. if_next is_end (give x) (never unexpected))
 
 -- A block of an interpolated string with the text after it, and so on up to the last text. Each is one level deeper,
 -- which is refused at the first text.
+--     string = TEXT block { TEXT block } STRING
 abbrev pub segments_of : Context → Live → Position → Nodes → Production Nodes
 segments_of context live start before = part goal.BlockStart (λ opening. raise context start (λ deeper.
     part (goal.Inside deeper live) (λ fs. part goal.TextAfter (λ t.

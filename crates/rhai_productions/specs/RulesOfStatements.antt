@@ -37,6 +37,7 @@ initializer context live at = if_next is_equals (this (λ _ p. raise context at 
     part (goal.Expression deeper live) give))) (give (unit nowhere))
 
 -- a name and its value, after `let` or `const`
+--     definition = ( "let" | "const" ) NAME [ "=" expression ]
 abbrev pub definition : Context → Live → Position → Bool → Bool → Production (node.Statement × Live)
 definition context live at constant exported = part (goal.VarName context live) (λ n.
     part (goal.Initializer context live at) (λ x. give (
@@ -45,11 +46,14 @@ definition context live at constant exported = part (goal.VarName context live) 
     )))
 
 -- a value, or nothing: one level deeper in either case
+--     jump = ( "return" | "throw" | "break" ) [ expression ] | "continue"
 abbrev pub jump_of : Context → Live → Position → Production Optional
 jump_of context live at = if_next (starts context) (raise context at (λ deeper. part (goal.Expression deeper live)
     (λ x. give (present x)))) (raise context at (λ deeper. give absent))
 
 -- an expression, or an assignment, whose left side is tested after its right side
+--     assignment = expression [ assign expression ]
+--     assign = "=" | "+=" | "-=" | "*=" | "/=" | "%=" | "**=" | "<<=" | ">>=" | "&=" | "|=" | "^="
 abbrev pub evaluated : Context → Live → Production node.Statement
 evaluated context live = part (goal.Expression context live) (λ x. if_next is_assignment (this (λ token at.
     part (goal.Expression context live) (λ y. tested (assignment (update_of token) x y at)
@@ -60,11 +64,13 @@ abbrev pub alias : Production (Option Text)
 alias = if_next (is_due due_token.As) (this (λ _ at. name (λ n p. give (Some n)))) (give None)
 
 -- the path of a module, and the name that it has here
+--     import = "import" expression [ "as" NAME ]
 abbrev pub import_of : Context → Live → Position → Production (node.Statement × Live)
 import_of context live at = part (goal.Expression context live) (λ x. part goal.Alias (λ other.
     give (import_tree x other at, imported other live)))
 
 -- a definition that is exported, one level deeper; or a name that is, with another name for it
+--     export = "export" ( definition | NAME [ "as" NAME ] )
 abbrev pub export_by : Context → Live → Position → Option Bool → Production (node.Statement × Live)
 export_by context live at (Some constant) = raise context at (λ deeper. this (λ _ pos.
     part (goal.Definition deeper live pos constant true) give))
@@ -91,6 +97,9 @@ abbrev pub loops : {A : Type 0} → Context → Position → Production A → Pr
 loops context at p = must (is_in_loop context) (refusal cause.LoopBreak at) p
 
 -- a statement, by what its first token begins; raises of the level are refused at that token
+--     statement = plain | closed
+--     closed = ";" | block | if | switch | while | loop | for | try | function
+--     plain = assignment | do | definition | jump | import | export
 abbrev pub statement_by : Context → Live → StatementStart → Production (node.Statement × Live)
 statement_by context live start.Empty = this (λ _ at. give (noop at, live))
 statement_by context live (start.Construct kind) = this (λ _ at. raise context at (λ deeper. raise deeper at (λ inside.
@@ -130,6 +139,8 @@ after_one closing context live fs true = part (goal.Statements closing context l
 after_one closing context live fs false = choose (EndIn closing) (separated closing context live fs)
 
 -- the end of a list of statements, or one more and what follows it
+--     script = statements END
+--     statements = { plain ";" | closed } [ plain ]
 abbrev pub statements : Closing → Context → Live → node.Statements → StatementPlace
     → Production (node.Statements × Live)
 statements closing context live before stands.Close = give (before, live)

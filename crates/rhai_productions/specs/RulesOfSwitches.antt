@@ -15,6 +15,7 @@ use Rattle.rhai_reading.specs.Goals as goal
 use Rattle.rhai_productions.specs.Schema.{Production, due, faultless, give, if_next, never, part, stop, this}
 
 -- a case, and others after a `|`
+--     case = expression
 abbrev pub cases_of : Context → Live → Nodes → Production Nodes
 cases_of context live before = part (goal.Case context live) (λ x. if_next (is_due due_token.Pipe) (this (λ _ at.
     part (goal.Cases context live (with_node before x)) give)) (give (with_node before x)))
@@ -25,6 +26,7 @@ case_guard context live = if_next (is_due due_token.If) (this (λ _ at. part (go
     (give no_guard)
 
 -- an expression, where no statements are allowed, else a statement, whose slots end with the arm
+--     action = statement
 abbrev pub action_by : Context → Live → Bool → Production (Node × Bool)
 action_by context live true = part (goal.Expression context live) (λ x. give (x, false))
 action_by context live false = if_next is_end (never (λ _. cause.UnexpectedEOF)) (part (goal.Statement
@@ -37,6 +39,7 @@ arm_end_by itself after.Close = give tt
 arm_end_by itself after.Nothing = if itself then give tt else never (not_after lists.Arms)
 
 -- Cases, a guard, and what is done there. The cases are tested after that, and then the end of the arm.
+--     arm = case { "|" case } [ "if" guard ] "=>" action
 abbrev pub arm_of : Context → Live → Collected → Production (Nodes × Node × Node)
 arm_of context live before = part (goal.Cases context live no_nodes) (λ xs. part (goal.CaseGuard context live)
     (λ guard. due due_token.DoubleArrow (part (goal.Action context live) (λ does. faultless (arm_fault before xs)

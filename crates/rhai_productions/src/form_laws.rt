@@ -1,13 +1,19 @@
 //! Laws of the forms that follow from productions, as contracts of functions that do nothing.
 
 ghost use Rattle.rhai_productions.specs.ChainForms.{ChainsAreJoined};
+ghost use Rattle.rhai_productions.specs.ClosureLaws.{CapturedAreUsed, ParametersAreCaptured};
 ghost use Rattle.rhai_productions.specs.EventLaws.{CapturedAreFreeUses, FormsFitWhereverSpelled};
 ghost use Rattle.rhai_productions.specs.EventLaws.{FormsLeaveTheirEvents};
+ghost use Rattle.rhai_productions.specs.LibraryLaws.{LibrariesStayOrderly};
+ghost use Rattle.rhai_productions.specs.NestLaws.{FormsNestWithin, ReadersNestWithin};
 ghost use Rattle.rhai_productions.specs.Numbered.{TreesAreWellNumbered};
+ghost use Rattle.rhai_productions.specs.PlaceLaws.{RefusalsStandAtTokens};
 ghost use Rattle.rhai_productions.specs.Quiet.{NothingIsCaptured};
 ghost use Rattle.rhai_productions.specs.Rules.{production};
 ghost use Rattle.rhai_productions.specs.Runs.{ExpressionsAreRuns, RunsAreExpressions};
 ghost use Rattle.rhai_productions.specs.Shaped.{TreesKeepShape};
+ghost use Rattle.rhai_productions.specs.SlotLaws.{NoSlot, NumberedSlot, ScopesClose};
+ghost use Rattle.rhai_productions.specs.StartLaws.{StartsOfExpressions};
 ghost use Rattle.rhai_productions.specs.StreamLaws.{FormsAreFair, StreamsAreWhole};
 ghost use Rattle.rhai_productions.specs.Watched.{NamesAreCaptured};
 
@@ -16,6 +22,12 @@ ghost use Rattle.rhai_productions.specs.Watched.{NamesAreCaptured};
 #[tactic(auto, using(crate::proofs::Refusals::forms_leave_their_events))]
 pub fn forms_leave_their_events()
     ensures { FormsLeaveTheirEvents production }
+{}
+
+/// Whichever demand a form misses, the error stands at a token that was taken, or at the next one.
+#[tactic(auto, using(crate::proofs::Places::refusals_stand_at_tokens))]
+pub fn refusals_stand_at_tokens()
+    ensures { RefusalsStandAtTokens }
 {}
 
 /// A form that fits on one stream fits on every stream that begins with its spelling and goes on with the same token.
@@ -36,10 +48,31 @@ pub fn streams_are_whole()
     ensures { StreamsAreWhole }
 {}
 
+/// A token begins an expression exactly where some expression that fits begins with it, or it is a reserved word or
+/// symbol, or an error of the tokenizer.
+#[tactic(auto, using(crate::proofs::Beginnings::starts_of_expressions))]
+pub fn starts_of_expressions()
+    ensures { StartsOfExpressions }
+{}
+
 /// What is in a closure captures its free uses, each name at its first use, and has the number of closures before it.
 #[tactic(auto, using(crate::proofs::Passing::captured_are_free_uses))]
 pub fn captured_are_free_uses()
     ensures { CapturedAreFreeUses production }
+{}
+
+/// The parameters of a closure are the names that it captures and then its own, and `curry` gets the captured ones in
+/// that order.
+#[tactic(auto, using(crate::proofs::ClosureLemmas::parameters_are_captured))]
+pub fn parameters_are_captured()
+    ensures { ParametersAreCaptured }
+{}
+
+/// A closure captures each name once; where it ends in a closure, a name that it captures has a slot there, or is that
+/// of a function that has ended, or is captured there, too.
+#[tactic(auto, using(crate::proofs::ClosureLemmas::captured_are_used))]
+pub fn captured_are_used()
+    ensures { CapturedAreUsed }
 {}
 
 /// A name is captured exactly in a closure, where it is free and the next token does not exclude its use.
@@ -54,10 +87,34 @@ pub fn nothing_is_captured()
     ensures { NothingIsCaptured }
 {}
 
+/// Libraries stay orderly, also where a form is refused, and no refusal is that the key of a closure is there.
+#[tactic(auto, using(crate::proofs::Orders::libraries_stay_orderly))]
+pub fn libraries_stay_orderly()
+    ensures { LibrariesStayOrderly }
+{}
+
 /// In trees of forms that fit, and in the functions that end there, every number is right.
 #[tactic(auto, using(crate::proofs::Numbers::trees_are_well_numbered))]
 pub fn trees_are_well_numbered()
     ensures { TreesAreWellNumbered }
+{}
+
+/// A name with a number is not directly before what calls it or `::`, and that is the number of its latest slot.
+#[tactic(auto, using(crate::proofs::SlotLemmas::numbered_slot))]
+pub fn numbered_slot()
+    ensures { NumberedSlot }
+{}
+
+/// A name without a number is directly before what calls it or `::`, or has no live slot.
+#[tactic(auto, using(crate::proofs::SlotLemmas::no_slot))]
+pub fn no_slot()
+    ensures { NoSlot }
+{}
+
+/// Constructs, expressions, and the end of a block or an arm give back what was live.
+#[tactic(auto, using(crate::proofs::SlotLemmas::scopes_close))]
+pub fn scopes_close()
+    ensures { ScopesClose }
 {}
 
 /// Forms that are equal up to positions have trees that are equal up to positions.
@@ -82,4 +139,16 @@ pub fn expressions_are_runs()
 #[tactic(auto, using(crate::proofs::RunsClimb::runs_are_expressions))]
 pub fn runs_are_expressions()
     ensures { RunsAreExpressions }
+{}
+
+/// Where there are limits on depth, no form that fits is deeper than they allow.
+#[tactic(auto, using(crate::proofs::RoomsOfGoals::forms_nest_within))]
+pub fn forms_nest_within()
+    ensures { FormsNestWithin }
+{}
+
+/// Where there are limits on depth, no more readers are active at once than they allow, also after a refusal.
+#[tactic(auto, using(crate::proofs::ReaderRooms::readers_nest_within))]
+pub fn readers_nest_within()
+    ensures { ReadersNestWithin }
 {}

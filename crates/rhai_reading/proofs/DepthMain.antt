@@ -25,7 +25,7 @@ module _ (g : Goal) (d : ℕ) (s : Progress) (new : IsNew s)
       (record s { nesting = n }) a 0 refl go (goes_above a n go)
 
   -- from a state in which no more readers are active than ever were
-  nests : (left : Progress) (x : Val g) → s.nesting.active ≤ s.nesting.peak → result_of g s ≡ Done x left
+  pub nests : (left : Progress) (x : Val g) → s.nesting.active ≤ s.nesting.peak → result_of g s ≡ Done x left
       → NestsAtLeast d s.nesting left.nesting
   nests left x le e =
       above_less (s.nesting.active + d) (s.nesting.active + max d 0) left.nesting (omega arith)

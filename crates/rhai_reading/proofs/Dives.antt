@@ -1,4 +1,4 @@
--- How high the peak is at least after a run, a rule for each step. Nothing here speaks of the grammar.
+-- A lower bound of the peak after a run, with a rule for each step. Nothing here speaks of the grammar.
 use Rattle.std.proofs.Common.{◌≡◌, ℕ, zero, suc, ◌+◌, ◌-◌, ◌^◌, ◌≤◌, Bool, true, false, max, sym, ap, subst, ◌∙◌, arith}
 use Rattle.std.proofs.Common.{nat_lt, if◌then◌else◌, inl, inr, List, []}
 use Rattle.std.specs.Prelude.{◌⊎◌}

@@ -1,5 +1,5 @@
--- After a run no more readers are active, and the peak is no lower. Nothing here speaks of the grammar.
-use Rattle.std.proofs.Common.{◌≡◌, ℕ, suc, ◌+◌, ◌-◌, ◌^◌, ◌≤◌, Bool, true, false, max, min, refl, arith, nat_lt}
+-- After a run no more readers are active than before; the peak is no lower. Nothing here speaks of the grammar.
+use Rattle.std.proofs.Common.{◌≡◌, ℕ, ◌+◌, ◌-◌, ◌^◌, ◌≤◌, Bool, true, false, max, min, refl, arith, nat_lt}
 use Rattle.std.proofs.Common.{if◌then◌else◌, inl, inr}
 use Rattle.std.proofs.lemmas.Bool.{ltb-false, ltb-true}
 use Rattle.std.specs.Prelude.{◌⊎◌}
@@ -7,9 +7,8 @@ use Rattle.rhai_grammar.specs.Prelude.{one_more}
 use Rattle.rhai_reading.specs.Reading.{Goal}
 use Rattle.rhai_reading.specs.Nesting.{Nesting, entered, left_one}
 use Rattle.rhai_reading.proofs.Kept.{AllKeep, KeptSo, call_keeps, less_keeps, level_keeps, recast_keeps}
-use Rattle.std.proofs.Math.Nat.{min-le_left}
-use Rattle.rhai_reading.specs.Running.{Caller, Done, Out, Progress, Refused, Unfinished, level, need, nested, only_less}
-use Rattle.rhai_reading.specs.Running.{recast, result_of}
+use Rattle.rhai_reading.specs.Running.{Caller, Out, Progress, level, nested, only_less}
+use Rattle.rhai_reading.specs.Running.{recast}
 
 -- The peak is the greatest number that there is, or this many readers are active.
 abbrev pub Goes : ℕ → Nesting → Type 0
@@ -61,7 +60,8 @@ leave m a n h = record { goes = left_goes a n h.goes; peak = h.peak }
 of : (m : ℕ) (call : Caller) → AllGrow call → AllKeep (λ a. Grows a m) call
 of m call all g a s h = all g a m s h
 
-pub call_grows : (call : Caller) → AllGrow call → (g : Goal) (count : Bool) (a m : ℕ) (s : Progress) → Grows a m s.nesting
+pub call_grows : (call : Caller) → AllGrow call → (g : Goal) (count : Bool) (a m : ℕ) (s : Progress)
+    → Grows a m s.nesting
     → GrowsSo a m (if count then nested (call g) s else call g s)
 call_grows call all g count a m s h =
     call_keeps (λ b. Grows b m) (λ b n. enters b m n) (leave m) call (of m call all) g count a s h

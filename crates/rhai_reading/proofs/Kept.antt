@@ -1,5 +1,5 @@
--- What a run keeps of how readers are nested. It keeps what a reader keeps that is entered and left. Nothing here
--- speaks of the grammar.
+-- What a run leaves as it was in the nesting of readers. It keeps what a reader keeps that is entered and left. Nothing
+-- here speaks of the grammar.
 use Rattle.std.proofs.Common.{ℕ, zero, suc, ◌+◌, Bool, true, false, nat_lt, if◌then◌else◌, []}
 use Rattle.rhai_grammar.specs.Prelude.{is_memory, is_due, is_text, noted}
 use Rattle.rhai_grammar.specs.declared.due.DueToken.TheVariants.{RightBrace}

@@ -27,6 +27,7 @@ pub mod Readable
 pub mod Modes
 pub mod Dues
 pub mod Sound
+pub mod Entries
 pub mod Main
 pub mod DepthMain
 pub mod Outcomes

@@ -1,4 +1,4 @@
--- What stands at a point, and where a run's operators go on.
+-- Which token is next at a point, and where the operators of a run continue.
 use Rattle.std.proofs.Common.{◌≡◌, ℕ, Bool, true, false, Option, Some, None, refl, if◌then◌else◌}
 use Rattle.rhai_grammar.specs.Prelude.{Lexeme, Node, Position, Cause, code, Point, next_at, is_memory, Live, Follower}
 use Rattle.rhai_grammar.specs.Prelude.{Operator, Unknown, Other, follower_of, Verdict, Fine, Wrong, Otherwise, verdict}

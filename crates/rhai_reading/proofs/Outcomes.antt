@@ -1,4 +1,4 @@
--- What the reading program comes to where an operation on trees answers for a reader.
+-- Results of the reading program where an operation on trees answers for a reader.
 use Rattle.std.proofs.Common.{◌≡◌, ℕ, Bool, true, false, Result, Ok, Err, IfErr, refl, ap, ◌∙◌, codes, if◌then◌else◌}
 use Rattle.rhai_grammar.specs.Prelude.{Lexeme, Node, Position, MemoryIsNowhere, Refusal, refusal, Context, Live}
 use Rattle.rhai_grammar.specs.Prelude.{is_sign, is_list, missing, spot_after_operand, chained, module_fault, sign_holds}

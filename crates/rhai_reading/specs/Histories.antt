@@ -1,4 +1,4 @@
--- What the reader does, with the tokens that it took. The laws about it speak of that.
+-- Runs of a reader, with the tokens that it took. The laws about it speak of that.
 use Rattle.std.specs.Prelude.{◌≡◌, ℕ, zero, suc, ◌≤◌, Bool, false, true, List}
 use Rattle.rhai_grammar.specs.Prelude.{Lexeme, Position, Mode, code, text, Item, Point, next_at, past, Ended, Use}
 use Rattle.rhai_grammar.specs.Delivered as point

@@ -1,4 +1,4 @@
--- What a reader does, one request after the other, whatever it moves along. Nothing here speaks of the grammar.
+-- How a reading program runs, request by request, over any kind of state. Nothing here speaks of the grammar.
 use Rattle.std.specs.Prelude.{if◌then◌else◌, List, []}
 use Rattle.rhai_grammar.specs.Prelude.{Lexeme, Position, unexpected, Refusal, as_literal, refusal, out_of_memory, Item}
 use Rattle.rhai_grammar.specs.Prelude.{is_memory, is_due, not_due, is_text, Ended, Library, Use, noted}

@@ -1,5 +1,5 @@
--- The reader as a program that asks a stream. It stands between the code and the definitions: no public promise speaks
--- of it.
+-- The reading program: the readers as terms that request tokens. It stands between the code and the definitions: no
+-- public promise speaks of it.
 use Rattle.std.specs.Prelude.{ℕ, Bool, true, false, Option, Some, None, List, ◌==◌, ◌||◌, ◌&&◌, nat_lt, codes}
 use Rattle.std.specs.Prelude.{if◌then◌else◌}
 use Rattle.rhai_grammar.specs.Prelude.{Text, Lexeme, text_of, Node, Nodes, Properties, unit, integer, array, object_map}

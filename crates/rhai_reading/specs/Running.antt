@@ -1,4 +1,4 @@
--- What the reader does, as a function: a fixed point of its rules. What is left to read guards it.
+-- Runs of a reader as a function of its state, by a fixed point. What is left to read guards it.
 use Rattle.std.specs.Prelude.{◌≡◌, ℕ, zero, suc, ◌+◌, ◌*◌, false, Result, Ok, Err, nat_lt, if◌then◌else◌, List}
 use Rattle.rhai_grammar.specs.Prelude.{Lexeme, Position, MemoryIsNowhere, Cursor, left, Item, Ended, Library}
 use Rattle.rhai_grammar.specs.Prelude.{with_ended, Use}

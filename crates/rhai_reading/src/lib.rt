@@ -1,5 +1,5 @@
-//! The reader as a pure program that asks a stream, and its laws: proofs only. The code's readers are proved to do what
-//! it does, and the laws say what that means in terms of the definitions.
+//! The parser as a pure program that requests tokens, and its laws: proofs only. The code's readers are proved to do
+//! what it does, and the laws say what that means in terms of the definitions.
 #![tactic(auto)]
 
 ghost use Rattle.rhai_grammar.specs.Laws.{FormsHaveOneTree, ScriptsHaveOneTree};

@@ -1,1 +1,2 @@
+mod BracketLemmas
 mod LineLemmas

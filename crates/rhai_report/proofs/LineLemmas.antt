@@ -1,6 +1,9 @@
--- What the loops over a line's bytes step by.
+-- The steps of the loops over a line's bytes.
 use Rattle.std.proofs.lemmas.List.{drop_all, take_all}
-use Rattle.std.proofs.lemmas.List.Sums.{count_by-le-length, count_by_more_no, count_by_more_yes, prefix_len-drop_all, prefix_len-drop_no, prefix_len-drop_yes, prefix_len-le-length, suffix_len-le-length, suffix_len-take_no, suffix_len-take_yes}
+use Rattle.std.proofs.lemmas.List.Sums.{count_by-le-length, count_by_more_no, count_by_more_yes}
+use Rattle.std.proofs.lemmas.List.Sums.{prefix_len-drop_all, prefix_len-drop_no, prefix_len-drop_yes}
+use Rattle.std.proofs.lemmas.List.Sums.{prefix_len-le-length, suffix_len-le-length, suffix_len-take_no}
+use Rattle.std.proofs.lemmas.List.Sums.{suffix_len-take_yes}
 
 pub ruleset counting = (count_by_more_yes, count_by_more_no, take_all)
 

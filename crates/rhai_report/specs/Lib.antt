@@ -1,3 +1,4 @@
 pub mod Brackets
 pub mod Lines
+pub mod Marks
 pub mod Visible

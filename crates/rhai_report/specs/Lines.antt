@@ -1,4 +1,4 @@
--- The line of a text in which a byte stands.
+-- The line of a text that contains a byte.
 use Rattle.std.specs.Prelude.{◌≡◌, ◌+◌, ◌-◌, ◌==◌, ℕ, Bool, not, length, take, drop, codes, refl}
 use Rattle.std.specs.List.{count_by, prefix_len, suffix_len}
 use Rattle.rhai_lower.specs.Texts.{Text}

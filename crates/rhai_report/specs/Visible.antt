@@ -1,5 +1,6 @@
 -- How characters are shown.
-use Rattle.std.specs.Prelude.{◌≡◌, ◌+◌, ◌==◌, ◌&&◌, ◌||◌, nat_le, nat_lt, ℕ, Bool, if◌then◌else◌, refl}
+use Rattle.std.specs.Prelude.{◌≡◌, ◌+◌, ◌==◌, ◌&&◌, ◌||◌, nat_le, nat_lt, ℕ, Bool}
+use Rattle.std.specs.Prelude.{if◌then◌else◌, refl}
 
 -- a control character that has no picture, one that turns the direction of what follows, or one that ends a line
 abbrev pub is_hidden : ℕ → Bool

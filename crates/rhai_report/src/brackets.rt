@@ -1,7 +1,7 @@
 //! Brackets: which one is open where a closing one is missing.
 
-ghost use Rattle.std.specs.Prelude.{◌≡◌, is_some};
-ghost use Rattle.rhai_report.specs.Brackets.{closes, opens};
+ghost use Rattle.std.specs.Prelude.{◌≡◌, map};
+ghost use Rattle.rhai_report.specs.Brackets.{closed, closed_text, innermost, note_of, opened, token_of};
 
 use rhai_lower::{Entry, Token};
 
@@ -18,7 +18,7 @@ pub enum Bracket {
 
 /// The kind that a token opens.
 pub fn opened_by(token: &Token) -> Option<Bracket>
-    ensures { is_some result ≡ opens token.now }
+    ensures { result ≡ opened token.now }
 {
     match token {
         Token::LeftBrace | Token::MapStart => Some(Bracket::Brace),
@@ -30,7 +30,7 @@ pub fn opened_by(token: &Token) -> Option<Bracket>
 
 /// The kind that a token closes.
 pub fn closed_by(token: &Token) -> Option<Bracket>
-    ensures { is_some result ≡ closes token.now }
+    ensures { result ≡ closed token.now }
 {
     match token {
         Token::RightBrace => Some(Bracket::Brace),
@@ -41,7 +41,9 @@ pub fn closed_by(token: &Token) -> Option<Bracket>
 }
 
 /// The kind that a text closes.
-pub fn closed_by_text(text: &str) -> Option<Bracket> {
+pub fn closed_by_text(text: &str) -> Option<Bracket>
+    ensures { result ≡ closed_text text.now }
+{
     match text {
         "}" => Some(Bracket::Brace),
         ")" => Some(Bracket::Paren),
@@ -50,24 +52,33 @@ pub fn closed_by_text(text: &str) -> Option<Bracket> {
     }
 }
 
-/// The index of the token that opened the innermost bracket that is open after these tokens.
-pub fn innermost_open(entries: &[Entry]) -> Option<usize> {
+/// The index of the token that opened the innermost bracket that is open after these tokens. A closing token closes the
+/// bracket that was opened last, of whatever kind.
+
+pub fn innermost_open(entries: &[Entry]) -> Option<usize>
+    ensures { result ≡ innermost (map token_of entries.now) }
+{
     let mut closed = 0usize;
-    for (index, entry) in entries.iter().enumerate().rev() {
-        if closed_by(&entry.token).is_some() {
-            closed = closed.saturating_add(1);
-        } else if opened_by(&entry.token).is_some() {
+    let mut at = entries.len();
+    while at > 0 {
+        let token = &entries[at - 1].token;
+        if closed_by(token).is_some() {
+            closed += 1;
+        } else if opened_by(token).is_some() {
             if closed == 0 {
-                return Some(index);
+                return Some(at - 1);
             }
             closed -= 1;
         }
+        at -= 1;
     }
     None
 }
 
 /// What is said of a token that opened a bracket.
-pub fn opening_note(token: &Token) -> &'static str {
+pub fn opening_note(token: &Token) -> &'static str
+    ensures { result.now ≡ note_of token.now }
+{
     match token {
         Token::LeftBrace => "the block was opened here",
         Token::MapStart => "the object map was opened here",

@@ -14,8 +14,8 @@ pub mod snippet;
 pub mod style;
 pub mod visible;
 
-pub use mark::Mark;
+pub use mark::{Mark, in_file};
 pub use print::print_report;
-pub use report::{Note, Outside, Report, Source, report_of};
+pub use report::{Note, Outside, Report, Source, index_at, report_of};
 pub use style::Style;
 pub use visible::push_visible;

@@ -1,4 +1,4 @@
-//! The line of a text in which a byte stands.
+//! The line of a text that contains a byte.
 
 ghost use Rattle.std.specs.Prelude.{◌≡◌, ◌≤◌, length};
 ghost use Rattle.std.specs.List.{count_by, prefix_len, suffix_len};

@@ -1,4 +1,7 @@
-//! `Mark`: a place in a file, and the bytes that are underlined there.
+//! `Mark`: a position in a file, and the bytes that are underlined there.
+
+ghost use Rattle.std.specs.Prelude.{◌≡◌};
+ghost use Rattle.rhai_report.specs.Marks.{span_in_file};
 
 use crate::line::line_of;
 use rhai_lower::{LexError, Position, Token};
@@ -29,8 +32,10 @@ pub fn mark_at(text: &str, at: usize, start: usize, stop: usize) -> Mark {
     }
 }
 
-// The bytes of a token in the file, in which the script begins at byte `from`.
-fn in_file(from: usize, span: Span) -> Span {
+/// The bytes of a file that are these of its script, which begins at byte `from`.
+pub fn in_file(from: usize, span: Span) -> Span
+    ensures { result ≡ span_in_file from span }
+{
     Span {
         start: span.start.saturating_add(from),
         stop: span.stop.saturating_add(from),

@@ -35,7 +35,7 @@ fn digits_of(number: usize) -> usize
 }
 
 // The greatest number of a line that a report shows.
-fn greatest_line(report: &Report) -> usize {
+fn greatest_line(report: &Report<'_>) -> usize {
     let mut greatest = report.mark.map_or(0, |mark| mark.line);
     for note in &report.notes {
         greatest = greatest.max(note.mark.map_or(0, |mark| mark.line));
@@ -70,8 +70,9 @@ fn push_place(
     push_fill(out, ' ', look.digits)?;
     write!(out, "{edge}-->{plain} ")?;
     push_visible(out, source.name)?;
+    out.push_str(if source.name.is_empty() { "" } else { ":" })?;
     let Mark { line, column, .. } = mark;
-    write!(out, ":{line}:{column}\n")
+    write!(out, "{line}:{column}\n")
 }
 
 // The line of a snippet, after its edge.
@@ -161,31 +162,21 @@ fn push_remark(out: &mut String, look: Look, text: &str) -> Result<(), AllocErro
 }
 
 // The notes, those without a place first.
-fn push_notes(
-    out: &mut String,
-    look: Look,
-    source: Source<'_>,
-    report: &Report,
-) -> Result<(), AllocError> {
+fn push_notes(out: &mut String, look: Look, report: &Report<'_>) -> Result<(), AllocError> {
     for note in report.notes.iter().filter(|note| note.mark.is_none()) {
         push_remark(out, look, &note.text)?;
     }
     for note in &report.notes {
         if let Some(mark) = note.mark {
             push_title(out, look.style, "note", &note.text)?;
-            push_mark(out, look, source, mark)?;
+            push_mark(out, look, report.source, mark)?;
         }
     }
     Ok(())
 }
 
-/// Adds a report on a file to a text. Returns `AllocError` if memory runs out.
-pub fn print_report(
-    out: &mut String,
-    style: Style,
-    source: Source<'_>,
-    report: &Report,
-) -> Result<(), AllocError> {
+/// Adds a report to a text. Returns `AllocError` if memory runs out.
+pub fn print_report(out: &mut String, style: Style, report: &Report<'_>) -> Result<(), AllocError> {
     let look = Look {
         style,
         colour: style.error,
@@ -193,11 +184,11 @@ pub fn print_report(
     };
     push_title(out, style, "error", &report.message)?;
     if let Some(mark) = report.mark {
-        push_mark(out, look, source, mark)?;
+        push_mark(out, look, report.source, mark)?;
     }
     let look = Look {
         colour: style.note,
         ..look
     };
-    push_notes(out, look, source, report)
+    push_notes(out, look, report)
 }

@@ -11,7 +11,7 @@ use std::alloc::{AllocError, Global};
 /// A file with a script.
 #[derive(Clone, Copy, Debug)]
 pub struct Source<'a> {
-    /// The name of the file, as it is printed.
+    /// The name of the file, as it is printed; empty if the script has none.
     pub name: &'a str,
     /// Its text.
     pub text: &'a str,
@@ -37,10 +37,14 @@ pub struct Note {
     pub mark: Option<Mark>,
 }
 
-/// What is told of a script that is refused.
+/// What is told of a script that is refused. `print_report` gives it as text, and the crate `rhai_json` as JSON.
 #[derive(Drop, Debug)]
-pub struct Report {
-    /// Why it is refused.
+pub struct Report<'a> {
+    /// The file with the script.
+    pub source: Source<'a>,
+    /// The error.
+    pub error: &'a ParseError,
+    /// Why the script is refused.
     pub message: String,
     /// The place where; none if memory ran out.
     pub mark: Option<Mark>,
@@ -55,17 +59,24 @@ fn mark_of_token(source: Source<'_>, tokens: &Tokens, index: usize, pos: Positio
     Some(mark_of(source.text, source.start, Span { start, stop }, pos, token))
 }
 
+/// The index of the first token at this position; that of the end mark, which is the number of tokens, if no token is
+/// there.
+pub fn index_at(tokens: &Tokens, pos: Position) -> usize {
+    let found = tokens.entries.iter().position(|entry| entry.pos == pos);
+    found.unwrap_or(tokens.entries.len())
+}
+
 /// What is told of a script that is refused with this error, at the token of this index (that of the end mark is the
 /// number of tokens). `tokens` are those of the script; `outside` is what it knows from outside. Returns `AllocError`
 /// if memory runs out.
-pub fn report_of(
+pub fn report_of<'a>(
     alloc: Global,
-    source: Source<'_>,
+    source: Source<'a>,
     tokens: &Tokens,
     index: usize,
-    error: &ParseError,
+    error: &'a ParseError,
     outside: Outside<'_>,
-) -> Result<Report, AllocError> {
+) -> Result<Report<'a>, AllocError> {
     let ParseError(kind, pos) = error;
     let mark = if pos.is_none() {
         None
@@ -73,6 +84,8 @@ pub fn report_of(
         mark_of_token(source, tokens, index, *pos)
     };
     Ok(Report {
+        source,
+        error,
         message: message_of(alloc, kind)?,
         mark,
         notes: notes_of(alloc, source, tokens, index, kind, outside)?,

@@ -1,4 +1,4 @@
-//! The name that is most like another one.
+//! The name that is most similar to another one.
 
 use std::alloc::{AllocError, Global};
 use strsim::osa_distance;

@@ -1,4 +1,4 @@
--- How many nodes a walk has still to give.
+-- How many nodes a walk has yet to give.
 use Rattle.std.proofs.Common.{◌≡◌, ◌≤◌, ◌<◌, ℕ, [], Option, None, Some, Ok, ap, arith, length, subst}
 use Rattle.std.proofs.lemmas.List.{length-append}
 use Rattle.rhai_lower.specs.WalkState.{Gives}

@@ -17,6 +17,6 @@ pub use escape::Escaped;
 pub use lines::read_lines;
 pub use list::{ListError, TokenList, read_list};
 pub use number::decimal;
-pub use print::accepted;
+pub use print::{accepted, names_lines};
 pub use refused::Refused;
 pub use run::{Failure, command_line, print_answer, read_tree};

@@ -4,9 +4,11 @@
 mod expr_line;
 mod fields;
 mod function_lines;
+mod function_names;
 mod stmt_line;
 mod tree;
 
+pub use crate::print::function_names::names_lines;
 use crate::print::tree::print_walk;
 use rhai_lower::{AST, Walk};
 use std::alloc::{AllocError, Global};

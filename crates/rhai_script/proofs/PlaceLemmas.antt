@@ -1,4 +1,4 @@
--- What was seen of the stream of a text stands at its tokens, or at its end.
+-- What was seen of a text's stream is at its tokens, or its end.
 use Rattle.std.proofs.Common.{◌≡◌, inl, inr, zero, suc, List, [], ◌∷◌, map, refl, sym, ap, subst, ◌∙◌, arith}
 use Rattle.std.specs.Prelude.{◌⊎◌}
 use Rattle.std.specs.List.{Contains}

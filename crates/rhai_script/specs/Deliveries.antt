@@ -1,4 +1,4 @@
--- The stream that the pieces of a text are to the parser.
+-- The stream that the parser gets from the pieces of a text.
 use Rattle.std.specs.Prelude.{◌≡◌, ◌⊎◌, codes, false, List, [], ◌∷◌, if◌then◌else◌, map, refl}
 use Rattle.std.specs.List.{Contains}
 use Rattle.rhai_lower.specs.Entries.{ask_of}

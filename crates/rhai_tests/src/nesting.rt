@@ -1,4 +1,4 @@
-//! How deeply scripts may nest, and how many grammar functions are active then. Two tests make all rows, as in
+//! How deeply scripts may nest, and how many parsing functions are active then. Two tests make all rows, as in
 //! `allocation`: the one that is `.._refused` holds however memory is refused.
 
 use crate::script::{Change, check, stream_of, stream_of_line, test_expr, test_script};

@@ -1,5 +1,5 @@
-//! The entry that hands a script to the optimizer, at each level. Two tests make all rows, as in `allocation`: the one
-//! that is `.._refused` holds however memory is refused.
+//! The entry point that passes a script to the optimizer, at each level. Two tests make all rows, as in `allocation`:
+//! the one that is `.._refused` holds however memory is refused.
 
 use crate::libraries::{Functions, holds_ended};
 use crate::script::{printed_refusal, stream_of_line, tokens_taken};

@@ -1,4 +1,4 @@
-//! Optimizers of a caller's own, which the entries hand a script to.
+//! Optimizers of a caller's own, which the entry points pass a script to.
 
 ghost use Rattle.std.specs.Prelude.{◌≡◌};
 

@@ -1,4 +1,5 @@
 -- White space at the front of a text, as the code finds it.
+use Rattle.std.proofs.Common.{not, ◌&&◌, nat_lt}
 use Rattle.std.proofs.Common.{◌≡◌, ℕ, ◌+◌, ◌-◌, ◌<◌, ◌≤◌, Bool, true, false, cond, ◌||◌, ◌==◌, List, [], ◌∷◌, length, take, drop, get_or, refl, sym, ap, ◌∙◌, subst, arith, true≢false}
 use Rattle.std.proofs.lemmas.Bool.{and_parts, false_from_ne_true}
 use Rattle.std.proofs.lemmas.List.{take_rest, drop-drop, length-append}
@@ -6,14 +7,15 @@ use Rattle.std.specs.List.{concat}
 use Rattle.rhai_lower.specs.Texts.{Text}
 use Rattle.rhai_tokenizer.specs.declared.class.First.TheVariants as first
 use Rattle.rhai_tokenizer.specs.Bytes.{begins, begins_any, begins_with, blanks, is_empty}
-use Rattle.rhai_tokenizer.specs.Cutting.{first_class}
+use Rattle.rhai_tokenizer.specs.Cutting.{begins_lone_blank, first_class, is_space}
 use Rattle.rhai_tokenizer.specs.Runs.{first_of, run_from}
 use Rattle.rhai_tokenizer.proofs.ByteLemmas.{first_of-member}
+use Rattle.rhai_tokenizer.proofs.ClassLemmas.{other_byte}
 use Rattle.rhai_tokenizer.proofs.FirstLemmas.{ClassFacts, class_facts}
 use Rattle.rhai_tokenizer.proofs.RunLemmas.{Some, run_none, run_step}
 use Rattle.rhai_tokenizer.proofs.TableLemmas.{blank_classes, blanks_again, blanks_some, near_blank, is_blank_class}
 use Rattle.rhai_tokenizer.proofs.ByteLemmas.{at_member}
-use Rattle.std.proofs.lemmas.Bool.{eqb-true}
+use Rattle.std.proofs.lemmas.Bool.{eqb-true, ltb-true, not-true}
 
 pub first_none : (ts : List Text) (t : Text) → begins_any ts t ≡ false → first_of ts t ≡ []
 first_none [] t h = refl
@@ -113,3 +115,22 @@ blanks_step z at n total is some e =
     (concat (run_from blanks 0 (drop (length (first_of blanks (drop at z))) (drop at z))))
     ∙ ap (λ x. length (first_of blanks (drop at z)) + length (concat (run_from blanks 0 x))) rest) in
     omega (arith, len, e, same)
+
+-- ---- one blank
+
+pub lone_blank : (z : Text) → begins_lone_blank z ≡ true → 1 ≡ length (concat (run_from blanks 0 z))
+lone_blank [] h = absurd (true≢false (sym h))
+lone_blank (c ∷ []) h = absurd (true≢false (sym h))
+lone_blank (c ∷ (d ∷ t)) h =
+    let (blank, more) = and_parts (c == 32) (not (is_space d) && nat_lt d 128) h in
+    let (other, small) = and_parts (not (is_space d)) (nat_lt d 128) more in
+    let z = c ∷ (d ∷ t) in
+    let one : 1 ≡ length (first_of blanks z) = blank_space z (omega arith)
+    (sym (ap first_class (eqb-true c 32 blank))) in
+    let none : 0 ≡ length (first_of blanks (d ∷ t)) = blank_other (d ∷ t)
+    (other_byte d (ltb-true d 128 small) (not-true (is_space d) other)) in
+    let all : 0 + length (concat (run_from blanks 0 z)) ≡ length (concat (run_from blanks 0 z)) = omega arith in
+    let after = blanks_step z 0 1 (length (concat (run_from blanks 0 z)))
+    (one ∙ ap (λ x. length (first_of blanks x)) (sym (take_rest z 0))) (λ e. absurd (omega (arith, e))) all in
+    blanks_end z 1 0 (length (concat (run_from blanks 0 z)))
+    (none ∙ ap (λ x. length (first_of blanks x)) (sym (take_rest z 1))) refl after

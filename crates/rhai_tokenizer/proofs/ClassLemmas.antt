@@ -1,6 +1,10 @@
 -- Tables of bytes by class.
-use Rattle.std.proofs.Common.{◌≡◌, ℕ, ◌<◌, Bool, true, false, ◌==◌, get_or, refl, sym, ◌∙◌, true≢false}
-use Rattle.std.proofs.lemmas.Bool.{agree_below, agree_below_at}
+use Rattle.std.proofs.Common.{◌≡◌, ℕ, ◌<◌, Bool, true, false, ◌==◌, [], ◌∷◌, get_or, refl, sym, ap, ◌∙◌, arith, true≢false}
+use Rattle.std.proofs.lemmas.Bool.Decides.{nat_tests}
+use Rattle.std.specs.Prelude.{slice_index}
+use Rattle.rhai_lower.specs.Texts.{Text}
+use Rattle.rhai_tokenizer.specs.Bytes.{begins}
+use Rattle.std.proofs.lemmas.Bool.{agree_below, agree_below_at, eqb-true}
 use Rattle.rhai_lower.specs.Names.{is_word}
 use Rattle.rhai_tokenizer.specs.declared.class.First.{First}
 use Rattle.rhai_tokenizer.specs.declared.class.First.TheVariants as first
@@ -45,6 +49,25 @@ space_byte b h e = by (first_class b) (agree_below_at (λ b. is_space_class (fir
     by first.Minus e = absurd (true≢false (sym e))
     by first.Hash e = absurd (true≢false (sym e))
     by first.Other e = absurd (true≢false (sym e))
+
+abbrev is_hash : First → Bool
+is_hash first.Hash = true
+is_hash k = false
+
+pub other_hash : (c : ℕ) → first.Other ≡ first_class c → (c == 35) ≡ false
+other_hash c e = by (c == 35) refl
+  where
+    by : (b : Bool) → (c == 35) ≡ b → b ≡ false
+    by false h = refl
+    by true h = absurd (true≢false (sym (ap is_hash (e ∙ ap first_class (eqb-true c 35 h)))))
+
+-- the class of the byte with which white space of one byte begins
+pub space_begins : (t : Text) → begins is_space t ≡ true → first.Space ≡ first_class (slice_index t 0)
+space_begins [] h = absurd (true≢false (sym h))
+space_begins (c ∷ t) h = space_byte c (small c h) h
+  where
+    small : (c : ℕ) → is_space c ≡ true → c < 256
+    small c h = grind (arith, nat_tests)
 
 blank_bytes : agree_below (λ b. is_blank_class (first_class b)) is_space 128 ≡ true
 blank_bytes = refl

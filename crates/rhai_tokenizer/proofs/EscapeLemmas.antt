@@ -15,8 +15,8 @@ use Rattle.rhai_tokenizer.specs.declared.special.Special.TheVariants as special
 use Rattle.rhai_tokenizer.specs.Bytes.{begins, is_line_feed, spaces}
 use Rattle.rhai_tokenizer.specs.Places.{past}
 use Rattle.rhai_tokenizer.specs.Runs.{run_from}
-use Rattle.rhai_tokenizer.specs.Strings.{Plain, Escaped, Coded, Continues, Cut, Style, Quote, Tick, Apostrophe, mark_of, escapes, line_end, is_escape, digits_after, hex_value, escape_value, past_column}
-use Rattle.rhai_tokenizer.specs.CuttingStrings.{hex_run, coded_at, wrong_at, line_at, escape_at, doubled_at, quoted_at, part_at, is_sure, coded_special, cut_special, number_special, wrong_special, line_special, escape_special, doubled_special, quoted_special, special_at}
+use Rattle.rhai_tokenizer.specs.Strings.{Plain, Escaped, Coded, Continues, Cut, Style, Quote, Tick, Apostrophe, mark_of, escapes, line_end, is_escape, digits_after, escape_value, past_column}
+use Rattle.rhai_tokenizer.specs.CuttingStrings.{hex_value, hex_run, coded_at, wrong_at, line_at, escape_at, doubled_at, quoted_at, part_at, is_sure, coded_special, cut_special, number_special, wrong_special, line_special, escape_special, doubled_special, quoted_special, special_at}
 use Rattle.std.proofs.lemmas.Bool.{eq-eqb}
 use Rattle.rhai_tokenizer.proofs.BoundaryLemmas.{small, small_bytes, is_small, whole, digits_small, concat_utf8}
 use Rattle.rhai_tokenizer.proofs.RunLemmas.{run_stands}

@@ -1,23 +1,25 @@
 -- What small functions of the code find.
 use Rattle.std.proofs.Common.{◌≡◌, ℕ, zero, suc, ◌+◌, ◌-◌, ◌<◌, ◌≤◌, Bool, true, false, cond, ◌==◌, nat_lt, min, [], ◌∷◌, length, take, drop, get_or, refl, sym, ap, ◌∙◌, subst, arith, true≢false}
-use Rattle.std.proofs.lemmas.Bool.{and_parts, ltb-true, ltb-false, lt-ltb, le-ltb}
+use Rattle.std.proofs.lemmas.Bool.{and_parts, or_parts, ltb-true, ltb-false, lt-ltb, le-ltb}
 use Rattle.std.proofs.lemmas.Bool.Decides.{nat_tests}
 use Rattle.std.proofs.lemmas.List.{take_at}
 use Rattle.std.specs.Char.{is_ascii_hexdigit}
-use Rattle.std.specs.List.{prefix_len, list_all}
+use Rattle.std.specs.List.{prefix_len, list_all, list_any}
 use Rattle.std.specs.Str.{IsCharBoundary}
 use Rattle.std.proofs.Common.{IsUtf8}
 use Rattle.std.proofs.lemmas.Str.{IsCharBoundary-after_ascii}
 use Rattle.rhai_tokenizer.proofs.ByteLemmas.{begins_split}
 use Rattle.rhai_lower.specs.Texts.{Text}
+use Rattle.rhai_tokenizer.specs.declared.place.Line.{Line}
 use Rattle.rhai_tokenizer.specs.declared.place.Place.{Place}
 use Rattle.rhai_tokenizer.specs.Bytes.{begins, begins_with, is_continuation, is_line_feed, spaces, blanks}
-use Rattle.rhai_tokenizer.specs.CuttingMeanings.{is_plain}
+use Rattle.rhai_tokenizer.specs.CuttingMeanings.{columns, is_plain}
 use Rattle.rhai_tokenizer.specs.CuttingStrings.{hex_run}
 use Rattle.rhai_tokenizer.specs.Meanings.{without_return}
 use Rattle.rhai_tokenizer.specs.Places.{at_line, past}
 use Rattle.rhai_tokenizer.specs.Runs.{first_of, run}
 use Rattle.rhai_tokenizer.specs.Strings.{character, continued}
+use Rattle.rhai_tokenizer.specs.Turns.{IsIn, place_in}
 use Rattle.rhai_tokenizer.proofs.PartLemmas.{hex_split}
 
 pub length-run : (p : ℕ → Bool) (t : Text) → prefix_len p t ≡ length (run p t)
@@ -66,6 +68,37 @@ pub past_full : (p : Place) (t : Text) (len : ℕ) → p.column ≤ 65535 → le
 past_full p t len fits size plain room =
     let same : min 65535 (p.column + length t) ≡ 65535 = omega arith in
     sym (plain_run t p.line p.column plain fits ∙ ap (at_line p.line) same)
+
+-- the place after bytes of which none ends a line
+pub columns_run : (t : Text) (line column : ℕ) → list_any is_line_feed t ≡ false → column ≤ 65535
+    → past (at_line line column) t ≡ at_line line (min 65535 (column + columns t))
+columns_run [] line column h fits = let e : column ≡ min 65535 (column + 0) = omega arith in ap (at_line line) e
+columns_run (c ∷ t) line column h fits =
+    let (here, more) = or_parts (is_line_feed c) (list_any is_line_feed t) h in
+    rw here (by (is_continuation c) (nat_lt column 65535) refl (λ k f. columns_run t line k more f))
+  where
+    by : (b d : Bool) → nat_lt column 65535 ≡ d → ((k : ℕ) → k ≤ 65535 → past (at_line line k) t
+        ≡ at_line line (min 65535 (k + columns t)))
+        → past (cond b (at_line line column) (cond d (at_line line (column + 1)) (at_line line column))) t
+        ≡ at_line line (min 65535 (column + cond b (columns t) (columns t + 1)))
+    by true d e ih = ih column fits
+    by false true e ih =
+        let less = ltb-true column 65535 e in
+        let same : min 65535 ((column + 1) + columns t) ≡ min 65535 (column + (columns t + 1)) = omega arith in
+        ih (column + 1) (omega (arith, less)) ∙ ap (at_line line) same
+    by false false e ih =
+        let full = ltb-false column 65535 e in
+        let same : min 65535 (column + columns t) ≡ min 65535 (column + (columns t + 1)) = omega (arith, full) in
+        ih column fits ∙ ap (at_line line) same
+
+-- the place after bytes that each take a column, which begin after so many bytes
+pub plain_in : (l : Line) (at n : ℕ) (t : Text) → IsIn l at → length t ≡ n → list_all is_plain t ≡ true
+    → place_in l (at + n) ≡ past (place_in l at) t
+plain_in l at n t h size plain =
+    let column = min 65534 (at + 65534 - l.origin) + 1 in
+    let fits : column ≤ 65535 = omega arith in
+    let same : min 65534 ((at + n) + 65534 - l.origin) + 1 ≡ min 65535 (column + length t) = omega (arith, h.1, size) in
+    ap (at_line l.number) same ∙ sym (plain_run t l.number column plain fits)
 
 -- ---- characters
 

@@ -1,4 +1,4 @@
--- Places after texts.
+-- The line and column after a text.
 use Rattle.std.proofs.Common.{◌≡◌, ℕ, ◌+◌, ◌-◌, Bool, true, false, cond, ◌==◌, nat_lt, [], ◌∷◌, ◌++◌, length, take, drop, lit<, refl, sym, ap, ◌∙◌, arith}
 use Rattle.std.proofs.lemmas.List.{take_rest}
 use Rattle.std.proofs.Math.Seq.{take-add}
@@ -6,7 +6,8 @@ use Rattle.rhai_lower.specs.Texts.{Text}
 use Rattle.rhai_tokenizer.specs.declared.place.Place.{Place}
 use Rattle.rhai_tokenizer.specs.Bytes.{is_continuation}
 use Rattle.rhai_tokenizer.specs.Places.{at_line, past, past_byte}
-use Rattle.rhai_tokenizer.specs.Turns.{IsPlace}
+use Rattle.rhai_tokenizer.specs.declared.place.Line.{Line}
+use Rattle.rhai_tokenizer.specs.Turns.{IsIn, IsPlace, place_in}
 
 pub past-append : (s : Text) (p : Place) (t : Text) → past p (s ++ t) ≡ past (past p s) t
 past-append [] p t = refl
@@ -33,3 +34,7 @@ past_byte_place p c (l, k) = by (c == 10) (nat_lt p.line 65535) (is_continuation
 pub past_place : (t : Text) (p : Place) → IsPlace p → IsPlace (past p t)
 past_place [] p h = h
 past_place (c ∷ t) p h = past_place t (past_byte p c) (past_byte_place p c h)
+
+-- a line and a column in it are counted from 1
+pub in_place : (l : Line) (at : ℕ) → IsIn l at → IsPlace (place_in l at)
+in_place l at (h, k) = (h, omega arith)

@@ -1,13 +1,16 @@
 -- One turn of the reading of a text, by what its code knows of the piece.
 use Rattle.std.proofs.Common.{◌≡◌, ℕ, ◌+◌, ◌-◌, ◌≤◌, Bool, true, false, ◌||◌, [], ◌∷◌, Option, None, cond, codes, drop, take, length, reverse, IsUtf8, refl, sym, ap, ◌∙◌, subst, arith, true≢false}
+use Rattle.std.proofs.Common.{◌&&◌, ◌==◌}
+use Rattle.std.proofs.lemmas.Bool.{or_parts}
 use Rattle.std.proofs.lemmas.List.{append-nil, length-take-le}
 use Rattle.std.specs.Prelude.{IfSome, option_map, slice_index}
 use Rattle.std.specs.List.{concat, prefix_len}
 use Rattle.rhai_lower.specs.Entries.{token_may_be_delivered}
-use Rattle.rhai_lower.specs.Lexemes.{lexeme}
+use Rattle.rhai_lower.specs.Lexemes.{Lexeme, Sign, lexeme}
 use Rattle.rhai_lower.specs.Names.{is_word}
 use Rattle.rhai_lower.specs.Texts.{Text, same_text}
 use Rattle.rhai_lower.specs.declared.token.Token.{Token}
+use Rattle.rhai_lower.specs.declared.token.Token.TheVariants as token
 use Rattle.rhai_tokenizer.specs.declared.braces.Brace.{Brace}
 use Rattle.rhai_tokenizer.specs.declared.braces.Brace.TheVariants as brace
 use Rattle.rhai_tokenizer.specs.declared.class.First.{First}
@@ -18,14 +21,15 @@ use Rattle.rhai_tokenizer.specs.declared.lexer.Kind.TheVariants as kind
 use Rattle.rhai_tokenizer.specs.declared.limits.Limits.{Limits}
 use Rattle.rhai_tokenizer.specs.declared.place.Place.{Place}
 use Rattle.rhai_tokenizer.specs.declared.reading.Reading.{Reading}
+use Rattle.rhai_tokenizer.specs.declared.table.Meaning.{Meaning}
 use Rattle.rhai_tokenizer.specs.declared.tokens.Tokens.{Tokens}
 use Rattle.rhai_tokenizer.specs.Bytes.{blanks, is_empty}
 use Rattle.rhai_tokenizer.specs.Cutting.{first_class, next_at, piece_at, number_cut, sign_cut}
-use Rattle.rhai_tokenizer.specs.CuttingMeanings.{cut_brace, cut_token}
+use Rattle.rhai_tokenizer.specs.CuttingMeanings.{cut_brace, cut_symbol, cut_token, is_sign, meaning_of}
 use Rattle.rhai_tokenizer.specs.Meanings.{Found, brace_of_symbol, braces_after, opens_after, operand_then, text_after}
 use Rattle.rhai_tokenizer.specs.Places.{past}
 use Rattle.rhai_tokenizer.specs.Runs.{run_from}
-use Rattle.rhai_tokenizer.specs.Turns.{IsFront, IsTurn, Joins, before_of, due, found_of}
+use Rattle.rhai_tokenizer.specs.Turns.{IsFront, IsIn, IsTurn, Joins, before_of, due, found_of, place_of}
 use Rattle.rhai_tokenizer.proofs.FrontLemmas.{IsCut, front_is, is_cut, known_cut, token_found}
 use Rattle.rhai_tokenizer.proofs.TurnLemmas.{before_after}
 
@@ -37,43 +41,46 @@ pub record Braces (old new : Reading) (k : Brace) : Type 0 where
 
 -- a piece with its front
 pub front_turn : (limits : Limits) (old new : Reading) (t : Text) (f : Front)
-    → IsFront limits old.in_text old.operand old.place t f
+    → IsFront limits old.in_text old.operand (place_of old) t f
     → Joins old.out new.out old.in_text old.at new.at (found_of f.place f.token)
     → new.operand ≡ operand_then old.operand (found_of f.place f.token) → Braces old new f.brace
-    → new.place ≡ f.after → new.is_hashed ≡ f.is_hash → new.at ≡ old.at + f.len → IsTurn limits old new t f.len
-front_turn limits old new t f is joined operand br place hash at = record {
+    → place_of new ≡ f.after → new.is_hashed ≡ f.is_hash → new.at ≡ old.at + f.len → IsIn new.line new.at
+    → IsTurn limits old new t f.len
+front_turn limits old new t f is joined operand br place hash at placed = record {
   joined = subst (λ (x : Option Found). Joins old.out new.out old.in_text old.at new.at x) is.token joined;
   len = is.len;
   decides = before_after limits (before_of old) (next_at (before_of old) t) (found_of f.place f.token) f.brace
-      new.operand new.in_text new.opens new.braces.items new.place is.token is.brace operand br.in_text br.opens
+      new.operand new.in_text new.opens new.braces.items (place_of new) is.token is.brace operand br.in_text br.opens
       br.braces (place ∙ is.after);
   hash = λ e. is.hash (sym hash ∙ e);
   at = at;
+  placed = placed;
 }
 
 -- a piece that is cut
 pub cut_turn : (limits : Limits) (old new : Reading) (t text : Text) (k : Kind) (n : ℕ) (token : Option Token)
-    → old.in_text ≡ false → IsCut limits old.operand old.place t k n → text ≡ take n t
+    → old.in_text ≡ false → IsCut limits old.operand (place_of old) t k n → text ≡ take n t
     → option_map lexeme token ≡ cut_token limits k old.operand text
     → IfSome token (λ k. token_may_be_delivered k ≡ true)
-    → Joins old.out new.out false old.at new.at (found_of old.place token)
-    → new.operand ≡ operand_then old.operand (found_of old.place token) → Braces old new (cut_brace k text)
-    → new.place ≡ past old.place text → new.is_hashed ≡ false → new.at ≡ old.at + n → IsTurn limits old new t n
-cut_turn limits old new t text k n token code cut ts ls d joined operand br place hash at =
+    → Joins old.out new.out false old.at new.at (found_of (place_of old) token)
+    → new.operand ≡ operand_then old.operand (found_of (place_of old) token) → Braces old new (cut_brace k text)
+    → place_of new ≡ past (place_of old) text → new.is_hashed ≡ false → new.at ≡ old.at + n
+    → IsIn new.line new.at → IsTurn limits old new t n
+cut_turn limits old new t text k n token code cut ts ls d joined operand br place hash at placed =
     front_turn limits old new t _
-    (subst (λ (x : Bool). IsFront limits x old.operand old.place t (record {
+    (subst (λ (x : Bool). IsFront limits x old.operand (place_of old) t (record {
       token = token;
-      place = old.place;
+      place = place_of old;
       len = n;
-      after = new.place;
+      after = place_of new;
       brace = cut_brace k text;
       is_hash = false;
     })) (sym code)
-    (front_is limits false old.operand old.place t _ (piece_at old.operand t) refl (token_found old.place token _ ls
+    (front_is limits false old.operand (place_of old) t _ (piece_at old.operand t) refl (token_found (place_of old) token _ ls
     ∙ sym (cut.means text ts)) cut.len (place ∙ cut.after text ts) (sym (cut.brace text ts)) d
     (λ e. absurd (true≢false (sym e))) (λ p. p)))
-    (subst (λ (x : Bool). Joins old.out new.out x old.at new.at (found_of old.place token)) (sym code) joined)
-    operand br refl hash at
+    (subst (λ (x : Bool). Joins old.out new.out x old.at new.at (found_of (place_of old) token)) (sym code) joined)
+    operand br refl hash at placed
 
 -- a byte is left where a piece is due in code
 pub some_due : (i : Bool) (t : Text) → i ≡ false → due i t ≡ true → is_empty t ≡ false
@@ -166,3 +173,16 @@ cuts limits o place t bytes k n cut u e = let (within, rest) = cut.boundary u in
   front = ap (take n) e;
   len = length-take-le n bytes (omega (arith, within, ap length e));
 }
+
+-- a symbol of one byte that is no sign means the same where an operand begins
+pub no_sign : (o : Bool) (m : Meaning) (t : Text) → is_empty t ≡ false → is_sign (slice_index t 0) ≡ false
+    → cut_symbol o m (take 1 t) ≡ meaning_of (take 1 t) m
+no_sign o m [] some h = absurd (true≢false some)
+no_sign o m (c ∷ t) some h =
+    let (plus, minus) = or_parts (c == 43) (c == 45) h in
+    rw (minus, plus) (by o (meaning_of (c ∷ []) m))
+  where
+    by : (o : Bool) (l : Lexeme) → cond (o && false) (Sign token.UnaryMinus) (cond (o && false) (Sign token.UnaryPlus) l)
+        ≡ l
+    by true l = refl
+    by false l = refl

@@ -1,16 +1,17 @@
 -- What the table says of words.
-use Rattle.std.proofs.Common.{◌≡◌, Bool, true, false, cond, List, [], ◌∷◌, map, Some, None, refl, sym, ap, ◌∙◌, true≢false, codes}
-use Rattle.std.proofs.lemmas.Bool.{or_parts, false_from_ne_true}
+use Rattle.std.proofs.Common.{◌≡◌, ◌≤◌, Bool, true, false, cond, List, [], ◌∷◌, map, length, get_or, Some, None, refl, sym}
+use Rattle.std.proofs.Common.{ap, ◌∙◌, arith, true≢false, codes}
+use Rattle.std.proofs.lemmas.Bool.{and_parts, or_parts, false_from_ne_true}
 use Rattle.std.specs.List.{list_all}
 use Rattle.rhai_lower.specs.Texts.{Text, same_text}
 use Rattle.rhai_lower.specs.Names.{is_one_of, is_identifier}
-use Rattle.rhai_lower.specs.Lexemes.{Lexeme, Name}
+use Rattle.rhai_lower.specs.Lexemes.{Lexeme, Name, Sign}
 use Rattle.rhai_lower.specs.Tokens.{literal_of}
 use Rattle.rhai_lower.specs.declared.token.Token.{Token}
 use Rattle.rhai_tokenizer.specs.declared.table.Meaning.{Meaning}
-use Rattle.rhai_tokenizer.specs.Cutting.{Table, lookup, word_table}
+use Rattle.rhai_tokenizer.specs.Cutting.{Table, lookup, may_be_word, word_table}
 use Rattle.rhai_tokenizer.specs.CuttingMeanings.{meaning_of}
-use Rattle.rhai_tokenizer.specs.Symbols.{keywords, reserved_words, improper, or_token, word_lexeme}
+use Rattle.rhai_tokenizer.specs.Symbols.{keywords, reserved_words, find, improper, word_lexeme}
 use Rattle.rhai_tokenizer.proofs.ByteLemmas.{same_is, same_refl, at_member}
 
 -- the texts of a table mean what it says
@@ -42,6 +43,32 @@ found_right f (e ∷ es) t m r h = by (same_text e.0 t) refl h (found_right f es
 
 pub word_right : (t : Text) (m : Meaning) → lookup word_table t ≡ Some m → word_lexeme t ≡ meaning_of t m
 word_right t m h = found_right word_lexeme word_table t m words_right h
+
+-- ---- words that the table does not have
+
+-- a text is in a table only if it passes what all texts of the table pass
+pub passes : (p : Text → Bool) (xs : Table) (t : Text) → list_all (λ e. p e.0) xs ≡ true → p t ≡ false
+    → lookup xs t ≡ None
+passes p [] t h no_pass = refl
+passes p (e ∷ es) t h no_pass =
+    let (here, more) = and_parts (p e.0) (list_all (λ e. p e.0) es) h in
+    by here (same_text e.0 t) refl (passes p es t more no_pass)
+  where
+    by : p e.0 ≡ true → (b : Bool) → same_text e.0 t ≡ b → lookup es t ≡ None → cond b (Some e.1) (lookup es t) ≡ None
+    by here true g ih = absurd (true≢false (sym here ∙ (ap p (same_is e.0 t g) ∙ no_pass)))
+    by here false g ih = ih
+
+abbrev may_be : Text → Bool
+may_be [] = false
+may_be (c ∷ t) = may_be_word c (length (c ∷ t))
+
+words_may_be : list_all (λ e. may_be e.0) word_table ≡ true
+unfolding word_table
+words_may_be = refl
+
+pub no_word : (t : Text) → 1 ≤ length t → may_be_word (get_or t 0 0) (length t) ≡ false → lookup word_table t ≡ None
+no_word [] h e = absurd (omega arith)
+no_word (c ∷ t) h e = passes may_be word_table (c ∷ t) words_may_be e
 
 -- ---- other words
 
@@ -76,7 +103,7 @@ outside : (ts us : List Text) (t : Text) → list_all (is_one_of us) ts ≡ true
 outside ts us t h no_one = false_from_ne_true (is_one_of ts t)
     (λ e. true≢false (sym (at_member (is_one_of us) ts t e h) ∙ no_one))
 
-no_token : (ks : List Token) (t : Text) (l : Lexeme) → is_one_of (map literal_of ks) t ≡ false → or_token ks t l ≡ l
+no_token : (ks : List Token) (t : Text) (l : Lexeme) → is_one_of (map literal_of ks) t ≡ false → find (map (λ k. (literal_of k, Sign k)) ks) t l ≡ l
 no_token [] t l h = refl
 no_token (k ∷ ks) t l h = let (here, more) = or_parts (same_text t (literal_of k)) (is_one_of (map literal_of ks) t)
     h in rw here (no_token ks t l more)

@@ -1,5 +1,7 @@
 -- The token of a piece by its kind and its bytes. No definition: it stands between the code and the forms.
-use Rattle.std.specs.Prelude.{ℕ, Bool, true, false, not, ◌&&◌, ◌||◌, ◌==◌, nat_le, nat_lt, ◌∷◌, Option, Some, None, codes, drop, length, slice_index, if◌then◌else◌}
+use Rattle.std.specs.Prelude.{ℕ, Bool, true, false, not, ◌&&◌, ◌||◌, ◌==◌, nat_le, nat_lt, ◌∷◌}
+use Rattle.std.specs.Prelude.{[], ◌+◌}
+use Rattle.std.specs.Prelude.{Option, Some, None, codes, drop, length, slice_index, if◌then◌else◌}
 use Rattle.std.specs.List.{list_all}
 use Rattle.rhai_lower.specs.Texts.{Text, same_text}
 use Rattle.rhai_lower.specs.Names.{is_word}
@@ -13,9 +15,11 @@ use Rattle.rhai_tokenizer.specs.declared.class.First.TheVariants as first
 use Rattle.rhai_tokenizer.specs.declared.lexer.Kind.{Kind}
 use Rattle.rhai_tokenizer.specs.declared.lexer.Kind.TheVariants as kind
 use Rattle.rhai_tokenizer.specs.declared.limits.Limits.{Limits}
+use Rattle.rhai_tokenizer.specs.declared.table.Fixed.{Fixed}
+use Rattle.rhai_tokenizer.specs.declared.table.Fixed.TheVariants as fixed
 use Rattle.rhai_tokenizer.specs.declared.table.Meaning.{Meaning}
 use Rattle.rhai_tokenizer.specs.declared.table.Meaning.TheVariants.{Plain, Held, Refused}
-use Rattle.rhai_tokenizer.specs.Bytes.{base_of, begins_with}
+use Rattle.rhai_tokenizer.specs.Bytes.{base_of, begins_with, is_continuation}
 use Rattle.rhai_tokenizer.specs.Fixed.{token_of}
 use Rattle.rhai_tokenizer.specs.Meanings.{brace_of_symbol, integer_or, without_return}
 use Rattle.rhai_tokenizer.specs.Numbers.{digits_of, integer_value, radix_value}
@@ -24,6 +28,11 @@ use Rattle.rhai_tokenizer.specs.Symbols.{improper, word_lexeme}
 -- a byte that takes a column
 abbrev pub is_plain : ℕ → Bool
 is_plain c = nat_lt c 128 && not (c == 10)
+
+-- how many bytes take a column, where none ends a line
+abbrev pub columns : Text → ℕ
+columns [] = 0
+columns (c ∷ t) = if is_continuation c then columns t else columns t + 1
 
 abbrev pub is_small : ℕ → Bool
 is_small c = nat_lt c 128
@@ -58,6 +67,21 @@ abbrev pub cut_symbol : (operand : Bool) → Meaning → Text → Lexeme
 cut_symbol operand m t =
     if operand && same_text t (codes "-") then Sign token.UnaryMinus
     else (if operand && same_text t (codes "+") then Sign token.UnaryPlus else meaning_of t m)
+
+-- where an operand begins, these are other tokens
+abbrev pub is_sign : ℕ → Bool
+is_sign c = c == 43 || c == 45
+
+-- the symbols of one byte that begin no longer one
+abbrev pub is_closer : Fixed → Bool
+is_closer fixed.RightParen = true
+is_closer fixed.Comma = true
+is_closer fixed.SemiColon = true
+is_closer fixed.LeftBracket = true
+is_closer fixed.RightBracket = true
+is_closer fixed.LeftBrace = true
+is_closer fixed.RightBrace = true
+is_closer k = false
 
 abbrev pub cut_integer : (is_negative : Bool) → Text → Lexeme
 cut_integer true t = integer_or (45 ∷ digits_of t) (integer_value true t)
@@ -111,6 +135,10 @@ is_string_class k = false
 abbrev pub cut_brace : Kind → Text → Brace
 cut_brace (kind.Symbol m) t = brace_of_symbol t
 cut_brace k t = brace.Stays
+
+abbrev pub is_comment : Token → Bool
+is_comment (token.Comment t) = true
+is_comment t = false
 
 -- whether a sign begins an operand after a token
 abbrev pub operand_after_token : (operand : Bool) → Token → Bool

@@ -1,4 +1,4 @@
--- What the code gives of a raw string.
+-- What the code reads of a raw string.
 use Rattle.std.specs.Prelude.{◌≡◌, ◌+◌, ◌≤◌, take, drop, length}
 use Rattle.rhai_lower.specs.Texts.{Text}
 use Rattle.rhai_tokenizer.specs.declared.raw.RawString.{RawString}

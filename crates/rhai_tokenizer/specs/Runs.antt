@@ -1,4 +1,5 @@
--- Runs at the front of a text, by looking. No definition: it stands between the code and the forms.
+-- Runs of bytes at the front of a text, as the code finds them. No definition: it stands between the code and the
+-- forms.
 use Rattle.std.specs.Prelude.{ℕ, zero, suc, Bool, List, [], ◌∷◌, drop, length, if◌then◌else◌}
 use Rattle.rhai_lower.specs.Texts.{Text}
 use Rattle.rhai_tokenizer.specs.Bytes.{begins_any, begins_with}

@@ -1,4 +1,4 @@
--- What the code gives of a string.
+-- What the code reads of a string.
 use Rattle.std.specs.Prelude.{◌≡◌, ℕ, ◌+◌, ◌≤◌, ◌++◌, Option, Some, None, take, drop, length}
 use Rattle.std.specs.List.{concat}
 use Rattle.std.specs.Rc.{rc_str_bytes}
@@ -11,7 +11,8 @@ use Rattle.rhai_tokenizer.specs.Bytes.{spaces}
 use Rattle.rhai_tokenizer.specs.CuttingStrings.{parts_from, part_at, ending_at, ending_after}
 use Rattle.rhai_tokenizer.specs.Places.{past}
 use Rattle.rhai_tokenizer.specs.Runs.{run_from}
-use Rattle.rhai_tokenizer.specs.Strings.{Ending, Style, Fault, ending_letters, string_value, string_letters, first_fault, or_fault, past_column}
+use Rattle.rhai_tokenizer.specs.Strings.{Ending, Style, Fault, ending_letters, string_value, string_letters}
+use Rattle.rhai_tokenizer.specs.Strings.{first_fault, or_fault, past_column}
 
 abbrev pub fault_of : Option CodeFault → Option Fault
 fault_of None = None

@@ -1,9 +1,9 @@
-//! Classes of bytes: what begins with a byte, and what goes on with it.
+//! Classes of bytes: what a byte begins, and what it continues.
 
 ghost use Rattle.std.specs.Prelude.{◌≡◌, ◌≤◌, length};
 ghost use Rattle.rhai_lower.specs.Names.{is_word};
 ghost use Rattle.std.specs.Char.{digit_value};
-ghost use Rattle.rhai_tokenizer.specs.Bytes.{base_of, is_digit_after};
+ghost use Rattle.rhai_tokenizer.specs.Bytes.{base_of, is_digit_after, is_letter};
 ghost use Rattle.rhai_tokenizer.specs.Cutting as spec;
 
 /// What begins with a byte.
@@ -67,6 +67,7 @@ pub enum Class {
     Hexadecimal,
     Hash,
     Second,
+    Text,
 }
 
 // For each byte: 1 if a word goes on with it, 2 if a symbol does, else 0.
@@ -104,12 +105,28 @@ fn is_second(b: u8) -> bool
     bytes()[b as usize] == 2
 }
 
+/// Whether a word begins with a byte.
+#[inline(always)]
+pub fn is_letter(b: u8) -> bool
+    ensures { result ≡ is_letter b }
+{
+    b.is_ascii_alphabetic() || b == b'_'
+}
+
 /// Whether a byte is white space.
 #[inline(always)]
 pub fn is_space(b: u8) -> bool
     ensures { result ≡ spec.is_space b }
 {
     b == b' ' || (9 <= b && b <= 13)
+}
+
+// Whether a byte takes a column, and stands for itself in a string.
+#[inline(always)]
+fn is_text(b: u8) -> bool
+    ensures { result ≡ spec.is_text b }
+{
+    b < 128 && !(b == b'"' || (b == b'\\' || b == b'\n'))
 }
 
 /// Whether a byte is of the class.
@@ -126,6 +143,7 @@ pub fn is_in(class: Class, b: u8) -> bool
         Class::Hexadecimal => b.is_ascii_hexdigit(),
         Class::Hash => b == b'#',
         Class::Second => is_second(b),
+        Class::Text => is_text(b),
     }
 }
 

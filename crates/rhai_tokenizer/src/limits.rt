@@ -1,4 +1,4 @@
-//! `Limits`: what a tokenizer is asked for.
+//! `Limits`: what a host asks of the tokenizer: doc comments, the greatest string.
 
 /// What a tokenizer is asked for.
 #[derive(Clone, Copy, Debug)]

@@ -1,23 +1,31 @@
 //! One turn of the reading of a text: a piece is read, and its token joins.
 
-ghost use Rattle.std.specs.Prelude.{◌≡◌, ◌<◌, ◌≤◌, ◌+◌, ◌^◌, [], true, false, length, take, slice_index, reverse, IfOk, IfSome, option_map};
+ghost use Rattle.std.specs.Prelude.{◌≡◌, ◌<◌, ◌≤◌, ◌+◌, ◌^◌, [], true, false, length, take};
+ghost use Rattle.std.specs.Prelude.{slice_index, reverse, IfOk, IfSome};
+ghost use Rattle.std.specs.Prelude.{drop, option_map, not, ◌&&◌, ◌==◌};
 ghost use Rattle.std.specs.List.{list_all};
 ghost use Rattle.rhai_lower.specs.Entries.{token_may_be_delivered};
 ghost use Rattle.rhai_lower.specs.Texts.{Text};
+ghost use Rattle.rhai_tokenizer.specs.Bytes.{begins};
 ghost use Rattle.rhai_tokenizer.specs.Cutting.{first_class};
-ghost use Rattle.rhai_tokenizer.specs.CuttingMeanings.{is_plain};
+ghost use Rattle.rhai_tokenizer.specs.Cutting as spec;
+ghost use Rattle.rhai_tokenizer.specs.CuttingMeanings.{is_plain, is_sign};
 ghost use Rattle.rhai_tokenizer.specs.Meanings.{at_start, operand_then};
 ghost use Rattle.rhai_tokenizer.specs.Places.{past};
-ghost use Rattle.rhai_tokenizer.specs.Turns.{IsFront, IsPlace, IsReady, IsTurn, Joins, before_of, found_of};
+ghost use Rattle.rhai_tokenizer.specs.Turns.{IsFront, IsIn, IsPlace, IsRead, IsReady, IsTurn, Joins, before_of, due};
+ghost use Rattle.rhai_tokenizer.specs.Turns.{found_of};
+ghost use Rattle.rhai_tokenizer.specs.Turns.{left, place_of};
 
+use crate::blanks::blanks_in;
 use crate::braces::{follow, opens_after, symbol_brace};
-use crate::class::{Class, First, first_class};
+use crate::class::{Class, First, first_class, is_letter, is_space};
 use crate::front::{Front, Tools, front_of};
-use crate::lexer::{Kind, blanks_past, number_piece, plain_sign, run_len};
+use crate::lexer::{Kind, number_piece, run_len, short_symbol, sign};
 use crate::limits::Limits;
 use crate::meaning::{fixed_symbol, integer_token, operand_after, word_token};
-use crate::place::{Place, START, past_plain, position};
-use crate::table::{Fixed, Meaning};
+use crate::place::{FIRST_LINE, Line, Place, line_of, place_in, position};
+use crate::string_token::string_token;
+use crate::table::{Fixed, Meaning, fixed_token};
 use crate::tokens::{Span, Tokens};
 use rhai_lower::position::Position;
 use rhai_lower::stream::Entry;
@@ -41,8 +49,8 @@ pub struct Reading {
     pub opens: bool,
     /// Whether the piece before is a `#` alone.
     pub is_hashed: bool,
-    /// Where the next piece stands.
-    pub place: Place,
+    /// The line of the next piece.
+    pub line: Line,
     /// Its first byte.
     pub at: usize,
 }
@@ -55,6 +63,7 @@ impl Reading {
         ensures spans { result.out.spans.items ≡ [] }
         ensures at { result.at ≡ 0 }
         ensures hash { result.is_hashed ≡ false }
+        ensures placed { IsIn result.line result.at }
     {
         Reading {
             out: Tokens {
@@ -68,7 +77,7 @@ impl Reading {
             in_text: false,
             opens: false,
             is_hashed: false,
-            place: START,
+            line: FIRST_LINE,
             at: 0,
         }
     }
@@ -125,7 +134,7 @@ fn join(
 #[inline(always)]
 fn add(reading: &mut Reading, limits: Limits, rest: &str, piece: Front) -> Result<usize, AllocError>
     requires ready { IsReady reading.old rest.now }
-    requires front { IsFront limits reading.old.in_text reading.old.operand reading.old.place rest.now piece }
+    requires front { IsFront limits reading.old.in_text reading.old.operand (place_of reading.old) rest.now piece }
     ensures { IfOk result (λ n. IsTurn limits reading.old reading.new rest.now n) }
 {
     let _limits = limits;
@@ -146,7 +155,7 @@ fn add(reading: &mut Reading, limits: Limits, rest: &str, piece: Front) -> Resul
     reading.in_text = follow(&mut reading.braces, brace, reading.opens)?;
     reading.opens = opens_after(brace);
     reading.is_hashed = is_hash;
-    reading.place = after;
+    reading.line = line_of(after, stop);
     reading.at = stop;
     Ok(len)
 }
@@ -158,7 +167,7 @@ fn any(reading: &mut Reading, limits: Limits, rest: &str) -> Result<usize, Alloc
     ensures { IfOk result (λ n. IsTurn limits reading.old reading.new rest.now n) }
 {
     let (in_text, operand) = (reading.in_text, reading.operand);
-    let (is_hashed, place) = (reading.is_hashed, reading.place);
+    let (is_hashed, place) = (reading.is_hashed, place_in(reading.line, reading.at));
     let piece = front_of(
         &mut reading.tools,
         limits,
@@ -171,35 +180,50 @@ fn any(reading: &mut Reading, limits: Limits, rest: &str) -> Result<usize, Alloc
     add(reading, limits, rest, piece)
 }
 
-// White space.
+// Whether a text begins with white space of one byte.
 #[inline(always)]
-fn blank(reading: &mut Reading, rest: &str) -> usize
-    requires ready { IsReady reading.old rest.now }
-    requires code { reading.old.in_text ≡ false }
-    requires class { First.Space ≡ first_class (slice_index rest.now 0) }
-    ensures { (limits : Limits) → IsTurn limits reading.old reading.new rest.now result }
+fn begins_with_space(rest: &str) -> bool
+    ensures { result ≡ begins spec.is_space rest.now }
 {
-    let (len, after) = blanks_past(reading.place, rest.as_bytes());
+    match rest.as_bytes() {
+        [b, ..] => is_space(*b),
+        [] => false,
+    }
+}
+
+// Passes white space of single bytes, and what follows it of other white space.
+#[inline(always)]
+fn past_blanks<'a>(reading: &mut Reading, rest: &'a str) -> &'a str
+    requires { IsReady reading.old rest.now }
+    ensures read { (limits : Limits) → IsRead limits reading.old reading.new rest.now result.now }
+    ensures in_text { reading.new.in_text ≡ reading.old.in_text }
+    ensures shorter { length result.now ≤ length rest.now }
+{
+    if reading.in_text || !begins_with_space(rest) {
+        return rest;
+    }
+    let len = blanks_in(&mut reading.line, reading.at, rest.as_bytes());
     reading.opens = false;
     reading.is_hashed = false;
-    reading.place = after;
     reading.at += len;
-    len
+    let (_, more) = rest.split_at(len);
+    more
 }
 
 // A token of so many bytes that each take a column joins.
 #[inline(always)]
 fn take(reading: &mut Reading, token: Token, len: usize) -> Result<(), AllocError>
-    requires place { IsPlace reading.old.place }
+    requires place { IsIn reading.old.line reading.old.at }
     requires delivered { token_may_be_delivered token ≡ true }
     requires room { reading.old.at + len < 2 ^ 63 }
     ensures joined { IfOk result (λ done. Joins reading.old.out reading.new.out false reading.old.at
-        reading.new.at (found_of reading.old.place (Some token))) }
+        reading.new.at (found_of (place_of reading.old) (Some token))) }
     ensures operand { IfOk result (λ done. reading.new.operand
-        ≡ operand_then reading.old.operand (found_of reading.old.place (Some token))) }
+        ≡ operand_then reading.old.operand (found_of (place_of reading.old) (Some token))) }
     ensures place { IfOk result (λ done. (t : Text) → length t ≡ len → list_all is_plain t ≡ true
-        → reading.new.place ≡ past reading.old.place t) }
+        → place_of reading.new ≡ past (place_of reading.old) t) }
     ensures at { IfOk result (λ done. reading.new.at ≡ reading.old.at + len) }
+    ensures placed { IfOk result (λ done. IsIn reading.new.line reading.new.at) }
     ensures hash { IfOk result (λ done. reading.new.is_hashed ≡ false) }
     ensures braces { reading.new.braces ≡ reading.old.braces }
     ensures in_text { reading.new.in_text ≡ reading.old.in_text }
@@ -207,11 +231,10 @@ fn take(reading: &mut Reading, token: Token, len: usize) -> Result<(), AllocErro
 {
     let start = reading.at;
     let stop = start + len;
-    let place = reading.place;
+    let place = place_in(reading.line, start);
     let span = Span { start, stop };
     reading.operand = push(&mut reading.out, token, reading.operand, false, place, span)?;
     reading.is_hashed = false;
-    reading.place = past_plain(place, len);
     reading.at = stop;
     Ok(())
 }
@@ -233,7 +256,7 @@ fn word(reading: &mut Reading, rest: &str) -> Result<usize, AllocError>
 }
 
 // An integer.
-#[inline(always)]
+#[inline(never)]
 fn number(reading: &mut Reading, limits: Limits, rest: &str) -> Result<usize, AllocError>
     requires ready { IsReady reading.old rest.now }
     requires code { reading.old.in_text ≡ false }
@@ -277,7 +300,7 @@ fn symbol(reading: &mut Reading, limits: Limits, rest: &str) -> Result<usize, Al
     ensures { IfOk result (λ n. IsTurn limits reading.old reading.new rest.now n) }
 {
     let bytes = rest.as_bytes();
-    let (kind, len) = plain_sign(bytes[0], &bytes[1..], bytes);
+    let (kind, len) = sign(bytes[0], &bytes[1..], bytes);
     match fixed_of(kind) {
         Some(fixed) => {
             let text = &bytes[..len];
@@ -291,20 +314,134 @@ fn symbol(reading: &mut Reading, limits: Limits, rest: &str) -> Result<usize, Al
     }
 }
 
-/// Reads the piece at the front of a text, where one is due. Gives its length. Returns `AllocError` if memory runs out.
+// A symbol of one byte.
 #[inline(always)]
-pub fn turn(reading: &mut Reading, limits: Limits, rest: &str) -> Result<usize, AllocError>
+fn lone_symbol(reading: &mut Reading, rest: &str, fixed: Fixed) -> Result<usize, AllocError>
+    requires ready { IsReady reading.old rest.now }
+    requires code { reading.old.in_text ≡ false }
+    requires class { First.Other ≡ first_class (slice_index rest.now 0) }
+    requires symbol { (Kind.Symbol (Meaning.Plain fixed), 1)
+        ≡ spec.sign_cut (slice_index rest.now 0) (drop 1 rest.now) }
+    requires sign { is_sign (slice_index rest.now 0) ≡ false }
+    ensures { IfOk result (λ n. (limits : Limits) → IsTurn limits reading.old reading.new rest.now n) }
+{
+    let text = &rest.as_bytes()[..1];
+    take(reading, fixed_token(fixed), 1)?;
+    reading.in_text = follow(&mut reading.braces, symbol_brace(text), reading.opens)?;
+    reading.opens = false;
+    Ok(1)
+}
+
+// Whether a string ends here, with no further mark.
+#[inline(always)]
+fn ends_string(z: &[u8]) -> bool
+    ensures { result ≡ (begins (λ c. c == 34) z.now && not (begins (λ c. c == 34) (drop 1 z.now))) }
+{
+    match z {
+        [b'"', b'"', ..] => false,
+        [b'"', ..] => true,
+        _ => false,
+    }
+}
+
+// A string, which mostly has no escapes and is of bytes that each take a column.
+#[inline(never)]
+fn text_piece(reading: &mut Reading, limits: Limits, rest: &str) -> Result<usize, AllocError>
+    requires ready { IsReady reading.old rest.now }
+    requires code { reading.old.in_text ≡ false }
+    requires class { First.Quote ≡ first_class (slice_index rest.now 0) }
+    ensures { IfOk result (λ n. IsTurn limits reading.old reading.new rest.now n) }
+{
+    let (_, more) = rest.split_at(1);
+    let bytes = more.as_bytes();
+    let n = run_len(Class::Text, bytes);
+    if !ends_string(&bytes[n..]) {
+        return any(reading, limits, rest);
+    }
+    let (text, _) = more.split_at(n);
+    let token = string_token(reading.tools.alloc, &mut reading.tools.names, limits, text)?;
+    take(reading, token, n + 2)?;
+    reading.opens = false;
+    Ok(n + 2)
+}
+
+// A piece that begins with no letter.
+#[inline(always)]
+fn other(reading: &mut Reading, limits: Limits, rest: &str) -> Result<usize, AllocError>
+    requires ready { IsReady reading.old rest.now }
+    requires code { reading.old.in_text ≡ false }
+    ensures { IfOk result (λ n. IsTurn limits reading.old reading.new rest.now n) }
+{
+    match first_class(rest.as_bytes()[0]) {
+        First::Digit => number(reading, limits, rest),
+        First::Other => symbol(reading, limits, rest),
+        First::Quote => text_piece(reading, limits, rest),
+        _ => any(reading, limits, rest),
+    }
+}
+
+// Reads the piece at the front of a text, where one is due. Gives its length.
+#[inline(always)]
+fn piece(reading: &mut Reading, limits: Limits, rest: &str) -> Result<usize, AllocError>
     requires { IsReady reading.old rest.now }
     ensures { IfOk result (λ n. IsTurn limits reading.old reading.new rest.now n) }
 {
     if reading.in_text {
         return any(reading, limits, rest);
     }
-    match first_class(rest.as_bytes()[0]) {
-        First::Space => Ok(blank(reading, rest)),
-        First::Letter => word(reading, rest),
-        First::Digit => number(reading, limits, rest),
-        First::Other => symbol(reading, limits, rest),
-        _ => any(reading, limits, rest),
+    let bytes = rest.as_bytes();
+    let first = bytes[0];
+    if is_letter(first) {
+        return word(reading, rest);
     }
+    match short_symbol(first, &bytes[1..]) {
+        Some(fixed) => lone_symbol(reading, rest, fixed),
+        None => other(reading, limits, rest),
+    }
+}
+
+/// Whether a piece comes next.
+#[inline(always)]
+pub fn is_due(in_text: bool, rest: &str) -> bool
+    ensures { result ≡ due in_text rest.now }
+{
+    if in_text {
+        return true;
+    }
+    match rest.as_bytes() {
+        [] => false,
+        [_, ..] => true,
+    }
+}
+
+// The piece at the front is read.
+#[inline(always)]
+fn after_piece<'a>(
+    reading: &mut Reading,
+    limits: Limits,
+    rest: &'a str,
+) -> Result<&'a str, AllocError>
+    requires { IsReady reading.old rest.now }
+    ensures read { IfOk result (λ more. IsRead limits reading.old reading.new rest.now more.now) }
+    ensures falls { IfOk result (λ more. left reading.new.in_text more.now < left reading.old.in_text rest.now) }
+{
+    let len = piece(reading, limits, rest)?;
+    let (_, more) = rest.split_at(len);
+    Ok(more)
+}
+
+/// Reads white space at the front of a text, and the piece after it, where one is due. Gives what is left. Returns
+/// `AllocError` if memory runs out.
+#[inline(always)]
+pub fn turn<'a>(reading: &mut Reading, limits: Limits, rest: &'a str) -> Result<&'a str, AllocError>
+    requires { IsReady reading.old rest.now }
+    ensures read { IfOk result (λ more. IsRead limits reading.old reading.new rest.now more.now) }
+    ensures falls { IfOk result (λ more. left reading.new.in_text more.now < left reading.old.in_text rest.now) }
+{
+    let next = past_blanks(reading, rest);
+    if !is_due(reading.in_text, next) {
+        return Ok(next);
+    }
+    let more = after_piece(reading, limits, next)?;
+    Ok(more)
 }

@@ -1,4 +1,4 @@
-//! What stands in a string where a byte does not stand for itself.
+//! The parts of a string that are no plain bytes: escapes, doubled quotes, line ends.
 
 ghost use Rattle.std.specs.Prelude.{◌≡◌, ◌+◌, ◌*◌, min, ◌<◌, ◌≤◌, true, length, Some, []};
 ghost use Rattle.rhai_tokenizer.specs.Bytes.{begins, is_line_feed};
@@ -96,7 +96,7 @@ fn digits_after(marker: u8) -> usize
 
 // The value of digits, or a number past all characters.
 fn hex_value(digits: &[u8]) -> u32
-    ensures value { result ≡ min spec.past_characters (strings.hex_value digits.now) }
+    ensures value { result ≡ min spec.past_characters (spec.hex_value digits.now) }
     ensures within { result ≤ spec.past_characters }
 {
     let value = radix_of(16, digits);

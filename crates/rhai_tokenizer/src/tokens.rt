@@ -1,4 +1,4 @@
-//! `Tokens`: the tokens of a text, and where they stand.
+//! `Tokens`: the tokens of a text, with their positions and bytes.
 
 use rhai_lower::position::Position;
 use rhai_lower::stream::Entry;

@@ -1,4 +1,4 @@
--- Places of cases by their keys.
+-- The indexes of cases, by their keys.
 use Rattle.std.proofs.Common.{◌≡◌, ◌∙◌, ◌<◌, ℕ, ◌+◌, ◌==◌, Bool, true, false, not, List, [], ◌∷◌, ◌&&◌, ◌||◌, ◌++◌, Option, Some, None, nat_lt, position, append-nil, is_some, length, refl, sym, ap, arith, cond, true≢false, unwrap_or, if◌then◌else◌}
 use Rattle.std.proofs.lemmas.Bool.{and_parts}
 use Rattle.std.specs.Cmp.{unsigned_Decides}

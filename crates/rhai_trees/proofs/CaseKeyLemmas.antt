@@ -1,4 +1,4 @@
--- What keys of cases stand for.
+-- What the keys of cases represent.
 use Rattle.std.proofs.Common.{◌≡◌, ◌∙◌, ℕ, ℤ, ◌==◌, Bool, true, false, ◌&&◌, Option, Some, None, refl, sym, ap, true≢false, unwrap_or, if◌then◌else◌}
 use Rattle.std.proofs.lemmas.Bool.{and_parts}
 use Rattle.std.specs.Bool.{beq}

@@ -1,4 +1,4 @@
--- Lists of statements with one more, and jumps.
+-- Jumps, and lists of statements as they grow by one.
 use Rattle.std.proofs.Common.{◌≡◌, Bool, true, false, Option, Some, None, refl}
 use Rattle.std.specs.Prelude.{Box}
 use Rattle.std.specs.declared.alloc.Global.{Global}

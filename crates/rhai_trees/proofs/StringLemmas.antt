@@ -1,4 +1,4 @@
--- Segments of an interpolated string with one more text.
+-- The parts of an interpolated string as they grow by one text.
 use Rattle.std.proofs.Common.{◌≡◌, ◌==◌, true, false, [], ◌∷◌, length, refl}
 use Rattle.std.proofs.Math.Dec.{eqb-suc-zero}
 use Rattle.rhai_lower.specs.Nodes.{Nodes, string, with_node}

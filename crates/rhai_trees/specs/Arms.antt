@@ -1,4 +1,4 @@
--- The arms of a `switch` that the readers hand on.
+-- The arms of a `switch` that the readers pass on.
 use Rattle.rhai_grammar.specs.Switches.{Collected}
 use Rattle.rhai_trees.specs.CaseKeys.{Keyed}
 use Rattle.rhai_trees.specs.Switches.{collected_view}

@@ -1,4 +1,4 @@
-//! Cases by their digests. They say with which cases an array or an object map is compared.
+//! Finds `switch` cases by their digests. They say with which cases an array or an object map is compared.
 
 ghost use Rattle.std.specs.Prelude.{◌≡◌, ◌<◌, IfOk, IfSome, None, length, option_map};
 ghost use Rattle.rhai_lower.specs.View.{case_views, view};

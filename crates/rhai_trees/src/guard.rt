@@ -1,4 +1,4 @@
-//! `test_guard`, `test_iterated`: what guards are, and what `for` goes over.
+//! `test_guard`, `test_iterated`: what a guard may be, and what `for` may go over.
 
 ghost use Rattle.std.specs.Prelude.{◌≡◌, IfErr, IfOk, None, OnOk, Some, false, option_map};
 ghost use Rattle.rhai_lower.specs.Nodes.{start_of};

@@ -5,6 +5,7 @@
 
 pub mod arms;
 mod call;
+mod capacity;
 pub mod case_index;
 mod case_search;
 pub mod case_value;
@@ -16,7 +17,6 @@ pub mod kind;
 pub mod link;
 pub mod literal;
 pub mod operator;
-mod room;
 pub mod sign;
 pub mod statement;
 pub mod strings;

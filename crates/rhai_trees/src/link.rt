@@ -1,4 +1,5 @@
-//! Links, and chains as they are read: an operand and a list of links. Their tree is made when the chain has ended.
+//! `Link` and `Chain`: an operand with a list of links, while they are read. Their tree is made when the chain has
+//! ended.
 
 ghost use Rattle.std.specs.Prelude.{◌≡◌, false, length};
 ghost use Rattle.rhai_lower.specs.View.{view};

@@ -14,11 +14,11 @@ ghost use Rattle.rhai_trees.specs.Switches.{case_place, collected_view, first_fa
 ghost use Rattle.rhai_trees.specs.Switches.{value_fault, with_action};
 
 use crate::arms::Arms;
+use crate::capacity::grow_arms;
 use crate::case_index::{CaseKey, add_key, key_of};
 use crate::case_search::{CasePlace, find_parts};
 use crate::case_value::range_of;
 use crate::literal::is_literal_value;
-use crate::room::make_room;
 use crate::statement::{ends_itself, is_empty};
 use indexmap::IndexSet;
 use rhai_grammar::{ParseError, ParseErrorType, ParseResult};
@@ -330,7 +330,7 @@ pub fn push_arm(
 {
     let index = push_action(&mut arms.collected, guard, action)?;
     push_cases(alloc, &mut arms.collected, &mut arms.keys, index, cases)?;
-    make_room(arms)
+    grow_arms(arms)
 }
 
 /// The arms with the default arm. The error is that there is no memory for it.

@@ -1,4 +1,4 @@
-//! What a frame lets a name do. It may be used, begin a path, be captured, or be defined.
+//! What a name may do in a frame. It may be used, begin a path, be captured, or be defined.
 
 ghost use Rattle.std.specs.Prelude.{◌≡◌, ◌&&◌, ◌||◌, IfErr, OnOk, codes, false, not, true};
 ghost use Rattle.std.specs.Option.{is_some};

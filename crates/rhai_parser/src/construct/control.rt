@@ -1,5 +1,4 @@
-//! The frames that hold the names of `for` and of `catch`, and the ends of guards and of what `for` goes over, as the
-//! reading program asks.
+//! The frames of `for` and `catch`, and the ends of guards.
 
 ghost use Rattle.std.specs.Prelude.{◌≡◌, IfOk, option_map};
 ghost use Rattle.std.specs.Rc.{rc_str_bytes};

@@ -1,5 +1,5 @@
-//! Leaves joined for expressions, as the reading program asks. They are the next operator, and the ends of an index and
-//! of an operand.
+//! Leaves joined for expressions, as the reading program joins them. They are the next operator, and the ends of an
+//! index and of an operand.
 
 ghost use Rattle.std.specs.Prelude.{◌≡◌, IfErr, IfOk, IsSome, None, OnOk, Some, false, option_map};
 ghost use Rattle.rhai_base.specs.OperandEnds.{ends_operand};

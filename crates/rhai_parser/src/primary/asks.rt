@@ -1,4 +1,4 @@
-//! Leaves joined for operands, as the reading program asks. They are the next key, and what a name or a word is.
+//! Leaves joined for operands, as the reading program joins them. They are the next key, and what a name or a word is.
 
 ghost use Rattle.std.specs.Prelude.{◌≡◌, IfErr, IfOk, OnOk, false, option_map, true};
 ghost use Rattle.rhai_lower.specs.View.{property_views, view, written};

@@ -1,4 +1,4 @@
-//! Leaves joined for statements, as the reading program asks. They are the name of a definition, the end of an
+//! Leaves joined for statements, as the reading program joins them. They are the name of a definition, the end of an
 //! assignment, and whether the value of a jump begins.
 
 ghost use Rattle.std.specs.Prelude.{◌≡◌, IfOk, false};

@@ -1,5 +1,5 @@
-//! Leaves joined for arms, as the reading program asks. They are what an arm is made of, its end, and the errors of its
-//! cases.
+//! Leaves joined for arms, as the reading program joins them. They are what an arm is made of, its end, and the errors
+//! of its cases.
 
 ghost use Rattle.std.specs.Prelude.{◌≡◌, ◌≤◌, IfErr, IfOk, true};
 ghost use Rattle.rhai_lower.specs.Nodes.{Node, block_value, made_block};

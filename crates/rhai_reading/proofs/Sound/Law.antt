@@ -48,7 +48,7 @@ Suits filter p side =
     (l : Lexeme) → next_continues p (follower_of filter l) ≡ true → side_fits filter side (follower_of filter l) ≡ true
 
 -- A run was read as far as s, where it is still to be seen whether a reserved symbol stands.
-pub record Stands (q : Spot) (from : Point) (L : Run) (s : Point) : Type 0 where
+pub record ReadSoFar (q : Spot) (from : Point) (L : Run) (s : Point) : Type 0 where
   pub passes : Fits (operator_known (filter_of q)) s → Passed (runs q) L from s
   pub stops : (e : Refusal) → Fails (Next (operator_known (filter_of q))) s e → (k : Demands)
       → Way (W.run L q k) from (Lost e s)
@@ -102,7 +102,7 @@ Sound (R.NextOperator filter) s o =
 Sound (R.BinaryOp c w pos p lhs) s o =
     (q : Spot) (from : Point) (L : Run) → q.live ≡ w → tree L q.live ≡ lhs
     → height_after q L ≡ record { settings = c; at = pos } → filter_of q ≡ c.filter → Suits (filter_of q) p q.side
-    → TopEnds (filter_of q) L (follower_at (filter_of q) s) → Stands q from L s
+    → TopEnds (filter_of q) L (follower_at (filter_of q) s) → ReadSoFar q from L s
     → Tells (RunRead q p from) (Halts (runs q) from) o
 Sound (R.ExprStatement c w) s o = Answers (expr_statements c w) s o
 Sound (R.VarName c w) s o = Answers (var_names c w) s o

@@ -21,7 +21,7 @@ use Rattle.rhai_reading.proofs.Paths.{Astray, Fits, Fails, Aim, Way, ◌▹◌, 
 use Rattle.rhai_reading.proofs.Shows.{Histories, over, Shows, Halts, fine, fails, ret, take, look, either, test, raise}
 use Rattle.rhai_reading.proofs.Shows.{called, tail, part, lost_at, Kind, Passed}
 use Rattle.rhai_reading.proofs.FormKinds.{runs}
-use Rattle.rhai_reading.proofs.Sound.Law.{AllSound, TopEnds, Suits, Stands, RunRead}
+use Rattle.rhai_reading.proofs.Sound.Law.{AllSound, TopEnds, Suits, ReadSoFar, RunRead}
 
 -- ---- what stands after an operand
 
@@ -97,7 +97,7 @@ module _ {call : Histories} (ih : AllSound call) where
       {w : Live} {pos : Position} {m : ℕ} {k : Node → Prog A} {s : Point} {b : Bool} {lhs : Node}
       (q : Spot) (start : Point) (L : Run) → q.live ≡ w → tree L q.live ≡ lhs
       → height_after q L ≡ record { settings = c; at = pos } → filter_of q ≡ c.filter → Suits (filter_of q) m q.side
-      → TopEnds (filter_of q) L (follower_at (filter_of q) s) → Stands q start L s
+      → TopEnds (filter_of q) L (follower_at (filter_of q) s) → ReadSoFar q start L s
       → (wrap : Run → F) → ((f : Run) (k : Demands) (o : Aim) → ((j : Demands) → Way (W.run f q j) start o)
       → Way (K.demands (wrap f) k) from o)
       → ((f : Run) (t : Point) (a : Bool) → Passed (runs q) f start t
@@ -173,7 +173,7 @@ module _ {call : Histories} (ih : AllSound call) where
     -- what stands after a run goes on with it, or does not
     run_at : (v : Follower) (b : Bool) → follower_at (filter_of q) s ≡ v → Fits (operator_known (filter_of q)) s
         → TopEnds (filter_of q) L (follower_at (filter_of q) s)
-        → Stands q from L s → Shows call (RunRead q p from) (Halts (runs q) from)
+        → ReadSoFar q from L s → Shows call (RunRead q p from) (Halts (runs q) from)
         (binary_at (height_after q L).settings q.live (height_after q L).at p (tree L q.live) (operator_in v)) s b
     run_at (Operator m right) b e known ended stands =
         let u = height_after q L in
@@ -203,7 +203,7 @@ module _ {call : Histories} (ih : AllSound call) where
     run_at Other b e known ended stands =
         ret (record { form = L; is = refl; passes = stands.passes known; off = ap (next_continues p) e; known = known })
 
-    run_from : (b : Bool) → TopEnds (filter_of q) L (follower_at (filter_of q) s) → Stands q from L s
+    run_from : (b : Bool) → TopEnds (filter_of q) L (follower_at (filter_of q) s) → ReadSoFar q from L s
         → Shows call (RunRead q p from) (Halts (runs q) from)
         (body (climb (height_after q L) q.live p (tree L q.live))) s b
     run_from b ended stands =
@@ -216,7 +216,7 @@ module _ {call : Histories} (ih : AllSound call) where
   pub run : (c : Context) (w : Live) (pos : Position) (p : ℕ) (lhs : Node) (s : Point) (b : Bool) (q : Spot)
       (from : Point) (L : Run) → q.live ≡ w → tree L q.live ≡ lhs → height_after q L ≡ record { settings = c; at = pos }
       → filter_of q ≡ c.filter → Suits (filter_of q) p q.side → TopEnds (filter_of q) L (follower_at (filter_of q) s)
-      → Stands q from L s
+      → ReadSoFar q from L s
       → Shows call (RunRead q p from) (Halts (runs q) from) (body (R.BinaryOp c w pos p lhs)) s b
   run c w pos p lhs s b q from L live is height same suits ended stands =
       let kept : filter_of q ≡ (height_after q L).settings.filter =

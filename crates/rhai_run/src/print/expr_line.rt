@@ -1,7 +1,7 @@
 //! The line of an expression.
 
 use crate::escape::Escaped;
-use crate::print::fields::{Optional, mark, offset, print_ident};
+use crate::print::fields::{Optional, mark, number, print_ident};
 use rhai_lower::{Expr, FnCallExpr, Ident, LinkFlags, Position, VariableExpr};
 use std::alloc::AllocError;
 use std::fmt;
@@ -46,13 +46,13 @@ fn print_variable(
     variable: &VariableExpr,
     pos: Position,
 ) -> Result<(), AllocError> {
-    let index = offset(variable.index);
+    let index = number(variable.index);
     let name = &variable.name;
     write!(text, "Variable {pos} {index} {name}")?;
     for ident in &variable.namespace.path {
         print_ident(text, ident)?;
     }
-    let module = offset(variable.namespace.index);
+    let module = number(variable.namespace.index);
     writeln!(text, " {module}")
 }
 

@@ -34,8 +34,8 @@ pub fn print_ident(text: &mut String, ident: &Ident) -> Result<(), AllocError> {
     write!(text, " {name} {pos}")
 }
 
-/// An optional offset.
-pub fn offset(index: Option<NonZeroUsize>) -> Optional<usize> {
+/// An optional number.
+pub fn number(index: Option<NonZeroUsize>) -> Optional<usize> {
     Optional(index.map(|number| number.get()))
 }
 

@@ -2,7 +2,7 @@
 
 use crate::escape::Escaped;
 use crate::literal::print_literal;
-use crate::print::fields::{Optional, mark, offset, print_ident};
+use crate::print::fields::{Optional, mark, number, print_ident};
 use rhai_lower::{ForLoop, Ident, Position, RangeCase, Stmt, StmtBlock, SwitchCase, Token};
 use std::alloc::AllocError;
 use std::num::NonZeroUsize;
@@ -35,7 +35,7 @@ fn print_share(
     write!(text, "Share {pos}")?;
     for variable in variables {
         print_ident(text, &variable.0)?;
-        write!(text, " {}", offset(variable.1))?;
+        write!(text, " {}", number(variable.1))?;
     }
     text.push_str("\n")
 }
@@ -75,7 +75,7 @@ pub fn print_statement_line(text: &mut String, statement: &Stmt) -> Result<(), A
             writeln!(
                 text,
                 "Var {pos} {name} {} {constant} {exported}",
-                offset(*index)
+                number(*index)
             )
         }
         Stmt::Assignment { op, pos, .. } => print_assignment(text, op, *pos),

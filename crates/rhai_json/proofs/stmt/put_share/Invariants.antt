@@ -6,4 +6,6 @@ use Rattle.rhai_json.specs.Fields.{items}
 use Rattle.rhai_json.proofs.stmt.put_share.Given as goal
 
 abbrev pub invariant-loop-variable : goal.invariant-loop-variable
-invariant-loop-variable l = items shared_value (shared_of (drop l.variable-index l.variables)) l.out ≡ items shared_value (shared_of l.variables) l.initial.out
+invariant-loop-variable l =
+    items shared_value (shared_of (drop l.variable-index l.variables)) l.out
+    ≡ items shared_value (shared_of l.variables) l.initial.out

@@ -3,12 +3,13 @@ use Rattle.rhai_tokenizer.specs.declared.lexer.Kind.{Kind}
 use Rattle.rhai_tokenizer.specs.declared.lexer.Kind.TheVariants as kind
 use Rattle.rhai_tokenizer.proofs.FrontLemmas.{IsCut}
 use Rattle.rhai_tokenizer.proofs.StepLemmas.{cut_turn, cuts, number_piece, some_due}
+use Rattle.rhai_tokenizer.specs.Turns.{place_of}
 use Rattle.rhai_tokenizer.proofs.reading.number.Goals as goal
 
 pub slice_bounds-text-end : goal.slice_bounds-text-end
 slice_bounds-text-end c =
     let old = c.args.reading.now in
-    let found = number_piece c.args.limits old.operand old.place c.args.rest.now c.as_bytes-bytes.result.now _ _
+    let found = number_piece c.args.limits old.operand (place_of old) c.args.rest.now c.as_bytes-bytes.result.now _ _
     (some_due old.in_text c.args.rest.now c.requires.code c.requires.ready.is_due) c.requires.class
     c.as_bytes-bytes.ensures.value c.number_piece-kind.ensures in
     sym (cuts _ _ _ _ _ _ _ found c.utf8.rest c.as_bytes-bytes.ensures.value).len
@@ -16,17 +17,17 @@ slice_bounds-text-end c =
 pub integer_token-requires : goal.integer_token-requires
 integer_token-requires c =
     let old = c.args.reading.now in
-    let found = number_piece c.args.limits old.operand old.place c.args.rest.now c.as_bytes-bytes.result.now _ _
+    let found = number_piece c.args.limits old.operand (place_of old) c.args.rest.now c.as_bytes-bytes.result.now _ _
     (some_due old.in_text c.args.rest.now c.requires.code c.requires.ready.is_due) c.requires.class
     c.as_bytes-bytes.ensures.value c.number_piece-kind.ensures in
-    let cut = subst (λ (k : Kind). IsCut c.args.limits old.operand old.place c.args.rest.now k
+    let cut = subst (λ (k : Kind). IsCut c.args.limits old.operand (place_of old) c.args.rest.now k
     c.number_piece-kind.result.1) c.in-Integer.is found in
     cut.text _ (ap (take c.number_piece-kind.result.1) c.as_bytes-bytes.ensures.value)
 
 pub take-requires-clause-room : goal.take-requires-clause-room
 take-requires-clause-room c =
     let old = c.args.reading.now in
-    let found = number_piece c.args.limits old.operand old.place c.args.rest.now c.as_bytes-bytes.result.now _ _
+    let found = number_piece c.args.limits old.operand (place_of old) c.args.rest.now c.as_bytes-bytes.result.now _ _
     (some_due old.in_text c.args.rest.now c.requires.code c.requires.ready.is_due) c.requires.class
     c.as_bytes-bytes.ensures.value c.number_piece-kind.ensures in
     let facts = cuts _ _ _ _ _ _ _ found c.utf8.rest c.as_bytes-bytes.ensures.value in
@@ -38,10 +39,10 @@ returns-in_ok-take-in-Integer c =
     let t = c.args.rest.now in
     let n = c.number_piece-kind.result.1 in
     let text = take n c.as_bytes-bytes.result.now in
-    let found = number_piece c.args.limits old.operand old.place t c.as_bytes-bytes.result.now _ _
+    let found = number_piece c.args.limits old.operand (place_of old) t c.as_bytes-bytes.result.now _ _
     (some_due old.in_text t c.requires.code c.requires.ready.is_due) c.requires.class c.as_bytes-bytes.ensures.value
     c.number_piece-kind.ensures in
-    let cut = subst (λ (k : Kind). IsCut c.args.limits old.operand old.place t k n) c.in-Integer.is found in
+    let cut = subst (λ (k : Kind). IsCut c.args.limits old.operand (place_of old) t k n) c.in-Integer.is found in
     let facts = cuts _ _ _ _ _ _ _ found c.utf8.rest c.as_bytes-bytes.ensures.value in
     let taken = c.in_ok-take-in-Integer.ensures in
     cut_turn c.args.limits old _ t text kind.Integer n (Some c.in_ok-token-in-Integer.token) c.requires.code cut
@@ -52,4 +53,4 @@ returns-in_ok-take-in-Integer c =
       braces = ap (λ x. reverse x.items) taken.braces;
       opens = refl;
     })
-    (taken.place text facts.len (cut.plain text facts.front refl)) taken.hash taken.at
+    (taken.place text facts.len (cut.plain text facts.front refl)) taken.hash taken.at taken.placed

@@ -1,0 +1,82 @@
+-- Laws of names and slots: which slot a use refers to, and where a scope ends.
+use Rattle.std.specs.Prelude.{◌≡◌, ◌≤◌, ◌⊎◌, ℕ, true, false, Option, Some, None, length, take, ◌∷◌, [], codes, refl}
+use Rattle.rhai_lower.specs.Nodes as node
+use Rattle.rhai_lower.specs.Positions.{place}
+use Rattle.rhai_lower.specs.Slots.{fresh_slot}
+use Rattle.rhai_grammar.specs.Prelude.{Text, Position, Node, Context, Live, Met, Nothing, Point, catch_live, code}
+use Rattle.rhai_grammar.specs.Prelude.{excludes_use, in_block, loop_live, next_at}
+use Rattle.rhai_grammar.specs.Slots.{IsLatest, number}
+use Rattle.rhai_grammar.specs.Trees.{name_tree, variable_of}
+use Rattle.rhai_grammar.specs.declared.role.Beginning.TheVariants as begin
+use Rattle.rhai_grammar.specs.declared.role.Closing.{Closing}
+use Rattle.rhai_grammar.specs.declared.role.Construct.{Construct as Kind}
+use Rattle.rhai_grammar.specs.declared.role.StatementStart.TheVariants as start
+use Rattle.rhai_reading.specs.Goals as goal
+use Rattle.rhai_productions.specs.Rules as P
+use Rattle.rhai_productions.specs.Rules.{production}
+use Rattle.rhai_productions.specs.Derived as D
+
+-- This holds of each name that is read as an operand: with this number in its tree, and before that point.
+abbrev pub OfNames : (Live → (name : Text) → Option ℕ → Point → Type 0) → Type 0
+OfNames Holds =
+    (context : Context) (live : Live) (x : Node)
+    (f : D.Filled production (goal.Primary context live) (P.primary_by context live begin.Name) x) (s t : Point)
+    → Met (D.demanded production f Nothing) s t → (name : Text) (at : Position) (number : Option ℕ)
+    → x ≡ variable_of number name at → Holds live name number t
+
+-- A name that has a number in its tree is not directly before what calls it or before `::`; and the slot with that
+-- number is the latest of the name.
+pub record NumberedSlot : Type 0 where
+  pub uncalled : OfNames (λ live name number t. (place : ℕ) → number ≡ Some place
+      → excludes_use (next_at code t).lexeme ≡ false)
+  pub latest : OfNames (λ live name number t. (place : ℕ) → number ≡ Some place
+      → IsLatest name live.slots (Some place))
+
+-- A name that has no number in its tree is directly before what calls it or before `::`, or no live slot has the name.
+pub record NoSlot : Type 0 where
+  pub called : OfNames (λ live name number t. number ≡ None
+      → (excludes_use (next_at code t).lexeme ≡ true) ⊎ IsLatest name live.slots None)
+
+-- This holds of what is live after each list of statements, by what is live before it.
+abbrev pub OfLists : (before : Live → Live) → (Live → Live → Type 0) → Type 0
+OfLists before Holds =
+    (closing : Closing) (context : Context) (live : Live) (fs : node.Statements) (x : node.Statements × Live)
+    → D.Form production (goal.Statements closing context (before live) fs) x → Holds live x.1
+
+-- A construct and an expression leave live what was live before them. Statements leave the slots before their block as
+-- they were, so the end of a block, or of an arm of `switch`, gives back the slots that it found; and they leave the
+-- imports before them. The variables of `for` and of `catch` are above all that were there.
+pub record ScopesClose : Type 0 where
+  pub construct : (context : Context) (live : Live) (kind : Kind) (x : node.Statement × Live)
+      → D.Filled production (goal.Statement context live) (P.statement_by context live (start.Construct kind)) x
+      → x.1 ≡ live
+  pub expression : (context : Context) (live : Live) (x : node.Statement × Live)
+      → D.Filled production (goal.Statement context live) (P.statement_by context live start.Expression) x
+      → x.1 ≡ live
+  pub start : OfLists (λ live. live) (λ live after. after.block ≡ live.block)
+  pub before : OfLists (λ live. live) (λ live after. live.block ≤ length live.slots
+      → take live.block after.slots ≡ take live.block live.slots)
+  pub given_back : OfLists in_block (λ live after. take (length live.slots) after.slots ≡ live.slots)
+  pub arm : (context : Context) (live : Live) (x : node.Statement × Live)
+      → D.Form production (goal.Statement context (in_block live)) x
+      → take (length live.slots) x.1.slots ≡ live.slots
+  pub imports : OfLists (λ live. live) (λ live after. take (length live.imports) after.imports ≡ live.imports)
+  pub loop : (name : Text) (counter : Option Text) (live : Live) →
+      ((loop_live name counter live).block ≡ length live.slots)
+      × (take (length live.slots) (loop_live name counter live).slots ≡ live.slots)
+  pub handler : (name : Option Text) (live : Live) →
+      ((catch_live name live).block ≡ length live.slots)
+      × (take (length live.slots) (catch_live name live).slots ≡ live.slots)
+
+-- Two variables of one name are live: a use refers to the second, and a name that is called to none.
+abbrev example_live : Live
+example_live = record {
+  slots = fresh_slot (codes "x") true ∷ fresh_slot (codes "x") false ∷ [];
+  block = 1;
+  imports = [];
+}
+
+example : (name_tree example_live.slots false (codes "x") (place 1 1) ≡ variable_of (Some 1) (codes "x") (place 1 1))
+    × (name_tree example_live.slots true (codes "x") (place 1 1) ≡ variable_of None (codes "x") (place 1 1))
+unfolding number
+example = (refl, refl)

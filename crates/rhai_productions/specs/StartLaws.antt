@@ -1,0 +1,26 @@
+-- A law on the tokens that begin an expression.
+use Rattle.std.specs.Prelude.{◌≡◌, ◌⊎◌, true, []}
+use Rattle.rhai_lower.specs.Lexemes.{Lexeme}
+use Rattle.rhai_grammar.specs.Prelude.{Context, Live, Met, Node, Nothing, Point, code, may_begin, next_at, starts}
+use Rattle.rhai_grammar.specs.StartLaws.{is_added}
+use Rattle.rhai_reading.specs.Reading.{Expression}
+use Rattle.rhai_productions.specs.Rules.{production}
+use Rattle.rhai_productions.specs.Derived as D
+
+-- some expression that fits begins with this token
+abbrev pub IsBegun : Context → Live → Lexeme → Type 0
+IsBegun context live token =
+    (x : Node) × (f : D.Form production (Expression context live) x) × (s : Point) × (t : Point)
+    × ((next_at code s).lexeme ≡ token) × Met (D.demands production f Nothing) s t
+
+-- A token begins an expression exactly where some expression that fits begins with it, or it is one of those that are
+-- added: reserved words and symbols, and errors of the tokenizer. Where the depth is limited there may be no room for
+-- such an expression, nor for a closure where the functions are, so that half is about contexts without a limit and
+-- with room for a function; what was defined before makes no difference.
+pub record StartsOfExpressions : Type 0 where
+  pub only : (context : Context) (live : Live) (x : Node) (f : D.Form production (Expression context live) x)
+      (s t : Point) → Met (D.demands production f Nothing) s t → starts context (next_at code s).lexeme ≡ true
+  pub added : (context : Context) (token : Lexeme) → is_added token ≡ true → starts context token ≡ true
+  pub begins : (context : Context) (live : Live) (token : Lexeme) → context.settings.limit ≡ 0
+      → may_begin context [] ≡ true → starts context token ≡ true
+      → (is_added token ≡ true) ⊎ IsBegun context live token

@@ -1,7 +1,0 @@
-use Rattle.std.proofs.Common.{refl}
-use Rattle.rhai_tokenizer.specs.Bytes.{blanks}
-use Rattle.rhai_tokenizer.proofs.lexer.blank_texts.Goals as goal
-
-pub returns : goal.returns
-unfolding blanks lib.Utf8.encode
-returns c = refl
