@@ -1,3 +1,0 @@
--- Lemmas.
-pub mod Holds
-pub mod Replies
