@@ -20,7 +20,7 @@ use Rattle.std_alloc.proofs.BoxSteps.Form.{D, B, box_typed}
 use Rattle.std_alloc.proofs.BoxSteps.Form as box
 use Rattle.std_alloc.proofs.BoxSteps.Steps.{box_out}
 use Rattle.std.specs.Box.Ownership.{box_owns}
-use Rattle.libc.specs.Heap.{chunk}
+use Rattle.rhai_c.specs.Handles.{chunk}
 use Rattle.rhai_c.proofs.Holds.{E, R, From, word, held_in}
 use Rattle.rhai_c.specs.contracts.held.Held.of_parts as f
 use Rattle.rhai_c.proofs.held.Held.of_parts.Statement.{statement}
