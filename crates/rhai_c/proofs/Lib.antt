@@ -1,0 +1,3 @@
+-- Lemmas.
+pub mod Holds
+pub mod Replies
