@@ -1,5 +1,5 @@
 //! How a refusal is printed: number, position, name and payload. The number and the name are those of its kind. Notes
-//! on what to write instead are left out. docs/FORMAT.md has the list.
+//! on what to write instead are left out. docs/GRAMMAR.md, "Errors", has the list.
 
 use crate::escape::Escaped;
 use rhai_grammar::{InputError, ParseError, ParseErrorType};
