@@ -11,7 +11,7 @@ use Rattle.rhai_grammar.specs.Forms as form
 use Rattle.rhai_grammar.specs.UsesOfForms.{first_uses, own_events, uses_in}
 use Rattle.rhai_grammar.specs.Written as W
 use Rattle.rhai_grammar.specs.declared.role.Closing.TheVariants.{EndMark}
-use Rattle.rhai_grammar.specs.declared.role.OperandPlace.{OperandPlace}
+use Rattle.rhai_grammar.specs.declared.role.OperandRole.{OperandRole}
 use Rattle.rhai_grammar.proofs.EventLemmas as happens
 use Rattle.rhai_grammar.proofs.SparedTokens.{end_due}
 use Rattle.rhai_grammar.proofs.EventParts.{closure_parameters, expressed}
@@ -23,7 +23,7 @@ record Ran (head : ClosureHead) (body : ClosureBody) (n : ℕ) (us : List Use) (
   captured : us ≡ first_uses (free_uses (own_events head body) s.library)
   number : n ≡ closure_count (s.library ++ ended_in (own_events head body))
 
-ran : (c : Context) (w : Live) (p : OperandPlace) (head : ClosureHead) (f : ClosureBody) (n : ℕ) (us : List Use) (s t : Point)
+ran : (c : Context) (w : Live) (p : OperandRole) (head : ClosureHead) (f : ClosureBody) (n : ℕ) (us : List Use) (s t : Point)
     → Met (W.primary (form.Closure head f n us) c w p Nothing) s t → Ran head f n us s
 ran c w p head f n us s t m =
     let q = scope_of c in

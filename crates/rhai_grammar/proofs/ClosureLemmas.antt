@@ -18,7 +18,7 @@ use Rattle.rhai_grammar.specs.Forms as form
 use Rattle.rhai_grammar.specs.Keys.{has_name}
 use Rattle.rhai_grammar.specs.Settings as S
 use Rattle.rhai_grammar.specs.Written as W
-use Rattle.rhai_grammar.specs.declared.role.OperandPlace.{OperandPlace}
+use Rattle.rhai_grammar.specs.declared.role.OperandRole.{OperandRole}
 use Rattle.rhai_grammar.proofs.Leads as leads
 use Rattle.rhai_grammar.proofs.SlotLemmas.{same}
 use Rattle.rhai_grammar.proofs.SpellingLemmas.{spelled}
@@ -193,7 +193,7 @@ record Closed (c : Context) (w : Live) (head : ClosureHead) (f : ClosureBody) (n
     is : body.captured ≡ us
     rest : Met (W.captured_names us c w (W.function_ends (closure_tree head f n us) (bars_at head) Nothing)) (with_captured captured body) t
 
-closed : (c : Context) (w : Live) (p : OperandPlace) (head : ClosureHead) (f : ClosureBody) (n : ℕ) (us : List Use) (s t : Point)
+closed : (c : Context) (w : Live) (p : OperandRole) (head : ClosureHead) (f : ClosureBody) (n : ℕ) (us : List Use) (s t : Point)
     → Met (W.primary (form.Closure head f n us) c w p Nothing) s t → Closed c w head f n us s t
 closed c w p head f n us s t m =
     let r = spelled (leads.closure_parameters head _) (past code s) t m.1.1.1 in

@@ -9,7 +9,7 @@ use Rattle.rhai_grammar.specs.Prelude.{Arguments, Arms, Base, Body, Branch, Case
 use Rattle.rhai_grammar.specs.Prelude.{Construct, Elements, ExprStatement, Fields, Initializer, Items, JumpValue, Links}
 use Rattle.rhai_grammar.specs.Prelude.{Operand, Owner, ParameterList, Primary, Run, Segments, Statement, Statements}
 use Rattle.rhai_grammar.specs.Prelude.{in_function, names_function, owner_of, parameter_names, parameters_live}
-use Rattle.rhai_grammar.specs.Prelude.{is_qualified, is_scoped, module_fault, LinkSpot, Spot, height_after, place_of}
+use Rattle.rhai_grammar.specs.Prelude.{is_qualified, is_scoped, module_fault, LinkSpot, Spot, height_after, role_of}
 use Rattle.rhai_grammar.specs.Prelude.{right_side, spot_after_bracket, spot_after_dot, spot_after_operand, action_ends}
 use Rattle.rhai_grammar.specs.Prelude.{Collected, arm_fault, nothing_collected, with_arm_collected, is_constant_use}
 use Rattle.rhai_grammar.specs.Prelude.{target_fault, action_tree, argument_trees, base_tree, bracket_link, case_trees}
@@ -29,8 +29,8 @@ use Rattle.rhai_grammar.specs.declared.list.CommaList.TheVariants as lists
 use Rattle.rhai_grammar.specs.Written as W
 use Rattle.rhai_grammar.specs.declared.role.Closing.{Closing}
 use Rattle.rhai_grammar.specs.declared.role.Closing.TheVariants.{Brace}
-use Rattle.rhai_grammar.specs.declared.role.OperandPlace.{OperandPlace}
-use Rattle.rhai_grammar.specs.declared.role.OperandPlace.TheVariants as place
+use Rattle.rhai_grammar.specs.declared.role.OperandRole.{OperandRole}
+use Rattle.rhai_grammar.specs.declared.role.OperandRole.TheVariants as place
 use Rattle.rhai_grammar.proofs.Duplicates.{Spares}
 use Rattle.rhai_grammar.proofs.SparedFaults as faults
 use Rattle.rhai_grammar.proofs.SparedTokens as spares
@@ -74,7 +74,7 @@ function_does {q = q} comments is_private at owner name name_at list opening bod
         (test_in refl (test refl (dead_name owner name name_at _ e)))))
 
 mutual
-  pub primary : {q : Scope} (x : Primary) (called : Bool) (c : Context) (w : Live) (p : OperandPlace) (k : Demands) → Is q c
+  pub primary : {q : Scope} (x : Primary) (called : Bool) (c : Context) (w : Live) (p : OperandRole) (k : Demands) → Is q c
       → Follows x called k → Does q (primary_events x w called) (W.primary x c w p k) k
   primary (form.Value token at) goes_on c w p k i f = shape (tok (spares.operand_due c p) here)
   primary (form.Named name at) false c w p k i f = used c w p name at k i f
@@ -109,7 +109,7 @@ mutual
   closure_body (form.Runs f) c w k i = next spares.runs (statement f c w k i)
   closure_body (form.NoBody at) c w k i = ahead spares.anything here
 
-  pub base : {q : Scope} (x : Base) (c : Context) (w : Live) (p : OperandPlace) (k : Demands) → Is q c
+  pub base : {q : Scope} (x : Base) (c : Context) (w : Live) (p : OperandRole) (k : Demands) → Is q c
       → Does q (base_events x w) (W.base x c w p k) k
   base (form.Plain x names) c w p k i =
       all_of (on (primary x (is_scoped names) c w p _ i (plain_follows x names w k))
@@ -155,7 +155,7 @@ mutual
       (on (arguments args V.list_due spares.list_due (level_up p.settings) w name_at _ i)
       (links more (spot_after_dot p l) w k i i)))))))))
 
-  pub operand : {q : Scope} (x : Operand) (c : Context) (w : Live) (p : OperandPlace) (k : Demands) → Is q c
+  pub operand : {q : Scope} (x : Operand) (c : Context) (w : Live) (p : OperandRole) (k : Demands) → Is q c
       → Does q (operand_events x w) (W.operand x c w p k) k
   operand (form.Linked x list) c w p k i =
       let y = base_tree x w in
@@ -220,7 +220,7 @@ mutual
   pub run : {q : Scope} (f : Run) (p : Spot) (k : Demands) → Is q p.first → Is q p.begins
       → Does q (events f p.live) (W.run f p k) k
   run (form.Just x) p k i j =
-      all_of (on (operand x p.first p.live (place_of p.side) _ i) (next (spares.operator_known (filter_of p))
+      all_of (on (operand x p.first p.live (role_of p.side) _ i) (next (spares.operator_known (filter_of p))
       (raised p.side)))
   run {q = q} (form.Binary op at l r) p k i j =
       let side = right_side op (height_after p l) p.live in
@@ -254,7 +254,7 @@ mutual
       → Does q (statement_events x w) (W.statement x c w k) k
   statement (form.EmptyStatement at) c w k i = tok spares.anything here
   statement (form.Expression x) c w k i =
-      next (spares.expression_begins c) (next (spares.room_due c) (evaluation x (level_up c) w k i))
+      next (spares.expression_begins c) (next (spares.raise_due c) (evaluation x (level_up c) w k i))
   statement (form.Define constant at name name_at value) c w k i =
       tok spares.anything (test refl (tok spares.name_due (test refl (initializer value (level_up c) w at k i))))
   statement (form.Compound at x) c w k i =

@@ -18,7 +18,7 @@ use Rattle.rhai_grammar.specs.Written as W
 use Rattle.rhai_grammar.specs.declared.due.DueToken.TheVariants as due
 use Rattle.rhai_grammar.specs.declared.list.CommaList.{CommaList}
 use Rattle.rhai_grammar.specs.declared.list.CommaList.TheVariants as lists
-use Rattle.rhai_grammar.specs.declared.role.OperandPlace.{OperandPlace}
+use Rattle.rhai_grammar.specs.declared.role.OperandRole.{OperandRole}
 use Rattle.rhai_grammar.proofs.Duplicates.{Spares, has_duplicate, refused}
 use Rattle.rhai_grammar.proofs.SparedFaults as faults
 use Rattle.rhai_grammar.proofs.SparedTokens as spares
@@ -38,7 +38,7 @@ unfaulted r d = unfaulted_by r d here
 pub expressed : {q : Scope} (f : Run) (c : Context) (w : Live) {es : List Event} {k : Demands}
     → Does q es (W.run f (outermost (level_up c) w) (W.ended c k)) (W.ended c k) → Does q es (W.expression f c w k) k
 expressed f c w h =
-    next (spares.room_due c) (all_of (on h (next (spares.run_ends c.filter) here)))
+    next (spares.raise_due c) (all_of (on h (next (spares.run_ends c.filter) here)))
 
 -- a guard, and what `for` goes over
 pub guarded : {q : Scope} (f : Run) (c : Context) (w : Live) {es : List Event} {k : Demands}
@@ -195,7 +195,7 @@ bang_follows x (form.Scoped colons name at rest) imports y bang b k e s t m =
     ap (λ (i : Item). excludes_use i.lexeme) m.1.0
 
 -- a name that is used, and one that is not
-name_stopped : {q : Scope} (c : Context) (w : Live) (p : OperandPlace) (name : Text) (at : Position) (k : Demands)
+name_stopped : {q : Scope} (c : Context) (w : Live) (p : OperandRole) (name : Text) (at : Position) (k : Demands)
     (s t : Point) (e : Refusal) (n : Mode) → Missed (W.primary (form.Named name at) c w p k) s e n t
     → Misses q s.library [] k e n t
 name_stopped {q = q} c w p name at k s t e n (inl a) =
@@ -213,7 +213,7 @@ name_stopped {q = q} c w p name at k s t e n (inr (is, inr b)) = inr (record {
   orderly = λ g. g;
 })
 
-pub used : {q : Scope} (c : Context) (w : Live) (p : OperandPlace) (name : Text) (at : Position) (k : Demands) → Is q c
+pub used : {q : Scope} (c : Context) (w : Live) (p : OperandRole) (name : Text) (at : Position) (k : Demands) → Is q c
     → Follows (form.Named name at) false k
     → Does q (primary_events (form.Named name at) w false) (W.primary (form.Named name at) c w p k) k
 used {q = q} c w p name at k i f = record {
@@ -234,7 +234,7 @@ used {q = q} c w p name at k i f = record {
   stopped = λ s t e n m. name_stopped c w p name at k s t e n m;
 }
 
-pub unused : {q : Scope} (c : Context) (w : Live) (p : OperandPlace) (name : Text) (at : Position) (k : Demands)
+pub unused : {q : Scope} (c : Context) (w : Live) (p : OperandRole) (name : Text) (at : Position) (k : Demands)
     → Follows (form.Named name at) true k
     → Does q (primary_events (form.Named name at) w true) (W.primary (form.Named name at) c w p k) k
 unused {q = q} c w p name at k f = record {

@@ -15,11 +15,11 @@ use Rattle.rhai_grammar.specs.Prelude.{primary_tree, tree, below_global, in_case
 use Rattle.rhai_grammar.specs.Prelude.{named_tree, Action, Arms, CaseGuard, Cases, action_ends, Collected, arm_fault}
 use Rattle.rhai_grammar.specs.Prelude.{nothing_collected, with_arm_collected, action_tree, case_trees, guard_tree}
 use Rattle.rhai_grammar.specs.Prelude.{operands_fit, LinkSpot, Spot, spot_after_bracket, spot_after_dot, filter_of}
-use Rattle.rhai_grammar.specs.Prelude.{spot_after_operand, height_after, outermost, place_of, right_side, ClosureBody}
+use Rattle.rhai_grammar.specs.Prelude.{spot_after_operand, height_after, outermost, role_of, right_side, ClosureBody}
 use Rattle.rhai_grammar.specs.Prelude.{bars_of, bars_token, declared_names, in_closure}
 use Rattle.rhai_lower.specs.declared.token.Token.TheVariants as token
-use Rattle.rhai_grammar.specs.declared.role.OperandPlace.{OperandPlace}
-use Rattle.rhai_grammar.specs.declared.role.OperandPlace.TheVariants as place
+use Rattle.rhai_grammar.specs.declared.role.OperandRole.{OperandRole}
+use Rattle.rhai_grammar.specs.declared.role.OperandRole.TheVariants as place
 use Rattle.rhai_grammar.specs.Forms as form
 use Rattle.rhai_grammar.specs.Statements as S
 use Rattle.rhai_grammar.specs.declared.role.Closing.{Closing}
@@ -36,7 +36,7 @@ use Rattle.rhai_grammar.proofs.FairParts.{comments_at, function_at, function_nam
 use Rattle.rhai_grammar.proofs.FairParts.{captured_names, separated}
 
 mutual
-  primary : (x : Primary) (c : Context) (w : Live) (p : OperandPlace) (k : Demands) → IsFair k → IsFair (W.primary x c w p k)
+  primary : (x : Primary) (c : Context) (w : Live) (p : OperandRole) (k : Demands) → IsFair k → IsFair (W.primary x c w p k)
   primary (form.Value token at) c w p k h = λ e. (operand_due c p token (value_begins c (beginning token) e), h)
   primary (form.Named name at) c w p k h = (operand_due c p (Name name) refl, h)
   primary (form.Word word at) c w p k h = (operand_due c p (Reserved word) refl, h)
@@ -63,7 +63,7 @@ mutual
   closure_body (form.Runs f) c w k h = statement f c w k h
   closure_body (form.NoBody at) c w k h = (refl, h)
 
-  base : (x : Base) (c : Context) (w : Live) (p : OperandPlace) (k : Demands) → IsFair k → IsFair (W.base x c w p k)
+  base : (x : Base) (c : Context) (w : Live) (p : OperandRole) (k : Demands) → IsFair k → IsFair (W.base x c w p k)
   base (form.Plain x names) c w p k h = primary x c w p _ (path names w.imports (primary_tree x w (is_scoped names)) _ h)
   base (form.Call x names None args) c w p k h =
       let y = named_tree x names true w in
@@ -94,7 +94,7 @@ mutual
       let l = member_link dot at (method_tree (text_of name) name_at true (argument_trees args w)) in
       (anything dot, (anything name, (refl, arguments args V.list_due refl refl (level_up q.settings) w name_at _ (links rest (spot_after_dot q l) w k h))))
 
-  operand : (x : Operand) (c : Context) (w : Live) (p : OperandPlace) (k : Demands) → IsFair k → IsFair (W.operand x c w p k)
+  operand : (x : Operand) (c : Context) (w : Live) (p : OperandRole) (k : Demands) → IsFair k → IsFair (W.operand x c w p k)
   operand (form.Linked x list) c w p k h =
       base x c w p _ (links list (spot_after_operand c (base_tree x w)) w _ (unfaulted (module_fault c w (base_tree x w)) k h))
   operand (form.Signed sign at x) c w p k h = λ e.
@@ -133,7 +133,7 @@ mutual
   segments (form.Segment opening f next pos rest) c w at k h = (refl, block f (level_up c) w _ (refl, segments rest c w at k h))
 
   run : (f : Run) (q : Spot) (k : Demands) → IsFair k → IsFair (W.run f q k)
-  run (form.Just x) q k h = operand x q.first q.live (place_of q.side) _ (raised q.side k h)
+  run (form.Just x) q k h = operand x q.first q.live (role_of q.side) _ (raised q.side k h)
   run (form.Binary op at l r) q k h =
       run l q _ (λ a b d. (
         anything op,

@@ -5,11 +5,11 @@ use Rattle.rhai_grammar.specs.Prelude.{Lexeme, Sign, String, Position, Text, Own
 use Rattle.rhai_grammar.specs.Prelude.{after_type, is_type, no_function_name, type_or_name_due, beginning, no_operand}
 use Rattle.rhai_grammar.specs.Prelude.{do_end_due, do_token, guard_fault, begins, is_omitted, operand_start, Refusal}
 use Rattle.rhai_grammar.specs.Prelude.{Context, Live, level_up, is_memory, closing_of, Comment, Demands, Otherwise}
-use Rattle.rhai_grammar.specs.Prelude.{Verdict, Wrong, verdict, CatchName, LoopNames, Run, IsFair, is_refused, KeyPlace}
+use Rattle.rhai_grammar.specs.Prelude.{Verdict, Wrong, verdict, CatchName, LoopNames, Run, IsFair, is_refused, KeyRole}
 use Rattle.rhai_grammar.specs.Prelude.{NoKey, is_key, tree, Alias, Path, qualified, Node, Outermost, RightOf, Side}
 use Rattle.rhai_grammar.specs.Prelude.{outermost, ClosureHead, Use}
 use Rattle.rhai_lower.specs.declared.token.Token.TheVariants as token
-use Rattle.rhai_grammar.specs.declared.role.OperandPlace.{OperandPlace}
+use Rattle.rhai_grammar.specs.declared.role.OperandRole.{OperandRole}
 use Rattle.rhai_grammar.specs.declared.role.OperandStart.{OperandStart}
 use Rattle.rhai_grammar.specs.declared.role.OperandStart.TheVariants as start
 use Rattle.rhai_grammar.specs.Functions.{parameter_due}
@@ -32,7 +32,7 @@ pub anything : (l : Lexeme) → is_refused (verdict V.anything l) ≡ false
 anything l = unless (is_memory l) Otherwise refl
 
 -- a token that begins an operand
-pub operand_due : (c : Context) (p : OperandPlace) (l : Lexeme) → begins c (beginning l) ≡ true → is_refused (verdict (V.operand_due c p) l) ≡ false
+pub operand_due : (c : Context) (p : OperandRole) (l : Lexeme) → begins c (beginning l) ≡ true → is_refused (verdict (V.operand_due c p) l) ≡ false
 operand_due c p l e = unless (is_memory l) (V.operand_due c p l) (by (operand_start p l))
   where
     by : (v : OperandStart) → is_refused (V.beginning_due c l v) ≡ false
@@ -45,7 +45,7 @@ pub omitted_due : (c : Context) (l : Lexeme) (v : OperandStart) → is_omitted v
 omitted_due c l start.Omitted e = refl
 omitted_due c l _ e = absurd cc
 
-pub key_due : (k : KeyPlace) → is_key k ≡ true → is_refused (V.key_at k) ≡ false
+pub key_due : (k : KeyRole) → is_key k ≡ true → is_refused (V.key_at k) ≡ false
 key_due (NoKey why) e = absurd cc
 key_due _ e = refl
 

@@ -11,7 +11,7 @@ use Rattle.rhai_grammar.specs.Prelude.{TestIn, Tok, Verdict, Ended, Library, Arg
 use Rattle.rhai_grammar.specs.Prelude.{ExprStatement, Fields, Initializer, Items, Links, Branch, CatchName, Conditional}
 use Rattle.rhai_grammar.specs.Prelude.{Construct, JumpValue, LoopNames, Operand, Primary, Run, Segments, Statement}
 use Rattle.rhai_grammar.specs.Prelude.{Statements, script_spelling, spelling, LinkSpot, Outermost, RightOf, Side, Spot}
-use Rattle.rhai_grammar.specs.Prelude.{height_after, outermost, place_of, right_side, spot_after_bracket}
+use Rattle.rhai_grammar.specs.Prelude.{height_after, outermost, role_of, right_side, spot_after_bracket}
 use Rattle.rhai_grammar.specs.Prelude.{spot_after_dot, spot_after_operand, is_constant_use, target_fault}
 use Rattle.rhai_grammar.specs.Prelude.{argument_trees, base_tree, bracket_link, member_link, method_tree, primary_tree}
 use Rattle.rhai_grammar.specs.Prelude.{caught, caught_name, counter_of, loop_name, tree, below_global, in_case, Alias}
@@ -29,8 +29,8 @@ use Rattle.rhai_grammar.specs.Spelling.{catch_spelling, conditional_spelling, co
 use Rattle.rhai_grammar.specs.Spelling.{statement_spelling, alias_spelling, path_spelling, closure_body_spelling}
 use Rattle.rhai_grammar.specs.Spelling.{closure_parameter_spelling, action_spelling, arm_spelling, case_spelling}
 use Rattle.rhai_grammar.specs.Spelling.{comma_spelling, guard_spelling}
-use Rattle.rhai_grammar.specs.declared.role.OperandPlace.{OperandPlace}
-use Rattle.rhai_grammar.specs.declared.role.OperandPlace.TheVariants as place
+use Rattle.rhai_grammar.specs.declared.role.OperandRole.{OperandRole}
+use Rattle.rhai_grammar.specs.declared.role.OperandRole.TheVariants as place
 use Rattle.rhai_grammar.specs.Forms as form
 use Rattle.rhai_grammar.specs.declared.list.CommaList.{CommaList}
 use Rattle.rhai_grammar.specs.declared.list.CommaList.TheVariants as lists
@@ -187,7 +187,7 @@ separated None itself k = next here
 separated (Some at) itself k = tok here
 
 mutual
-  pub primary : (x : Primary) (c : Context) (w : Live) (p : OperandPlace) (k : Demands)
+  pub primary : (x : Primary) (c : Context) (w : Live) (p : OperandRole) (k : Demands)
       → Leads code code (primary_spelling x) (W.primary x c w p k) k
   primary (form.Value token at) c w p k = shape (λ e. tok here)
   primary (form.Named name at) c w p k = tok (uses here)
@@ -210,7 +210,7 @@ mutual
   closure_body (form.Runs f) c w k = next (statement f c w k)
   closure_body (form.NoBody at) c w k = ahead here
 
-  pub base : (x : Base) (c : Context) (w : Live) (p : OperandPlace) (k : Demands)
+  pub base : (x : Base) (c : Context) (w : Live) (p : OperandRole) (k : Demands)
       → Leads code code (base_spelling x) (W.base x c w p k) k
   base (form.Plain x names) c w p k =
       on (primary x c w p _) (all_of (on (path names w.imports (primary_tree x w (is_scoped names)) _) (next here)))
@@ -242,7 +242,7 @@ mutual
       shape (λ d. shape (λ e. tok (next (test (tok (next (tok
       (on (arguments args V.list_due (level_up q.settings) w name_at _) (links more (spot_after_dot q l) w k)))))))))
 
-  pub operand : (x : Operand) (c : Context) (w : Live) (p : OperandPlace) (k : Demands)
+  pub operand : (x : Operand) (c : Context) (w : Live) (p : OperandRole) (k : Demands)
       → Leads code code (operand_spelling x) (W.operand x c w p k) k
   operand (form.Linked x list) c w p k =
       on (base x c w p _) (all_of (on (links list (spot_after_operand c (base_tree x w)) w _)
@@ -287,7 +287,7 @@ mutual
       tok (test (on (block f (level_up c) w _) (tok (segments rest c w start k))))
 
   pub run : (f : Run) (q : Spot) (k : Demands) → Leads code code (spelling f) (W.run f q k) k
-  run (form.Just x) q k = all_of (on (operand x q.first q.live (place_of q.side) _) (next (raised q.side here)))
+  run (form.Just x) q k = all_of (on (operand x q.first q.live (role_of q.side) _) (next (raised q.side here)))
   run (form.Binary op at l r) q k =
       let side = right_side op (height_after q l) q.live in
       on (run l q _)

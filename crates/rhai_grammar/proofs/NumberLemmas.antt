@@ -11,7 +11,7 @@ use Rattle.rhai_grammar.specs.Prelude.{Conditional, Construct, Elements, ExprSta
 use Rattle.rhai_grammar.specs.Prelude.{JumpValue, Links, Operand, Owner, ParameterList, Primary, Run, Segments}
 use Rattle.rhai_grammar.specs.Prelude.{Statement, Statements, in_function, parameter_names, parameters_live}
 use Rattle.rhai_grammar.specs.Prelude.{is_qualified, module_fault, joining, effect, plain_sign, LinkSpot, Spot}
-use Rattle.rhai_grammar.specs.Prelude.{height_after, place_of, right_side, spot_after_bracket, spot_after_dot}
+use Rattle.rhai_grammar.specs.Prelude.{height_after, role_of, right_side, spot_after_bracket, spot_after_dot}
 use Rattle.rhai_grammar.specs.Prelude.{spot_after_operand, action_ends, Collected, arm_fault, nothing_collected}
 use Rattle.rhai_grammar.specs.Prelude.{with_arm_collected, is_constant_use, target_fault, AllWellNumbered, WellNumbered}
 use Rattle.rhai_grammar.specs.Prelude.{WellNumberedBlock, WellNumberedFunction, WellNumberedStatement}
@@ -28,8 +28,8 @@ use Rattle.rhai_grammar.specs.Verdicts as V
 use Rattle.rhai_grammar.specs.Written as W
 use Rattle.rhai_grammar.specs.declared.role.Closing.{Closing}
 use Rattle.rhai_grammar.specs.declared.role.Closing.TheVariants.{Brace, EndMark}
-use Rattle.rhai_grammar.specs.declared.role.OperandPlace.{OperandPlace}
-use Rattle.rhai_grammar.specs.declared.role.OperandPlace.TheVariants as place
+use Rattle.rhai_grammar.specs.declared.role.OperandRole.{OperandRole}
+use Rattle.rhai_grammar.specs.declared.role.OperandRole.TheVariants as place
 use Rattle.rhai_grammar.proofs.NumberSteps as N
 use Rattle.rhai_grammar.proofs.NumberSteps.{AllLinks, IsCollected}
 use Rattle.rhai_grammar.proofs.SlotLemmas.{latest_number}
@@ -72,7 +72,7 @@ closure head f number us h =
 
 -- a closure whose body is right
 a_closure : (head : ClosureHead) (f : ClosureBody) (number : ℕ) (us : List Use) (c : Context) (w : Live)
-    (p : OperandPlace) (k : Demands)
+    (p : OperandRole) (k : Demands)
     → Gives (WellNumberedStatement (names (parameters_live (declared_names head))) (T.body_tree f (parameters_live (declared_names head))))
     (W.closure_body f (level_up (in_closure c w)) (parameters_live (declared_names head)) Nothing) Nothing
     → Gives (WellNumberedFunction (names_of us) (declared_names head) (closure_tree head f number us))
@@ -108,7 +108,7 @@ a_function comments is_private at owner name name_at list opening f c w k body =
 -- ---- forms
 
 mutual
-  pub primary : (x : Primary) (called : Bool) (c : Context) (w : Live) (p : OperandPlace) (k : Demands) → Uncalled x w called k
+  pub primary : (x : Primary) (called : Bool) (c : Context) (w : Live) (p : OperandRole) (k : Demands) → Uncalled x w called k
       → Gives (called ≡ false → WellNumbered (names w) (primary_tree x w false)) (W.primary x c w p k) k
   primary (form.Value token at) called c w p k u = shape (λ e. gets (λ h d. N.value (names w) token at) (tok here))
   primary (form.Named name at) called c w p k u = gets (λ h d. N.named name w.slots) (tok (uses here))
@@ -139,7 +139,7 @@ mutual
   closure_body (form.Runs f) c w k = next (statement f c w k)
   closure_body (form.NoBody at) c w k = ahead here
 
-  pub base : (x : Base) (c : Context) (w : Live) (p : OperandPlace) (k : Demands)
+  pub base : (x : Base) (c : Context) (w : Live) (p : OperandRole) (k : Demands)
       → Gives (WellNumbered (names w) (base_tree x w)) (W.base x c w p k) k
   base (form.Plain x form.NoPath) c w p k =
       up_to (gets (λ h. h refl) (primary x false c w p _ (λ d s t m. m.1.0))) (next (next here))
@@ -175,7 +175,7 @@ mutual
       shape (λ d. shape (λ e. tok (next (test (tok (next (tok
       (on (arguments args V.list_due (level_up q.settings) w name_at _) (links more (spot_after_dot q l) w k)))))))))
 
-  pub operand : (x : Operand) (c : Context) (w : Live) (p : OperandPlace) (k : Demands)
+  pub operand : (x : Operand) (c : Context) (w : Live) (p : OperandRole) (k : Demands)
       → Gives (WellNumbered (names w) (T.operand_tree x w)) (W.operand x c w p k) k
   operand (form.Linked x list) c w p k =
       gets (λ h. N.chains (names w) (base_tree x w) (T.link_list list w) h.0 h.1)
@@ -225,7 +225,7 @@ mutual
       (tok (test (on (block f opening (level_up c) w _) (tok (segments rest c w start k)))))
 
   pub run : (f : Run) (q : Spot) (k : Demands) → Gives (WellNumbered (names q.live) (tree f q.live)) (W.run f q k) k
-  run (form.Just x) q k = up_to (operand x q.first q.live (place_of q.side) _) (next (raised q.side))
+  run (form.Just x) q k = up_to (operand x q.first q.live (role_of q.side) _) (next (raised q.side))
   run (form.Binary op at l r) q k =
       let side = right_side op (height_after q l) q.live in
       gets (λ h. N.operator (names q.live) (joining op) op at (tree l q.live) (tree r q.live) h.0 h.1)

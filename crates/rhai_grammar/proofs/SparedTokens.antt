@@ -28,18 +28,18 @@ use Rattle.rhai_grammar.specs.declared.list.CommaList.{CommaList}
 use Rattle.rhai_grammar.specs.declared.list.CommaList.TheVariants as lists
 use Rattle.rhai_grammar.specs.declared.role.AfterStatement.{AfterStatement}
 use Rattle.rhai_grammar.specs.declared.role.AfterStatement.TheVariants as after
-use Rattle.rhai_grammar.specs.declared.role.ArmPlace.{ArmPlace}
-use Rattle.rhai_grammar.specs.declared.role.ArmPlace.TheVariants as arm
+use Rattle.rhai_grammar.specs.declared.role.ArmRole.{ArmRole}
+use Rattle.rhai_grammar.specs.declared.role.ArmRole.TheVariants as arm
 use Rattle.rhai_grammar.specs.declared.role.Calling.{Calling}
 use Rattle.rhai_grammar.specs.declared.role.Calling.TheVariants as call
 use Rattle.rhai_grammar.specs.declared.role.Closing.{Closing}
-use Rattle.rhai_grammar.specs.declared.role.ItemPlace.{ItemPlace}
-use Rattle.rhai_grammar.specs.declared.role.ItemPlace.TheVariants as place
-use Rattle.rhai_grammar.specs.declared.role.OperandPlace.{OperandPlace}
+use Rattle.rhai_grammar.specs.declared.role.ItemRole.{ItemRole}
+use Rattle.rhai_grammar.specs.declared.role.ItemRole.TheVariants as place
+use Rattle.rhai_grammar.specs.declared.role.OperandRole.{OperandRole}
 use Rattle.rhai_grammar.specs.declared.role.OperandStart.{OperandStart}
 use Rattle.rhai_grammar.specs.declared.role.OperandStart.TheVariants as start
-use Rattle.rhai_grammar.specs.declared.role.StatementPlace.{StatementPlace}
-use Rattle.rhai_grammar.specs.declared.role.StatementPlace.TheVariants as stands
+use Rattle.rhai_grammar.specs.declared.role.StatementRole.{StatementRole}
+use Rattle.rhai_grammar.specs.declared.role.StatementRole.TheVariants as stands
 use Rattle.rhai_grammar.specs.declared.role.StatementStart.{StatementStart}
 use Rattle.rhai_grammar.specs.declared.role.StatementStart.TheVariants as begins
 use Rattle.rhai_grammar.proofs.Duplicates.{Spares, either, is_duplicate}
@@ -100,7 +100,7 @@ beginning_due : (c : Context) (l : Lexeme) (x : OperandStart) → is_duplicate (
 beginning_due c l start.Written = search (either is_duplicate, no_operand)
 beginning_due c l _ = refl
 
-pub operand_due : (c : Context) (p : OperandPlace) → Spares (V.operand_due c p)
+pub operand_due : (c : Context) (p : OperandRole) → Spares (V.operand_due c p)
 operand_due c p l = beginning_due c l (T.operand_start p l)
 
 pub after_name : (c : Context) (w : Live) (name : Text) (at : Position) (library : Library)
@@ -162,8 +162,8 @@ run_ends filter l = by (follower_of filter l)
 pub side_ends : (filter : ExprFilter) (op : Lexeme) → Spares (V.side_ends filter op)
 side_ends filter op l = search (either is_duplicate)
 
-pub room_due : (c : Context) → Spares (V.room_due c)
-room_due c l = search (either is_duplicate)
+pub raise_due : (c : Context) → Spares (V.raise_due c)
+raise_due c l = search (either is_duplicate)
 
 pub end_due : Spares V.end_due
 end_due l = search (either is_duplicate, unexpected)
@@ -186,36 +186,36 @@ following_at parts l _ = refl
 pub following_due : (parts : CommaList) → Spares (V.following_due parts)
 following_due parts l = following_at parts l (after_part parts l)
 
-item_at : (limit : ℕ) (l : Lexeme) (x : ItemPlace) → is_duplicate (V.item_at limit l x) ≡ false
+item_at : (limit : ℕ) (l : Lexeme) (x : ItemRole) → is_duplicate (V.item_at limit l x) ≡ false
 item_at limit l place.Nothing = no_item limit l
 item_at limit l _ = refl
 
 pub item_due : (limit count : ℕ) → Spares (V.item_due limit count)
-item_due limit count l = item_at limit l (L.item_place limit count l)
+item_due limit count l = item_at limit l (L.item_role limit count l)
 
-no_item_at : (limit : ℕ) (l : Lexeme) (x : ItemPlace) → is_duplicate (V.no_item_at limit l x) ≡ false
+no_item_at : (limit : ℕ) (l : Lexeme) (x : ItemRole) → is_duplicate (V.no_item_at limit l x) ≡ false
 no_item_at limit l place.Nothing = no_item limit l
 no_item_at limit l _ = refl
 
 pub no_item_due : (limit count : ℕ) → Spares (V.no_item_due limit count)
-no_item_due limit count l = no_item_at limit l (L.item_place limit count l)
+no_item_due limit count l = no_item_at limit l (L.item_role limit count l)
 
 sign_key : (first : Bool) (t : Token) → is_duplicate (V.key_at (L.sign_key first t)) ≡ false
 sign_key first RightBrace = refl
 sign_key first EOF = refl
 sign_key first t = no_key first (Sign t)
 
-key_place : (quoted first : Bool) (l : Lexeme) → is_duplicate (V.key_at (L.key_place quoted first l)) ≡ false
-key_place quoted first (String t) = refl
-key_place true first (Name t) = refl
-key_place false first (Name t) = refl
-key_place quoted first (Interpolated t) = refl
-key_place quoted first (Reserved t) = search (either duplicates_closure, no_key)
-key_place quoted first (Sign t) = sign_key first t
-key_place quoted first l = no_key first l
+key_role : (quoted first : Bool) (l : Lexeme) → is_duplicate (V.key_at (L.key_role quoted first l)) ≡ false
+key_role quoted first (String t) = refl
+key_role true first (Name t) = refl
+key_role false first (Name t) = refl
+key_role quoted first (Interpolated t) = refl
+key_role quoted first (Reserved t) = search (either duplicates_closure, no_key)
+key_role quoted first (Sign t) = sign_key first t
+key_role quoted first l = no_key first l
 
 pub key_due : (c : Context) (before : Properties) → Spares (V.key_due c before)
-key_due c before l = key_place _ _ l
+key_due c before l = key_role _ _ l
 
 pub value_due : (limit count : ℕ) → Spares (V.value_due limit count)
 value_due limit count l = search (either is_duplicate)
@@ -226,16 +226,16 @@ text_due l = search (either is_duplicate, unexpected)
 -- ---- tokens in statements
 
 pub list_ends : (closing : Closing) → Spares (S.list_ends closing)
-list_ends closing l = by (S.statement_place closing l)
+list_ends closing l = by (S.statement_role closing l)
   where
-    by : (x : StatementPlace) → is_duplicate (S.list_ends_at l x) ≡ false
+    by : (x : StatementRole) → is_duplicate (S.list_ends_at l x) ≡ false
     by stands.Nothing = missing _ l
     by _ = refl
 
 pub statement_begins : (closing : Closing) → Spares (S.statement_begins closing)
-statement_begins closing l = by (S.statement_place closing l)
+statement_begins closing l = by (S.statement_role closing l)
   where
-    by : (x : StatementPlace) → is_duplicate (S.begins_at l x) ≡ false
+    by : (x : StatementRole) → is_duplicate (S.begins_at l x) ≡ false
     by stands.Statement = refl
     by _ = refl
 
@@ -300,7 +300,7 @@ loop_variable_due l = search (either is_duplicate, name_due)
 pub without_value : Spares S.without_value
 without_value l = search (either is_duplicate)
 
-pub jump_stands : (p : OperandPlace) → Spares (T.jump_stands p)
+pub jump_stands : (p : OperandRole) → Spares (T.jump_stands p)
 jump_stands p l = by (T.operand_start p l)
   where
     by : (x : OperandStart) → is_duplicate (T.jump_at x) ≡ false
@@ -332,25 +332,25 @@ pub do_end_due : Spares C.do_end_due
 do_end_due l = do_ends_by l (C.do_end l)
 
 pub arm_begins : Spares A.arm_begins
-arm_begins l = by (A.arm_place l)
+arm_begins l = by (A.arm_role l)
   where
-    by : (x : ArmPlace) → is_duplicate (A.arm_begins_at x) ≡ false
+    by : (x : ArmRole) → is_duplicate (A.arm_begins_at x) ≡ false
     by arm.Case = refl
     by _ = refl
 
-arms_end_at : (l : Lexeme) (x : ArmPlace) → is_duplicate (A.arms_end_at l x) ≡ false
+arms_end_at : (l : Lexeme) (x : ArmRole) → is_duplicate (A.arms_end_at l x) ≡ false
 arms_end_at l arm.Nothing = missing _ l
 arms_end_at l _ = refl
 
 pub arms_end : Spares A.arms_end
-arms_end l = arms_end_at l (A.arm_place l)
+arms_end l = arms_end_at l (A.arm_role l)
 
-default_ends_at : (at : Position) (l : Lexeme) (x : ArmPlace) → is_duplicate (A.default_ends_at at l x) ≡ false
+default_ends_at : (at : Position) (l : Lexeme) (x : ArmRole) → is_duplicate (A.default_ends_at at l x) ≡ false
 default_ends_at at l arm.Nothing = missing _ l
 default_ends_at at l _ = refl
 
 pub default_ends : (at : Position) → Spares (A.default_ends at)
-default_ends at l = default_ends_at at l (A.arm_place l)
+default_ends at l = default_ends_at at l (A.arm_role l)
 
 pub unguarded : Spares A.unguarded
 unguarded l = search (either is_duplicate)
@@ -390,12 +390,12 @@ parameters_by function l _ = no_parameters function l
 pub parameters_due : (function : Text) → Spares (F.parameters_due function)
 parameters_due function l = parameters_by function l (B.calling l)
 
-parameter_by : (parts : CommaList) (l : Lexeme) (x : ItemPlace) → is_duplicate (F.parameter_by parts l x) ≡ false
+parameter_by : (parts : CommaList) (l : Lexeme) (x : ItemRole) → is_duplicate (F.parameter_by parts l x) ≡ false
 parameter_by parts l place.Nothing = no_parameter parts l
 parameter_by parts l _ = refl
 
 pub parameter_due : (parts : CommaList) → Spares (F.parameter_due parts)
-parameter_due parts l = parameter_by parts l (F.parameter_place parts l)
+parameter_due parts l = parameter_by parts l (F.parameter_role parts l)
 
 pub body_due : (function : Text) → Spares (F.body_due function)
 body_due function l = search (either is_duplicate, no_body)

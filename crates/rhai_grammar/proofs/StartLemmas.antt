@@ -9,7 +9,7 @@ use Rattle.rhai_grammar.specs.Prelude.{Body, Operand, Primary, Run, outermost, b
 use Rattle.rhai_grammar.specs.Prelude.{bars_token, adding, apart, may_begin, may_be_closure, closure_tree}
 use Rattle.rhai_lower.specs.Lexemes.{Character, Comment}
 use Rattle.rhai_lower.specs.declared.token.Token.TheVariants as token
-use Rattle.rhai_grammar.specs.declared.role.OperandPlace.TheVariants.{Elsewhere}
+use Rattle.rhai_grammar.specs.declared.role.OperandRole.TheVariants.{Elsewhere}
 use Rattle.rhai_grammar.specs.Contexts.{has_block_values, has_if_values, has_loop_values, has_switch_values}
 use Rattle.rhai_grammar.specs.Forms as form
 use Rattle.rhai_grammar.specs.StartLaws.{IsBegun, StartsOfExpressions, is_added}

@@ -210,19 +210,19 @@ abbrev pub may_be_method : Text → Bool
 may_be_method word = method_part (reserved_as word)
 
 -- what comes after a dot
-pub data MemberPlace : Type 0 where
-  AMember : MemberPlace
+pub data MemberRole : Type 0 where
+  AMember : MemberRole
   -- no member, and the error for that
-  NoMember : Cause → MemberPlace
+  NoMember : Cause → MemberRole
 
 -- A member is a name, or a reserved word that may be called as a method.
-abbrev pub member_place : Lexeme → MemberPlace
-member_place (Name t) = AMember
-member_place (Reserved t) = if may_be_method t then AMember else NoMember (cause.Reserved t)
-member_place (Faulty f) = NoMember (cause.BadInput (cause.Lexer f))
-member_place l = NoMember cause.PropertyExpected
+abbrev pub member_role : Lexeme → MemberRole
+member_role (Name t) = AMember
+member_role (Reserved t) = if may_be_method t then AMember else NoMember (cause.Reserved t)
+member_role (Faulty f) = NoMember (cause.BadInput (cause.Lexer f))
+member_role l = NoMember cause.PropertyExpected
 
-abbrev pub is_member : MemberPlace → Bool
+abbrev pub is_member : MemberRole → Bool
 is_member AMember = true
 is_member _ = false
 

@@ -22,7 +22,7 @@ use Rattle.rhai_grammar.specs.Uses.{Use, names_of}
 use Rattle.rhai_grammar.specs.UsesOfForms.{HoldsFirst, ended_in, events, first_uses, free_uses, own_events}
 use Rattle.rhai_grammar.specs.UsesOfForms.{primary_events, script_events, statement_events, uses_in, with_uses}
 use Rattle.rhai_grammar.specs.Written.{primary, statement, whole_expression, whole_script}
-use Rattle.rhai_grammar.specs.declared.role.OperandPlace.{OperandPlace}
+use Rattle.rhai_grammar.specs.declared.role.OperandRole.{OperandRole}
 
 -- the names of variables
 abbrev pub names_in : Nodes → List Text
@@ -71,11 +71,11 @@ AreDistinct before (name ∷ names) = (is_among name before ≡ false) × AreDis
 -- A closure that fits captures each name once. Where it ends in a closure, a name that it captures has a slot there, or
 -- is that of a function that has ended; otherwise the closure around it captures the name, too.
 pub record CapturedAreUsed : Type 0 where
-  pub distinct : (context : Context) (live : Live) (place : OperandPlace) (head : ClosureHead) (body : ClosureBody)
+  pub distinct : (context : Context) (live : Live) (place : OperandRole) (head : ClosureHead) (body : ClosureBody)
       (n : ℕ) (captured : List Use) (s t : Point)
       → Met (primary (Closure head body n captured) context live place Nothing) s t
       → AreDistinct [] (names_of captured)
-  pub around : (context : Context) (live : Live) (place : OperandPlace) (head : ClosureHead) (body : ClosureBody)
+  pub around : (context : Context) (live : Live) (place : OperandRole) (head : ClosureHead) (body : ClosureBody)
       (n : ℕ) (captured : List Use) (s t : Point)
       → Met (primary (Closure head body n captured) context live place Nothing) s t
       → in_closure context.settings ≡ true → (name : Text) → is_among name (names_of captured) ≡ true
@@ -86,11 +86,11 @@ pub record CapturedAreUsed : Type 0 where
 -- function that has ended bears, each at its first use. Its number is the count of the closures that have ended before
 -- it, those in its body among them. In the form around it, its uses are the names that it captures.
 pub record CapturedAreFreeUses : Type 0 where
-  pub captured : (context : Context) (live : Live) (place : OperandPlace) (head : ClosureHead) (body : ClosureBody)
+  pub captured : (context : Context) (live : Live) (place : OperandRole) (head : ClosureHead) (body : ClosureBody)
       (n : ℕ) (captured : List Use) (s t : Point)
       → Met (primary (Closure head body n captured) context live place Nothing) s t
       → captured ≡ first_uses (free_uses (own_events head body) s.library)
-  pub number : (context : Context) (live : Live) (place : OperandPlace) (head : ClosureHead) (body : ClosureBody)
+  pub number : (context : Context) (live : Live) (place : OperandRole) (head : ClosureHead) (body : ClosureBody)
       (n : ℕ) (captured : List Use) (s t : Point)
       → Met (primary (Closure head body n captured) context live place Nothing) s t
       → n ≡ closure_count (s.library ++ ended_in (own_events head body))

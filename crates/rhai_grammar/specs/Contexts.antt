@@ -117,8 +117,8 @@ abbrev pub has_single_blocks : Context → Bool
 has_single_blocks context = settings.single_blocks context.settings
 
 -- a raise of the level is possible
-abbrev pub has_room : Context → Bool
-has_room context = settings.has_room context.settings
+abbrev pub may_raise : Context → Bool
+may_raise context = settings.may_raise context.settings
 
 -- one level deeper
 abbrev pub level_up : Context → Context

@@ -25,8 +25,8 @@ use Rattle.rhai_grammar.specs.Demands.{Verdict, Fine, Wrong, Blames, Otherwise}
 use Rattle.rhai_grammar.specs.DueTokens.{is_due, not_due}
 use Rattle.rhai_grammar.specs.declared.due.DueToken.TheVariants as due
 use Rattle.rhai_grammar.specs.declared.filter.ExprFilter.TheVariants.{All}
-use Rattle.rhai_grammar.specs.declared.role.ItemPlace.{ItemPlace}
-use Rattle.rhai_grammar.specs.declared.role.ItemPlace.TheVariants as place
+use Rattle.rhai_grammar.specs.declared.role.ItemRole.{ItemRole}
+use Rattle.rhai_grammar.specs.declared.role.ItemRole.TheVariants as place
 use Rattle.rhai_grammar.specs.Forms as form
 use Rattle.rhai_grammar.specs.Forms.{Owner, ParameterList, Parameters}
 use Rattle.rhai_grammar.specs.Keys.{Key, has_key}
@@ -150,14 +150,14 @@ abbrev pub is_keyword : Lexeme → Bool
 is_keyword (Sign t) = is_keyword_sign t
 is_keyword _ = false
 
-abbrev pub place_by : AfterPart → ItemPlace
+abbrev pub place_by : AfterPart → ItemRole
 place_by after.Close = place.End
 place_by _ = place.Nothing
 
 -- what a token is where a parameter of a function or of a closure may be
-abbrev pub parameter_place : CommaList → Lexeme → ItemPlace
-parameter_place parts (Name t) = place.Item
-parameter_place parts l = place_by (after_part parts l)
+abbrev pub parameter_role : CommaList → Lexeme → ItemRole
+parameter_role parts (Name t) = place.Item
+parameter_role parts l = place_by (after_part parts l)
 
 abbrev pub is_reserved_token : Lexeme → Bool
 is_reserved_token (Reserved t) = true
@@ -168,13 +168,13 @@ abbrev pub no_parameter : CommaList → Lexeme → Cause
 no_parameter parts l = if is_reserved_token l then cause.Reserved (text_of l) else
     if is_keyword l then cause.VariableExpected else missing (closing_text parts) l
 
-abbrev pub parameter_by : CommaList → Lexeme → ItemPlace → Verdict
+abbrev pub parameter_by : CommaList → Lexeme → ItemRole → Verdict
 parameter_by parts l place.Nothing = Wrong (no_parameter parts l)
 parameter_by parts l _ = Otherwise
 
 -- where a parameter may be: a name, or what closes the list
 abbrev pub parameter_due : CommaList → Lexeme → Verdict
-parameter_due parts l = parameter_by parts l (parameter_place parts l)
+parameter_due parts l = parameter_by parts l (parameter_role parts l)
 
 -- the names of parameters, after those before
 abbrev pub names_after : Parameters → (before : List Text) → List Text

@@ -60,6 +60,6 @@ pub mod SlotLaws
 pub mod TreeNumbers
 pub mod NumberedLibraries
 pub mod LibraryLaws
-pub mod PlaceLaws
+pub mod PositionLaws
 pub mod Imports
 pub mod Prelude

@@ -30,9 +30,9 @@ use Rattle.rhai_grammar.specs.Delivered.{code, item}
 use Rattle.rhai_grammar.specs.DueTokens.{token_of}
 use Rattle.rhai_grammar.specs.declared.due.DueToken.{DueToken}
 use Rattle.rhai_grammar.specs.declared.due.DueToken.TheVariants as due
-use Rattle.rhai_grammar.specs.Contexts.{Context, Live, has_room, level_up}
+use Rattle.rhai_grammar.specs.Contexts.{Context, Live, may_raise, level_up}
 use Rattle.rhai_grammar.specs.Beginnings.{linking, is_dot}
-use Rattle.rhai_grammar.specs.Beginnings.{member_place, is_member}
+use Rattle.rhai_grammar.specs.Beginnings.{member_role, is_member}
 use Rattle.rhai_grammar.specs.declared.list.CommaList.{CommaList}
 use Rattle.rhai_grammar.specs.CommaLists.{closing_of}
 use Rattle.rhai_grammar.specs.Literals.{is_key, has_key}
@@ -46,7 +46,7 @@ use Rattle.rhai_grammar.specs.Demands.{Test, Shape, Verdict, Otherwise, ◌▸�
 use Rattle.rhai_grammar.specs.Verdicts.{unless_due, anything, member_due, no_bang, unqualified}
 use Rattle.rhai_grammar.specs.Verdicts.{after_method}
 use Rattle.rhai_grammar.specs.Verdicts.{following_due, next_key, key_due}
-use Rattle.rhai_grammar.specs.Verdicts.{value_due, run_ends, side_ends, room_due}
+use Rattle.rhai_grammar.specs.Verdicts.{value_due, run_ends, side_ends, raise_due}
 use Rattle.rhai_grammar.specs.Spots.{Height, Side, Spot, outermost}
 use Rattle.rhai_grammar.specs.Spots.{LinkSpot}
 use Rattle.rhai_grammar.specs.Spots.{Outermost, RightOf}
@@ -72,10 +72,10 @@ closed_at parts at more = Tok code (item (Sign (closing_of parts)) at) (followin
 
 -- the level is raised, or that is refused
 abbrev pub raise : Height → Demands → Demands
-raise height more = Test (has_room height.settings) (refusal cause.ExprTooDeep height.at) ▸ more
+raise height more = Test (may_raise height.settings) (refusal cause.ExprTooDeep height.at) ▸ more
 
 abbrev pub raise_at : Context → Position → Demands → Demands
-raise_at context at more = Test (has_room context) (refusal cause.ExprTooDeep at) ▸ more
+raise_at context at more = Test (may_raise context) (refusal cause.ExprTooDeep at) ▸ more
 
 -- After an operator's right operand its level is raised: for the nested run that begins there, and for what follows.
 abbrev pub raise_after : Side → Demands → Demands
@@ -84,7 +84,7 @@ raise_after (RightOf op height) more = raise height more
 
 -- the two ends of an expression
 abbrev pub begun : Context → Demands → Demands
-begun context more = Next (room_due context) ▸ more
+begun context more = Next (raise_due context) ▸ more
 
 abbrev pub ended : Context → Demands → Demands
 ended context more = Next (run_ends context.filter) ▸ more
@@ -131,7 +131,7 @@ banged true bang more = Next (no_bang bang) ▸ more
 -- a dot with the name of a method
 abbrev pub method : (dot : Lexeme) (at : Position) (name : Lexeme) (name_at : Position) → LinkSpot → Demands → Demands
 method dot at name name_at spot more =
-    Shape (is_dot (linking dot)) ▸ Shape (is_member (member_place name)) ▸
+    Shape (is_dot (linking dot)) ▸ Shape (is_member (member_role name)) ▸
     Tok code (item dot at) anything ▸ Next member_due ▸ raise_at spot.settings at (
     Tok code (item name name_at) anything ▸ Next (after_method name name_at) ▸ more)
 

@@ -1,8 +1,8 @@
 -- Names that most proofs import.
-pub use Rattle.rhai_grammar.specs.Beginnings.{AMember, MemberPlace, NoMember, beginning, calling, calls, excludes_use}
+pub use Rattle.rhai_grammar.specs.Beginnings.{AMember, MemberRole, NoMember, beginning, calling, calls, excludes_use}
 pub use Rattle.rhai_grammar.specs.Beginnings.{is_begun, is_bracket, is_dot, is_link, is_list, is_member, is_name}
 pub use Rattle.rhai_grammar.specs.Beginnings.{is_range, is_sign, is_this, is_value, linking, may_be_called}
-pub use Rattle.rhai_grammar.specs.Beginnings.{member_place, missing, no_operand, qualifies, unexpected, value_of}
+pub use Rattle.rhai_grammar.specs.Beginnings.{member_role, missing, no_operand, qualifies, unexpected, value_of}
 pub use Rattle.rhai_grammar.specs.CaseValues.{same_value}
 pub use Rattle.rhai_grammar.specs.Causes.{Cause, ExprTooDeep, MemoryIsNowhere, Refusal, as_literal, is_memory_cause}
 pub use Rattle.rhai_grammar.specs.Causes.{out_of_memory, refusal}
@@ -17,7 +17,7 @@ unfoldable pub use Rattle.rhai_grammar.specs.Comments.{kept_after, kept_comments
 pub use Rattle.rhai_grammar.specs.Constructs.{construct_token, do_end, do_end_due, do_token, guard_begins}
 pub use Rattle.rhai_grammar.specs.Constructs.{guard_expected, guard_fault, iterated_fault, kind_of, may_be_value}
 pub use Rattle.rhai_grammar.specs.Constructs.{may_stand, no_assignment}
-pub use Rattle.rhai_grammar.specs.Contexts.{Context, Live, allows_looping, below_global, full, has_room}
+pub use Rattle.rhai_grammar.specs.Contexts.{Context, Live, allows_looping, below_global, full, may_raise}
 pub use Rattle.rhai_grammar.specs.Contexts.{has_single_blocks, in_block, in_case, is_global, is_in_loop, level_up}
 pub use Rattle.rhai_grammar.specs.Contexts.{loop_body}
 pub use Rattle.rhai_grammar.specs.Cursors.{Cursor}
@@ -43,7 +43,7 @@ pub use Rattle.rhai_grammar.specs.Forms.{Operand, Owner, ParameterList, Paramete
 pub use Rattle.rhai_grammar.specs.Forms.{Statement, Statements}
 pub use Rattle.rhai_grammar.specs.Functions.{after_type, duplicate_of, ended_function, in_function, is_new, is_type}
 pub use Rattle.rhai_grammar.specs.Functions.{may_begin, names_after, no_function_name, owner_of, parameter_names}
-pub use Rattle.rhai_grammar.specs.Functions.{parameter_place, parameters_live, type_or_name_due, untyped}
+pub use Rattle.rhai_grammar.specs.Functions.{parameter_role, parameters_live, type_or_name_due, untyped}
 unfoldable pub use Rattle.rhai_grammar.specs.Functions.{names_function}
 pub use Rattle.rhai_grammar.specs.Imports.{is_among}
 unfoldable pub use Rattle.rhai_grammar.specs.Imports.{module_number}
@@ -51,7 +51,7 @@ pub use Rattle.rhai_grammar.specs.Interpolations.{added_text, is_last_text, is_t
 pub use Rattle.rhai_grammar.specs.Keys.{is_closure}
 pub use Rattle.rhai_grammar.specs.Laws.{IsFair, is_refused}
 pub use Rattle.rhai_grammar.specs.Libraries.{Ended, Library, closure_count, is_function, keys_in, with_ended}
-pub use Rattle.rhai_grammar.specs.Literals.{AKey, FieldsEnd, KeyPlace, NoKey, has_key, is_key, item_place, key_place}
+pub use Rattle.rhai_grammar.specs.Literals.{AKey, FieldsEnd, KeyRole, NoKey, has_key, is_key, item_role, key_role}
 pub use Rattle.rhai_grammar.specs.Literals.{property_count}
 pub use Rattle.rhai_grammar.specs.Modules.{captures_use, is_captured, is_qualified, is_scoped, may_capture, may_use}
 pub use Rattle.rhai_grammar.specs.Modules.{module_fault, path_tree, qualified}
@@ -68,15 +68,15 @@ pub use Rattle.rhai_grammar.specs.Signs.{affected, effect, malformed, plain_sign
 unfoldable pub use Rattle.rhai_grammar.specs.Slots.{number}
 pub use Rattle.rhai_grammar.specs.Spelling.{script_spelling, spelling}
 pub use Rattle.rhai_grammar.specs.Spots.{Height, LinkSpot, Outermost, RightOf, Side, Spot, filter_of, height_after}
-pub use Rattle.rhai_grammar.specs.Spots.{left_fits, outermost, place_of, right_side, side_fits, spot_after_bracket}
+pub use Rattle.rhai_grammar.specs.Spots.{left_fits, outermost, role_of, right_side, side_fits, spot_after_bracket}
 pub use Rattle.rhai_grammar.specs.Spots.{spot_after_dot, spot_after_operand}
 pub use Rattle.rhai_grammar.specs.Starts.{begins, is_omitted, jump_token, may_be_closure, no_value_follows}
-pub use Rattle.rhai_grammar.specs.Starts.{operand_start, place_after, starts, value_follows}
+pub use Rattle.rhai_grammar.specs.Starts.{operand_start, role_after, starts, value_follows}
 pub use Rattle.rhai_grammar.specs.Statements.{defines, ends_itself, is_comment, keyword_of, name_due, no_variable}
 pub use Rattle.rhai_grammar.specs.Statements.{statement_start, token_after_statement}
 pub use Rattle.rhai_grammar.specs.Strengths.{Follower, Operator, Other, Unknown, follower_of, is_operator, is_right}
 pub use Rattle.rhai_grammar.specs.Strengths.{right_of, strength}
-pub use Rattle.rhai_grammar.specs.Switches.{Collected, action_due, arm_begins, arm_fault, arm_place, ends_arm}
+pub use Rattle.rhai_grammar.specs.Switches.{Collected, action_due, arm_begins, arm_fault, arm_role, ends_arm}
 pub use Rattle.rhai_grammar.specs.Switches.{nothing_collected, switch_tree, unguarded, with_arm_collected, with_case}
 pub use Rattle.rhai_grammar.specs.Switches.{with_cases, with_default_collected, with_value}
 pub use Rattle.rhai_grammar.specs.Targets.{is_assignment, is_constant_use, is_equals, target_fault}
@@ -94,7 +94,7 @@ pub use Rattle.rhai_grammar.specs.Uses.{Use, names_of, noted}
 pub use Rattle.rhai_grammar.specs.UsesOfForms.{Event, HasEnded, HoldsFirst, Used, as_called, ended_in, ends_only}
 pub use Rattle.rhai_grammar.specs.UsesOfForms.{events, free_uses, is_free, primary_events, script_events}
 pub use Rattle.rhai_grammar.specs.UsesOfForms.{statement_events, used_at}
-pub use Rattle.rhai_grammar.specs.Verdicts.{end_due, operator_known, room_due, run_ends}
+pub use Rattle.rhai_grammar.specs.Verdicts.{end_due, operator_known, raise_due, run_ends}
 pub use Rattle.rhai_grammar.specs.Written.{operands_fit, raise_after, unfaulted}
 pub use Rattle.rhai_lower.specs.Lexemes.{Faulty, Integer, Interpolated, Lexeme, Name, Reserved, Sign, String, text_of}
 pub use Rattle.rhai_lower.specs.Names.{is_identifier}

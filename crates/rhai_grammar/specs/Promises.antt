@@ -2,7 +2,7 @@
 use Rattle.std.specs.Prelude.{◌≡◌, ◌⊎◌, Bool, true, false, List, [], Result, Ok, Err, IfOk, IfErr}
 use Rattle.rhai_grammar.specs.Causes.{Refusal, refusal_of, is_for_memory}
 use Rattle.rhai_grammar.specs.Delivered.{Mode, text, Taken, Point, is_memory}
-use Rattle.rhai_grammar.specs.Cursors.{Cursor, asked}
+use Rattle.rhai_grammar.specs.Cursors.{Cursor, next_item}
 use Rattle.rhai_grammar.specs.Seen.{Gives, leads, TakenIn, mode_after, latest_first, BeginsWith}
 use Rattle.rhai_grammar.specs.Seen.{Readable, StandsAtLast}
 use Rattle.rhai_grammar.specs.Contexts.{Context, Live}
@@ -50,7 +50,7 @@ pub record Saw (taken : List Taken) (start left : Cursor) : Type 0 where
 -- The tokenizer had memory for all that was seen.
 pub record IsReadable (taken : List Taken) (left : Cursor) : Type 0 where
   pub tokens : Readable (latest_first taken [])
-  pub peeked : left.peeked ≡ true → is_memory (asked left).lexeme ≡ false
+  pub peeked : left.peeked ≡ true → is_memory (next_item left).lexeme ≡ false
 
 -- The mode of the next request is code mode if a token was taken, and otherwise what it was; only after a refusal it
 -- may be text mode, where a text was due and another token was peeked.

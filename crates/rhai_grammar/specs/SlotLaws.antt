@@ -25,7 +25,7 @@ use Rattle.rhai_grammar.specs.TreeNumbers.{WellNumberedStatements, names_after_a
 use Rattle.rhai_grammar.specs.Trees.{closure_tree, function_tree, primary_tree, statement_trees, tree, variable_of}
 use Rattle.rhai_grammar.specs.Uses.{Use, names_of}
 use Rattle.rhai_grammar.specs.Written.{primary, statement}
-use Rattle.rhai_grammar.specs.declared.role.OperandPlace.{OperandPlace}
+use Rattle.rhai_grammar.specs.declared.role.OperandRole.{OperandRole}
 
 -- A name that has a number in its tree is not called, that is not directly before what calls it or before `::`; and the
 -- slot with that number is the latest of the name.
@@ -110,7 +110,7 @@ pub record TreesAreWellNumbered : Type 0 where
       AreNumbered (expressions context live) (λ f. WellNumbered (names_in live.slots) (tree f live))
   pub script : (context : Context) (live : Live) →
       AreNumbered (scripts context live) (λ fs. WellNumberedStatements (names_in live.slots) (statement_trees fs live))
-  pub closure : (context : Context) (live : Live) (place : OperandPlace) (head : ClosureHead) (body : ClosureBody)
+  pub closure : (context : Context) (live : Live) (place : OperandRole) (head : ClosureHead) (body : ClosureBody)
       (n : ℕ) (captured : List Use) (s t : Point)
       → Met (primary (Closure head body n captured) context live place Nothing) s t
       → WellNumberedFunction (names_of captured) (declared_names head) (closure_tree head body n captured)

@@ -5,9 +5,9 @@ use Rattle.rhai_lower.specs.Nodes.{Node, position_of}
 use Rattle.rhai_lower.specs.declared.position.Position.{Position}
 use Rattle.rhai_grammar.specs.declared.filter.ExprFilter.{ExprFilter}
 use Rattle.rhai_grammar.specs.Contexts.{Context, Live, level_up}
-use Rattle.rhai_grammar.specs.Starts.{place_after}
-use Rattle.rhai_grammar.specs.declared.role.OperandPlace.{OperandPlace}
-use Rattle.rhai_grammar.specs.declared.role.OperandPlace.TheVariants.{Elsewhere}
+use Rattle.rhai_grammar.specs.Starts.{role_after}
+use Rattle.rhai_grammar.specs.declared.role.OperandRole.{OperandRole}
+use Rattle.rhai_grammar.specs.declared.role.OperandRole.TheVariants.{Elsewhere}
 use Rattle.rhai_grammar.specs.Strengths.{Follower, follower_of, left_of}
 use Rattle.rhai_grammar.specs.Strengths.{right_of}
 use Rattle.rhai_grammar.specs.Forms as form
@@ -52,9 +52,9 @@ height_after spot (form.Binary op at left right) =
     record { settings = level_up (height_after spot left).settings; at = at }
 
 -- where the first operand of a run stands
-abbrev pub place_of : Side → OperandPlace
-place_of Outermost = Elsewhere
-place_of (RightOf op height) = place_after op
+abbrev pub role_of : Side → OperandRole
+role_of Outermost = Elsewhere
+role_of (RightOf op height) = role_after op
 
 -- the filter that says what an operator of a run is, and what stands after one of its operands
 abbrev pub filter_of : Spot → ExprFilter

@@ -12,8 +12,8 @@ use Rattle.rhai_grammar.specs.declared.role.Bars.TheVariants as bars
 use Rattle.rhai_grammar.specs.Demands.{Verdict, Fine, Otherwise}
 use Rattle.rhai_grammar.specs.declared.role.Beginning.{Beginning}
 use Rattle.rhai_grammar.specs.declared.role.Beginning.TheVariants as begin
-use Rattle.rhai_grammar.specs.declared.role.OperandPlace.{OperandPlace}
-use Rattle.rhai_grammar.specs.declared.role.OperandPlace.TheVariants as place
+use Rattle.rhai_grammar.specs.declared.role.OperandRole.{OperandRole}
+use Rattle.rhai_grammar.specs.declared.role.OperandRole.TheVariants as place
 use Rattle.rhai_grammar.specs.declared.role.OperandStart.{OperandStart}
 use Rattle.rhai_grammar.specs.declared.role.OperandStart.TheVariants as start
 
@@ -37,16 +37,16 @@ starts context token = begins context (beginning token)
 
 -- ---- the place of an operand
 
-abbrev pub sign_place : Token → OperandPlace
+abbrev pub sign_place : Token → OperandRole
 sign_place token.ExclusiveRange = place.AfterRange
 sign_place token.InclusiveRange = place.AfterRange
 sign_place token.DoubleQuestion = place.AfterCoalesce
 sign_place _ = place.Elsewhere
 
 -- the place directly after an operator
-abbrev pub place_after : Lexeme → OperandPlace
-place_after (Sign t) = sign_place t
-place_after _ = place.Elsewhere
+abbrev pub role_after : Lexeme → OperandRole
+role_after (Sign t) = sign_place t
+role_after _ = place.Elsewhere
 
 abbrev pub sign_jumps : Token → Bool
 sign_jumps token.Return = true
@@ -67,7 +67,7 @@ jump_token false = token.Return
 
 -- What a token is at a place: directly after a range operator some tokens say that the operand is omitted, and directly
 -- after `??` a jump may stand.
-abbrev pub operand_start : OperandPlace → Lexeme → OperandStart
+abbrev pub operand_start : OperandRole → Lexeme → OperandStart
 operand_start place.AfterRange token = if omits_operand token then start.Omitted else start.Written
 operand_start place.AfterCoalesce token = if jumps token then start.Jump else start.Written
 operand_start place.Elsewhere token = start.Written
@@ -81,7 +81,7 @@ abbrev pub jump_at : OperandStart → Verdict
 jump_at start.Jump = Fine
 jump_at _ = Otherwise
 
-abbrev pub jump_stands : OperandPlace → Lexeme → Verdict
+abbrev pub jump_stands : OperandRole → Lexeme → Verdict
 jump_stands place token = jump_at (operand_start place token)
 
 -- ---- the value of a jump
@@ -94,8 +94,8 @@ abbrev pub value_follows : Context → Lexeme → Verdict
 value_follows context token = if starts context token then Fine else Otherwise
 
 -- `return` stands in place of an operand after `??` alone, and an error of the tokenizer begins an expression.
-example : (operand_start (place_after (Sign token.DoubleQuestion)) (Sign token.Return) ≡ start.Jump)
-    × (operand_start (place_after (Sign token.Plus)) (Sign token.Return) ≡ start.Written)
+example : (operand_start (role_after (Sign token.DoubleQuestion)) (Sign token.Return) ≡ start.Jump)
+    × (operand_start (role_after (Sign token.Plus)) (Sign token.Return) ≡ start.Written)
     × ((context : Context) → starts context (Faulty UnterminatedString) ≡ true)
     × ((context : Context) → starts context (Sign token.RightParen) ≡ false)
 example = (refl, refl, λ context. refl, λ context. refl)

@@ -22,8 +22,8 @@ use Rattle.rhai_grammar.specs.declared.role.AfterStatement.{AfterStatement}
 use Rattle.rhai_grammar.specs.declared.role.AfterStatement.TheVariants as after
 use Rattle.rhai_grammar.specs.declared.role.Closing.{Closing}
 use Rattle.rhai_grammar.specs.declared.role.Closing.TheVariants.{Brace, EndMark}
-use Rattle.rhai_grammar.specs.declared.role.StatementPlace.{StatementPlace}
-use Rattle.rhai_grammar.specs.declared.role.StatementPlace.TheVariants as place
+use Rattle.rhai_grammar.specs.declared.role.StatementRole.{StatementRole}
+use Rattle.rhai_grammar.specs.declared.role.StatementRole.TheVariants as place
 use Rattle.rhai_grammar.specs.declared.role.StatementStart.{StatementStart}
 use Rattle.rhai_grammar.specs.declared.role.StatementStart.TheVariants as start
 
@@ -71,7 +71,7 @@ allowed_start context other = other
 abbrev pub statement_start : Context → Lexeme → StatementStart
 statement_start context token = allowed_start context (any_start token)
 
-abbrev pub sign_place : Closing → Token → StatementPlace
+abbrev pub sign_place : Closing → Token → StatementRole
 sign_place Brace token.RightBrace = place.Close
 sign_place Brace token.EOF = place.Nothing
 sign_place Brace _ = place.Statement
@@ -79,9 +79,9 @@ sign_place EndMark token.EOF = place.Close
 sign_place EndMark _ = place.Statement
 
 -- what a token is where a statement of a list may begin
-abbrev pub statement_place : Closing → Lexeme → StatementPlace
-statement_place closing (Sign t) = sign_place closing t
-statement_place closing _ = place.Statement
+abbrev pub statement_role : Closing → Lexeme → StatementRole
+statement_role closing (Sign t) = sign_place closing t
+statement_role closing _ = place.Statement
 
 abbrev pub sign_after : Closing → Token → AfterStatement
 sign_after Brace token.SemiColon = after.SemiColon
@@ -134,22 +134,22 @@ no_variable l = cause.VariableExpected
 -- ---- which tokens are refused
 
 -- where a list of statements may end
-abbrev pub list_ends_at : Lexeme → StatementPlace → Verdict
+abbrev pub list_ends_at : Lexeme → StatementRole → Verdict
 list_ends_at token place.Close = Fine
 list_ends_at token place.Statement = Otherwise
 list_ends_at token place.Nothing = Wrong (missing (codes "}") token)
 
 abbrev pub list_ends : Closing → Lexeme → Verdict
-list_ends closing token = list_ends_at token (statement_place closing token)
+list_ends closing token = list_ends_at token (statement_role closing token)
 
 -- where a statement of a list begins
-abbrev pub begins_at : Lexeme → StatementPlace → Verdict
+abbrev pub begins_at : Lexeme → StatementRole → Verdict
 begins_at token place.Statement = Fine
 begins_at token place.Close = Otherwise
 begins_at token place.Nothing = Otherwise
 
 abbrev pub statement_begins : Closing → Lexeme → Verdict
-statement_begins closing token = begins_at token (statement_place closing token)
+statement_begins closing token = begins_at token (statement_role closing token)
 
 -- after a statement that does not end by itself: a `;`
 abbrev pub separated_at : Lexeme → AfterStatement → Verdict

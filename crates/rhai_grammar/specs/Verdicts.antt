@@ -12,24 +12,24 @@ use Rattle.rhai_grammar.specs.Settings.{Settings, is_in_function, quoted_keys}
 use Rattle.rhai_grammar.specs.DueTokens.{is_due, not_due}
 use Rattle.rhai_grammar.specs.Libraries.{Library}
 use Rattle.rhai_grammar.specs.declared.due.DueToken.{DueToken}
-use Rattle.rhai_grammar.specs.Contexts.{Context, Live, full, has_room}
+use Rattle.rhai_grammar.specs.Contexts.{Context, Live, full, may_raise}
 use Rattle.rhai_grammar.specs.Beginnings.{beginning, no_operand, unexpected, missing}
 use Rattle.rhai_grammar.specs.Modules.{may_use}
 use Rattle.rhai_grammar.specs.Starts.{begins, operand_start}
-use Rattle.rhai_grammar.specs.declared.role.OperandPlace.{OperandPlace}
+use Rattle.rhai_grammar.specs.declared.role.OperandRole.{OperandRole}
 use Rattle.rhai_grammar.specs.declared.role.OperandStart.{OperandStart}
 use Rattle.rhai_grammar.specs.declared.role.OperandStart.TheVariants as start
 use Rattle.rhai_grammar.specs.Beginnings.{calling, calls, is_list, may_be_called, is_this, linking}
 use Rattle.rhai_grammar.specs.Beginnings.{excludes_use, is_link, qualifies}
-use Rattle.rhai_grammar.specs.Beginnings.{MemberPlace, AMember, NoMember, member_place}
+use Rattle.rhai_grammar.specs.Beginnings.{MemberRole, AMember, NoMember, member_role}
 use Rattle.rhai_grammar.specs.declared.list.AfterPart.{AfterPart}
 use Rattle.rhai_grammar.specs.declared.list.AfterPart.TheVariants as after
 use Rattle.rhai_grammar.specs.declared.list.CommaList.{CommaList}
 use Rattle.rhai_grammar.specs.declared.list.CommaList.TheVariants as lists
 use Rattle.rhai_grammar.specs.CommaLists.{after_part, is_close, not_after, no_argument}
-use Rattle.rhai_grammar.specs.declared.role.ItemPlace.{ItemPlace}
-use Rattle.rhai_grammar.specs.declared.role.ItemPlace.TheVariants as place
-use Rattle.rhai_grammar.specs.Literals.{item_place, no_item, KeyPlace, NoKey, key_place}
+use Rattle.rhai_grammar.specs.declared.role.ItemRole.{ItemRole}
+use Rattle.rhai_grammar.specs.declared.role.ItemRole.TheVariants as place
+use Rattle.rhai_grammar.specs.Literals.{item_role, no_item, KeyRole, NoKey, key_role}
 use Rattle.rhai_grammar.specs.Literals.{property_count}
 use Rattle.rhai_grammar.specs.Literals.{too_many_fields}
 use Rattle.rhai_grammar.specs.Strengths.{Follower, Operator, Unknown, Other, follower_of, is_operator}
@@ -49,7 +49,7 @@ beginning_due context token start.Written =
     if begins context (beginning token) then Otherwise else Wrong (no_operand token)
 beginning_due context token _ = Otherwise
 
-abbrev pub operand_due : Context → OperandPlace → Lexeme → Verdict
+abbrev pub operand_due : Context → OperandRole → Lexeme → Verdict
 operand_due context place token = beginning_due context token (operand_start place token)
 
 abbrev pub anything : Lexeme → Verdict
@@ -86,12 +86,12 @@ abbrev pub unlinked : Lexeme → Verdict
 unlinked token = if is_link (linking token) then Otherwise else Fine
 
 -- after a dot
-abbrev pub member_at : MemberPlace → Verdict
+abbrev pub member_at : MemberRole → Verdict
 member_at AMember = Fine
 member_at (NoMember why) = Wrong why
 
 abbrev pub member_due : Lexeme → Verdict
-member_due token = member_at (member_place token)
+member_due token = member_at (member_role token)
 
 -- after a property's name: nothing that calls it; and it is not part of a path
 abbrev pub no_path : Cause
@@ -143,30 +143,30 @@ abbrev pub following_due : CommaList → Lexeme → Verdict
 following_due parts token = following_at parts token (after_part parts token)
 
 -- where an item of an array may begin: an item, or the end
-abbrev pub item_at : (limit : ℕ) → Lexeme → ItemPlace → Verdict
+abbrev pub item_at : (limit : ℕ) → Lexeme → ItemRole → Verdict
 item_at limit token place.Item = Fine
 item_at limit token place.End = Otherwise
 item_at limit token place.Nothing = Wrong (no_item limit token)
 
 abbrev pub item_due : (limit count : ℕ) → Lexeme → Verdict
-item_due limit count token = item_at limit token (item_place limit count token)
+item_due limit count token = item_at limit token (item_role limit count token)
 
-abbrev pub no_item_at : (limit : ℕ) → Lexeme → ItemPlace → Verdict
+abbrev pub no_item_at : (limit : ℕ) → Lexeme → ItemRole → Verdict
 no_item_at limit token place.Item = Otherwise
 no_item_at limit token place.End = Otherwise
 no_item_at limit token place.Nothing = Wrong (no_item limit token)
 
 abbrev pub no_item_due : (limit count : ℕ) → Lexeme → Verdict
-no_item_due limit count token = no_item_at limit token (item_place limit count token)
+no_item_due limit count token = no_item_at limit token (item_role limit count token)
 
 -- where a key of an object map may begin: a key, or the end
-abbrev pub key_at : KeyPlace → Verdict
+abbrev pub key_at : KeyRole → Verdict
 key_at (NoKey why) = Wrong why
 key_at _ = Otherwise
 
 -- what a token is where one more key may begin, after these properties
-abbrev pub next_key : Settings → Properties → Lexeme → KeyPlace
-next_key context before token = key_place (quoted_keys context) (property_count before == 0) token
+abbrev pub next_key : Settings → Properties → Lexeme → KeyRole
+next_key context before token = key_role (quoted_keys context) (property_count before == 0) token
 
 abbrev pub key_due : Context → Properties → Lexeme → Verdict
 key_due context before token = key_at (next_key context.settings before token)
@@ -201,8 +201,8 @@ abbrev pub side_ends : ExprFilter → Lexeme → Lexeme → Verdict
 side_ends filter op token = ended_side (follower_of filter op) (follower_of filter token)
 
 -- where a level is raised at the next token
-abbrev pub room_due : Context → Lexeme → Verdict
-room_due context token = if has_room context then Fine else Wrong cause.ExprTooDeep
+abbrev pub raise_due : Context → Lexeme → Verdict
+raise_due context token = if may_raise context then Fine else Wrong cause.ExprTooDeep
 
 -- after a whole expression
 abbrev pub end_due : Lexeme → Verdict

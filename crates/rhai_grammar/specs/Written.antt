@@ -13,8 +13,8 @@ use Rattle.rhai_grammar.specs.Contexts.{Context, Live, below_global, has_single_
 use Rattle.rhai_grammar.specs.Beginnings.{beginning, is_value, is_sign, is_range}
 use Rattle.rhai_grammar.specs.Starts.{is_omitted, jump_token, no_value_follows, operand_start, value_follows}
 use Rattle.rhai_grammar.specs.Interpolations.{text_due}
-use Rattle.rhai_grammar.specs.declared.role.OperandPlace.{OperandPlace}
-use Rattle.rhai_grammar.specs.declared.role.OperandPlace.TheVariants.{Elsewhere}
+use Rattle.rhai_grammar.specs.declared.role.OperandRole.{OperandRole}
+use Rattle.rhai_grammar.specs.declared.role.OperandRole.TheVariants.{Elsewhere}
 use Rattle.rhai_grammar.specs.Beginnings.{linking, is_bracket, is_dot}
 use Rattle.rhai_grammar.specs.declared.list.CommaList.TheVariants as lists
 use Rattle.rhai_grammar.specs.Signs.{sign_holds, malformed}
@@ -40,7 +40,7 @@ use Rattle.rhai_grammar.specs.Verdicts.{operand_due, anything, after_name, after
 use Rattle.rhai_grammar.specs.Verdicts.{uncalled_member, list_due, close_or_argument, argument_due}
 use Rattle.rhai_grammar.specs.Verdicts.{argument_follows, item_due, no_item_due, key_due}
 use Rattle.rhai_grammar.specs.Verdicts.{operator_known, end_due}
-use Rattle.rhai_grammar.specs.Spots.{Spot, right_side, height_after, place_of, side_fits, filter_of, follower_in}
+use Rattle.rhai_grammar.specs.Spots.{Spot, right_side, height_after, role_of, side_fits, filter_of, follower_in}
 use Rattle.rhai_grammar.specs.Spots.{left_fits, LinkSpot, spot_after_operand, spot_after_bracket, spot_after_dot}
 use Rattle.rhai_grammar.specs.Contexts.{allows_looping, loop_body}
 use Rattle.rhai_grammar.specs.Constructs.{absent, construct_token, do_end_due}
@@ -72,7 +72,7 @@ use Rattle.rhai_grammar.specs.Starts.{may_be_closure}
 -- ---- the forms
 
 abbrev mutual
-  pub primary : Primary → Context → Live → OperandPlace → Demands → Demands
+  pub primary : Primary → Context → Live → OperandRole → Demands → Demands
   primary (form.Value token at) context live place more =
       Shape (is_value (beginning token)) ▸ Tok code (item token at) (operand_due context place) ▸ more
   primary (form.Named name at) context live place more =
@@ -112,7 +112,7 @@ abbrev mutual
 
   -- A variable that is called is the name of a call. Only what calls it may follow a reserved word other than `this`.
   -- Where the name has a path, the module that it begins with is tested after the arguments.
-  pub base : Base → Context → Live → OperandPlace → Demands → Demands
+  pub base : Base → Context → Live → OperandRole → Demands → Demands
   base (form.Plain x names) context live place more =
       primary x context live place (path names live.imports (primary_tree x live (is_scoped names)) (
       Next (uncalled (named_tree x names false live)) ▸ more))
@@ -155,7 +155,7 @@ abbrev mutual
       links rest (spot_after_dot spot (member_link dot at called)) live more))
 
   -- After its links, the module of a name with a path is tested.
-  pub operand : Operand → Context → Live → OperandPlace → Demands → Demands
+  pub operand : Operand → Context → Live → OperandRole → Demands → Demands
   operand (form.Linked x list) context live place more =
       base x context live place (
       links list (spot_after_operand context (base_tree x live)) live (
@@ -228,7 +228,7 @@ abbrev mutual
   -- bind as the strengths say.
   pub run : Run → Spot → Demands → Demands
   run (form.Just x) spot more =
-      operand x spot.first spot.live (place_of spot.side) (
+      operand x spot.first spot.live (role_of spot.side) (
       Next (operator_known (filter_of spot)) ▸ raise_after spot.side more)
   run (form.Binary op at left right) spot more =
       run left spot (

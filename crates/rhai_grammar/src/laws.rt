@@ -5,7 +5,7 @@ ghost use Rattle.rhai_grammar.specs.ClosureLaws.{ParametersAreCaptured};
 ghost use Rattle.rhai_grammar.specs.Laws.{ChainsAreJoined, EntriesAreDelivered, FormsAreFair};
 ghost use Rattle.rhai_grammar.specs.Laws.{FormsAreSpelled, FormsFitWhereverSpelled, StreamsAreWhole, TreesKeepShape};
 ghost use Rattle.rhai_grammar.specs.LibraryLaws.{LibrariesStayOrderly, NumbersAreKept};
-ghost use Rattle.rhai_grammar.specs.PlaceLaws.{RefusalsStandAtTokens};
+ghost use Rattle.rhai_grammar.specs.PositionLaws.{RefusalsStandAtTokens};
 ghost use Rattle.rhai_grammar.specs.Rows.{CallRow, EndedRow, FlatRow, LateRow, MinusRow, OpenRow};
 ghost use Rattle.rhai_grammar.specs.Rows.{PairRow, RangedRow, SizedRow, SumRow};
 ghost use Rattle.rhai_grammar.specs.RowsOfChains.{CaptureRow, GroupedRow, JoinedRow, QuestionedRow};
@@ -52,7 +52,7 @@ pub fn forms_are_fair()
 {}
 
 /// Whichever demand a form misses, the error stands at a token that was taken, or at the next one.
-#[tactic(auto, using(crate::proofs::PlaceLemmas::refusals_stand_at_tokens))]
+#[tactic(auto, using(crate::proofs::PositionLemmas::refusals_stand_at_tokens))]
 pub fn refusals_stand_at_tokens()
     ensures { RefusalsStandAtTokens }
 {}

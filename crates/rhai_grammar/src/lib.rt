@@ -18,6 +18,6 @@ pub use filter::ExprFilter;
 pub use key::FnKey;
 pub use list::{AfterPart, CommaList};
 pub use role::{
-    AfterStatement, ArmPlace, Beginning, Calling, Closing, Construct, Effect, ItemPlace, Joining,
-    Linking, ListKind, OperandPlace, OperandStart, StatementPlace, StatementStart,
+    AfterStatement, ArmRole, Beginning, Calling, Closing, Construct, Effect, ItemRole, Joining,
+    Linking, ListKind, OperandRole, OperandStart, StatementRole, StatementStart,
 };

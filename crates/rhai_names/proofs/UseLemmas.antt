@@ -17,7 +17,7 @@ use Rattle.rhai_grammar.specs.Functions.{in_function, parameter_names, parameter
 use Rattle.rhai_grammar.specs.Modules.{is_qualified, module_fault}
 use Rattle.rhai_grammar.specs.Operators.{joining}
 use Rattle.rhai_grammar.specs.Signs.{effect, plain_sign}
-use Rattle.rhai_grammar.specs.Spots.{LinkSpot, Spot, height_after, place_of, right_side, spot_after_bracket, spot_after_dot, spot_after_operand}
+use Rattle.rhai_grammar.specs.Spots.{LinkSpot, Spot, height_after, role_of, right_side, spot_after_bracket, spot_after_dot, spot_after_operand}
 use Rattle.rhai_grammar.specs.Ends.{action_ends}
 use Rattle.rhai_grammar.specs.Switches.{Collected, arm_fault, nothing_collected, with_arm_collected}
 use Rattle.rhai_grammar.specs.Targets.{is_constant_use, target_fault}
@@ -29,8 +29,8 @@ use Rattle.rhai_grammar.specs.Verdicts as V
 use Rattle.rhai_grammar.specs.Written as W
 use Rattle.rhai_grammar.specs.declared.role.Closing.{Closing}
 use Rattle.rhai_grammar.specs.declared.role.Closing.TheVariants.{Brace, EndMark}
-use Rattle.rhai_grammar.specs.declared.role.OperandPlace.{OperandPlace}
-use Rattle.rhai_grammar.specs.declared.role.OperandPlace.TheVariants as place
+use Rattle.rhai_grammar.specs.declared.role.OperandRole.{OperandRole}
+use Rattle.rhai_grammar.specs.declared.role.OperandRole.TheVariants as place
 use Rattle.rhai_grammar.proofs.CaptureLemmas.{forms_leave_their_events}
 use Rattle.rhai_grammar.proofs.NumberLemmas as numbers
 use Rattle.rhai_grammar.proofs.NumberWays.{Gives, ahead, apart_from, banged, caught_by, closure_parameters, comments_at, expressed, function_at, function_name, gets, guarded, here, iterated, literally, named, next, on, other_name, parameter_list, past_it, path, raised, separated, shape, test, test_in, tok, unfaulted, up_to, uses}
@@ -68,7 +68,7 @@ beside p h = gets (λ q. (p, q)) h
 mutual
   unfolding mentions
 
-  pub primary : (x : Primary) (called : Bool) (c : Context) (w : Live) (p : OperandPlace) (k : Demands) → Uncalled x w called k
+  pub primary : (x : Primary) (called : Bool) (c : Context) (w : Live) (p : OperandRole) (k : Demands) → Uncalled x w called k
       → Gives (PrimaryKnown x w called) (W.primary x c w p k) k
   primary (form.Value token at) called c w p k u = shape (λ e. gets (λ h. OperandSteps.value called token at w) (tok here))
   primary (form.Named name at) called c w p k u = gets (λ h. OperandSteps.named called name at w) (tok (uses here))
@@ -101,7 +101,7 @@ mutual
   closure_body (form.Runs f) c w k = next (statement f c w k)
   closure_body (form.NoBody at) c w k = gets (λ h. nothing) (ahead here)
 
-  pub base : (x : Base) (c : Context) (w : Live) (p : OperandPlace) (k : Demands)
+  pub base : (x : Base) (c : Context) (w : Live) (p : OperandRole) (k : Demands)
       → Gives (Reading (mentions (base_tree x w)) (E.base_events x w) (in_base x)) (W.base x c w p k) k
   base (form.Plain x form.NoPath) c w p k =
       up_to (gets (λ h. record { names = h.names refl; ends = h.ends }) (primary x false c w p _ (λ d s t m. m.1.0))) (next (next here))
@@ -144,7 +144,7 @@ mutual
       (gets (λ h. both (Readings.call_before called h.0) h.1)
       (on (arguments args V.list_due (level_up q.settings) w name_at _) (links more (spot_after_dot q l) w k))))))))))
 
-  pub operand : (x : Operand) (c : Context) (w : Live) (p : OperandPlace) (k : Demands)
+  pub operand : (x : Operand) (c : Context) (w : Live) (p : OperandRole) (k : Demands)
       → Gives (Reading (mentions (T.operand_tree x w)) (E.operand_events x w) (in_operand x)) (W.operand x c w p k) k
   operand (form.Linked x list) c w p k =
       gets (λ h. same (TreeSteps.chains (base_tree x w) (T.link_list list w)) (both h.0 h.1))
@@ -198,7 +198,7 @@ mutual
       (tok (test (on (block f opening (level_up c) w _) (tok (segments rest c w start k)))))
 
   pub run : (f : Run) (q : Spot) (k : Demands) → Gives (Reading (mentions (tree f q.live)) (events f q.live) (in_run f)) (W.run f q k) k
-  run (form.Just x) q k = up_to (operand x q.first q.live (place_of q.side) _) (next (raised q.side))
+  run (form.Just x) q k = up_to (operand x q.first q.live (role_of q.side) _) (next (raised q.side))
   run (form.Binary op at l r) q k =
       let side = right_side op (height_after q l) q.live in
       gets (λ h. TreeSteps.operator (joining op) op at (tree l q.live) (tree r q.live) h.0 h.1)

@@ -24,14 +24,14 @@ use Rattle.rhai_reading.proofs.Main.{IsNew}
 use Rattle.std.proofs.Math.Nat.{le_refl}
 use Rattle.rhai_base.specs.Counts.{counts_of}
 use Rattle.rhai_base.specs.Frames.{FrameValue}
-use Rattle.rhai_parser.specs.Rooms.{Holds, IsWithin, Stays, function_room}
+use Rattle.rhai_parser.specs.Heights.{Holds, IsWithin, Stays, function_height}
 use Rattle.rhai_parser.specs.declared.shared.Shared.{Shared}
-use Rattle.rhai_parser.proofs.Rooms.{function_room_most, gap_most}
+use Rattle.rhai_parser.proofs.Heights.{function_room_most, gap_most}
 use Rattle.std.proofs.Common.{inl, inr}
 
 -- what the code's reader of a script leaves
 pub stays_read : (engine : EngineValue) (frame : FrameValue) (settings : ParseSettings) (old new : Shared)
-    → Stays engine frame settings (2 + function_room engine settings) old new
+    → Stays engine frame settings (2 + function_height engine settings) old new
     → StaysWithin 1 engine settings (counts_of old.counts) (counts_of new.counts)
 unfolding IsWithin
 stays_read engine frame settings old new h positive more =

@@ -9,10 +9,10 @@ pub(crate) mod literals;
 ghost use Rattle.std.specs.Prelude.{◌≡◌, false};
 ghost use Rattle.rhai_grammar.specs.Beginnings.{beginning};
 ghost use Rattle.rhai_parser.specs.Readers.{state_of};
-ghost use Rattle.rhai_reading.specs.Running.{asked};
+ghost use Rattle.rhai_reading.specs.Running.{next_item};
 ghost use Rattle.rhai_parser.specs.PlainPrimaries.{is_plain};
 ghost use Rattle.rhai_parser.specs.Readers.{Covers, GoesOn, Reads, primary};
-ghost use Rattle.rhai_parser.specs.Rooms.{Stays};
+ghost use Rattle.rhai_parser.specs.Heights.{Stays};
 ghost use Rattle.rhai_trees.specs.Chains.{chain_view};
 
 use crate::lent::LentReaders;
@@ -87,7 +87,7 @@ impl<R: LentReaders> Reader<'_, R> {
         frame: &Frame<'_>,
         settings: ParseSettings,
     ) -> ParseResult<Chain>
-        requires compound { is_plain (beginning (asked (state_of shared.old)).lexeme) ≡ false }
+        requires compound { is_plain (beginning (next_item (state_of shared.old)).lexeme) ≡ false }
         requires lent { Covers (R.lent self.now.readers) (primary self.now.engine.now frame.now settings)
             shared.old }
         ensures goes_on { GoesOn shared.old shared.new }

@@ -4,7 +4,7 @@ use Rattle.std.proofs.Common.{if◌then◌else◌}
 use Rattle.rhai_lower.specs.Nodes.{dot, index}
 use Rattle.rhai_grammar.specs.Prelude.{Bracket, Chain, Dotted, Link, LinkKind, chain_of, chained, is_last, link_node}
 use Rattle.rhai_grammar.specs.Prelude.{nest, node_shape, Lexeme, Position, Context, Live, Node, is_name, LinkSpot}
-use Rattle.rhai_grammar.specs.Prelude.{spot_after_operand, MemberPlace, AMember, NoMember, bracket_link, member_link}
+use Rattle.rhai_grammar.specs.Prelude.{spot_after_operand, MemberRole, AMember, NoMember, bracket_link, member_link}
 use Rattle.rhai_grammar.specs.Prelude.{beginning, item}
 use Rattle.rhai_grammar.specs.declared.role.Linking.TheVariants as lk
 use Rattle.rhai_grammar.specs.declared.role.Beginning.TheVariants as begin
@@ -120,7 +120,7 @@ by_either : {A : Type 0} (R : A → Type 0) (b : Bool) (p q : Production A) → 
 by_either R true p q g h = g
 by_either R false p q g h = h
 
-dotted : (w : Live) (spot : LinkSpot) (l : Lexeme) (at : Position) (v : MemberPlace)
+dotted : (w : Live) (spot : LinkSpot) (l : Lexeme) (at : Position) (v : MemberRole)
     → Always Right (λ ls. MayEnd spot.before → MayEnd ls) (P.dotted_by w spot l at v)
 dotted w spot l at AMember = λ x h ls k before. k (link_added spot.before (member_link l at x) before (λ e. h))
 dotted w spot l at (NoMember why) = tt

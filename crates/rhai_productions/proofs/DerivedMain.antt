@@ -10,7 +10,7 @@ use Rattle.rhai_grammar.specs.Demands.{Nothing}
 use Rattle.rhai_reading.specs.Reading.{Goal, Val, Script, Whole, body}
 use Rattle.rhai_reading.specs.Running as R
 use Rattle.rhai_reading.specs.Running.{Progress, result_of}
-use Rattle.rhai_reading.specs.Histories.{State, asked, Outcome, Done, Refused, Unfinished, exec, calls}
+use Rattle.rhai_reading.specs.Histories.{State, next_item, Outcome, Done, Refused, Unfinished, exec, calls}
 use Rattle.rhai_reading.proofs.Joins.{cursor}
 use Rattle.rhai_reading.proofs.Rules.{at}
 use Rattle.rhai_reading.proofs.Shows as S
@@ -93,7 +93,7 @@ sound_goal n g s b = entry_sound n g s _ (sound production (same histories lawfu
 
 -- any goal that looks at the first token
 pub derived_entry : (g : Goal)
-    → ((n : ℕ) (s : State) → IsOther (exec (calls n) (body g) s) → is_memory (asked s).lexeme ≡ false)
+    → ((n : ℕ) (s : State) → IsOther (exec (calls n) (body g) s) → is_memory (next_item s).lexeme ≡ false)
     → Entry g (written g) (unwritten g) (tree_of g)
 derived_entry g looks = record {
   sound = λ n s b. sound_goal n g s b;

@@ -2,11 +2,11 @@
 use Rattle.std.proofs.Common.{◌≡◌, ℕ, zero, suc, ◌≤◌, arith, Bool, true, false, Option, Some, None, refl, sym, ap, ◌∙◌}
 use Rattle.std.proofs.Common.{subst, if◌then◌else◌}
 use Rattle.rhai_grammar.specs.Prelude.{Lexeme, Position, Item, Point, past, code, is_memory, Context, Live, Node}
-use Rattle.rhai_grammar.specs.Prelude.{has_room, level_up, position_of, Demands, Met, verdict, Fine, Wrong, Otherwise}
+use Rattle.rhai_grammar.specs.Prelude.{may_raise, level_up, position_of, Demands, Met, verdict, Fine, Wrong, Otherwise}
 use Rattle.rhai_grammar.specs.Prelude.{Verdict, follower_of, Follower, Operator, Unknown, Other, operator_tree}
 use Rattle.rhai_grammar.specs.Causes as cause
 use Rattle.rhai_grammar.specs.Strengths.{is_operator, strength}
-use Rattle.rhai_grammar.specs.Verdicts.{operator_known, known_follower, run_ends, ended_follower, room_due}
+use Rattle.rhai_grammar.specs.Verdicts.{operator_known, known_follower, run_ends, ended_follower, raise_due}
 use Rattle.rhai_grammar.specs.declared.filter.ExprFilter.{ExprFilter}
 use Rattle.rhai_reading.specs.Reading as R
 use Rattle.rhai_reading.specs.Reading.{BinaryOp, NextOperator}
@@ -229,7 +229,7 @@ ends Other off h k = refl
 pub expressions_are_runs : ExpressionsAreRuns
 expressions_are_runs c w x (form (here l at (must (part y fy (part z fz given))))) k s t m =
     let reads = (fine (λ l. Fine) (op_at s) m.0).0 in
-    let room : has_room c ≡ true = m.1.1.0 in
+    let room : may_raise c ≡ true = m.1.1.0 in
     let a = front production fy _ s t m.1.1.1 in
     let r = climbed (height production fz) (level_up c) w (position_of y) 1 y x fz (omega arith) c.filter refl k a.end
     t a.met (level_up c) (level_up c) Outermost None (just fy) (outer_suits c.filter)
@@ -241,7 +241,7 @@ expressions_are_runs c w x (form (here l at (must (part y fy (part z fz given)))
       top = r.top;
       run = r.run;
       met = (
-        judged (room_due c) s reads (ap (λ b. if b then Fine else Wrong cause.ExprTooDeep) room),
+        judged (raise_due c) s reads (ap (λ b. if b then Fine else Wrong cause.ExprTooDeep) room),
         r.passes _ t (
           judged (run_ends c.filter) r.end f.0 (ends (follower_of c.filter (op_at r.end)) r.stops
               (sensible c.filter (op_at r.end)) f.1),

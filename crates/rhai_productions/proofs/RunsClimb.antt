@@ -1,11 +1,11 @@
 -- A run as the strengths say is read operator by operator.
 use Rattle.std.proofs.Common.{◌≡◌, ℕ, Bool, true, false, Option, Some, None, refl, sym, ap, ◌∙◌, subst, if◌then◌else◌}
-use Rattle.rhai_grammar.specs.Prelude.{Lexeme, Position, Item, Point, past, code, Context, Live, Node, has_room}
+use Rattle.rhai_grammar.specs.Prelude.{Lexeme, Position, Item, Point, past, code, Context, Live, Node, may_raise}
 use Rattle.rhai_grammar.specs.Prelude.{position_of, Demands, ◌▸◌, Test, Next, Met, verdict, Fine, follower_of, Follower}
 use Rattle.rhai_grammar.specs.Prelude.{Operator, Unknown, Other, boolean_holds, mismatched}
 use Rattle.rhai_grammar.specs.Causes as cause
 use Rattle.rhai_grammar.specs.Strengths.{is_operator, strength, is_right, left_of}
-use Rattle.rhai_grammar.specs.Verdicts.{operator_known, known_follower, run_ends, ended_follower, room_due}
+use Rattle.rhai_grammar.specs.Verdicts.{operator_known, known_follower, run_ends, ended_follower, raise_due}
 use Rattle.rhai_grammar.specs.declared.filter.ExprFilter.{ExprFilter}
 use Rattle.rhai_reading.specs.Reading as R
 use Rattle.rhai_reading.specs.Reading.{BinaryOp, NextOperator}
@@ -268,8 +268,8 @@ begins {filter = filter} {w = w} {side = side} (binary {c = c} {d = d} {p = p} {
 
 pub runs_are_expressions : RunsAreExpressions
 runs_are_expressions c after w at top x f k s t m =
-    let room = or_wrong (has_room c) cause.ExprTooDeep (fine (room_due c) (op_at s) m.0).1 in
-    let reads = (fine (room_due c) (op_at s) m.0).0 in
+    let room = or_wrong (may_raise c) cause.ExprTooDeep (fine (raise_due c) (op_at s) m.0).1 in
+    let reads = (fine (raise_due c) (op_at s) m.0).0 in
     let a = begins f refl _ s t m.1 in
     let fa : after.filter ≡ c.filter = filter_after f refl in
     let ended = (fine (run_ends c.filter) (op_at a.end) a.met.0).1 in

@@ -21,7 +21,7 @@ pub mod Kept
 pub mod Numbered
 pub mod ClosureLaws
 pub mod LibraryLaws
-pub mod PlaceLaws
+pub mod PositionLaws
 pub mod SlotLaws
 pub mod StartLaws
 pub mod NestLaws

@@ -1,7 +1,7 @@
 -- Productions of calls, paths and chains.
 use Rattle.std.specs.Prelude.{Bool, List, Option, codes, false, true, ◌&&◌, if◌then◌else◌}
 use Rattle.rhai_grammar.specs.Beginnings.{is_list}
-use Rattle.rhai_grammar.specs.Prelude.{AMember, Context, Lexeme, Link, LinkSpot, Live, MemberPlace, NoMember, Node}
+use Rattle.rhai_grammar.specs.Prelude.{AMember, Context, Lexeme, Link, LinkSpot, Live, MemberRole, NoMember, Node}
 use Rattle.rhai_grammar.specs.Prelude.{Nodes, Position, Refusal, bracket_link, call_tree, calls, index_refusal, is_name}
 use Rattle.rhai_grammar.specs.Prelude.{is_qualified, is_variable, last_fault, member_link, method_tree, missing}
 use Rattle.rhai_grammar.specs.Prelude.{module_fault, no_nodes, position_of, property, qualified, qualifies, refusal}
@@ -77,7 +77,7 @@ index_of context live indexed = part (goal.Expression context live) (λ x. fault
     (due due_token.RightBracket (give x)))
 
 -- a member after a dot, one level deeper, and the links after it
-abbrev pub dotted_by : Live → LinkSpot → Lexeme → Position → MemberPlace → Production (List Link)
+abbrev pub dotted_by : Live → LinkSpot → Lexeme → Position → MemberRole → Production (List Link)
 dotted_by live spot token at AMember = raise spot.settings at (λ deeper. part (goal.Member deeper live) (λ x.
     part (goal.Links live (spot_after_dot spot (member_link token at x))) give))
 dotted_by live spot token at (NoMember why) = never (λ m. why)

@@ -10,13 +10,13 @@ use Rattle.rhai_grammar.specs.Prelude.{not_due, parameters_live, refusal, text_o
 use Rattle.rhai_grammar.specs.declared.list.CommaList.{CommaList}
 use Rattle.rhai_grammar.specs.declared.role.Bars.{Bars}
 use Rattle.rhai_grammar.specs.declared.role.Calling.{Calling}
-use Rattle.rhai_grammar.specs.declared.role.ItemPlace.{ItemPlace}
+use Rattle.rhai_grammar.specs.declared.role.ItemRole.{ItemRole}
 use Rattle.rhai_grammar.specs.Causes as cause
 use Rattle.rhai_grammar.specs.declared.due.DueToken.TheVariants as due_token
 use Rattle.rhai_grammar.specs.declared.list.CommaList.TheVariants as lists
 use Rattle.rhai_grammar.specs.declared.role.Bars.TheVariants as bars
 use Rattle.rhai_grammar.specs.declared.role.Calling.TheVariants as calls_by
-use Rattle.rhai_grammar.specs.declared.role.ItemPlace.TheVariants as place
+use Rattle.rhai_grammar.specs.declared.role.ItemRole.TheVariants as place
 use Rattle.rhai_reading.specs.Reading.{comment_of}
 use Rattle.rhai_reading.specs.Goals as goal
 use Rattle.rhai_productions.specs.RulesOfLists.{parted}
@@ -48,7 +48,7 @@ parameters_by function calls_by.List = this (λ _ at. part (goal.Parameters list
 parameters_by function _ = never (no_parameters function)
 
 -- what closes a list of parameters, or one more, with a name of its own, and so on
-abbrev pub parameter_by : CommaList → Text → List Text → ItemPlace → Production (List Text)
+abbrev pub parameter_by : CommaList → Text → List Text → ItemRole → Production (List Text)
 parameter_by parts function before place.End = this (λ _ at. give before)
 parameter_by parts function before place.Item = this (λ token at. unless (is_among (text_of token) before)
     (refusal (cause.FnDuplicatedParam function (text_of token)) at) (choose (view.PartOf parts) (parted parts

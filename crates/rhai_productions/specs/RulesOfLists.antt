@@ -1,17 +1,17 @@
 -- Productions of lists with commas: arguments, and the items of arrays and object maps.
 use Rattle.std.specs.Prelude.{None, Option, Some, codes}
 use Rattle.rhai_grammar.specs.Literals.{no_item, too_many_fields}
-use Rattle.rhai_grammar.specs.Prelude.{AKey, Context, FieldsEnd, KeyPlace, Live, NoKey, Nodes, Position, Properties}
+use Rattle.rhai_grammar.specs.Prelude.{AKey, Context, FieldsEnd, KeyRole, Live, NoKey, Nodes, Position, Properties}
 use Rattle.rhai_grammar.specs.Prelude.{Text, after_part, full, has_key, is_close, missing, no_argument, no_nodes}
 use Rattle.rhai_grammar.specs.Prelude.{not_after, property_count, refusal, with_node, with_property}
 use Rattle.rhai_grammar.specs.declared.list.AfterPart.{AfterPart}
 use Rattle.rhai_grammar.specs.declared.list.CommaList.{CommaList}
-use Rattle.rhai_grammar.specs.declared.role.ItemPlace.{ItemPlace}
+use Rattle.rhai_grammar.specs.declared.role.ItemRole.{ItemRole}
 use Rattle.rhai_grammar.specs.Causes as cause
 use Rattle.rhai_grammar.specs.declared.due.DueToken.TheVariants as due_token
 use Rattle.rhai_grammar.specs.declared.list.AfterPart.TheVariants as after
 use Rattle.rhai_grammar.specs.declared.list.CommaList.TheVariants as lists
-use Rattle.rhai_grammar.specs.declared.role.ItemPlace.TheVariants as place
+use Rattle.rhai_grammar.specs.declared.role.ItemRole.TheVariants as place
 use Rattle.rhai_reading.specs.Goals as goal
 use Rattle.rhai_productions.specs.Schema.{Production, choose, due, give, if_next, name, never, part, raise, this}
 use Rattle.rhai_productions.specs.Schema.{unless}
@@ -38,7 +38,7 @@ arguments_of context live name = if_next no_argument (never (missing (codes ")")
 
 -- the `]` of an array, or one more item, one level deeper, and so on up to the `]`
 --     array = "[" [ list(expression) ] "]"
-abbrev pub element_by : Context → Live → Position → Nodes → ItemPlace → Production Nodes
+abbrev pub element_by : Context → Live → Position → Nodes → ItemRole → Production Nodes
 element_by context live opening before place.End = this (λ _ at. give before)
 element_by context live opening before place.Item = raise context opening (λ deeper. part (goal.Expression deeper live)
     (λ x. choose (view.PartOf lists.Array) (parted lists.Array (part (goal.Elements context live opening
@@ -47,7 +47,7 @@ element_by context live opening before place.Nothing = never (no_item context.si
 
 -- the `}` of an object map, or the name of one more property and its colon; no name stands twice
 --     key = NAME | STRING
-abbrev pub key_by : Context → Properties → KeyPlace → Production (Option (Text × Position))
+abbrev pub key_by : Context → Properties → KeyRole → Production (Option (Text × Position))
 key_by context before FieldsEnd = this (λ _ at. give None)
 key_by context before (AKey key) = this (λ _ at. unless (has_key key before)
     (refusal (cause.DuplicatedProperty key) at) (due due_token.Colon (

@@ -5,7 +5,7 @@ use Rattle.rhai_grammar.specs.Prelude.{added_text, array, below_global, block_va
 use Rattle.rhai_grammar.specs.Prelude.{captures_use, chained, excludes_use, in_block, integer, interpolated, is_end}
 use Rattle.rhai_grammar.specs.Prelude.{is_in_function, is_this, made_block, malformed, may_be_called, may_be_closure}
 use Rattle.rhai_grammar.specs.Prelude.{may_be_value, may_use, mismatched, module_fault, name_tree, no_nodes, no_operand}
-use Rattle.rhai_grammar.specs.Prelude.{no_properties, object_map, operator_tree, place_after, position_of, refusal}
+use Rattle.rhai_grammar.specs.Prelude.{no_properties, object_map, operator_tree, role_after, position_of, refusal}
 use Rattle.rhai_grammar.specs.Prelude.{sign_holds, signed, spot_after_operand, text_of, this as this_node, unexpected}
 use Rattle.rhai_grammar.specs.Prelude.{unit, value_of, variable_of, with_node}
 use Rattle.rhai_grammar.specs.declared.role.Beginning.{Beginning}
@@ -85,7 +85,7 @@ follower_by Other = give None
 -- An operator that goes on with a run, and its right operand with all that groups more tightly, one level deeper. Then
 -- the operands are tested, and the run goes on.
 abbrev pub binary_on : Context → Live → Position → ℕ → Node → ℕ × Bool → Production Node
-binary_on context live at parent lhs op = this (λ token pos. part (goal.RightOperand context live (place_after token))
+binary_on context live at parent lhs op = this (λ token pos. part (goal.RightOperand context live (role_after token))
     (λ y. part (goal.NextOperator context.filter) (λ next. raise context at (λ deeper.
     part (goal.BinaryOp deeper live (position_of y) op.0 y) (λ r.
     must (boolean_holds token lhs) (mismatched lhs) (must (boolean_holds token r) (mismatched r)

@@ -12,12 +12,12 @@ use Rattle.rhai_grammar.specs.Prelude.{with_kept}
 use Rattle.rhai_grammar.specs.Targets.{update_of}
 use Rattle.rhai_grammar.specs.declared.role.AfterStatement.{AfterStatement}
 use Rattle.rhai_grammar.specs.declared.role.Closing.{Closing}
-use Rattle.rhai_grammar.specs.declared.role.StatementPlace.{StatementPlace}
+use Rattle.rhai_grammar.specs.declared.role.StatementRole.{StatementRole}
 use Rattle.rhai_grammar.specs.declared.role.StatementStart.{StatementStart}
 use Rattle.rhai_grammar.specs.Causes as cause
 use Rattle.rhai_grammar.specs.declared.due.DueToken.TheVariants as due_token
 use Rattle.rhai_grammar.specs.declared.role.AfterStatement.TheVariants as ends
-use Rattle.rhai_grammar.specs.declared.role.StatementPlace.TheVariants as stands
+use Rattle.rhai_grammar.specs.declared.role.StatementRole.TheVariants as stands
 use Rattle.rhai_grammar.specs.declared.role.StatementStart.TheVariants as start
 use Rattle.rhai_reading.specs.Reading.{comment_of}
 use Rattle.rhai_reading.specs.Goals as goal
@@ -141,7 +141,7 @@ after_one closing context live fs false = choose (EndIn closing) (separated clos
 -- the end of a list of statements, or one more and what follows it
 --     script = statements END
 --     statements = { plain ";" | closed } [ plain ]
-abbrev pub statements : Closing → Context → Live → node.Statements → StatementPlace
+abbrev pub statements : Closing → Context → Live → node.Statements → StatementRole
     → Production (node.Statements × Live)
 statements closing context live before stands.Close = give (before, live)
 statements closing context live before stands.Statement = part (goal.Statement context live) (λ f.

@@ -5,12 +5,12 @@ use Rattle.rhai_grammar.specs.Prelude.{block_value, ends_arm, in_block, is_due, 
 use Rattle.rhai_grammar.specs.Prelude.{not_after, refusal, with_arm_collected, with_default_collected, with_node}
 use Rattle.rhai_grammar.specs.Switches.{no_guard}
 use Rattle.rhai_grammar.specs.declared.list.AfterPart.{AfterPart}
-use Rattle.rhai_grammar.specs.declared.role.ArmPlace.{ArmPlace}
+use Rattle.rhai_grammar.specs.declared.role.ArmRole.{ArmRole}
 use Rattle.rhai_grammar.specs.Causes as cause
 use Rattle.rhai_grammar.specs.declared.due.DueToken.TheVariants as due_token
 use Rattle.rhai_grammar.specs.declared.list.AfterPart.TheVariants as after
 use Rattle.rhai_grammar.specs.declared.list.CommaList.TheVariants as lists
-use Rattle.rhai_grammar.specs.declared.role.ArmPlace.TheVariants as arm
+use Rattle.rhai_grammar.specs.declared.role.ArmRole.TheVariants as arm
 use Rattle.rhai_reading.specs.Goals as goal
 use Rattle.rhai_productions.specs.Schema.{Production, due, faultless, give, if_next, never, part, stop, this}
 
@@ -46,7 +46,7 @@ arm_of context live before = part (goal.Cases context live no_nodes) (λ xs. par
     (part (goal.ArmEnd does.1) (λ end. give (xs, guard, does.0)))))))
 
 -- the `}` after the default arm; another arm there is refused at the `_`
-abbrev pub default_end_by : Position → ArmPlace → Production (Unit {0})
+abbrev pub default_end_by : Position → ArmRole → Production (Unit {0})
 default_end_by default arm.Close = this (λ _ at. give tt)
 default_end_by default arm.Nothing = never (missing (codes "}"))
 default_end_by default _ = stop (refusal cause.WrongSwitchDefaultCase default)
@@ -58,7 +58,7 @@ default_arm context live default = if_next (is_due due_token.If) (never (λ _. c
     part (goal.DefaultEnd default) (λ close. give does.0)))))
 
 -- an arm with cases, or the default arm, or the `}`
-abbrev pub arms_by : Context → Live → Collected → ArmPlace → Production Collected
+abbrev pub arms_by : Context → Live → Collected → ArmRole → Production Collected
 arms_by context live before arm.Case = part (goal.Arm context live before) (λ a.
     part (goal.Arms context live (with_arm_collected before a.0 a.1 a.2)) give)
 arms_by context live before arm.Default = this (λ _ at. part (goal.DefaultArm context live at) (λ x.

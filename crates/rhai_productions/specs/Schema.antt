@@ -4,7 +4,7 @@ use Rattle.std.specs.Prelude.{◌≡◌, ℕ, Bool, true, false, not, Option, So
 use Rattle.rhai_lower.specs.Positions.{nowhere}
 use Rattle.rhai_grammar.specs.Causes as cause
 use Rattle.rhai_grammar.specs.Prelude.{Cause, Context, Ended, Lexeme, Library, Position, Refusal, Text, Use}
-use Rattle.rhai_grammar.specs.Prelude.{closure_count, has_room, is_due, is_end, is_name, level_up, no_variable, not_due}
+use Rattle.rhai_grammar.specs.Prelude.{closure_count, may_raise, is_due, is_end, is_name, level_up, no_variable, not_due}
 use Rattle.rhai_grammar.specs.Prelude.{refusal, text_of}
 use Rattle.rhai_grammar.specs.declared.due.DueToken.{DueToken}
 use Rattle.rhai_grammar.specs.declared.due.DueToken.TheVariants as due_token
@@ -68,7 +68,7 @@ unless b why rest = must (not b) why rest
 
 -- one level deeper, for which there has to be room; otherwise that is refused at a position
 abbrev pub raise : {A : Type 0} → Context → Position → (Context → Production A) → Production A
-raise context at rest = must (has_room context) (refusal cause.ExprTooDeep at) (rest (level_up context))
+raise context at rest = must (may_raise context) (refusal cause.ExprTooDeep at) (rest (level_up context))
 
 abbrev pub fault_free : Option Refusal → Bool
 fault_free None = true

@@ -1,12 +1,12 @@
 -- Views of the next token, by which a production goes on in one way or another.
 use Rattle.std.specs.Prelude.{◌≡◌, ℕ, Bool, Option, Some, codes, true, refl}
 use Rattle.rhai_lower.specs.declared.token.Token.TheVariants as token
-use Rattle.rhai_grammar.specs.Prelude.{Context, Lexeme, Sign, Name, Follower, KeyPlace, MemberPlace, Properties}
-use Rattle.rhai_grammar.specs.Prelude.{after_part, arm_place, beginning, calling, defines, do_end, follower_of}
-use Rattle.rhai_grammar.specs.Prelude.{item_place, linking, member_place, operand_start, parameter_place}
+use Rattle.rhai_grammar.specs.Prelude.{Context, Lexeme, Sign, Name, Follower, KeyRole, MemberRole, Properties}
+use Rattle.rhai_grammar.specs.Prelude.{after_part, arm_role, beginning, calling, defines, do_end, follower_of}
+use Rattle.rhai_grammar.specs.Prelude.{item_role, linking, member_role, operand_start, parameter_role}
 use Rattle.rhai_grammar.specs.Prelude.{statement_start, token_after_statement}
 use Rattle.rhai_grammar.specs.Settings.{Settings}
-use Rattle.rhai_grammar.specs.Statements.{statement_place}
+use Rattle.rhai_grammar.specs.Statements.{statement_role}
 use Rattle.rhai_grammar.specs.Verdicts.{next_key}
 use Rattle.rhai_grammar.specs.declared.filter.ExprFilter.{ExprFilter}
 use Rattle.rhai_grammar.specs.declared.list.AfterPart.{AfterPart}
@@ -14,16 +14,16 @@ use Rattle.rhai_grammar.specs.declared.list.AfterPart.TheVariants as after
 use Rattle.rhai_grammar.specs.declared.list.CommaList.{CommaList}
 use Rattle.rhai_grammar.specs.declared.list.CommaList.TheVariants as lists
 use Rattle.rhai_grammar.specs.declared.role.AfterStatement.{AfterStatement}
-use Rattle.rhai_grammar.specs.declared.role.ArmPlace.{ArmPlace}
+use Rattle.rhai_grammar.specs.declared.role.ArmRole.{ArmRole}
 use Rattle.rhai_grammar.specs.declared.role.Beginning.{Beginning}
 use Rattle.rhai_grammar.specs.declared.role.Beginning.TheVariants as begin
 use Rattle.rhai_grammar.specs.declared.role.Calling.{Calling}
 use Rattle.rhai_grammar.specs.declared.role.Closing.{Closing}
-use Rattle.rhai_grammar.specs.declared.role.ItemPlace.{ItemPlace}
+use Rattle.rhai_grammar.specs.declared.role.ItemRole.{ItemRole}
 use Rattle.rhai_grammar.specs.declared.role.Linking.{Linking}
-use Rattle.rhai_grammar.specs.declared.role.OperandPlace.{OperandPlace}
+use Rattle.rhai_grammar.specs.declared.role.OperandRole.{OperandRole}
 use Rattle.rhai_grammar.specs.declared.role.OperandStart.{OperandStart}
-use Rattle.rhai_grammar.specs.declared.role.StatementPlace.{StatementPlace}
+use Rattle.rhai_grammar.specs.declared.role.StatementRole.{StatementRole}
 use Rattle.rhai_grammar.specs.declared.role.StatementStart.{StatementStart}
 
 -- what is asked of the next token
@@ -41,7 +41,7 @@ pub data View : Type 0 where
   -- which operand it begins
   Begins : View
   -- what it begins at this place after an operator
-  OperandAt : OperandPlace → View
+  OperandAt : OperandRole → View
   -- how it calls a name
   Calls : View
   -- which link of a chain it begins
@@ -64,7 +64,7 @@ pub data View : Type 0 where
 -- the answers to that
 abbrev pub Seen : View → Type 0
 Seen (StartOf context) = StatementStart
-Seen (PlaceIn closing) = StatementPlace
+Seen (PlaceIn closing) = StatementRole
 Seen (EndIn closing) = AfterStatement
 Seen EndOfDo = Option Bool
 Seen (PartOf parts) = AfterPart
@@ -72,18 +72,18 @@ Seen Begins = Beginning
 Seen (OperandAt place) = OperandStart
 Seen Calls = Calling
 Seen Links = Linking
-Seen (ItemAt limit count) = ItemPlace
-Seen (KeyAt settings before) = KeyPlace
+Seen (ItemAt limit count) = ItemRole
+Seen (KeyAt settings before) = KeyRole
 Seen (FollowerIn filter) = Follower
 Seen Defined = Option Bool
-Seen ArmAt = ArmPlace
-Seen (ParameterAt parts) = ItemPlace
-Seen MemberAt = MemberPlace
+Seen ArmAt = ArmRole
+Seen (ParameterAt parts) = ItemRole
+Seen MemberAt = MemberRole
 
 -- the answer for a token
 abbrev pub view : (v : View) → Lexeme → Seen v
 view (StartOf context) = statement_start context
-view (PlaceIn closing) = statement_place closing
+view (PlaceIn closing) = statement_role closing
 view (EndIn closing) = token_after_statement closing
 view EndOfDo = do_end
 view (PartOf parts) = after_part parts
@@ -91,13 +91,13 @@ view Begins = beginning
 view (OperandAt place) = operand_start place
 view Calls = calling
 view Links = linking
-view (ItemAt limit count) = item_place limit count
+view (ItemAt limit count) = item_role limit count
 view (KeyAt settings before) = next_key settings before
 view (FollowerIn filter) = follower_of filter
 view Defined = defines
-view ArmAt = arm_place
-view (ParameterAt parts) = parameter_place parts
-view MemberAt = member_place
+view ArmAt = arm_role
+view (ParameterAt parts) = parameter_role parts
+view MemberAt = member_role
 
 -- After an argument a `)` closes the list; a name begins an operand; `const` begins the definition of a constant.
 example : (view (PartOf lists.Arguments) (Sign token.RightParen) ≡ after.Close)

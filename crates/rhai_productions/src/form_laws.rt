@@ -7,7 +7,7 @@ ghost use Rattle.rhai_productions.specs.EventLaws.{FormsLeaveTheirEvents};
 ghost use Rattle.rhai_productions.specs.LibraryLaws.{LibrariesStayOrderly};
 ghost use Rattle.rhai_productions.specs.NestLaws.{FormsNestWithin, ReadersNestWithin};
 ghost use Rattle.rhai_productions.specs.Numbered.{TreesAreWellNumbered};
-ghost use Rattle.rhai_productions.specs.PlaceLaws.{RefusalsStandAtTokens};
+ghost use Rattle.rhai_productions.specs.PositionLaws.{RefusalsStandAtTokens};
 ghost use Rattle.rhai_productions.specs.Quiet.{NothingIsCaptured};
 ghost use Rattle.rhai_productions.specs.Rules.{production};
 ghost use Rattle.rhai_productions.specs.Runs.{ExpressionsAreRuns, RunsAreExpressions};
@@ -25,7 +25,7 @@ pub fn forms_leave_their_events()
 {}
 
 /// Whichever demand a form misses, the error stands at a token that was taken, or at the next one.
-#[tactic(auto, using(crate::proofs::Places::refusals_stand_at_tokens))]
+#[tactic(auto, using(crate::proofs::Positions::refusals_stand_at_tokens))]
 pub fn refusals_stand_at_tokens()
     ensures { RefusalsStandAtTokens }
 {}
@@ -142,13 +142,13 @@ pub fn runs_are_expressions()
 {}
 
 /// Where there are limits on depth, no form that fits is deeper than they allow.
-#[tactic(auto, using(crate::proofs::RoomsOfGoals::forms_nest_within))]
+#[tactic(auto, using(crate::proofs::HeightsOfGoals::forms_nest_within))]
 pub fn forms_nest_within()
     ensures { FormsNestWithin }
 {}
 
 /// Where there are limits on depth, no more readers are active at once than they allow, also after a refusal.
-#[tactic(auto, using(crate::proofs::ReaderRooms::readers_nest_within))]
+#[tactic(auto, using(crate::proofs::ReaderHeights::readers_nest_within))]
 pub fn readers_nest_within()
     ensures { ReadersNestWithin }
 {}

@@ -2,11 +2,11 @@
 use Rattle.std.proofs.Common.{◌≡◌, ℕ, Bool, true, false, refl, ap, ◌∙◌, subst, if◌then◌else◌}
 use Rattle.rhai_grammar.specs.Prelude.{Lexeme, Interpolated, Name, Reserved, Sign, String, text_of, is_last_text}
 use Rattle.rhai_grammar.specs.Prelude.{is_text, jump_token, Position, refusal, bars_token, full, code, Item, item}
-use Rattle.rhai_grammar.specs.Prelude.{Point, next_at, Blames, Wrong, beginning, calling, is_name, member_place}
-use Rattle.rhai_grammar.specs.Prelude.{is_member, qualifies, item_place, KeyPlace, FieldsEnd, AKey, key_place}
+use Rattle.rhai_grammar.specs.Prelude.{Point, next_at, Blames, Wrong, beginning, calling, is_name, member_role}
+use Rattle.rhai_grammar.specs.Prelude.{is_member, qualifies, item_role, KeyRole, FieldsEnd, AKey, key_role}
 use Rattle.rhai_grammar.specs.Prelude.{is_equals, is_comment, defines, keyword_of, name_due, no_variable}
 use Rattle.rhai_grammar.specs.Prelude.{token_after_statement, statement_start, construct_token, do_end, do_token}
-use Rattle.rhai_grammar.specs.Prelude.{may_be_value, may_stand, Context, allows_looping, is_memory, arm_place}
+use Rattle.rhai_grammar.specs.Prelude.{may_be_value, may_stand, Context, allows_looping, is_memory, arm_role}
 use Rattle.rhai_lower.specs.Lexemes.{Comment}
 use Rattle.std.specs.Prelude.{Some}
 use Rattle.rhai_reading.proofs.FormKinds.{text_token}
@@ -16,8 +16,8 @@ use Rattle.rhai_grammar.specs.declared.role.Beginning.{Beginning}
 use Rattle.rhai_grammar.specs.declared.role.Beginning.TheVariants as begin
 use Rattle.rhai_grammar.specs.declared.role.Calling.{Calling}
 use Rattle.rhai_grammar.specs.declared.role.Calling.TheVariants as calls_by
-use Rattle.rhai_grammar.specs.declared.role.ItemPlace.{ItemPlace}
-use Rattle.rhai_grammar.specs.declared.role.ItemPlace.TheVariants as place
+use Rattle.rhai_grammar.specs.declared.role.ItemRole.{ItemRole}
+use Rattle.rhai_grammar.specs.declared.role.ItemRole.TheVariants as place
 use Rattle.rhai_grammar.specs.Verdicts.{no_method}
 use Rattle.rhai_grammar.specs.Statements.{allowed_start, any_start}
 use Rattle.rhai_grammar.specs.declared.role.Construct.{Construct as Kind}
@@ -26,8 +26,8 @@ use Rattle.rhai_grammar.specs.declared.role.AfterStatement.{AfterStatement}
 use Rattle.rhai_grammar.specs.declared.role.AfterStatement.TheVariants as after
 use Rattle.rhai_grammar.specs.declared.role.Closing.{Closing}
 use Rattle.rhai_grammar.specs.declared.role.Closing.TheVariants.{Brace, EndMark}
-use Rattle.rhai_grammar.specs.declared.role.ArmPlace.{ArmPlace}
-use Rattle.rhai_grammar.specs.declared.role.ArmPlace.TheVariants as arm
+use Rattle.rhai_grammar.specs.declared.role.ArmRole.{ArmRole}
+use Rattle.rhai_grammar.specs.declared.role.ArmRole.TheVariants as arm
 use Rattle.rhai_grammar.specs.declared.role.StatementStart.{StatementStart}
 use Rattle.rhai_grammar.specs.declared.role.StatementStart.TheVariants as start
 use Rattle.rhai_reading.proofs.Looks.{op_at, pos_at}
@@ -85,7 +85,7 @@ called s e = subst (λ v. CalledBy v (next_at code s)) e (calls (op_at s) (pos_a
 
 -- ---- where an item of an array may begin
 
-abbrev pub Places : ItemPlace → Item → Type 0
+abbrev pub Places : ItemRole → Item → Type 0
 Places place.End i = i ≡ item (Sign token.RightBracket) i.at
 Places _ i = Unit {0}
 
@@ -94,30 +94,30 @@ room_places : (full_ : Bool) (i : Item) → Places (if full_ then place.Nothing 
 room_places true i = tt
 room_places false i = tt
 
-places : (limit count : ℕ) (l : Lexeme) (p : Position) → Places (item_place limit count l) (item l p)
+places : (limit count : ℕ) (l : Lexeme) (p : Position) → Places (item_role limit count l) (item l p)
 places limit count (Sign token.RightBracket) p = refl
 places limit count (Sign token.EOF) p = tt
 places limit count l p = room_places (full limit count) (item l p)
 
-pub placed : {v : ItemPlace} (limit count : ℕ) (s : Point) → item_place limit count (op_at s) ≡ v
+pub placed : {v : ItemRole} (limit count : ℕ) (s : Point) → item_role limit count (op_at s) ≡ v
     → Places v (next_at code s)
 placed limit count s e = subst (λ v. Places v (next_at code s)) e (places limit count (op_at s) (pos_at s))
 
 -- ---- where a key may stand: it is named by the text of its token
 
-abbrev pub Keys : KeyPlace → Item → Type 0
+abbrev pub Keys : KeyRole → Item → Type 0
 Keys FieldsEnd i = i ≡ item (Sign token.RightBrace) i.at
 Keys (AKey t) i = text_of i.lexeme ≡ t
 Keys _ i = Unit {0}
 
-keys : (quoted first : Bool) (l : Lexeme) (p : Position) → Keys (key_place quoted first l) (item l p)
+keys : (quoted first : Bool) (l : Lexeme) (p : Position) → Keys (key_role quoted first l) (item l p)
 keys quoted first (String t) p = refl
 keys true first (Name t) p = tt
 keys false first (Name t) p = refl
 keys quoted first (Sign token.RightBrace) p = refl
 keys quoted first _ p = tt
 
-pub keyed : {v : KeyPlace} (quoted first : Bool) (s : Point) → key_place quoted first (op_at s) ≡ v
+pub keyed : {v : KeyRole} (quoted first : Bool) (s : Point) → key_role quoted first (op_at s) ≡ v
     → Keys v (next_at code s)
 keyed quoted first s e = subst (λ v. Keys v (next_at code s)) e (keys quoted first (op_at s) (pos_at s))
 
@@ -248,18 +248,18 @@ separated closing s e = subst (λ v. Separates v (next_at code s)) e (separates 
 
 -- ---- where an arm of `switch` may begin
 
-abbrev pub ArmsThere : ArmPlace → Item → Type 0
+abbrev pub ArmsThere : ArmRole → Item → Type 0
 ArmsThere arm.Default i = i ≡ item (Sign token.Underscore) i.at
 ArmsThere arm.Close i = i ≡ item (Sign token.RightBrace) i.at
 ArmsThere _ i = Unit {0}
 
-arms_there : (l : Lexeme) (p : Position) → ArmsThere (arm_place l) (item l p)
+arms_there : (l : Lexeme) (p : Position) → ArmsThere (arm_role l) (item l p)
 arms_there (Sign token.Underscore) p = refl
 arms_there (Sign token.RightBrace) p = refl
 arms_there (Sign token.EOF) p = tt
 arms_there _ p = tt
 
-pub armed : {v : ArmPlace} (s : Point) → arm_place (op_at s) ≡ v → ArmsThere v (next_at code s)
+pub armed : {v : ArmRole} (s : Point) → arm_role (op_at s) ≡ v → ArmsThere v (next_at code s)
 armed s e = subst (λ v. ArmsThere v (next_at code s)) e (arms_there (op_at s) (pos_at s))
 
 -- ---- texts, and the end of `do`
@@ -317,7 +317,7 @@ comment_is (Comment t) p e = refl
 comment_is _ p e = absurd cc
 
 -- a member that is no name is a reserved word
-pub word_is : (l : Lexeme) (p : Position) → is_member (member_place l) ≡ true → is_name l ≡ false
+pub word_is : (l : Lexeme) (p : Position) → is_member (member_role l) ≡ true → is_name l ≡ false
     → no_method l p ≡ Blames (refusal (cause.Reserved (text_of l)) p)
 word_is (Reserved t) p e f = refl
 word_is (Name t) p e f = absurd cc

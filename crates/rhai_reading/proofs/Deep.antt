@@ -4,7 +4,7 @@ use Rattle.std.proofs.Common.{if◌then◌else◌}
 use Rattle.rhai_grammar.specs.Prelude.{Lexeme, Sign, Position, Item, item, is_memory, is_text, Ended, Library, Use}
 use Rattle.rhai_grammar.specs.Prelude.{noted}
 use Rattle.rhai_lower.specs.declared.token.Token.TheVariants as token
-use Rattle.rhai_reading.specs.Histories.{State, adding, after_brace, asked, looking, taking, with_captured, Outcome}
+use Rattle.rhai_reading.specs.Histories.{State, adding, after_brace, next_item, after_peek, after_take, with_captured, Outcome}
 use Rattle.rhai_reading.specs.Histories.{Done, Runs}
 use Rattle.rhai_reading.specs.Nesting.{is_counted}
 use Rattle.rhai_reading.specs.Reading.{Goal, Val, Prog, Ret, Peek, Take, TakeText, Know, Add, Note, Call, CallLiteral}
@@ -21,21 +21,21 @@ pub record Deep {A : Type 0} (D : ℕ → ℕ) (p : Prog A) (s : State) (o : Out
   pub dives : Dives D p s
 
 module _ {A : Type 0} {D : ℕ → ℕ} {s : State} {o : Outcome A} where
-  pub deep_peek : {k : Lexeme → Position → Prog A} (i : Item) → asked s ≡ i → is_memory i.lexeme ≡ false
-      → Deep D (k i.lexeme i.at) (looking s) o → Deep D (Peek k) s o
+  pub deep_peek : {k : Lexeme → Position → Prog A} (i : Item) → next_item s ≡ i → is_memory i.lexeme ≡ false
+      → Deep D (k i.lexeme i.at) (after_peek s) o → Deep D (Peek k) s o
   deep_peek i e f r = record { runs = runs_peek i e f r.runs; dives = dives_peek i e f r.dives }
 
-  pub deep_look : {k : Lexeme → Position → Prog A} → is_memory (asked s).lexeme ≡ false
-      → Deep D (k (asked s).lexeme (asked s).at) (looking s) o → Deep D (Peek k) s o
-  deep_look f r = deep_peek (asked s) refl f r
+  pub deep_look : {k : Lexeme → Position → Prog A} → is_memory (next_item s).lexeme ≡ false
+      → Deep D (k (next_item s).lexeme (next_item s).at) (after_peek s) o → Deep D (Peek k) s o
+  deep_look f r = deep_peek (next_item s) refl f r
 
-  pub deep_take : {p : Prog A} (i : Item) → asked s ≡ i → is_memory i.lexeme ≡ false → Deep D p (taking s) o
+  pub deep_take : {p : Prog A} (i : Item) → next_item s ≡ i → is_memory i.lexeme ≡ false → Deep D p (after_take s) o
       → Deep D (Take p) s o
   deep_take i e f r = record { runs = runs_take i e f r.runs; dives = dives_take i e f r.dives }
 
   pub deep_text : {k : Position → Lexeme → Position → Prog A} (p : Position) (i : Item)
-      → asked s ≡ item (Sign token.RightBrace) p → asked (after_brace s) ≡ i → is_text i.lexeme ≡ true
-      → is_memory i.lexeme ≡ false → Deep D (k p i.lexeme i.at) (taking (after_brace s)) o → Deep D (TakeText k) s o
+      → next_item s ≡ item (Sign token.RightBrace) p → next_item (after_brace s) ≡ i → is_text i.lexeme ≡ true
+      → is_memory i.lexeme ≡ false → Deep D (k p i.lexeme i.at) (after_take (after_brace s)) o → Deep D (TakeText k) s o
   deep_text p i e f is can r =
       record { runs = runs_text p i e f is can r.runs; dives = dives_text p i e f is can r.dives }
 

@@ -1,11 +1,11 @@
 -- Soundness of due tokens, and of commas in lists. The rules hold whatever the token and the list are.
-use Rattle.rhai_grammar.specs.Prelude.{parameter_place, Lexeme, Name, Sign, text_of, Text, is_name, name_due}
+use Rattle.rhai_grammar.specs.Prelude.{parameter_role, Lexeme, Name, Sign, text_of, Text, is_name, name_due}
 use Rattle.rhai_grammar.specs.Prelude.{no_variable, Position, refusal, closing_of, after_part, is_close, not_after}
 use Rattle.rhai_grammar.specs.Prelude.{code, Item, item, Point, next_at, past, is_memory, Demands, Tok, ◌▸◌, is_due}
 use Rattle.rhai_grammar.specs.Prelude.{not_due}
 use Rattle.rhai_grammar.specs.Functions.{place_by}
-use Rattle.rhai_grammar.specs.declared.role.ItemPlace.{ItemPlace}
-use Rattle.rhai_grammar.specs.declared.role.ItemPlace.TheVariants as place
+use Rattle.rhai_grammar.specs.declared.role.ItemRole.{ItemRole}
+use Rattle.rhai_grammar.specs.declared.role.ItemRole.TheVariants as place
 use Rattle.std.proofs.Common.{◌≡◌, Bool, true, false, refl, subst}
 use Rattle.rhai_lower.specs.declared.token.Token.TheVariants as token
 use Rattle.rhai_grammar.specs.DueTokens.{token_of}
@@ -108,7 +108,7 @@ followed parts s e = subst (λ v. Follows parts v (next_at code s)) e (follows p
 
 -- ---- where a parameter may be
 
-abbrev pub ParameterIs : CommaList → ItemPlace → Item → Type 0
+abbrev pub ParameterIs : CommaList → ItemRole → Item → Type 0
 ParameterIs parts place.End i = i ≡ item (Sign (closing_of parts)) i.at
 ParameterIs parts place.Item i = i ≡ item (Name (text_of i.lexeme)) i.at
 ParameterIs parts _ i = Unit {0}
@@ -117,12 +117,12 @@ ends_parameters : (parts : CommaList) (v : AfterPart) (i : Item) → Follows par
 ends_parameters parts Close i h = h
 ends_parameters parts _ i h = tt
 
-parameter_at : (parts : CommaList) (l : Lexeme) (p : Position) → ParameterIs parts (parameter_place parts l) (item l p)
+parameter_at : (parts : CommaList) (l : Lexeme) (p : Position) → ParameterIs parts (parameter_role parts l) (item l p)
 parameter_at parts (Name t) p = refl
 parameter_at parts (Sign t) p = ends_parameters parts (after_part parts (Sign t)) (item (Sign t) p) (follows parts (Sign t) p)
 parameter_at parts _ p = tt
 
-pub parameter_is : {v : ItemPlace} (parts : CommaList) (s : Point) → parameter_place parts (op_at s) ≡ v
+pub parameter_is : {v : ItemRole} (parts : CommaList) (s : Point) → parameter_role parts (op_at s) ≡ v
     → ParameterIs parts v (next_at code s)
 parameter_is parts s e = subst (λ v. ParameterIs parts v (next_at code s)) e (parameter_at parts (op_at s) (pos_at s))
 

@@ -4,7 +4,7 @@ use Rattle.std.specs.Prelude.{Option, Some, None, not}
 use Rattle.std.specs.Option.{is_some}
 use Rattle.rhai_grammar.specs.Prelude.{Text, Lexeme, Interpolated, Name, Sign, String, text_of, Node, Nodes, no_nodes}
 use Rattle.rhai_grammar.specs.Prelude.{Properties, property, Position, refusal, code, text, item, Point, Context, Live}
-use Rattle.rhai_grammar.specs.Prelude.{below_global, has_single_blocks, in_block, level_up, excludes_use, member_place}
+use Rattle.rhai_grammar.specs.Prelude.{below_global, has_single_blocks, in_block, level_up, excludes_use, member_role}
 use Rattle.rhai_grammar.specs.Prelude.{is_member, is_key, has_key, property_count, Link, index_refusal, joined, Primary}
 use Rattle.rhai_grammar.specs.Prelude.{Base, Links, Operand, Arguments, Items, Elements, Fields, Run, primary_tree}
 use Rattle.rhai_grammar.specs.Prelude.{base_tree, link_list, operand_tree, argument_trees, item_trees, element_trees}
@@ -24,7 +24,7 @@ use Rattle.rhai_grammar.specs.Statements.{exported_due, exports_definition}
 use Rattle.rhai_grammar.specs.Trees.{jump_result, statement_of, value_tree}
 use Rattle.rhai_grammar.specs.declared.role.Closing.{Closing}
 use Rattle.rhai_grammar.specs.declared.role.Closing.TheVariants.{Brace}
-use Rattle.rhai_grammar.specs.declared.role.OperandPlace.{OperandPlace}
+use Rattle.rhai_grammar.specs.declared.role.OperandRole.{OperandRole}
 use Rattle.rhai_reading.proofs.Lists.{joined_properties, joined_statements}
 use Rattle.rhai_reading.proofs.Looks.{op_at}
 use Rattle.rhai_reading.proofs.Shows.{Kind}
@@ -34,17 +34,17 @@ use Rattle.rhai_reading.proofs.Shows.{Kind}
 abbrev pub expressions : Context → Live → Kind Run Node
 expressions c w = record { tree = λ t f. tree f w; demands = λ f k. W.expression f c w k }
 
-abbrev pub operands : Context → Live → OperandPlace → Kind Operand Node
+abbrev pub operands : Context → Live → OperandRole → Kind Operand Node
 operands c w place = record { tree = λ t x. operand_tree x w; demands = λ x k. W.operand x c w place k }
 
 -- the token behind a primary may call it, or make it part of a path
 abbrev pub tree_before : Live → Point → Primary → Node
 tree_before w t x = primary_tree x w (excludes_use (op_at t))
 
-abbrev pub primaries : Context → Live → OperandPlace → Kind Primary Node
+abbrev pub primaries : Context → Live → OperandRole → Kind Primary Node
 primaries c w place = record { tree = tree_before w; demands = λ x k. W.primary x c w place k }
 
-abbrev pub bases : Context → Live → OperandPlace → Kind Base Node
+abbrev pub bases : Context → Live → OperandRole → Kind Base Node
 bases c w place = record { tree = λ t x. base_tree x w; demands = λ x k. W.base x c w place k }
 
 abbrev pub items : Context → Live → (before : Nodes) → Kind Items Nodes
@@ -155,7 +155,7 @@ indices c w indexed = record { tree = λ t f. tree f.index w; demands = index_of
 -- what stands behind a dot
 pub data MemberForm : Type 0 where
   AProperty : (name : Text) → Position → MemberForm
-  AMethod : (name : Lexeme) → is_member (member_place name) ≡ true → Position → CallForm → MemberForm
+  AMethod : (name : Lexeme) → is_member (member_role name) ≡ true → Position → CallForm → MemberForm
 
 abbrev pub member_of : Context → Live → MemberForm → Demands → Demands
 member_of c w (AProperty name pos) k = Tok code (item (Name name) pos) V.anything ▸ Next V.uncalled_member ▸ k

@@ -2,7 +2,7 @@
 use Rattle.std.proofs.Common.{◌≡◌, Bool, true, false, refl, sym, ap, ◌∙◌, subst, if◌then◌else◌, List}
 use Rattle.rhai_grammar.specs.Prelude.{Lexeme, Position, Cause, Refusal, refusal, out_of_memory, is_memory_cause}
 use Rattle.rhai_grammar.specs.Prelude.{unexpected, is_due, not_due, is_text, Mode, code, text, Item, Point, next_at}
-use Rattle.rhai_grammar.specs.Prelude.{past, is_memory, StandsAtLast, is_at_last, Context, has_room, Verdict, Fine}
+use Rattle.rhai_grammar.specs.Prelude.{past, is_memory, StandsAtLast, is_at_last, Context, may_raise, Verdict, Fine}
 use Rattle.rhai_grammar.specs.Prelude.{Wrong, Blames, Otherwise, Demands, Nothing, ◌▸◌, Tok, Next, Test, Literally}
 use Rattle.rhai_grammar.specs.Prelude.{verdict, Ended, Library, adding, apart, capturing, with_captured, Use, Uses}
 use Rattle.rhai_grammar.specs.Causes as cause
@@ -12,7 +12,7 @@ use Rattle.rhai_reading.specs.Reading.{Know, Add, Note, CallApart, Goal, Val, Pr
 use Rattle.rhai_reading.specs.Reading.{Call, CallLiteral}
 use Rattle.rhai_reading.specs.Histories as H
 use Rattle.rhai_reading.specs.Histories.{State, Outcome, Done, Refused, Unfinished, after_brace, and_then, exec}
-use Rattle.rhai_reading.specs.Histories.{looking, recast}
+use Rattle.rhai_reading.specs.Histories.{after_peek, recast}
 use Rattle.rhai_reading.proofs.Joins.{cursor}
 use Rattle.rhai_reading.proofs.Rules.{at}
 use Rattle.rhai_reading.proofs.Looks.{op_at, pos_at}
@@ -170,17 +170,17 @@ module _ {A : Type 0} {call : Histories} {Q : A → Point → Type 0} {N : Refus
   -- a `}` and the text after it
   pub text_taken : {k : Position → Lexeme → Position → Prog A} {s : Point} {b : Bool}
       → (is_memory (op_at s) ≡ false → is_due RightBrace (op_at s) ≡ false
-      → N (refusal (not_due RightBrace (op_at s)) (pos_at s)) (looking (at s b)))
+      → N (refusal (not_due RightBrace (op_at s)) (pos_at s)) (after_peek (at s b)))
       → (is_due RightBrace (op_at s) ≡ true → is_memory (text_at s).lexeme ≡ false → is_text (text_at s).lexeme ≡ false
-      → N (refusal (unexpected (text_at s).lexeme) (text_at s).at) (looking (after_brace (at s b))))
+      → N (refusal (unexpected (text_at s).lexeme) (text_at s).at) (after_peek (after_brace (at s b))))
       → (is_due RightBrace (op_at s) ≡ true → is_text (text_at s).lexeme ≡ true
       → Shows call Q N (k (pos_at s) (text_at s).lexeme (text_at s).at) (past text (past code s)) false)
       → Shows call Q N (TakeText k) s b
   text_taken {s = s} {b = b} brace other on = record {
     shown = readable Q N _ _ _ (λ m. chosen Q N (is_due RightBrace (op_at s)) _
-        (Refused (refusal (not_due RightBrace (op_at s)) (pos_at s)) (looking (at s b)))
+        (Refused (refusal (not_due RightBrace (op_at s)) (pos_at s)) (after_peek (at s b)))
         (λ due. readable Q N _ _ _ (λ n. chosen Q N (is_text (text_at s).lexeme) _
-        (Refused (refusal (unexpected (text_at s).lexeme) (text_at s).at) (looking (after_brace (at s b))))
+        (Refused (refusal (unexpected (text_at s).lexeme) (text_at s).at) (after_peek (after_brace (at s b))))
         (λ is. (on due is).shown) (λ none w. other due n none))) (λ none w. brace m none));
   }
 
@@ -282,10 +282,10 @@ module _ {A F B : Type 0} {call : Histories} {Q : A → Point → Type 0} {K : K
   test t f earlier way on = either t on (λ no_. halt f earlier (way no_))
 
   pub raise : (c : Context) (f : F) {pos : Position} {p : Prog A} {s : Point} {b : Bool}
-      → (has_room c ≡ false → (k : Demands) → Way (K.demands f k) from (Lost (refusal cause.ExprTooDeep pos) s))
-      → (has_room c ≡ true → Shows call Q (Halts K from) p s b)
-      → Shows call Q (Halts K from) (if has_room c then p else Fail (refusal cause.ExprTooDeep pos)) s b
-  raise c f way below = test (has_room c) f refl way below
+      → (may_raise c ≡ false → (k : Demands) → Way (K.demands f k) from (Lost (refusal cause.ExprTooDeep pos) s))
+      → (may_raise c ≡ true → Shows call Q (Halts K from) p s b)
+      → Shows call Q (Halts K from) (if may_raise c then p else Fail (refusal cause.ExprTooDeep pos)) s b
+  raise c f way below = test (may_raise c) f refl way below
 
   -- a test of the token that was looked at
   pub check : (t : Bool) (f : F) {c : Cause} {p : Prog A} {s : Point}

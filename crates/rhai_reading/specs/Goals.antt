@@ -1,7 +1,7 @@
 -- Goals: what readers are called for, what they give, and their terms.
 use Rattle.std.specs.Prelude.{if◌then◌else◌, ℕ, Bool, Option, Some, None, List}
 use Rattle.rhai_grammar.specs.Prelude.{Lexeme, Ended, Library, Use, Refusal, refusal, Comment, is_due, not_due, Context}
-use Rattle.rhai_grammar.specs.Prelude.{Live, has_room, level_up, after_part, not_after, Text, Node, Nodes, Properties}
+use Rattle.rhai_grammar.specs.Prelude.{Live, may_raise, level_up, after_part, not_after, Text, Node, Nodes, Properties}
 use Rattle.rhai_grammar.specs.Prelude.{no_statements, Optional, Position, LinkSpot, Link, is_name, no_variable}
 use Rattle.rhai_grammar.specs.Prelude.{Collected, text_of}
 use Rattle.rhai_grammar.specs.declared.role.Bars.{Bars}
@@ -15,7 +15,7 @@ use Rattle.rhai_lower.specs.Nodes as node
 use Rattle.rhai_grammar.specs.declared.role.Closing.{Closing}
 use Rattle.rhai_grammar.specs.declared.role.Closing.TheVariants.{EndMark}
 use Rattle.rhai_grammar.specs.declared.role.Construct.{Construct as Kind}
-use Rattle.rhai_grammar.specs.declared.role.OperandPlace.{OperandPlace}
+use Rattle.rhai_grammar.specs.declared.role.OperandRole.{OperandRole}
 
 -- What is read by a call: a constructor for each reader of the code, with what it is given.
 pub data Goal : Type 0 where
@@ -25,7 +25,7 @@ pub data Goal : Type 0 where
   -- a written operand with its signs and its call
   Operand : Context → Live → Goal
   -- an operand at this place after an operator
-  RightOperand : Context → Live → OperandPlace → Goal
+  RightOperand : Context → Live → OperandRole → Goal
   Primary : Context → Live → Goal
   -- what calls a name, which may have a path: whether it has a `!`, and the arguments; at is where the raise of their
   -- level is refused
@@ -232,7 +232,7 @@ pub data Prog (A : Type 0) : Type 0 where
 
 -- the level is raised, or that is refused at a position
 abbrev pub raised : {A : Type 0} → Context → Position → (Context → Prog A) → Prog A
-raised context at rest = if has_room context then rest (level_up context) else Fail (refusal cause.ExprTooDeep at)
+raised context at rest = if may_raise context then rest (level_up context) else Fail (refusal cause.ExprTooDeep at)
 
 -- this token is due, or what else is there is refused
 abbrev pub match_token : {A : Type 0} → DueToken → Prog A → Prog A

@@ -12,8 +12,8 @@ use Rattle.rhai_grammar.specs.declared.list.CommaList.{CommaList}
 use Rattle.rhai_grammar.specs.declared.list.CommaList.TheVariants as lists
 use Rattle.rhai_grammar.specs.declared.role.Calling.{Calling}
 use Rattle.rhai_grammar.specs.declared.role.Calling.TheVariants as calls_by
-use Rattle.rhai_grammar.specs.declared.role.ItemPlace.{ItemPlace}
-use Rattle.rhai_grammar.specs.declared.role.ItemPlace.TheVariants as place
+use Rattle.rhai_grammar.specs.declared.role.ItemRole.{ItemRole}
+use Rattle.rhai_grammar.specs.declared.role.ItemRole.TheVariants as place
 use Rattle.rhai_reading.specs.Goals.{Block, Comments, Function, Parameters, Ret, Fail, Peek, Take, Know, Add, Call}
 use Rattle.rhai_reading.specs.Goals.{Prog, after_a_part, raised}
 
@@ -53,7 +53,7 @@ head_at lexeme at =
 -- ---- the parameters
 
 -- where a parameter may be
-abbrev pub parameter_at : CommaList → (function : Text) → (before : List Text) → Lexeme → Position → ItemPlace
+abbrev pub parameter_at : CommaList → (function : Text) → (before : List Text) → Lexeme → Position → ItemRole
     → Prog (List Text)
 parameter_at parts function before lexeme at place.End = Take (Ret before)
 parameter_at parts function before lexeme at place.Item =

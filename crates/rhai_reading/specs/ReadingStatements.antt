@@ -20,8 +20,8 @@ use Rattle.rhai_grammar.specs.declared.role.AfterStatement.{AfterStatement}
 use Rattle.rhai_grammar.specs.declared.role.AfterStatement.TheVariants as ends
 use Rattle.rhai_grammar.specs.declared.role.Closing.{Closing}
 use Rattle.rhai_grammar.specs.declared.role.Closing.TheVariants.{Brace}
-use Rattle.rhai_grammar.specs.declared.role.StatementPlace.{StatementPlace}
-use Rattle.rhai_grammar.specs.declared.role.StatementPlace.TheVariants as stands
+use Rattle.rhai_grammar.specs.declared.role.StatementRole.{StatementRole}
+use Rattle.rhai_grammar.specs.declared.role.StatementRole.TheVariants as stands
 use Rattle.rhai_grammar.specs.declared.role.StatementStart.{StatementStart}
 use Rattle.rhai_grammar.specs.declared.role.StatementStart.TheVariants as start
 use Rattle.rhai_grammar.specs.Trees.{no_block}
@@ -148,7 +148,7 @@ statements_on closing context live before ends =
     else Peek (λ lexeme at. separated_at closing context live before lexeme at (token_after_statement closing lexeme))
 
 -- where a statement of a list may begin
-abbrev pub statements_at : Closing → Context → Live → node.Statements → Lexeme → Position → StatementPlace
+abbrev pub statements_at : Closing → Context → Live → node.Statements → Lexeme → Position → StatementRole
     → Prog (node.Statements × Live)
 statements_at closing context live before lexeme at stands.Close = Ret (before, live)
 statements_at closing context live before lexeme at stands.Statement =

@@ -26,14 +26,14 @@ pub record Progress : Type 0 where
   pub captured : List Use
   pub nesting : Nesting
 
-abbrev pub asked : Progress → Item
-asked s = cursors.asked s.cursor
+abbrev pub next_item : Progress → Item
+next_item s = cursors.next_item s.cursor
 
-abbrev pub looking : Progress → Progress
-looking s = record s { cursor = cursors.looking s.cursor }
+abbrev pub after_peek : Progress → Progress
+after_peek s = record s { cursor = cursors.after_peek s.cursor }
 
-abbrev pub taking : Progress → Progress
-taking s = record s { cursor = cursors.taking s.cursor }
+abbrev pub after_take : Progress → Progress
+after_take s = record s { cursor = cursors.after_take s.cursor }
 
 abbrev pub after_brace : Progress → Progress
 after_brace s = record s { cursor = cursors.after_brace s.cursor }
@@ -62,9 +62,9 @@ nested run s = left_so (run (entering s))
 
 abbrev pub steps : Moves Progress
 steps = record {
-  asked = asked;
-  looking = looking;
-  taking = taking;
+  next_item = next_item;
+  after_peek = after_peek;
+  after_take = after_take;
   after_brace = after_brace;
   library = λ s. s.library;
   adding = adding;

@@ -3,7 +3,7 @@ use Rattle.std.proofs.Common.{◌≡◌, ◌∙◌, ℕ, ◌≤◌, zero, suc, B
 use Rattle.std.proofs.Common.{length, refl, subst, sym}
 use Rattle.std.specs.Prelude.{take}
 use Rattle.rhai_lower.specs.declared.position.Position.{Position}
-use Rattle.rhai_grammar.specs.Cursors.{Cursor, asked}
+use Rattle.rhai_grammar.specs.Cursors.{Cursor, next_item}
 use Rattle.rhai_grammar.specs.Delivered.{Mode, Taken, ask, code, is_end, later, text}
 use Rattle.rhai_grammar.specs.Demands.{Demands}
 use Rattle.rhai_grammar.specs.Libraries.{Library}
@@ -127,7 +127,7 @@ fewer_same (suc n) (i ∷ is) (j ∷ js) same =
 
 module _ {F : Type 0} (whole : F → Demands) (before : Library) (limits : Limits) (ps : List Piece) (taken : List Taken)
     (left : Cursor) (saw : Saw taken (cursor_in limits ps) left) (early : NoneBegins whole before taken left)
-    (no_end : is_end (asked left).lexeme ≡ false) where
+    (no_end : is_end (next_item left).lexeme ≡ false) where
   abbrev all : List Item
   all = items limits at_start ps
 

@@ -12,13 +12,13 @@ use Rattle.rhai_lower.specs.declared.ast.ScriptFuncDef.{ScriptFuncDef}
 use Rattle.rhai_lower.specs.declared.ast.Stmt.{Stmt}
 use Rattle.rhai_grammar.specs.Causes.{is_for_memory, no_memory}
 use Rattle.rhai_grammar.specs.Contexts.{Context, nothing_live}
-use Rattle.rhai_grammar.specs.Cursors.{Cursor, asked, cursor_of, taking}
+use Rattle.rhai_grammar.specs.Cursors.{Cursor, next_item, cursor_of, after_take}
 use Rattle.rhai_grammar.specs.Delivered.{is_end}
 use Rattle.rhai_grammar.specs.Demands.{Demands}
 use Rattle.rhai_grammar.specs.Libraries.{Library}
 use Rattle.rhai_grammar.specs.Promises.{HasRead, ReadsWhole, Saw, UnlessMemory, scripts}
 use Rattle.rhai_grammar.specs.declared.error.ParseError.{ParseError}
-use Rattle.rhai_grammar.proofs.PlaceLemmas.{refusals_stand_at_tokens}
+use Rattle.rhai_grammar.proofs.PositionLemmas.{refusals_stand_at_tokens}
 use Rattle.rhai_parser.specs.Engines.{EngineValue}
 use Rattle.rhai_parser.specs.Nesting.{NestsAsWritten}
 use Rattle.rhai_parser.specs.Scripts.{Constants, IsScript, ReadsScript}
@@ -63,10 +63,10 @@ neither true b is = absurd (true≢false is)
 neither false b is = refl
 
 -- Where it may not, the end mark does not come next.
-no_end : (left : Cursor) (spans : List Span) → may_go_on left spans ≡ false → is_end (asked left).lexeme ≡ false
+no_end : (left : Cursor) (spans : List Span) → may_go_on left spans ≡ false → is_end (next_item left).lexeme ≡ false
 no_end left spans is =
-    neither (is_end (asked left).lexeme) (is_unended (asked left).lexeme && (is_end (asked
-    (taking left)).lexeme && touches_end spans)) is
+    neither (is_end (next_item left).lexeme) (is_unended (next_item left).lexeme && (is_end (next_item
+    (after_take left)).lexeme && touches_end spans)) is
 
 -- ---- the promise
 

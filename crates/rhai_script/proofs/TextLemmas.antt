@@ -5,11 +5,11 @@ use Rattle.rhai_lower.specs.Entries.{ask_of}
 use Rattle.rhai_lower.specs.Streams.{stream_of}
 use Rattle.rhai_lower.specs.Texts.{Text}
 use Rattle.rhai_grammar.specs.Causes.{Refusal, is_for_memory, refusal_of}
-use Rattle.rhai_grammar.specs.Cursors.{Cursor, asked, cursor_of}
+use Rattle.rhai_grammar.specs.Cursors.{Cursor, next_item, cursor_of}
 use Rattle.rhai_grammar.specs.Delivered.{Taken}
 use Rattle.rhai_grammar.specs.Demands.{Demands}
 use Rattle.rhai_grammar.specs.Libraries.{Library}
-use Rattle.rhai_grammar.specs.PlaceLaws.{StandsAmong}
+use Rattle.rhai_grammar.specs.PositionLaws.{StandsAmong}
 use Rattle.rhai_grammar.specs.Promises.{HasRead, IsNamed, ReadsWhole, UnlessMemory}
 use Rattle.rhai_grammar.specs.declared.error.ParseError.{ParseError}
 use Rattle.rhai_tokenizer.specs.Pieces.{Piece, spelled}
@@ -24,7 +24,7 @@ use Rattle.rhai_tokenizer.proofs.ReadingLemmas.{read_fits}
 use Rattle.rhai_script.specs.Deliveries.{IsPlaceIn, cursor_in}
 use Rattle.rhai_script.specs.Texts.{IsTextOf, ReadsText}
 use Rattle.rhai_script.proofs.DeliveryLemmas.{streams_agree}
-use Rattle.rhai_script.proofs.PlaceLemmas.{seen_place}
+use Rattle.rhai_script.proofs.PositionLemmas.{seen_place}
 
 -- every text is pieces that fit
 pub a_reading : (limits : Limits) (text : Text) → (ps : List Piece) × IsTextOf limits ps text
@@ -54,7 +54,7 @@ nothing_read whole Is before after limits text e memory = record {
 abbrev pub StandWhereNamed : {F : Type 0} → (F → Demands) → Type 0
 StandWhereNamed whole =
     (before after : Library) (taken : List Taken) (start left : Cursor) (e : Refusal)
-    → IsNamed whole before after taken start left e → StandsAmong taken (asked left) e.at
+    → IsNamed whole before after taken start left e → StandsAmong taken (next_item left) e.at
 
 pub refusal_placed : {F X : Type 0} (whole : F → Demands) (Is : F → X → Type 0) (before after : Library)
     (limits : Limits)

@@ -6,7 +6,7 @@ use Rattle.rhai_lower.specs.Lexemes.{Faulty, Lexeme, UnterminatedString}
 use Rattle.rhai_lower.specs.Texts.{Text}
 use Rattle.rhai_grammar.specs.Causes.{is_for_memory}
 use Rattle.rhai_grammar.specs.Contexts.{Context, nothing_live}
-use Rattle.rhai_grammar.specs.Cursors.{Cursor, asked, taking}
+use Rattle.rhai_grammar.specs.Cursors.{Cursor, next_item, after_take}
 use Rattle.rhai_grammar.specs.Delivered.{is_end}
 use Rattle.rhai_grammar.specs.Demands.{Demands}
 use Rattle.rhai_grammar.specs.Forms.{Statements}
@@ -61,8 +61,8 @@ touches_end (s ∷ t ∷ u ∷ more) = touches_end (t ∷ u ∷ more)
 -- may be a script. These are the spans of the tokens.
 abbrev pub may_go_on : Cursor → List Span → Bool
 may_go_on left spans =
-    is_end (asked left).lexeme
-    || (is_unended (asked left).lexeme && (is_end (asked (taking left)).lexeme && touches_end spans))
+    is_end (next_item left).lexeme
+    || (is_unended (next_item left).lexeme && (is_end (next_item (after_take left)).lexeme && touches_end spans))
 
 -- No written form has a text whose tokens begin with the first ones of these pieces, which are so many; the end mark is
 -- not among them.

@@ -13,7 +13,7 @@ ghost use Rattle.rhai_base.specs.Settings.{settings_of};
 ghost use Rattle.rhai_reading.specs.Reading.{tested};
 ghost use Rattle.rhai_reading.specs.Running.{Caller, Gives, Progress, exec};
 ghost use Rattle.rhai_parser.specs.Readers.{GoesOn, Reads, name_view, var_name};
-ghost use Rattle.rhai_parser.specs.Rooms.{Steady};
+ghost use Rattle.rhai_parser.specs.Heights.{Steady};
 
 use crate::engine::Engine;
 use crate::shared::Shared;

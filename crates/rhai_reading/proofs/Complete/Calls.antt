@@ -13,7 +13,7 @@ use Rattle.rhai_grammar.specs.declared.list.CommaList.TheVariants as lists
 use Rattle.rhai_grammar.specs.Forms as form
 use Rattle.rhai_grammar.specs.Verdicts as V
 use Rattle.rhai_grammar.specs.Written as W
-use Rattle.rhai_grammar.specs.declared.role.OperandPlace.{OperandPlace}
+use Rattle.rhai_grammar.specs.declared.role.OperandRole.{OperandRole}
 use Rattle.rhai_reading.specs.Reading as R
 use Rattle.rhai_reading.specs.Reading.{called_at, bang_at, body}
 use Rattle.rhai_reading.proofs.FormKinds.{By, call_of, paths}
@@ -157,7 +157,7 @@ excluded_by (form.Scoped colons at pos rest) imports n bang args c w q b name k 
     path_here (form.Scoped colons at pos rest) imports n n _ s t m refl
 
 call_met : (x : Primary) (names : Path) (bang : Option Position) (args : Arguments) (c : Context) (w : Live)
-    (place : OperandPlace) (k : Demands) (s t : Point) → Met (W.base (form.Call x names bang args) c w place k) s t
+    (place : OperandRole) (k : Demands) (s t : Point) → Met (W.base (form.Call x names bang args) c w place k) s t
     → let y = path_tree names w.imports (primary_tree x w true) in
     Met (W.primary x c w place (W.path names w.imports (primary_tree x w true) (Shape (is_variable y) ▸
     call_of c w (position_of y) (is_qualified y) (By bang args) (W.unfaulted (module_fault c w y) k)))) s t

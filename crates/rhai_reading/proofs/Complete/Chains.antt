@@ -3,8 +3,8 @@ use Rattle.std.proofs.Common.{◌≡◌, ℕ, ◌+◌, max, arith, Bool, true, f
 use Rattle.std.proofs.Common.{append-nil, refl, sym}
 use Rattle.std.specs.Option.{is_some}
 use Rattle.rhai_grammar.specs.Prelude.{Text, Lexeme, Name, text_of, Node, property, Position, Refusal, code, item}
-use Rattle.rhai_grammar.specs.Prelude.{Point, next_at, past, Context, Live, has_room, level_up, calls, linking}
-use Rattle.rhai_grammar.specs.Prelude.{is_bracket, is_dot, is_link, member_place, is_member, qualifies, Link}
+use Rattle.rhai_grammar.specs.Prelude.{Point, next_at, past, Context, Live, may_raise, level_up, calls, linking}
+use Rattle.rhai_grammar.specs.Prelude.{is_bracket, is_dot, is_link, member_role, is_member, qualifies, Link}
 use Rattle.rhai_grammar.specs.Prelude.{index_refusal, last_fault, Links, Arguments, Run, argument_trees, link_list}
 use Rattle.rhai_grammar.specs.Prelude.{bracket_link, member_link, method_tree, tree, Demands, Met, unfaulted, LinkSpot}
 use Rattle.rhai_grammar.specs.Prelude.{spot_after_bracket, spot_after_dot}
@@ -62,7 +62,7 @@ bracket opening pos f closing rest expression links q w k s t b m =
 module _ (w : Live) (q : LinkSpot) {k j : Demands} {s t : Point} {b : Bool} {x : Node} {D E : ℕ → ℕ} (ls : List Link) where
   dotted : (dot : Lexeme) (pos : Position) (name : Lexeme) (name_at : Position) → is_dot (linking dot) ≡ true
       → next_at code s ≡ item dot pos
-      → is_member (member_place name) ≡ true → next_at code (past code s) ≡ item name name_at → has_room q.settings ≡ true
+      → is_member (member_role name) ≡ true → next_at code (past code s) ≡ item name name_at → may_raise q.settings ≡ true
       → Reaches D (body (R.Member (level_up q.settings) w)) (past code s) true x j t
       → ((u : Point) (l : Bool) → Met j u t → Reaches E (body (R.Links w (spot_after_dot q (member_link dot pos x)))) u l
       ((q.before ++ (member_link dot pos x ∷ [])) ++ ls) k t)
@@ -70,7 +70,7 @@ module _ (w : Live) (q : LinkSpot) {k j : Demands} {s t : Point} {b : Bool} {x :
   dotted dot pos name name_at is here member named below inside on =
       let can = readable (λ l. is_dot (linking l)) (λ f. refl) dot is in
       peek here can (seen (dot_is (linking dot) is) (R.links_at w q dot pos) (take here can
-      (peek named (member_readable name member) (seen (member_is (member_place name) member)
+      (peek named (member_readable name member) (seen (member_is (member_role name) member)
       (R.dot_at w q dot pos name_at)
       (if_true _ below (part inside (λ u l n. part (on u l n) (λ v a n. gives (spot_after_one_more q.before _ ls) n))))))))
 

@@ -1,7 +1,7 @@
 -- Functions: the steps to what is written.
 use Rattle.rhai_grammar.specs.declared.list.CommaList.{CommaList}
 use Rattle.rhai_grammar.specs.declared.list.CommaList.TheVariants as lists
-use Rattle.rhai_grammar.specs.Prelude.{after_part, closing_of, parameter_place, is_comment, Sign, noop, Text, Position}
+use Rattle.rhai_grammar.specs.Prelude.{after_part, closing_of, parameter_role, is_comment, Sign, noop, Text, Position}
 use Rattle.rhai_grammar.specs.Prelude.{Refusal, Comment, Context, Live, level_up, code, item, is_memory, next_at, past}
 use Rattle.rhai_grammar.specs.Prelude.{Point, body_depth, Blames, Demands, Fine, Met, is_due, Owner, ParameterList}
 use Rattle.rhai_grammar.specs.Prelude.{Parameters, in_function, is_type, names_function, parameter_names}
@@ -45,7 +45,7 @@ head f k s t b m = by f.owner f.name f.at k s t b m
 -- ---- the parameters
 
 end_taken : (parts : CommaList) (function : Text) (before : List Text) (at : Position)
-    → R.parameter_at parts function before (Sign (closing_of parts)) at (parameter_place parts (Sign (closing_of parts)))
+    → R.parameter_at parts function before (Sign (closing_of parts)) at (parameter_role parts (Sign (closing_of parts)))
     ≡ Take (Ret before)
 end_taken lists.Arguments function before at = refl
 end_taken lists.Array function before at = refl

@@ -1,7 +1,7 @@
 -- What is said of the written forms: that each is read.
 use Rattle.std.proofs.Common.{◌≡◌, ℕ, ◌≤◌, Bool, true, false, max, refl}
 use Rattle.rhai_grammar.specs.Prelude.{Lexeme, Node, Nodes, no_nodes, Properties, position_of, Position, code, Point}
-use Rattle.rhai_grammar.specs.Prelude.{next_at, is_memory, Context, Live, has_room, calling, excludes_use, Follower}
+use Rattle.rhai_grammar.specs.Prelude.{next_at, is_memory, Context, Live, may_raise, calling, excludes_use, Follower}
 use Rattle.rhai_grammar.specs.Prelude.{follower_of, is_operator, strength, Primary, Base, Links, Operand, Arguments}
 use Rattle.rhai_grammar.specs.Prelude.{Items, Elements, Fields, Run, Just, Binary, ClosureBody, Body, Branch}
 use Rattle.rhai_grammar.specs.Prelude.{Conditional, Construct, ExprStatement, Initializer, JumpValue, Segments}
@@ -10,7 +10,7 @@ use Rattle.rhai_grammar.specs.Prelude.{base_tree, argument_trees, tree, action_d
 use Rattle.rhai_grammar.specs.Prelude.{case_guard_depth, cases_depth, closure_body_depth, initializer_depth}
 use Rattle.rhai_grammar.specs.Prelude.{operand_depth, run_depth, statement_depth, statements_depth, Verdict, Fine}
 use Rattle.rhai_grammar.specs.Prelude.{Demands, verdict, Met, LinkSpot, Height, Side, Outermost, RightOf, Spot}
-use Rattle.rhai_grammar.specs.Prelude.{filter_of, height_after, side_fits, left_fits, operator_known, place_after}
+use Rattle.rhai_grammar.specs.Prelude.{filter_of, height_after, side_fits, left_fits, operator_known, role_after}
 use Rattle.rhai_grammar.specs.Prelude.{Collected, kind_of}
 use Rattle.rhai_grammar.specs.declared.role.Calling.{Calling}
 use Rattle.rhai_grammar.specs.declared.role.Calling.TheVariants as calls_by
@@ -24,7 +24,7 @@ use Rattle.rhai_reading.specs.Reading as R
 use Rattle.rhai_reading.specs.Reading.{Goal, Val, Prog, Ret, Peek, Take, Call, list_on, body}
 use Rattle.rhai_reading.specs.Histories.{State, Outcome, Done}
 use Rattle.rhai_reading.proofs.Deep.{Deep}
-use Rattle.rhai_grammar.specs.declared.role.OperandPlace.TheVariants.{Elsewhere}
+use Rattle.rhai_grammar.specs.declared.role.OperandRole.TheVariants.{Elsewhere}
 use Rattle.rhai_reading.proofs.Rules.{at}
 use Rattle.rhai_reading.proofs.Shows.{Kind}
 use Rattle.rhai_reading.proofs.FormKinds.{expressions, operands, items, elements, fields, links, expr_statements}
@@ -34,7 +34,7 @@ use Rattle.rhai_lower.specs.Nodes as node
 use Rattle.rhai_grammar.specs.Forms as form
 use Rattle.rhai_reading.proofs.SwitchKinds.{actions, arm_lists, case_guards, cases}
 use Rattle.rhai_reading.proofs.ConstructKinds.{branches, conditionals, constructs}
-use Rattle.rhai_grammar.specs.declared.role.OperandPlace.{OperandPlace}
+use Rattle.rhai_grammar.specs.declared.role.OperandRole.{OperandRole}
 use Rattle.rhai_grammar.specs.declared.role.Closing.{Closing}
 use Rattle.rhai_reading.proofs.Reaches.{Reaches}
 use Rattle.rhai_reading.proofs.Looks.{op_at, follower_at, climb}
@@ -72,7 +72,7 @@ Top filter side (Binary op pos l r) = side_fits filter side (follower_of filter 
 -- the level was raised there
 abbrev pub Entered : Side → Type 0
 Entered Outermost = Unit {0}
-Entered (RightOf op h) = has_room h.settings ≡ true
+Entered (RightOf op h) = may_raise h.settings ≡ true
 
 -- where a run's operators begin, once its first operand was read
 abbrev pub begins : Spot → Node → Height
@@ -81,7 +81,7 @@ begins q x = record { settings = q.begins; at = position_of x }
 -- the reader of the first operand gives this
 abbrev pub Begins : Side → Context → Live → (D : ℕ → ℕ) → State → Outcome Node → Type 0
 Begins Outermost c w D s o = Deep D (body (R.Operand c w)) s o
-Begins (RightOf op h) c w D s o = Deep D (body (R.RightOperand c w (place_after op))) s o
+Begins (RightOf op h) c w D s o = Deep D (body (R.RightOperand c w (role_after op))) s o
 
 -- The first operand is read, and from there on the reader is where it is once it has the whole run.
 pub record Reads (f : Run) (q : Spot) (k : Demands) (s : Point) (b : Bool) (t : Point) : Type 0 where
@@ -128,12 +128,12 @@ ExpressionRead f = (c : Context) (w : Live) → IsRead (run_depth f) (R.Expressi
 
 abbrev pub OperandRead : Operand → Type 0
 OperandRead x =
-    (c : Context) (w : Live) (place : OperandPlace) → IsRead (operand_depth x) (R.RightOperand c w place) (operands c w place) x
+    (c : Context) (w : Live) (place : OperandRole) → IsRead (operand_depth x) (R.RightOperand c w place) (operands c w place) x
 
 -- one that is written, wherever it stands
 abbrev pub WrittenRead : Operand → Type 0
 WrittenRead x =
-    (c : Context) (w : Live) (place : OperandPlace)
+    (c : Context) (w : Live) (place : OperandRole)
     → IsRead (operand_depth x) (R.Operand c w) (operands c w place) x
 
 -- one that stands on the right of no operator
@@ -143,7 +143,7 @@ FirstRead x = (c : Context) (w : Live) → IsRead (operand_depth x) (R.Operand c
 -- where no token behind it is in the way
 abbrev pub PrimaryRead : Primary → Type 0
 PrimaryRead x =
-    (c : Context) (w : Live) (place : OperandPlace) (called : Bool) (k : Demands) (s t : Point) (b : Bool)
+    (c : Context) (w : Live) (place : OperandRole) (called : Bool) (k : Demands) (s t : Point) (b : Bool)
     → Met (W.primary x c w place k) s t
     → ((u : Point) → Met k u t → Usable (primary_tree x w called) called (op_at u))
     → Reaches (λ z. max (primary_depth x) z) (body (R.Primary c w)) s b (primary_tree x w called) k t
@@ -154,7 +154,7 @@ ClosureBodyRead x = (c : Context) (w : Live) → IsRead (closure_body_depth x) (
 -- with what comes after it
 abbrev pub BaseRead : Base → Type 0
 BaseRead x =
-    (c : Context) (w : Live) (place : OperandPlace) (k j : Demands) (s t : Point) (y : Node) (rest : Node → Prog Node)
+    (c : Context) (w : Live) (place : OperandRole) (k j : Demands) (s t : Point) (y : Node) (rest : Node → Prog Node)
     (E : ℕ → ℕ) → Met (W.base x c w place k) s t
     → ((u : Point) (l : Bool) → Met k u t → Reaches E (rest (base_tree x w)) u l y j t)
     → Reaches (λ z. E (max (base_depth x) z)) (Call (R.Primary c w) (λ n. Call (R.Postfix c w n) rest)) s true y j t

@@ -2,8 +2,8 @@
 use Rattle.std.proofs.Common.{◌≡◌, ℕ, ◌+◌, max, arith, Bool, true, false, Some, refl, sym, subst}
 use Rattle.std.specs.Prelude.{◌==◌}
 use Rattle.rhai_grammar.specs.Prelude.{Lexeme, text_of, Node, Nodes, no_nodes, with_node, Properties, no_properties}
-use Rattle.rhai_grammar.specs.Prelude.{with_property, Position, code, Point, past, Context, Live, full, has_room}
-use Rattle.rhai_grammar.specs.Prelude.{level_up, item_place, property_count, is_key, Elements, Fields, Run, node_count}
+use Rattle.rhai_grammar.specs.Prelude.{with_property, Position, code, Point, past, Context, Live, full, may_raise}
+use Rattle.rhai_grammar.specs.Prelude.{level_up, item_role, property_count, is_key, Elements, Fields, Run, node_count}
 use Rattle.rhai_grammar.specs.Prelude.{element_trees, field_trees, tree, Fine, Demands, verdict, Met}
 use Rattle.rhai_grammar.specs.Settings.{quoted_keys}
 use Rattle.rhai_grammar.specs.declared.list.CommaList.TheVariants as lists
@@ -26,13 +26,13 @@ use Rattle.rhai_reading.proofs.Complete.Law.{PrimaryRead, ElementsRead, FieldsRe
 module _ (c : Context) (w : Live) (opening : Position) (before : Nodes) {x : Node} {j k : Demands} {s t : Point}
     {b : Bool} {all : Nodes} {E : ℕ → ℕ} (d : ℕ) where
   -- an item, from what it comes to, and what stands after it
-  element : verdict (V.item_due c.sizes.array (node_count before)) (op_at s) ≡ Fine → has_room c ≡ true
+  element : verdict (V.item_due c.sizes.array (node_count before)) (op_at s) ≡ Fine → may_raise c ≡ true
       → Reaches (λ z. max d z) (body (R.Expression (level_up c) w)) s true x j t
       → ((u : Point) (l : Bool) → Met j u t → Reaches E (R.element_next c w opening (with_node before x)) u l all k t)
       → Reaches (λ z. E (max (1 + d) z)) (body (R.Elements c w opening before)) s b all k t
   element due_ below e on =
       next (V.item_due c.sizes.array (node_count before)) due_ (λ fits.
-      seen (item_is c.sizes.array (op_at s) (item_place c.sizes.array (node_count before) (op_at s)) fits)
+      seen (item_is c.sizes.array (op_at s) (item_role c.sizes.array (node_count before) (op_at s)) fits)
       (R.element_at c w opening before (op_at s) (pos_at s)) (if_true _ below (deeper d refl e on)))
 
 pub no_element : (closing : Position) → ElementsRead (form.NoElement closing)

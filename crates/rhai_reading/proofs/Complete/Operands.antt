@@ -12,7 +12,7 @@ use Rattle.std.specs.Prelude.{◌||◌}
 use Rattle.rhai_grammar.specs.Forms as form
 use Rattle.rhai_grammar.specs.Verdicts as V
 use Rattle.rhai_grammar.specs.Written as W
-use Rattle.rhai_grammar.specs.declared.role.OperandPlace.{OperandPlace}
+use Rattle.rhai_grammar.specs.declared.role.OperandRole.{OperandRole}
 use Rattle.rhai_reading.specs.Reading as R
 use Rattle.rhai_reading.specs.Reading.{Prog, Ret, Fail, Call, operand_by, body}
 use Rattle.rhai_reading.proofs.Reaches.{Reaches, deeper, enough, seen, next, next_in, ret, gives, look, peek, take, due}
@@ -27,7 +27,7 @@ use Rattle.rhai_reading.proofs.Complete.Law.{PrimaryRead, BaseRead, LinksRead, O
 use Rattle.rhai_reading.proofs.Complete.Law.{StatementRead, WrittenRead}
 use Rattle.rhai_grammar.specs.Starts.{jump_stands}
 use Rattle.rhai_reading.proofs.Beginnings.{starts_value}
-use Rattle.rhai_grammar.specs.declared.role.OperandPlace.TheVariants.{Elsewhere}
+use Rattle.rhai_grammar.specs.declared.role.OperandRole.TheVariants.{Elsewhere}
 
 -- what a test says of the token that stands at a point
 looks : (f : Lexeme → Bool) (s : Point) (i : Item) → next_at code s ≡ i → f i.lexeme ≡ true → f (op_at s) ≡ true
@@ -38,7 +38,7 @@ bars_primary bars.Pair = refl
 bars_primary bars.List = refl
 
 -- the first token of a primary
-begins_here : (x : Primary) (c : Context) (w : Live) (place : OperandPlace) (k : Demands) (s t : Point)
+begins_here : (x : Primary) (c : Context) (w : Live) (place : OperandRole) (k : Demands) (s t : Point)
     → Met (W.primary x c w place k) s t → is_primary (beginning (op_at s)) ≡ true
 begins_here (form.Value token pos) c w place k s t m =
     looks (λ l. is_primary (beginning l)) s _ m.1.0 (value_primary (beginning token) m.0)
@@ -55,7 +55,7 @@ begins_here (form.Closure head f number us) c w place k s t m =
 begins_here (form.Zero range pos) c w place k s t m =
     looks (λ l. is_primary (beginning l)) s _ m.1.0 (range_primary (beginning range) m.0)
 
-base_begins : (x : Base) (c : Context) (w : Live) (place : OperandPlace) (k : Demands) (s t : Point)
+base_begins : (x : Base) (c : Context) (w : Live) (place : OperandRole) (k : Demands) (s t : Point)
     → Met (W.base x c w place k) s t → is_primary (beginning (op_at s)) ≡ true
 base_begins (form.Plain x names) c w place k s t m = begins_here x c w place _ s t m
 base_begins (form.Call x names None args) c w place k s t m = begins_here x c w place _ s t m
@@ -92,7 +92,7 @@ opened c w {D = D} {s = s} {x = x} {k = k} {t = t} e r =
     plain _ e = r
 
 -- so it is also on the right of an operator
-on_right : (c : Context) (w : Live) (place : OperandPlace) {D : ℕ → ℕ} {s : Point} {b : Bool} {x : Node} {k : Demands}
+on_right : (c : Context) (w : Live) (place : OperandRole) {D : ℕ → ℕ} {s : Point} {b : Bool} {x : Node} {k : Demands}
     {t : Point} → is_begun (beginning (op_at s)) ≡ true → Reaches D (body (R.Operand c w)) s true x k t
     → Reaches D (body (R.RightOperand c w place)) s b x k t
 on_right c w place {s = s} g r =

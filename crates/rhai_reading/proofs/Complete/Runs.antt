@@ -6,7 +6,7 @@ use Rattle.rhai_grammar.specs.Prelude.{Live, level_up, operator_tree, Follower, 
 use Rattle.rhai_grammar.specs.Prelude.{is_operator, strength, is_right, Operand, Run, Just, Binary, operand_tree, tree}
 use Rattle.rhai_grammar.specs.Prelude.{Fine, Otherwise, Demands, verdict, Met, Height, Side, Outermost, RightOf, Spot}
 use Rattle.rhai_grammar.specs.Prelude.{filter_of, right_side, height_after, raise_after, operands_fit, left_fits}
-use Rattle.rhai_grammar.specs.Prelude.{place_of, operator_known, place_after, operand_depth}
+use Rattle.rhai_grammar.specs.Prelude.{role_of, operator_known, role_after, operand_depth}
 use Rattle.rhai_grammar.specs.Causes as cause
 use Rattle.rhai_grammar.specs.declared.filter.ExprFilter.{ExprFilter}
 use Rattle.rhai_grammar.specs.Verdicts as V
@@ -158,7 +158,7 @@ step q even op pos l r k p s t E v e is on stands right shut stop h b =
     (subst (λ f. next_continues n (follower_at f right.end) ≡ false) (sym same) stop)) true in
     goes filter w u same p x op pos s (λ z. E (right.others (max right.here z))) (Done v e) stands is on
     (deep_take (item op pos) stands (operator_readable filter op is)
-    (deep_call (R.RightOperand u.settings w (place_after op)) _ right.operand
+    (deep_call (R.RightOperand u.settings w (role_after op)) _ right.operand
     (deep_call (NextOperator inner) _ (next_operator inner right.rest right.looked right.known_rest)
     (deep_then (Fail (refusal cause.ExprTooDeep u.at)) right.entered
     (deep_call (climb (begins side right.first) w n right.first) (binary_next (level_up u.settings) w p x op pos) tighter
@@ -191,13 +191,13 @@ record FirstReads (side : Side) (c : Context) (w : Live) (d : ℕ) (s : Point) (
 
 -- by the side where the run is
 first_read : (x : Operand) → OperandRead x → FirstRead x → (side : Side) (c : Context) (w : Live) (k : Demands)
-    (s t : Point) (b : Bool) → Met (W.operand x c w (place_of side) k) s t
+    (s t : Point) (b : Bool) → Met (W.operand x c w (role_of side) k) s t
     → FirstReads side c w (operand_depth x) s b (operand_tree x w) k t
 first_read x operand alone Outermost c w k s t b m =
     let r = alone c w k s t b m in
     record { end = r.end; met = r.met; looked = r.looked; reads = r.runs }
 first_read x operand alone (RightOf op h) c w k s t b m =
-    let r = operand c w (place_after op) k s t b m in
+    let r = operand c w (role_after op) k s t b m in
     record { end = r.end; met = r.met; looked = r.looked; reads = r.runs }
 
 pub just : (x : Operand) → OperandRead x → FirstRead x → RunRead (Just x)

@@ -2,12 +2,12 @@
 use Rattle.std.proofs.Common.{◌≡◌, ℕ, ◌+◌, max, arith, Bool, true, false, refl, sym, ap, ◌∙◌, if◌then◌else◌}
 use Rattle.rhai_grammar.specs.Prelude.{Text, Lexeme, Sign, Nodes, with_node, added_text, text_due, with_text, joined}
 use Rattle.rhai_grammar.specs.Prelude.{jump_token, no_value_follows, starts, value_follows, Position, code, item, text}
-use Rattle.rhai_grammar.specs.Prelude.{Point, past, Context, Live, below_global, allows_looping, has_room, in_block}
+use Rattle.rhai_grammar.specs.Prelude.{Point, past, Context, Live, below_global, allows_looping, may_raise, in_block}
 use Rattle.rhai_grammar.specs.Prelude.{level_up, body_depth, initializer_depth, statement_depth, Fine, Otherwise}
 use Rattle.rhai_grammar.specs.Prelude.{Demands, Met, Next, Tok, ◌▸◌, Body, Construct, ExprStatement, Initializer}
 use Rattle.rhai_grammar.specs.Prelude.{JumpValue, Run, Segments, Statement, Alias, Statements, is_due, construct_token}
 use Rattle.rhai_grammar.specs.Prelude.{kind_of, is_assignment, is_constant_use, is_equals, target_fault, block_tree}
-use Rattle.rhai_grammar.specs.Prelude.{segment_trees, statement_tree, statement_trees, tree, with_kept, room_due}
+use Rattle.rhai_grammar.specs.Prelude.{segment_trees, statement_tree, statement_trees, tree, with_kept, raise_due}
 use Rattle.rhai_lower.specs.Nodes as node
 use Rattle.rhai_grammar.specs.declared.due.DueToken.TheVariants as due
 use Rattle.rhai_lower.specs.declared.token.Token.TheVariants as token
@@ -22,8 +22,8 @@ use Rattle.rhai_grammar.specs.declared.role.AfterStatement.{AfterStatement}
 use Rattle.rhai_grammar.specs.declared.role.AfterStatement.TheVariants as after
 use Rattle.rhai_grammar.specs.declared.role.Closing.{Closing}
 use Rattle.rhai_grammar.specs.declared.role.Closing.TheVariants.{Brace, EndMark}
-use Rattle.rhai_grammar.specs.declared.role.StatementPlace.{StatementPlace}
-use Rattle.rhai_grammar.specs.declared.role.StatementPlace.TheVariants as place
+use Rattle.rhai_grammar.specs.declared.role.StatementRole.{StatementRole}
+use Rattle.rhai_grammar.specs.declared.role.StatementRole.TheVariants as place
 use Rattle.rhai_grammar.specs.declared.role.StatementStart.{StatementStart}
 use Rattle.rhai_grammar.specs.declared.role.StatementStart.TheVariants as start
 use Rattle.rhai_reading.specs.Reading as R
@@ -47,11 +47,11 @@ expression_is : (v : StatementStart) → V.expression_at v ≡ Fine → v ≡ st
 expression_is start.Expression e = refl
 expression_is _ e = absurd cc
 
-close_is : (l : Lexeme) (v : StatementPlace) → V.list_ends_at l v ≡ Fine → v ≡ place.Close
+close_is : (l : Lexeme) (v : StatementRole) → V.list_ends_at l v ≡ Fine → v ≡ place.Close
 close_is l place.Close e = refl
 close_is l _ e = absurd cc
 
-statement_is : (l : Lexeme) (v : StatementPlace) → V.begins_at l v ≡ Fine → v ≡ place.Statement
+statement_is : (l : Lexeme) (v : StatementRole) → V.begins_at l v ≡ Fine → v ≡ place.Statement
 statement_is l place.Statement e = refl
 statement_is l _ e = absurd cc
 
@@ -101,7 +101,7 @@ pub expression_statement : (x : ExprStatement) → ExprStatementRead x → State
 expression_statement x reads c w k s t b m =
     next (V.expression_begins c) m.0 (λ e.
     seen (expression_is (V.statement_start c (op_at s)) e) (R.statement_at c w (pos_at s))
-    (if_true _ (or_wrong (has_room c) _ (fine (room_due c) (op_at s) m.1.0).1)
+    (if_true _ (or_wrong (may_raise c) _ (fine (raise_due c) (op_at s) m.1.0).1)
     (part (reads (level_up c) w k s t true m.1.1) (λ u l n. ret n))))
 
 define_is : (c : Context) (w : Live) (at : Position) (constant : Bool)
@@ -188,7 +188,7 @@ continue pos c w k s t b m =
 pub no_statements : StatementsRead form.NoStatement
 no_statements closing c w before k s t b m =
     enough (λ z. omega arith) (next (V.list_ends closing) m.0 (λ e.
-    seen (close_is (op_at s) (V.statement_place closing (op_at s)) e) (R.statements_at closing c w before (op_at s) (pos_at s))
+    seen (close_is (op_at s) (V.statement_role closing (op_at s)) e) (R.statements_at closing c w before (op_at s) (pos_at s))
     (gives (ap (λ fs. (fs, w)) (sym (no_statement before))) m.1)))
 
 module _ (closing : Closing) (c : Context) (w : Live) (before : node.Statements) (j : Demands) {k : Demands}
@@ -200,7 +200,7 @@ module _ (closing : Closing) (c : Context) (w : Live) (before : node.Statements)
       → Reaches (λ z. E (max (statement_depth f) z)) (body (R.Statements closing c w before)) s b all k t
   statement_here reads m on =
       next (V.statement_begins closing) m.0 (λ e.
-      seen (statement_is (op_at s) (V.statement_place closing (op_at s)) e)
+      seen (statement_is (op_at s) (V.statement_role closing (op_at s)) e)
       (R.statements_at closing c w before (op_at s) (pos_at s)) (part (reads c w j s t true m.1) on))
 
 pub last_statement : (f : Statement) → StatementRead f → StatementsRead (form.LastStatement f)

@@ -17,8 +17,8 @@ use Rattle.rhai_grammar.specs.declared.due.DueToken.TheVariants as due
 use Rattle.rhai_grammar.specs.declared.list.AfterPart.{AfterPart}
 use Rattle.rhai_grammar.specs.declared.list.AfterPart.TheVariants as after
 use Rattle.rhai_grammar.specs.declared.list.CommaList.TheVariants as lists
-use Rattle.rhai_grammar.specs.declared.role.ArmPlace.{ArmPlace}
-use Rattle.rhai_grammar.specs.declared.role.ArmPlace.TheVariants as arm
+use Rattle.rhai_grammar.specs.declared.role.ArmRole.{ArmRole}
+use Rattle.rhai_grammar.specs.declared.role.ArmRole.TheVariants as arm
 use Rattle.rhai_grammar.proofs.EndLemmas.{tree_ends_arm}
 use Rattle.rhai_reading.specs.Reading as R
 use Rattle.rhai_reading.proofs.Complete.Constructs.{guard}
@@ -33,7 +33,7 @@ use Rattle.rhai_reading.proofs.SwitchKinds.{arm_ends, arms_with_cases, default_a
 
 -- ---- what the verdicts say
 
-arm_is : (v : ArmPlace) → S.arm_begins_at v ≡ Fine → v ≡ arm.Case
+arm_is : (v : ArmRole) → S.arm_begins_at v ≡ Fine → v ≡ arm.Case
 arm_is arm.Case e = refl
 arm_is _ e = absurd cc
 
@@ -119,7 +119,7 @@ pub an_arm : (xs : Cases) (f : CaseGuard) (arrow : Position) (x : Action) (comma
     → CasesRead xs → CaseGuardRead f → ActionRead x → ArmsRead rest → ArmsRead (form.Arm xs f arrow x comma rest)
 an_arm xs f arrow x comma rest read_cases read_guard read_action more c w before k s t b m =
     let next_ = with_arm_collected before (case_trees xs w) (guard_tree f w) (action_tree x w) in
-    enough (λ z. omega arith) (next arm_begins m.0 (λ e. seen (arm_is (S.arm_place (op_at s)) e) (R.arms_at c w before (op_at s) (pos_at s))
+    enough (λ z. omega arith) (next arm_begins m.0 (λ e. seen (arm_is (S.arm_role (op_at s)) e) (R.arms_at c w before (op_at s) (pos_at s))
     (part (one_arm xs f arrow x comma read_cases read_guard read_action c w before (W.arms rest next_ c w k) s t true m.1)
     (λ u l n. part (more c w next_ k u t l n) (λ y d j. ret j)))))
 

@@ -1,8 +1,8 @@
 -- Expressions, and a whole stream: what is written so is read so.
 use Rattle.std.proofs.Common.{◌≡◌, ℕ, ◌+◌, max, Bool, true, false, refl, subst}
-use Rattle.rhai_grammar.specs.Prelude.{Node, Point, is_end, Context, Live, has_room, level_up, Follower, Operator}
+use Rattle.rhai_grammar.specs.Prelude.{Node, Point, is_end, Context, Live, may_raise, level_up, Follower, Operator}
 use Rattle.rhai_grammar.specs.Prelude.{Unknown, Other, follower_of, is_operator, Run, tree, Fine, Nothing, ◌▸◌, Next}
-use Rattle.rhai_grammar.specs.Prelude.{Outermost, outermost, height_after, run_ends, room_due, end_due}
+use Rattle.rhai_grammar.specs.Prelude.{Outermost, outermost, height_after, run_ends, raise_due, end_due}
 use Rattle.rhai_grammar.specs.Verdicts as V
 use Rattle.rhai_grammar.specs.Written.{ended}
 use Rattle.rhai_reading.specs.Reading as R
@@ -29,7 +29,7 @@ expression f run c w k s t b m =
     let q = outermost (level_up c) w in
     let filter = c.filter in
     let reads = run q refl (ended c k) s t true m.1 in
-    let room = fine (room_due c) (op_at s) m.0 in
+    let room = fine (raise_due c) (op_at s) m.0 in
     let ends = no_operator (follower_at filter reads.end) (fine (run_ends filter) (op_at reads.end) reads.met.0).1 in
     let agrees : Agrees filter 1 Outermost = λ l is e. outer (follower_of filter l) (sensible filter l) is in
     let stop = none_goes 1 (follower_at filter reads.end) ends in
@@ -37,7 +37,7 @@ expression f run c w k s t b m =
       end = reads.end;
       met = reads.met.1;
       looked = true;
-      runs = deep_enough reads.deep (deep_look room.0 (deep_then _ (or_wrong (has_room c) _ room.1)
+      runs = deep_enough reads.deep (deep_look room.0 (deep_then _ (or_wrong (may_raise c) _ room.1)
           (deep_call (R.Operand (level_up c) w) _ reads.operand
           (deep_tail (climb (begins q reads.first) w 1 reads.first)
           (reads.climbs (shut_none filter f (follower_at filter reads.end) ends) 1 agrees (λ z. z) _ _

@@ -18,7 +18,7 @@ use Rattle.rhai_grammar.specs.Forms as form
 use Rattle.rhai_grammar.specs.Causes as cause
 use Rattle.rhai_grammar.specs.Verdicts as V
 use Rattle.rhai_grammar.specs.Written as W
-use Rattle.rhai_grammar.specs.declared.role.OperandPlace.{OperandPlace}
+use Rattle.rhai_grammar.specs.declared.role.OperandRole.{OperandRole}
 use Rattle.rhai_reading.specs.Reading as R
 use Rattle.rhai_reading.specs.Reading.{Ret, Take, body}
 use Rattle.rhai_reading.proofs.Beginnings.{called, colons_are}
@@ -167,7 +167,7 @@ same_tree (form.CompoundValue pos x) w true e = refl
 same_tree (form.Closure head f number us) w true e = refl
 same_tree (form.Zero range pos) w true e = refl
 
-module _ {call : Histories} (ih : AllSound call) (c : Context) (w : Live) (place : OperandPlace) (from : Point)
+module _ {call : Histories} (ih : AllSound call) (c : Context) (w : Live) (place : OperandRole) (from : Point)
     (p : Primary) where
   -- A name that is called was read with its path, up to a point.
   module _ (names : Path) (t : Point)

@@ -4,9 +4,9 @@ use Rattle.std.proofs.Common.{ap, subst, if◌then◌else◌}
 use Rattle.std.specs.Prelude.{option_map}
 use Rattle.std.specs.Option.{option_or}
 use Rattle.rhai_grammar.specs.Prelude.{Text, Lexeme, text_of, nowhere, Node, variable, Position, Refusal, refusal, code}
-use Rattle.rhai_grammar.specs.Prelude.{Point, past, is_memory, is_at_last, Context, Live, has_room, level_up, calls}
-use Rattle.rhai_grammar.specs.Prelude.{linking, is_bracket, is_dot, is_name, qualifies, MemberPlace, AMember, NoMember}
-use Rattle.rhai_grammar.specs.Prelude.{member_place, is_member, Link, LinkKind, last_fault, index_refusal, module_fault}
+use Rattle.rhai_grammar.specs.Prelude.{Point, past, is_memory, is_at_last, Context, Live, may_raise, level_up, calls}
+use Rattle.rhai_grammar.specs.Prelude.{linking, is_bracket, is_dot, is_name, qualifies, MemberRole, AMember, NoMember}
+use Rattle.rhai_grammar.specs.Prelude.{member_role, is_member, Link, LinkKind, last_fault, index_refusal, module_fault}
 use Rattle.rhai_grammar.specs.Prelude.{Links, Run, link_list, tree, bracket_link, member_link, method_tree, Demands}
 use Rattle.rhai_grammar.specs.Prelude.{LinkSpot, spot_after_bracket, spot_after_dot}
 use Rattle.rhai_lower.specs.Nodes.{method_call, start_of}
@@ -98,7 +98,7 @@ module_early c w _ = tt
 
 -- ---- the index in a bracket, and the member behind a dot
 
-method_is : (w : Live) (name : Lexeme) (is : is_member (member_place name) ≡ true) (pos : Position) (f : CallForm)
+method_is : (w : Live) (name : Lexeme) (is : is_member (member_role name) ≡ true) (pos : Position) (f : CallForm)
     → member_tree w (AMethod name is pos f) ≡ method_tree (text_of name) pos (call_answer w f).0 (call_answer w f).1
 method_is w name is pos (By bang args) = refl
 
@@ -120,7 +120,7 @@ module _ {call : Histories} (ih : AllSound call) (c : Context) (w : Live) where
       part (ih.of (R.Expression c w) s b) (λ f. record { index = f; closing = nowhere }) (λ f k o r. r _)
       (λ f t a G. index_by indexed s f t a G (index_refusal indexed (tree f w)) refl)
 
-  pub member : (s : Point) (b : Bool) → is_member (member_place (op_at s)) ≡ true
+  pub member : (s : Point) (b : Bool) → is_member (member_role (op_at s)) ≡ true
       → Goes call (members c w) s (body (R.Member c w)) s b
   member s b is =
       let name = op_at s in
@@ -150,7 +150,7 @@ member_links w dot pos before (AMethod name is name_at (By bang args)) rest =
     sym (spot_after_one_more before _ (link_list rest w))
 
 module _ {call : Histories} (ih : AllSound call) (w : Live) (q : LinkSpot) (s : Point) where
-  dot_way : is_dot (linking (op_at s)) ≡ true → Fits V.member_due (past code s) → has_room q.settings ≡ true
+  dot_way : is_dot (linking (op_at s)) ≡ true → Fits V.member_due (past code s) → may_raise q.settings ≡ true
       → (f : MemberForm) (rest : Links) (k : Demands) (o : Aim)
       → Way (member_of (level_up q.settings) w f (W.links rest
       (spot_after_dot q (member_link (op_at s) (pos_at s) (member_tree w f))) w k)) (past code s) o
@@ -160,7 +160,7 @@ module _ {call : Histories} (ih : AllSound call) (w : Live) (q : LinkSpot) (s : 
   dot_way dot due below (AMethod name is pos (By (Some bang) args)) rest k o r = dot ▹ is ▹ refl ▹ due ▹ below ▹ r
 
   -- after a dot
-  dot_by : is_dot (linking (op_at s)) ≡ true → (v : MemberPlace) → member_place (op_at (past code s)) ≡ v
+  dot_by : is_dot (linking (op_at s)) ≡ true → (v : MemberRole) → member_role (op_at (past code s)) ≡ v
       → is_memory (op_at (past code s)) ≡ false
       → Goes call (links w q) s (R.dot_at w q (op_at s) (pos_at s) (pos_at (past code s)) v) (past code s) true
   dot_by dot AMember e m =
@@ -187,7 +187,7 @@ module _ {call : Histories} (ih : AllSound call) (w : Live) (q : LinkSpot) (s : 
       (λ f rest k o r. bracket ▹ refl ▹ below ▹ deeper ▹ r) (λ f u a.
       ends (ih.of (R.Links w (spot_after_bracket q (bracket_link (op_at s) (pos_at s) (tree f.index w)))) u a)
       (λ rest. rest) (λ v rest. sym (spot_after_one_more q.before _ (link_list rest w))) (λ rest k o r. r)))))
-  links_by link.Dot e m = take (look (λ n. dot_by (ap is_dot e) (member_place (op_at (past code s))) refl n))
+  links_by link.Dot e m = take (look (λ n. dot_by (ap is_dot e) (member_role (op_at (past code s))) refl n))
   links_by link.Nothing e m =
       let free : Fits V.unlinked s = fine m (rw e) in
       tested (links w q) s form.NoLink (last_fault q.before) (last_early q.before) (append-nil q.before) (λ k o r. free ▹ r)

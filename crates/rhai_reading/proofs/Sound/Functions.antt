@@ -5,7 +5,7 @@ use Rattle.rhai_grammar.specs.Prelude.{Text, Lexeme, Name, String, text_of, nowh
 use Rattle.rhai_grammar.specs.Prelude.{refusal, Comment, Context, Live, is_global, level_up, code, Point, is_memory}
 use Rattle.rhai_grammar.specs.Prelude.{past, Wrong, is_due, not_due, Body, ParameterList, after_type, ended_function}
 use Rattle.rhai_grammar.specs.Prelude.{in_function, is_new, is_type, may_begin, names_function, no_function_name}
-use Rattle.rhai_grammar.specs.Prelude.{owner_of, parameter_names, parameter_place, parameters_live, type_or_name_due}
+use Rattle.rhai_grammar.specs.Prelude.{owner_of, parameter_names, parameter_role, parameters_live, type_or_name_due}
 use Rattle.rhai_grammar.specs.Prelude.{untyped, is_among, is_comment}
 use Rattle.rhai_grammar.specs.Causes as cause
 use Rattle.rhai_grammar.specs.Forms as form
@@ -14,8 +14,8 @@ use Rattle.rhai_grammar.specs.declared.due.DueToken.TheVariants as due
 use Rattle.rhai_grammar.specs.declared.list.CommaList.TheVariants as lists
 use Rattle.rhai_grammar.specs.declared.role.Calling.{Calling}
 use Rattle.rhai_grammar.specs.declared.role.Calling.TheVariants as calls_by
-use Rattle.rhai_grammar.specs.declared.role.ItemPlace.{ItemPlace}
-use Rattle.rhai_grammar.specs.declared.role.ItemPlace.TheVariants as place
+use Rattle.rhai_grammar.specs.declared.role.ItemRole.{ItemRole}
+use Rattle.rhai_grammar.specs.declared.role.ItemRole.TheVariants as place
 use Rattle.rhai_reading.specs.Reading as R
 use Rattle.rhai_reading.specs.Reading.{body}
 use Rattle.rhai_reading.proofs.Beginnings.{called as called_by, comment_is, name_is}
@@ -130,7 +130,7 @@ module _ {call : Histories} (ih : AllSound call) (function : Text) (s : Point) w
 
 module _ {call : Histories} (ih : AllSound call) (parts : CommaList) (function : Text) (before : List Text) (s : Point)
   where
-    parameter_by : (v : ItemPlace) → parameter_place parts (op_at s) ≡ v → is_memory (op_at s) ≡ false
+    parameter_by : (v : ItemRole) → parameter_role parts (op_at s) ≡ v → is_memory (op_at s) ≡ false
         → Goes call (parameters parts function before) s (R.parameter_at parts function before (op_at s) (pos_at s) v) s true
     parameter_by place.End e m = take (done (form.NoParameter (pos_at s)) (λ k o r. parameter_is parts s e ▹ r))
     parameter_by place.Item e m =
@@ -149,7 +149,7 @@ module _ {call : Histories} (ih : AllSound call) (parts : CommaList) (function :
 
     pub parameters_of : (b : Bool)
         → Goes call (parameters parts function before) s (body (R.Parameters parts function before)) s b
-    parameters_of b = look (λ m. parameter_by (parameter_place parts (op_at s)) refl m)
+    parameters_of b = look (λ m. parameter_by (parameter_role parts (op_at s)) refl m)
 
 -- ---- the whole
 

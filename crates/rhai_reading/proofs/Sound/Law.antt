@@ -4,11 +4,11 @@ use Rattle.rhai_reading.proofs.FunctionKinds.{parameters}
 use Rattle.rhai_reading.proofs.ClosureKinds.{closure_bodies, closures}
 use Rattle.std.proofs.Common.{◌≡◌, ℕ, Bool, true, false, None, [], refl}
 use Rattle.rhai_grammar.specs.Prelude.{Lexeme, Integer, nowhere, Position, Node, Refusal, code, Point, StandsAtLast}
-use Rattle.rhai_grammar.specs.Prelude.{Context, Live, beginning, is_sign, calls, member_place, is_member, qualifies}
+use Rattle.rhai_grammar.specs.Prelude.{Context, Live, beginning, is_sign, calls, member_role, is_member, qualifies}
 use Rattle.rhai_grammar.specs.Prelude.{operand_start, Follower, follower_of, strength, Primary, Operand, Items, Run}
 use Rattle.rhai_grammar.specs.Prelude.{Just, Binary, Body, Conditional, Segments, is_variable, tree, Demands, Next, Met}
 use Rattle.rhai_grammar.specs.Prelude.{Missed, operator_known, Side, Spot, filter_of, height_after, side_fits}
-use Rattle.rhai_grammar.specs.declared.role.OperandPlace.{OperandPlace}
+use Rattle.rhai_grammar.specs.declared.role.OperandRole.{OperandRole}
 use Rattle.rhai_grammar.specs.declared.role.OperandStart.TheVariants as first
 use Rattle.rhai_grammar.specs.declared.filter.ExprFilter.{ExprFilter}
 use Rattle.rhai_grammar.specs.Forms as form
@@ -75,19 +75,19 @@ abbrev pub Sound : (g : Goal) → Point → Outcome (Val g) → Type 0
 Sound (R.Whole c w) s o = Ensures (WholeRead c w s) (WholeHalts c w s) o
 Sound (R.Expression c w) s o = Answers (expressions c w) s o
 Sound (R.Operand c w) s o =
-    (place : OperandPlace) → operand_start place (op_at s) ≡ first.Written → Answers (operands c w place) s o
+    (place : OperandRole) → operand_start place (op_at s) ≡ first.Written → Answers (operands c w place) s o
 Sound (R.RightOperand c w place) s o = Answers (operands c w place) s o
 Sound (R.Primary c w) s o =
-    (place : OperandPlace) → operand_start place (op_at s) ≡ first.Written → is_sign (beginning (op_at s)) ≡ false
+    (place : OperandRole) → operand_start place (op_at s) ≡ first.Written → is_sign (beginning (op_at s)) ≡ false
     → Answers (primaries c w place) s o
 Sound (R.Postfix c w x) s o =
-    (place : OperandPlace) (from : Point) (p : Primary) → tree_before w s p ≡ x
+    (place : OperandRole) (from : Point) (p : Primary) → tree_before w s p ≡ x
     → Passed (primaries c w place) p from s → Answers (bases c w place) from o
 Sound (R.Called c w name qualified) s o = calls (op_at s) ≡ true → Answers (callings c w name qualified) s o
 Sound (R.Path w x) s o = is_variable x ≡ true → qualifies (op_at s) ≡ true → Answers (paths w x) s o
 Sound (R.Links w q) s o = Answers (links w q) s o
 Sound (R.Index c w indexed) s o = Answers (indices c w indexed) s o
-Sound (R.Member c w) s o = is_member (member_place (op_at s)) ≡ true → Answers (members c w) s o
+Sound (R.Member c w) s o = is_member (member_role (op_at s)) ≡ true → Answers (members c w) s o
 Sound (R.Arguments c w name) s o = Answers (enclosed c w name) s o
 Sound (R.Items c w before) s o = Answers (items c w before) s o
 Sound (R.Elements c w opening before) s o = Answers (elements c w opening before) s o

@@ -2,15 +2,15 @@
 use Rattle.std.proofs.Common.{◌≡◌, Bool, true, false, [], refl, sym, ap, ◌∙◌, subst, if◌then◌else◌}
 use Rattle.std.specs.Prelude.{not}
 use Rattle.rhai_grammar.specs.Prelude.{text_of, nowhere, Nodes, with_node, Properties, with_property, Position, code}
-use Rattle.rhai_grammar.specs.Prelude.{item, text, Point, past, is_memory, Context, Live, full, has_room, level_up}
-use Rattle.rhai_grammar.specs.Prelude.{item_place, KeyPlace, FieldsEnd, AKey, NoKey, is_key, has_key, property_count}
+use Rattle.rhai_grammar.specs.Prelude.{item, text, Point, past, is_memory, Context, Live, full, may_raise, level_up}
+use Rattle.rhai_grammar.specs.Prelude.{item_role, KeyRole, FieldsEnd, AKey, NoKey, is_key, has_key, property_count}
 use Rattle.rhai_grammar.specs.Prelude.{Fields, Segments, unexpected, added_text, is_last_text, text_due, with_text}
 use Rattle.rhai_grammar.specs.Prelude.{joined, Text, Node, no_nodes, block_tree, segment_trees, element_trees}
 use Rattle.rhai_grammar.specs.Prelude.{field_trees, tree, node_count, Demands, Tok, Wrong, ◌▸◌}
 use Rattle.rhai_grammar.specs.declared.due.DueToken.TheVariants as due
 use Rattle.rhai_grammar.specs.declared.list.CommaList.TheVariants as lists
-use Rattle.rhai_grammar.specs.declared.role.ItemPlace.{ItemPlace}
-use Rattle.rhai_grammar.specs.declared.role.ItemPlace.TheVariants as place
+use Rattle.rhai_grammar.specs.declared.role.ItemRole.{ItemRole}
+use Rattle.rhai_grammar.specs.declared.role.ItemRole.TheVariants as place
 use Rattle.rhai_grammar.specs.Forms as form
 use Rattle.rhai_lower.specs.Nodes as node
 use Rattle.rhai_grammar.specs.Verdicts as V
@@ -33,7 +33,7 @@ use Rattle.rhai_reading.proofs.Sound.Law.{AllSound, any_body, any_run, any_segme
 
 module _ {call : Histories} (ih : AllSound call) (c : Context) (w : Live) (opening : Position) (before : Nodes)
     (s : Point) where
-  element_by : (v : ItemPlace) → item_place c.sizes.array (node_count before) (op_at s) ≡ v
+  element_by : (v : ItemRole) → item_role c.sizes.array (node_count before) (op_at s) ≡ v
       → is_memory (op_at s) ≡ false
       → Goes call (elements c w opening before) s (R.element_at c w opening before (op_at s) (pos_at s) v) s true
   element_by place.End e m =
@@ -55,10 +55,10 @@ module _ {call : Histories} (ih : AllSound call) (c : Context) (w : Live) (openi
   element_by place.Nothing e m = refuse (form.NoElement nowhere) (λ k. wrong m (rw e))
 
   pub element_list : (b : Bool) → Goes call (elements c w opening before) s (body (R.Elements c w opening before)) s b
-  element_list b = look (λ m. element_by (item_place c.sizes.array (node_count before) (op_at s)) refl m)
+  element_list b = look (λ m. element_by (item_role c.sizes.array (node_count before) (op_at s)) refl m)
 
 module _ (call : Histories) (c : Context) (before : Properties) (s : Point) where
-  key_by : (v : KeyPlace) → V.next_key c.settings before (op_at s) ≡ v → is_memory (op_at s) ≡ false
+  key_by : (v : KeyRole) → V.next_key c.settings before (op_at s) ≡ v → is_memory (op_at s) ≡ false
       → Goes call (next_keys c before) s (R.key_on c before (pos_at s) v) s true
   key_by FieldsEnd e m = take (done (NoMore (pos_at s)) (λ k o r. keyed _ _ s e ▹ r))
   key_by (AKey key) e m =
@@ -140,7 +140,7 @@ after_text false c w start list k = W.segments list c w start k
 
 -- a block in an interpolated string, and the text after it
 segment_way : (last : Bool) (f : InsideForm) (closing : Position) (t : Text) (pos : Position) (list : Segments)
-    (c : Context) (w : Live) (start : Position) (k : Demands) {opening : Position} {s u : Point} {o : Aim} → Passed block_starts opening s u → has_room c ≡ true
+    (c : Context) (w : Live) (start : Position) (k : Demands) {opening : Position} {s u : Point} {o : Aim} → Passed block_starts opening s u → may_raise c ≡ true
     → Way (inside_of (level_up c) w f (W.due_token due.RightBrace closing
     (Tok text (item (text_token last t) pos) text_due ▸ after_text last c w start list k))) u o
     → Way (W.segments (segment_form last opening (body_form f closing) t pos list) c w start k) s o
@@ -176,7 +176,7 @@ module _ {call : Histories} (ih : AllSound call) (c : Context) (w : Live) (start
 
   -- after the text
   texted : (last : Bool) (f : InsideForm) (p : Position) (v : Point) (x : TextForm) (t u : Point) (b : Bool)
-      → x.last ≡ last → Passed block_starts p s v → has_room c ≡ true → Passed (insides (level_up c) w) f v t
+      → x.last ≡ last → Passed block_starts p s v → may_raise c ≡ true → Passed (insides (level_up c) w) f v t
       → Passed text_afters x t u → Goes call (segments c w start before) s
       (if last then R.Ret (with_block p f x.closing x.content x.at)
       else R.Call (R.Segments c w start (with_block p f x.closing x.content x.at)) R.Ret) u b

@@ -15,8 +15,8 @@ use Rattle.rhai_grammar.specs.declared.due.DueToken.TheVariants as due
 use Rattle.rhai_grammar.specs.declared.role.Beginning.{Beginning}
 use Rattle.rhai_grammar.specs.declared.role.Beginning.TheVariants as begin
 use Rattle.rhai_grammar.specs.Forms as form
-use Rattle.rhai_grammar.specs.declared.role.OperandPlace.{OperandPlace}
-use Rattle.rhai_grammar.specs.declared.role.OperandPlace.TheVariants.{Elsewhere}
+use Rattle.rhai_grammar.specs.declared.role.OperandRole.{OperandRole}
+use Rattle.rhai_grammar.specs.declared.role.OperandRole.TheVariants.{Elsewhere}
 use Rattle.rhai_grammar.specs.declared.role.OperandStart.{OperandStart}
 use Rattle.rhai_grammar.specs.declared.role.OperandStart.TheVariants as first
 use Rattle.rhai_reading.proofs.ConstructKinds.{OfKind, of_kind}
@@ -36,7 +36,7 @@ use Rattle.rhai_reading.proofs.Looks.{op_at, pos_at}
 use Rattle.rhai_reading.proofs.Paths.{◌▹◌}
 use Rattle.rhai_reading.proofs.FormKinds.{tree_before, operands, primaries}
 
-module _ {call : Histories} (ih : AllSound call) (c : Context) (w : Live) (place : OperandPlace) (s : Point) where
+module _ {call : Histories} (ih : AllSound call) (c : Context) (w : Live) (place : OperandRole) (s : Point) where
   closure_by : (by : Bars) → next_at code s ≡ item (Sign (bars_token by)) (pos_at s) → may_be_closure c by ≡ true
       → Goes call (primaries c w place) s (R.Call (R.Closure c w (pos_at s) by) R.Ret) (past code s) false
   closure_by bars.Pair here can =

@@ -5,7 +5,7 @@ use Rattle.rhai_grammar.specs.Prelude.{Lexeme, Node, Position, Refusal, code, Po
 use Rattle.rhai_grammar.specs.Prelude.{Context, Live, boolean_holds, Follower, Operator, Unknown, Other, follower_of}
 use Rattle.rhai_grammar.specs.Prelude.{is_operator, strength, right_of, Run, Just, Binary, tree, Demands, Next}
 use Rattle.rhai_grammar.specs.Prelude.{operator_known, Height, RightOf, Spot, filter_of, right_side, height_after}
-use Rattle.rhai_grammar.specs.Prelude.{left_fits, place_after}
+use Rattle.rhai_grammar.specs.Prelude.{left_fits, role_after}
 use Rattle.rhai_grammar.specs.declared.filter.ExprFilter.{ExprFilter}
 use Rattle.rhai_grammar.specs.Demands as D
 use Rattle.rhai_grammar.specs.Verdicts as V
@@ -142,7 +142,7 @@ module _ {call : Histories} (ih : AllSound call) where
         let inner = u.settings.filter in
         let n = strength (follower_at filter s) in
         let q2 = right_side op u w in
-        take (part (ih.of (R.RightOperand u.settings w (place_after op)) (past code s) false) (λ x. binary (Just x))
+        take (part (ih.of (R.RightOperand u.settings w (role_after op)) (past code s) false) (λ x. binary (Just x))
         (λ x k o r. h.right (Just x) k o (r _)) (λ x t a X.
         operator_part inner (binary (Just x)) (λ e r k. h.right (Just x) k _ (X.on (lost r))) (λ known c.
         raise u.settings (binary (Just x)) (λ high k. h.right (Just x) k _ (X.on (known ▹ fails high))) (λ below.

@@ -1,7 +1,7 @@
 -- Statements, their lists, and blocks.
 use Rattle.rhai_grammar.specs.Prelude.{needs_no_semicolon, Comment, Lexeme, Sign, text_of, Node, position_of, nowhere}
 use Rattle.rhai_grammar.specs.Prelude.{Position, refusal, code, item, Point, next_at, past, is_memory, Context, Live}
-use Rattle.rhai_grammar.specs.Prelude.{below_global, has_room, has_single_blocks, in_block, is_global, is_in_loop}
+use Rattle.rhai_grammar.specs.Prelude.{below_global, may_raise, has_single_blocks, in_block, is_global, is_in_loop}
 use Rattle.rhai_grammar.specs.Prelude.{level_up, is_name, Statement, Bracket, Chain, Dotted, Link, LinkKind, chain_of}
 use Rattle.rhai_grammar.specs.Prelude.{is_assignment, is_constant_use, is_equals, target_fault, definition_tree}
 use Rattle.rhai_grammar.specs.Prelude.{statement_tree, statement_trees, tree, with_kept, is_due, Alias, export_tree}
@@ -25,8 +25,8 @@ use Rattle.rhai_grammar.specs.declared.role.AfterStatement.{AfterStatement}
 use Rattle.rhai_grammar.specs.declared.role.AfterStatement.TheVariants as after
 use Rattle.rhai_grammar.specs.declared.role.Closing.{Closing}
 use Rattle.rhai_grammar.specs.declared.role.Closing.TheVariants.{Brace}
-use Rattle.rhai_grammar.specs.declared.role.StatementPlace.{StatementPlace}
-use Rattle.rhai_grammar.specs.declared.role.StatementPlace.TheVariants as place
+use Rattle.rhai_grammar.specs.declared.role.StatementRole.{StatementRole}
+use Rattle.rhai_grammar.specs.declared.role.StatementRole.TheVariants as place
 use Rattle.rhai_grammar.specs.declared.role.StatementStart.{StatementStart}
 use Rattle.rhai_grammar.specs.declared.role.StatementStart.TheVariants as start
 use Rattle.rhai_reading.specs.Reading as R
@@ -184,7 +184,7 @@ module _ {call : Histories} (ih : AllSound call) (c : Context) (w : Live) (s : P
 
   -- ---- statements
 
-  export_way : next_at code s ≡ item (Sign token.Export) (pos_at s) → is_global c ≡ true → has_room c ≡ true
+  export_way : next_at code s ≡ item (Sign token.Export) (pos_at s) → is_global c ≡ true → may_raise c ≡ true
       → (f : ExportForm) (k : Demands) (o : Aim) → Way (export_demands (level_up c) w (pos_at s) f k) (past code s) o
       → Way (W.statement (export_form (pos_at s) f) c w k) s o
   export_way here global below (ExportName name name_at other) k o r = here ▹ global ▹ below ▹ r
@@ -329,7 +329,7 @@ module _ {call : Histories} (ih : AllSound call) (closing : Closing) (c : Contex
   separated_by f t begins G open_ after.Nothing e m =
       refuse (form.LastStatement f) (λ k. begins ▹ G.on (ap not open_ ▹ ill m (rw e)))
 
-  list_by : (v : StatementPlace) → V.statement_place closing (op_at s) ≡ v → is_memory (op_at s) ≡ false
+  list_by : (v : StatementRole) → V.statement_role closing (op_at s) ≡ v → is_memory (op_at s) ≡ false
       → Goes call (statement_lists closing c w before) s
       (R.statements_at closing c w before (op_at s) (pos_at s) v) s true
   list_by place.Close e m =
@@ -348,7 +348,7 @@ module _ {call : Histories} (ih : AllSound call) (closing : Closing) (c : Contex
   list_by place.Nothing e m = refuse form.NoStatement (λ k. ill m (rw e))
 
   pub list_of : (b : Bool) → Goes call (statement_lists closing c w before) s (body (R.Statements closing c w before)) s b
-  list_of b = look (λ m. list_by (V.statement_place closing (op_at s)) refl m)
+  list_of b = look (λ m. list_by (V.statement_role closing (op_at s)) refl m)
 
 -- ---- blocks
 

@@ -4,7 +4,7 @@ use Rattle.rhai_grammar.specs.Prelude.{Lexeme, Sign, Node, Nodes, no_nodes, with
 use Rattle.rhai_grammar.specs.Prelude.{refusal, after_part, Context, Live, below_global, has_single_blocks, in_block}
 use Rattle.rhai_grammar.specs.Prelude.{in_case, code, Point, is_end, is_memory, past, Fine, Wrong, is_due, Action}
 use Rattle.rhai_grammar.specs.Prelude.{CaseGuard, Cases, action_ends, Collected, action_due, arm_begins, arm_fault}
-use Rattle.rhai_grammar.specs.Prelude.{arm_place, ends_arm, unguarded, with_arm_collected, with_case}
+use Rattle.rhai_grammar.specs.Prelude.{arm_role, ends_arm, unguarded, with_arm_collected, with_case}
 use Rattle.rhai_grammar.specs.Prelude.{with_default_collected, action_tree, case_trees, guard_tree, tree}
 use Rattle.rhai_lower.specs.Nodes as node
 use Rattle.rhai_lower.specs.declared.token.Token.TheVariants as token
@@ -18,8 +18,8 @@ use Rattle.rhai_grammar.specs.declared.due.DueToken.TheVariants as due
 use Rattle.rhai_grammar.specs.declared.list.AfterPart.{AfterPart}
 use Rattle.rhai_grammar.specs.declared.list.AfterPart.TheVariants as after
 use Rattle.rhai_grammar.specs.declared.list.CommaList.TheVariants as lists
-use Rattle.rhai_grammar.specs.declared.role.ArmPlace.{ArmPlace}
-use Rattle.rhai_grammar.specs.declared.role.ArmPlace.TheVariants as arm
+use Rattle.rhai_grammar.specs.declared.role.ArmRole.{ArmRole}
+use Rattle.rhai_grammar.specs.declared.role.ArmRole.TheVariants as arm
 use Rattle.rhai_grammar.proofs.EndLemmas.{tree_ends_arm}
 use Rattle.rhai_reading.specs.Reading as R
 use Rattle.rhai_reading.specs.Reading.{body}
@@ -112,7 +112,7 @@ module _ (call : Histories) (itself : Bool) (s : Point) where
   arm_end b = look (λ m. arm_end_by (after_part lists.Arms (op_at s)) refl m)
 
 module _ (call : Histories) (default : Position) (s : Point) where
-  default_end_by : (v : ArmPlace) → arm_place (op_at s) ≡ v → is_memory (op_at s) ≡ false
+  default_end_by : (v : ArmRole) → arm_role (op_at s) ≡ v → is_memory (op_at s) ≡ false
       → Goes call (default_ends default) s (R.default_end_at default (op_at s) (pos_at s) v) s true
   default_end_by arm.Close e m = take (done (pos_at s) (λ k o r. armed s e ▹ r))
   default_end_by arm.Nothing e m = refuse nowhere (λ k. wrong m (ap (S.default_ends_at default (op_at s)) e))
@@ -124,7 +124,7 @@ module _ (call : Histories) (default : Position) (s : Point) where
       (λ k. lost (lost_at (S.default_ends default) s _ _ m (ap (S.default_ends_at default (op_at s)) e) refl))
 
   pub default_end : (b : Bool) → Goes call (default_ends default) s (body (R.DefaultEnd default)) s b
-  default_end b = look (λ m. default_end_by (arm_place (op_at s)) refl m)
+  default_end b = look (λ m. default_end_by (arm_role (op_at s)) refl m)
 
 -- ---- arms
 
@@ -168,7 +168,7 @@ module _ {call : Histories} (ih : AllSound call) (c : Context) (w : Live) (befor
       (λ does h k o r. arrow ▹ r) (λ does v x.
       arm_by xs guard does v x (arm_fault before (case_trees xs w)) refl))))
 
-  arms_by : (v : ArmPlace) → arm_place (op_at s) ≡ v → is_memory (op_at s) ≡ false
+  arms_by : (v : ArmRole) → arm_role (op_at s) ≡ v → is_memory (op_at s) ≡ false
       → Goes call (arm_lists c w before) s (R.arms_at c w before (op_at s) (pos_at s) v) s true
   arms_by arm.Case e m =
       let begins : Fits arm_begins s = fine m (ap S.arm_begins_at e) in
@@ -184,7 +184,7 @@ module _ {call : Histories} (ih : AllSound call) (c : Context) (w : Live) (befor
   arms_by arm.Nothing e m = refuse any_arms (λ k. wrong m (ap (S.arms_end_at (op_at s)) e))
 
   pub arms : (b : Bool) → Goes call (arm_lists c w before) s (body (R.Arms c w before)) s b
-  arms b = look (λ m. arms_by (arm_place (op_at s)) refl m)
+  arms b = look (λ m. arms_by (arm_role (op_at s)) refl m)
 
 module _ {call : Histories} (ih : AllSound call) (c : Context) (w : Live) (default : Position) (s : Point) where
   pub default_arm : (b : Bool) → Goes call (default_arms c w default) s (body (R.DefaultArm c w default)) s b

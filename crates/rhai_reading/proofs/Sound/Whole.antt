@@ -7,7 +7,7 @@ use Rattle.rhai_grammar.specs.Prelude.{StandsAtLast}
 use Rattle.rhai_grammar.specs.declared.filter.ExprFilter.{ExprFilter}
 use Rattle.rhai_grammar.specs.Verdicts as V
 use Rattle.rhai_grammar.specs.Written as W
-use Rattle.rhai_grammar.specs.declared.role.OperandPlace.TheVariants.{Elsewhere}
+use Rattle.rhai_grammar.specs.declared.role.OperandRole.TheVariants.{Elsewhere}
 use Rattle.rhai_reading.specs.Reading as R
 use Rattle.rhai_reading.specs.Reading.{body}
 use Rattle.rhai_reading.specs.Histories.{exec, Outcome, Done, Refused, Unfinished}

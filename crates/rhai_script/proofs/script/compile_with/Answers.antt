@@ -4,7 +4,7 @@ use Rattle.rhai_lower.specs.Entries.{ask_of}
 use Rattle.rhai_lower.specs.Streams.{stream_of}
 use Rattle.rhai_grammar.specs.Causes.{no_memory}
 use Rattle.rhai_grammar.specs.Promises.{scripts}
-use Rattle.rhai_grammar.proofs.PlaceLemmas.{refusals_stand_at_tokens}
+use Rattle.rhai_grammar.proofs.PositionLemmas.{refusals_stand_at_tokens}
 use Rattle.rhai_grammar.specs.Trees.{statement_trees}
 use Rattle.rhai_parser.specs.Engines.{script_settings}
 use Rattle.rhai_parser.specs.Scripts.{IsMadeOf}

@@ -4,12 +4,12 @@ use Rattle.std.proofs.Common.{ℕ, ◌+◌, Bool, true, false, Option, Some, Non
 use Rattle.rhai_lower.specs.Nodes as node
 use Rattle.rhai_grammar.specs.declared.role.Construct.TheVariants as kind
 use Rattle.rhai_grammar.specs.declared.role.AfterStatement.TheVariants as ends
-use Rattle.rhai_grammar.specs.declared.role.StatementPlace.TheVariants as stands
+use Rattle.rhai_grammar.specs.declared.role.StatementRole.TheVariants as stands
 use Rattle.rhai_grammar.specs.declared.list.AfterPart.TheVariants as after
-use Rattle.rhai_grammar.specs.declared.role.ArmPlace.TheVariants as arm
+use Rattle.rhai_grammar.specs.declared.role.ArmRole.TheVariants as arm
 use Rattle.rhai_grammar.specs.declared.role.Bars.TheVariants as bars
 use Rattle.rhai_grammar.specs.declared.role.Calling.TheVariants as calls_by
-use Rattle.rhai_grammar.specs.declared.role.ItemPlace.TheVariants as place
+use Rattle.rhai_grammar.specs.declared.role.ItemRole.TheVariants as place
 use Rattle.rhai_grammar.specs.declared.role.StatementStart.TheVariants as start
 use Rattle.rhai_grammar.specs.Prelude.{Position, Context, Live, Text}
 use Rattle.rhai_grammar.specs.Prelude.{ends_itself, with_kept}
@@ -17,20 +17,20 @@ use Rattle.rhai_grammar.specs.Prelude.{Comment, Collected, Use}
 use Rattle.rhai_grammar.specs.declared.role.Construct.{Construct as Kind}
 use Rattle.rhai_grammar.specs.declared.role.AfterStatement.{AfterStatement}
 use Rattle.rhai_grammar.specs.declared.role.Closing.{Closing}
-use Rattle.rhai_grammar.specs.declared.role.StatementPlace.{StatementPlace}
+use Rattle.rhai_grammar.specs.declared.role.StatementRole.{StatementRole}
 use Rattle.rhai_grammar.specs.declared.list.AfterPart.{AfterPart}
 use Rattle.rhai_grammar.specs.declared.list.CommaList.{CommaList}
-use Rattle.rhai_grammar.specs.declared.role.ArmPlace.{ArmPlace}
+use Rattle.rhai_grammar.specs.declared.role.ArmRole.{ArmRole}
 use Rattle.rhai_grammar.specs.declared.role.Bars.{Bars}
 use Rattle.rhai_grammar.specs.declared.role.Calling.{Calling}
-use Rattle.rhai_grammar.specs.declared.role.ItemPlace.{ItemPlace}
+use Rattle.rhai_grammar.specs.declared.role.ItemRole.{ItemRole}
 use Rattle.rhai_grammar.specs.declared.role.StatementStart.{StatementStart}
 use Rattle.rhai_productions.specs.Schema.{Production}
 use Rattle.rhai_productions.specs.Rules as P
 use Rattle.rhai_productions.specs.Rules.{production}
 use Rattle.rhai_grammar.specs.Prelude.{level_up, in_closure}
-use Rattle.rhai_productions.proofs.Rooms.{Limits, below, deeper, in_closures, in_loops, room}
-use Rattle.rhai_productions.proofs.RoomsOfOperands.{HoldsIn, by_either, parted}
+use Rattle.rhai_productions.proofs.HeightsWithin.{Limits, below, deeper, in_closures, in_loops, room}
+use Rattle.rhai_productions.proofs.HeightsOfOperands.{HoldsIn, by_either, parted}
 
 pub construct : (c : Context) (w : Live) (at : Position) (k : Kind) → Limits c
     → HoldsIn (room c + 4) (P.construct c w at k)
@@ -81,7 +81,7 @@ pub after_one : (closing : Closing) (c : Context) (w : Live) (fs : node.Statemen
 after_one closing c w fs true p = (p, omega arith, λ x. tt)
 after_one closing c w fs false p = λ v. separated closing c w fs v p
 
-pub statements : (closing : Closing) (c : Context) (w : Live) (fs : node.Statements) (v : StatementPlace) → Limits c
+pub statements : (closing : Closing) (c : Context) (w : Live) (fs : node.Statements) (v : StatementRole) → Limits c
     → HoldsIn (room c + 2) (P.statements closing c w fs v)
 statements closing c w fs stands.Close p = tt
 statements closing c w fs stands.Statement p =
@@ -96,7 +96,7 @@ pub do_end : (v : Option Bool) → HoldsIn 0 (P.do_end_by v)
 do_end None = tt
 do_end (Some s) = λ n at. tt
 
-pub arms : (c : Context) (w : Live) (before : Collected) (v : ArmPlace) → Limits c
+pub arms : (c : Context) (w : Live) (before : Collected) (v : ArmRole) → Limits c
     → HoldsIn (room c + 4) (P.arms_by c w before v)
 arms c w before arm.Case p = (p, omega arith, λ x. (p, omega arith, λ y. tt))
 arms c w before arm.Default p = λ n at. (p, omega arith, λ x. tt)
@@ -112,7 +112,7 @@ arm_end itself after.Comma = λ n at. tt
 arm_end itself after.Close = tt
 arm_end itself after.Nothing = by_either itself _ _ 0 tt tt
 
-pub default_end : (default : Position) (v : ArmPlace) → HoldsIn 0 (P.default_end_by default v)
+pub default_end : (default : Position) (v : ArmRole) → HoldsIn 0 (P.default_end_by default v)
 default_end default arm.Close = λ n at. tt
 default_end default arm.Nothing = tt
 default_end default _ = λ s. tt
@@ -123,7 +123,7 @@ parameters f calls_by.List = λ n at. (tt, omega arith, λ x. tt)
 parameters f calls_by.Bang = tt
 parameters f calls_by.Nothing = tt
 
-pub parameter : (parts : CommaList) (f : Text) (before : List Text) (v : ItemPlace)
+pub parameter : (parts : CommaList) (f : Text) (before : List Text) (v : ItemRole)
     → HoldsIn 0 (P.parameter_by parts f before v)
 parameter parts f before place.End = λ n at. tt
 parameter parts f before place.Item = λ n at s v. parted parts _ _ v 0 (tt, omega arith, λ x. tt) tt

@@ -6,20 +6,20 @@ use Rattle.rhai_grammar.specs.declared.list.AfterPart.TheVariants as after
 use Rattle.rhai_grammar.specs.declared.list.CommaList.TheVariants as lists
 use Rattle.rhai_grammar.specs.declared.role.Beginning.TheVariants as begin
 use Rattle.rhai_grammar.specs.declared.role.Calling.TheVariants as calls_by
-use Rattle.rhai_grammar.specs.declared.role.ItemPlace.TheVariants as place
+use Rattle.rhai_grammar.specs.declared.role.ItemRole.TheVariants as place
 use Rattle.rhai_grammar.specs.declared.role.Linking.TheVariants as link
 use Rattle.rhai_grammar.specs.declared.role.OperandStart.TheVariants as first
 use Rattle.rhai_grammar.specs.Prelude.{Lexeme, Position, Context, Live, Text, text_of, Node}
-use Rattle.rhai_grammar.specs.Prelude.{Nodes, Properties, may_be_value, module_fault, KeyPlace}
+use Rattle.rhai_grammar.specs.Prelude.{Nodes, Properties, may_be_value, module_fault, KeyRole}
 use Rattle.rhai_grammar.specs.Prelude.{FieldsEnd, AKey, NoKey, LinkSpot, last_fault, is_this}
-use Rattle.rhai_grammar.specs.Prelude.{MemberPlace, AMember, NoMember, Follower, Operator, Unknown, Other}
+use Rattle.rhai_grammar.specs.Prelude.{MemberRole, AMember, NoMember, Follower, Operator, Unknown, Other}
 use Rattle.rhai_grammar.specs.Prelude.{may_be_closure, Refusal}
 use Rattle.rhai_grammar.specs.Prelude.{made_block}
 use Rattle.rhai_grammar.specs.declared.list.AfterPart.{AfterPart}
 use Rattle.rhai_grammar.specs.declared.list.CommaList.{CommaList}
 use Rattle.rhai_grammar.specs.declared.role.Beginning.{Beginning}
 use Rattle.rhai_grammar.specs.declared.role.Calling.{Calling}
-use Rattle.rhai_grammar.specs.declared.role.ItemPlace.{ItemPlace}
+use Rattle.rhai_grammar.specs.declared.role.ItemRole.{ItemRole}
 use Rattle.rhai_grammar.specs.declared.role.Linking.{Linking}
 use Rattle.rhai_grammar.specs.declared.role.OperandStart.{OperandStart}
 use Rattle.rhai_reading.specs.Reading as R
@@ -31,9 +31,9 @@ use Rattle.rhai_lower.specs.Nodes.{block_start}
 use Rattle.rhai_grammar.specs.Prelude.{made_block, with_node, qualified, bracket_link, member_link}
 use Rattle.rhai_grammar.specs.Operators.{joining}
 use Rattle.rhai_grammar.specs.Signs.{effect, plain_sign}
-use Rattle.rhai_grammar.proofs.PlaceTrees as T
-use Rattle.rhai_grammar.proofs.PlaceTrees.{AllLinks, AllPlaced, Placed}
-use Rattle.rhai_grammar.proofs.PlaceWays.{FaultAt}
+use Rattle.rhai_grammar.proofs.PositionTrees as T
+use Rattle.rhai_grammar.proofs.PositionTrees.{AllLinks, AllPlaced, Placed}
+use Rattle.rhai_grammar.proofs.PositionWays.{FaultAt}
 use Rattle.rhai_productions.proofs.Standing.{Allows}
 
 -- ---- what is known of goals
@@ -200,7 +200,7 @@ module _ (G : Position → Type 0) where
     h,
   )
 
-  pub dotted : (w : Live) (spot : LinkSpot) (t : Lexeme) (at : Position) (v : MemberPlace) → G at
+  pub dotted : (w : Live) (spot : LinkSpot) (t : Lexeme) (at : Position) (v : MemberRole) → G at
       → AllLinks G spot.before → AllowsAs (AllLinks G) (P.dotted_by w spot t at v)
   dotted w spot t at AMember a g = (
     λ e. a,
@@ -232,13 +232,13 @@ module _ (G : Position → Type 0) where
   links w spot link.Dot g = λ n at a v. dotted w spot n at v a g
   links w spot link.Nothing g = (fault_at (last_fault spot.before) (T.of_last G spot.before g), g)
 
-  pub element : (c : Context) (w : Live) (opening : Position) (before : Nodes) (v : ItemPlace) → G opening
+  pub element : (c : Context) (w : Live) (opening : Position) (before : Nodes) (v : ItemRole) → G opening
       → AllowsIn (P.element_by c w opening before v)
   element c w opening before place.End g = λ n at a. tt
   element c w opening before place.Item g = (λ e. g, (tt, λ x h v. parted lists.Array _ _ v (g, λ ns k. tt) tt))
   element c w opening before place.Nothing g = tt
 
-  pub key : (c : Context) (before : Properties) (v : KeyPlace) → AllowsIn (P.key_by c before v)
+  pub key : (c : Context) (before : Properties) (v : KeyRole) → AllowsIn (P.key_by c before v)
   key c before FieldsEnd = λ n at a. tt
   key c before (AKey k) = λ n at a. (λ e. a, λ m p b. (tt, tt))
   key c before (NoKey why) = tt

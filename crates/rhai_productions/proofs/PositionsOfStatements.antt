@@ -4,12 +4,12 @@ use Rattle.std.proofs.Common.{Bool, true, false, Option, Some, None, List, [], �
 use Rattle.rhai_lower.specs.Nodes as node
 use Rattle.rhai_grammar.specs.declared.role.Construct.TheVariants as kind
 use Rattle.rhai_grammar.specs.declared.role.AfterStatement.TheVariants as ends
-use Rattle.rhai_grammar.specs.declared.role.StatementPlace.TheVariants as stands
+use Rattle.rhai_grammar.specs.declared.role.StatementRole.TheVariants as stands
 use Rattle.rhai_grammar.specs.declared.list.AfterPart.TheVariants as after
-use Rattle.rhai_grammar.specs.declared.role.ArmPlace.TheVariants as arm
+use Rattle.rhai_grammar.specs.declared.role.ArmRole.TheVariants as arm
 use Rattle.rhai_grammar.specs.declared.role.Bars.TheVariants as bars
 use Rattle.rhai_grammar.specs.declared.role.Calling.TheVariants as calls_by
-use Rattle.rhai_grammar.specs.declared.role.ItemPlace.TheVariants as place
+use Rattle.rhai_grammar.specs.declared.role.ItemRole.TheVariants as place
 use Rattle.rhai_grammar.specs.declared.role.StatementStart.TheVariants as start
 use Rattle.rhai_grammar.specs.Prelude.{Position, Context, Live, Text}
 use Rattle.rhai_grammar.specs.Prelude.{ends_itself, with_kept}
@@ -17,22 +17,22 @@ use Rattle.rhai_grammar.specs.Prelude.{Comment, Collected, Use}
 use Rattle.rhai_grammar.specs.declared.role.Construct.{Construct as Kind}
 use Rattle.rhai_grammar.specs.declared.role.AfterStatement.{AfterStatement}
 use Rattle.rhai_grammar.specs.declared.role.Closing.{Closing}
-use Rattle.rhai_grammar.specs.declared.role.StatementPlace.{StatementPlace}
+use Rattle.rhai_grammar.specs.declared.role.StatementRole.{StatementRole}
 use Rattle.rhai_grammar.specs.declared.list.AfterPart.{AfterPart}
 use Rattle.rhai_grammar.specs.declared.list.CommaList.{CommaList}
-use Rattle.rhai_grammar.specs.declared.role.ArmPlace.{ArmPlace}
+use Rattle.rhai_grammar.specs.declared.role.ArmRole.{ArmRole}
 use Rattle.rhai_grammar.specs.declared.role.Bars.{Bars}
 use Rattle.rhai_grammar.specs.declared.role.Calling.{Calling}
-use Rattle.rhai_grammar.specs.declared.role.ItemPlace.{ItemPlace}
+use Rattle.rhai_grammar.specs.declared.role.ItemRole.{ItemRole}
 use Rattle.rhai_grammar.specs.declared.role.StatementStart.{StatementStart}
 use Rattle.rhai_productions.specs.Schema.{Production}
 use Rattle.rhai_productions.specs.Rules as P
 use Rattle.rhai_productions.specs.Rules.{production}
 use Rattle.rhai_lower.specs.Nodes.{block_start}
-use Rattle.rhai_grammar.proofs.PlaceSteps.{AllUses}
-use Rattle.rhai_grammar.proofs.PlaceTrees as T
-use Rattle.rhai_grammar.proofs.PlaceTrees.{AllLinks, AllPlaced, Placed}
-use Rattle.rhai_productions.proofs.PlacesOfOperands.{AllowsAs, AllowsIn, BlockAt, either_of, parted}
+use Rattle.rhai_grammar.proofs.PositionSteps.{AllUses}
+use Rattle.rhai_grammar.proofs.PositionTrees as T
+use Rattle.rhai_grammar.proofs.PositionTrees.{AllLinks, AllPlaced, Placed}
+use Rattle.rhai_productions.proofs.PositionsOfOperands.{AllowsAs, AllowsIn, BlockAt, either_of, parted}
 
 module _ (G : Position → Type 0) where
   pub construct : (c : Context) (w : Live) (at : Position) (k : Kind) → G at
@@ -84,7 +84,7 @@ module _ (G : Position → Type 0) where
   after_one closing c w fs true = (tt, λ r h. tt)
   after_one closing c w fs false = λ v. separated closing c w fs v
 
-  pub statements : (closing : Closing) (c : Context) (w : Live) (fs : node.Statements) (v : StatementPlace)
+  pub statements : (closing : Closing) (c : Context) (w : Live) (fs : node.Statements) (v : StatementRole)
       → AllowsIn G (P.statements closing c w fs v)
   statements closing c w fs stands.Close = tt
   statements closing c w fs stands.Statement = (tt, λ f h. after_one closing c f.1 (with_kept fs f.0) (ends_itself f.0))
@@ -98,7 +98,7 @@ module _ (G : Position → Type 0) where
   do_end None = tt
   do_end (Some s) = λ n at a. tt
 
-  pub arms : (c : Context) (w : Live) (before : Collected) (v : ArmPlace) → AllowsIn G (P.arms_by c w before v)
+  pub arms : (c : Context) (w : Live) (before : Collected) (v : ArmRole) → AllowsIn G (P.arms_by c w before v)
   arms c w before arm.Case = (tt, λ x h. (tt, λ r k. tt))
   arms c w before arm.Default = λ n at a. (a, λ x h. tt)
   arms c w before arm.Close = λ n at a. tt
@@ -113,7 +113,7 @@ module _ (G : Position → Type 0) where
   arm_end itself after.Close = tt
   arm_end itself after.Nothing = either_of G itself _ _ tt tt
 
-  pub default_end : (default : Position) (v : ArmPlace) → G default → AllowsIn G (P.default_end_by default v)
+  pub default_end : (default : Position) (v : ArmRole) → G default → AllowsIn G (P.default_end_by default v)
   default_end default arm.Close g = λ n at a. tt
   default_end default arm.Nothing g = tt
   default_end default _ g = (λ e. g, tt)
@@ -124,7 +124,7 @@ module _ (G : Position → Type 0) where
   parameters f calls_by.Bang = tt
   parameters f calls_by.Nothing = tt
 
-  pub parameter : (parts : CommaList) (f : Text) (before : List Text) (v : ItemPlace)
+  pub parameter : (parts : CommaList) (f : Text) (before : List Text) (v : ItemRole)
       → AllowsIn G (P.parameter_by parts f before v)
   parameter parts f before place.End = λ n at a. tt
   parameter parts f before place.Item = λ n at a. (λ e. a, λ v. parted G parts _ _ v (tt, λ r h. tt) tt)

@@ -5,19 +5,19 @@ use Rattle.rhai_grammar.specs.declared.list.AfterPart.TheVariants as after
 use Rattle.rhai_grammar.specs.declared.list.CommaList.TheVariants as lists
 use Rattle.rhai_grammar.specs.declared.role.Beginning.TheVariants as begin
 use Rattle.rhai_grammar.specs.declared.role.Calling.TheVariants as calls_by
-use Rattle.rhai_grammar.specs.declared.role.ItemPlace.TheVariants as place
+use Rattle.rhai_grammar.specs.declared.role.ItemRole.TheVariants as place
 use Rattle.rhai_grammar.specs.declared.role.Linking.TheVariants as link
 use Rattle.rhai_grammar.specs.declared.role.OperandStart.TheVariants as first
 use Rattle.rhai_grammar.specs.Prelude.{Lexeme, Position, Context, Live, Text, text_of, Node}
-use Rattle.rhai_grammar.specs.Prelude.{Nodes, Properties, may_be_value, KeyPlace}
+use Rattle.rhai_grammar.specs.Prelude.{Nodes, Properties, may_be_value, KeyRole}
 use Rattle.rhai_grammar.specs.Prelude.{FieldsEnd, AKey, NoKey, LinkSpot, is_this}
-use Rattle.rhai_grammar.specs.Prelude.{MemberPlace, AMember, NoMember, Follower, Operator, Unknown, Other}
+use Rattle.rhai_grammar.specs.Prelude.{MemberRole, AMember, NoMember, Follower, Operator, Unknown, Other}
 use Rattle.rhai_grammar.specs.Prelude.{may_be_closure}
 use Rattle.rhai_grammar.specs.declared.list.AfterPart.{AfterPart}
 use Rattle.rhai_grammar.specs.declared.list.CommaList.{CommaList}
 use Rattle.rhai_grammar.specs.declared.role.Beginning.{Beginning}
 use Rattle.rhai_grammar.specs.declared.role.Calling.{Calling}
-use Rattle.rhai_grammar.specs.declared.role.ItemPlace.{ItemPlace}
+use Rattle.rhai_grammar.specs.declared.role.ItemRole.{ItemRole}
 use Rattle.rhai_grammar.specs.declared.role.Linking.{Linking}
 use Rattle.rhai_grammar.specs.declared.role.OperandStart.{OperandStart}
 use Rattle.rhai_reading.specs.Reading as R
@@ -26,7 +26,7 @@ use Rattle.rhai_productions.specs.Schema.{Production}
 use Rattle.rhai_productions.specs.Rules as P
 use Rattle.rhai_productions.specs.Rules.{production}
 use Rattle.rhai_grammar.specs.Prelude.{level_up}
-use Rattle.rhai_productions.proofs.Rooms.{Holds, Limits, below, deeper, room}
+use Rattle.rhai_productions.proofs.HeightsWithin.{Holds, Limits, below, deeper, room}
 
 -- ---- what is known of goals
 
@@ -183,7 +183,7 @@ called c w name q calls_by.Bang p = λ n at v s. bang c w name v p
 pub call_of : (c : Context) (w : Live) (x : Node) → Limits c → HoldsIn (room c + 2) (P.call_of c w x)
 call_of c w x p = ((p, omega arith, λ call s. tt), tt)
 
-pub dotted : (w : Live) (spot : LinkSpot) (t : Lexeme) (at : Position) (v : MemberPlace) → Limits spot.settings
+pub dotted : (w : Live) (spot : LinkSpot) (t : Lexeme) (at : Position) (v : MemberRole) → Limits spot.settings
     → HoldsIn (max (room spot.settings) (room spot.brackets)) (P.dotted_by w spot t at v)
 dotted w spot t at AMember p = λ s.
     (p, omega (arith, deeper spot.settings s p), λ x. ((p, p), omega (arith, deeper spot.settings s p), λ ls. tt))
@@ -199,7 +199,7 @@ links w spot link.Bracket p q = λ n at s u. (
 links w spot link.Dot p q = λ n at v. dotted w spot n at v p
 links w spot link.Nothing p q = λ s. tt
 
-pub element : (c : Context) (w : Live) (opening : Position) (before : Nodes) (v : ItemPlace) → Limits c
+pub element : (c : Context) (w : Live) (opening : Position) (before : Nodes) (v : ItemRole) → Limits c
     → HoldsIn (room c + 0) (P.element_by c w opening before v)
 element c w opening before place.End p = λ n at. tt
 element c w opening before place.Item p = λ s. (
@@ -210,7 +210,7 @@ element c w opening before place.Item p = λ s. (
 )
 element c w opening before place.Nothing p = tt
 
-pub key : (c : Context) (before : Properties) (v : KeyPlace) → HoldsIn 0 (P.key_by c before v)
+pub key : (c : Context) (before : Properties) (v : KeyRole) → HoldsIn 0 (P.key_by c before v)
 key c before FieldsEnd = λ n at. tt
 key c before (AKey k) = λ n at s m q. (tt, tt)
 key c before (NoKey why) = tt

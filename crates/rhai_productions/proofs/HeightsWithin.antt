@@ -8,7 +8,7 @@ use Rattle.std.proofs.lemmas.Nat.{and_assoc, and_or_apart}
 use Rattle.std.specs.Int.Bits.{and_zero_r}
 use Rattle.std.specs.Int.RustNames.{bit_and, bit_or}
 use Rattle.rhai_grammar.specs.Prelude.{Lexeme, Position, code, text, Point, Use, Context, Live, Demands, Nothing, Met}
-use Rattle.rhai_grammar.specs.Prelude.{with_captured, past, next_at, adding, capturing, has_room, level_up}
+use Rattle.rhai_grammar.specs.Prelude.{with_captured, past, next_at, adding, capturing, may_raise, level_up}
 use Rattle.rhai_grammar.specs.Prelude.{below_global}
 use Rattle.rhai_grammar.specs.Prelude.{loop_body, in_function, in_closure, is_global}
 use Rattle.rhai_grammar.specs.Delivered as M
@@ -44,7 +44,7 @@ below_limit limit level p e = by (limit == 0) refl e
     by false z f = ltb-true level limit f
 
 -- one level deeper there is less room
-pub deeper : (c : Context) → has_room c ≡ true → Limits c → 8 + room (level_up c) ≤ room c
+pub deeper : (c : Context) → may_raise c ≡ true → Limits c → 8 + room (level_up c) ≤ room c
 unfolding base one_more
 deeper c e p =
     less c.settings.limit c.settings.level (if at_global_level c.settings then 8 * c.sizes.function_depth else 0)

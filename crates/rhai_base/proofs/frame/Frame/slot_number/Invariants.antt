@@ -1,7 +1,7 @@
 -- The slots of the frames that were left are later than those of the frame that is reached, and have other names.
 use Rattle.std.proofs.Common.{◌≡◌, ◌≤◌, ◌+◌, ◌-◌, length, option_map}
 use Rattle.rhai_grammar.specs.Slots.{number}
-use Rattle.rhai_base.proofs.frame.Frame.place_of.Given as goal
+use Rattle.rhai_base.proofs.frame.Frame.slot_number.Given as goal
 
 abbrev pub invariant-loop-place : goal.invariant-loop-place
 invariant-loop-place l = record {

@@ -3,10 +3,10 @@ use Rattle.std.proofs.Common.{◌≡◌, inl, inr, zero, suc, List, [], ◌∷�
 use Rattle.std.specs.Prelude.{◌⊎◌}
 use Rattle.std.specs.List.{Contains}
 use Rattle.rhai_lower.specs.declared.position.Position.{Position}
-use Rattle.rhai_grammar.specs.Cursors.{Cursor, asked}
+use Rattle.rhai_grammar.specs.Cursors.{Cursor, next_item}
 use Rattle.rhai_grammar.specs.Delivered as G
 use Rattle.rhai_grammar.specs.Delivered.{Mode, Taken, ask, code, later, text}
-use Rattle.rhai_grammar.specs.PlaceLaws.{StandsAmong}
+use Rattle.rhai_grammar.specs.PositionLaws.{StandsAmong}
 use Rattle.rhai_grammar.specs.Promises.{Saw}
 use Rattle.rhai_grammar.specs.Seen.{Gives, leads}
 use Rattle.rhai_tokenizer.specs.Readings.{Item}
@@ -74,7 +74,7 @@ next_place (k ∷ taken) is end m =
 
 -- what stands at a token that was seen
 pub seen_place : (taken : List Taken) (is : List Item) (end : Position) (start left : Cursor) (at : Position)
-    → start.tokens ≡ delivers is end → Saw taken start left → StandsAmong taken (asked left) at → IsPlaceOf is end at
+    → start.tokens ≡ delivers is end → Saw taken start left → StandsAmong taken (next_item left) at → IsPlaceOf is end at
 seen_place taken is end start left at same saw (inl h) = taken_place taken is end at (subst
     (Gives taken) same saw.gives) h
 seen_place taken is end start left at same saw (inr e) =

@@ -12,9 +12,9 @@ use Rattle.rhai_grammar.specs.declared.due.DueToken.TheVariants.{RightBrace}
 use Rattle.rhai_reading.specs.Nesting.{Nesting, entered, is_counted}
 use Rattle.rhai_reading.specs.Reading as R
 use Rattle.rhai_reading.specs.Reading.{Goal, Val, Prog, body}
-use Rattle.rhai_reading.specs.Running.{Caller, Done, Out, Progress, Refused, Unfinished, after_brace, and_then, asked}
-use Rattle.rhai_reading.specs.Running.{adding, entering, exec, left_so, level, looking, nested, only_less, recast}
-use Rattle.rhai_reading.specs.Running.{result_of, taking, with_captured}
+use Rattle.rhai_reading.specs.Running.{Caller, Done, Out, Progress, Refused, Unfinished, after_brace, and_then, next_item}
+use Rattle.rhai_reading.specs.Running.{adding, entering, exec, left_so, level, after_peek, nested, only_less, recast}
+use Rattle.rhai_reading.specs.Running.{result_of, after_take, with_captured}
 use Rattle.rhai_reading.specs.Running as running
 use Rattle.rhai_productions.specs.Agreement.{runs}
 use Rattle.rhai_productions.specs.Derived.{counted}
@@ -23,9 +23,9 @@ use Rattle.rhai_productions.specs.Rules.{production}
 use Rattle.rhai_productions.specs.Schema.{Production, run, run_from, view}
 use Rattle.rhai_productions.specs.Schema as S
 use Rattle.rhai_productions.proofs.Lawful.{runs_lawful}
-use Rattle.rhai_productions.proofs.Rooms.{Holds, Limits, most, room}
-use Rattle.rhai_productions.proofs.RoomsOfGoals.{table}
-use Rattle.rhai_productions.proofs.RoomsOfOperands.{Ready, need}
+use Rattle.rhai_productions.proofs.HeightsWithin.{Holds, Limits, most, room}
+use Rattle.rhai_productions.proofs.HeightsOfGoals.{table}
+use Rattle.rhai_productions.proofs.HeightsOfOperands.{Ready, need}
 use Rattle.rhai_productions.proofs.Same.{same}
 
 -- ---- at most so many are active, and never were more than that
@@ -95,20 +95,20 @@ module _ (call : Caller) (all : AllLow call) (a top r : ℕ) (fits : a + r ≤ t
   peeks : {A : Type 0} {k : Lexeme → Position → Prog A} → ((l : Lexeme) (at : Position) → At (k l at)) → At (R.Peek k)
   peeks f = record {
     low = λ s h.
-        one_of a top (is_memory (asked s).lexeme) _ _ h ((f (asked s).lexeme (asked s).at).low (looking s) h);
+        one_of a top (is_memory (next_item s).lexeme) _ _ h ((f (next_item s).lexeme (next_item s).at).low (after_peek s) h);
   }
 
   takes : {A : Type 0} {p : Prog A} → At p → At (R.Take p)
-  takes f = record { low = λ s h. one_of a top (is_memory (asked s).lexeme) _ _ h (f.low (taking s) h) }
+  takes f = record { low = λ s h. one_of a top (is_memory (next_item s).lexeme) _ _ h (f.low (after_take s) h) }
 
   texts : {A : Type 0} {k : Position → Lexeme → Position → Prog A}
       → ((closing : Position) (l : Lexeme) (at : Position) → At (k closing l at)) → At (R.TakeText k)
   texts f = record {
     low = λ s h.
         let u = after_brace s in
-        one_of a top (is_memory (asked s).lexeme) _ _ h (one_of a top (is_due RightBrace (asked s).lexeme) _ _
-        (one_of a top (is_memory (asked u).lexeme) _ _ h (one_of a top (is_text (asked u).lexeme) _ _
-        ((f (asked s).at (asked u).lexeme (asked u).at).low (taking u) h) h)) h);
+        one_of a top (is_memory (next_item s).lexeme) _ _ h (one_of a top (is_due RightBrace (next_item s).lexeme) _ _
+        (one_of a top (is_memory (next_item u).lexeme) _ _ h (one_of a top (is_text (next_item u).lexeme) _ _
+        ((f (next_item s).at (next_item u).lexeme (next_item u).at).low (after_take u) h) h)) h);
   }
 
   asks : {A : Type 0} {k : Library → Prog A} → ((fs : Library) → At (k fs)) → At (R.Know k)

@@ -1,8 +1,8 @@
 -- A law on where refusals stand: at tokens of the stream, or at its end.
 use Rattle.std.specs.Prelude.{◌≡◌, List, []}
 use Rattle.rhai_grammar.specs.Prelude.{Context, Cursor, Library, Live, Missed, Mode, Point, Refusal, Taken}
-use Rattle.rhai_grammar.specs.Cursors.{asked}
-use Rattle.rhai_grammar.specs.PlaceLaws.{StandsAmong, StandsAtToken}
+use Rattle.rhai_grammar.specs.Cursors.{next_item}
+use Rattle.rhai_grammar.specs.PositionLaws.{StandsAmong, StandsAtToken}
 use Rattle.rhai_grammar.specs.Promises.{IsNamed}
 use Rattle.rhai_reading.specs.Reading.{Goal, Whole, Script}
 use Rattle.rhai_productions.specs.Promised.{Unwritten, unwritten}
@@ -14,7 +14,7 @@ pub record StandAtTokens (g : Goal) : Type 0 where
   pub missed : (f : Unwritten g) (s t : Point) (e : Refusal) (mode : Mode) → s.captured ≡ []
       → Missed (unwritten g f) s e mode t → StandsAtToken mode t e.at
   pub named : (before after : Library) (taken : List Taken) (start left : Cursor) (e : Refusal)
-      → IsNamed (unwritten g) before after taken start left e → StandsAmong taken (asked left) e.at
+      → IsNamed (unwritten g) before after taken start left e → StandsAmong taken (next_item left) e.at
 
 -- So it is for whole expressions and for scripts.
 pub record RefusalsStandAtTokens : Type 0 where

@@ -9,12 +9,12 @@ use Rattle.rhai_reading.specs.Reading.{Goal, Val}
 use Rattle.rhai_productions.specs.Rules.{production}
 use Rattle.rhai_grammar.specs.Prelude.{in_function}
 use Rattle.rhai_grammar.specs.Demands.{Nothing}
-use Rattle.rhai_productions.proofs.Rooms.{Limits, deeper, in_functions, most, nests, room}
+use Rattle.rhai_productions.proofs.HeightsWithin.{Limits, deeper, in_functions, most, nests, room}
 use Rattle.rhai_productions.specs.NestLaws.{FormsNestWithin, NestsWithin}
-use Rattle.rhai_productions.proofs.RoomsOfOperands.{Ready, need, HoldsIn, by_either, parted, operand, right, primary}
-use Rattle.rhai_productions.proofs.RoomsOfOperands.{called, call_of, links, element, key, field, follower, binary}
-use Rattle.rhai_productions.proofs.RoomsOfStatements.{construct, export, statement, statements, inside, do_end, arms}
-use Rattle.rhai_productions.proofs.RoomsOfStatements.{action, arm_end, default_end, parameters, parameter, closure}
+use Rattle.rhai_productions.proofs.HeightsOfOperands.{Ready, need, HoldsIn, by_either, parted, operand, right, primary}
+use Rattle.rhai_productions.proofs.HeightsOfOperands.{called, call_of, links, element, key, field, follower, binary}
+use Rattle.rhai_productions.proofs.HeightsOfStatements.{construct, export, statement, statements, inside, do_end, arms}
+use Rattle.rhai_productions.proofs.HeightsOfStatements.{action, arm_end, default_end, parameters, parameter, closure}
 
 abbrev Table : Goal → Type 0
 Table g = Ready g → HoldsIn (need g) (production g)

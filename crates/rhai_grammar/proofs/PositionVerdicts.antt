@@ -2,11 +2,11 @@
 use Rattle.std.proofs.Common.{Bool, true, false, List, [], ◌∷◌, ℕ, if◌then◌else◌}
 use Rattle.std.specs.Prelude.{Option, Some, None}
 use Rattle.rhai_lower.specs.declared.token.Token.TheVariants as token
-use Rattle.rhai_grammar.specs.Prelude.{AKey, AMember, Comment, Context, FieldsEnd, Follower, KeyPlace, Lexeme, Library}
-use Rattle.rhai_grammar.specs.Prelude.{Live, MemberPlace, Name, NoKey, NoMember, Node, Operator, Other, Position}
+use Rattle.rhai_grammar.specs.Prelude.{AKey, AMember, Comment, Context, FieldsEnd, Follower, KeyRole, Lexeme, Library}
+use Rattle.rhai_grammar.specs.Prelude.{Live, MemberRole, Name, NoKey, NoMember, Node, Operator, Other, Position}
 use Rattle.rhai_grammar.specs.Prelude.{Properties, Reserved, Sign, String, Text, Unknown, Verdict, after_part}
-use Rattle.rhai_grammar.specs.Prelude.{arm_place, calling, defines, do_end, follower_of, item_place, member_place}
-use Rattle.rhai_grammar.specs.Prelude.{operand_start, parameter_place, statement_start, token_after_statement}
+use Rattle.rhai_grammar.specs.Prelude.{arm_role, calling, defines, do_end, follower_of, item_role, member_role}
+use Rattle.rhai_grammar.specs.Prelude.{operand_start, parameter_role, statement_start, token_after_statement}
 use Rattle.rhai_grammar.specs.Constructs as C
 use Rattle.rhai_grammar.specs.Functions as F
 use Rattle.rhai_grammar.specs.Interpolations as I
@@ -24,21 +24,21 @@ use Rattle.rhai_grammar.specs.declared.list.CommaList.{CommaList}
 use Rattle.rhai_grammar.specs.declared.list.CommaList.TheVariants as lists
 use Rattle.rhai_grammar.specs.declared.role.AfterStatement.{AfterStatement}
 use Rattle.rhai_grammar.specs.declared.role.AfterStatement.TheVariants as after
-use Rattle.rhai_grammar.specs.declared.role.ArmPlace.{ArmPlace}
-use Rattle.rhai_grammar.specs.declared.role.ArmPlace.TheVariants as arm
+use Rattle.rhai_grammar.specs.declared.role.ArmRole.{ArmRole}
+use Rattle.rhai_grammar.specs.declared.role.ArmRole.TheVariants as arm
 use Rattle.rhai_grammar.specs.declared.role.Calling.{Calling}
 use Rattle.rhai_grammar.specs.declared.role.Calling.TheVariants as calls_by
 use Rattle.rhai_grammar.specs.declared.role.Closing.{Closing}
-use Rattle.rhai_grammar.specs.declared.role.ItemPlace.{ItemPlace}
-use Rattle.rhai_grammar.specs.declared.role.ItemPlace.TheVariants as item
-use Rattle.rhai_grammar.specs.declared.role.OperandPlace.{OperandPlace}
+use Rattle.rhai_grammar.specs.declared.role.ItemRole.{ItemRole}
+use Rattle.rhai_grammar.specs.declared.role.ItemRole.TheVariants as item
+use Rattle.rhai_grammar.specs.declared.role.OperandRole.{OperandRole}
 use Rattle.rhai_grammar.specs.declared.role.OperandStart.{OperandStart}
 use Rattle.rhai_grammar.specs.declared.role.OperandStart.TheVariants as operand
-use Rattle.rhai_grammar.specs.declared.role.StatementPlace.{StatementPlace}
-use Rattle.rhai_grammar.specs.declared.role.StatementPlace.TheVariants as place
+use Rattle.rhai_grammar.specs.declared.role.StatementRole.{StatementRole}
+use Rattle.rhai_grammar.specs.declared.role.StatementRole.TheVariants as place
 use Rattle.rhai_grammar.specs.declared.role.StatementStart.{StatementStart}
 use Rattle.rhai_grammar.specs.declared.role.StatementStart.TheVariants as start
-use Rattle.rhai_grammar.proofs.PlaceWays.{BlamesAt, Places}
+use Rattle.rhai_grammar.proofs.PositionWays.{BlamesAt, Places}
 
 -- one verdict or another
 either : (G : Position → Type 0) (b : Bool) (x y : Verdict) → BlamesAt G x → BlamesAt G y
@@ -72,7 +72,7 @@ module _ {G : Position → Type 0} where
 
   -- ---- operands
 
-  pub operand_due : (c : Context) (p : OperandPlace) → Places G (V.operand_due c p)
+  pub operand_due : (c : Context) (p : OperandRole) → Places G (V.operand_due c p)
   operand_due c p = record { places = λ l. by l (operand_start p l) }
     where
       by : (l : Lexeme) (x : OperandStart) → BlamesAt G (V.beginning_due c l x)
@@ -80,7 +80,7 @@ module _ {G : Position → Type 0} where
       by l operand.Omitted = tt
       by l operand.Jump = tt
 
-  pub jump_stands : (p : OperandPlace) → Places G (B.jump_stands p)
+  pub jump_stands : (p : OperandRole) → Places G (B.jump_stands p)
   jump_stands p = record { places = λ l. by (operand_start p l) }
     where
       by : (x : OperandStart) → BlamesAt G (B.jump_at x)
@@ -105,9 +105,9 @@ module _ {G : Position → Type 0} where
   unlinked = record { places = λ l. search either }
 
   pub member_due : Places G V.member_due
-  member_due = record { places = λ l. by (member_place l) }
+  member_due = record { places = λ l. by (member_role l) }
     where
-      by : (x : MemberPlace) → BlamesAt G (V.member_at x)
+      by : (x : MemberRole) → BlamesAt G (V.member_at x)
       by AMember = tt
       by (NoMember why) = tt
 
@@ -146,8 +146,8 @@ module _ {G : Position → Type 0} where
   pub side_ends : (f : ExprFilter) (op : Lexeme) → Places G (V.side_ends f op)
   side_ends f op = record { places = λ l. search either }
 
-  pub room_due : (c : Context) → Places G (V.room_due c)
-  room_due c = record { places = λ l. search either }
+  pub raise_due : (c : Context) → Places G (V.raise_due c)
+  raise_due c = record { places = λ l. search either }
 
   pub end_due : Places G V.end_due
   end_due = record { places = λ l. search either }
@@ -172,17 +172,17 @@ module _ {G : Position → Type 0} where
       by l part.Close = tt
 
   pub item_due : (limit count : ℕ) → Places G (V.item_due limit count)
-  item_due limit count = record { places = λ l. by l (item_place limit count l) }
+  item_due limit count = record { places = λ l. by l (item_role limit count l) }
     where
-      by : (l : Lexeme) (x : ItemPlace) → BlamesAt G (V.item_at limit l x)
+      by : (l : Lexeme) (x : ItemRole) → BlamesAt G (V.item_at limit l x)
       by l item.Item = tt
       by l item.End = tt
       by l item.Nothing = tt
 
   pub no_item_due : (limit count : ℕ) → Places G (V.no_item_due limit count)
-  no_item_due limit count = record { places = λ l. by l (item_place limit count l) }
+  no_item_due limit count = record { places = λ l. by l (item_role limit count l) }
     where
-      by : (l : Lexeme) (x : ItemPlace) → BlamesAt G (V.no_item_at limit l x)
+      by : (l : Lexeme) (x : ItemRole) → BlamesAt G (V.no_item_at limit l x)
       by l item.Item = tt
       by l item.End = tt
       by l item.Nothing = tt
@@ -190,7 +190,7 @@ module _ {G : Position → Type 0} where
   pub key_due : (c : Context) (before : Properties) → Places G (V.key_due c before)
   key_due c before = record { places = λ l. by (V.next_key c.settings before l) }
     where
-      by : (x : KeyPlace) → BlamesAt G (V.key_at x)
+      by : (x : KeyRole) → BlamesAt G (V.key_at x)
       by (NoKey why) = tt
       by (AKey t) = tt
       by FieldsEnd = tt
@@ -204,17 +204,17 @@ module _ {G : Position → Type 0} where
   -- ---- statements
 
   pub list_ends : (closing : Closing) → Places G (S.list_ends closing)
-  list_ends closing = record { places = λ l. by l (S.statement_place closing l) }
+  list_ends closing = record { places = λ l. by l (S.statement_role closing l) }
     where
-      by : (l : Lexeme) (x : StatementPlace) → BlamesAt G (S.list_ends_at l x)
+      by : (l : Lexeme) (x : StatementRole) → BlamesAt G (S.list_ends_at l x)
       by l place.Close = tt
       by l place.Statement = tt
       by l place.Nothing = tt
 
   pub statement_begins : (closing : Closing) → Places G (S.statement_begins closing)
-  statement_begins closing = record { places = λ l. by l (S.statement_place closing l) }
+  statement_begins closing = record { places = λ l. by l (S.statement_role closing l) }
     where
-      by : (l : Lexeme) (x : StatementPlace) → BlamesAt G (S.begins_at l x)
+      by : (l : Lexeme) (x : StatementRole) → BlamesAt G (S.begins_at l x)
       by l place.Close = tt
       by l place.Statement = tt
       by l place.Nothing = tt
@@ -299,27 +299,27 @@ module _ {G : Position → Type 0} where
       by l (Some b) = tt
 
   pub arm_begins : Places G A.arm_begins
-  arm_begins = record { places = λ l. by (arm_place l) }
+  arm_begins = record { places = λ l. by (arm_role l) }
     where
-      by : (x : ArmPlace) → BlamesAt G (A.arm_begins_at x)
+      by : (x : ArmRole) → BlamesAt G (A.arm_begins_at x)
       by arm.Case = tt
       by arm.Default = tt
       by arm.Close = tt
       by arm.Nothing = tt
 
   pub arms_end : Places G A.arms_end
-  arms_end = record { places = λ l. by l (arm_place l) }
+  arms_end = record { places = λ l. by l (arm_role l) }
     where
-      by : (l : Lexeme) (x : ArmPlace) → BlamesAt G (A.arms_end_at l x)
+      by : (l : Lexeme) (x : ArmRole) → BlamesAt G (A.arms_end_at l x)
       by l arm.Case = tt
       by l arm.Default = tt
       by l arm.Close = tt
       by l arm.Nothing = tt
 
   pub default_ends : (at : Position) → G at → Places G (A.default_ends at)
-  default_ends at g = record { places = λ l. by l (arm_place l) }
+  default_ends at g = record { places = λ l. by l (arm_role l) }
     where
-      by : (l : Lexeme) (x : ArmPlace) → BlamesAt G (A.default_ends_at at l x)
+      by : (l : Lexeme) (x : ArmRole) → BlamesAt G (A.default_ends_at at l x)
       by l arm.Case = g
       by l arm.Default = g
       by l arm.Close = tt
@@ -373,9 +373,9 @@ module _ {G : Position → Type 0} where
       by l calls_by.Nothing = tt
 
   pub parameter_due : (parts : CommaList) → Places G (F.parameter_due parts)
-  parameter_due parts = record { places = λ l. by l (parameter_place parts l) }
+  parameter_due parts = record { places = λ l. by l (parameter_role parts l) }
     where
-      by : (l : Lexeme) (x : ItemPlace) → BlamesAt G (F.parameter_by parts l x)
+      by : (l : Lexeme) (x : ItemRole) → BlamesAt G (F.parameter_by parts l x)
       by l item.Nothing = tt
       by l item.Item = tt
       by l item.End = tt

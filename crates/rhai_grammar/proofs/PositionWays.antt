@@ -9,8 +9,8 @@ use Rattle.rhai_grammar.specs.Prelude.{as_literal, capturing, code, is_among, is
 use Rattle.rhai_grammar.specs.Prelude.{with_captured, ◌▸◌}
 use Rattle.rhai_grammar.specs.Demands.{Refused, Refuses}
 use Rattle.rhai_grammar.specs.Written as W
-use Rattle.rhai_grammar.proofs.PlaceSteps.{AllUses, Closed, Ends, Modes, moved, next_met, next_missed, taken_met}
-use Rattle.rhai_grammar.proofs.PlaceSteps.{taken_missed}
+use Rattle.rhai_grammar.proofs.PositionSteps.{AllUses, Closed, Ends, Modes, moved, next_met, next_missed, taken_met}
+use Rattle.rhai_grammar.proofs.PositionSteps.{taken_missed}
 
 -- ---- what is blamed
 

@@ -24,8 +24,8 @@ unfoldable pub Holds : (limit begun : ℕ) → Library → Type 0
 Holds limit begun library = IsOrderly limit begun library × (limit ≤ 2 ^ 64)
 
 -- the readers that may be active in a function, where one may stand
-unfoldable pub function_room : EngineValue → ParseSettings → ℕ
-function_room engine settings =
+unfoldable pub function_height : EngineValue → ParseSettings → ℕ
+function_height engine settings =
     if at_global_level (settings_of settings) then 8 * engine.max_function_expr_depth else 0
 
 -- at the global level
@@ -44,8 +44,8 @@ four_levels = record {
 }
 
 -- Where functions have four levels, 32 readers may be active in one at the global level, and none below it.
-example : (function_room four_levels at_global ≡ 32) × (function_room four_levels (bare 0 0 (place 1 1)) ≡ 0)
-unfolding function_room
+example : (function_height four_levels at_global ≡ 32) × (function_height four_levels (bare 0 0 (place 1 1)) ≡ 0)
+unfolding function_height
 example = (refl, refl)
 
 -- What a reader leaves, whatever it answers. Where both depth limits are positive, at most eight readers for each level

@@ -7,7 +7,7 @@ use Rattle.rhai_lower.specs.Positions.{place}
 use Rattle.rhai_lower.specs.declared.position.Position.{Position}
 use Rattle.rhai_grammar.specs.Causes.{Refusal}
 use Rattle.rhai_grammar.specs.Contexts.{Context, Live}
-use Rattle.rhai_grammar.specs.Cursors.{Cursor, asked}
+use Rattle.rhai_grammar.specs.Cursors.{Cursor, next_item}
 use Rattle.rhai_grammar.specs.Delivered.{Item, Mode, Point, Taken, code, next_at}
 use Rattle.rhai_grammar.specs.Demands.{Missed}
 use Rattle.rhai_grammar.specs.Forms.{Run, Statements}
@@ -35,10 +35,10 @@ pub record RefusalsStandAtTokens : Type 0 where
       → s.captured ≡ [] → Missed (whole_script fs context live) s e mode t → StandsAtToken mode t e.at
   pub expression_named : (context : Context) (live : Live) (before after : Library) (taken : List Taken)
       (start left : Cursor) (e : Refusal) → IsNamed (expressions context live) before after taken start left e
-      → StandsAmong taken (asked left) e.at
+      → StandsAmong taken (next_item left) e.at
   pub script_named : (context : Context) (live : Live) (before after : Library) (taken : List Taken)
       (start left : Cursor) (e : Refusal) → IsNamed (scripts context live) before after taken start left e
-      → StandsAmong taken (asked left) e.at
+      → StandsAmong taken (next_item left) e.at
 
 -- `1 + 2` is too deep under the limit 1 at the 1, the first of three tokens that were taken by then (`PairRow`); `5..`
 -- is refused at the end mark (`EndedRow`).

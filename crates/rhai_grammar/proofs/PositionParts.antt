@@ -11,13 +11,13 @@ use Rattle.rhai_grammar.specs.Written as W
 use Rattle.rhai_grammar.specs.declared.due.DueToken.TheVariants as due
 use Rattle.rhai_grammar.specs.declared.list.CommaList.{CommaList}
 use Rattle.rhai_grammar.specs.declared.list.CommaList.TheVariants as lists
-use Rattle.rhai_grammar.proofs.PlaceSteps.{AllUses}
-use Rattle.rhai_grammar.proofs.PlaceTrees as P
-use Rattle.rhai_grammar.proofs.PlaceTrees.{AllScoped, Placed}
-use Rattle.rhai_grammar.proofs.PlaceVerdicts as B
-use Rattle.rhai_grammar.proofs.PlaceVerdicts.{FirstAt}
-use Rattle.rhai_grammar.proofs.PlaceWays.{Places, AtTokens, adds, after, captures, done, here, next, shape, test, test_in}
-use Rattle.rhai_grammar.proofs.PlaceWays.{tok, unfaulted}
+use Rattle.rhai_grammar.proofs.PositionSteps.{AllUses}
+use Rattle.rhai_grammar.proofs.PositionTrees as P
+use Rattle.rhai_grammar.proofs.PositionTrees.{AllScoped, Placed}
+use Rattle.rhai_grammar.proofs.PositionVerdicts as B
+use Rattle.rhai_grammar.proofs.PositionVerdicts.{FirstAt}
+use Rattle.rhai_grammar.proofs.PositionWays.{Places, AtTokens, adds, after, captures, done, here, next, shape, test, test_in}
+use Rattle.rhai_grammar.proofs.PositionWays.{tok, unfaulted}
 
 -- the position at which the level of a run's right side is raised
 abbrev pub SideAt : (Position → Type 0) → Side → Type 0
@@ -37,7 +37,7 @@ module _ {G : Position → Type 0} where
   pub expressed : (f : Run) (c : Context) (w : Live) {k : Demands}
       → AtTokens G (Ran G f (outermost (level_up c) w)) (W.run f (outermost (level_up c) w) (W.ended c k)) (W.ended c k)
       → AtTokens G (Placed G (tree f w)) (W.expression f c w k) k
-  expressed f c w h = next (B.room_due c) (after h (λ p. next (B.run_ends c.filter) (done p.0)))
+  expressed f c w h = next (B.raise_due c) (after h (λ p. next (B.run_ends c.filter) (done p.0)))
 
   -- a guard, and what `for` goes over
   pub guarded : (f : Run) (c : Context) (w : Live) {k : Demands}

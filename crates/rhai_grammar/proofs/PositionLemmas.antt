@@ -16,13 +16,13 @@ use Rattle.rhai_grammar.specs.Prelude.{height_after, in_block, in_case, in_closu
 use Rattle.rhai_grammar.specs.Prelude.{is_constant_use, is_qualified, is_scoped, joining, last_fault, latest_first}
 use Rattle.rhai_grammar.specs.Prelude.{level_up, link_list, loop_body, loop_live, loop_name, made_block, member_link}
 use Rattle.rhai_grammar.specs.Prelude.{method_tree, module_fault, named_tree, no_properties, nothing_collected}
-use Rattle.rhai_grammar.specs.Prelude.{operand_tree, parameter_names, parameters_live, place_of, plain_sign}
+use Rattle.rhai_grammar.specs.Prelude.{operand_tree, parameter_names, parameters_live, role_of, plain_sign}
 use Rattle.rhai_grammar.specs.Prelude.{position_of, primary_tree, property, right_side, spot_after_bracket}
 use Rattle.rhai_grammar.specs.Prelude.{spot_after_dot, spot_after_operand, target_fault, text_of, tree}
 use Rattle.rhai_grammar.specs.Prelude.{with_arm_collected, with_property}
-use Rattle.rhai_grammar.specs.Cursors.{asked}
+use Rattle.rhai_grammar.specs.Cursors.{next_item}
 use Rattle.rhai_grammar.specs.Forms as form
-use Rattle.rhai_grammar.specs.PlaceLaws.{RefusalsStandAtTokens, StandsAmong, StandsAtToken}
+use Rattle.rhai_grammar.specs.PositionLaws.{RefusalsStandAtTokens, StandsAmong, StandsAtToken}
 use Rattle.rhai_grammar.specs.Trees as T
 use Rattle.rhai_grammar.specs.Verdicts as V
 use Rattle.rhai_grammar.specs.Written as W
@@ -30,18 +30,18 @@ use Rattle.rhai_grammar.specs.declared.due.DueToken.TheVariants as due
 use Rattle.rhai_grammar.specs.declared.list.CommaList.TheVariants as lists
 use Rattle.rhai_grammar.specs.declared.role.Closing.{Closing}
 use Rattle.rhai_grammar.specs.declared.role.Closing.TheVariants.{Brace, EndMark}
-use Rattle.rhai_grammar.specs.declared.role.OperandPlace.{OperandPlace}
-use Rattle.rhai_grammar.specs.declared.role.OperandPlace.TheVariants as place
+use Rattle.rhai_grammar.specs.declared.role.OperandRole.{OperandRole}
+use Rattle.rhai_grammar.specs.declared.role.OperandRole.TheVariants as place
 use Rattle.rhai_grammar.proofs.Leads.{Leads}
-use Rattle.rhai_grammar.proofs.PlaceParts.{Ran, SideAt, banged, captured_names, caught_by, closure_parameters}
-use Rattle.rhai_grammar.proofs.PlaceParts.{expressed, field, function_begins, function_ends, function_name, guarded}
-use Rattle.rhai_grammar.proofs.PlaceParts.{iterated, named, other_name, parameter_list, path, raised, separated}
-use Rattle.rhai_grammar.proofs.PlaceSteps.{AllTaken, AllUses, Ends, leads}
-use Rattle.rhai_grammar.proofs.PlaceTrees as P
-use Rattle.rhai_grammar.proofs.PlaceTrees.{AllLinks, AllPlaced, Placed}
-use Rattle.rhai_grammar.proofs.PlaceVerdicts as B
-use Rattle.rhai_grammar.proofs.PlaceWays.{Places, Refusing, AtTokens, after, ahead, apart_from, done, here, literally}
-use Rattle.rhai_grammar.proofs.PlaceWays.{next, on, shape, test, test_in, tok, unfaulted, uses}
+use Rattle.rhai_grammar.proofs.PositionParts.{Ran, SideAt, banged, captured_names, caught_by, closure_parameters}
+use Rattle.rhai_grammar.proofs.PositionParts.{expressed, field, function_begins, function_ends, function_name, guarded}
+use Rattle.rhai_grammar.proofs.PositionParts.{iterated, named, other_name, parameter_list, path, raised, separated}
+use Rattle.rhai_grammar.proofs.PositionSteps.{AllTaken, AllUses, Ends, leads}
+use Rattle.rhai_grammar.proofs.PositionTrees as P
+use Rattle.rhai_grammar.proofs.PositionTrees.{AllLinks, AllPlaced, Placed}
+use Rattle.rhai_grammar.proofs.PositionVerdicts as B
+use Rattle.rhai_grammar.proofs.PositionWays.{Places, Refusing, AtTokens, after, ahead, apart_from, done, here, literally}
+use Rattle.rhai_grammar.proofs.PositionWays.{next, on, shape, test, test_in, tok, unfaulted, uses}
 use Rattle.rhai_grammar.proofs.SpellingLemmas.{expression_leads, script_leads}
 
 -- the position of a block that is a statement
@@ -49,7 +49,7 @@ abbrev BlockAt : (Position → Type 0) → Statement → Live → Type 0
 BlockAt G x w = G (block_start (made_block (T.statement_tree x w)))
 
 mutual
-  primary : {G : Position → Type 0} (x : Primary) (c : Context) (w : Live) (p : OperandPlace) (k : Demands)
+  primary : {G : Position → Type 0} (x : Primary) (c : Context) (w : Live) (p : OperandRole) (k : Demands)
       → AtTokens G ((b : Bool) → Placed G (primary_tree x w b)) (W.primary x c w p k) k
   primary {G = G} (form.Value token at) c w p k =
       shape (tok (B.operand_due c p) (λ a. done (λ b. P.value G token at a)))
@@ -81,7 +81,7 @@ mutual
   closure_body (form.Runs f) c w k = next B.runs (on (statement f c w k) here)
   closure_body (form.NoBody at) c w k = ahead B.anything (λ a. here)
 
-  base : {G : Position → Type 0} (x : Base) (c : Context) (w : Live) (p : OperandPlace) (k : Demands)
+  base : {G : Position → Type 0} (x : Base) (c : Context) (w : Live) (p : OperandRole) (k : Demands)
       → AtTokens G (Placed G (base_tree x w)) (W.base x c w p k) k
   base {G = G} (form.Plain x names) c w p k =
       let y = primary_tree x w (is_scoped names) in
@@ -133,7 +133,7 @@ mutual
       after (links rest (spot_after_dot q l) w k (P.joined_links G q.before (l ∷ []) g ((a, b), tt))) (λ ls.
       done ((a, b), ls)))))))))))
 
-  operand : {G : Position → Type 0} (x : Operand) (c : Context) (w : Live) (p : OperandPlace) (k : Demands)
+  operand : {G : Position → Type 0} (x : Operand) (c : Context) (w : Live) (p : OperandRole) (k : Demands)
       → AtTokens G (Placed G (operand_tree x w)) (W.operand x c w p k) k
   operand {G = G} (form.Linked x list) c w p k =
       let y = base_tree x w in
@@ -194,7 +194,7 @@ mutual
   run : {G : Position → Type 0} (f : Run) (q : Spot) (k : Demands) → SideAt G q.side
       → AtTokens G (Ran G f q) (W.run f q k) k
   run {G = G} (form.Just x) q k g =
-      after (operand x q.first q.live (place_of q.side) _) (λ h. next (B.operator_known (filter_of q)) (
+      after (operand x q.first q.live (role_of q.side) _) (λ h. next (B.operator_known (filter_of q)) (
       on (raised q.side g) (done (h, P.position G (operand_tree x q.live) h))))
   run {G = G} (form.Binary op at l r) q k g =
       let x = tree l q.live in
@@ -229,7 +229,7 @@ mutual
       → AtTokens G (BlockAt G x w) (W.statement x c w k) k
   statement (form.EmptyStatement at) c w k = tok B.anything (λ a. done a)
   statement (form.Expression x) c w k =
-      next (B.expression_begins c) (next (B.room_due c) (evaluation x (level_up c) w k))
+      next (B.expression_begins c) (next (B.raise_due c) (evaluation x (level_up c) w k))
   statement (form.Define constant at name name_at value) c w k =
       tok B.anything (λ a. test a (tok B.name_due (λ b. test b (
       on (initializer value (level_up c) w at k a) (done a)))))
@@ -390,14 +390,14 @@ latest G (k ∷ taken) before h g = latest G taken (k ∷ before) h.1 (h.0, g)
 
 -- the tokens seen
 seen : (taken : List Taken) (left : Cursor) (library : Library) (us : List Use)
-    → Ends (StandsAmong taken (asked left)) left.mode (record {
+    → Ends (StandsAmong taken (next_item left)) left.mode (record {
       tokens = left.tokens;
       taken = latest_first taken [];
       library = library;
       captured = us;
     })
 seen taken left library us =
-    let G = StandsAmong taken (asked left) in
+    let G = StandsAmong taken (next_item left) in
     record { taken = latest G taken [] (all_taken G taken (λ p h. inl h)) tt; next = inr refl }
 
 pub refusals_stand_at_tokens : RefusalsStandAtTokens
@@ -407,9 +407,9 @@ refusals_stand_at_tokens = record {
   script = λ c w fs s t e m u x.
       whole (StandsAtToken m t) s t e m (statements fs EndMark c w Nothing) (script_leads c w fs) u (ends m t) x;
   expression_named = λ c w before later taken start left e n.
-      whole (StandsAmong taken (asked left)) _ _ e left.mode (expression c w n.form) (expression_leads c w n.form) refl
+      whole (StandsAmong taken (next_item left)) _ _ e left.mode (expression c w n.form) (expression_leads c w n.form) refl
       (seen taken left later n.captured) n.missed;
   script_named = λ c w before later taken start left e n.
-      whole (StandsAmong taken (asked left)) _ _ e left.mode (statements n.form EndMark c w Nothing)
+      whole (StandsAmong taken (next_item left)) _ _ e left.mode (statements n.form EndMark c w Nothing)
       (script_leads c w n.form) refl (seen taken left later n.captured) n.missed;
 }

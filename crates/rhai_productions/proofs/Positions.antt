@@ -12,18 +12,18 @@ use Rattle.rhai_reading.specs.Reading as R
 use Rattle.rhai_reading.specs.Reading.{Goal, Val}
 use Rattle.rhai_productions.specs.Rules.{production}
 use Rattle.rhai_grammar.specs.Prelude.{Taken, Cursor, Point, Mode, latest_first}
-use Rattle.rhai_grammar.specs.Cursors.{asked}
-use Rattle.rhai_grammar.specs.PlaceLaws.{StandsAmong, StandsAtToken}
-use Rattle.rhai_grammar.proofs.PlaceSteps.{AllTaken, Ends}
-use Rattle.rhai_grammar.proofs.PlaceTrees as T
-use Rattle.rhai_grammar.proofs.PlaceTrees.{AllLinks, AllPlaced, Placed}
+use Rattle.rhai_grammar.specs.Cursors.{next_item}
+use Rattle.rhai_grammar.specs.PositionLaws.{StandsAmong, StandsAtToken}
+use Rattle.rhai_grammar.proofs.PositionSteps.{AllTaken, Ends}
+use Rattle.rhai_grammar.proofs.PositionTrees as T
+use Rattle.rhai_grammar.proofs.PositionTrees.{AllLinks, AllPlaced, Placed}
 use Rattle.rhai_productions.proofs.Standing.{refused}
-use Rattle.rhai_productions.specs.PlaceLaws.{RefusalsStandAtTokens, StandAtTokens}
-use Rattle.rhai_productions.proofs.PlacesOfOperands.{AllowsAs, Wants, Right, by_either, either_of, parted, fault_at}
-use Rattle.rhai_productions.proofs.PlacesOfOperands.{one_more, longer, operand, right, primary, called, call_of, links}
-use Rattle.rhai_productions.proofs.PlacesOfOperands.{element, key, field, follower, binary}
-use Rattle.rhai_productions.proofs.PlacesOfStatements.{construct, export, statement, statements, inside, do_end, arms}
-use Rattle.rhai_productions.proofs.PlacesOfStatements.{action, arm_end, default_end, parameters, parameter, closure}
+use Rattle.rhai_productions.specs.PositionLaws.{RefusalsStandAtTokens, StandAtTokens}
+use Rattle.rhai_productions.proofs.PositionsOfOperands.{AllowsAs, Wants, Right, by_either, either_of, parted, fault_at}
+use Rattle.rhai_productions.proofs.PositionsOfOperands.{one_more, longer, operand, right, primary, called, call_of, links}
+use Rattle.rhai_productions.proofs.PositionsOfOperands.{element, key, field, follower, binary}
+use Rattle.rhai_productions.proofs.PositionsOfStatements.{construct, export, statement, statements, inside, do_end, arms}
+use Rattle.rhai_productions.proofs.PositionsOfStatements.{action, arm_end, default_end, parameters, parameter, closure}
 
 module _ (G : Position → Type 0) where
   abbrev Table : Goal → Type 0
@@ -153,14 +153,14 @@ latest G (k ∷ taken) before h g = latest G taken (k ∷ before) h.1 (h.0, g)
 
 -- the tokens seen
 seen : (taken : List Taken) (left : Cursor) (library : Library) (us : List Use)
-    → Ends (StandsAmong taken (asked left)) left.mode (record {
+    → Ends (StandsAmong taken (next_item left)) left.mode (record {
       tokens = left.tokens;
       taken = latest_first taken [];
       library = library;
       captured = us;
     })
 seen taken left library us =
-    let G = StandsAmong taken (asked left) in
+    let G = StandsAmong taken (next_item left) in
     record { taken = latest G taken [] (all_taken G taken (λ p h. inl h)) tt; next = inr refl }
 
 -- A goal without positions of its own wants none.
@@ -170,7 +170,7 @@ of_goal g i = record {
       let G = StandsAtToken m t in
       refused G (Wants G) (Right G) production (table G) f s t e m (i G) c (up_to m t) x;
   named = λ before later taken start left e n.
-      let G = StandsAmong taken (asked left) in
+      let G = StandsAmong taken (next_item left) in
       refused G (Wants G) (Right G) production (table G) n.form _ _ e left.mode (i G) refl
       (seen taken left later n.captured) n.missed;
 }

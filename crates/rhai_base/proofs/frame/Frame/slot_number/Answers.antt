@@ -4,7 +4,7 @@ use Rattle.std.specs.Int.NonZero.{non_zero_usize_get}
 use Rattle.rhai_base.specs.Frames.{FrameValue, outer_slots}
 use Rattle.rhai_base.proofs.DefinitionLemmas.{number_inside}
 use Rattle.rhai_base.proofs.FrameLemmas.{place_further, place_here}
-use Rattle.rhai_base.proofs.frame.Frame.place_of.Goals as goal
+use Rattle.rhai_base.proofs.frame.Frame.slot_number.Goals as goal
 
 pub overflow_add-len : goal.overflow_add-len
 overflow_add-len c =

@@ -27,7 +27,7 @@ use Rattle.rhai_grammar.specs.declared.role.Joining.{Joining}
 use Rattle.rhai_grammar.specs.declared.role.Joining.TheVariants as joins
 use Rattle.rhai_grammar.specs.declared.role.ListKind.{ListKind}
 use Rattle.rhai_grammar.specs.declared.role.ListKind.TheVariants as lists
-use Rattle.rhai_grammar.proofs.PlaceWays.{FaultAt}
+use Rattle.rhai_grammar.proofs.PositionWays.{FaultAt}
 
 module _ (G : Position → Type 0) where
   -- the names before a name, each with its position

@@ -10,31 +10,31 @@ use Rattle.rhai_grammar.specs.Settings.{Settings, at_global_level}
 use Rattle.rhai_base.specs.Settings.{gap, settings_of}
 use Rattle.rhai_base.specs.declared.settings.ParseSettings.{ParseSettings}
 use Rattle.rhai_parser.specs.Engines.{EngineValue}
-use Rattle.rhai_parser.specs.Rooms.{Holds, function_room}
+use Rattle.rhai_parser.specs.Heights.{Holds, function_height}
 
 -- below the global level no function stands
 pub no_function : (engine : EngineValue) (settings : ParseSettings) → at_global_level (settings_of settings) ≡ false
-    → function_room engine settings ≡ 0
-unfolding function_room
+    → function_height engine settings ≡ 0
+unfolding function_height
 no_function engine settings e = ap (λ b. if b then 8 * engine.max_function_expr_depth else 0) e
 
 -- at it one may
 pub one_function : (engine : EngineValue) (settings : ParseSettings) → at_global_level (settings_of settings) ≡ true
-    → function_room engine settings ≡ 8 * engine.max_function_expr_depth
-unfolding function_room
+    → function_height engine settings ≡ 8 * engine.max_function_expr_depth
+unfolding function_height
 one_function engine settings e = ap (λ b. if b then 8 * engine.max_function_expr_depth else 0) e
 
 -- under the same settings as many readers may be active in it
 pub room_same : (engine : EngineValue) (a b : ParseSettings) → settings_of a ≡ settings_of b
-    → function_room engine a ≡ function_room engine b
-unfolding function_room
+    → function_height engine a ≡ function_height engine b
+unfolding function_height
 room_same engine a b e =
     ap (λ (s : Settings). if at_global_level s then 8 * engine.max_function_expr_depth else 0) e
 
 -- no more than eight for each of its levels
 pub function_room_most : (engine : EngineValue) (settings : ParseSettings)
-    → function_room engine settings ≤ 8 * engine.max_function_expr_depth
-unfolding function_room
+    → function_height engine settings ≤ 8 * engine.max_function_expr_depth
+unfolding function_height
 function_room_most engine settings = by (at_global_level (settings_of settings))
   where
     by : (b : Bool) → (if b then 8 * engine.max_function_expr_depth else 0) ≤ 8 * engine.max_function_expr_depth
