@@ -3,8 +3,6 @@ use Rattle.std.proofs.Common.{◌≡◌, inl, inr, true, List, [], ◌∷◌, re
 use Rattle.rhai_grammar.specs.Prelude.{Adds, Ahead, Apart, Captures, Demands, Literally, Met, Missed, Mode, Next}
 use Rattle.rhai_grammar.specs.Prelude.{Nothing, Point, Position, Refusal, Shape, Taken, Test, TestIn, Tok, Use, Uses}
 use Rattle.rhai_grammar.specs.Prelude.{adding, apart, ask, capturing, code, next_at, past, text, with_captured, ◌▸◌}
-use Rattle.rhai_grammar.proofs.Leads as L
-use Rattle.rhai_grammar.proofs.Leads.{Leads}
 
 -- ---- in which mode each token is requested
 
@@ -23,20 +21,6 @@ Modes m n (Captures h e b u ▸ ds) = Modes m n ds
 Modes m n (Shape b ▸ ds) = b ≡ true → Modes m n ds
 Modes m n (Literally ds ▸ more) = (o : Mode) × Modes m o ds × Modes o n more
 Modes m n (Apart ds number us ▸ more) = (o : Mode) × Modes m o ds × Modes o n more
-
-pub leads : {m n : Mode} (o : Mode) {ts : List Taken} {ds k : Demands} → Leads m n ts ds k → Modes n o k → Modes m o ds
-leads o L.here h = h
-leads o (L.tok {n = p} r) h = (refl, p, leads o r h)
-leads o (L.ahead r) h = (refl, leads o r h)
-leads o (L.next r) h = leads o r h
-leads o (L.uses r) h = leads o r h
-leads o (L.test r) h = leads o r h
-leads o (L.test_in r) h = leads o r h
-leads o (L.adds r) h = leads o r h
-leads o (L.captures r) h = leads o r h
-leads o (L.shape f) h = λ e. leads o (f e) h
-leads o (L.literally {n = p} f r) h = (p, leads p f refl, leads o r h)
-leads o (L.apart {n = p} f r) h = (p, leads p f refl, leads o r h)
 
 -- ---- positions that are allowed
 

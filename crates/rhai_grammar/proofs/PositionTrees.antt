@@ -3,24 +3,22 @@ use Rattle.std.proofs.Common.{ℕ, Bool, true, false, List, [], ◌∷◌, ◌++
 use Rattle.std.specs.Prelude.{Option, Some, None, option_map}
 use Rattle.std.specs.Option.{option_or}
 use Rattle.rhai_lower.specs.Nodes as node
-use Rattle.rhai_lower.specs.Nodes.{block_start, first_start, start_of, statement_position}
+use Rattle.rhai_lower.specs.Nodes.{block_start, first_start, start_of}
 use Rattle.rhai_lower.specs.declared.token.Token.TheVariants as token
 use Rattle.rhai_grammar.specs.Prelude.{Bracket, Chain, Collected, Context, Dotted, Lexeme, Link, LinkKind}
-use Rattle.rhai_grammar.specs.Prelude.{Live, Node, Nodes, Part, Path, Position, Refusal, Text, Use, affected, arm_fault}
+use Rattle.rhai_grammar.specs.Prelude.{Live, Node, Nodes, Part, Position, Refusal, Text, Use, affected, arm_fault}
 use Rattle.rhai_grammar.specs.Prelude.{chain_of, chained, closure_node, guard_fault, index_refusal, is_last}
-use Rattle.rhai_grammar.specs.Prelude.{iterated_fault, joined, joined_tree, last_fault, link_node, made_block}
-use Rattle.rhai_grammar.specs.Prelude.{module_fault, nest, part, path_tree, qualified, target_fault, value_of}
+use Rattle.rhai_grammar.specs.Prelude.{iterated_fault, joined, joined_tree, last_fault, link_node}
+use Rattle.rhai_grammar.specs.Prelude.{module_fault, nest, part, target_fault, value_of}
 use Rattle.rhai_grammar.specs.Prelude.{with_case}
 use Rattle.rhai_grammar.specs.Causes as cause
 use Rattle.rhai_grammar.specs.Chains.{link_fault}
 use Rattle.rhai_grammar.specs.Constructs.{type_fault}
-use Rattle.rhai_grammar.specs.Forms as form
 use Rattle.rhai_grammar.specs.Kinds as K
 use Rattle.rhai_grammar.specs.Modules.{path_fault}
 use Rattle.rhai_grammar.specs.Operators.{Item, Items, items, list_position, list_tree}
 use Rattle.rhai_grammar.specs.Switches.{case_fault, fault_from}
 use Rattle.rhai_grammar.specs.Targets as A
-use Rattle.rhai_grammar.specs.Trees as T
 use Rattle.rhai_grammar.specs.declared.role.Effect.{Effect}
 use Rattle.rhai_grammar.specs.declared.role.Effect.TheVariants.{Keeps, Negates}
 use Rattle.rhai_grammar.specs.declared.role.Joining.{Joining}
@@ -86,31 +84,6 @@ module _ (G : Position → Type 0) where
   value (Lexeme.Sign token.True) at g = g
   value (Lexeme.Sign token.False) at g = g
   value _ at g = g
-
-  pub word : (t : Text) (at : Position) → G at → Placed (T.word_tree t at)
-  word t at g = by _
-    where
-      by : (b : Bool) → Placed (if b then node.this at else T.variable_of None t at)
-      by true = g
-      by false = (g, tt)
-
-  one_name : (a : List (Text × Position)) (x : Text × Position) → AllNames a → G x.1 → AllNames (a ++ x ∷ [])
-  one_name [] x h g = (g, tt)
-  one_name (y ∷ a) x h g = (h.0, one_name a x h.1 g)
-
-  longer : (imports : List Text) (n : Node) (t : Text) (p : Position) → Placed n → G p
-      → Placed (qualified imports n t p)
-  longer imports (node.variable v q) t p h g = (g, one_name v.path (v.name, q) h.1 h.0)
-  longer imports _ t p h g = h
-
-  abbrev pub AllScoped : Path → Type 0
-  AllScoped form.NoPath = Unit {0}
-  AllScoped (form.Scoped colons t at rest) = G at × AllScoped rest
-
-  pub path : (x : Path) (imports : List Text) (n : Node) → AllScoped x → Placed n → Placed (path_tree x imports n)
-  path form.NoPath imports n g h = h
-  path (form.Scoped colons t at rest) imports n g h =
-      path rest imports (qualified imports n t at) g.1 (longer imports n t at h g.0)
 
   pub closure : (at : Position) (n : ℕ) (us : List Use) (names : List Text) (w : Live) → G at
       → Placed (closure_node at n us names w)
@@ -302,24 +275,3 @@ module _ (G : Position → Type 0) where
 
   pub of_arm : (before : Collected) (xs : Nodes) → AllPlaced xs → FaultAt G (arm_fault before xs)
   of_arm before xs h = of_cases _ before xs h
-
-  -- ---- the positions of statements
-
-  conditional_at : (x : form.Conditional) (w : Live) (at : Position) → G at
-      → G (block_start (made_block (T.conditional_tree x w at)))
-  conditional_at (form.Guarded guard opening body branch) w at g = g
-
-  block_at : (opening : Position) (x : form.Body) (w : Live) → G opening → G (block_start (T.block_tree opening x w))
-  block_at opening (form.Many fs closing) w g = g
-  block_at opening (form.Single x closing) w g = g
-
-  pub construct_at : (x : form.Construct) (w : Live) (at : Position) → G at
-      → G (block_start (made_block (T.construct_tree x w at)))
-  construct_at (form.Block body) w at g = block_at at body w g
-  construct_at (form.If x) w at g = conditional_at x w at g
-  construct_at (form.Switch item opening arms) w at g = g
-  construct_at (form.While guard opening body) w at g = g
-  construct_at (form.Loop opening body) w at g = g
-  construct_at (form.Do opening body negated do_at guard) w at g = g
-  construct_at (form.For x in_at over opening body) w at g = g
-  construct_at (form.Try opening body catch_at name catch_opening branch) w at g = g

@@ -4,11 +4,10 @@ use Rattle.std.proofs.Common.{if◌then◌else◌}
 use Rattle.std.specs.Prelude.{Option, Some, None}
 use Rattle.rhai_grammar.specs.Prelude.{Adds, Ahead, Apart, Blames, Captures, Demands, Ended, Fine, Item, Lexeme}
 use Rattle.rhai_grammar.specs.Prelude.{Library, Literally, Met, Missed, Mode, Next, Nothing, Otherwise, Point, Position}
-use Rattle.rhai_grammar.specs.Prelude.{Refusal, Shape, Test, TestIn, Tok, Use, Uses, Verdict, Wrong, adding, apart}
+use Rattle.rhai_grammar.specs.Prelude.{Refusal, Shape, TestIn, Tok, Use, Uses, Verdict, Wrong, adding, apart}
 use Rattle.rhai_grammar.specs.Prelude.{as_literal, capturing, code, is_among, is_memory, names_of, next_at, noted, past}
 use Rattle.rhai_grammar.specs.Prelude.{with_captured, ◌▸◌}
 use Rattle.rhai_grammar.specs.Demands.{Refused, Refuses}
-use Rattle.rhai_grammar.specs.Written as W
 use Rattle.rhai_grammar.proofs.PositionSteps.{AllUses, Closed, Ends, Modes, moved, next_met, next_missed, taken_met}
 use Rattle.rhai_grammar.proofs.PositionSteps.{taken_missed}
 
@@ -148,16 +147,6 @@ module _ {G : Position → Type 0} where
     ];
   }
 
-  pub test : {b : Bool} {d : Refusal} {P : Type 0} {ds k : Demands} → G d.at → AtTokens G P ds k
-      → AtTokens G P (Test b d ▸ ds) k
-  test {d = d} g h = record {
-    did = λ n t o r. h.did n t o (going r.start r.mode r.modes r.used r.met.1);
-    stopped = λ e n t o r. elim r.missed [
-      | inl a ↦ inl (at_same G e d a.1 g)
-      | inr b ↦ h.stopped e n t o (refusing r.start r.mode r.last r.modes r.used b.1)
-    ];
-  }
-
   pub test_in : {b : Library → Bool} {d : Refusal} {P : Type 0} {ds k : Demands} → G d.at → AtTokens G P ds k
       → AtTokens G P (TestIn b d ▸ ds) k
   test_in {d = d} g h = record {
@@ -218,9 +207,6 @@ module _ {G : Position → Type 0} where
     did = λ n t o r. let x = f.did n t o r in (g x.0).did n t o x.1;
     stopped = λ e n t o r. elim (f.stopped e n t o r) [ inl a ↦ inl a | inr x ↦ (g x.0).stopped e n t o x.1 ];
   }
-
-  pub on : {P Q : Type 0} {ds k j : Demands} → AtTokens G P ds k → AtTokens G Q k j → AtTokens G Q ds j
-  on f g = after f (λ p. g)
 
   -- What is demanded literally is refused at the same position.
   pub literally : {P Q : Type 0} {ds more k : Demands} → AtTokens G P ds Nothing → (P → AtTokens G Q more k)
@@ -291,10 +277,3 @@ module _ {G : Position → Type 0} where
           let x = f.did r.modes.0 m.0 c (going (apart r.start) r.mode r.modes.1 tt m.1) in
           let h = subst (λ l. AllUses G l) m.2.1 (subst (λ (p : Point). AllUses G p.captured) x.1.met x.1.used) in
           (g h).stopped e n t o (refusing s r.modes.0 r.last r.modes.2 r.used m.3)
-
-  -- ---- the error that there may be, and the raise after an operand
-
-  pub unfaulted : (r : Option Refusal) {P : Type 0} {k j : Demands} → FaultAt G r → AtTokens G P k j
-      → AtTokens G P (W.unfaulted r k) j
-  unfaulted None g h = h
-  unfaulted (Some e) g h = test g h

@@ -77,10 +77,6 @@ key_role quoted first (Reserved t) = NoKey (if is_identifier t then cause.Reserv
 key_role quoted first (Sign t) = sign_key first t
 key_role quoted first l = NoKey (no_key first l)
 
-abbrev pub is_key : KeyRole → Bool
-is_key (AKey t) = true
-is_key _ = false
-
 abbrev pub too_many_fields : (limit : ℕ) → Cause
 too_many_fields limit = cause.LiteralTooLarge (codes "Number of properties in object map literal") limit
 

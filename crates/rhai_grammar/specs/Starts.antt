@@ -9,7 +9,6 @@ use Rattle.rhai_grammar.specs.Constructs.{may_be_value}
 use Rattle.rhai_grammar.specs.Contexts.{Context, allows_pipe, has_closures}
 use Rattle.rhai_grammar.specs.declared.role.Bars.{Bars}
 use Rattle.rhai_grammar.specs.declared.role.Bars.TheVariants as bars
-use Rattle.rhai_grammar.specs.Demands.{Verdict, Fine, Otherwise}
 use Rattle.rhai_grammar.specs.declared.role.Beginning.{Beginning}
 use Rattle.rhai_grammar.specs.declared.role.Beginning.TheVariants as begin
 use Rattle.rhai_grammar.specs.declared.role.OperandRole.{OperandRole}
@@ -60,38 +59,12 @@ abbrev pub jumps : Lexeme → Bool
 jumps (Sign t) = sign_jumps t
 jumps _ = false
 
--- the token of `return` or `throw`
-abbrev pub jump_token : (throws : Bool) → Token
-jump_token true = token.Throw
-jump_token false = token.Return
-
 -- What a token is at a place: directly after a range operator some tokens say that the operand is omitted, and directly
 -- after `??` a jump may stand.
 abbrev pub operand_start : OperandRole → Lexeme → OperandStart
 operand_start place.AfterRange token = if omits_operand token then start.Omitted else start.Written
 operand_start place.AfterCoalesce token = if jumps token then start.Jump else start.Written
 operand_start place.Elsewhere token = start.Written
-
-abbrev pub is_omitted : OperandStart → Bool
-is_omitted start.Omitted = true
-is_omitted _ = false
-
--- a jump in place of an operand
-abbrev pub jump_at : OperandStart → Verdict
-jump_at start.Jump = Fine
-jump_at _ = Otherwise
-
-abbrev pub jump_stands : OperandRole → Lexeme → Verdict
-jump_stands place token = jump_at (operand_start place token)
-
--- ---- the value of a jump
-
--- an absent one is followed by what begins no expression
-abbrev pub no_value_follows : Context → Lexeme → Verdict
-no_value_follows context token = if starts context token then Otherwise else Fine
-
-abbrev pub value_follows : Context → Lexeme → Verdict
-value_follows context token = if starts context token then Fine else Otherwise
 
 -- `return` stands in place of an operand after `??` alone, and an error of the tokenizer begins an expression.
 example : (operand_start (role_after (Sign token.DoubleQuestion)) (Sign token.Return) ≡ start.Jump)

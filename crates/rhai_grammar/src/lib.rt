@@ -2,7 +2,6 @@
 #![tactic(auto)]
 
 pub mod due;
-pub mod entry_rows;
 pub mod error;
 pub mod filter;
 pub mod key;
@@ -10,7 +9,6 @@ pub mod laws;
 pub mod list;
 mod message;
 pub mod role;
-pub mod tree_laws;
 
 pub use due::DueToken;
 pub use error::{InputError, ParseError, ParseErrorType, ParseResult};

@@ -9,24 +9,21 @@ use Rattle.rhai_lower.specs.declared.token.Token.TheVariants as token
 use Rattle.rhai_lower.specs.Slots.{SlotValue}
 use Rattle.rhai_grammar.specs.Beginnings.{calls, is_this, may_be_called, value_of}
 use Rattle.rhai_grammar.specs.Causes.{Refusal}
-use Rattle.rhai_grammar.specs.Closures.{bars_at, captured_nodes, closure_node, declared_names}
+use Rattle.rhai_grammar.specs.Closures.{captured_nodes, closure_node}
 use Rattle.rhai_grammar.specs.Contexts.{Context, Live}
 use Rattle.rhai_grammar.specs.Delivered.{is_memory}
 use Rattle.rhai_grammar.specs.Demands.{Blames, Fine, Otherwise, verdict}
-use Rattle.rhai_grammar.specs.Forms as form
-use Rattle.rhai_grammar.specs.Forms.{ClosureBody, ClosureHead, Construct, Elements, Fields, Primary, Run, Segments}
 use Rattle.rhai_grammar.specs.Functions.{parameters_live}
 use Rattle.rhai_grammar.specs.Interpolations.{with_text}
-use Rattle.rhai_grammar.specs.Modules.{path_tree, qualified}
+use Rattle.rhai_grammar.specs.Modules.{qualified}
 use Rattle.rhai_grammar.specs.Settings.{is_in_function}
 use Rattle.rhai_grammar.specs.Slots.{number}
 use Rattle.rhai_grammar.specs.TreeNumbers.{has_path}
 use Rattle.rhai_grammar.specs.Trees as T
-use Rattle.rhai_grammar.specs.Trees.{is_variable, primary_tree, tree}
+use Rattle.rhai_grammar.specs.Trees.{is_variable}
 use Rattle.rhai_grammar.specs.Uses.{Use}
-use Rattle.rhai_grammar.specs.UsesOfForms.{Event, Used, construct_events, element_events, events, field_events, own_events, primary_events, segment_events, used_at}
+use Rattle.rhai_grammar.specs.UsesOfForms.{Event, Used, used_at}
 use Rattle.rhai_grammar.specs.Verdicts as V
-use Rattle.rhai_grammar.proofs.EventEffects.{ended_called}
 use Rattle.rhai_names.specs.Mentions.{Mention, Reads, all_mentions, by_call, is_read, mentions, property_mentions, statement_mentions}
 use Rattle.rhai_names.specs.WrittenFunctions as written
 use Rattle.rhai_names.specs.WrittenFunctions.{WrittenFunction, ended_of, in_closure_body, in_construct, in_elements, in_fields, in_primary, in_run, in_segments, is_used}

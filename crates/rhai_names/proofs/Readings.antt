@@ -9,7 +9,7 @@ use Rattle.rhai_grammar.specs.Libraries.{Ended}
 use Rattle.rhai_grammar.specs.Slots.{number}
 use Rattle.rhai_grammar.specs.Trees as T
 use Rattle.rhai_grammar.specs.Uses.{Use}
-use Rattle.rhai_grammar.specs.UsesOfForms.{Event, HasEnded, Used, as_called, ended_in, ends_only, used_at}
+use Rattle.rhai_grammar.specs.UsesOfForms.{Event, HasEnded, Used, as_called, ended_in, used_at}
 use Rattle.rhai_names.specs.Laws.{AllReadTheirUses, ReadsItsUses}
 use Rattle.rhai_names.specs.Mentions.{Mention, block_mentions, by_call, is_read, mentions, statement_mentions, statements_mentions}
 use Rattle.rhai_names.specs.WrittenFunctions.{WrittenFunction, ended_of, events_of, is_used}

@@ -10,7 +10,6 @@ use Rattle.rhai_grammar.specs.Causes.{Refusal}
 use Rattle.rhai_grammar.specs.Demands.{Demands}
 use Rattle.rhai_grammar.specs.Switches.{Collected, arm_fault, case_fault, fault_from, no_guard, with_arm_collected, with_case, with_cases, with_default_collected, with_value}
 use Rattle.rhai_grammar.specs.UsesOfForms.{Event}
-use Rattle.rhai_grammar.specs.Written as W
 use Rattle.rhai_grammar.proofs.NumberWays.{Gives, gets, here}
 use Rattle.rhai_names.specs.Mentions.{Mention, all_mentions, arm_mentions, case_mentions, is_read, mentions, property_mentions}
 use Rattle.rhai_names.specs.WrittenFunctions.{WrittenFunction, is_used}

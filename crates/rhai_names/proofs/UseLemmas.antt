@@ -6,34 +6,27 @@ use Rattle.rhai_lower.specs.Nodes as node
 use Rattle.rhai_lower.specs.Nodes.{Properties, no_properties, position_of, property, with_property}
 use Rattle.rhai_lower.specs.declared.position.Position.{Position}
 use Rattle.rhai_grammar.specs.Chains.{index_refusal, last_fault}
-use Rattle.rhai_grammar.specs.Closures.{declared_names, in_closure}
+use Rattle.rhai_grammar.specs.Closures.{in_closure}
 use Rattle.rhai_grammar.specs.Contexts.{Context, Live, below_global, in_block, in_case, level_up, loop_body}
-use Rattle.rhai_grammar.specs.Definitions.{after_statement, catch_live, loop_live}
+use Rattle.rhai_grammar.specs.Definitions.{catch_live, loop_live}
 use Rattle.rhai_grammar.specs.Delivered.{Point, code, next_at, past}
 use Rattle.rhai_grammar.specs.Demands.{Demands, Fine, Met, Nothing, Verdict, verdict}
-use Rattle.rhai_grammar.specs.Forms as form
-use Rattle.rhai_grammar.specs.Forms.{Action, Arguments, Arms, Base, Body, Branch, CaseGuard, Cases, ClosureBody, Conditional, Construct, Elements, ExprStatement, Fields, Initializer, Items, JumpValue, Links, Operand, Primary, Run, Segments, Statement, Statements}
-use Rattle.rhai_grammar.specs.Functions.{in_function, parameter_names, parameters_live}
+use Rattle.rhai_grammar.specs.Functions.{in_function, parameters_live}
 use Rattle.rhai_grammar.specs.Modules.{is_qualified, module_fault}
 use Rattle.rhai_grammar.specs.Operators.{joining}
 use Rattle.rhai_grammar.specs.Signs.{effect, plain_sign}
-use Rattle.rhai_grammar.specs.Spots.{LinkSpot, Spot, height_after, role_of, right_side, spot_after_bracket, spot_after_dot, spot_after_operand}
-use Rattle.rhai_grammar.specs.Ends.{action_ends}
+use Rattle.rhai_grammar.specs.Spots.{LinkSpot, spot_after_bracket, spot_after_dot, spot_after_operand}
 use Rattle.rhai_grammar.specs.Switches.{Collected, arm_fault, nothing_collected, with_arm_collected}
 use Rattle.rhai_grammar.specs.Targets.{is_constant_use, target_fault}
 use Rattle.rhai_grammar.specs.Trees as T
-use Rattle.rhai_grammar.specs.Trees.{action_tree, argument_trees, base_tree, bracket_link, case_trees, caught, caught_name, counter_of, function_called, guard_tree, loop_name, member_link, method_called, method_tree, named_by, named_tree, node_count, primary_tree, tree}
+use Rattle.rhai_grammar.specs.Trees.{bracket_link, caught_name, function_called, member_link, method_called, method_tree, named_by, node_count}
 use Rattle.rhai_grammar.specs.UsesOfForms as E
-use Rattle.rhai_grammar.specs.UsesOfForms.{events, script_events}
 use Rattle.rhai_grammar.specs.Verdicts as V
-use Rattle.rhai_grammar.specs.Written as W
 use Rattle.rhai_grammar.specs.declared.role.Closing.{Closing}
 use Rattle.rhai_grammar.specs.declared.role.Closing.TheVariants.{Brace, EndMark}
 use Rattle.rhai_grammar.specs.declared.role.OperandRole.{OperandRole}
 use Rattle.rhai_grammar.specs.declared.role.OperandRole.TheVariants as place
-use Rattle.rhai_grammar.proofs.CaptureLemmas.{forms_leave_their_events}
-use Rattle.rhai_grammar.proofs.NumberLemmas as numbers
-use Rattle.rhai_grammar.proofs.NumberWays.{Gives, ahead, apart_from, banged, caught_by, closure_parameters, comments_at, expressed, function_at, function_name, gets, guarded, here, iterated, literally, named, next, on, other_name, parameter_list, past_it, path, raised, separated, shape, test, test_in, tok, unfaulted, up_to, uses}
+use Rattle.rhai_grammar.proofs.NumberWays.{Gives, gets, here}
 use Rattle.rhai_names.specs.Laws.{FunctionsReadTheirUses}
 use Rattle.rhai_names.specs.Mentions.{all_mentions, block_mentions, mentions, optional_mentions, property_mentions, statement_mentions, statements_mentions}
 use Rattle.rhai_names.specs.WrittenFunctions as written

@@ -9,9 +9,8 @@ use Rattle.rhai_lower.specs.declared.ast.ScriptFuncDef.{ScriptFuncDef}
 use Rattle.rhai_lower.specs.declared.ast.Stmt.{Stmt}
 use Rattle.rhai_grammar.specs.Contexts.{Context, Live}
 use Rattle.rhai_grammar.specs.Cursors.{Cursor}
-use Rattle.rhai_grammar.specs.Forms.{Statements}
 use Rattle.rhai_grammar.specs.Libraries.{Library}
-use Rattle.rhai_grammar.specs.Promises.{ReadsWhole, Returns, scripts}
+use Rattle.rhai_grammar.specs.Promises.{Returns}
 use Rattle.rhai_grammar.specs.declared.error.ParseError.{ParseError}
 use Rattle.rhai_parser.specs.Scripts.{ReadsScript, function_views, functions_in}
 use Rattle.rhai_names.specs.FnNames.{AreNamesOf, IsNamesOfWritten}

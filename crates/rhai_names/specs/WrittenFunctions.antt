@@ -7,17 +7,11 @@ use Rattle.rhai_lower.specs.Positions.{place}
 use Rattle.rhai_lower.specs.Texts.{Text, same_text}
 use Rattle.rhai_lower.specs.declared.position.Position.{Position}
 use Rattle.rhai_grammar.specs.Comments.{Comment}
-use Rattle.rhai_grammar.specs.Forms as form
-use Rattle.rhai_grammar.specs.Forms.{Action, Arguments, Arms, Base, Body, Branch, CaseGuard, Cases, ClosureBody}
-use Rattle.rhai_grammar.specs.Forms.{ClosureHead, Conditional, Construct, Elements, ExprStatement, Fields, Initializer}
-use Rattle.rhai_grammar.specs.Forms.{Items, JumpValue, Links, Operand, Owner, ParameterList, Primary, Run, Segments}
-use Rattle.rhai_grammar.specs.Forms.{Statement, Statements}
-use Rattle.rhai_grammar.specs.Functions.{parameter_names, parameters_live}
+use Rattle.rhai_grammar.specs.Functions.{parameters_live}
 use Rattle.rhai_grammar.specs.Libraries.{Ended}
 use Rattle.rhai_grammar.specs.Slots.{number}
-use Rattle.rhai_grammar.specs.Trees.{closure_tree, function_tree}
 use Rattle.rhai_grammar.specs.Uses.{Use}
-use Rattle.rhai_grammar.specs.UsesOfForms.{Event, HasEnded, Used, body_events, own_events}
+use Rattle.rhai_grammar.specs.UsesOfForms.{Event, HasEnded, Used}
 
 -- a function as it is written, or a closure with its number and the names that it captures
 pub data WrittenFunction : Type 0 where

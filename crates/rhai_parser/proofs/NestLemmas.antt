@@ -17,9 +17,9 @@ use Rattle.rhai_grammar.specs.NumberedLibraries.{IsOrderly}
 use Rattle.rhai_parser.specs.Nesting.{KeepsCounts, NestsAsWritten, StaysWithin}
 use Rattle.rhai_reading.specs.Nesting.{Nesting, entered}
 use Rattle.rhai_reading.proofs.Entries.{IsNew}
-use Rattle.rhai_productions.specs.Derived.{depth}
-use Rattle.rhai_productions.specs.Rules.{production}
-use Rattle.rhai_productions.proofs.DerivedDepth.{nests}
+use Rattle.rhai_grammar.specs.Forms.{depth}
+use Rattle.rhai_grammar.specs.Rules.{production}
+use Rattle.rhai_productions.proofs.Depth.{nests}
 use Rattle.std.proofs.Math.Nat.{le_refl}
 use Rattle.rhai_base.specs.Counts.{counts_of}
 use Rattle.rhai_base.specs.Frames.{FrameValue}

@@ -27,7 +27,7 @@ use Rattle.rhai_reading.specs.Reading.{Goal, Script, Val, Whole}
 use Rattle.rhai_reading.specs.Running.{Done, Fails, Progress, result_of}
 use Rattle.rhai_reading.proofs.Entries as M
 use Rattle.rhai_reading.proofs.Entries.{Entry, IsNew}
-use Rattle.rhai_productions.proofs.DerivedMain.{expression_entry, reads_done, reads_fails, script_entry}
+use Rattle.rhai_productions.proofs.Main.{expression_entry, reads_done, reads_fails, script_entry}
 
 -- ---- functions
 

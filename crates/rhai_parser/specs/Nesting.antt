@@ -5,9 +5,9 @@ use Rattle.rhai_grammar.specs.Cursors.{Cursor}
 use Rattle.rhai_grammar.specs.Libraries.{Library}
 use Rattle.rhai_grammar.specs.Promises.{IsWritten}
 use Rattle.rhai_reading.specs.Reading.{Script}
-use Rattle.rhai_productions.specs.Derived.{depth}
-use Rattle.rhai_productions.specs.Promised.{Written, written}
-use Rattle.rhai_productions.specs.Rules.{production}
+use Rattle.rhai_grammar.specs.Forms.{depth}
+use Rattle.rhai_grammar.specs.Promises.{Written, written}
+use Rattle.rhai_grammar.specs.Rules.{production}
 use Rattle.rhai_base.specs.Counts.{Counts}
 use Rattle.rhai_base.specs.declared.settings.ParseSettings.{ParseSettings}
 use Rattle.rhai_parser.specs.Engines.{EngineValue}

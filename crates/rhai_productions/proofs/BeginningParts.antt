@@ -21,9 +21,9 @@ use Rattle.rhai_grammar.specs.declared.role.Linking.TheVariants as link
 use Rattle.rhai_grammar.specs.declared.role.OperandStart.TheVariants as first
 use Rattle.rhai_grammar.specs.Prelude.{Operator, operand_start, role_after, boolean_holds, operator_tree}
 use Rattle.rhai_reading.specs.Reading as R
-use Rattle.rhai_productions.specs.Rules as P
-use Rattle.rhai_productions.specs.Rules.{production}
-use Rattle.rhai_productions.specs.Schema.{fault_free}
+use Rattle.rhai_grammar.specs.Rules as P
+use Rattle.rhai_grammar.specs.Rules.{production}
+use Rattle.rhai_grammar.specs.Productions.{fault_free}
 use Rattle.rhai_productions.specs.StartLaws.{IsBegun}
 use Rattle.rhai_productions.proofs.Fits as F
 use Rattle.rhai_productions.proofs.Fits.{Comes, Fit, FitIn, formed, given}

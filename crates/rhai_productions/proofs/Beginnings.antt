@@ -16,8 +16,8 @@ use Rattle.rhai_grammar.specs.declared.role.Construct.TheVariants as kind
 use Rattle.rhai_grammar.specs.declared.role.Bars.TheVariants as bars
 use Rattle.rhai_grammar.specs.Prelude.{loop_body}
 use Rattle.rhai_reading.specs.Reading as R
-use Rattle.rhai_productions.specs.Rules as P
-use Rattle.rhai_productions.specs.Rules.{production}
+use Rattle.rhai_grammar.specs.Rules as P
+use Rattle.rhai_grammar.specs.Rules.{production}
 use Rattle.rhai_productions.specs.StartLaws.{StartsOfExpressions}
 use Rattle.rhai_productions.proofs.StartLemmas.{begins_so}
 use Rattle.rhai_productions.proofs.Fits as F

@@ -13,10 +13,10 @@ use Rattle.rhai_grammar.specs.declared.role.Linking.{Linking}
 use Rattle.rhai_grammar.proofs.ShapeSteps.{link_shapes, chains}
 use Rattle.rhai_reading.specs.Reading as R
 use Rattle.rhai_reading.specs.Reading.{Goal, Val}
-use Rattle.rhai_productions.specs.Schema.{Production}
-use Rattle.rhai_productions.specs.Rules as P
-use Rattle.rhai_productions.specs.Rules.{production}
-use Rattle.rhai_productions.specs.Derived as F
+use Rattle.rhai_grammar.specs.Productions.{Production}
+use Rattle.rhai_grammar.specs.Rules as P
+use Rattle.rhai_grammar.specs.Rules.{production}
+use Rattle.rhai_grammar.specs.Forms as F
 use Rattle.rhai_productions.specs.Always.{Always}
 use Rattle.rhai_productions.specs.ChainForms.{ChainBy, IsChain, IsOneChain, GroupBy, IsGroup, GroupedBy, IsGroupedChain}
 use Rattle.rhai_productions.specs.ChainForms.{ChainsAreJoined}

@@ -21,12 +21,12 @@ use Rattle.rhai_grammar.specs.declared.role.Bars.{Bars}
 use Rattle.rhai_grammar.specs.declared.role.Bars.TheVariants as bars
 use Rattle.rhai_grammar.proofs.SlotLemmas.{same}
 use Rattle.rhai_reading.specs.Reading.{Closure, Goal, Val}
-use Rattle.rhai_productions.specs.Rules.{production}
-use Rattle.rhai_productions.specs.Rules as P
-use Rattle.rhai_productions.specs.Schema.{Production, adds, give, knows}
-use Rattle.rhai_productions.specs.Derived as D
-use Rattle.rhai_productions.specs.Events as F
-use Rattle.rhai_productions.specs.Events.{Event, ended_in, ends_only}
+use Rattle.rhai_grammar.specs.Rules.{production}
+use Rattle.rhai_grammar.specs.Rules as P
+use Rattle.rhai_grammar.specs.Productions.{Production, adds, give, knows}
+use Rattle.rhai_grammar.specs.Forms as D
+use Rattle.rhai_grammar.specs.Events as F
+use Rattle.rhai_grammar.specs.Events.{Event, ended_in, ends_only}
 use Rattle.rhai_productions.specs.Numbered as Z
 use Rattle.rhai_productions.specs.Numbered.{ClosureParts, closure_parts}
 use Rattle.rhai_productions.specs.ClosureLaws.{CapturedAreUsed, ParametersAreCaptured}

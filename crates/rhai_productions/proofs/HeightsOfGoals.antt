@@ -6,7 +6,7 @@ use Rattle.rhai_grammar.specs.Prelude.{is_name}
 use Rattle.rhai_grammar.specs.Prelude.{has_single_blocks}
 use Rattle.rhai_reading.specs.Reading as R
 use Rattle.rhai_reading.specs.Reading.{Goal, Val}
-use Rattle.rhai_productions.specs.Rules.{production}
+use Rattle.rhai_grammar.specs.Rules.{production}
 use Rattle.rhai_grammar.specs.Prelude.{in_function}
 use Rattle.rhai_grammar.specs.Demands.{Nothing}
 use Rattle.rhai_productions.proofs.HeightsWithin.{Limits, deeper, in_functions, most, nests, room}

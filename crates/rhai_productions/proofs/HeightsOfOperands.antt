@@ -20,11 +20,12 @@ use Rattle.rhai_grammar.specs.declared.role.Calling.{Calling}
 use Rattle.rhai_grammar.specs.declared.role.ItemRole.{ItemRole}
 use Rattle.rhai_grammar.specs.declared.role.Linking.{Linking}
 use Rattle.rhai_grammar.specs.declared.role.OperandStart.{OperandStart}
+use Rattle.rhai_grammar.specs.Strengths.{continues}
 use Rattle.rhai_reading.specs.Reading as R
 use Rattle.rhai_reading.specs.Reading.{Goal, Val}
-use Rattle.rhai_productions.specs.Schema.{Production}
-use Rattle.rhai_productions.specs.Rules as P
-use Rattle.rhai_productions.specs.Rules.{production}
+use Rattle.rhai_grammar.specs.Productions.{Production}
+use Rattle.rhai_grammar.specs.Rules as P
+use Rattle.rhai_grammar.specs.Rules.{production}
 use Rattle.rhai_grammar.specs.Prelude.{level_up}
 use Rattle.rhai_productions.proofs.HeightsWithin.{Holds, Limits, below, deeper, room}
 
@@ -234,7 +235,7 @@ follower Other = tt
 pub binary : (c : Context) (w : Live) (at : Position) (parent : ℕ) (lhs : Node) (v : Option (ℕ × Bool)) → Limits c
     → HoldsIn (room c + 5) (P.binary_of c w at parent lhs v)
 binary c w at parent lhs None p = tt
-binary c w at parent lhs (Some op) p = by_either (R.continues parent op.0 op.1) _ _ (room c + 5)
+binary c w at parent lhs (Some op) p = by_either (continues parent op.0 op.1) _ _ (room c + 5)
     (λ n pos. (
       p,
       omega arith,

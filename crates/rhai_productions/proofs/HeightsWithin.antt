@@ -13,13 +13,13 @@ use Rattle.rhai_grammar.specs.Prelude.{below_global}
 use Rattle.rhai_grammar.specs.Prelude.{loop_body, in_function, in_closure, is_global}
 use Rattle.rhai_grammar.specs.Delivered as M
 use Rattle.rhai_grammar.specs.Settings.{Settings, at_global_level, one_more}
-use Rattle.rhai_reading.specs.Nesting.{is_counted}
+use Rattle.rhai_grammar.specs.Goals.{is_counted}
 use Rattle.rhai_reading.specs.Reading.{Goal, Val}
-use Rattle.rhai_productions.specs.Schema.{Production, Seen, view}
-use Rattle.rhai_productions.specs.Schema as S
-use Rattle.rhai_productions.specs.Derived as F
-use Rattle.rhai_productions.specs.Derived.{given, take, this, if_so, if_not, choose, must, knows, adds, uses, captures}
-use Rattle.rhai_productions.specs.Derived.{part, literal, apart, in_text, form, counted}
+use Rattle.rhai_grammar.specs.Productions.{Production, Seen, view}
+use Rattle.rhai_grammar.specs.Productions as S
+use Rattle.rhai_grammar.specs.Forms as F
+use Rattle.rhai_grammar.specs.Forms.{given, take, this, if_so, if_not, choose, must, knows, adds, uses, captures}
+use Rattle.rhai_grammar.specs.Forms.{part, literal, apart, in_text, form, counted}
 
 -- ---- the room below a context
 

@@ -5,10 +5,10 @@ pub mod SameStatements
 pub mod Same
 pub mod Faults
 pub mod Tidies
-pub mod DerivedSound
-pub mod DerivedComplete
-pub mod DerivedMain
-pub mod DerivedDepth
+pub mod Sound
+pub mod Complete
+pub mod Main
+pub mod Depth
 pub mod LawLemmas
 pub mod Heights
 pub mod Passing

@@ -27,11 +27,12 @@ use Rattle.rhai_grammar.specs.declared.role.Linking.{Linking}
 use Rattle.rhai_grammar.specs.declared.role.OperandStart.{OperandStart}
 use Rattle.rhai_grammar.proofs.NumberSteps as N
 use Rattle.rhai_grammar.proofs.NumberSteps.{AllLinks, IsCollected}
+use Rattle.rhai_grammar.specs.Strengths.{continues}
 use Rattle.rhai_reading.specs.Reading as R
 use Rattle.rhai_reading.specs.Reading.{Goal, Val}
-use Rattle.rhai_productions.specs.Schema.{Production}
-use Rattle.rhai_productions.specs.Rules as P
-use Rattle.rhai_productions.specs.Rules.{production}
+use Rattle.rhai_grammar.specs.Productions.{Production}
+use Rattle.rhai_grammar.specs.Rules as P
+use Rattle.rhai_grammar.specs.Rules.{production}
 use Rattle.rhai_productions.specs.Kept.{Keeps}
 use Rattle.rhai_productions.specs.Numbered.{names, Leaves, UnlessCalled, Right}
 use Rattle.rhai_productions.proofs.NumberTrees.{one_node, one_property, one_text, one_link, handled, catches}
@@ -198,7 +199,7 @@ pub binary : (c : Context) (w : Live) (at : Position) (parent : ℕ) (lhs : Node
     → KeepsIn (λ x. WellNumbered (names w) lhs → WellNumbered (names w) x) (P.binary_of c w at parent lhs v) n
 binary c w at parent lhs None n = λ h. h
 binary c w at parent lhs (Some op) n =
-    by_either (λ x m. WellNumbered (names w) lhs → WellNumbered (names w) x) (R.continues parent op.0 op.1) _ _ n
+    by_either (λ x m. WellNumbered (names w) lhs → WellNumbered (names w) x) (continues parent op.0 op.1) _ _ n
     (λ pos m y o h v q u room r a k left rite x b g before.
     g (N.operator (names w) (joining n) n pos lhs r before (k h)))
     (λ h. h)

@@ -25,9 +25,9 @@ use Rattle.rhai_grammar.specs.declared.role.ItemRole.{ItemRole}
 use Rattle.rhai_grammar.specs.declared.role.StatementStart.{StatementStart}
 use Rattle.rhai_grammar.proofs.NumberSteps as N
 use Rattle.rhai_grammar.proofs.NumberSteps.{AllLinks, IsCollected}
-use Rattle.rhai_productions.specs.Schema.{Production}
-use Rattle.rhai_productions.specs.Rules as P
-use Rattle.rhai_productions.specs.Rules.{production}
+use Rattle.rhai_grammar.specs.Productions.{Production}
+use Rattle.rhai_grammar.specs.Rules as P
+use Rattle.rhai_grammar.specs.Rules.{production}
 use Rattle.rhai_productions.specs.Numbered.{names, Leaves}
 use Rattle.rhai_productions.proofs.NumberTrees.{kept_statement, export_names, closure}
 use Rattle.rhai_productions.proofs.NumbersOfOperands.{KeepsIn, by_either, parted}

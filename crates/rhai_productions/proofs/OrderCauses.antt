@@ -21,7 +21,7 @@ use Rattle.rhai_grammar.specs.LibraryLaws.{duplicates_closure}
 use Rattle.rhai_grammar.specs.declared.list.CommaList.{CommaList}
 use Rattle.rhai_grammar.proofs.Duplicates.{either, has_duplicate, is_duplicate}
 use Rattle.rhai_grammar.proofs.SparedTokens.{key_due, member_due}
-use Rattle.rhai_productions.specs.Schema.{fault_free, fault_of}
+use Rattle.rhai_grammar.specs.Productions.{fault_free, fault_of}
 use Rattle.rhai_productions.proofs.Ordering.{Spared, missing_spared, unexpected_spared}
 
 -- ---- causes

@@ -25,11 +25,12 @@ use Rattle.rhai_grammar.specs.declared.role.Linking.{Linking}
 use Rattle.rhai_grammar.specs.declared.role.OperandStart.{OperandStart}
 use Rattle.rhai_grammar.proofs.LibrarySteps.{Kept}
 use Rattle.rhai_grammar.proofs.SparedFaults as D
+use Rattle.rhai_grammar.specs.Strengths.{continues}
 use Rattle.rhai_reading.specs.Reading as R
 use Rattle.rhai_reading.specs.Reading.{Goal, Val}
-use Rattle.rhai_productions.specs.Schema.{Production}
-use Rattle.rhai_productions.specs.Rules as P
-use Rattle.rhai_productions.specs.Rules.{production}
+use Rattle.rhai_grammar.specs.Productions.{Production}
+use Rattle.rhai_grammar.specs.Rules as P
+use Rattle.rhai_grammar.specs.Rules.{production}
 use Rattle.rhai_productions.proofs.Ordering.{Orders, Spared, missing_spared, unexpected_spared}
 use Rattle.rhai_productions.proofs.OrderCauses.{fault, key_spared, member_spared, no_item, no_operand}
 
@@ -255,7 +256,7 @@ module _ (limit : ℕ) where
   pub binary : (c : Context) (w : Live) (at : Position) (parent : ℕ) (lhs : Node) (v : Option (ℕ × Bool)) (b : ℕ)
       (l : Library) → Fits limit b c → Kept limit b l → OrdersIn b (P.binary_of c w at parent lhs v) l
   binary c w at parent lhs None b l i o = (tt, o)
-  binary c w at parent lhs (Some op) b l i o = either_of (R.continues parent op.0 op.1) _ _ b l
+  binary c w at parent lhs (Some op) b l i o = either_of (continues parent op.0 op.1) _ _ b l
       (λ n pos. (
         b,
         o,

@@ -31,9 +31,9 @@ use Rattle.rhai_grammar.specs.declared.role.ItemRole.{ItemRole}
 use Rattle.rhai_grammar.specs.declared.role.StatementStart.{StatementStart}
 use Rattle.rhai_grammar.proofs.LibrarySteps.{Kept, few_closures, one_begins, one_ends}
 use Rattle.rhai_grammar.proofs.LibraryLemmas.{closure_added, function_added, key_is_new}
-use Rattle.rhai_productions.specs.Schema.{Production, adds, give, knows}
-use Rattle.rhai_productions.specs.Rules as P
-use Rattle.rhai_productions.specs.Rules.{production}
+use Rattle.rhai_grammar.specs.Productions.{Production, adds, give, knows}
+use Rattle.rhai_grammar.specs.Rules as P
+use Rattle.rhai_grammar.specs.Rules.{production}
 use Rattle.rhai_productions.proofs.Ordering.{Spared, missing_spared, within}
 use Rattle.rhai_productions.proofs.OrderCauses.{no_parameter, no_parameters, no_variable}
 use Rattle.rhai_productions.proofs.OrdersOfOperands.{Begun, Fits, OrdersIn, Right, either_of, parted}

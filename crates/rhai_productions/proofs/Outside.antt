@@ -41,16 +41,17 @@ use Rattle.rhai_grammar.specs.declared.role.ItemRole.{ItemRole}
 use Rattle.rhai_grammar.specs.declared.role.Linking.{Linking}
 use Rattle.rhai_grammar.specs.declared.role.OperandStart.{OperandStart}
 use Rattle.rhai_grammar.specs.declared.role.StatementStart.{StatementStart}
+use Rattle.rhai_grammar.specs.Strengths.{continues}
 use Rattle.rhai_reading.specs.Reading as R
 use Rattle.rhai_reading.specs.Reading.{Goal, Val}
-use Rattle.rhai_productions.specs.Schema.{Production, view, name}
-use Rattle.rhai_productions.specs.Rules as P
-use Rattle.rhai_productions.specs.Rules.{production}
-use Rattle.rhai_productions.specs.Derived as D
-use Rattle.rhai_productions.specs.Derived.{given, take, this, if_so, if_not, choose, here, must, knows, adds, uses}
-use Rattle.rhai_productions.specs.Derived.{captures, part, literal, apart, in_text, form}
-use Rattle.rhai_productions.specs.Events as F
-use Rattle.rhai_productions.specs.Events.{Event, Used, HasEnded, ends_only}
+use Rattle.rhai_grammar.specs.Productions.{Production, view, name}
+use Rattle.rhai_grammar.specs.Rules as P
+use Rattle.rhai_grammar.specs.Rules.{production}
+use Rattle.rhai_grammar.specs.Forms as D
+use Rattle.rhai_grammar.specs.Forms.{given, take, this, if_so, if_not, choose, here, must, knows, adds, uses}
+use Rattle.rhai_grammar.specs.Forms.{captures, part, literal, apart, in_text, form}
+use Rattle.rhai_grammar.specs.Events as F
+use Rattle.rhai_grammar.specs.Events.{Event, Used, HasEnded, ends_only}
 use Rattle.rhai_productions.specs.Quiet.{Quiet, Outside, Off, NothingIsCaptured}
 use Rattle.rhai_productions.proofs.Passing.{library_after, captured_after, captured_on, captured_ends, captured_is}
 use Rattle.rhai_productions.proofs.Passing.{leaves_its}
@@ -208,7 +209,7 @@ binary : (c : Context) (w : Live) (at : Position) (parent : ℕ) (lhs : Node) (v
     → Quiet Outside (P.binary_of c w at parent lhs v)
 binary c w at parent lhs None o = tt
 binary c w at parent lhs (Some op) o =
-    by_either (R.continues parent op.0 op.1) _ _ (λ l pos. (o, λ y. (tt, λ next. (o, λ r. (o, λ x. tt))))) tt
+    by_either (continues parent op.0 op.1) _ _ (λ l pos. (o, λ y. (tt, λ next. (o, λ r. (o, λ x. tt))))) tt
 
 export : (c : Context) (w : Live) (at : Position) (v : Option Bool) → Off c → Quiet Outside (P.export_by c w at v)
 export c w at (Some constant) o = λ l pos. (o, λ f. tt)

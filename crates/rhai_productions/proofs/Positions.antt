@@ -10,7 +10,7 @@ use Rattle.rhai_grammar.specs.Prelude.{arm_fault}
 use Rattle.rhai_grammar.specs.Prelude.{Use, Library}
 use Rattle.rhai_reading.specs.Reading as R
 use Rattle.rhai_reading.specs.Reading.{Goal, Val}
-use Rattle.rhai_productions.specs.Rules.{production}
+use Rattle.rhai_grammar.specs.Rules.{production}
 use Rattle.rhai_grammar.specs.Prelude.{Taken, Cursor, Point, Mode, latest_first}
 use Rattle.rhai_grammar.specs.Cursors.{next_item}
 use Rattle.rhai_grammar.specs.PositionLaws.{StandsAmong, StandsAtToken}

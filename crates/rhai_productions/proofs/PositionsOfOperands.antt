@@ -22,13 +22,14 @@ use Rattle.rhai_grammar.specs.declared.role.Calling.{Calling}
 use Rattle.rhai_grammar.specs.declared.role.ItemRole.{ItemRole}
 use Rattle.rhai_grammar.specs.declared.role.Linking.{Linking}
 use Rattle.rhai_grammar.specs.declared.role.OperandStart.{OperandStart}
+use Rattle.rhai_grammar.specs.Strengths.{continues}
 use Rattle.rhai_reading.specs.Reading as R
 use Rattle.rhai_reading.specs.Reading.{Goal, Val}
-use Rattle.rhai_productions.specs.Schema.{Production, fault_free, fault_of}
-use Rattle.rhai_productions.specs.Rules as P
-use Rattle.rhai_productions.specs.Rules.{production}
+use Rattle.rhai_grammar.specs.Productions.{Production, fault_free, fault_of}
+use Rattle.rhai_grammar.specs.Rules as P
+use Rattle.rhai_grammar.specs.Rules.{production}
 use Rattle.rhai_lower.specs.Nodes.{block_start}
-use Rattle.rhai_grammar.specs.Prelude.{made_block, with_node, qualified, bracket_link, member_link}
+use Rattle.rhai_grammar.specs.Prelude.{with_node, qualified, bracket_link, member_link}
 use Rattle.rhai_grammar.specs.Operators.{joining}
 use Rattle.rhai_grammar.specs.Signs.{effect, plain_sign}
 use Rattle.rhai_grammar.proofs.PositionTrees as T
@@ -256,7 +257,7 @@ module _ (G : Position → Type 0) where
   pub binary : (c : Context) (w : Live) (at : Position) (parent : ℕ) (lhs : Node) (v : Option (ℕ × Bool)) → G at
       → Placed G lhs → AllowsAs (Placed G) (P.binary_of c w at parent lhs v)
   binary c w at parent lhs None g h = h
-  binary c w at parent lhs (Some op) g h = by_either (Placed G) (R.continues parent op.0 op.1) _ _
+  binary c w at parent lhs (Some op) g h = by_either (Placed G) (continues parent op.0 op.1) _ _
       (λ n pos a. (
         tt,
         λ y k. (

@@ -9,7 +9,8 @@ use Rattle.rhai_grammar.specs.Prelude.{Ended, Use}
 use Rattle.rhai_grammar.specs.Contexts.{Context}
 use Rattle.rhai_grammar.specs.Settings.{one_more}
 use Rattle.rhai_grammar.specs.declared.due.DueToken.TheVariants.{RightBrace}
-use Rattle.rhai_reading.specs.Nesting.{Nesting, entered, is_counted}
+use Rattle.rhai_grammar.specs.Goals.{is_counted}
+use Rattle.rhai_reading.specs.Nesting.{Nesting, entered}
 use Rattle.rhai_reading.specs.Reading as R
 use Rattle.rhai_reading.specs.Reading.{Goal, Val, Prog, body}
 use Rattle.rhai_reading.specs.Running.{Caller, Done, Out, Progress, Refused, Unfinished, after_brace, and_then, next_item}
@@ -17,11 +18,12 @@ use Rattle.rhai_reading.specs.Running.{adding, entering, exec, left_so, level, a
 use Rattle.rhai_reading.specs.Running.{result_of, after_take, with_captured}
 use Rattle.rhai_reading.specs.Running as running
 use Rattle.rhai_productions.specs.Agreement.{runs}
-use Rattle.rhai_productions.specs.Derived.{counted}
+use Rattle.rhai_grammar.specs.Forms.{counted}
 use Rattle.rhai_productions.specs.NestLaws.{PeaksWithin, ReadersNestWithin, ReadsWithin}
-use Rattle.rhai_productions.specs.Rules.{production}
-use Rattle.rhai_productions.specs.Schema.{Production, run, run_from, view}
-use Rattle.rhai_productions.specs.Schema as S
+use Rattle.rhai_grammar.specs.Rules.{production}
+use Rattle.rhai_grammar.specs.Productions.{Production, view}
+use Rattle.rhai_productions.specs.Readers.{run, run_from}
+use Rattle.rhai_grammar.specs.Productions as S
 use Rattle.rhai_productions.proofs.Lawful.{runs_lawful}
 use Rattle.rhai_productions.proofs.HeightsWithin.{Holds, Limits, most, room}
 use Rattle.rhai_productions.proofs.HeightsOfGoals.{table}

@@ -11,15 +11,17 @@ use Rattle.rhai_grammar.specs.Prelude.{no_variable, has_single_blocks, after_par
 use Rattle.rhai_grammar.specs.Prelude.{calling, linking, follower_of, defines, arm_role, parameter_role, item_role}
 use Rattle.rhai_grammar.specs.Prelude.{operand_start, statement_start, do_end}
 use Rattle.rhai_grammar.specs.declared.role.StatementStart.{StatementStart}
+use Rattle.rhai_grammar.specs.Comments.{comment_of}
 use Rattle.rhai_reading.specs.Reading as R
 use Rattle.rhai_reading.specs.Reading.{Goal, Val, Prog, Ret, Fail, Peek, Take, Call, Know, body}
 use Rattle.rhai_reading.specs.Moves.{Moves}
 use Rattle.rhai_productions.specs.Agreement.{looks_twice, Agrees}
-use Rattle.rhai_productions.specs.Schema as S
-use Rattle.rhai_productions.specs.Schema.{Production, give, never, this, choose, if_next, must, knows, adds, due}
-use Rattle.rhai_productions.specs.Schema.{faultless, unless, run, run_from, stop, name}
-use Rattle.rhai_productions.specs.Rules as P
-use Rattle.rhai_productions.specs.Rules.{production}
+use Rattle.rhai_grammar.specs.Productions as S
+use Rattle.rhai_grammar.specs.Productions.{Production, give, never, this, choose, if_next, must, knows, adds, due}
+use Rattle.rhai_grammar.specs.Productions.{faultless, unless, stop, name}
+use Rattle.rhai_productions.specs.Readers.{run, run_from}
+use Rattle.rhai_grammar.specs.Rules as P
+use Rattle.rhai_grammar.specs.Rules.{production}
 use Rattle.rhai_productions.proofs.Looked.{Lawful, AgreesAt, equal, equal_at, at_once, look, again, taken, part_so}
 use Rattle.rhai_productions.proofs.Looked.{or_else, test, both}
 use Rattle.rhai_productions.proofs.SameOperands.{same_items, same_element, same_key, same_field, same_called}
@@ -144,8 +146,8 @@ module _ {Z : Type 0} (m : Moves Z) (law : Lawful m) where
       → AgreesAt m law l at (run_from (P.statement_by c w v) (Some (l, at))) (R.statement_at c w at v)
   same_statement c w l at start.Private = at_once m law (same_private c w [] at)
   same_statement c w l at start.Comment =
-      again m law (λ k p. Take (R.documented c w (R.comment_of k p)))
-      (at_once m law (taken m law (same_comment c w (R.comment_of l at))))
+      again m law (λ k p. Take (R.documented c w (comment_of k p)))
+      (at_once m law (taken m law (same_comment c w (comment_of l at))))
   same_statement c w l at _ = equal_at m law refl
 
   same_default : (c : Context) (w : Live) (default : Position) (l : Lexeme) (at : Position)

@@ -28,13 +28,15 @@ use Rattle.rhai_grammar.specs.declared.role.ItemRole.{ItemRole}
 use Rattle.rhai_grammar.specs.declared.role.Linking.{Linking}
 use Rattle.rhai_grammar.specs.declared.role.OperandStart.{OperandStart}
 use Rattle.rhai_grammar.specs.Beginnings.{is_list}
+use Rattle.rhai_grammar.specs.Strengths.{continues}
 use Rattle.rhai_reading.specs.Reading as R
 use Rattle.rhai_reading.specs.Reading.{Goal, Val, Prog, Ret, Fail, Peek, Take, Call, Know, body}
-use Rattle.rhai_productions.specs.Schema as S
-use Rattle.rhai_productions.specs.Schema.{Production, give, never, this, choose, if_next, must, knows, adds, due}
-use Rattle.rhai_productions.specs.Schema.{faultless, unless, run, run_from, stop, name}
-use Rattle.rhai_productions.specs.Rules as P
-use Rattle.rhai_productions.specs.Rules.{production}
+use Rattle.rhai_grammar.specs.Productions as S
+use Rattle.rhai_grammar.specs.Productions.{Production, give, never, this, choose, if_next, must, knows, adds, due}
+use Rattle.rhai_grammar.specs.Productions.{faultless, unless, stop, name}
+use Rattle.rhai_productions.specs.Readers.{run, run_from}
+use Rattle.rhai_grammar.specs.Rules as P
+use Rattle.rhai_grammar.specs.Rules.{production}
 
 -- a branch is read as each of its sides is
 pub by_cases : {A : Type 0} (b : Bool) (p q : Production A) (s : Option (Lexeme × Position))
@@ -192,4 +194,4 @@ same_follower at l Other = refl
 pub same_binary : (c : Context) (w : Live) (at : Position) (parent : ℕ) (lhs : Node) (v : Option (ℕ × Bool))
     → run (P.binary_of c w at parent lhs v) ≡ R.binary_at c w at parent lhs v
 same_binary c w at parent lhs None = refl
-same_binary c w at parent lhs (Some op) = by_cases (R.continues parent op.0 op.1) _ _ None
+same_binary c w at parent lhs (Some op) = by_cases (continues parent op.0 op.1) _ _ None

@@ -34,11 +34,12 @@ use Rattle.rhai_grammar.specs.declared.role.Calling.{Calling}
 use Rattle.rhai_grammar.specs.declared.role.ItemRole.{ItemRole}
 use Rattle.rhai_reading.specs.Reading as R
 use Rattle.rhai_reading.specs.Reading.{Goal, Val, Prog, Ret, Fail, Peek, Take, Call, Know, body}
-use Rattle.rhai_productions.specs.Schema as S
-use Rattle.rhai_productions.specs.Schema.{Production, give, never, this, choose, if_next, must, knows, adds, due}
-use Rattle.rhai_productions.specs.Schema.{faultless, unless, run, run_from, stop, name}
-use Rattle.rhai_productions.specs.Rules as P
-use Rattle.rhai_productions.specs.Rules.{production}
+use Rattle.rhai_grammar.specs.Productions as S
+use Rattle.rhai_grammar.specs.Productions.{Production, give, never, this, choose, if_next, must, knows, adds, due}
+use Rattle.rhai_grammar.specs.Productions.{faultless, unless, stop, name}
+use Rattle.rhai_productions.specs.Readers.{run, run_from}
+use Rattle.rhai_grammar.specs.Rules as P
+use Rattle.rhai_grammar.specs.Rules.{production}
 use Rattle.rhai_productions.proofs.SameOperands.{by_cases, turned, same_tested, same_parted}
 
 -- the level is raised in either case

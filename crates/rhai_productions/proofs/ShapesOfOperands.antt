@@ -26,11 +26,12 @@ use Rattle.rhai_grammar.specs.declared.role.ItemRole.{ItemRole}
 use Rattle.rhai_grammar.specs.declared.role.Linking.{Linking}
 use Rattle.rhai_grammar.specs.declared.role.OperandStart.{OperandStart}
 use Rattle.rhai_grammar.proofs.ShapeSteps.{value, link_shapes}
+use Rattle.rhai_grammar.specs.Strengths.{continues}
 use Rattle.rhai_reading.specs.Reading as R
 use Rattle.rhai_reading.specs.Reading.{Goal, Val}
-use Rattle.rhai_productions.specs.Schema.{Production, stop}
-use Rattle.rhai_productions.specs.Rules as P
-use Rattle.rhai_productions.specs.Rules.{production}
+use Rattle.rhai_grammar.specs.Productions.{Production, stop}
+use Rattle.rhai_grammar.specs.Rules as P
+use Rattle.rhai_grammar.specs.Rules.{production}
 use Rattle.rhai_productions.proofs.Likeness.{Like}
 use Rattle.rhai_productions.proofs.NearGoals.{Near, Equal, expressions_, operands, rights, primaries, calleds, chains_}
 use Rattle.rhai_productions.proofs.NearGoals.{indices, members, postfixes, argument_lists, element_lists, field_lists}
@@ -222,6 +223,6 @@ follower Other = refl
 pub binary : (c : Context) (w : Live) (at pos : Position) (p : ℕ) (x y : Node) → node_shape x ≡ node_shape y
     → (v : Option (ℕ × Bool)) → LikeIn OnNodes (P.binary_of c w at p x v) (P.binary_of c w pos p y v)
 binary c w at pos p x y e None = e
-binary c w at pos p x y e (Some op) = like_if OnNodes (R.continues p op.0 op.1) _ _ _ _
+binary c w at pos p x y e (Some op) = like_if OnNodes (continues p op.0 op.1) _ _ _ _
     (λ l q s.
     (rights, λ a b d. (followers, λ m n f. (runs_ d, λ r t g. (runs_ (operator_so l q s x y r t e g), λ i j h. h))))) e

@@ -31,10 +31,10 @@ use Rattle.rhai_grammar.specs.declared.role.StatementStart.{StatementStart}
 use Rattle.rhai_grammar.proofs.SwitchLemmas.{collected_shape}
 use Rattle.rhai_reading.specs.Reading as R
 use Rattle.rhai_reading.specs.Reading.{Goal, Val}
-use Rattle.rhai_productions.specs.Schema as S
-use Rattle.rhai_productions.specs.Schema.{Production, View, view, name, stop}
-use Rattle.rhai_productions.specs.Rules as P
-use Rattle.rhai_productions.specs.Rules.{production}
+use Rattle.rhai_grammar.specs.Productions as S
+use Rattle.rhai_grammar.specs.Productions.{Production, View, view, name, stop}
+use Rattle.rhai_grammar.specs.Rules as P
+use Rattle.rhai_grammar.specs.Rules.{production}
 use Rattle.rhai_productions.proofs.NearGoals.{expressions_, segment_lists, jumps, evaluations, names_, initializers}
 use Rattle.rhai_productions.proofs.NearGoals.{definitions, imports_, exports, aliases, statements_, statement_lists}
 use Rattle.rhai_productions.proofs.NearGoals.{constructs, arm_lists, arms_, default_arms, comments_}

@@ -26,9 +26,9 @@ use Rattle.rhai_grammar.specs.declared.role.StatementStart.TheVariants as start
 use Rattle.rhai_grammar.proofs.SlotLemmas.{latest_number, reusable}
 use Rattle.rhai_reading.specs.Reading as R
 use Rattle.rhai_reading.specs.Reading.{Goal, Val}
-use Rattle.rhai_productions.specs.Rules as P
-use Rattle.rhai_productions.specs.Rules.{production}
-use Rattle.rhai_productions.specs.Derived as D
+use Rattle.rhai_grammar.specs.Rules as P
+use Rattle.rhai_grammar.specs.Rules.{production}
+use Rattle.rhai_grammar.specs.Forms as D
 use Rattle.rhai_productions.specs.Always.{Always}
 use Rattle.rhai_productions.specs.SlotLaws.{NoSlot, NumberedSlot, ScopesClose}
 use Rattle.rhai_productions.proofs.AlwaysLemmas.{always, trivially}

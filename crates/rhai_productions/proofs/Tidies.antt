@@ -38,11 +38,12 @@ use Rattle.rhai_grammar.specs.declared.role.Linking.{Linking}
 use Rattle.rhai_grammar.specs.declared.role.OperandStart.{OperandStart}
 use Rattle.rhai_grammar.specs.declared.role.StatementStart.{StatementStart}
 use Rattle.rhai_grammar.specs.Beginnings.{is_list}
+use Rattle.rhai_grammar.specs.Strengths.{continues}
 use Rattle.rhai_reading.specs.Reading as R
 use Rattle.rhai_reading.specs.Reading.{Goal}
-use Rattle.rhai_productions.specs.Schema.{Production, name}
-use Rattle.rhai_productions.specs.Rules as P
-use Rattle.rhai_productions.specs.Rules.{production}
+use Rattle.rhai_grammar.specs.Productions.{Production, name}
+use Rattle.rhai_grammar.specs.Rules as P
+use Rattle.rhai_grammar.specs.Rules.{production}
 use Rattle.rhai_productions.specs.Tidiness.{Tidy}
 use Rattle.rhai_productions.proofs.Faults.{no_fault, last_early, index_early, module_early, guard_early, iterated_early}
 use Rattle.rhai_productions.proofs.Faults.{target_early, fault_early, bang_early}
@@ -141,7 +142,7 @@ binary : (c : Context) (w : Live) (at : Position) (parent : ℕ) (lhs : Node) (v
     → Tidy (P.binary_of c w at parent lhs v)
 binary c w at parent lhs None = tt
 binary c w at parent lhs (Some op) =
-    by_either (R.continues parent op.0 op.1) _ _ (λ l pos y next. (refl, λ r. (refl, (refl, λ x. tt)))) tt
+    by_either (continues parent op.0 op.1) _ _ (λ l pos y next. (refl, λ r. (refl, (refl, λ x. tt)))) tt
 
 export : (c : Context) (w : Live) (at : Position) (v : Option Bool) → Tidy (P.export_by c w at v)
 export c w at (Some constant) = (refl, λ l pos f. tt)

@@ -7,10 +7,10 @@ use Rattle.rhai_grammar.specs.Prelude.{ended_closure, names_of, is_among, is_fun
 use Rattle.rhai_grammar.specs.ClosureLaws.{AreDistinct, Hands, pointer_to}
 use Rattle.rhai_grammar.specs.Settings.{in_closure}
 use Rattle.rhai_grammar.specs.declared.role.Bars.{Bars}
-use Rattle.rhai_reading.specs.Reading.{Closure}
-use Rattle.rhai_productions.specs.Rules.{production}
-use Rattle.rhai_productions.specs.Derived as D
-use Rattle.rhai_productions.specs.Events.{ended_in, events}
+use Rattle.rhai_grammar.specs.Goals.{Closure}
+use Rattle.rhai_grammar.specs.Rules.{production}
+use Rattle.rhai_grammar.specs.Forms as D
+use Rattle.rhai_grammar.specs.Events.{ended_in, events}
 use Rattle.rhai_productions.specs.Numbered.{ClosureParts, closure_parts}
 
 -- Of the tree of each closure, of its parts, and of the functions that end in it, this holds: at this position, and

@@ -4,10 +4,10 @@ use Rattle.rhai_grammar.specs.Prelude.{Mode, code, Point, Use, Refusal, Demands,
 use Rattle.rhai_grammar.specs.Prelude.{closure_count}
 use Rattle.rhai_grammar.specs.Delivered.{ask}
 use Rattle.rhai_grammar.specs.UsesOfForms.{HoldsFirst, with_uses, first_uses}
-use Rattle.rhai_reading.specs.Reading.{Goal, Val}
-use Rattle.rhai_productions.specs.Schema.{Production}
-use Rattle.rhai_productions.specs.Derived.{Form, Filled, Open, apart, demands, demanded, stops}
-use Rattle.rhai_productions.specs.Events.{spelling, events, stop_events, ended_in, free_uses}
+use Rattle.rhai_grammar.specs.Goals.{Goal, Val}
+use Rattle.rhai_grammar.specs.Productions.{Production}
+use Rattle.rhai_grammar.specs.Forms.{Form, Filled, Open, apart, demands, demanded, stops}
+use Rattle.rhai_grammar.specs.Events.{spelling, events, stop_events, ended_in, free_uses}
 
 -- `rule` says what is written where each goal is read.
 module _ (rule : (g : Goal) → Production (Val g)) where

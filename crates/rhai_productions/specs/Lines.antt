@@ -15,8 +15,8 @@ use Rattle.rhai_grammar.specs.Rows.{unread}
 use Rattle.rhai_grammar.specs.RowsOfEntries.{any_functions}
 use Rattle.rhai_grammar.specs.Trees.{function_called}
 use Rattle.rhai_grammar.specs.declared.filter.ExprFilter.TheVariants.{All}
-use Rattle.rhai_reading.specs.Reading.{Goal, Whole, Script}
-use Rattle.rhai_productions.specs.Promised.{Written, written, tree_of, Unwritten, unwritten}
+use Rattle.rhai_grammar.specs.Goals.{Goal, Whole, Script}
+use Rattle.rhai_grammar.specs.Promises.{Written, written, tree_of, Unwritten, unwritten}
 
 -- ---- what is read
 

@@ -4,8 +4,8 @@ use Rattle.rhai_grammar.specs.Prelude.{Context, Cursor, Library, Live, Missed, M
 use Rattle.rhai_grammar.specs.Cursors.{next_item}
 use Rattle.rhai_grammar.specs.PositionLaws.{StandsAmong, StandsAtToken}
 use Rattle.rhai_grammar.specs.Promises.{IsNamed}
-use Rattle.rhai_reading.specs.Reading.{Goal, Whole, Script}
-use Rattle.rhai_productions.specs.Promised.{Unwritten, unwritten}
+use Rattle.rhai_grammar.specs.Goals.{Goal, Whole, Script}
+use Rattle.rhai_grammar.specs.Promises.{Unwritten, unwritten}
 
 -- Where an open form of a goal misses its demand, the error stands at a token that was taken, or at the next one,
 -- requested in the mode of that demand. The form stands alone: before it no name is captured. So an error that a form

@@ -7,9 +7,9 @@ use Rattle.rhai_grammar.specs.Causes as cause
 use Rattle.rhai_grammar.specs.Strengths.{left_of, right_of, is_operator}
 use Rattle.rhai_grammar.specs.Verdicts.{anything, operator_known, run_ends, raise_due}
 use Rattle.rhai_grammar.specs.declared.filter.ExprFilter.{ExprFilter}
-use Rattle.rhai_reading.specs.Reading.{Operand, RightOperand, Expression}
-use Rattle.rhai_productions.specs.Rules.{production}
-use Rattle.rhai_productions.specs.Derived.{Form, demands}
+use Rattle.rhai_grammar.specs.Goals.{Operand, RightOperand, Expression}
+use Rattle.rhai_grammar.specs.Rules.{production}
+use Rattle.rhai_grammar.specs.Forms.{Form, demands}
 
 -- the place of a run
 pub data Side : Type 0 where

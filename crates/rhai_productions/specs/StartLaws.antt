@@ -3,9 +3,9 @@ use Rattle.std.specs.Prelude.{◌≡◌, ◌⊎◌, true, []}
 use Rattle.rhai_lower.specs.Lexemes.{Lexeme}
 use Rattle.rhai_grammar.specs.Prelude.{Context, Live, Met, Node, Nothing, Point, code, may_begin, next_at, starts}
 use Rattle.rhai_grammar.specs.StartLaws.{is_added}
-use Rattle.rhai_reading.specs.Reading.{Expression}
-use Rattle.rhai_productions.specs.Rules.{production}
-use Rattle.rhai_productions.specs.Derived as D
+use Rattle.rhai_grammar.specs.Goals.{Expression}
+use Rattle.rhai_grammar.specs.Rules.{production}
+use Rattle.rhai_grammar.specs.Forms as D
 
 -- some expression that fits begins with this token
 abbrev pub IsBegun : Context → Live → Lexeme → Type 0

@@ -1,12 +1,11 @@
 -- How a reader runs, and how deep it is, step by step. Nothing here speaks of the grammar.
-use Rattle.std.proofs.Common.{◌≡◌, ℕ, ◌+◌, ◌≤◌, Bool, true, false, max, refl, sym, subst, List, [], arith}
-use Rattle.std.proofs.Common.{if◌then◌else◌}
+use Rattle.std.proofs.Common.{◌≡◌, ℕ, ◌+◌, ◌≤◌, Bool, true, false, max, refl, List, [], arith}
 use Rattle.rhai_grammar.specs.Prelude.{Lexeme, Sign, Position, Item, item, is_memory, is_text, Ended, Library, Use}
 use Rattle.rhai_grammar.specs.Prelude.{noted}
 use Rattle.rhai_lower.specs.declared.token.Token.TheVariants as token
 use Rattle.rhai_reading.specs.Histories.{State, adding, after_brace, next_item, after_peek, after_take, with_captured, Outcome}
 use Rattle.rhai_reading.specs.Histories.{Done, Runs}
-use Rattle.rhai_reading.specs.Nesting.{is_counted}
+use Rattle.rhai_grammar.specs.Goals.{is_counted}
 use Rattle.rhai_reading.specs.Reading.{Goal, Val, Prog, Ret, Peek, Take, TakeText, Know, Add, Note, Call, CallLiteral}
 use Rattle.rhai_reading.specs.Reading.{CallApart, body}
 use Rattle.rhai_reading.proofs.Dives.{Dives, dives_add, dives_apart, dives_call, dives_counted, dives_know}
@@ -49,12 +48,6 @@ module _ {A : Type 0} {D : ℕ → ℕ} {s : State} {o : Outcome A} where
       → Deep D (Note b u p) s o
   deep_note b u r = record { runs = runs_note b u r.runs; dives = dives_note b u r.dives }
 
-  pub deep_then : {b : Bool} {p : Prog A} (q : Prog A) → b ≡ true → Deep D p s o → Deep D (if b then p else q) s o
-  deep_then {p = p} q e h = subst (λ c. Deep D (if c then p else q) s o) (sym e) h
-
-  pub deep_else : {b : Bool} {q : Prog A} (p : Prog A) → b ≡ false → Deep D q s o → Deep D (if b then p else q) s o
-  deep_else {q = q} p e h = subst (λ c. Deep D (if c then p else q) s o) (sym e) h
-
   -- what is deep is less deep too
   pub deep_enough : {E : ℕ → ℕ} {p : Prog A} → ((z : ℕ) → E z ≤ D z) → Deep D p s o → Deep E p s o
   deep_enough le r = record { runs = r.runs; dives = shallower le r.dives }
@@ -90,7 +83,3 @@ module _ {A : Type 0} {E : ℕ → ℕ} (d : ℕ) (g : Goal) (is : is_counted g 
     runs = runs_call_literal g k a.runs b.runs;
     dives = dives_literal d is (omega arith) a.runs a.dives b.dives;
   }
-
-pub deep_tail : {D : ℕ → ℕ} (g : Goal) {s t : State} {v : Val g} → Deep D (body g) s (Done v t)
-    → Deep D (Call g (λ x. Ret x)) s (Done v t)
-deep_tail g {t = t} {v = v} r = deep_call g (λ x. Ret x) r (deep_ret v t)

@@ -11,7 +11,8 @@ use Rattle.rhai_grammar.specs.Cursors as C
 use Rattle.rhai_reading.specs.Histories as H
 use Rattle.rhai_reading.specs.Histories.{State, Runs}
 use Rattle.rhai_reading.proofs.Joins.{Finished, Rest, flat, forget, level_calls, rest, unnested}
-use Rattle.rhai_reading.specs.Nesting.{Nesting, entered, is_counted}
+use Rattle.rhai_grammar.specs.Goals.{is_counted}
+use Rattle.rhai_reading.specs.Nesting.{Nesting, entered}
 use Rattle.rhai_reading.specs.Running.{Caller, Done, Out, Progress, Refused, Unfinished, after_brace, and_then, next_item}
 use Rattle.rhai_reading.specs.Running.{adding, entering, exec, left_so, level, after_peek, need, nested, only_less, recast}
 use Rattle.rhai_reading.specs.Running.{result_of, after_take, with_captured, text_from}

@@ -121,18 +121,6 @@ refused_came g s left d e =
 pub runs_once : {A : Type 0} {p : Prog A} {s : State} {a b : Outcome A} → Runs p s a → Runs p s b → a ≡ b
 runs_once r w = sym (r.same (r.depth + w.depth) (omega arith)) ∙ w.same (r.depth + w.depth) (omega arith)
 
--- two forms that fit and spell the same stream have one tree
-pub one_tree : {F O : Type 0} {g : Goal} {whole : F → Demands} {stopping : O → Demands} {tree : F → Val g}
-    → Entry g whole stopping tree
-    → (before : Library) (s : Cursor) (a b : F) (after other : Library) → IsWrittenTo whole a before after s
-    → IsWrittenTo whole b before other s → (tree a ≡ tree b) × (after ≡ other)
-one_tree E before s a b after other h k =
-    let first = E.complete a (start_of before s) h.0 s.peeked h.1 in
-    let second = E.complete b (start_of before s) k.0 s.peeked k.1 in
-    let same = runs_once first.1 second.1 in
-    let end : at h.0 first.0 ≡ at k.0 second.0 = cc in
-    (cc, sym h.2 ∙ ap (λ (u : State). u.point.library) end ∙ k.2)
-
 -- A refusal after the tokens seen: the parts of `IsRefused` in the promises, where open forms are of their own type.
 pub record IsRefused {F O : Type 0} (whole : F → Demands) (stopping : O → Demands) (before after : Library)
     (taken : List Taken) (start left : Cursor) (e : Refusal) : Type 0

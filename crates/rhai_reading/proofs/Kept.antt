@@ -5,7 +5,8 @@ use Rattle.rhai_grammar.specs.Prelude.{is_memory, is_due, is_text, noted}
 use Rattle.rhai_grammar.specs.declared.due.DueToken.TheVariants.{RightBrace}
 use Rattle.rhai_reading.specs.Reading.{Goal, Prog, Ret, Fail, Peek, Take, TakeText, Know, Add, Note, Call, CallLiteral}
 use Rattle.rhai_reading.specs.Reading.{CallApart, body}
-use Rattle.rhai_reading.specs.Nesting.{Nesting, entered, is_counted, left_one}
+use Rattle.rhai_grammar.specs.Goals.{is_counted}
+use Rattle.rhai_reading.specs.Nesting.{Nesting, entered, left_one}
 use Rattle.rhai_reading.specs.Running.{Caller, Done, Out, Progress, Refused, Unfinished, after_brace, and_then, next_item}
 use Rattle.rhai_reading.specs.Running.{adding, entering, exec, left_so, level, after_peek, need, nested, only_less, recast}
 use Rattle.rhai_reading.specs.Running.{after_take, with_captured}

@@ -3,8 +3,9 @@ use Rattle.std.specs.Prelude.{if◌then◌else◌, List, []}
 use Rattle.rhai_grammar.specs.Prelude.{Lexeme, Position, unexpected, Refusal, as_literal, refusal, out_of_memory, Item}
 use Rattle.rhai_grammar.specs.Prelude.{is_memory, is_due, not_due, is_text, Ended, Library, Use, noted}
 use Rattle.rhai_grammar.specs.declared.due.DueToken.TheVariants.{RightBrace}
-use Rattle.rhai_reading.specs.Goals.{Goal, Val, Prog, Ret, Fail, Peek, Take, TakeText, Know, Add, Note, Call}
-use Rattle.rhai_reading.specs.Goals.{CallLiteral, CallApart}
+use Rattle.rhai_grammar.specs.Goals.{Goal, Val}
+use Rattle.rhai_reading.specs.Terms.{Prog, Ret, Fail, Peek, Take, TakeText, Know, Add, Note, Call}
+use Rattle.rhai_reading.specs.Terms.{CallLiteral, CallApart}
 
 -- what came of a reader, with the state that it left
 pub data Outcome (S A : Type 0) : Type 0 where

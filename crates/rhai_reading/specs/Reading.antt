@@ -1,7 +1,8 @@
 -- The reading program: the readers as terms that request tokens. It stands between the code and the definitions: no
 -- public promise speaks of it.
-use Rattle.std.specs.Prelude.{ℕ, Bool, true, false, Option, Some, None, List, ◌==◌, ◌||◌, ◌&&◌, nat_lt, codes}
+use Rattle.std.specs.Prelude.{ℕ, Bool, true, false, Option, Some, None, List, ◌||◌, ◌&&◌, codes}
 use Rattle.std.specs.Prelude.{if◌then◌else◌}
+use Rattle.rhai_grammar.specs.Strengths.{continues}
 use Rattle.rhai_grammar.specs.Prelude.{Text, Lexeme, text_of, Node, Nodes, Properties, unit, integer, array, object_map}
 use Rattle.rhai_grammar.specs.Prelude.{property, this, no_nodes, with_node, no_properties, with_property, position_of}
 use Rattle.rhai_grammar.specs.Prelude.{block_value, braces, Optional, absent, interpolated, made_block, present}
@@ -37,18 +38,18 @@ use Rattle.rhai_grammar.specs.declared.role.Linking.{Linking}
 use Rattle.rhai_grammar.specs.declared.role.Linking.TheVariants as link
 use Rattle.rhai_grammar.specs.declared.role.OperandStart.{OperandStart}
 use Rattle.rhai_grammar.specs.declared.role.OperandStart.TheVariants as first
-pub use Rattle.rhai_reading.specs.Goals.{Goal, Whole, Expression, Operand, Primary, Called, Links, Index, Member}
-pub use Rattle.rhai_reading.specs.Goals.{Postfix, Arguments, Items, Elements, Fields, Segments, TextAfter, Jump}
-pub use Rattle.rhai_reading.specs.Goals.{NextKey, NextOperator, BinaryOp, ExprStatement, VarName, Initializer}
-pub use Rattle.rhai_reading.specs.Goals.{Definition, Statement, Statements, BlockStart, Inside, Block, BlockEnd}
-pub use Rattle.rhai_reading.specs.Goals.{Branch, Braced, Catch, Conditional, Construct, DoEnd, Guard, Iterated}
-pub use Rattle.rhai_reading.specs.Goals.{Alias, Export, Import, LoopNames, Path, RightOperand}
-pub use Rattle.rhai_reading.specs.Goals.{Action, Arm, ArmEnd, Arms, Case, CaseGuard, Cases, DefaultArm}
-pub use Rattle.rhai_reading.specs.Goals.{Comments, DefaultEnd, Function, FunctionHead, FunctionStatement, ParameterList}
-pub use Rattle.rhai_reading.specs.Goals.{Closure, ClosureBody, Parameters, Script, Val}
-pub use Rattle.rhai_reading.specs.Goals.{Ret, Fail, Peek, Take, TakeText, Know, Add, Note, Call, CallLiteral, CallApart}
-pub use Rattle.rhai_reading.specs.Goals.{Prog}
-pub use Rattle.rhai_reading.specs.Goals.{after_a_part, construct_on, match_name, match_token, part_next, raised, tested}
+pub use Rattle.rhai_grammar.specs.Goals.{Goal, Whole, Expression, Operand, Primary, Called, Links, Index, Member}
+pub use Rattle.rhai_grammar.specs.Goals.{Postfix, Arguments, Items, Elements, Fields, Segments, TextAfter, Jump}
+pub use Rattle.rhai_grammar.specs.Goals.{NextKey, NextOperator, BinaryOp, ExprStatement, VarName, Initializer}
+pub use Rattle.rhai_grammar.specs.Goals.{Definition, Statement, Statements, BlockStart, Inside, Block, BlockEnd}
+pub use Rattle.rhai_grammar.specs.Goals.{Branch, Braced, Catch, Conditional, Construct, DoEnd, Guard, Iterated}
+pub use Rattle.rhai_grammar.specs.Goals.{Alias, Export, Import, LoopNames, Path, RightOperand}
+pub use Rattle.rhai_grammar.specs.Goals.{Action, Arm, ArmEnd, Arms, Case, CaseGuard, Cases, DefaultArm}
+pub use Rattle.rhai_grammar.specs.Goals.{Comments, DefaultEnd, Function, FunctionHead, FunctionStatement, ParameterList}
+pub use Rattle.rhai_grammar.specs.Goals.{Closure, ClosureBody, Parameters, Script, Val}
+pub use Rattle.rhai_reading.specs.Terms.{Ret, Fail, Peek, Take, TakeText, Know, Add, Note, Call, CallLiteral, CallApart}
+pub use Rattle.rhai_reading.specs.Terms.{Prog}
+pub use Rattle.rhai_reading.specs.Terms.{after_a_part, construct_on, match_name, match_token, part_next, raised, tested}
 pub use Rattle.rhai_reading.specs.ReadingStatements.{evaluated_at, var_name_at, value_at, definition_on}
 pub use Rattle.rhai_reading.specs.ReadingStatements.{jump_on, loop_at, statement_at, separated_at, statements_on}
 pub use Rattle.rhai_reading.specs.ReadingStatements.{documented, documented_at, fn_on, private_on}
@@ -56,7 +57,7 @@ pub use Rattle.rhai_reading.specs.ReadingStatements.{statements_at, inside_on, i
 pub use Rattle.rhai_reading.specs.ReadingStatements.{no_brace, else_at, branch_at, counted_on}
 pub use Rattle.rhai_reading.specs.ReadingStatements.{first_of_two, loop_names_at, catch_at, do_end_at}
 pub use Rattle.rhai_reading.specs.ReadingStatements.{alias_at, export_at, export_on, global_at, import_on}
-pub use Rattle.rhai_reading.specs.ReadingFunctions.{comment_of, comments_at}
+pub use Rattle.rhai_reading.specs.ReadingFunctions.{comments_at}
 pub use Rattle.rhai_reading.specs.ReadingFunctions.{function_at, function_body_at, function_end, function_on, head_at}
 pub use Rattle.rhai_reading.specs.ReadingClosures.{captured_on, closure_added, closure_at, closure_body_at, closure_by}
 pub use Rattle.rhai_reading.specs.ReadingClosures.{closure_end, closure_on}
@@ -279,10 +280,6 @@ links_at live spot lexeme at link.Dot =
 links_at live spot lexeme at link.Nothing = tested spot.before (last_fault spot.before)
 
 -- ---- operators
-
--- an operator of this strength goes on with a run of that one
-abbrev pub continues : (parent strength : ℕ) → (right : Bool) → Bool
-continues parent strength right = nat_lt parent strength || (parent == strength && right)
 
 -- a reserved symbol after an operand is refused
 abbrev pub next_operator_at : Position → Follower → Prog (Option (ℕ × Bool))

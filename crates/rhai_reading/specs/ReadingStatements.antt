@@ -25,11 +25,13 @@ use Rattle.rhai_grammar.specs.declared.role.StatementRole.TheVariants as stands
 use Rattle.rhai_grammar.specs.declared.role.StatementStart.{StatementStart}
 use Rattle.rhai_grammar.specs.declared.role.StatementStart.TheVariants as start
 use Rattle.rhai_grammar.specs.Trees.{no_block}
-use Rattle.rhai_reading.specs.Goals.{construct_on, Expression, Jump, ExprStatement, Definition, Statement, Statements}
-use Rattle.rhai_reading.specs.Goals.{Block, Arms, Braced, Catch, Conditional, DoEnd, Guard, Iterated, Alias, Comments}
-use Rattle.rhai_reading.specs.Goals.{Export, FunctionStatement, Import, LoopNames, Ret, Fail, Peek, Take, Call, Prog}
-use Rattle.rhai_reading.specs.Goals.{match_name, match_token, raised, tested}
-use Rattle.rhai_reading.specs.ReadingFunctions.{comment_of}
+use Rattle.rhai_grammar.specs.Goals.{Expression, Jump, ExprStatement, Definition, Statement, Statements}
+use Rattle.rhai_reading.specs.Terms.{construct_on}
+use Rattle.rhai_grammar.specs.Goals.{Block, Arms, Braced, Catch, Conditional, DoEnd, Guard, Iterated, Alias, Comments}
+use Rattle.rhai_grammar.specs.Goals.{Export, FunctionStatement, Import, LoopNames}
+use Rattle.rhai_reading.specs.Terms.{Ret, Fail, Peek, Take, Call, Prog}
+use Rattle.rhai_reading.specs.Terms.{match_name, match_token, raised, tested}
+use Rattle.rhai_grammar.specs.Comments.{comment_of}
 
 -- after an expression
 abbrev pub evaluated_at : Context → Live → Node → Lexeme → Position → Prog node.Statement

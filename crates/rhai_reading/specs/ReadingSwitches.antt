@@ -11,8 +11,9 @@ use Rattle.rhai_grammar.specs.declared.list.AfterPart.TheVariants as after
 use Rattle.rhai_grammar.specs.declared.list.CommaList.TheVariants as lists
 use Rattle.rhai_grammar.specs.declared.role.ArmRole.{ArmRole}
 use Rattle.rhai_grammar.specs.declared.role.ArmRole.TheVariants as arm
-use Rattle.rhai_reading.specs.Goals.{Action, Arm, ArmEnd, Arms, Cases, DefaultArm, DefaultEnd, Expression, Guard}
-use Rattle.rhai_reading.specs.Goals.{Statement, Prog, Ret, Fail, Peek, Take, Call, match_token}
+use Rattle.rhai_grammar.specs.Goals.{Action, Arm, ArmEnd, Arms, Cases, DefaultArm, DefaultEnd, Expression, Guard}
+use Rattle.rhai_grammar.specs.Goals.{Statement}
+use Rattle.rhai_reading.specs.Terms.{Prog, Ret, Fail, Peek, Take, Call, match_token}
 
 -- after the case of an arm, of which it has these so far
 abbrev pub cases_at : Context → Live → Nodes → Lexeme → Prog Nodes

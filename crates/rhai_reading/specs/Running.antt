@@ -7,7 +7,8 @@ use Rattle.rhai_grammar.specs.Cursors as cursors
 use Rattle.rhai_grammar.specs.declared.error.ParseError.{ParseError}
 use Rattle.rhai_reading.specs.Moves as moves
 use Rattle.rhai_reading.specs.Moves.{Moves, Outcome}
-use Rattle.rhai_reading.specs.Nesting.{Nesting, entered, is_counted, left_one}
+use Rattle.rhai_grammar.specs.Goals.{is_counted}
+use Rattle.rhai_reading.specs.Nesting.{Nesting, entered, left_one}
 pub use Rattle.rhai_reading.specs.Moves.{Done, Refused, Unfinished, and_then, recast}
 use Rattle.rhai_reading.specs.Reading.{Goal, Whole, Expression, Operand, Primary, Postfix, Arguments, Items, Elements}
 use Rattle.rhai_reading.specs.Reading.{Fields, NextKey, Called, Links, Index, Member, NextOperator, BinaryOp, Val}

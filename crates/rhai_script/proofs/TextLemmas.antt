@@ -12,7 +12,7 @@ use Rattle.rhai_grammar.specs.PositionLaws.{StandsAmong}
 use Rattle.rhai_grammar.specs.Promises.{HasRead, IsNamed, UnlessMemory}
 use Rattle.rhai_grammar.specs.declared.error.ParseError.{ParseError}
 use Rattle.rhai_reading.specs.Reading.{Goal}
-use Rattle.rhai_productions.specs.Promised.{ReadsWhole, Written, unwritten}
+use Rattle.rhai_grammar.specs.Promises.{ReadsWhole, Written, unwritten}
 use Rattle.rhai_tokenizer.specs.Pieces.{Piece, spelled}
 use Rattle.rhai_tokenizer.specs.Places.{at_place, past, start}
 use Rattle.rhai_tokenizer.specs.Readings.{Reads, items}

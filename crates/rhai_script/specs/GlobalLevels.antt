@@ -12,7 +12,7 @@ use Rattle.rhai_grammar.specs.Libraries.{Library}
 use Rattle.rhai_grammar.specs.Promises.{IsWritten}
 use Rattle.rhai_grammar.specs.declared.error.ParseError.{ParseError}
 use Rattle.rhai_reading.specs.Reading.{Goal, Script}
-use Rattle.rhai_productions.specs.Promised.{Written, written}
+use Rattle.rhai_grammar.specs.Promises.{Written, written}
 use Rattle.rhai_base.specs.Counts.{Counts, none_yet}
 use Rattle.rhai_parser.specs.Engines.{EngineValue, script_settings}
 use Rattle.rhai_parser.specs.Nesting.{NestsAsWritten}

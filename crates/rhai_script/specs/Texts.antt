@@ -7,7 +7,7 @@ use Rattle.rhai_grammar.specs.Libraries.{Library}
 use Rattle.rhai_grammar.specs.Promises.{HasRead, UnlessMemory}
 use Rattle.rhai_grammar.specs.declared.error.ParseError.{ParseError}
 use Rattle.rhai_reading.specs.Reading.{Goal}
-use Rattle.rhai_productions.specs.Promised.{ReadsWhole, Written}
+use Rattle.rhai_grammar.specs.Promises.{ReadsWhole, Written}
 use Rattle.rhai_tokenizer.specs.declared.limits.Limits.{Limits}
 use Rattle.rhai_tokenizer.specs.Meanings.{after, at_start}
 use Rattle.rhai_tokenizer.specs.Pieces.{AllFit, Piece, spelled}
