@@ -1,11 +1,15 @@
 #!/usr/bin/env python3
-"""Writes docs/MAP.md, the map of files, from the first sentence of each file's head comment.
+"""Writes docs/MAP.md, the map of files, or finds files by words.
 
-usage: tests/map.py [--check]
+usage: tests/map.py [--check | WORD ..]
 
-For each crate of crates.txt the map has a heading, what the crate is for (from its root file), each file of src/ and
-specs/ with its sentence, and the names of the files of proofs/. Then come the gate and the files of tests/. Lists of
-modules (Lib.antt) and the folders below proofs/ are left out.
+The first sentence of each file's head comment says what the file holds. For each crate of crates.txt the map has what
+the crate is for (from its root file), the names of its code, and its definitions: with their sentences, or by name
+alone in the crates of NAMED. A family of definitions has one line. Then come the gate and the files of tests/.
+
+With words it writes nothing, and prints each file, with its sentence, that has all of these words in its path or in
+its sentence, in any case. Files of proofs/ are among them. Lists of modules (Lib.antt) and the folders below proofs/
+are left out.
 
 With --check it writes nothing, and prints the lines that differ if the document is not what it would write. The exit
 status is then 1. It is also 1 if a file has no head comment, one of proofs/ included.
@@ -13,6 +17,8 @@ status is then 1. It is also 1 if a file has no head comment, one of proofs/ inc
 
 import ast
 import difflib
+import fnmatch
+import itertools
 import pathlib
 import re
 import sys
@@ -23,11 +29,19 @@ DOCUMENT = ROOT / "docs/MAP.md"
 HEAD = """\
 # Map of files
 
-Each crate, lowest first, with what its files hold. Files of `proofs/` are only named; each begins with a comment.
-[ARCHITECTURE.md](ARCHITECTURE.md) says how the crates belong together.
+Each crate, lowest first: what it is for, its code, and its definitions with what they hold. In crates whose definitions
+serve the contracts of its own code, these are only named. Every file begins with a comment that says what it holds.
+`tests/map.py WORD ..` prints the files, those of `proofs/` too, that have these words in their path or in that comment.
+[ARCHITECTURE.md](ARCHITECTURE.md) says how the crates belong together, and where to put what.
 
 `tests/map.py` writes this file from the head comments of the files. Change those, not this file."""
 COLUMNS = 120
+
+# The crates whose definitions are named without their sentences.
+NAMED = {"rhai_reading", "rhai_productions", "rhai_trees", "rhai_base", "rhai_parser"}
+
+# Families of definitions: how their names begin or end, and what they hold.
+FAMILIES = {"LinesOf*": "Worked lines.", "Rows*": "Worked rows.", "RulesOf*": "Productions.", "*Laws": "Laws."}
 
 # How a line of a head comment begins, by how the file's name ends; elsewhere by `#`. A README has one after its title.
 MARKS = {".rt": "//!", ".antt": "--", ".md": ""}
@@ -61,23 +75,44 @@ def wrapped(text, columns):
     return textwrap.wrap(text, columns, break_on_hyphens=False) or [""]
 
 
+def family_of(path):
+    """Answers the family that a file of definitions belongs to, or nothing. A family has more than one file."""
+    families = [it for it in FAMILIES if path.suffix == ".antt" and fnmatch.fnmatch(path.stem, it)]
+    return next((it for it in families if len(list(path.parent.glob(f"{it}.antt"))) > 1), None)
+
+
+def told(path, faults):
+    """Answers what the map says of a file: the sentence of its family, or its own."""
+    sentence = first_sentence(path, faults)
+    return FAMILIES.get(family_of(path), sentence)
+
+
+def name_of(folder, path):
+    """Answers how the map names a file: by its family, or by its path from the folder on."""
+    name = path.relative_to(folder)
+    family = family_of(path)
+    return (name.parent / f"{family}.antt" if family else name).as_posix()
+
+
 def table(folder, paths, faults):
-    """Answers a block of lines: each file by its name from the folder on, with its sentence beside it."""
-    names = [path.relative_to(folder).as_posix() for path in paths]
-    width = max(len(name) for name in names) + 2
+    """Answers a block of lines: each file or family by its name, with what it holds. There may be none."""
+    if not paths:
+        return []
+    rows = {name_of(folder, path): told(path, faults) for path in paths}
+    width = max(len(name) for name in rows) + 2
     lines = []
-    for name, path in zip(names, paths):
-        sentence = wrapped(first_sentence(path, faults), COLUMNS - width)
-        lines += [(name.ljust(width) + sentence[0]).rstrip()]
-        lines += [" " * width + more for more in sentence[1:]]
+    for name, sentence in rows.items():
+        first, *others = wrapped(sentence, COLUMNS - width)
+        lines += [(name.ljust(width) + first).rstrip(), *(" " * width + more for more in others)]
     return ["", "```", *lines, "```"]
 
 
-def paragraph(paths, faults):
-    """Answers a paragraph that names files of proofs/, without what their names end with. There may be none."""
+def paragraph(folder, paths, faults):
+    """Answers a paragraph that names files or families of a folder, without what their names end with."""
     for path in paths:
         first_sentence(path, faults)
-    return ["", *wrapped("`proofs/`: " + ", ".join(f"`{path.stem}`" for path in paths), COLUMNS)] if paths else []
+    names = dict.fromkeys(str(pathlib.PurePath(name_of(folder, path)).with_suffix("")) for path in paths)
+    return ["", *wrapped(f"`{folder.name}/`: " + ", ".join(f"`{it}`" for it in names), COLUMNS)] if paths else []
 
 
 def by_module(path):
@@ -91,40 +126,72 @@ def terms_of(folder):
 
 
 def files_of(crate):
-    """Answers the root file of a crate, then its other code and its definitions, then its proofs."""
+    """Answers the root file of a crate, then its other code, its definitions, and its proofs."""
     sources = sorted((crate / "src").rglob("*.rt"), key=by_module)
     root = next(it for it in sources if it in (crate / "src/lib.rt", crate / "src/main.rt"))
     sources.remove(root)
-    return root, sources + terms_of(crate / "specs"), terms_of(crate / "proofs")
+    return root, sources, terms_of(crate / "specs"), terms_of(crate / "proofs")
 
 
 def map_of_crate(name, faults):
     """Answers the lines of the map for a crate."""
     crate = ROOT / "crates" / name
-    root, files, proofs = files_of(crate)
-    purpose = wrapped(first_sentence(root, faults), COLUMNS)
-    return ["", f"## `{name}`", "", *purpose, *table(crate, files, faults), *paragraph(proofs, faults)]
+    root, sources, definitions, proofs = files_of(crate)
+    lines = ["", f"## `{name}`", "", *wrapped(first_sentence(root, faults), COLUMNS)]
+    lines += paragraph(crate / "src", sources, faults)
+    if name in NAMED:
+        lines += paragraph(crate / "specs", definitions, faults)
+    else:
+        lines += table(crate, definitions, faults)
+    for path in proofs:
+        first_sentence(path, faults)
+    return lines
 
 
-def map_of_tests(faults):
-    """Answers the lines of the map for the gate and the files of the tests. Folders there are told by their README."""
+def files_of_tests():
+    """Answers the gate and the files of the tests. Folders there are told by their README."""
     tests = ROOT / "tests"
-    files = sorted(it for it in tests.iterdir() if it.is_file()) + sorted(tests.glob("*/README.md"))
-    return ["", "## The gate and the tests", *table(ROOT, [ROOT / ".ci/run", *files], faults)]
+    return [ROOT / ".ci/run", *sorted(it for it in tests.iterdir() if it.is_file()), *sorted(tests.glob("*/README.md"))]
+
+
+def crates():
+    """Answers the names of the crates, lowest first."""
+    listed = (ROOT / "crates.txt").read_text(encoding="utf-8").splitlines()
+    return [line.split(":")[0].split()[0] for line in listed if line.strip() and not line.startswith("#")]
 
 
 def make_map(faults):
     """Answers all lines of the document."""
-    listed = (ROOT / "crates.txt").read_text(encoding="utf-8").splitlines()
-    names = [line.split(":")[0].split()[0] for line in listed if line.strip() and not line.startswith("#")]
-    lines = [line for name in names for line in map_of_crate(name, faults)]
-    return HEAD.splitlines() + lines + map_of_tests(faults)
+    lines = [line for name in crates() for line in map_of_crate(name, faults)]
+    return HEAD.splitlines() + lines + ["", "## The gate and the tests", *table(ROOT, files_of_tests(), faults)]
+
+
+def all_files():
+    """Yields all files that have a sentence, in the order of the map."""
+    for name in crates():
+        root, *others = files_of(ROOT / "crates" / name)
+        yield root
+        yield from itertools.chain(*others)
+    yield from files_of_tests()
+
+
+def find(words):
+    """Prints each file that has all of these words in its path or its sentence. Answers the exit status."""
+    found = False
+    for path in all_files():
+        line = f"{path.relative_to(ROOT)}: {first_sentence(path, [])}"
+        if all(word.lower() in line.lower() for word in words):
+            print(line)
+            found = True
+    return 0 if found else 1
 
 
 def main(words):
     """Writes or checks the map, and answers the exit status."""
-    if words not in ([], ["--check"]):
+    if words and words[0].startswith("-") and words != ["--check"]:
         sys.exit(__doc__.split("\n\n")[1])
+    if words and words != ["--check"]:
+        return find(words)
     faults = []
     old = DOCUMENT.read_text(encoding="utf-8").splitlines() if DOCUMENT.is_file() else []
     new = make_map(faults)
