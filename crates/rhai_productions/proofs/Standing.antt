@@ -6,7 +6,7 @@ use Rattle.rhai_grammar.specs.Prelude.{not_due, unexpected, Test, ◌▸◌}
 use Rattle.rhai_grammar.specs.Verdicts.{anything}
 use Rattle.rhai_grammar.specs.declared.due.DueToken.TheVariants.{RightBrace}
 use Rattle.rhai_grammar.proofs.PositionSteps.{AllUses, Ends, Modes}
-use Rattle.rhai_grammar.proofs.PositionWays.{BlamesAt, Positions, Refusing, AtTokens, after, ahead, apart_from, done, here}
+use Rattle.rhai_grammar.proofs.PositionWays.{BlamesAt, Places, Refusing, AtTokens, after, ahead, apart_from, done, here}
 use Rattle.rhai_grammar.proofs.PositionWays.{literally, next, shape, test_in, tok}
 use Rattle.rhai_grammar.proofs.PositionWays as W
 use Rattle.rhai_reading.specs.Reading.{Goal, Val}
@@ -104,31 +104,31 @@ module _ (G : Position → Type 0) (Wants : Goal → Type 0) (Right : (g : Goal)
   by_either true v w g h = g
   by_either false v w g h = h
 
-  wanted : (w : Lexeme → Bool) (m : Lexeme → Cause) → Positions G (F.wanted_or w m)
+  wanted : (w : Lexeme → Bool) (m : Lexeme → Cause) → Places G (F.wanted_or w m)
   wanted w m = record { places = λ l. by_either (w l) Fine (Wrong (m l)) tt tt }
 
-  known : (ok : Library → Lexeme → Bool) (e : Refusal) → G e.at → (fs : Library) → Positions G (F.may_use ok e fs)
+  known : (ok : Library → Lexeme → Bool) (e : Refusal) → G e.at → (fs : Library) → Places G (F.may_use ok e fs)
   known ok e g fs = record { places = λ l. by_either (ok fs l) Fine (Blames e) tt g }
 
-  decided : (t : Lexeme → Bool) → Positions G (F.only_if t)
+  decided : (t : Lexeme → Bool) → Places G (F.only_if t)
   decided t = record { places = λ l. by_either (t l) Fine Otherwise tt tt }
 
-  undecided : (t : Lexeme → Bool) → Positions G (F.only_if_not t)
+  undecided : (t : Lexeme → Bool) → Places G (F.only_if_not t)
   undecided t = record { places = λ l. by_either (t l) Otherwise Fine tt tt }
 
-  refusing : (m : Lexeme → Cause) → Positions G (λ l. Wrong (m l))
+  refusing : (m : Lexeme → Cause) → Places G (λ l. Wrong (m l))
   refusing m = record { places = λ l. tt }
 
-  any : Positions G F.any_token
+  any : Places G F.any_token
   any = record { places = λ l. tt }
 
-  no_other : Positions G anything
+  no_other : Places G anything
   no_other = record { places = λ l. tt }
 
-  brace : Positions G (F.wanted_or (is_due RightBrace) (not_due RightBrace))
+  brace : Places G (F.wanted_or (is_due RightBrace) (not_due RightBrace))
   brace = wanted (is_due RightBrace) (not_due RightBrace)
 
-  a_text : Positions G F.text_or
+  a_text : Places G F.text_or
   a_text = wanted is_text unexpected
 
   -- a test that stands at an allowed position where it fails
