@@ -4,8 +4,8 @@
 usage: tests/map.py [--check | WORD ..]
 
 The first sentence of each file's head comment says what the file holds. For each crate of crates.txt the map has what
-the crate is for (from its root file), the names of its code, and its definitions: with their sentences, or by name
-alone in the crates of NAMED. A family of definitions has one line. Then come the gate and the files of tests/.
+the crate is for (from its root file), and the names of its code and of its definitions. The definitions of the language
+are told with their sentences. A family of definitions has one name. Then come the gate and the files of tests/.
 
 With words it writes nothing, and prints each file, with its sentence, that has all of these words in its path or in
 its sentence, in any case. Files of proofs/ are among them. Lists of modules (Lib.antt) and the folders below proofs/
@@ -29,16 +29,16 @@ DOCUMENT = ROOT / "docs/MAP.md"
 HEAD = """\
 # Map of files
 
-Each crate, lowest first: what it is for, its code, and its definitions with what they hold. In crates whose definitions
-serve the contracts of its own code, these are only named. Every file begins with a comment that says what it holds.
-`tests/map.py WORD ..` prints the files, those of `proofs/` too, that have these words in their path or in that comment.
-[ARCHITECTURE.md](ARCHITECTURE.md) says how the crates belong together, and where to put what.
+Each crate, lowest first: what it is for, its code (`src/`) and its definitions (`specs/`). Every file begins with a
+comment that says what it holds. `tests/map.py WORD ..` prints the files, those of `proofs/` too, that have these words
+in their path or in that comment: `tests/map.py slot`. [ARCHITECTURE.md](ARCHITECTURE.md) says how the crates belong
+together, and where to put what.
 
 `tests/map.py` writes this file from the head comments of the files. Change those, not this file."""
 COLUMNS = 120
 
-# The crates whose definitions are named without their sentences.
-NAMED = {"rhai_reading", "rhai_productions", "rhai_trees", "rhai_base", "rhai_parser"}
+# The crate whose definitions are told with their sentences.
+LANGUAGE = "rhai_grammar"
 
 # Families of definitions: how their names begin or end, and what they hold.
 FAMILIES = {"LinesOf*": "Worked lines.", "Rows*": "Worked rows.", "RulesOf*": "Productions.", "*Laws": "Laws."}
@@ -139,10 +139,10 @@ def map_of_crate(name, faults):
     root, sources, definitions, proofs = files_of(crate)
     lines = ["", f"## `{name}`", "", *wrapped(first_sentence(root, faults), COLUMNS)]
     lines += paragraph(crate / "src", sources, faults)
-    if name in NAMED:
-        lines += paragraph(crate / "specs", definitions, faults)
-    else:
+    if name == LANGUAGE:
         lines += table(crate, definitions, faults)
+    else:
+        lines += paragraph(crate / "specs", definitions, faults)
     for path in proofs:
         first_sentence(path, faults)
     return lines
