@@ -3,16 +3,15 @@
 
 usage: tests/map.py [--check | WORD ..]
 
-The first sentence of each file's head comment says what the file holds. For each crate of crates.txt the map has what
-the crate is for (from its root file), and the names of its code and of its definitions. The definitions of the language
-are told with their sentences. A family of definitions has one name. Then come the gate and the files of tests/.
+The first sentence of each file's head comment says what the file holds. The map has what each crate of crates.txt is
+for (from its root file), the definitions of the language, and the gate with the files of tests/. A family of
+definitions has one line.
 
 With words it writes nothing, and prints each file, with its sentence, that has all of these words in its path or in
-its sentence, in any case. Files of proofs/ are among them. Lists of modules (Lib.antt) and the folders below proofs/
-are left out.
+its sentence, in any case. Lists of modules (Lib.antt) and the folders below proofs/ are left out.
 
 With --check it writes nothing, and prints the lines that differ if the document is not what it would write. The exit
-status is then 1. It is also 1 if a file has no head comment, one of proofs/ included.
+status is then 1. It is also 1 if a file has no head comment.
 """
 
 import ast
@@ -29,16 +28,15 @@ DOCUMENT = ROOT / "docs/MAP.md"
 HEAD = """\
 # Map of files
 
-Each crate, lowest first: what it is for, its code (`src/`) and its definitions (`specs/`). Every file begins with a
-comment that says what it holds. `tests/map.py WORD ..` prints the files, those of `proofs/` too, that have these words
-in their path or in that comment: `tests/map.py slot`. [ARCHITECTURE.md](ARCHITECTURE.md) says how the crates belong
-together, and where to put what.
+Every file begins with a comment that says what it holds. `tests/map.py WORD ..` prints the files that have these words
+in their path or in that comment: `tests/map.py slot` finds what has to do with slots, `tests/map.py rhai_base/src` the
+code of a crate. [ARCHITECTURE.md](ARCHITECTURE.md) says how the crates belong together, and where to put what.
 
 `tests/map.py` writes this file from the head comments of the files. Change those, not this file."""
 COLUMNS = 120
 
-# The crate whose definitions are told with their sentences.
-LANGUAGE = "rhai_grammar"
+# The folder of the definitions of the language.
+LANGUAGE = ROOT / "crates/rhai_grammar"
 
 # Families of definitions: how their names begin or end, and what they hold.
 FAMILIES = {"LinesOf*": "Worked lines.", "Rows*": "Worked rows.", "RulesOf*": "Productions.", "*Laws": "Laws."}
@@ -107,14 +105,6 @@ def table(folder, paths, faults):
     return ["", "```", *lines, "```"]
 
 
-def paragraph(folder, paths, faults):
-    """Answers a paragraph that names files or families of a folder, without what their names end with."""
-    for path in paths:
-        first_sentence(path, faults)
-    names = dict.fromkeys(str(pathlib.PurePath(name_of(folder, path)).with_suffix("")) for path in paths)
-    return ["", *wrapped(f"`{folder.name}/`: " + ", ".join(f"`{it}`" for it in names), COLUMNS)] if paths else []
-
-
 def by_module(path):
     """Answers what a file is sorted by, so that a module comes directly before those inside it."""
     return path.with_suffix("").parts
@@ -133,21 +123,6 @@ def files_of(crate):
     return root, sources, terms_of(crate / "specs"), terms_of(crate / "proofs")
 
 
-def map_of_crate(name, faults):
-    """Answers the lines of the map for a crate."""
-    crate = ROOT / "crates" / name
-    root, sources, definitions, proofs = files_of(crate)
-    lines = ["", f"## `{name}`", "", *wrapped(first_sentence(root, faults), COLUMNS)]
-    lines += paragraph(crate / "src", sources, faults)
-    if name == LANGUAGE:
-        lines += table(crate, definitions, faults)
-    else:
-        lines += paragraph(crate / "specs", definitions, faults)
-    for path in proofs:
-        first_sentence(path, faults)
-    return lines
-
-
 def files_of_tests():
     """Answers the gate and the files of the tests. Folders there are told by their README."""
     tests = ROOT / "tests"
@@ -160,19 +135,30 @@ def crates():
     return [line.split(":")[0].split()[0] for line in listed if line.strip() and not line.startswith("#")]
 
 
-def make_map(faults):
-    """Answers all lines of the document."""
-    lines = [line for name in crates() for line in map_of_crate(name, faults)]
-    return HEAD.splitlines() + lines + ["", "## The gate and the tests", *table(ROOT, files_of_tests(), faults)]
-
-
 def all_files():
-    """Yields all files that have a sentence, in the order of the map."""
+    """Yields all files that have a sentence: those of the crates, and those of the tests."""
     for name in crates():
         root, *others = files_of(ROOT / "crates" / name)
         yield root
         yield from itertools.chain(*others)
     yield from files_of_tests()
+
+
+def rows_of_crates():
+    """Answers the lines of a table of the crates: each with what it is for."""
+    roots = {name: files_of(ROOT / "crates" / name)[0] for name in crates()}
+    rows = [f"| `{name}` | {first_sentence(root, [])} |" for name, root in roots.items()]
+    return ["", "| Crate, lowest first | What it is for |", "|---|---|", *rows]
+
+
+def make_map(faults):
+    """Answers all lines of the document. Notes each file without a sentence, also of those that it does not show."""
+    lines = [*HEAD.splitlines(), *rows_of_crates()]
+    lines += ["", "## The definitions of the language", *table(LANGUAGE, files_of(LANGUAGE)[2], [])]
+    lines += ["", "## The gate and the tests", *table(ROOT, files_of_tests(), [])]
+    for path in all_files():
+        first_sentence(path, faults)
+    return lines
 
 
 def find(words):
