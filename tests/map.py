@@ -3,12 +3,12 @@
 
 usage: tests/map.py [--check | WORD ..]
 
-The first sentence of each file's head comment says what the file holds. The map has what each crate of crates.txt is
-for (from its root file), the definitions of the language, and the gate with the files of tests/. A family of
-definitions has one line.
+The first sentence of each file's head comment says what the file holds. The map has the definitions of the language,
+with their sentences; a family of definitions has one line.
 
 With words it writes nothing, and prints each file, with its sentence, that has all of these words in its path or in
-its sentence, in any case. Lists of modules (Lib.antt) and the folders below proofs/ are left out.
+its sentence, in any case: the files of the crates, the gate and the files of tests/. Lists of modules (Lib.antt) and
+the folders below proofs/ are left out.
 
 With --check it writes nothing, and prints the lines that differ if the document is not what it would write. The exit
 status is then 1. It is also 1 if a file has no head comment.
@@ -30,16 +30,17 @@ HEAD = """\
 
 Every file begins with a comment that says what it holds. `tests/map.py WORD ..` prints the files that have these words
 in their path or in that comment: `tests/map.py slot` finds what has to do with slots, `tests/map.py rhai_base/src` the
-code of a crate. [ARCHITECTURE.md](ARCHITECTURE.md) says how the crates belong together, and where to put what.
+code of a crate. [ARCHITECTURE.md](ARCHITECTURE.md) has the crates, and says where to put what.
 
-`tests/map.py` writes this file from the head comments of the files. Change those, not this file."""
+Here are only the definitions of the language, in `crates/rhai_grammar/specs`. `tests/map.py` writes this list from the
+comments of the files. Change those, not this file."""
 COLUMNS = 120
 
 # The folder of the definitions of the language.
-LANGUAGE = ROOT / "crates/rhai_grammar"
+LANGUAGE = ROOT / "crates/rhai_grammar/specs"
 
 # Families of definitions: how their names begin or end, and what they hold.
-FAMILIES = {"LinesOf*": "Worked lines.", "Rows*": "Worked rows.", "RulesOf*": "Productions.", "*Laws": "Laws."}
+FAMILIES = {"Rows*": "Worked rows.", "*Laws": "Laws."}
 
 # How a line of a head comment begins, by how the file's name ends; elsewhere by `#`. A README has one after its title.
 MARKS = {".rt": "//!", ".antt": "--", ".md": ""}
@@ -73,30 +74,15 @@ def wrapped(text, columns):
     return textwrap.wrap(text, columns, break_on_hyphens=False) or [""]
 
 
-def family_of(path):
-    """Answers the family that a file of definitions belongs to, or nothing. A family has more than one file."""
-    families = [it for it in FAMILIES if path.suffix == ".antt" and fnmatch.fnmatch(path.stem, it)]
-    return next((it for it in families if len(list(path.parent.glob(f"{it}.antt"))) > 1), None)
+def row(path):
+    """Answers how the map names a file of definitions, and what it says of it: those of its family, or its own."""
+    family = next((it for it in FAMILIES if fnmatch.fnmatch(path.stem, it)), None)
+    return (family, FAMILIES[family]) if family else (path.stem, first_sentence(path, []))
 
 
-def told(path, faults):
-    """Answers what the map says of a file: the sentence of its family, or its own."""
-    sentence = first_sentence(path, faults)
-    return FAMILIES.get(family_of(path), sentence)
-
-
-def name_of(folder, path):
-    """Answers how the map names a file: by its family, or by its path from the folder on."""
-    name = path.relative_to(folder)
-    family = family_of(path)
-    return (name.parent / f"{family}.antt" if family else name).as_posix()
-
-
-def table(folder, paths, faults):
-    """Answers a block of lines: each file or family by its name, with what it holds. There may be none."""
-    if not paths:
-        return []
-    rows = {name_of(folder, path): told(path, faults) for path in paths}
+def table(paths):
+    """Answers a block of lines: each file or family by its name, with what it holds."""
+    rows = dict(row(path) for path in paths)
     width = max(len(name) for name in rows) + 2
     lines = []
     for name, sentence in rows.items():
@@ -144,21 +130,11 @@ def all_files():
     yield from files_of_tests()
 
 
-def rows_of_crates():
-    """Answers the lines of a table of the crates: each with what it is for."""
-    roots = {name: files_of(ROOT / "crates" / name)[0] for name in crates()}
-    rows = [f"| `{name}` | {first_sentence(root, [])} |" for name, root in roots.items()]
-    return ["", "| Crate, lowest first | What it is for |", "|---|---|", *rows]
-
-
 def make_map(faults):
     """Answers all lines of the document. Notes each file without a sentence, also of those that it does not show."""
-    lines = [*HEAD.splitlines(), *rows_of_crates()]
-    lines += ["", "## The definitions of the language", *table(LANGUAGE, files_of(LANGUAGE)[2], [])]
-    lines += ["", "## The gate and the tests", *table(ROOT, files_of_tests(), [])]
     for path in all_files():
         first_sentence(path, faults)
-    return lines
+    return [*HEAD.splitlines(), *table(terms_of(LANGUAGE))]
 
 
 def find(words):
@@ -173,7 +149,7 @@ def find(words):
 
 
 def main(words):
-    """Writes or checks the map, and answers the exit status."""
+    """Writes or checks the map, or finds files, and answers the exit status."""
     if words and words[0].startswith("-") and words != ["--check"]:
         sys.exit(__doc__.split("\n\n")[1])
     if words and words != ["--check"]:
