@@ -297,7 +297,7 @@ as_closure head at inside number captured ended context live more =
     captured ▸
     captured_names captured context live (function_ends ended at more)))
 
--- ---- places
+-- ---- what is allowed where
 
 -- `export` stands at the global level
 abbrev pub global_at : Context → Position → Demands → Demands

@@ -1,5 +1,5 @@
--- Worked rows under a new engine's settings. These are what it hands over at its two entries. The rows are forms, their
--- trees, and what is refused.
+-- Worked rows under a new engine's settings. These are what it gives its two kinds of entry points. The rows are forms,
+-- their trees, and what is refused.
 use Rattle.std.specs.Prelude.{◌≡◌, ◌-◌, ◌^◌, ℕ, None, List, [], ◌∷◌, ◌++◌, codes, false}
 use Rattle.rhai_lower.specs.Lexemes.{Lexeme, Name, Sign, String}
 use Rattle.rhai_lower.specs.Nodes as node
@@ -30,7 +30,7 @@ use Rattle.rhai_grammar.specs.Trees.{statement_trees, tree}
 use Rattle.rhai_grammar.specs.Written.{whole_expression, whole_script}
 use Rattle.rhai_grammar.specs.declared.filter.ExprFilter.TheVariants.{All}
 
--- ---- the two entries
+-- ---- the two kinds of entry points
 
 -- A new engine, in a fresh state, with these flags and options in the settings, this depth limit, and at most so many
 -- functions: all options but strict variables, literals of any size, and a depth of 32 in functions.
@@ -57,7 +57,7 @@ entry_expression limit = at_entry 17 179 limit any_functions
 abbrev pub entry_script : Context
 entry_script = at_entry 1 191 64 any_functions
 
--- An expression has this tree, fits at its entry, and spells these tokens; these functions end in it.
+-- An expression has this tree, fits at its entry point, and spells these tokens; these functions end in it.
 pub record EntersExpression (f : Run) (tokens : List (Lexeme × ℕ)) (end : ℕ) (x : Node) (ended : Library) : Type 0 where
   pub tree_is : tree f nothing_live ≡ x
   pub fits : Met (whole_expression f (entry_expression 64) nothing_live) (unread tokens end)

@@ -24,9 +24,9 @@ IsBegun context live token =
     × Met (expression f context live Nothing) s t
 
 -- A token begins an expression exactly where some expression that fits begins with it, or it is one of those that are
--- added. Where the depth is limited there may be no room for such an expression, nor for a closure where the functions
--- are, so that half is about contexts without a limit and with room for a function; what was defined before makes no
--- difference.
+-- added. Where the depth is limited such an expression may be too deep, and where the number of functions is, a closure
+-- may be one too many. So that half is about contexts without a limit in which one more function may begin; what was
+-- defined before makes no difference.
 pub record StartsOfExpressions : Type 0 where
   pub only : (context : Context) (live : Live) (f : Run) (s t : Point) → Met (expression f context live Nothing) s t
       → starts context (next_at code s).lexeme ≡ true

@@ -1,5 +1,5 @@
 //! Worked rows of the entry points, as contracts of functions that do nothing. They are under the settings that a new
-//! engine hands over at its two entries.
+//! engine gives its two kinds of entry points.
 
 ghost use Rattle.rhai_grammar.specs.RowsOfEntries.{ChainsEnter, ClosuresEnter, EqualFunctionsEnter, ImportsEnter};
 ghost use Rattle.rhai_grammar.specs.RowsOfEntries.{LoopEnters, RangesEnter, ScopesEnter, StringEnters, SumsEnter};

@@ -32,7 +32,7 @@ module _ (g : Goal) (d : ℕ) (s : Progress) (new : IsNew s)
       (subst (High (s.nesting.active + max d 0)) e
       (result_high s.nesting s.nesting.active (inr (omega arith, le))))
 
-  -- the reader of an entry, which counts itself, from every state
+  -- the reader of an entry point, which counts itself, from every state
   nests_in_entry : (left : Progress) (x : Val g) → nested (result_of g) s ≡ Done x left
       → NestsAtLeast (1 + d) s.nesting left.nesting
   unfolding nested
@@ -42,7 +42,7 @@ module _ (g : Goal) (d : ℕ) (s : Progress) (new : IsNew s)
       (subst (High (a + max d 0)) e (left_high (a + max d 0) (result_of g (entering s))
       (result_high (entered s.nesting) a (entered_goes s.nesting))))
 
--- ---- the two entries
+-- ---- the two kinds of entry points
 
 module _ (c : Context) (live : Live) (s left : Progress) (new : IsNew s) where
   module _ (x : Node) (f : Run) (written : IsWritten (expressions c live) f s.library s.cursor) where

@@ -162,7 +162,7 @@ module _ {call : Histories} (ih : AllSound call) (c : Context) (w : Live) (place
       done tt (λ k o r. holds ▹ r)))))
   operand_by _ e written = unsigned written (ap is_sign e)
 
-  -- by what the token there is at this place
+  -- by what the token there is for an operand of this role
   starts_by : (v : OperandStart) → operand_start place (op_at s) ≡ v → is_memory (op_at s) ≡ false
       → Goes call (operands c w place) s (R.right_at c w (pos_at s) v) s true
   starts_by first.Omitted e m = done (form.NoOperand (op_at s) (pos_at s)) (λ k o r. ap is_omitted e ▹ refl ▹ r)
