@@ -1,5 +1,5 @@
 #!/usr/bin/env python3
-"""Compares the productions with the page of the language: each rule stands word for word above its production.
+"""Compares the productions with the page of the language. Each rule has to stand word for word above its production.
 
 usage: tests/grammar.py
 

@@ -25,7 +25,7 @@ pub data Goal : Type 0 where
   Expression : Context → Live → Goal
   -- a written operand with its signs and its call
   Operand : Context → Live → Goal
-  -- an operand at this place after an operator
+  -- an operand of this role after an operator
   RightOperand : Context → Live → OperandRole → Goal
   Primary : Context → Live → Goal
   -- what calls a name, which may have a path: whether it has a `!`, and the arguments; at is where the raise of their

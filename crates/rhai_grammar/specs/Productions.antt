@@ -70,7 +70,7 @@ stop why = must false why (never (λ _. cause.UnexpectedEOF))
 abbrev pub unless : {A : Type 0} → Bool → Refusal → Production A → Production A
 unless b why rest = must (not b) why rest
 
--- one level deeper, for which there has to be room; otherwise that is refused at a position
+-- one level deeper, if the limit allows that; otherwise it is refused at a position
 abbrev pub raise : {A : Type 0} → Context → Position → (Context → Production A) → Production A
 raise context at rest = must (may_raise context) (refusal cause.ExprTooDeep at) (rest (level_up context))
 

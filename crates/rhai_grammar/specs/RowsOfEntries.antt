@@ -1,10 +1,9 @@
--- Worked rows under a new engine's settings. These are what it hands over at its two entries. The rows are forms, their
--- trees, and what is refused.
+-- What a new engine's settings are for its two kinds of entry points, as worked rows have them.
 use Rattle.std.specs.Prelude.{◌-◌, ◌^◌, ℕ}
 use Rattle.rhai_grammar.specs.Contexts.{Context, nothing_known}
 use Rattle.rhai_grammar.specs.declared.filter.ExprFilter.TheVariants.{All}
 
--- ---- the two entries
+-- ---- the two kinds of entry points
 
 -- A new engine, in a fresh state, with these flags and options in the settings, this depth limit, and at most so many
 -- functions: all options but strict variables, literals of any size, and a depth of 32 in functions.

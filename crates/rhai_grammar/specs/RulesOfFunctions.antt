@@ -78,7 +78,7 @@ abbrev pub function : Context → List Comment → Position → Bool → Product
 function context comments at is_private = part goal.FunctionHead (λ head. part (goal.ParameterList head.1) (λ names.
     function_body context comments at is_private head names))
 
--- A function, at the global level alone. There has to be room for it; it is one level deeper, with settings of its own;
+-- A function, at the global level alone. One more has to be allowed; it is one level deeper, with settings of its own;
 -- and no function with its key is there when it ends.
 --     function = { COMMENT } [ "private" ] "fn" [ type "." ] NAME parameters block
 abbrev pub function_statement : Context → Live → List Comment → Position → Position → Bool

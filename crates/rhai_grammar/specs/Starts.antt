@@ -34,7 +34,7 @@ abbrev pub starts : Context → Lexeme → Bool
 starts context (Faulty f) = true
 starts context token = begins context (beginning token)
 
--- ---- the place of an operand
+-- ---- the role of an operand
 
 abbrev pub sign_place : Token → OperandRole
 sign_place token.ExclusiveRange = place.AfterRange
@@ -42,7 +42,7 @@ sign_place token.InclusiveRange = place.AfterRange
 sign_place token.DoubleQuestion = place.AfterCoalesce
 sign_place _ = place.Elsewhere
 
--- the place directly after an operator
+-- the role of the operand directly after an operator
 abbrev pub role_after : Lexeme → OperandRole
 role_after (Sign t) = sign_place t
 role_after _ = place.Elsewhere
@@ -59,8 +59,8 @@ abbrev pub jumps : Lexeme → Bool
 jumps (Sign t) = sign_jumps t
 jumps _ = false
 
--- What a token is at a place: directly after a range operator some tokens say that the operand is omitted, and directly
--- after `??` a jump may stand.
+-- What a token is for an operand of this role: directly after a range operator some tokens say that the operand is
+-- omitted, and directly after `??` a jump may stand.
 abbrev pub operand_start : OperandRole → Lexeme → OperandStart
 operand_start place.AfterRange token = if omits_operand token then start.Omitted else start.Written
 operand_start place.AfterCoalesce token = if jumps token then start.Jump else start.Written

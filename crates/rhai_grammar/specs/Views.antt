@@ -47,7 +47,7 @@ pub data View : Type 0 where
   PartOf : CommaList → View
   -- which operand it begins
   Begins : View
-  -- what it begins at this place after an operator
+  -- what it begins for an operand of this role after an operator
   OperandAt : OperandRole → View
   -- how it calls a name
   Calls : View

@@ -71,7 +71,7 @@ pub enum OperandRole {
     Elsewhere,
 }
 
-/// What a token is where an operand is expected, at its place.
+/// What a token is where an operand of some role is expected.
 #[derive(Clone, Copy, PartialEq, Eq, Debug)]
 pub enum OperandStart {
     /// A token after which the operand is omitted; it is not taken.

@@ -41,7 +41,7 @@ stays_read engine frame settings old new h positive more =
     let function = function_room_most engine settings in
     (h.nesting a top positive more (omega (arith, right, levels, function)) (le_refl a, le-max_left _ _)).1
 
--- a library stays orderly in the state of an entry, from which its frame has how many have begun
+-- a library stays orderly in the state of an entry point, from which its frame has how many have begun
 pub orderly_so : (engine : EngineValue) (begun here : ℕ) (old new : Library) → engine.max_functions ≤ 2 ^ 64
     → here ≡ begun → (Holds engine.max_functions here old → Holds engine.max_functions here new)
     → IsOrderly engine.max_functions begun old → IsOrderly engine.max_functions begun new
@@ -49,7 +49,7 @@ unfolding Holds
 orderly_so engine begun here old new bound is h =
     subst (λ n. IsOrderly engine.max_functions n old → IsOrderly engine.max_functions n new) is (λ g. (h (g, bound)).0)
 
--- the entry itself is one more
+-- the entry point itself is one more
 pub with_entry : (p a peak n : ℕ) → peak ≤ max (max p (one_more a)) (one_more a + 8 * (n + 1))
     → peak ≤ max p (a + 8 * (n + 2))
 unfolding one_more
@@ -61,7 +61,7 @@ with_entry p a peak n h =
     let both : max (max p (min (a + 1) (2 ^ 64 - 1))) (min (a + 1) (2 ^ 64 - 1) + 8 * (n + 1)) ≤ max p (a + 8 * (n + 2)) = max-le first (omega (arith, less, right)) in
     omega (arith, h, both)
 
--- so it is for the entry, which is entered in counts of its own, and takes their peak
+-- so it is for the entry point, which is entered in counts of its own, and takes their peak
 pub entry_stays : (engine : EngineValue) (settings : ParseSettings) (old begun read left : Counts)
     → begun ≡ with_entered old → left ≡ with_peak old read.peak → StaysWithin 1 engine settings begun read
     → StaysWithin 2 engine settings old left
@@ -86,7 +86,7 @@ keeps_counts old left n reached = record {
 
 -- ---- from below
 
--- the entry is the first that is active
+-- the entry point is the first that is active
 pub nests_written : (c : Context) (w : Live) (s left : Progress) (x : node.Statements × Live) (after : Counts) → IsNew s
     → s.nesting ≡ entered (record { active = 0; peak = 0 }) → left.nesting.peak ≡ after.peak
     → result_of (Script c w) s ≡ Done x left → NestsAsWritten c w s.library s.cursor after
@@ -103,7 +103,7 @@ pub if_ok : {A : Type 0} {P : Type 0} (r : Result A ParseError) → P → IfOk r
 if_ok (Ok x) p = p
 if_ok (Err e) p = tt
 
--- the entry takes the peak
+-- the entry point takes the peak
 pub nests_left : {A : Type 0} (c : Context) (w : Live) (before : Library) (s : Cursor) (old read left : Counts) (r : Result A ParseError)
     → left ≡ with_peak old read.peak → IfOk r (λ x. NestsAsWritten c w before s read) → IfOk r (λ x. NestsAsWritten c w before s left)
 nests_left c w before s old read left (Ok x) reached at_least = λ f written.

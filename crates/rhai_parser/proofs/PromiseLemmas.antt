@@ -95,7 +95,7 @@ module _ {F O : Type 0} {g : Goal} {whole : F → Demands} {stopping : O → Dem
       → HasRead s.cursor left.cursor true
   has_read_fails e fails other = M.refused_read E s left (refusal_of e) (fails.0 other) (memory_cause e.0 ∙ other)
 
--- ---- the two entries
+-- ---- the two kinds of entry points
 
 module _ (makes : Makes) (constants : Constants) (level : OptimizationLevel) (c : Context) (live : Live) (s left : Progress) where
   pub expression_done : (x : Node) (result : Result AST ParseError) → IsNew s → result_of (Whole c live) s ≡ Done x left

@@ -27,8 +27,8 @@ pub record KeepsCounts (before after : Counts) : Type 0 where
   pub active : after.active ≡ before.active
   pub peak : before.peak ≤ after.peak
 
--- For each script that fits and spells the stream, at least as many parsing functions were active at once as its
--- expressions, blocks, functions and closures lie one in another, and the entry; or as many as a `usize` counts.
+-- For each script that fits and spells the stream, at least as many readers were active at once as its expressions,
+-- blocks, functions and closures are inside one another, with the entry point; or as many as a `usize` counts.
 abbrev pub NestsAsWritten : Context → Live → (before : Library) → (start : Cursor) → (after : Counts) → Type 0
 NestsAsWritten context live before start after =
     (f : Written (Script context live)) → IsWritten (written (Script context live)) f before start

@@ -53,7 +53,7 @@ expression engine frame settings = reading.Expression (context_of engine frame s
 abbrev pub operand : EngineValue → FrameValue → ParseSettings → Goal
 operand engine frame settings = reading.Operand (context_of engine frame settings) (live_of frame)
 
--- an operand at this place after an operator
+-- an operand of this role after an operator
 abbrev pub right_operand : EngineValue → FrameValue → ParseSettings → OperandRole → Goal
 right_operand engine frame settings place =
     reading.RightOperand (context_of engine frame settings) (live_of frame) place

@@ -100,8 +100,8 @@ impl<R: LentReaders> Reader<'_, R> {
         }
     }
 
-    // The same, for operands that have links. These are few, and a function clears all the places that it has when it
-    // begins; so they are apart. A bracket raises the level, and its index once more; a dot raises that of all to its
+    // The same, for operands that have links. These are few, and a function clears all its locals when it begins;
+    // so they are apart. A bracket raises the level, and its index once more; a dot raises that of all to its
     // right.
     #[inline(never)]
     #[tactic(auto, using(crate::proofs::ExprReaders::parse_all_links))]

@@ -61,7 +61,7 @@ impl<R: LentReaders> Reader<'_, R> {
     }
 
     // The same, where the next token makes a name before it one that is called, or part of a path. These are apart,
-    // since a function clears all the places that it has when it begins. The module that the path begins at is tested
+    // since a function clears all its locals when it begins. The module that the path begins at is tested
     // after the arguments.
     #[inline(never)]
     #[tactic(auto, using(crate::proofs::ExprReaders::parse_postfix))]
@@ -199,7 +199,7 @@ impl<R: LentReaders> Reader<'_, R> {
     }
 
     /// Reads a written operand with its signs and its call. A value is read here, and any other operand apart, since a
-    /// function clears all the places that it has when it begins.
+    /// function clears all its locals when it begins.
     #[inline(always)]
     #[tactic(auto, using(crate::proofs::ExprReaders::parse_unary))]
     fn parse_unary(

@@ -78,7 +78,7 @@ impl<R: LentReaders> Reader<'_, R> {
     }
 
     // Reads an operand that is not one token. It is apart from the operands that are, since these are many, and each
-    // place that a function may use costs time whenever the function is called.
+    // local of a function costs time whenever the function is called.
     #[inline(never)]
     #[tactic(auto, using(crate::proofs::PrimaryReaders::parse_primary))]
     fn parse_compound(

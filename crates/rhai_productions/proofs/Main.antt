@@ -74,7 +74,7 @@ module _ {X : Type 0} {g : Goal} (entry : Entry g (written g) (unwritten g) (tre
         (r.0, record { saw = r.1.saw; named = r.1.named; early = r.1.early; memory = r.1.memory });
   }
 
--- ---- the entries, over forms that follow from productions
+-- ---- the entry points, over forms that follow from productions
 
 entry_sound : (n : ℕ) (g : Goal) (s : Point) (o : Outcome (Val g)) → S.Ensures (Read production g (production g) s)
     (Halts production g (production g) s) o

@@ -53,7 +53,7 @@ context_of e flags options = record {
   begun = 0;
 }
 
--- what an engine reads at its two entries: one expression, and a script
+-- what an engine reads at its two kinds of entry points: one expression, and a script
 abbrev pub expression_by : Engine → Goal
 expression_by e = Whole (context_of e 17 e.for_expressions) nothing_live
 

@@ -14,9 +14,9 @@ IsBegun context live token =
     × ((next_at code s).lexeme ≡ token) × Met (D.demands production f Nothing) s t
 
 -- A token begins an expression exactly where some expression that fits begins with it, or it is one of those that are
--- added: reserved words and symbols, and errors of the tokenizer. Where the depth is limited there may be no room for
--- such an expression, nor for a closure where the functions are, so that half is about contexts without a limit and
--- with room for a function; what was defined before makes no difference.
+-- added: reserved words and symbols, and errors of the tokenizer. Where the depth is limited such an expression may be
+-- too deep, and where the number of functions is, a closure may be one too many. So that half is about contexts without
+-- a limit in which one more function may begin; what was defined before makes no difference.
 pub record StartsOfExpressions : Type 0 where
   pub only : (context : Context) (live : Live) (x : Node) (f : D.Form production (Expression context live) x)
       (s t : Point) → Met (D.demands production f Nothing) s t → starts context (next_at code s).lexeme ≡ true

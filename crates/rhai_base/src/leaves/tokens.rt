@@ -92,7 +92,7 @@ pub fn is_sign(token: &Token) -> bool
     )
 }
 
-/// The place of the operand that is directly after this operator.
+/// The role of the operand that is directly after this operator.
 pub fn role_after(op: &Token) -> OperandRole
     ensures { result ≡ role_after (lexeme op.now) }
 {
@@ -103,7 +103,7 @@ pub fn role_after(op: &Token) -> OperandRole
     }
 }
 
-/// What a token is where an operand is due, at its place: after a range operator the operand may be omitted, and after
+/// What a token is where an operand of this role is due: after a range operator the operand may be omitted, and after
 /// `??` there may be a `return`, `throw`, `break` or `continue`.
 pub fn what_operand(place: OperandRole, token: &Token) -> OperandStart
     ensures operand { result ≡ operand_start place (lexeme token.now) }

@@ -222,7 +222,7 @@ impl<R: LentReaders> Reader<'_, R> {
         }
     }
 
-    // The same, where there is such an operator, `next`. It is apart, since a function clears all its places when it
+    // The same, where there is such an operator, `next`. It is apart, since a function clears all its locals when it
     // begins, and most operands have no operator after them. A raise of the level is refused at `lhs`, and from the
     // first operator on at the one before.
     #[inline(never)]
