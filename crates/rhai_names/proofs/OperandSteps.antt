@@ -30,6 +30,7 @@ use Rattle.rhai_names.specs.WrittenFunctions.{WrittenFunction, ended_of, in_clos
 use Rattle.rhai_names.proofs.BoolLemmas.{or-false}
 use Rattle.rhai_names.proofs.MentionLemmas.{call_reads, read-append}
 use Rattle.rhai_names.proofs.Readings.{Ends, Reading, SameNames, called_use, ended_used, ends_by, ends_on, made, no_ends, same, use_after, used_on}
+use Rattle.rhai_names.proofs.TreeMentions.{all_mentions, mentions, property_mentions, statement_mentions}
 
 -- ---- operands
 

@@ -15,6 +15,7 @@ use Rattle.rhai_names.specs.Mentions.{Mention, block_mentions, by_call, is_read,
 use Rattle.rhai_names.specs.WrittenFunctions.{WrittenFunction, ended_of, events_of, is_used}
 use Rattle.rhai_names.proofs.BoolLemmas.{or-assoc, or-comm, or-false}
 use Rattle.rhai_names.proofs.MentionLemmas.{call_reads, read-append}
+use Rattle.rhai_names.proofs.TreeMentions.{body_mentions, mentions, statement_mentions, statements_mentions, whole_block}
 
 -- ---- lists of events
 
@@ -110,14 +111,15 @@ call_before {a = a} c h = rather (λ name. call_reads name c a) h
 
 -- a function after its body, where it has used what it captures
 pub ends_by : {es : List Event} {ws : List WrittenFunction} (x : WrittenFunction) (fs : List Event) → ended_in fs ≡ [] → Ends es ws
-    → ReadsItsUses x → Ends (ends_only es ++ (fs ++ HasEnded (ended_of x) ∷ [])) (ws ++ x ∷ [])
+    → SameNames (body_mentions (ended_of x).function.body) (events_of x)
+    → Ends (ends_only es ++ (fs ++ HasEnded (ended_of x) ∷ [])) (ws ++ x ∷ [])
 ends_by {es = es} {ws = ws} x fs e h r = record {
   ended =
       ended_on (ends_only es) (fs ++ HasEnded (ended_of x) ∷ [])
       ∙ ap₂ (λ a b. a ++ b) (ended_only (ended_in es) ∙ h.ended)
       (ended_on fs (HasEnded (ended_of x) ∷ []) ∙ ap (λ xs. xs ++ ended_of x ∷ []) e)
       ∙ sym (map-append ended_of ws (x ∷ []));
-  all = all_on ws (x ∷ []) h.all (r, tt);
+  all = all_on ws (x ∷ []) h.all (λ name. ap (is_read name) (whole_block (ended_of x).function.body) ∙ r name, tt);
 }
 
 -- The names that are used in a function are none of the form around it.
@@ -128,7 +130,7 @@ use_after name es fs x =
     ∙ used_on name fs (HasEnded x ∷ []) ∙ or-false (is_used name fs)
 
 pub function : {ws : List WrittenFunction} (x : WrittenFunction)
-    → Reading (block_mentions (ended_of x).function.body) (events_of x) ws
+    → Reading (body_mentions (ended_of x).function.body) (events_of x) ws
     → Reading [] (ends_only (events_of x) ++ HasEnded (ended_of x) ∷ []) (ws ++ x ∷ [])
 function x h = record {
   names = λ name. sym (use_after name (events_of x) [] (ended_of x));
@@ -143,7 +145,7 @@ unfolding mentions
 kept (node.noop at) rest = refl
 kept _ rest = refl
 
-pub made : (f : node.Statement) → block_mentions (made_block f) ≡ statement_mentions f
+pub made : (f : node.Statement) → body_mentions (made_block f) ≡ statement_mentions f
 unfolding mentions
 made (node.noop at) = refl
 made (node.block_statement b) = refl

@@ -11,11 +11,12 @@ use Rattle.rhai_grammar.specs.Demands.{Demands}
 use Rattle.rhai_grammar.specs.Switches.{Collected, arm_fault, case_fault, fault_from, no_guard, with_arm_collected, with_case, with_cases, with_default_collected, with_value}
 use Rattle.rhai_grammar.specs.UsesOfForms.{Event}
 use Rattle.rhai_grammar.proofs.NumberWays.{Gives, gets, here}
-use Rattle.rhai_names.specs.Mentions.{Mention, all_mentions, arm_mentions, case_mentions, is_read, mentions, property_mentions}
+use Rattle.rhai_names.specs.Mentions.{Mention, is_read}
 use Rattle.rhai_names.specs.WrittenFunctions.{WrittenFunction, is_used}
 use Rattle.rhai_names.proofs.BoolLemmas.{or-assoc, or-false}
 use Rattle.rhai_names.proofs.MentionLemmas.{call_reads, none_read, read-append}
 use Rattle.rhai_names.proofs.Readings.{Ends, Reading, ends_on, no_ends, used_on}
+use Rattle.rhai_names.proofs.TreeMentions.{all_mentions, arm_mentions, case_mentions, mentions, property_mentions}
 
 -- after a test that there is no error
 pub faultless : (r : Option Refusal) {k : Demands} → Gives (r ≡ None) (W.unfaulted r k) k

@@ -28,7 +28,6 @@ use Rattle.rhai_grammar.specs.declared.role.OperandRole.{OperandRole}
 use Rattle.rhai_grammar.specs.declared.role.OperandRole.TheVariants as place
 use Rattle.rhai_grammar.proofs.NumberWays.{Gives, gets, here}
 use Rattle.rhai_names.specs.Laws.{FunctionsReadTheirUses}
-use Rattle.rhai_names.specs.Mentions.{all_mentions, block_mentions, mentions, optional_mentions, property_mentions, statement_mentions, statements_mentions}
 use Rattle.rhai_names.specs.WrittenFunctions as written
 use Rattle.rhai_names.specs.WrittenFunctions.{in_action, in_arguments, in_arms, in_base, in_body, in_branch, in_case_guard, in_cases, in_closure_body, in_conditional, in_construct, in_elements, in_evaluation, in_fields, in_initializer, in_items, in_jump_value, in_links, in_operand, in_run, in_segments, in_statement, in_statements}
 use Rattle.rhai_names.proofs.OperandSteps as OperandSteps
@@ -38,6 +37,7 @@ use Rattle.rhai_names.proofs.TreeSteps as TreeSteps
 use Rattle.rhai_names.proofs.OperandSteps.{PrimaryKnown}
 use Rattle.rhai_names.proofs.Readings.{Reading, alone, both, nothing, same, swapped}
 use Rattle.rhai_names.proofs.SwitchSteps.{Collects, collected_mentions, faultless}
+use Rattle.rhai_names.proofs.TreeMentions.{all_mentions, body_mentions, mentions, optional_mentions, property_mentions, statement_mentions, statements_mentions}
 use Rattle.rhai_names.proofs.TreeSteps.{link_mentions}
 
 -- Nothing calls this operand after it, if nothing is said to do so.
@@ -184,7 +184,7 @@ mutual
   pub segments : (x : Segments) (c : Context) (w : Live) (start : Position) (k : Demands)
       → Gives (Reading (all_mentions (T.segment_trees x w)) (E.segment_events x w) (in_segments x)) (W.segments x c w start k) k
   segments (form.LastSegment opening f last at) c w start k =
-      gets (λ h. same (ap (λ ms. block_mentions (T.block_tree opening f w) ++ ms) (OperandSteps.text last at node.no_nodes)) (alone h))
+      gets (λ h. same (ap (λ ms. body_mentions (T.block_tree opening f w) ++ ms) (OperandSteps.text last at node.no_nodes)) (alone h))
       (tok (test (up_to (block f opening (level_up c) w _) (tok here))))
   segments (form.Segment opening f more at rest) c w start k =
       gets (λ h. both h.0 (same (OperandSteps.text more at (T.segment_trees rest w)) h.1))
@@ -269,7 +269,7 @@ mutual
       (on (guarded guard c w (run guard _)) (tok (test (on (block f opening (level_up c) w _) (branch rest c w at k)))))
 
   pub branch : (x : Branch) (c : Context) (w : Live) (at : Position) (k : Demands)
-      → Gives (Reading (block_mentions (T.branch_tree x w)) (E.branch_events x w) (in_branch x)) (W.branch x c w at k) k
+      → Gives (Reading (body_mentions (T.branch_tree x w)) (E.branch_events x w) (in_branch x)) (W.branch x c w at k) k
   branch form.NoElse c w at k = gets (λ h. nothing) (next here)
   branch (form.Else else_at opening f) c w at k = tok (next (tok (test (block f opening (level_up c) w k))))
   branch (form.ElseIf else_at if_at x) c w at k =
@@ -320,7 +320,7 @@ mutual
       (next (on (statement f c w _) (shape (λ e. statements rest closing c (after_statement f w) k))))
 
   pub block : (x : Body) (opening : Position) (c : Context) (w : Live) (k : Demands)
-      → Gives (Reading (block_mentions (T.block_tree opening x w)) (E.body_events x w) (in_body x)) (W.block x c w k) k
+      → Gives (Reading (body_mentions (T.block_tree opening x w)) (E.body_events x w) (in_body x)) (W.block x c w k) k
   block (form.Many fs closing) opening c w k =
       shape (λ e. up_to (statements fs Brace (below_global c) (in_block w) _) (tok here))
   block (form.Single x closing) opening c w k =

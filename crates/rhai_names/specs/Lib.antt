@@ -3,4 +3,4 @@ pub mod WrittenFunctions
 pub mod FnNames
 pub mod Laws
 pub mod Scripts
-pub mod Walks
+pub mod Noted

@@ -4,5 +4,5 @@
 
 pub mod laws;
 pub mod names;
+mod noted;
 pub mod script;
-mod walk;
