@@ -3,10 +3,10 @@ use Rattle.std.proofs.Common.{◌≡◌, ◌∙◌, ℕ, ◌==◌, Bool, true, f
 use Rattle.rhai_lower.specs.Texts.{Text, same_text}
 use Rattle.std.specs.Prelude.{Option, Some, None}
 use Rattle.rhai_grammar.specs.TreeNumbers.{has_path}
-use Rattle.rhai_names.specs.Mentions.{Calls, Mention, Reads, by_call, by_count, is_called, is_read}
+use Rattle.rhai_productions.specs.Mentions.{Calls, Mention, Reads, by_call, by_count, is_called, is_read}
 use Rattle.std.proofs.Common.{◌≡◌, ◌∙◌, ℕ, Bool, true, false, ◌&&◌, ◌||◌, List, [], ◌∷◌, ◌++◌, Option, Some, None, refl, sym, ap, ap₂, if◌then◌else◌}
 use Rattle.rhai_lower.specs.Nodes.{Called}
-use Rattle.rhai_names.specs.Mentions.{Calls, Mention, Reads, by_call, by_count, is_read}
+use Rattle.rhai_productions.specs.Mentions.{Calls, Mention, Reads, by_call, by_count, is_read}
 use Rattle.rhai_names.proofs.BoolLemmas.{or-assoc}
 
 pub read-append : (name : Text) (a b : List Mention) → is_read name (a ++ b) ≡ (is_read name a || is_read name b)

@@ -27,7 +27,7 @@ use Rattle.rhai_grammar.specs.Uses.{Use}
 use Rattle.rhai_grammar.specs.UsesOfForms.{Event, Used, construct_events, element_events, events, field_events, own_events, primary_events, segment_events, used_at}
 use Rattle.rhai_grammar.specs.Verdicts as V
 use Rattle.rhai_grammar.proofs.EventEffects.{ended_called}
-use Rattle.rhai_names.specs.Mentions.{Mention, Reads, all_mentions, by_call, is_read, mentions, property_mentions, statement_mentions}
+use Rattle.rhai_productions.specs.Mentions.{Mention, Reads, all_mentions, by_call, is_read, mentions, property_mentions, statement_mentions}
 use Rattle.rhai_names.specs.WrittenFunctions as written
 use Rattle.rhai_names.specs.WrittenFunctions.{WrittenFunction, ended_of, in_closure_body, in_construct, in_elements, in_fields, in_primary, in_run, in_segments, is_used}
 use Rattle.rhai_names.proofs.BoolLemmas.{or-false}

@@ -11,7 +11,7 @@ use Rattle.rhai_grammar.specs.Trees as T
 use Rattle.rhai_grammar.specs.Uses.{Use}
 use Rattle.rhai_grammar.specs.UsesOfForms.{Event, HasEnded, Used, as_called, ended_in, ends_only, used_at}
 use Rattle.rhai_names.specs.Laws.{AllReadTheirUses, ReadsItsUses}
-use Rattle.rhai_names.specs.Mentions.{Mention, block_mentions, by_call, is_read, mentions, statement_mentions, statements_mentions}
+use Rattle.rhai_productions.specs.Mentions.{Mention, block_mentions, by_call, is_read, mentions, statement_mentions, statements_mentions}
 use Rattle.rhai_names.specs.WrittenFunctions.{WrittenFunction, ended_of, events_of, is_used}
 use Rattle.rhai_names.proofs.BoolLemmas.{or-assoc, or-comm, or-false}
 use Rattle.rhai_names.proofs.MentionLemmas.{call_reads, read-append}

@@ -12,7 +12,7 @@ use Rattle.rhai_grammar.specs.Switches.{Collected, arm_fault, case_fault, fault_
 use Rattle.rhai_grammar.specs.UsesOfForms.{Event}
 use Rattle.rhai_grammar.specs.Written as W
 use Rattle.rhai_grammar.proofs.NumberWays.{Gives, gets, here}
-use Rattle.rhai_names.specs.Mentions.{Mention, all_mentions, arm_mentions, case_mentions, is_read, mentions, property_mentions}
+use Rattle.rhai_productions.specs.Mentions.{Mention, all_mentions, arm_mentions, case_mentions, is_read, mentions, property_mentions}
 use Rattle.rhai_names.specs.WrittenFunctions.{WrittenFunction, is_used}
 use Rattle.rhai_names.proofs.BoolLemmas.{or-assoc, or-false}
 use Rattle.rhai_names.proofs.MentionLemmas.{call_reads, none_read, read-append}

@@ -15,7 +15,7 @@ use Rattle.rhai_grammar.specs.declared.role.Joining.{Joining}
 use Rattle.rhai_grammar.specs.declared.role.Joining.TheVariants as joins
 use Rattle.rhai_grammar.specs.declared.role.ListKind.{ListKind}
 use Rattle.rhai_grammar.specs.declared.role.ListKind.TheVariants as lists
-use Rattle.rhai_names.specs.Mentions.{Mention, all_mentions, mentions}
+use Rattle.rhai_productions.specs.Mentions.{Mention, all_mentions, mentions}
 use Rattle.rhai_names.specs.WrittenFunctions.{WrittenFunction}
 use Rattle.rhai_names.proofs.Readings.{Reading, alone, both, call_before, same, swapped}
 

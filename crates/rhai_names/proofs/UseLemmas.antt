@@ -35,7 +35,7 @@ use Rattle.rhai_grammar.proofs.CaptureLemmas.{forms_leave_their_events}
 use Rattle.rhai_grammar.proofs.NumberLemmas as numbers
 use Rattle.rhai_grammar.proofs.NumberWays.{Gives, ahead, apart_from, banged, caught_by, closure_parameters, comments_at, expressed, function_at, function_name, gets, guarded, here, iterated, literally, named, next, on, other_name, parameter_list, past_it, path, raised, separated, shape, test, test_in, tok, unfaulted, up_to, uses}
 use Rattle.rhai_names.specs.Laws.{FunctionsReadTheirUses}
-use Rattle.rhai_names.specs.Mentions.{all_mentions, block_mentions, mentions, optional_mentions, property_mentions, statement_mentions, statements_mentions}
+use Rattle.rhai_productions.specs.Mentions.{all_mentions, block_mentions, mentions, optional_mentions, property_mentions, statement_mentions, statements_mentions}
 use Rattle.rhai_names.specs.WrittenFunctions as written
 use Rattle.rhai_names.specs.WrittenFunctions.{in_action, in_arguments, in_arms, in_base, in_body, in_branch, in_case_guard, in_cases, in_closure_body, in_conditional, in_construct, in_elements, in_evaluation, in_fields, in_initializer, in_items, in_jump_value, in_links, in_operand, in_run, in_segments, in_statement, in_statements}
 use Rattle.rhai_names.proofs.OperandSteps as OperandSteps

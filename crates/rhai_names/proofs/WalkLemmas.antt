@@ -26,7 +26,7 @@ use Rattle.rhai_lower.proofs.Views.{view_block, view_switch}
 use Rattle.rhai_lower.specs.declared.position.Position.{Position}
 use Rattle.rhai_lower.specs.declared.ast.VariableExpr.{VariableExpr}
 use Rattle.rhai_grammar.specs.TreeNumbers.{has_path}
-use Rattle.rhai_names.specs.Mentions.{Calls, Mention, Reads, arm_mentions, block_mentions, by_call, by_count, by_variable, case_mentions, is_called, is_read, mentions, statement_mentions, statements_mentions}
+use Rattle.rhai_productions.specs.Mentions.{Calls, Mention, Reads, arm_mentions, block_mentions, by_call, by_count, by_variable, case_mentions, is_called, is_read, mentions, statement_mentions, statements_mentions}
 use Rattle.rhai_names.specs.Walks.{HasWalked, Knows, Notes, arm_size, block_size, case_size, inside, inside_statement, statements_size, left_to_visit, part_mentions, part_size, will_call, will_read}
 use Rattle.rhai_names.specs.declared.walk.Part.{Part}
 use Rattle.rhai_names.specs.declared.walk.Walk.{Walk}

@@ -6,7 +6,7 @@ use Rattle.rhai_lower.specs.declared.ast.Expr.{Expr}
 use Rattle.rhai_lower.specs.declared.ast.Ident.{Ident}
 use Rattle.rhai_lower.specs.declared.ast.Stmt.{Stmt}
 use Rattle.rhai_lower.specs.declared.ast.SwitchCase.{SwitchCase, out-SwitchCase}
-use Rattle.rhai_names.specs.Mentions.{all_mentions, arm_mentions, case_mentions, mentions, property_mentions, statement_mentions, statements_mentions}
+use Rattle.rhai_productions.specs.Mentions.{all_mentions, arm_mentions, case_mentions, mentions, property_mentions, statement_mentions, statements_mentions}
 use Rattle.rhai_names.specs.Walks.{all_size, arm_size, case_size, inside, inside_statement, property_size, statements_size}
 use Rattle.rhai_names.proofs.WalkSteps.{Listed}
 

@@ -10,7 +10,7 @@ use Rattle.std.specs.declared.rc.RcStr.{RcStr}
 use Rattle.rhai_lower.specs.Texts.{Text, same_text}
 use Rattle.rhai_grammar.specs.Imports.{is_among}
 use Rattle.rhai_names.specs.FnNames.{counted, is_listed, texts}
-use Rattle.rhai_names.specs.Mentions.{Calls, Mention, Reads, is_called, is_read}
+use Rattle.rhai_productions.specs.Mentions.{Calls, Mention, Reads, is_called, is_read}
 use Rattle.rhai_names.specs.Walks.{Notes, left_to_visit, part_mentions, part_size, will_call, will_read}
 use Rattle.rhai_names.specs.declared.walk.Part.{Part}
 use Rattle.rhai_names.specs.declared.walk.Walk.{Walk}

@@ -11,7 +11,7 @@ use Rattle.std.specs.declared.rc.RcStr.{RcStr}
 use Rattle.rhai_lower.specs.Nodes as node
 use Rattle.rhai_lower.specs.Texts.{Text, same_text}
 use Rattle.rhai_grammar.specs.Imports.{is_among}
-use Rattle.rhai_names.specs.Mentions.{block_mentions, is_called, is_read}
+use Rattle.rhai_productions.specs.Mentions.{block_mentions, is_called, is_read}
 use Rattle.rhai_names.specs.WrittenFunctions.{WrittenFunction, ended_of, events_of, is_used}
 use Rattle.rhai_names.specs.declared.names.FnNames.{FnNames}
 

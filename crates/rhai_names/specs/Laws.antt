@@ -6,7 +6,7 @@ use Rattle.rhai_grammar.specs.Delivered.{Point}
 use Rattle.rhai_grammar.specs.Demands.{Met}
 use Rattle.rhai_grammar.specs.Forms.{Statements}
 use Rattle.rhai_grammar.specs.Written.{whole_script}
-use Rattle.rhai_names.specs.Mentions.{block_mentions, is_read}
+use Rattle.rhai_productions.specs.Mentions.{block_mentions, is_read}
 use Rattle.rhai_names.specs.WrittenFunctions.{WrittenFunction, ended_of, events_of, in_statements, is_used}
 
 -- Its body reads the names of its uses that no live slot has there, and no others.

@@ -1,4 +1,3 @@
-pub mod Mentions
 pub mod WrittenFunctions
 pub mod FnNames
 pub mod Laws

@@ -16,7 +16,7 @@ use Rattle.rhai_lower.specs.Texts.{Text}
 use Rattle.rhai_lower.specs.View.{statement_view, view}
 use Rattle.rhai_grammar.specs.Imports.{is_among}
 use Rattle.rhai_names.specs.FnNames.{counted, is_listed, texts}
-use Rattle.rhai_names.specs.Mentions.{Mention, is_called, is_read, mentions, statement_mentions}
+use Rattle.rhai_productions.specs.Mentions.{Mention, is_called, is_read, mentions, statement_mentions}
 use Rattle.rhai_names.specs.declared.walk.Part.{Part}
 use Rattle.rhai_names.specs.declared.walk.Part.TheVariants.{Expr, Stmt}
 use Rattle.rhai_names.specs.declared.walk.Walk.{Walk}

@@ -8,9 +8,9 @@ ghost use Rattle.rhai_lower.specs.declared.ast.FnCallExpr.{out-FnCallExpr};
 ghost use Rattle.rhai_lower.specs.declared.ast.SwitchCasesCollection.{out-SwitchCasesCollection};
 ghost use Rattle.rhai_lower.specs.View.{arm_views, block_view, called, case_views, named, property_views};
 ghost use Rattle.rhai_lower.specs.View.{statement_view, statement_views, view, views};
-ghost use Rattle.rhai_names.specs.Mentions.{all_mentions, arm_mentions, block_mentions, by_call, by_variable};
-ghost use Rattle.rhai_names.specs.Mentions.{case_mentions, mentions, property_mentions, statement_mentions};
-ghost use Rattle.rhai_names.specs.Mentions.{statements_mentions};
+ghost use Rattle.rhai_productions.specs.Mentions.{all_mentions, arm_mentions, block_mentions, by_call, by_variable};
+ghost use Rattle.rhai_productions.specs.Mentions.{case_mentions, mentions, property_mentions, statement_mentions};
+ghost use Rattle.rhai_productions.specs.Mentions.{statements_mentions};
 ghost use Rattle.rhai_names.specs.Walks.{Notes, all_size, arm_size, block_size, case_size, inside, inside_statement};
 ghost use Rattle.rhai_names.specs.Walks.{HasWalked, Knows, part_mentions, part_size, property_size, statements_size};
 
